@@ -1,0 +1,29 @@
+use crate::{Bytes, Name};
+
+/// What a token is.
+#[derive(Debug, Drop)]
+pub enum TokenKind {
+    /// An identifier that is no keyword (C11 6.4.2).
+    Name(Name),
+    /// A word of the language, also one that is left out of this subset (C11 6.4.1).
+    Keyword(Name),
+    /// The value of an integer constant, and whether it is unsigned (C11 6.4.4.1).
+    Number(u64, bool),
+    /// The bytes that a string literal stands for, its escapes read (C11 6.4.5).
+    Text(Bytes),
+    /// A punctuator (C11 6.4.6).
+    Symbol(Name),
+    /// The beginning of a line `#pragma oss`.
+    PragmaOss,
+    /// The end of such a line.
+    PragmaEnd,
+    /// Another line that begins with `#` and is not skipped.
+    Directive,
+}
+
+/// A token, and the line on which it begins, counted from 1.
+#[derive(Debug, Drop)]
+pub struct Token {
+    pub what: TokenKind,
+    pub line: u32,
+}
