@@ -1,0 +1,11 @@
+//! The tree of a program. Each `line` is that of the first token of the thing, counted from 1.
+
+mod expr;
+mod pragma;
+mod program;
+mod stmt;
+
+pub use expr::{BinOp, Expr, ExprKind, UnOp};
+pub use pragma::{Clause, Directive, Form, Section, TaskMark};
+pub use program::{Function, GlobalDef, Item, Kind, Local, NumKind, Program};
+pub use stmt::{Stmt, StmtKind};

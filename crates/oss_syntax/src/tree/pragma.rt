@@ -1,0 +1,54 @@
+use crate::{Bytes, Expr, List, Mode, Name};
+
+/// The cells that a dependency clause names (OmpSs-2, array sections).
+#[derive(Debug, Drop)]
+pub struct Section {
+    pub base: Name,
+    pub form: Form,
+    pub line: u32,
+}
+
+/// How a section names its cells, `p` being its base.
+#[derive(Debug, Drop)]
+pub enum Form {
+    /// `p`: a scalar, or a whole array.
+    Whole,
+    /// `*p`: the element that `p` points to.
+    Deref,
+    /// `[n]p`: `n` elements from `p`.
+    Shape(Expr),
+    /// `p[e]`: one element.
+    Element(Expr),
+    /// `p[l;n]`: `n` elements from `l`.
+    Length(Expr, Expr),
+    /// `p[l:u]`: the elements from `l` to `u`, both included.
+    Span(Option<Expr>, Option<Expr>),
+}
+
+/// A clause of a task or of a release.
+#[derive(Debug, Drop)]
+pub enum Clause {
+    /// The mode, whether it is strong, and the sections.
+    Depend(Mode, bool, List<Section>),
+    If(Expr),
+    Final(Expr),
+    Wait,
+    Label(Bytes),
+    Priority(Expr),
+}
+
+/// The pragma of a task.
+#[derive(Debug, Drop)]
+pub struct TaskMark {
+    pub clauses: List<Clause>,
+    pub line: u32,
+}
+
+/// A pragma line.
+#[derive(Debug, Drop)]
+pub enum Directive {
+    Task(TaskMark),
+    /// `taskwait`, or `taskwait on(..)` with its sections.
+    TaskWait(Option<List<Section>>),
+    Release(List<Clause>),
+}

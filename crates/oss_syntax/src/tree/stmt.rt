@@ -1,0 +1,34 @@
+use crate::{BinOp, Boxed, Bytes, Clause, Expr, List, Local, Name, Section, TaskMark};
+
+/// A statement (C11 6.8).
+#[cycle(stmt)]
+#[derive(Debug, Drop)]
+pub struct Stmt {
+    pub what: StmtKind,
+    pub line: u32,
+}
+
+/// What a statement is.
+#[cycle(stmt)]
+#[derive(Debug, Drop)]
+pub enum StmtKind {
+    Block(List<Stmt>),
+    Empty,
+    Declare(List<Local>),
+    /// The target, the operator of a compound assignment, and the right side.
+    Assign(Expr, Option<BinOp>, Expr),
+    Call(Name, List<Expr>),
+    /// `printf`: the bytes of its string, and its other arguments.
+    Print(Bytes, List<Expr>),
+    If(Expr, Boxed<Stmt>, Option<Boxed<Stmt>>),
+    While(Expr, Boxed<Stmt>),
+    /// The first part, the test, the last part, and the body.
+    For(Option<Boxed<Stmt>>, Option<Expr>, Option<Boxed<Stmt>>, Boxed<Stmt>),
+    Return(Option<Expr>),
+    Break,
+    Continue,
+    /// A task that runs this statement.
+    Task(TaskMark, Boxed<Stmt>),
+    TaskWait(Option<List<Section>>),
+    Release(List<Clause>),
+}
