@@ -2,7 +2,9 @@
 #![tactic(auto)]
 
 mod answer;
+mod format;
 mod refusal;
 
 pub use answer::{Answer, FaultKind};
+pub use format::{Piece, arguments, pieces, write_pieces};
 pub use refusal::{Refusal, Refused, RefusedKind};

@@ -1,0 +1,7 @@
+//! The sequential run: one statement after the other.
+#![tactic(auto)]
+
+mod run;
+mod variables;
+
+pub use run::{Ran, serial_tree};
