@@ -1,3 +1,5 @@
+pub mod Grammar
+pub mod Readers
 pub mod Scalars
 pub mod Texts
 pub mod Values
