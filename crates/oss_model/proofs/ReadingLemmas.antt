@@ -141,6 +141,7 @@ module _ {A : Type 0} (starts : List Token → Bool) (f g : List Token → Optio
   pub reads_either : Reads (read_either starts f g) (Either G H) F
   reads_either = record { takes = λ ts value rest r. either_taken (starts ts) ts value rest refl r; again = either_again }
 
+-- what follows neither begins so nor belongs to what is before
 -- a part that may be left out, where what follows does not begin as it does
 pub record MayFollow (starts : List Token → Bool) (F : List Token → Type 0) (rest : List Token) : Type 0 where
   pub past : Past starts rest
@@ -179,8 +180,9 @@ moved found a None = refl
 moved found a (Some p) = ap (λ xs. told xs p.1) (sym (append_assoc found (a ∷ []) p.0))
 
 -- any number of parts, each of which begins as the test says
-module _ {A : Type 0} (starts : List Token → Bool) (f : List Token → Option (A × List Token)) (G : List Token → A → Type 0) (part : Reads f G Anything)
-    (begins : (xs : List Token) (a : A) (rest : List Token) → G xs a → starts (xs ++ rest) ≡ true) (empty : starts [] ≡ false) where
+module _ {A : Type 0} (starts : List Token → Bool) (f : List Token → Option (A × List Token)) (G : List Token → A → Type 0) (F : List Token → Type 0) (part : Reads f G F)
+    (begins : (xs : List Token) (a : A) (rest : List Token) → G xs a → starts (xs ++ rest) ≡ true) (empty : starts [] ≡ false)
+    (apart : (zs : List Token) → starts zs ≡ true → F zs) where
   -- no part is empty
   not_empty : (xs : List Token) (a : A) → G xs a → 0 < length xs
   not_empty [] a w = let e : starts [] ≡ true = begins [] a [] w in absurd (cc)
@@ -217,8 +219,15 @@ module _ {A : Type 0} (starts : List Token → Bool) (f : List Token → Option 
   many_none zero rest free = rw free refl
   many_none (suc n) rest free = rw free refl
 
-  many_again : (n : ℕ) (xs : List Token) (value : List A) (rest : List Token) → Many G xs value → Past starts rest → length xs ≤ n → read_many_within starts f n (xs ++ rest) ≡ told value rest
-  many_again n xs [] rest (none e) free small = rw e (many_none n rest free)
+  -- what follows a part: another, or what follows all
+  follows : (xs : List Token) (values : List A) (rest : List Token) → Many G xs values → F rest → F (xs ++ rest)
+  follows xs [] rest (none e) free = rw e free
+  follows xs (a ∷ values) rest (more front back e w ws) free =
+      let whole : xs ++ rest ≡ front ++ (back ++ rest) = ap (λ ts. ts ++ rest) e ∙ append_assoc front back rest in
+      rw whole (apart (front ++ (back ++ rest)) (begins front a (back ++ rest) w))
+
+  many_again : (n : ℕ) (xs : List Token) (value : List A) (rest : List Token) → Many G xs value → MayFollow starts F rest → length xs ≤ n → read_many_within starts f n (xs ++ rest) ≡ told value rest
+  many_again n xs [] rest (none e) free small = rw e (many_none n rest free.past)
   many_again zero xs (a ∷ values) rest (more front back e w ws) free small =
       let some : 0 < length front = not_empty front a w in
       let size : length xs ≡ length front + length back = ap length e ∙ length-append front back in
@@ -227,11 +236,11 @@ module _ {A : Type 0} (starts : List Token → Bool) (f : List Token → Option 
       let some : 0 < length front = not_empty front a w in
       let size : length xs ≡ length front + length back = ap length e ∙ length-append front back in
       let whole : xs ++ rest ≡ front ++ (back ++ rest) = ap (λ ts. ts ++ rest) e ∙ append_assoc front back rest in
-      let one : f (front ++ (back ++ rest)) ≡ told a (back ++ rest) = part.again front a (back ++ rest) w tt in
+      let one : f (front ++ (back ++ rest)) ≡ told a (back ++ rest) = part.again front a (back ++ rest) w (follows back values rest ws free.free) in
       let two : read_many_within starts f n (back ++ rest) ≡ told values rest = many_again n back values rest ws free (omega arith) in
       rw whole (rw (begins front a (back ++ rest) w) (rw one (rw two refl)))
 
-  pub reads_many : Reads (read_many starts f) (Many G) (Past starts)
+  pub reads_many : Reads (read_many starts f) (Many G) (MayFollow starts F)
   unfolding read_many
   reads_many = record {
     takes = λ ts value rest r. many_taken (length ts) (starts ts) ts value rest refl r;
@@ -349,3 +358,15 @@ module _ {A B : Type 0} (starts : List Token → Bool) (f : List Token → Optio
 
   pub reads_chain : (most : ℕ) → Reads (read_chained starts f g join most) (ChainWithin G H join most) (Past starts)
   reads_chain most = record { takes = chained_takes most; again = chained_again most }
+
+-- less may follow
+pub reads_before : {A : Type 0} {f : List Token → Option (A × List Token)} {G : List Token → A → Type 0} (F K : List Token → Type 0) → ((rest : List Token) → K rest → F rest) → Reads f G F → Reads f G K
+reads_before F K less r = record { takes = r.takes; again = λ xs value rest w free. r.again xs value rest w (less rest free) }
+
+-- what is read to the end of the tokens is in the grammar
+pub whole_in : {A : Type 0} {f : List Token → Option (A × List Token)} {G : List Token → A → Type 0} {F : List Token → Type 0} → Reads f G F → (ts : List Token) (value : A) → f ts ≡ told value [] → G ts value
+whole_in {G = G} r ts value e = let t = r.takes ts value [] e in subst (λ (xs : List Token). G xs value) (sym (t.split ∙ append-nil t.front)) t.whole
+
+-- and what is in the grammar is read to the end
+pub whole_read : {A : Type 0} {f : List Token → Option (A × List Token)} {G : List Token → A → Type 0} {F : List Token → Type 0} → Reads f G F → F [] → (ts : List Token) (value : A) → G ts value → f ts ≡ told value []
+whole_read {f = f} r free ts value w = ap f (sym (append-nil ts)) ∙ r.again ts value [] w free
