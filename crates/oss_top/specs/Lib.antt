@@ -1,0 +1,2 @@
+pub mod ScalarGrammar
+pub mod ScalarReading

@@ -1,0 +1,4 @@
+//! The reader of programs of scalars.
+
+pub mod cursor;
+pub mod reader;

@@ -1,0 +1,5 @@
+#![tactic(auto)]
+
+mod form;
+
+fn main() {}
