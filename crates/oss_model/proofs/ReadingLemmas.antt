@@ -74,8 +74,8 @@ then_taken None go value rest r = absurd (cc)
 then_taken (Some p) go value rest r = (p.0, p.1, refl, r)
 
 -- a part, and then another, which begins with what may follow the first
-module _ {A B : Type 0} (f : List Token → Option (A × List Token)) (g : List Token → Option (B × List Token)) (G : List Token → A → Type 0) (H : List Token → B → Type 0)
-    (F K : List Token → Type 0) (left : Reads f G F) (right : Reads g H K) (apart : (ys : List Token) (b : B) (rest : List Token) → H ys b → K rest → F (ys ++ rest)) where
+module _ {A B : Type 0} {f : List Token → Option (A × List Token)} {g : List Token → Option (B × List Token)} {G : List Token → A → Type 0} {H : List Token → B → Type 0}
+    {F K : List Token → Type 0} (left : Reads f G F) (right : Reads g H K) (apart : (ys : List Token) (b : B) (rest : List Token) → H ys b → K rest → F (ys ++ rest)) where
   both_taken : (ts : List Token) (value : A × B) (rest : List Token) (a : A) (mid : List Token) (b : B) (end : List Token) → Taken G ts a mid → Taken H mid b end
       → told {A = A × B} (a, b) end ≡ told value rest → Taken (Both G H) ts value rest
   both_taken ts value rest a mid b end t u e =
@@ -107,7 +107,7 @@ module _ {A B : Type 0} (f : List Token → Option (A × List Token)) (g : List 
   reads_both = record { takes = both_takes; again = both_again }
 
 -- a value that is made of a part
-module _ {A B : Type 0} (make : A → B) (f : List Token → Option (A × List Token)) (G : List Token → A → Type 0) (F : List Token → Type 0) (part : Reads f G F) where
+module _ {A B : Type 0} (make : A → B) {f : List Token → Option (A × List Token)} {G : List Token → A → Type 0} {F : List Token → Type 0} (part : Reads f G F) where
   mapped_takes : (ts : List Token) (value : B) (rest : List Token) → read_mapped make f ts ≡ told value rest → Taken (Mapped make G) ts value rest
   mapped_takes ts value rest r =
       let one = then_taken (f ts) (λ a left. Some (make a, left)) value rest r in
@@ -125,7 +125,7 @@ module _ {A B : Type 0} (make : A → B) (f : List Token → Option (A × List T
   reads_mapped = record { takes = mapped_takes; again = mapped_again }
 
 -- one of two, which the tokens tell apart
-module _ {A : Type 0} (starts : List Token → Bool) (f g : List Token → Option (A × List Token)) (G H : List Token → A → Type 0) (F : List Token → Type 0) (left : Reads f G F) (right : Reads g H F)
+module _ {A : Type 0} (starts : List Token → Bool) {f g : List Token → Option (A × List Token)} {G H : List Token → A → Type 0} {F : List Token → Type 0} (left : Reads f G F) (right : Reads g H F)
     (here : (xs : List Token) (a : A) (rest : List Token) → G xs a → F rest → starts (xs ++ rest) ≡ true)
     (there : (xs : List Token) (a : A) (rest : List Token) → H xs a → F rest → starts (xs ++ rest) ≡ false) where
   either_taken : (b : Bool) (ts : List Token) (value : A) (rest : List Token) → starts ts ≡ b → read_either starts f g ts ≡ told value rest → Taken (Either G H) ts value rest
@@ -147,7 +147,7 @@ pub record MayFollow (starts : List Token → Bool) (F : List Token → Type 0) 
   pub past : Past starts rest
   pub free : F rest
 
-module _ {A : Type 0} (starts : List Token → Bool) (f : List Token → Option (A × List Token)) (G : List Token → A → Type 0) (F : List Token → Type 0) (part : Reads f G F)
+module _ {A : Type 0} (starts : List Token → Bool) {f : List Token → Option (A × List Token)} {G : List Token → A → Type 0} {F : List Token → Type 0} (part : Reads f G F)
     (here : (xs : List Token) (a : A) (rest : List Token) → G xs a → F rest → starts (xs ++ rest) ≡ true) where
   maybe_taken : (b : Bool) (ts : List Token) (value : Option A) (rest : List Token) → starts ts ≡ b → read_maybe starts f ts ≡ told value rest → Taken (Maybe G) ts value rest
   maybe_taken true ts value rest e r =
@@ -180,7 +180,7 @@ moved found a None = refl
 moved found a (Some p) = ap (λ xs. told xs p.1) (sym (append_assoc found (a ∷ []) p.0))
 
 -- any number of parts, each of which begins as the test says
-module _ {A : Type 0} (starts : List Token → Bool) (f : List Token → Option (A × List Token)) (G : List Token → A → Type 0) (F : List Token → Type 0) (part : Reads f G F)
+module _ {A : Type 0} (starts : List Token → Bool) {f : List Token → Option (A × List Token)} {G : List Token → A → Type 0} {F : List Token → Type 0} (part : Reads f G F)
     (begins : (xs : List Token) (a : A) (rest : List Token) → G xs a → starts (xs ++ rest) ≡ true) (empty : starts [] ≡ false)
     (apart : (zs : List Token) → starts zs ≡ true → F zs) where
   -- no part is empty
@@ -220,7 +220,7 @@ module _ {A : Type 0} (starts : List Token → Bool) (f : List Token → Option 
   many_none (suc n) rest free = rw free refl
 
   -- what follows a part: another, or what follows all
-  follows : (xs : List Token) (values : List A) (rest : List Token) → Many G xs values → F rest → F (xs ++ rest)
+  pub follows : (xs : List Token) (values : List A) (rest : List Token) → Many G xs values → F rest → F (xs ++ rest)
   follows xs [] rest (none e) free = rw e free
   follows xs (a ∷ values) rest (more front back e w ws) free =
       let whole : xs ++ rest ≡ front ++ (back ++ rest) = ap (λ ts. ts ++ rest) e ∙ append_assoc front back rest in
@@ -292,7 +292,7 @@ record ChainTaken {A B : Type 0} (G : List Token → A → Type 0) (H : List Tok
   chain : Chain G H join count (before ++ front) end
 
 -- a value that is joined with others behind it
-module _ {A B : Type 0} (starts : List Token → Bool) (f : List Token → Option (A × List Token)) (g : List Token → Option (B × List Token)) (G : List Token → A → Type 0) (H : List Token → B → Type 0)
+module _ {A B : Type 0} (starts : List Token → Bool) {f : List Token → Option (A × List Token)} {g : List Token → Option (B × List Token)} {G : List Token → A → Type 0} {H : List Token → B → Type 0}
     (join : A → B → A) (left : Reads f G Anything) (right : Reads g H Anything)
     (begins : (xs : List Token) (b : B) (rest : List Token) → H xs b → starts (xs ++ rest) ≡ true) where
   chain_none : (n : ℕ) (value : A) (rest : List Token) → Past starts rest → read_chain starts g join n value rest ≡ told value rest
@@ -370,3 +370,27 @@ whole_in {G = G} r ts value e = let t = r.takes ts value [] e in subst (λ (xs :
 -- and what is in the grammar is read to the end
 pub whole_read : {A : Type 0} {f : List Token → Option (A × List Token)} {G : List Token → A → Type 0} {F : List Token → Type 0} → Reads f G F → F [] → (ts : List Token) (value : A) → G ts value → f ts ≡ told value []
 whole_read {f = f} r free ts value w = ap f (sym (append-nil ts)) ∙ r.again ts value [] w free
+
+-- whatever is in the grammar begins as the test says
+abbrev pub Starts : {A : Type 0} → (List Token → A → Type 0) → (List Token → Bool) → Type 0
+Starts {A} G starts = (xs : List Token) (a : A) (rest : List Token) → G xs a → starts (xs ++ rest) ≡ true
+
+-- and nothing in it begins so
+abbrev pub NeverStarts : {A : Type 0} → (List Token → A → Type 0) → (List Token → Bool) → Type 0
+NeverStarts {A} G starts = (xs : List Token) (a : A) (rest : List Token) → G xs a → starts (xs ++ rest) ≡ false
+
+-- a part behind another does not change how they begin
+pub begin_both : {A B : Type 0} {G : List Token → A → Type 0} {H : List Token → B → Type 0} (starts : List Token → Bool) (b : Bool) → ((xs : List Token) (a : A) (rest : List Token) → G xs a → starts (xs ++ rest) ≡ b)
+    → (xs : List Token) (a : A × B) (rest : List Token) → Both G H xs a → starts (xs ++ rest) ≡ b
+begin_both starts b s xs a rest w =
+    let whole : xs ++ rest ≡ w.front ++ (w.back ++ rest) = ap (λ ts. ts ++ rest) w.split ∙ append_assoc w.front w.back rest in
+    ap starts whole ∙ s w.front a.0 (w.back ++ rest) w.before
+
+pub begin_mapped : {A B : Type 0} {make : A → B} {G : List Token → A → Type 0} (starts : List Token → Bool) (b : Bool) → ((xs : List Token) (a : A) (rest : List Token) → G xs a → starts (xs ++ rest) ≡ b)
+    → (xs : List Token) (a : B) (rest : List Token) → Mapped make G xs a → starts (xs ++ rest) ≡ b
+begin_mapped starts b s xs a rest w = s xs w.part rest w.whole
+
+pub begin_either : {A : Type 0} {G H : List Token → A → Type 0} (starts : List Token → Bool) (b : Bool) → ((xs : List Token) (a : A) (rest : List Token) → G xs a → starts (xs ++ rest) ≡ b)
+    → ((xs : List Token) (a : A) (rest : List Token) → H xs a → starts (xs ++ rest) ≡ b) → (xs : List Token) (a : A) (rest : List Token) → Either G H xs a → starts (xs ++ rest) ≡ b
+begin_either starts b s t xs a rest (one_way w) = s xs a rest w
+begin_either starts b s t xs a rest (other_way w) = t xs a rest w
