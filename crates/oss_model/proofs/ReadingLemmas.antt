@@ -7,7 +7,7 @@ use Rattle.oss_model.specs.Grammar.Either.{one_way, other_way}
 use Rattle.oss_model.specs.Grammar.Maybe.{without, with_it}
 use Rattle.oss_model.specs.Grammar.Many.{none, more}
 use Rattle.oss_model.specs.Grammar.Chain.{start, joined}
-use Rattle.oss_model.specs.Readers.{read_then, read_value, read_one, read_both, read_mapped, read_either, read_maybe, read_many_within, read_many, read_chain, read_chained}
+use Rattle.oss_model.specs.Readers.{read_then, read_value, read_one, read_both, read_mapped, read_either, read_maybe, read_many_within, read_many, read_chain, read_chained, behind}
 
 -- what a reader tells
 abbrev pub told : {A : Type 0} → A → List Token → Option (A × List Token)
@@ -170,10 +170,7 @@ module _ {A : Type 0} (starts : List Token → Bool) {f : List Token → Option 
   pub reads_maybe : Reads (read_maybe starts f) (Maybe G) (MayFollow starts F)
   reads_maybe = record { takes = λ ts value rest r. maybe_taken (starts ts) ts value rest refl r; again = maybe_again }
 
--- what is read behind parts that were found
-abbrev pub behind : {A : Type 0} → List A → Option (List A × List Token) → Option (List A × List Token)
-behind found read = read_then read (λ more rest. Some (found ++ more, rest))
-
+-- a part that was found goes to those before it
 moved : {A : Type 0} (found : List A) (a : A) (o : Option (List A × List Token))
     → behind found (read_then o (λ more rest. Some (a ∷ more, rest))) ≡ behind (found ++ a ∷ []) o
 moved found a None = refl
@@ -188,7 +185,7 @@ module _ {A : Type 0} (starts : List Token → Bool) {f : List Token → Option 
   not_empty [] a w = let e : starts [] ≡ true = begins [] a [] w in absurd (cc)
   not_empty (x ∷ xs) a w = omega arith
 
-  shorter : (ts : List Token) (a : A) (rest : List Token) → f ts ≡ told a rest → length rest < length ts
+  pub shorter : (ts : List Token) (a : A) (rest : List Token) → f ts ≡ told a rest → length rest < length ts
   shorter ts a rest r =
       let t = part.takes ts a rest r in
       let some : 0 < length t.front = not_empty t.front a t.whole in
@@ -282,6 +279,23 @@ module _ {A : Type 0} (starts : List Token → Bool) {f : List Token → Option 
       let less : length rest < length (t ∷ ts) = shorter (t ∷ ts) a rest r in
       let same : read_many_within starts f (length ts) rest ≡ read_many_within starts f (length rest) rest = enough (length ts) (length rest) (starts rest) rest refl (omega arith) (omega arith) in
       rw e (rw r (rw same (moved found a (read_many_within starts f (length rest) rest))))
+
+-- how the reading of many parts goes on, as a loop needs it
+pub record Repeats {A : Type 0} (starts : List Token → Bool) (f : List Token → Option (A × List Token)) : Type 0 where
+  pub stop : (found : List A) (ts : List Token) → starts ts ≡ false → behind found (read_many starts f ts) ≡ told found ts
+  pub fail : (found : List A) (ts : List Token) → starts ts ≡ true → f ts ≡ None → behind found (read_many starts f ts) ≡ None
+  pub go : (found : List A) (ts : List Token) (a : A) (rest : List Token) → starts ts ≡ true → f ts ≡ told a rest → behind found (read_many starts f ts) ≡ behind (found ++ a ∷ []) (read_many starts f rest)
+  pub less : (ts : List Token) (a : A) (rest : List Token) → f ts ≡ told a rest → length rest < length ts
+
+pub repeats : {A : Type 0} (starts : List Token → Bool) {f : List Token → Option (A × List Token)} {G : List Token → A → Type 0} {F : List Token → Type 0} (part : Reads f G F)
+    (begins : (xs : List Token) (a : A) (rest : List Token) → G xs a → starts (xs ++ rest) ≡ true) (empty : starts [] ≡ false)
+    (apart : (zs : List Token) → starts zs ≡ true → F zs) → Repeats starts f
+repeats starts part begins empty apart = record {
+  stop = many_stop starts part begins empty apart;
+  fail = many_fail starts part begins empty apart;
+  go = many_go starts part begins empty apart;
+  less = shorter starts part begins empty apart;
+}
 
 -- what a chain took behind the tokens of the value before
 record ChainTaken {A B : Type 0} (G : List Token → A → Type 0) (H : List Token → B → Type 0) (join : A → B → A) (most : ℕ) (before ts : List Token) (end : A) (rest : List Token) : Type 0 where

@@ -1,6 +1,6 @@
 -- Readers: functions from a list of tokens to the value that its front stands for and the tokens behind it, or none.
 -- They recur as a program reads, from left to right; that they read a grammar is proved of each.
-use Rattle.std.specs.Prelude.{◌≡◌, ℕ, zero, suc, Bool, if◌then◌else◌, List, [], ◌∷◌, length, Option, Some, None}
+use Rattle.std.specs.Prelude.{◌≡◌, ℕ, zero, suc, Bool, if◌then◌else◌, List, [], ◌∷◌, ◌++◌, length, Option, Some, None}
 use Rattle.oss_syntax.specs.declared.token.Token.{Token}
 
 -- reading goes on behind what was read
@@ -48,3 +48,7 @@ read_chain starts g join (suc n) value ts =
 -- a part, and what is joined with it
 abbrev pub read_chained : {A B : Type 0} → (List Token → Bool) → (List Token → Option (A × List Token)) → (List Token → Option (B × List Token)) → (A → B → A) → ℕ → List Token → Option (A × List Token)
 read_chained starts f g join most ts = read_then (f ts) (λ value rest. read_chain starts g join most value rest)
+
+-- what is read behind parts that were found
+abbrev pub behind : {A : Type 0} → List A → Option (List A × List Token) → Option (List A × List Token)
+behind found read = read_then read (λ more rest. Some (found ++ more, rest))

@@ -11,7 +11,7 @@ use Rattle.oss_model.specs.Grammar.Either.{one_way, other_way}
 use Rattle.oss_model.specs.Grammar.Maybe.{without, with_it}
 use Rattle.oss_model.specs.Grammar.Many.{none, more}
 use Rattle.oss_model.specs.Readers.{read_one, read_both, read_mapped, read_either, read_maybe, read_many, read_chained}
-use Rattle.oss_model.proofs.ReadingLemmas.{Reads, Anything, Past, MayFollow, Starts, NeverStarts, reads_one, reads_both, reads_mapped, reads_either, reads_maybe, reads_many, reads_chain, reads_before, begin_both, begin_mapped, begin_either, follows}
+use Rattle.oss_model.proofs.ReadingLemmas.{Reads, Anything, Past, MayFollow, Starts, NeverStarts, reads_one, reads_both, reads_mapped, reads_either, reads_maybe, reads_many, reads_chain, Repeats, repeats, begin_both, begin_mapped, begin_either, follows}
 use Rattle.oss_syntax.specs.declared.tree.program.NumKind.{NumKind}
 use Rattle.oss_top.specs.declared.form.cursor.Named.{Named}
 use Rattle.oss_top.specs.declared.form.reader.Declarator.{Declarator}
@@ -367,3 +367,16 @@ brace_apart ys line rest w free =
 pub reads_program : Reads read_program IsProgram Anything
 unfolding read_program
 reads_program = reads_mapped program_of (reads_both reads_declarations (reads_both reads_header (reads_both reads_lines (reads_one (symbol_at (codes "}"))) brace_apart) (λ ys b rest w free. tt)) header_apart)
+
+-- the loops
+pub repeats_declarators : Repeats begins_comma read_next_declarator
+repeats_declarators = repeats begins_comma reads_next_declarator start_comma refl comma_apart
+
+pub repeats_arguments : Repeats begins_comma read_argument
+repeats_arguments = repeats begins_comma reads_argument start_comma refl argument_apart
+
+pub repeats_lines : Repeats begins_line read_line
+repeats_lines = repeats begins_line reads_line start_line refl line_apart
+
+pub repeats_declarations : Repeats begins_declaration read_declaration
+repeats_declarations = repeats begins_declaration reads_declaration start_declaration refl declaration_apart

@@ -1,6 +1,7 @@
-ghost use Rattle.std.specs.Prelude.{◌≡◌, ◌≤◌, ◌∷◌, ◌++◌, [], length, map, OnOk, OnErr};
-ghost use Rattle.oss_top.specs.ScalarGrammar.{global_of, main_of, one_after_another};
-ghost use Rattle.oss_top.specs.ScalarReading.{Gives, read_type, read_signed, read_first, read_declarator, read_next_declarator, read_declarators, read_declaration, read_declarations, read_operation, read_sum, read_assignment, read_argument, read_arguments, read_print, read_line, read_lines, read_header, read_program};
+ghost use Rattle.std.specs.Prelude.{◌≡◌, ◌≤◌, ◌∷◌, ◌++◌, [], length, map, IfOk};
+ghost use Rattle.oss_top.specs.ScalarGrammar.{global_of, joined_by, main_of, one_after_another, operator_at};
+ghost use Rattle.oss_model.specs.Readers.{behind, read_chain, read_many};
+ghost use Rattle.oss_top.specs.ScalarReading.{Gives, begins, begins_comma, read_type, read_signed, read_first, read_declarator, read_next_declarator, read_declarators, read_declaration, read_declarations, read_operation, read_sum, read_assignment, read_argument, read_arguments, read_print, read_line, read_lines, read_header, read_program};
 
 use crate::form::cursor::{Cursor, Named, Unread};
 use oss_syntax::{
@@ -82,6 +83,334 @@ fn declared_name(alloc: Global, tokens: &mut Cursor<'_>) -> Result<Declarator, U
     }
     match first_value(tokens) {
         Ok(first) => Ok(Declarator { name, line, first }),
+        Err(unread) => Err(unread),
+    }
+}
+
+/// "," declarator
+#[tactic(auto, unfolding(crate::specs::ScalarReading::read_next_declarator))]
+fn next_declarator(alloc: Global, tokens: &mut Cursor<'_>) -> Result<Declarator, Unread>
+    ensures { Gives (read_next_declarator tokens.old) result tokens.new }
+{
+    match tokens.symbol(b",") {
+        Ok(_) => declared_name(alloc, tokens),
+        Err(unread) => Err(unread),
+    }
+}
+
+/// Any number of them, behind those that were found.
+fn more_declarators(
+    alloc: Global,
+    mut found: List<Declarator>,
+    tokens: &mut Cursor<'_>,
+) -> Result<List<Declarator>, Unread>
+    ensures { Gives (behind found (read_many begins_comma read_next_declarator tokens.old)) result tokens.new }
+{
+    'declarators: while tokens.begins_with_symbol(b",") {
+        let next = match next_declarator(alloc, tokens) {
+            Ok(next) => next,
+            Err(unread) => return Err(unread),
+        };
+        match found.push(next) {
+            Ok(()) => {}
+            Err(e) => return Err(Unread::Memory(e)),
+        }
+    }
+    Ok(found)
+}
+
+/// declarator { "," declarator }
+#[tactic(auto, unfolding(crate::specs::ScalarReading::read_declarators))]
+fn declarators(alloc: Global, tokens: &mut Cursor<'_>) -> Result<List<Declarator>, Unread>
+    ensures { Gives (read_declarators tokens.old) result tokens.new }
+{
+    let first = match declared_name(alloc, tokens) {
+        Ok(first) => first,
+        Err(unread) => return Err(unread),
+    };
+    let mut found = List::new(alloc);
+    match found.push(first) {
+        Ok(()) => more_declarators(alloc, found, tokens),
+        Err(e) => Err(Unread::Memory(e)),
+    }
+}
+
+/// type declarators ";"
+#[tactic(auto, unfolding(crate::specs::ScalarReading::read_declaration))]
+fn declaration(alloc: Global, tokens: &mut Cursor<'_>) -> Result<List<Item>, Unread>
+    ensures { Gives (read_declaration tokens.old) result tokens.new }
+{
+    let kind = match num_kind(tokens) {
+        Ok(kind) => kind,
+        Err(unread) => return Err(unread),
+    };
+    let declared = match declarators(alloc, tokens) {
+        Ok(declared) => declared,
+        Err(unread) => return Err(unread),
+    };
+    match tokens.symbol(b";") {
+        Ok(_) => {}
+        Err(unread) => return Err(unread),
+    }
+    match globals(alloc, kind, declared) {
+        Ok(globals) => Ok(globals),
+        Err(e) => Err(Unread::Memory(e)),
+    }
+}
+
+/// The globals of a type that these declarators declare.
+fn globals(
+    alloc: Global,
+    kind: NumKind,
+    declared: List<Declarator>,
+) -> Result<List<Item>, AllocError>
+    ensures { IfOk result (λ items. items ≡ map (global_of kind) declared) }
+{
+    let mut items = List::new(alloc);
+    for declarator in declared.into_vec() {
+        let Declarator { name, line, first } = declarator;
+        items.push(Item::Global(GlobalDef {
+            name,
+            kind,
+            cells: None,
+            first,
+            line,
+        }))?;
+    }
+    Ok(items)
+}
+
+/// { declaration }
+#[tactic(auto, unfolding(crate::specs::ScalarReading::read_declarations))]
+fn declarations(alloc: Global, tokens: &mut Cursor<'_>) -> Result<List<List<Item>>, Unread>
+    ensures { Gives (read_declarations tokens.old) result tokens.new }
+{
+    let mut found = List::new(alloc);
+    'declarations: while tokens.begins_declaration() {
+        let next = match declaration(alloc, tokens) {
+            Ok(next) => next,
+            Err(unread) => return Err(unread),
+        };
+        match found.push(next) {
+            Ok(()) => {}
+            Err(e) => return Err(Unread::Memory(e)),
+        }
+    }
+    Ok(found)
+}
+
+/// ( "+" | "-" ) term
+#[tactic(auto, unfolding(crate::specs::ScalarReading::read_operation))]
+fn operation(alloc: Global, tokens: &mut Cursor<'_>) -> Result<(BinOp, Expr), Unread>
+    ensures { Gives (read_operation tokens.old) result tokens.new }
+{
+    let operator = match tokens.operator() {
+        Ok(operator) => operator,
+        Err(unread) => return Err(unread),
+    };
+    match tokens.term(alloc) {
+        Ok(term) => Ok((operator, term)),
+        Err(unread) => Err(unread),
+    }
+}
+
+/// term { ( "+" | "-" ) term }, with at most 256 operators
+#[tactic(auto, unfolding(crate::specs::ScalarReading::read_sum))]
+fn sum(alloc: Global, tokens: &mut Cursor<'_>) -> Result<Expr, Unread>
+    ensures { Gives (read_sum tokens.old) result tokens.new }
+{
+    match tokens.term(alloc) {
+        Ok(first) => more_terms(alloc, first, tokens),
+        Err(unread) => Err(unread),
+    }
+}
+
+/// At most 256 operators with their terms, behind the sum so far.
+fn more_terms(alloc: Global, first: Expr, tokens: &mut Cursor<'_>) -> Result<Expr, Unread>
+    ensures { Gives (read_chain (begins operator_at) read_operation joined_by 256 first tokens.old) result tokens.new }
+{
+    let mut value = first;
+    let mut left = 256u32;
+    'operators: while tokens.begins_with_operator() {
+        if left == 0 {
+            return Err(Unread::Refused);
+        }
+        left -= 1;
+        let (operator, term) = match operation(alloc, tokens) {
+            Ok(operation) => operation,
+            Err(unread) => return Err(unread),
+        };
+        value = match join(alloc, value, operator, term) {
+            Ok(joined) => joined,
+            Err(e) => return Err(Unread::Memory(e)),
+        };
+    }
+    Ok(value)
+}
+
+fn join(alloc: Global, left: Expr, operator: BinOp, right: Expr) -> Result<Expr, AllocError>
+    ensures { IfOk result (λ sum. sum ≡ joined_by left (operator, right)) }
+{
+    let line = left.line;
+    Ok(Expr {
+        what: ExprKind::Binary(
+            operator,
+            Boxed::new(alloc, left)?,
+            Boxed::new(alloc, right)?,
+        ),
+        line,
+    })
+}
+
+/// name "=" sum ";"
+#[tactic(auto, unfolding(crate::specs::ScalarReading::read_assignment))]
+fn assignment(alloc: Global, tokens: &mut Cursor<'_>) -> Result<Stmt, Unread>
+    ensures { Gives (read_assignment tokens.old) result tokens.new }
+{
+    let Named { name, line } = match tokens.name(alloc) {
+        Ok(named) => named,
+        Err(unread) => return Err(unread),
+    };
+    match tokens.symbol(b"=") {
+        Ok(_) => {}
+        Err(unread) => return Err(unread),
+    }
+    let value = match sum(alloc, tokens) {
+        Ok(value) => value,
+        Err(unread) => return Err(unread),
+    };
+    match tokens.symbol(b";") {
+        Ok(_) => {}
+        Err(unread) => return Err(unread),
+    }
+    let target = Expr {
+        what: ExprKind::Name(name),
+        line,
+    };
+    Ok(Stmt {
+        what: StmtKind::Assign(target, None, value),
+        line,
+    })
+}
+
+/// "," sum
+#[tactic(auto, unfolding(crate::specs::ScalarReading::read_argument))]
+fn argument(alloc: Global, tokens: &mut Cursor<'_>) -> Result<Expr, Unread>
+    ensures { Gives (read_argument tokens.old) result tokens.new }
+{
+    match tokens.symbol(b",") {
+        Ok(_) => sum(alloc, tokens),
+        Err(unread) => Err(unread),
+    }
+}
+
+/// { "," sum }
+#[tactic(auto, unfolding(crate::specs::ScalarReading::read_arguments))]
+fn arguments(alloc: Global, tokens: &mut Cursor<'_>) -> Result<List<Expr>, Unread>
+    ensures { Gives (read_arguments tokens.old) result tokens.new }
+{
+    let mut found = List::new(alloc);
+    'arguments: while tokens.begins_with_symbol(b",") {
+        let next = match argument(alloc, tokens) {
+            Ok(next) => next,
+            Err(unread) => return Err(unread),
+        };
+        match found.push(next) {
+            Ok(()) => {}
+            Err(e) => return Err(Unread::Memory(e)),
+        }
+    }
+    Ok(found)
+}
+
+/// "printf" "(" string { "," sum } ")" ";"
+#[tactic(auto, unfolding(crate::specs::ScalarReading::read_print))]
+fn print(alloc: Global, tokens: &mut Cursor<'_>) -> Result<Stmt, Unread>
+    ensures { Gives (read_print tokens.old) result tokens.new }
+{
+    let line = match tokens.keyword(b"printf") {
+        Ok(line) => line,
+        Err(unread) => return Err(unread),
+    };
+    match tokens.symbol(b"(") {
+        Ok(_) => {}
+        Err(unread) => return Err(unread),
+    }
+    let format = match tokens.text(alloc) {
+        Ok(format) => format,
+        Err(unread) => return Err(unread),
+    };
+    let values = match arguments(alloc, tokens) {
+        Ok(values) => values,
+        Err(unread) => return Err(unread),
+    };
+    match tokens.symbol(b")") {
+        Ok(_) => {}
+        Err(unread) => return Err(unread),
+    }
+    match tokens.symbol(b";") {
+        Ok(_) => {}
+        Err(unread) => return Err(unread),
+    }
+    Ok(Stmt {
+        what: StmtKind::Print(format, values),
+        line,
+    })
+}
+
+/// assignment | print
+#[tactic(auto, unfolding(crate::specs::ScalarReading::read_line))]
+fn line(alloc: Global, tokens: &mut Cursor<'_>) -> Result<Stmt, Unread>
+    ensures { Gives (read_line tokens.old) result tokens.new }
+{
+    if tokens.begins_with_name() {
+        return assignment(alloc, tokens);
+    }
+    print(alloc, tokens)
+}
+
+/// { line }
+#[tactic(auto, unfolding(crate::specs::ScalarReading::read_lines))]
+fn lines(alloc: Global, tokens: &mut Cursor<'_>) -> Result<List<Stmt>, Unread>
+    ensures { Gives (read_lines tokens.old) result tokens.new }
+{
+    let mut found = List::new(alloc);
+    'lines: while tokens.begins_line() {
+        let next = match line(alloc, tokens) {
+            Ok(next) => next,
+            Err(unread) => return Err(unread),
+        };
+        match found.push(next) {
+            Ok(()) => {}
+            Err(e) => return Err(Unread::Memory(e)),
+        }
+    }
+    Ok(found)
+}
+
+/// "int" "main" "(" ")" "{", with the line of the name
+#[tactic(auto, unfolding(crate::specs::ScalarReading::read_header))]
+fn header(tokens: &mut Cursor<'_>) -> Result<u32, Unread>
+    ensures { Gives (read_header tokens.old) result tokens.new }
+{
+    match tokens.keyword(b"int") {
+        Ok(_) => {}
+        Err(unread) => return Err(unread),
+    }
+    let line = match tokens.main_name() {
+        Ok(line) => line,
+        Err(unread) => return Err(unread),
+    };
+    match tokens.symbol(b"(") {
+        Ok(_) => {}
+        Err(unread) => return Err(unread),
+    }
+    match tokens.symbol(b")") {
+        Ok(_) => {}
+        Err(unread) => return Err(unread),
+    }
+    match tokens.symbol(b"{") {
+        Ok(_) => Ok(line),
         Err(unread) => Err(unread),
     }
 }
