@@ -1,7 +1,7 @@
 -- What contracts see of a shelf in memory.
-use Rattle.std.specs.Prelude.{ℕ, ◌+◌, ◌-◌, ◌^◌, min, Bool, ◌==◌, if◌then◌else◌, List, Option, None, Some, option_map, find, Result, Ok, Err, length, nat_lt}
+use Rattle.std.specs.Prelude.{ℕ, ◌+◌, ◌-◌, ◌^◌, min, if◌then◌else◌, List, Option, None, Some, option_map, find, Result, Ok, Err, length, nat_lt}
 use Rattle.std.specs.Str.{bytes_eq}
-use Rattle.std.specs.List.{list_any}
+use Rattle.oss_io.specs.Plan.{next_call, is_planned}
 use Rattle.oss_io.specs.declared.shelf.ShelfFault.{ShelfFault}
 use Rattle.oss_io.specs.declared.shelf.ShelfFault.TheVariants.{Failed, TooLong}
 
@@ -18,14 +18,6 @@ pub record ShelfView : Type 0 where
 abbrev pub bytes_under : List (List ℕ × List ℕ) → List ℕ → Option (List ℕ)
 bytes_under files name = option_map (λ file. file.1) (find (λ file. bytes_eq file.0 name) files)
 
--- the number of the next call, which stops at the last number
-abbrev pub next_call : ℕ → ℕ
-next_call calls = min (calls + 1) (2 ^ 32 - 1)
-
--- the next call is one that is to fail
-abbrev pub is_planned : List ℕ → ℕ → Bool
-is_planned planned calls = list_any (λ call. call == next_call calls) planned
-
 -- what a read under a limit answers to the bytes of a name
 abbrev pub answer_to : Option (List ℕ) → ℕ → Result Unit ShelfFault
 answer_to None limit = Err Failed
@@ -38,4 +30,8 @@ answer_of shelf name limit =
 
 -- the shelf after a call that failed on a name
 abbrev pub after_fault : ShelfView → List ℕ → ShelfView
-after_fault shelf name = record shelf { calls = next_call shelf.calls; faults = min (shelf.faults + 1) (2 ^ 64 - 1); last = name }
+after_fault shelf name = record shelf {
+  calls = next_call shelf.calls;
+  faults = min (shelf.faults + 1) (2 ^ 64 - 1);
+  last = name;
+}

@@ -1,6 +1,6 @@
 -- What contracts see of a sink in memory.
 use Rattle.std.specs.Prelude.{ℕ, ◌-◌, min, ◌==◌, if◌then◌else◌, List, Result, Ok, Err, length}
-use Rattle.oss_io.specs.ShelfView.{is_planned}
+use Rattle.oss_io.specs.Plan.{is_planned}
 use Rattle.oss_io.specs.declared.sink.SinkFault.{SinkFault}
 use Rattle.oss_io.specs.declared.sink.SinkFault.TheVariants.{Failed}
 
@@ -14,11 +14,11 @@ pub record SinkView : Type 0 where
   pub calls : ℕ
   pub faults : ℕ
 
--- how many bytes the sink takes of a piece of some length, by its room
+-- how many bytes the next write takes of a piece of this length, if it does not fail by plan
 abbrev pub count_of : SinkView → ℕ → ℕ
 count_of sink len = min (min len sink.piece) (sink.room - length sink.bytes)
 
--- what the next write answers to a piece of some length
+-- what the next write answers to a piece
 abbrev pub answer_of : SinkView → List ℕ → Result ℕ SinkFault
 answer_of sink bytes =
     if length bytes == 0 then Ok 0

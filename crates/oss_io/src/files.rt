@@ -13,8 +13,8 @@ use std::rt::Files;
 // How many bytes are asked of a file at once.
 const PIECE: usize = 4096;
 
-/// The files of the system, each read from its start. Its contracts tell nothing of what they hold: a contract sees it
-/// as its count of faults and the name of the last.
+/// The files of the system, under their paths. No contract tells what they hold: it sees the shelf as its count of
+/// faults and the name of the last.
 #[derive(Drop)]
 pub struct FileShelf<'a, R: Files> {
     alloc: Global,
@@ -48,7 +48,8 @@ impl<'a, R: Files> FileShelf<'a, R> {
 // One read, again where a signal cut it off.
 fn read_piece<F: Read>(file: &mut F, piece: &mut [u8]) -> Result<usize, ShelfFault>
     ensures within { ReadsAtMost result piece.new }
-    ensures bytes { IfOk result (λ count. Consumes (F.remaining file.old) (F.remaining file.new) (take count piece.new)) }
+    ensures bytes { IfOk result (λ count.
+        Consumes (F.remaining file.old) (F.remaining file.new) (take count piece.new)) }
     ensures end { IfOk result (λ count. count ≡ 0 → 0 < length piece.old → IsAtEnd (F.remaining file.new)) }
     ensures failed { OnErr result (result ≡ Err ShelfFault.Failed) }
 {
@@ -67,7 +68,8 @@ fn read_whole<F: Read>(file: &mut F, limit: usize, into: &mut Vec<u8>) -> Result
     requires { into.old.items ≡ [] }
     ensures whole { OnOk result (IfSome (F.remaining file.old) (λ bytes. into.new.items ≡ bytes)) }
     ensures within { OnOk result (length into.new.items ≤ limit) }
-    ensures too_long { result ≡ Err ShelfFault.TooLong → IfSome (F.remaining file.old) (λ bytes. limit < length bytes) }
+    ensures too_long { result ≡ Err ShelfFault.TooLong
+        → IfSome (F.remaining file.old) (λ bytes. limit < length bytes) }
 {
     let mut piece = [0; PIECE];
     for _ in 0..u64::MAX {
@@ -141,7 +143,7 @@ mod tests {
         assert_eq!(rt; shelf.read("shelf_file.txt", 4, &mut into), Ok(()));
         assert_eq!(rt; into.as_slice(), b"text".as_slice());
 
-        into.clear();
+        let mut into = Vec::new(alloc);
         let answer = shelf.read("shelf_file.txt", 3, &mut into);
         assert_eq!(rt; answer, Err(ShelfFault::TooLong));
         assert!(rt; into.is_empty());

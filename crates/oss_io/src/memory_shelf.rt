@@ -1,8 +1,9 @@
-// A shelf in memory, for trials: what it keeps and when it fails is planned.
+// A shelf in memory, for tests: what it keeps and when it fails is planned.
 ghost use Rattle.std.specs.Prelude.{◌≡◌, ◌≢◌, ℕ, ◌<◌, ◌≤◌, List, [], ◌∷◌, ◌++◌, length, IfOk, IfSome, OnOk, OnErr, option_copied, alloc_error};
 ghost use Rattle.std.specs.Str.{bytes_eq};
 ghost use Rattle.oss_io.specs.Faults.{Rises};
-ghost use Rattle.oss_io.specs.ShelfView.{bytes_under, next_call, answer_of, after_fault};
+ghost use Rattle.oss_io.specs.Plan.{next_call};
+ghost use Rattle.oss_io.specs.ShelfView.{bytes_under, answer_of, after_fault};
 
 use crate::{Shelf, ShelfFault};
 use std::alloc::{AllocError, Global};
@@ -134,14 +135,19 @@ impl Shelf for MemoryShelf {
         ensures within { OnOk result (length into.new.items ≤ limit) }
         ensures empty { OnErr result (into.new.items ≡ []) }
         ensures same { (other : List ℕ) → bytes_under self.new.files other ≡ bytes_under self.old.files other }
-        ensures failed { result ≡ Err ShelfFault.Failed → Rises self.old.faults self.new.faults × (self.new.last ≡ name.now) }
-        ensures count { result ≢ Err ShelfFault.Failed → (self.new.faults ≡ self.old.faults) × (self.new.last ≡ self.old.last) }
-        ensures too_long { result ≡ Err ShelfFault.TooLong → IfSome (bytes_under self.old.files name.now) (λ bytes. limit < length bytes) }
+        ensures failed { result ≡ Err ShelfFault.Failed
+            → Rises self.old.faults self.new.faults × (self.new.last ≡ name.now) }
+        ensures count { result ≢ Err ShelfFault.Failed
+            → (self.new.faults ≡ self.old.faults) × (self.new.last ≡ self.old.last) }
+        ensures too_long { result ≡ Err ShelfFault.TooLong
+            → IfSome (bytes_under self.old.files name.now) (λ bytes. limit < length bytes) }
 
         // What it answers, unless memory is wanting, and what the shelf is afterwards.
-        ensures answer { result ≢ Err (ShelfFault.Memory alloc_error) → result ≡ answer_of self.old name.now limit }
+        ensures answer { result ≢ Err (ShelfFault.Memory alloc_error)
+            → result ≡ answer_of self.old name.now limit }
         ensures fault { result ≡ Err ShelfFault.Failed → self.new ≡ after_fault self.old name.now }
-        ensures kept { result ≢ Err ShelfFault.Failed → self.new ≡ record self.old { calls = next_call self.old.calls } }
+        ensures kept { result ≢ Err ShelfFault.Failed
+            → self.new ≡ record self.old { calls = next_call self.old.calls } }
     {
         self.calls = self.calls.saturating_add(1);
         let noted = String::from_str(self.alloc, name).map_err(ShelfFault::Memory)?;

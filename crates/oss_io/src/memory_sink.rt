@@ -1,8 +1,8 @@
-// A sink in memory, for trials: how much it takes and when it fails is planned.
+// A sink in memory, for tests: how much it takes and when it fails is planned.
 ghost use Rattle.std.specs.Prelude.{◌≡◌, ◌+◌, ◌-◌, ◌^◌, ◌<◌, ◌≤◌, min, [], ◌∷◌, ◌++◌, length, take, IfOk, OnOk, OnErr};
 ghost use Rattle.std.specs.Io.KnownBytes.{append_known};
 ghost use Rattle.oss_io.specs.Faults.{Rises};
-ghost use Rattle.oss_io.specs.ShelfView.{next_call};
+ghost use Rattle.oss_io.specs.Plan.{next_call};
 ghost use Rattle.oss_io.specs.SinkView.{answer_of};
 
 use crate::{Sink, SinkFault};
@@ -36,13 +36,21 @@ impl Model for MemorySink {
       faults = sink.faults;
     } };
 
-    ghost invariant = { λ sink. (vec_len sink.bytes ≤ sink.room) × (sink.room ≤ vec_capacity sink.bytes) × (0 < sink.piece) };
+    ghost invariant = { λ sink. (vec_len sink.bytes ≤ sink.room) × (sink.room ≤ vec_capacity sink.bytes)
+        × (0 < sink.piece) };
 }
 
 impl MemorySink {
     /// An empty sink with room for this many bytes, that takes pieces of any size and fails at no call.
     pub fn new(alloc: Global, room: usize) -> Result<MemorySink, AllocError>
-        ensures { IfOk result (λ sink. sink ≡ record { bytes = []; room = room; piece = 2 ^ 64 - 1; planned = []; calls = 0; faults = 0 }) }
+        ensures { IfOk result (λ sink. sink ≡ record {
+          bytes = [];
+          room = room;
+          piece = 2 ^ 64 - 1;
+          planned = [];
+          calls = 0;
+          faults = 0;
+        }) }
     {
         let bytes = Vec::with_capacity(alloc, room)?;
         Ok(MemorySink {
@@ -91,7 +99,8 @@ impl Sink for MemorySink {
     /// A planned call fails, and so does one without room, unless its piece is empty.
     fn write(&mut self, bytes: &[u8]) -> Result<usize, SinkFault>
         // What the trait says.
-        ensures taken { IfOk result (λ count. Some self.new.bytes ≡ append_known (Some self.old.bytes) (take count bytes.now)) }
+        ensures taken { IfOk result (λ count.
+            Some self.new.bytes ≡ append_known (Some self.old.bytes) (take count bytes.now)) }
         ensures within { IfOk result (λ count. count ≤ length bytes.now) }
         ensures some { IfOk result (λ count. 0 < length bytes.now → 0 < count) }
         ensures nothing { bytes.now ≡ [] → result ≡ Ok 0 }

@@ -42,9 +42,13 @@ pub trait Shelf {
         // No read changes what the shelf keeps.
         ensures same { (other : List ℕ) → held self.new other ≡ held self.old other }
 
-        ensures failed { result ≡ Err ShelfFault.Failed → Rises (faults self.old) (faults self.new) × (last self.new ≡ name.now) }
-        ensures count { result ≢ Err ShelfFault.Failed → (faults self.new ≡ faults self.old) × (last self.new ≡ last self.old) }
+        // Only a failure counts, and it leaves its name.
+        ensures failed { result ≡ Err ShelfFault.Failed
+            → Rises (faults self.old) (faults self.new) × (last self.new ≡ name.now) }
+        ensures count { result ≢ Err ShelfFault.Failed
+            → (faults self.new ≡ faults self.old) × (last self.new ≡ last self.old) }
 
-        // With `whole` and `within` this is exact: a file within the limit isn't too long, and a longer one isn't `Ok`.
-        ensures too_long { result ≡ Err ShelfFault.TooLong → IfSome (held self.old name.now) (λ bytes. limit < length bytes) };
+        // With `within` this is exact: a file within the limit isn't too long, and a longer one isn't `Ok`.
+        ensures too_long { result ≡ Err ShelfFault.TooLong
+            → IfSome (held self.old name.now) (λ bytes. limit < length bytes) };
 }

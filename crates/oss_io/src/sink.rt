@@ -24,7 +24,8 @@ pub trait Sink {
     /// Takes some bytes from the front of a piece, and says how many: at least one of a piece that isn't empty. At
     /// `Failed` it has taken none.
     fn write(&mut self, bytes: &[u8]) -> Result<usize, SinkFault>
-        ensures taken { IfOk result (λ count. taken self.new ≡ append_known (taken self.old) (take count bytes.now)) }
+        ensures taken { IfOk result (λ count.
+            taken self.new ≡ append_known (taken self.old) (take count bytes.now)) }
         ensures within { IfOk result (λ count. count ≤ length bytes.now) }
         ensures some { IfOk result (λ count. 0 < length bytes.now → 0 < count) }
         ensures nothing { bytes.now ≡ [] → result ≡ Ok 0 }

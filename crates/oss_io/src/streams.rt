@@ -6,7 +6,7 @@ use crate::{Sink, SinkFault};
 use std::io::{ErrorKind, Write};
 use std::marker::Model;
 
-/// A writer as a sink. Its contracts tell nothing of what the writer has taken: a contract sees it as its count of
+/// A writer of the system as a sink. No contract tells what the writer has taken: it sees the sink as its count of
 /// faults.
 #[derive(Drop)]
 pub struct StdSink<W: Write + Drop> {
@@ -34,7 +34,8 @@ impl<W: Write + Drop> StdSink<W> {
 // One write, again where a signal cut it off. A writer that takes nothing of a piece that isn't empty has failed.
 fn write_piece<W: Write>(out: &mut W, bytes: &[u8]) -> Result<usize, SinkFault>
     requires { 0 < length bytes.now }
-    ensures bytes { IfOk result (λ count. Appends (W.contents out.old) (W.contents out.new) (take count bytes.now)) }
+    ensures bytes { IfOk result (λ count.
+        Appends (W.contents out.old) (W.contents out.new) (take count bytes.now)) }
     ensures within { IfOk result (λ count. count ≤ length bytes.now) }
     ensures some { IfOk result (λ count. 0 < count) }
     ensures err { OnErr result (Keeps (W.contents out.old) (W.contents out.new)) }
