@@ -1,0 +1,4 @@
+pub mod Faults
+pub mod Plan
+pub mod ShelfView
+pub mod SinkView
