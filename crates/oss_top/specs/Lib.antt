@@ -1,2 +1,3 @@
 pub mod ScalarGrammar
 pub mod ScalarReading
+pub mod ScalarRules
