@@ -1,0 +1,12 @@
+pub mod Answers
+pub mod Digits
+pub mod Gaps
+pub mod NameWords
+pub mod NumberWords
+pub mod OneReading
+pub mod Runs
+pub mod Steps
+pub mod StringWords
+pub mod SymbolWords
+pub mod TokenWords
+pub mod Walk

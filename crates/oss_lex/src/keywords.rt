@@ -1,0 +1,57 @@
+ghost use Rattle.std.specs.Prelude.{◌≡◌};
+ghost use Rattle.oss_model.specs.Words.{is_keyword, is_left_out_keyword, is_used_keyword};
+
+/// Whether a word is a keyword (C11 6.4.1), one that is left out too.
+#[tactic(auto, unfolding(oss_model::specs::Words::is_keyword))]
+pub fn is_reserved(word: &[u8]) -> bool
+    ensures { result ≡ is_keyword word.now }
+{
+    is_used(word) || is_left_out(word)
+}
+
+#[tactic(auto, unfolding(oss_model::specs::Words::is_used_keyword))]
+fn is_used(word: &[u8]) -> bool
+    ensures { result ≡ is_used_keyword word.now }
+{
+    word == b"int".as_slice()
+        || word == b"long".as_slice()
+        || word == b"unsigned".as_slice()
+        || word == b"void".as_slice()
+        || word == b"if".as_slice()
+        || word == b"else".as_slice()
+        || word == b"while".as_slice()
+        || word == b"for".as_slice()
+        || word == b"return".as_slice()
+        || word == b"break".as_slice()
+        || word == b"continue".as_slice()
+        || word == b"printf".as_slice()
+}
+
+#[tactic(auto, unfolding(oss_model::specs::Words::is_left_out_keyword))]
+fn is_left_out(word: &[u8]) -> bool
+    ensures { result ≡ is_left_out_keyword word.now }
+{
+    word == b"auto".as_slice()
+        || word == b"case".as_slice()
+        || word == b"char".as_slice()
+        || word == b"const".as_slice()
+        || word == b"default".as_slice()
+        || word == b"do".as_slice()
+        || word == b"double".as_slice()
+        || word == b"enum".as_slice()
+        || word == b"extern".as_slice()
+        || word == b"float".as_slice()
+        || word == b"goto".as_slice()
+        || word == b"inline".as_slice()
+        || word == b"register".as_slice()
+        || word == b"restrict".as_slice()
+        || word == b"short".as_slice()
+        || word == b"signed".as_slice()
+        || word == b"sizeof".as_slice()
+        || word == b"static".as_slice()
+        || word == b"struct".as_slice()
+        || word == b"switch".as_slice()
+        || word == b"typedef".as_slice()
+        || word == b"union".as_slice()
+        || word == b"volatile".as_slice()
+}

@@ -1,0 +1,7 @@
+ghost use Rattle.oss_model.specs.Tokens.{IsReadOnce};
+
+/// A law, with nothing to run: a text has at most one list of tokens, none where it is refused, and at most one refusal.
+#[tactic(auto, using(crate::proofs::OneReading::read_once))]
+pub fn a_text_has_one_reading(text: &[u8])
+    ensures { IsReadOnce text.now }
+{}

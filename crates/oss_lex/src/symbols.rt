@@ -1,0 +1,103 @@
+ghost use Rattle.std.specs.Prelude.{◌≡◌, ◌≤◌, length};
+ghost use Rattle.oss_model.specs.Words.{is_one, is_three, is_two};
+ghost use Rattle.oss_lex.specs.Reading.{Gives, symbol_at, symbol_len};
+
+use crate::bytes::byte_at;
+use crate::taken::{Taken, no_token};
+use oss_model::Refusal;
+use oss_syntax::{Name, TokenKind};
+use std::alloc::Global;
+
+#[tactic(auto, unfolding(oss_model::specs::Words::is_one))]
+fn is_symbol(a: u8) -> bool
+    ensures { result ≡ is_one a }
+{
+    a == b'+'
+        || a == b'-'
+        || a == b'*'
+        || a == b'/'
+        || a == b'%'
+        || a == b'&'
+        || a == b'|'
+        || a == b'^'
+        || a == b'~'
+        || a == b'!'
+        || a == b'<'
+        || a == b'>'
+        || a == b'='
+        || a == b'('
+        || a == b')'
+        || a == b'['
+        || a == b']'
+        || a == b'{'
+        || a == b'}'
+        || a == b';'
+        || a == b','
+        || a == b':'
+        || a == b'?'
+        || a == b'.'
+}
+
+#[tactic(auto, unfolding(oss_model::specs::Words::is_two))]
+fn is_symbol_of_two(a: u8, b: u8) -> bool
+    ensures { result ≡ is_two a b }
+{
+    (b == b'='
+        && (a == b'+'
+            || a == b'-'
+            || a == b'*'
+            || a == b'/'
+            || a == b'%'
+            || a == b'&'
+            || a == b'|'
+            || a == b'^'
+            || a == b'<'
+            || a == b'>'
+            || a == b'='
+            || a == b'!'))
+        || (b == b'+' && a == b'+')
+        || (b == b'-' && a == b'-')
+        || (b == b'<' && a == b'<')
+        || (b == b'>' && a == b'>')
+        || (b == b'&' && a == b'&')
+        || (b == b'|' && a == b'|')
+        || (b == b'>' && a == b'-')
+}
+
+#[tactic(auto, unfolding(oss_model::specs::Words::is_three))]
+fn is_symbol_of_three(a: u8, b: u8, c: u8) -> bool
+    ensures { result ≡ is_three a b c }
+{
+    c == b'=' && ((a == b'<' && b == b'<') || (a == b'>' && b == b'>'))
+}
+
+/// How many bytes the longest symbol at the front of a text has, and 0 where there is none.
+#[tactic(auto, unfolding(crate::specs::Reading::symbol_len))]
+fn longest_symbol(text: &[u8]) -> usize
+    ensures { result ≡ symbol_len text.now }
+{
+    let (a, b, c) = (byte_at(text, 0), byte_at(text, 1), byte_at(text, 2));
+    if is_symbol_of_three(a, b, c) {
+        3
+    } else if is_symbol_of_two(a, b) {
+        2
+    } else if is_symbol(a) {
+        1
+    } else {
+        0
+    }
+}
+
+/// The longest symbol at the front of a text.
+#[tactic(auto, using(crate::proofs::SymbolWords::symbol_len_within), unfolding(crate::specs::Reading::symbol_at))]
+pub fn read_symbol(alloc: Global, text: &[u8], line: u32) -> Result<Taken<'_>, Refusal>
+    ensures { Gives (symbol_at text.now) line result }
+{
+    let len = longest_symbol(text);
+    if len == 0 {
+        return Err(no_token(line));
+    }
+    let (word, rest) = text.split_at(len);
+    let what = TokenKind::Symbol(Name::from_slice(alloc, word)?);
+    Ok(Taken { what, rest })
+}

@@ -1,0 +1,33 @@
+ghost use Rattle.std.specs.Prelude.{◌≡◌};
+
+use oss_model::{Refusal, Refused, RefusedKind};
+use oss_syntax::TokenKind;
+
+/// A token, and the text behind it.
+#[derive(Debug, Drop)]
+pub struct Taken<'a> {
+    pub what: TokenKind,
+    pub rest: &'a [u8],
+}
+
+/// The refusal of a place on this line that is no token.
+pub fn no_token(line: u32) -> Refusal
+    ensures { result ≡ Refusal.Refused (record { kind = RefusedKind.Lexical; line = line; token = 0 }) }
+{
+    Refusal::Refused(Refused {
+        kind: RefusedKind::Lexical,
+        line,
+        token: 0,
+    })
+}
+
+/// The refusal of a name on this line that is too long.
+pub fn long_name(line: u32) -> Refusal
+    ensures { result ≡ Refusal.Refused (record { kind = RefusedKind.TooLarge; line = line; token = 0 }) }
+{
+    Refusal::Refused(Refused {
+        kind: RefusedKind::TooLarge,
+        line,
+        token: 0,
+    })
+}
