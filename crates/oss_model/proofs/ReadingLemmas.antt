@@ -46,7 +46,7 @@ value_is : {A : Type 0} (a b : A) (xs ys : List Token) → told a xs ≡ told b 
 value_is {A} a b xs ys e =
     let p : A × List Token = (a, xs) in let q : A × List Token = (b, ys) in let s : p ≡ q = some_is p q e in ap (λ (r : A × List Token). r.0) s
 
-rest_is : {A : Type 0} (a b : A) (xs ys : List Token) → told a xs ≡ told b ys → xs ≡ ys
+pub rest_is : {A : Type 0} (a b : A) (xs ys : List Token) → told a xs ≡ told b ys → xs ≡ ys
 rest_is {A} a b xs ys e =
     let p : A × List Token = (a, xs) in let q : A × List Token = (b, ys) in let s : p ≡ q = some_is p q e in ap (λ (r : A × List Token). r.1) s
 
@@ -169,6 +169,10 @@ module _ {A : Type 0} (starts : List Token → Bool) {f : List Token → Option 
 
   pub reads_maybe : Reads (read_maybe starts f) (Maybe G) (MayFollow starts F)
   reads_maybe = record { takes = λ ts value rest r. maybe_taken (starts ts) ts value rest refl r; again = maybe_again }
+
+pub behind_none : {A : Type 0} (o : Option (List A × List Token)) → behind [] o ≡ o
+behind_none None = refl
+behind_none (Some p) = refl
 
 -- a part that was found goes to those before it
 moved : {A : Type 0} (found : List A) (a : A) (o : Option (List A × List Token))
@@ -309,9 +313,25 @@ record ChainTaken {A B : Type 0} (G : List Token → A → Type 0) (H : List Tok
 module _ {A B : Type 0} (starts : List Token → Bool) {f : List Token → Option (A × List Token)} {g : List Token → Option (B × List Token)} {G : List Token → A → Type 0} {H : List Token → B → Type 0}
     (join : A → B → A) (left : Reads f G Anything) (right : Reads g H Anything)
     (begins : (xs : List Token) (b : B) (rest : List Token) → H xs b → starts (xs ++ rest) ≡ true) where
-  chain_none : (n : ℕ) (value : A) (rest : List Token) → Past starts rest → read_chain starts g join n value rest ≡ told value rest
+  pub chain_none : (n : ℕ) (value : A) (rest : List Token) → Past starts rest → read_chain starts g join n value rest ≡ told value rest
+  unfolding read_chain
   chain_none zero value rest free = rw free refl
   chain_none (suc n) value rest free = rw free refl
+
+  -- how the reading of a chain goes on, as a loop needs it
+  pub chain_full : (value : A) (ts : List Token) → starts ts ≡ true → read_chain starts g join 0 value ts ≡ None
+  unfolding read_chain
+  chain_full value ts e = rw e refl
+
+  pub chain_fail : (n : ℕ) (value : A) (ts : List Token) → starts ts ≡ true → g ts ≡ None → read_chain starts g join n value ts ≡ None
+  unfolding read_chain
+  chain_fail zero value ts e r = rw e refl
+  chain_fail (suc n) value ts e r = rw (e, r) refl
+
+  pub chain_go : (n : ℕ) (value : A) (ts : List Token) (next : B) (rest : List Token) → 0 < n → starts ts ≡ true → g ts ≡ told next rest → read_chain starts g join n value ts ≡ read_chain starts g join (n - 1) (join value next) rest
+  unfolding read_chain
+  chain_go zero value ts next rest some e r = absurd (omega arith)
+  chain_go (suc n) value ts next rest some e r = let same : suc n - 1 ≡ n = omega arith in rw (e, r, same) refl
 
   chain_over : (n count : ℕ) (before ts : List Token) (value end : A) (rest : List Token) → starts ts ≡ false → Chain G H join count before value
       → read_chain starts g join n value ts ≡ told end rest → ChainTaken G H join (count + n) before ts end rest
@@ -329,6 +349,7 @@ module _ {A B : Type 0} (starts : List Token → Bool) {f : List Token → Optio
   -- the tokens before stand for the value so far
   chain_taken : (n count : ℕ) (b : Bool) (before ts : List Token) (value end : A) (rest : List Token) → starts ts ≡ b → Chain G H join count before value
       → read_chain starts g join n value ts ≡ told end rest → ChainTaken G H join (count + n) before ts end rest
+  unfolding read_chain
   chain_taken n count false before ts value end rest e w r = chain_over n count before ts value end rest e w r
   chain_taken zero count true before ts value end rest e w r = let read : None ≡ told end rest = rw e at r in absurd (cc)
   chain_taken (suc n) count true before ts value end rest e w r =
@@ -346,6 +367,7 @@ module _ {A B : Type 0} (starts : List Token → Bool) {f : List Token → Optio
 
   chain_again : (count : ℕ) (xs : List Token) (value : A) → Chain G H join count xs value → (m n : ℕ) (rest : List Token) → m ≡ count + n
       → read_chained starts f g join m (xs ++ rest) ≡ read_chain starts g join n value rest
+  unfolding read_chain
   chain_again zero xs value (start w) m n rest e =
       let one : f (xs ++ rest) ≡ told value rest = left.again xs value rest w tt in
       let same : m ≡ n = omega arith in

@@ -40,7 +40,7 @@ unfoldable pub read_many : {A : Type 0} → (List Token → Bool) → (List Toke
 read_many starts f ts = read_many_within starts f (length ts) ts
 
 -- a value is joined with at most so many parts, as long as the test finds the beginning of one
-abbrev pub read_chain : {A B : Type 0} → (List Token → Bool) → (List Token → Option (B × List Token)) → (A → B → A) → ℕ → A → List Token → Option (A × List Token)
+unfoldable pub read_chain : {A B : Type 0} → (List Token → Bool) → (List Token → Option (B × List Token)) → (A → B → A) → ℕ → A → List Token → Option (A × List Token)
 read_chain starts g join zero value ts = if starts ts then None else Some (value, ts)
 read_chain starts g join (suc n) value ts =
     if starts ts then read_then (g ts) (λ next rest. read_chain starts g join n (join value next) rest) else Some (value, ts)

@@ -1,1 +1,2 @@
 pub mod ScalarLemmas
+pub mod UnreadLemmas

@@ -1,7 +1,8 @@
 -- Each reader of programs of scalars reads its grammar.
-use Rattle.std.proofs.Common.{◌≡◌, ℕ, Bool, true, false, List, [], ◌∷◌, ◌++◌, refl, sym, ap, ◌∙◌, subst, append_assoc, Option, Some, None, codes, ◌⊎◌, inl, inr}
+use Rattle.std.proofs.Common.{◌≡◌, ℕ, ◌-◌, ◌<◌, Bool, true, false, List, [], ◌∷◌, ◌++◌, refl, sym, ap, ◌∙◌, subst, append_assoc, Option, Some, None, codes, ◌⊎◌, inl, inr}
 use Rattle.std.specs.Prelude.{is_some, ◌||◌, ◌&&◌}
 use Rattle.std.specs.Str.{bytes_eq}
+use Rattle.std.proofs.lemmas.List.{append-nil}
 use Rattle.std.proofs.lemmas.Slice.Eq.{bytes_eq-Decides}
 use Rattle.oss_syntax.specs.declared.token.Token.{Token}
 use Rattle.oss_syntax.specs.declared.token.TokenKind.{TokenKind}
@@ -10,12 +11,15 @@ use Rattle.oss_model.specs.Grammar.{One, Both, Mapped, Either, Maybe, Many, Chai
 use Rattle.oss_model.specs.Grammar.Either.{one_way, other_way}
 use Rattle.oss_model.specs.Grammar.Maybe.{without, with_it}
 use Rattle.oss_model.specs.Grammar.Many.{none, more}
-use Rattle.oss_model.specs.Readers.{read_one, read_both, read_mapped, read_either, read_maybe, read_many, read_chained}
-use Rattle.oss_model.proofs.ReadingLemmas.{Reads, Anything, Past, MayFollow, Starts, NeverStarts, reads_one, reads_both, reads_mapped, reads_either, reads_maybe, reads_many, reads_chain, Repeats, repeats, begin_both, begin_mapped, begin_either, follows}
+use Rattle.oss_model.specs.Readers.{read_one, read_both, read_mapped, read_either, read_maybe, read_many, read_chain, read_chained}
+use Rattle.oss_model.proofs.ReadingLemmas.{Reads, Anything, Past, MayFollow, Starts, NeverStarts, reads_one, reads_both, reads_mapped, reads_either, reads_maybe, reads_many, reads_chain, Repeats, repeats, begin_both, begin_mapped, begin_either, follows, told, rest_is, whole_in, whole_read, chain_none, chain_full, chain_fail, chain_go}
+use Rattle.oss_syntax.specs.declared.tree.expr.BinOp.{BinOp}
+use Rattle.oss_syntax.specs.declared.tree.expr.Expr.{Expr}
 use Rattle.oss_syntax.specs.declared.tree.program.NumKind.{NumKind}
+use Rattle.oss_syntax.specs.declared.tree.program.Program.{Program}
 use Rattle.oss_top.specs.declared.form.cursor.Named.{Named}
 use Rattle.oss_top.specs.declared.form.reader.Declarator.{Declarator}
-use Rattle.oss_top.specs.ScalarGrammar.{is_symbol, is_keyword, is_name, symbol_at, keyword_at, main_at, name_at, named_in, number_at, number_in, text_at, term_at, operator_at, operator_in, kind_at, kind_in, ulong_of, negated_second, second, declarator_of, all_of, globals_of, joined_by, assignment_of, print_of, main_line, program_of, IsType, IsSigned, IsFirst, IsDeclarator, Comma, IsDeclarators, IsDeclaration, IsSum, IsAssignment, IsPrint, IsLine, IsHeader, IsProgram}
+use Rattle.oss_top.specs.ScalarGrammar.{is_symbol, is_keyword, is_name, symbol_at, keyword_at, main_at, name_at, named_in, number_at, number_in, text_at, term_at, operator_at, operator_in, kind_at, kind_in, ulong_of, negated_second, second, declarator_of, all_of, globals_of, joined_by, assignment_of, print_of, main_line, program_of, one_after_another, IsType, IsSigned, IsFirst, IsDeclarator, Comma, IsDeclarators, IsDeclaration, IsSum, IsAssignment, IsPrint, IsLine, IsHeader, IsProgram}
 use Rattle.oss_top.specs.ScalarReading.{begins, begins_comma, begins_line, begins_declaration, heads_main, is_type, read_type, read_signed, read_first, read_declarator, read_next_declarator, read_declarators, read_declaration, read_declarations, read_operation, read_sum, read_assignment, read_argument, read_arguments, read_print, read_line, read_lines, read_header, read_program}
 
 -- a token that passes one test, and whether it passes another
@@ -380,3 +384,31 @@ repeats_lines = repeats begins_line reads_line start_line refl line_apart
 
 pub repeats_declarations : Repeats begins_declaration read_declaration
 repeats_declarations = repeats begins_declaration reads_declaration start_declaration refl declaration_apart
+
+pub sum_stop : (n : ℕ) (value : Expr) (ts : List Token) → begins operator_at ts ≡ false → read_chain (begins operator_at) read_operation joined_by n value ts ≡ told value ts
+sum_stop n value ts e = chain_none (begins operator_at) joined_by (reads_one term_at) reads_operation start_operation n value ts e
+
+pub sum_full : (value : Expr) (ts : List Token) → begins operator_at ts ≡ true → read_chain (begins operator_at) read_operation joined_by 0 value ts ≡ None
+sum_full value ts e = chain_full (begins operator_at) joined_by (reads_one term_at) reads_operation start_operation value ts e
+
+pub sum_fail : (n : ℕ) (value : Expr) (ts : List Token) → begins operator_at ts ≡ true → read_operation ts ≡ None → read_chain (begins operator_at) read_operation joined_by n value ts ≡ None
+sum_fail n value ts e r = chain_fail (begins operator_at) joined_by (reads_one term_at) reads_operation start_operation n value ts e r
+
+pub sum_go : (n : ℕ) (value : Expr) (ts : List Token) (next : BinOp × Expr) (rest : List Token) → 0 < n → begins operator_at ts ≡ true → read_operation ts ≡ told next rest
+    → read_chain (begins operator_at) read_operation joined_by n value ts ≡ read_chain (begins operator_at) read_operation joined_by (n - 1) (joined_by value next) rest
+sum_go n value ts next rest some e r = chain_go (begins operator_at) joined_by (reads_one term_at) reads_operation start_operation n value ts next rest some e r
+
+pub one_after_another-push : {A : Type 0} (lists : List (List A)) (last : List A) → one_after_another (lists ++ last ∷ []) ≡ one_after_another lists ++ last
+one_after_another-push [] last = append-nil last
+one_after_another-push (xs ∷ lists) last = ap (λ rest. xs ++ rest) (one_after_another-push lists last) ∙ sym (append_assoc xs (one_after_another lists) last)
+
+-- what is read to the end is the program of the tokens
+pub read_is : (ts : List Token) (program : Program) (rest : List Token) → read_program ts ≡ told program rest → rest ≡ [] → IsProgram ts program
+read_is ts program rest r e = whole_in reads_program ts program (rw (← e) r)
+
+-- and where something is left, or reading fails, the tokens are no program
+pub left_is_none : (ts : List Token) (program : Program) (rest : List Token) → read_program ts ≡ told program rest → (rest ≡ [] → ⊥) → (other : Program) → IsProgram ts other → ⊥
+left_is_none ts program rest r left other w = left (rest_is program other rest [] (sym r ∙ whole_read reads_program tt ts other w))
+
+pub fail_is_none : (ts : List Token) → read_program ts ≡ None → (other : Program) → IsProgram ts other → ⊥
+fail_is_none ts r other w = let none : None ≡ told other [] = sym r ∙ whole_read reads_program tt ts other w in absurd (cc)

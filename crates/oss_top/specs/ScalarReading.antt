@@ -13,7 +13,7 @@ use Rattle.oss_top.specs.declared.form.cursor.Named.{Named}
 use Rattle.oss_top.specs.declared.form.cursor.Unread.{Unread}
 use Rattle.oss_top.specs.declared.form.cursor.Unread.TheVariants as unread
 use Rattle.oss_top.specs.declared.form.reader.Declarator.{Declarator}
-use Rattle.oss_top.specs.ScalarGrammar.{is_symbol, is_keyword, is_name, symbol_at, keyword_at, main_at, name_at, number_at, text_at, term_at, operator_at, kind_at, ulong_of, negated_second, second, declarator_of, all_of, globals_of, joined_by, assignment_of, print_of, main_line, program_of}
+use Rattle.oss_top.specs.ScalarGrammar.{is_symbol, is_keyword, is_name, symbol_at, keyword_at, main_at, name_at, number_at, text_at, term_at, operator_at, kind_at, ulong_of, negated_second, second, declarator_of, all_of, globals_of, joined_by, assignment_of, print_of, main_line, program_of, IsProgram}
 
 -- what a call of the reader gives: the value and the tokens behind it, or that there is none; want of memory says nothing
 abbrev pub Gives : {A : Type 0} → Option (A × List Token) → Result A Unread → List Token → Type 0
@@ -26,6 +26,12 @@ abbrev pub Makes : {A : Type 0} → Option A → Result A Unread → Type 0
 Makes made (Ok value) = made ≡ Some value
 Makes made (Err unread.Refused) = made ≡ None
 Makes made (Err (unread.Memory e)) = Unit {0}
+
+-- what reading the tokens of a whole program gives: its tree, or that there is none
+abbrev pub IsTree : List Token → Result Program Unread → Type 0
+IsTree ts (Ok program) = IsProgram ts program
+IsTree ts (Err unread.Refused) = (program : Program) → IsProgram ts program → ⊥
+IsTree ts (Err (unread.Memory e)) = Unit {0}
 
 -- whether there is a first token, and the test finds something in it
 abbrev pub begins : {A : Type 0} → (Token → Option A) → List Token → Bool

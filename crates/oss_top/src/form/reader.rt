@@ -1,7 +1,7 @@
-ghost use Rattle.std.specs.Prelude.{◌≡◌, ◌≤◌, ◌∷◌, ◌++◌, [], length, map, IfOk};
+ghost use Rattle.std.specs.Prelude.{◌≡◌, ◌≤◌, ◌∷◌, ◌++◌, [], length, map, IfOk, OnOk};
 ghost use Rattle.oss_top.specs.ScalarGrammar.{global_of, joined_by, main_of, one_after_another, operator_at};
 ghost use Rattle.oss_model.specs.Readers.{behind, read_chain, read_many};
-ghost use Rattle.oss_top.specs.ScalarReading.{Gives, begins, begins_comma, read_type, read_signed, read_first, read_declarator, read_next_declarator, read_declarators, read_declaration, read_declarations, read_operation, read_sum, read_assignment, read_argument, read_arguments, read_print, read_line, read_lines, read_header, read_program};
+ghost use Rattle.oss_top.specs.ScalarReading.{Gives, IsTree, begins, begins_comma, read_type, read_signed, read_first, read_declarator, read_next_declarator, read_declarators, read_declaration, read_declarations, read_operation, read_sum, read_assignment, read_argument, read_arguments, read_print, read_line, read_lines, read_header, read_program};
 
 use crate::form::cursor::{Cursor, Named, Unread};
 use oss_syntax::{
@@ -412,5 +412,89 @@ fn header(tokens: &mut Cursor<'_>) -> Result<u32, Unread>
     match tokens.symbol(b"{") {
         Ok(_) => Ok(line),
         Err(unread) => Err(unread),
+    }
+}
+
+/// The whole program.
+#[tactic(auto, unfolding(crate::specs::ScalarReading::read_program))]
+fn program(alloc: Global, tokens: &mut Cursor<'_>) -> Result<Program, Unread>
+    ensures { Gives (read_program tokens.old) result tokens.new }
+{
+    let declared = match declarations(alloc, tokens) {
+        Ok(declared) => declared,
+        Err(unread) => return Err(unread),
+    };
+    let line = match header(tokens) {
+        Ok(line) => line,
+        Err(unread) => return Err(unread),
+    };
+    let body = match lines(alloc, tokens) {
+        Ok(body) => body,
+        Err(unread) => return Err(unread),
+    };
+    match tokens.symbol(b"}") {
+        Ok(_) => {}
+        Err(unread) => return Err(unread),
+    }
+    match program_with(alloc, declared, line, body) {
+        Ok(program) => Ok(program),
+        Err(e) => Err(Unread::Memory(e)),
+    }
+}
+
+/// The program with these globals and this body of `main`.
+fn program_with(
+    alloc: Global,
+    declared: List<List<Item>>,
+    line: u32,
+    body: List<Stmt>,
+) -> Result<Program, AllocError>
+    ensures { IfOk result (λ program. program.items ≡ one_after_another declared ++ main_of line body ∷ []) }
+{
+    let mut items = all_items(alloc, declared)?;
+    items.push(Item::Function(Function {
+        name: Name::from_slice(alloc, b"main")?,
+        result: Kind::Num(NumKind::Int),
+        params: List::new(alloc),
+        mark: None,
+        body,
+        line,
+    }))?;
+    Ok(Program { items })
+}
+
+/// The items of all lists, one after another.
+fn all_items(alloc: Global, lists: List<List<Item>>) -> Result<List<Item>, AllocError>
+    ensures { IfOk result (λ items. items ≡ one_after_another lists) }
+{
+    let mut all = List::new(alloc);
+    for list in lists.into_vec() {
+        add_items(&mut all, list)?;
+    }
+    Ok(all)
+}
+
+fn add_items(all: &mut List<Item>, list: List<Item>) -> Result<(), AllocError>
+    ensures { OnOk result (all.new ≡ all.old ++ list) }
+{
+    for item in list.into_vec() {
+        all.push(item)?;
+    }
+    Ok(())
+}
+
+/// Reads the tokens of a program of scalars to their end.
+pub fn read_tree(alloc: Global, tokens: &[Token]) -> Result<Program, Unread>
+    ensures { IsTree tokens.now result }
+{
+    let mut left = Cursor::new(tokens);
+    let read = match program(alloc, &mut left) {
+        Ok(read) => read,
+        Err(unread) => return Err(unread),
+    };
+    if left.is_at_end() {
+        Ok(read)
+    } else {
+        Err(Unread::Refused)
     }
 }
