@@ -1,5 +1,7 @@
 #![tactic(auto)]
 
 mod form;
+mod texts;
+mod words;
 
 fn main() {}
