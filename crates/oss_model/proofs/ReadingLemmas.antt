@@ -42,7 +42,7 @@ bool_cases false = inr refl
 some_is : {A : Type 0} (a b : A) → Some a ≡ Some b → a ≡ b
 some_is a b e = cc
 
-value_is : {A : Type 0} (a b : A) (xs ys : List Token) → told a xs ≡ told b ys → a ≡ b
+pub value_is : {A : Type 0} (a b : A) (xs ys : List Token) → told a xs ≡ told b ys → a ≡ b
 value_is {A} a b xs ys e =
     let p : A × List Token = (a, xs) in let q : A × List Token = (b, ys) in let s : p ≡ q = some_is p q e in ap (λ (r : A × List Token). r.0) s
 

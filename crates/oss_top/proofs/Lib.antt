@@ -1,2 +1,5 @@
+pub mod FormLemmas
+pub mod FuelLemmas
+pub mod ReplyLemmas
 pub mod ScalarLemmas
 pub mod UnreadLemmas

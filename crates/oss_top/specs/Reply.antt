@@ -43,6 +43,11 @@ too_large_line = refusal_line refused.TooLarge 1
 abbrev pub unread_line : List ℕ → List ℕ
 unread_line file = codes "cannot read " ++ file ++ 10 ∷ []
 
+-- the reply to a program that has this answer
+abbrev pub IsProgramReply : Answer → ℕ → List ℕ → List ℕ → Type 0
+IsProgramReply (Done text cells) status out err = (status ≡ 0) × (text ≡ out) × (err ≡ [])
+IsProgramReply (Fault kind line text) status out err = (status ≡ 1) × (text ≡ out) × (err ≡ fault_line kind line)
+
 -- the program of the text has an answer
 pub record Ran (text : List ℕ) (Is : Answer → Type 0) : Type 0 where
   pub program : Program
@@ -87,3 +92,9 @@ pub record IsCut (taken now : Option (List ℕ)) (text : List ℕ) : Type 0 wher
 pub data IsUnwritten (out_old out_new : Option (List ℕ)) (out_before out_now : ℕ) (err_old err_new : Option (List ℕ)) (err_before err_now : ℕ) (out err : List ℕ) : Type 0 where
   no_output : Rises out_before out_now → IsCut out_old out_new out → err_new ≡ err_old → err_now ≡ err_before → IsUnwritten out_old out_new out_before out_now err_old err_new err_before err_now out err
   no_errors : out_now ≡ out_before → out_new ≡ append_known out_old out → Rises err_before err_now → IsCut err_old err_new err → IsUnwritten out_old out_new out_before out_now err_old err_new err_before err_now out err
+
+-- Completeness: where no count of faults rises, a file that is given has the status of its text, or memory is wanting.
+pub record IsComplete (words : List (List ℕ)) (held : List ℕ → Option (List ℕ)) (status : ℕ) : Type 0 where
+  pub runs : (file text : List ℕ) (program : Program) → file_in words ≡ Some file → held file ≡ Some text → length text ≤ most_bytes → Accepts text program → (status ≡ 0) ⊎ (status ≡ 6)
+  pub refuses : (file text : List ℕ) → file_in words ≡ Some file → held file ≡ Some text → length text ≤ most_bytes → Refuses text → (status ≡ 3) ⊎ (status ≡ 6)
+  pub too_large : (file text : List ℕ) → file_in words ≡ Some file → held file ≡ Some text → most_bytes < length text → (status ≡ 3) ⊎ (status ≡ 6)
