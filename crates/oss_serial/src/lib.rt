@@ -4,4 +4,4 @@
 mod run;
 mod variables;
 
-pub use run::{Ran, serial_tree};
+pub use run::{Ran, main_statements, serial_tree};

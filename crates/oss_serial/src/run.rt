@@ -34,7 +34,7 @@ pub fn serial_tree(alloc: Global, program: &Program, fuel: u32) -> Result<Ran, A
 }
 
 /// The statements of the function `main`.
-fn main_statements(items: &[Item]) -> &[Stmt]
+pub fn main_statements(items: &[Item]) -> &[Stmt]
     ensures { result.now ≡ main_body items.now }
 {
     for item in items {
@@ -53,12 +53,12 @@ fn main_statements(items: &[Item]) -> &[Stmt]
 /// Runs statements from a state on, with so many ticks left.
 fn run(
     alloc: Global,
-    variables: &Variables,
+    variables: &Variables<'_>,
     statements: &[Stmt],
     fuel: u32,
     mut state: State,
 ) -> Result<Answer, AllocError>
-    ensures { IfOk result (λ answer. answer ≡ answer_from variables.now.names.items variables.now.kinds.items statements.now fuel state) }
+    ensures { IfOk result (λ answer. answer ≡ answer_from variables.now.names variables.now.kinds statements.now fuel state) }
 {
     let mut left = fuel;
     for statement in statements {
@@ -91,10 +91,10 @@ impl State {
     fn execute(
         &mut self,
         alloc: Global,
-        variables: &Variables,
+        variables: &Variables<'_>,
         statement: &StmtKind,
     ) -> Result<(), AllocError>
-        ensures { OnOk result (self.new ≡ after variables.now.names.items variables.now.kinds.items statement.now self.old) }
+        ensures { OnOk result (self.new ≡ after variables.now.names variables.now.kinds statement.now self.old) }
     {
         match statement {
             StmtKind::Assign(target, None, value) => self.assign(variables, &target.what, value),
@@ -119,8 +119,8 @@ impl State {
         Ok(())
     }
 
-    fn assign(&mut self, variables: &Variables, target: &ExprKind, value: &Expr)
-        ensures { self.new ≡ record self.old { cells = cells_with self.old.cells variables.now.kinds.items (target_place variables.now.names.items (named_by target.now)) (value_of value.now variables.now.names.items self.old.cells) } }
+    fn assign(&mut self, variables: &Variables<'_>, target: &ExprKind, value: &Expr)
+        ensures { self.new ≡ record self.old { cells = cells_with self.old.cells variables.now.kinds (target_place variables.now.names (named_by target.now)) (value_of value.now variables.now.names self.old.cells) } }
     {
         let value = variables.value(value, self.cells.as_slice());
         match variables.target(target) {
@@ -133,11 +133,11 @@ impl State {
     fn print(
         &mut self,
         alloc: Global,
-        variables: &Variables,
+        variables: &Variables<'_>,
         format: &[u8],
         arguments: &[Expr],
     ) -> Result<(), AllocError>
-        ensures { OnOk result (self.new ≡ record self.old { output = self.old.output ++ printed format.now (map (λ e. value_of e variables.now.names.items self.old.cells) arguments.now) }) }
+        ensures { OnOk result (self.new ≡ record self.old { output = self.old.output ++ printed format.now (map (λ e. value_of e variables.now.names self.old.cells) arguments.now) }) }
     {
         let values = variables.values(alloc, arguments, self.cells.as_slice())?;
         match pieces(alloc, format)? {

@@ -1,13 +1,12 @@
 -- The static rules of programs of scalars: no global is declared twice or named `main`, each used name is a declared global, and
 -- the conversions of a string of `printf` are those of the language and as many as its arguments (C11 6.2.1, 6.5.1, 7.21.6.1).
 -- Read against: `int main() { x = 1; }` breaks the second rule; `printf("%d\n");` breaks the third.
-use Rattle.std.specs.Prelude.{◌≡◌, ℕ, List, [], ◌∷◌, ◌++◌, length, map, All, Contains, Option, Some, None, codes}
+use Rattle.std.specs.Prelude.{◌≡◌, ◌≢◌, ℕ, List, [], ◌∷◌, ◌++◌, length, All, AllPairs, Contains, Option, Some, None, codes}
 use Rattle.oss_syntax.specs.declared.tree.expr.Expr.{Expr}
 use Rattle.oss_syntax.specs.declared.tree.expr.ExprKind.TheOpen.{ExprKind-F, Expr-F}
 use Rattle.oss_syntax.specs.declared.tree.expr.ExprKind.TheOpen as open_expr
 use Rattle.oss_syntax.specs.declared.tree.expr.ExprKind.TheFolds.{fold-Expr}
 use Rattle.oss_syntax.specs.declared.tree.program.Program.{Program}
-use Rattle.oss_syntax.specs.declared.tree.stmt.Stmt.{Stmt}
 use Rattle.oss_syntax.specs.declared.tree.stmt.StmtKind.{StmtKind}
 use Rattle.oss_syntax.specs.declared.tree.stmt.StmtKind.TheVariants as stmts
 use Rattle.oss_model.specs.Scalars.{names_of, main_body}
@@ -42,10 +41,9 @@ abbrev pub FormatFits : StmtKind → Type 0
 FormatFits (stmts.Print format es) = Fits (pieces_of format) (length es)
 FormatFits _ = Unit {0}
 
--- no name stands twice
+-- no two of the names are equal
 abbrev pub AreDistinct : List (List ℕ) → Type 0
-AreDistinct [] = Unit {0}
-AreDistinct (name ∷ rest) = (Contains rest name → ⊥) × AreDistinct rest
+AreDistinct names = AllPairs (λ a b. a ≢ b) names
 
 pub record Obeys (p : Program) : Type 0 where
   pub distinct : AreDistinct (names_of p.items)

@@ -1,0 +1,142 @@
+-- The static rules: a table of names has those of its list, and a list of names grows by one that is new.
+use Rattle.std.proofs.Common.{◌≡◌, ◌≢◌, ℕ, ◌+◌, ◌<◌, ◌↔◌, Bool, true, false, ◌||◌, List, [], ◌∷◌, ◌++◌, length, map, get_or, drop, refl, sym, ap, ◌∙◌, subst, arith, All, Contains, IsTrue, not, true≢false, take, codes, rules, ◌≤◌}
+use Rattle.std.specs.Borrow.{Bor}
+use Rattle.std.specs.List.{list_any}
+use Rattle.std.specs.Str.{bytes_eq}
+use Rattle.std.proofs.lemmas.Grind.{common_steps}
+use Rattle.std.proofs.lemmas.List.{drop_more, get_or_default}
+use Rattle.std.proofs.lemmas.List.Elements.{All-nil, All-cons, All-head, All-tail, All-append, All-more}
+use Rattle.std.proofs.lemmas.List.Folds.{list_any_at}
+use Rattle.std.proofs.lemmas.List.Quantifiers.{all_pairs_push}
+use Rattle.std.proofs.lemmas.Slice.Eq.{bytes_eq-Decides}
+use Rattle.indexmap.proofs.CallerLemmas.{Contains-list_any}
+use Rattle.oss_syntax.specs.declared.tree.expr.Expr.{Expr}
+use Rattle.oss_syntax.specs.declared.tree.expr.ExprKind.TheVariants as exprs
+use Rattle.oss_syntax.specs.declared.tree.expr.ExprKind.TheFolds.{the_lemmas as expr_folds}
+use Rattle.oss_syntax.specs.declared.tree.expr.BinOp.{BinOp}
+use Rattle.oss_syntax.specs.declared.tree.program.GlobalDef.{GlobalDef}
+use Rattle.oss_syntax.specs.declared.tree.program.Function.{Function}
+use Rattle.oss_syntax.specs.declared.tree.program.Item.{Item}
+use Rattle.oss_syntax.specs.declared.tree.program.Item.TheVariants as items
+use Rattle.oss_syntax.specs.declared.tree.program.Program.{Program}
+use Rattle.oss_syntax.specs.declared.tree.stmt.Stmt.{Stmt}
+use Rattle.oss_model.specs.Scalars.{main_body, names_of}
+use Rattle.oss_top.specs.ScalarRules.{AreDistinct, FormatFits, Obeys, names_in, names_in_all, names_used}
+
+-- the names behind references
+abbrev pub shown : List (Bor (List ℕ)) → List (List ℕ)
+shown keys = map (λ k. k.now) keys
+
+any-shown : (p : List ℕ → Bool) (keys : List (Bor (List ℕ))) → list_any (λ k. p k.now) keys ≡ list_any p (shown keys)
+any-shown p [] = refl
+any-shown p (k ∷ keys) = ap (λ b. p k.now || b) (any-shown p keys)
+
+-- a look-up among references tells what the names contain
+pub found : (keys : List (Bor (List ℕ))) (name : List ℕ) → (list_any (λ k. bytes_eq name k.now) keys ≡ true) ↔ Contains (shown keys) name
+found keys name = (
+  λ h. Contains-list_any bytes_eq (λ x y. (bytes_eq-Decides x y).0) (shown keys) name (sym (any-shown (bytes_eq name) keys) ∙ h),
+  λ h. any-shown (bytes_eq name) keys ∙ list_any_at (bytes_eq name) (shown keys) h.0 name h.1 ((bytes_eq-Decides name (get_or (shown keys) h.0 name)).1 (sym h.2)),
+)
+
+-- a new name keeps names distinct
+pub distinct-push : (names : List (List ℕ)) (name : List ℕ) → AreDistinct names → (Contains names name → ⊥) → AreDistinct (names ++ name ∷ [])
+distinct-push names name distinct new =
+    all_pairs_push (λ a b. a ≢ b) names name distinct (λ k d h e. new (k, h, get_or_default names k name d h ∙ e))
+
+-- a name that is there already does not
+pub not-distinct : (names : List (List ℕ)) (name : List ℕ) (rest : List (List ℕ)) → Contains names name → AreDistinct (names ++ name ∷ rest) → ⊥
+not-distinct names name rest there distinct =
+    let h = there.1 in let e = there.2 in
+    let first : get_or (names ++ name ∷ rest) there.0 name ≡ name = grind (arith, common_steps) in
+    let second : get_or (names ++ name ∷ rest) (length names) name ≡ name = grind (arith, common_steps) in
+    let within : length names < length (names ++ name ∷ rest) = grind (arith, common_steps) in
+    distinct there.0 (length names) name h within (first ∙ sym second)
+
+-- what holds of two lists
+pub all-left : {X : Type 0} (P : X → Type 0) (xs ys : List X) → All P (xs ++ ys) → All P xs
+all-left P [] ys h = All-nil P
+all-left P (x ∷ xs) ys h = All-cons P x xs (All-head P x (xs ++ ys) h) (all-left P xs ys (All-tail P x (xs ++ ys) h))
+
+pub all-right : {X : Type 0} (P : X → Type 0) (xs ys : List X) → All P (xs ++ ys) → All P ys
+all-right P [] ys h = h
+all-right P (x ∷ xs) ys h = all-right P xs ys (All-tail P x (xs ++ ys) h)
+
+pub both : {X : Type 0} (P : X → Type 0) (xs ys zs : List X) → zs ≡ xs ++ ys → (All P xs × All P ys) ↔ All P zs
+both P xs ys zs e =
+    (λ h. subst (All P) (sym e) (All-append P xs ys h.0 h.1), λ h. let w : All P (xs ++ ys) = subst (All P) e h in (all-left P xs ys w, all-right P xs ys w))
+
+-- a test of two lists, the second only where the first passes
+module _ {X : Type 0} (P : X → Type 0) (xs ys zs : List X) (whole : zs ≡ xs ++ ys) (r : Bool) where
+  pub then-both : All P xs → IsTrue r ↔ All P ys → IsTrue r ↔ All P zs
+  then-both here there = (λ h. (both P xs ys zs whole).0 (here, there.0 h), λ h. there.1 ((both P xs ys zs whole).1 h).1)
+
+  pub else-both : r ≡ false → IsTrue r ↔ All P xs → IsTrue r ↔ All P zs
+  else-both e here = (λ h. absurd (true≢false (sym h ∙ e)), λ h. here.1 ((both P xs ys zs whole).1 h).0)
+
+-- a loop over parts, the first of which passes, or does not
+module _ {X : Type 0} (P : X → Type 0) (xs ys zs : List X) (whole : zs ≡ xs ++ ys) (W : Type 0) (so_far : All P zs ↔ W) where
+  pub after-one : All P xs → All P ys ↔ W
+  after-one here = (λ h. so_far.0 ((both P xs ys zs whole).0 (here, h)), λ w. ((both P xs ys zs whole).1 (so_far.1 w)).1)
+
+  pub not-one : (All P xs → ⊥) → W → ⊥
+  not-one here w = here ((both P xs ys zs whole).1 (so_far.1 w)).0
+
+-- a test that is another
+pub same-test : {P : Type 0} (r b : Bool) → r ≡ b → IsTrue b ↔ P → IsTrue r ↔ P
+same-test r b e h = (λ t. h.0 (sym e ∙ t), λ p. e ∙ h.1 p)
+
+pub not-not : (b : Bool) → not (not b) ≡ b
+not-not true = refl
+not-not false = refl
+
+pub names-binary : (e a b : Expr) (o : BinOp) (l r : Expr) → e.what ≡ exprs.Binary o l r → a ≡ l → b ≡ r → names_in e ≡ names_in a ++ names_in b
+names-binary e a b o l r is x y = rw (x, y) (names-at e o l r is)
+  where
+    names-at : (e : Expr) (o : BinOp) (l r : Expr) → e.what ≡ exprs.Binary o l r → names_in e ≡ names_in l ++ names_in r
+    names-at e o l r is = rw is (search (rules, expr_folds))
+
+-- the names of expressions, from one on
+pub names-left : (es : List Expr) (i : ℕ) (e : Expr) → i < length es → e ≡ get_or es i e → names_in_all (drop i es) ≡ names_in e ++ names_in_all (drop (i + 1) es)
+names-left es i e within at = ap names_in_all (drop_more es i e within) ∙ ap (λ x. names_in x ++ names_in_all (drop (i + 1) es)) (sym at)
+
+-- the names of the items, from one on
+module _ (xs : List Item) (i : ℕ) (item : Item) (within : i < length xs) (at : item ≡ get_or xs i item) where
+  pub left-global : (g : GlobalDef) → item ≡ items.Global g → names_of (drop i xs) ≡ g.name ∷ names_of (drop (i + 1) xs)
+  left-global g is = ap names_of (drop_more xs i item within) ∙ ap (λ x. names_of (x ∷ drop (i + 1) xs)) (sym at ∙ is)
+
+  pub left-function : (f : Function) → item ≡ items.Function f → names_of (drop i xs) ≡ names_of (drop (i + 1) xs)
+  left-function f is = ap names_of (drop_more xs i item within) ∙ ap (λ x. names_of (x ∷ drop (i + 1) xs)) (sym at ∙ is)
+
+  -- all names, those so far apart
+  module _ (declared : List (List ℕ)) (whole : declared ++ names_of (drop i xs) ≡ names_of xs) where
+    pub split-global : (g : GlobalDef) (name : List ℕ) → item ≡ items.Global g → name ≡ g.name → names_of xs ≡ declared ++ name ∷ names_of (drop (i + 1) xs)
+    split-global g name is named = sym whole ∙ ap (λ ns. declared ++ ns) (left-global g is ∙ ap (λ n. n ∷ names_of (drop (i + 1) xs)) (sym named))
+
+    pub split-function : (f : Function) → item ≡ items.Function f → names_of xs ≡ declared ++ names_of (drop (i + 1) xs)
+    split-function f is = sym whole ∙ ap (λ ns. declared ++ ns) (left-function f is)
+
+-- two facts of each element, of which one fails at an element
+pub not-all : {X : Type 0} (P Q : X → Type 0) (xs : List X) (i : ℕ) (x : X) → i < length xs → x ≡ get_or xs i x → (P x × Q x → ⊥) → All P xs × All Q xs → ⊥
+not-all P Q xs i x within at fails all = fails (subst P (sym at) (all.0 i x within), subst Q (sym at) (all.1 i x within))
+
+pub one-more : {X : Type 0} (P : X → Type 0) (xs : List X) (i : ℕ) (x : X) → i < length xs → x ≡ get_or xs i x → All P (take i xs) → P x → All P (take (i + 1) xs)
+one-more P xs i x within at all here = All-more P xs i x within all (subst P at here)
+
+pub at-end : {X : Type 0} (P : X → Type 0) (xs : List X) (i : ℕ) → length xs ≤ i → All P (take i xs) → All P xs
+at-end P xs i end all = let e : take i xs ≡ xs = grind (arith, common_steps) in subst (All P) e all
+
+-- the rules, from their parts
+pub obeyed : (p : Program) (declared : List (List ℕ)) (statements : List Stmt) (has ok : Bool) → statements ≡ main_body p.items → declared ≡ names_of p.items → AreDistinct (names_of p.items)
+    → IsTrue has ↔ Contains declared (codes "main") → has ≡ false → IsTrue ok ↔ (All (λ s. All (Contains declared) (names_used s.what)) statements × All (λ s. FormatFits s.what) statements)
+    → IsTrue ok ↔ Obeys p
+obeyed p declared statements has ok body names distinct known no_main lines =
+    let Lines : List (List ℕ) → List Stmt → Type 0 = λ ns ss. All (λ s. All (Contains ns) (names_used s.what)) ss × All (λ s. FormatFits s.what) ss in
+    let now : IsTrue ok ↔ Lines (names_of p.items) (main_body p.items) = subst (λ ns. IsTrue ok ↔ Lines ns (main_body p.items)) names (subst (λ ss. IsTrue ok ↔ Lines declared ss) body lines) in (
+      λ h. record {
+        distinct = distinct;
+        no_main = λ there. true≢false (sym (known.1 (subst (λ ns. Contains ns (codes "main")) (sym names) there)) ∙ no_main);
+        declared = (now.0 h).0;
+        formats = (now.0 h).1;
+      },
+      λ o. now.1 (o.declared, o.formats),
+    )
