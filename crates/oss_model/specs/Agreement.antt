@@ -1,0 +1,44 @@
+-- What it means that a state agrees with the sequential run.
+use Rattle.std.specs.Prelude.{◌≡◌, ℕ, ◌^◌, ◌<◌, List, [], length, slice_index, false, Bool}
+use Rattle.oss_syntax.specs.declared.access.Mode.{Mode}
+use Rattle.oss_syntax.specs.declared.access.Mode.TheVariants.{Write}
+use Rattle.oss_model.specs.Context.{right_of}
+use Rattle.oss_model.specs.Rights.{Holds}
+use Rattle.oss_model.specs.Bodies.{Program, Start}
+use Rattle.oss_model.specs.Machine.{Task, State, At}
+use Rattle.oss_model.specs.History.{IsMade, IsStarted, IsComparable}
+use Rattle.oss_model.specs.Memory.{IsValue}
+use Rattle.oss_model.specs.Sequence.{Running}
+
+-- main as it starts
+pub record MainStarts {S : Type 0} (main : Start S) : Type 0 where
+  pub final : main.context.final ≡ false
+  pub created : main.context.created ≡ 0
+  pub path : main.path ≡ []
+
+-- main's rights are to cells that are there
+abbrev pub InMemory : {S : Type 0} → Start S → List ℕ → Type 0
+InMemory main cells = (c : ℕ) (m : Mode) (strong : _) → right_of main.context c ≡ Holds m strong → c < length cells
+
+abbrev pub AreWords : List ℕ → Type 0
+AreWords cells = (c : ℕ) → slice_index cells c < 2 ^ 64
+
+-- the setting: main as it starts, and the cells at the start
+pub record Setting {S : Type 0} (main : Start S) (cells : List ℕ) : Type 0 where
+  pub starts : MainStarts main
+  pub memory : InMemory main cells
+  pub words : AreWords cells
+  pub writes : (c : ℕ) (m : Mode) (strong : Bool) → right_of main.context c ≡ Holds m strong → m ≡ Write
+
+-- the tasks of the two states that have one path are one task
+abbrev pub Compatible : {S : Type 0} → State S → State S → Type 0
+Compatible x s = (p : List ℕ) (t u : Task _) → At x p t → At s p u → IsComparable t.body u.body
+
+-- a state agrees with the sequential run, as far as that has come
+pub record Agrees {S : Type 0} (P : Program S) (main : Start S) (cells : List ℕ) (z : Running S) (s : State S) : Type 0 where
+  pub made : IsMade P main s
+  pub started : IsStarted P s
+  pub same : Compatible z.state s
+  pub size : length s.cells ≡ length cells
+  pub words : AreWords s.cells
+  pub value : (c : ℕ) → c < length cells → IsValue P s cells c

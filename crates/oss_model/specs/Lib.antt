@@ -1,0 +1,12 @@
+pub mod Agreement
+pub mod Bodies
+pub mod Claims
+pub mod Context
+pub mod Forest
+pub mod History
+pub mod Machine
+pub mod Memory
+pub mod Moves
+pub mod Order
+pub mod Rights
+pub mod Sequence

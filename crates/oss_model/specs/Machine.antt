@@ -1,0 +1,94 @@
+-- The machine: tasks, their accesses, and the moves.
+use Rattle.std.specs.Prelude.{◌≡◌, ℕ, ◌+◌, ◌<◌, ◌==◌, Bool, true, false, ◌&&◌, if◌then◌else◌, List, [], ◌∷◌, Option, Some, None}
+use Rattle.oss_syntax.specs.declared.access.Mode.{Mode}
+use Rattle.oss_syntax.specs.declared.access.Mode.TheVariants.{Read, Write}
+use Rattle.oss_model.specs.Forest.{Forest, Done, SatW, SatR}
+use Rattle.oss_model.specs.Order.{In}
+use Rattle.oss_model.specs.Rights.{Right, Holds}
+use Rattle.oss_model.specs.Context.{Context, in_clauses, right_of}
+use Rattle.oss_model.specs.Bodies.{Program, Act, Body, stack_from}
+use Rattle.oss_model.specs.Bodies.Act.{Awaited, Waited, WaitedOn}
+
+-- a task: its body, and the cells that it has given up
+pub record Task (S : Type 0) : Type 0 where
+  pub body : Body S
+  pub given : List ℕ
+
+pub record State (S : Type 0) : Type 0 where
+  pub cells : List ℕ
+  pub tasks : List (Task S)
+
+abbrev pub same_path : List ℕ → List ℕ → Bool
+same_path [] [] = true
+same_path [] (y ∷ ys) = false
+same_path (x ∷ xs) [] = false
+same_path (x ∷ xs) (y ∷ ys) = (x == y) && same_path xs ys
+
+unfoldable pub find : {S : Type 0} → List (Task S) → List ℕ → Option (Task S)
+find [] p = None
+find (t ∷ ts) p = if same_path t.body.start.path p then Some t else find ts p
+
+abbrev pub At : {S : Type 0} → State S → List ℕ → Task S → Type 0
+At s p t = find s.tasks p ≡ Some t
+
+-- the task has a right to the cell from its creation on
+pub record HasAccess {S : Type 0} (s : State S) (c : ℕ) (p : List ℕ) : Type 0 where
+  pub task : Task S
+  pub at_ : At s p task
+  pub mode : Mode
+  pub strong : Bool
+  pub right : right_of task.body.start.context c ≡ Holds mode strong
+
+-- the accesses of all tasks to one cell: main's children are at the top
+pub data IsTop {S : Type 0} (s : State S) (c : ℕ) : List ℕ → Type 0 where
+  is_top : {k : ℕ} → HasAccess s c (k ∷ []) → IsTop s c (k ∷ [])
+
+pub data IsChild {S : Type 0} (s : State S) (c : ℕ) : List ℕ → List ℕ → Type 0 where
+  is_child : {k i : ℕ} {p : List ℕ} → HasAccess s c (i ∷ p) → HasAccess s c (k ∷ i ∷ p) → IsChild s c (i ∷ p) (k ∷ i ∷ p)
+
+pub data IsEarlier {S : Type 0} (s : State S) (c : ℕ) : List ℕ → List ℕ → Type 0 where
+  is_earlier : {i k : ℕ} {p : List ℕ} → i < k → HasAccess s c (i ∷ p) → IsEarlier s c (i ∷ p) (k ∷ p)
+
+abbrev pub mode_of : Right → Mode
+mode_of (Holds m strong) = m
+mode_of _ = Read
+
+abbrev pub mode_in : {S : Type 0} → Option (Task S) → ℕ → Mode
+mode_in (Some t) c = mode_of (right_of t.body.start.context c)
+mode_in None c = Read
+
+pub record HasGiven {S : Type 0} (s : State S) (c : ℕ) (p : List ℕ) : Type 0 where
+  pub task : Task S
+  pub at_ : At s p task
+  pub given : In c task.given
+
+abbrev pub accesses : {S : Type 0} → State S → ℕ → Forest (List ℕ)
+accesses s c = record {
+  Top = IsTop s c;
+  Child = IsChild s c;
+  Earlier = IsEarlier s c;
+  mode = λ p. mode_in (find s.tasks p) c;
+  Given = HasGiven s c;
+}
+
+-- main is always ready; another task where its strong reads and writes are satisfied
+abbrev pub IsReady : {S : Type 0} → State S → List ℕ → Context → Type 0
+IsReady s [] x = Unit {0}
+IsReady s (k ∷ p) x =
+    ((c : ℕ) → right_of x c ≡ Holds Read true → SatR (accesses s c) (k ∷ p)) × ((c : ℕ) → right_of x c ≡ Holds Write true → SatW (accesses s c) (k ∷ p))
+
+-- main has no cells to give up
+abbrev pub Owes : List ℕ → Context → ℕ → Type 0
+Owes [] x c = ⊥
+Owes (k ∷ p) x c = (m : Mode) × (strong : Bool) × (right_of x c ≡ Holds m strong)
+
+pub data IsComplete {S : Type 0} (P : Program S) (s : State S) : List ℕ → Type 0 where
+  complete : {p : List ℕ} {t : Task S} → At s p t → (stack_from P t.body.start t.body.found).over ≡ true → ((c : ℕ) → Owes p t.body.start.context c → In c t.given)
+      → ((k : ℕ) (u : Task S) → At s (k ∷ p) u → IsComplete P s (k ∷ p)) → IsComplete P s p
+
+-- what an act waits for, where its task has created n tasks
+abbrev pub WaitMet : {S : Type 0} → Program S → State S → List ℕ → ℕ → Act S → Type 0
+WaitMet P s p n Waited = (k : ℕ) (u : Task _) → k < n → At s (k ∷ p) u → IsComplete P s (k ∷ p)
+WaitMet P s p n Awaited = (k : ℕ) (u : Task _) → k + 1 ≡ n → At s (k ∷ p) u → IsComplete P s (k ∷ p)
+WaitMet P s p n (WaitedOn named) = (k c : ℕ) → k < n → in_clauses named c ≡ true → HasAccess s c (k ∷ p) → Done (accesses s c) (k ∷ p)
+WaitMet P s p n _ = Unit {0}

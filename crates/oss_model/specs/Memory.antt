@@ -1,0 +1,63 @@
+-- Done acts in point order, and the memory that they give.
+use Rattle.std.specs.Prelude.{◌≡◌, ℕ, ◌<◌, Bool, true, false, List, [], ◌∷◌, length, reverse, ◌⊎◌, slice_index}
+use Rattle.oss_syntax.specs.declared.access.Op.{Op}
+use Rattle.oss_model.specs.Order.{In, IsSuffix, IsBefore}
+use Rattle.oss_model.specs.Bodies.{Program, Act, Start, stage_act, stage_created}
+use Rattle.oss_model.specs.Bodies.Act.{Store, Folded}
+use Rattle.oss_model.specs.Machine.{Task, State, At}
+use Rattle.oss_model.specs.Moves.{combine}
+
+-- an act of a body at a stage, with its answer
+pub record Event (S : Type 0) : Type 0 where
+  pub start : Start S
+  pub past : List ℕ
+  pub answer : ℕ
+
+-- where the act stands in point order
+abbrev pub place : {S : Type 0} → Program S → Event S → List ℕ
+place P e = stage_created P e.start e.past ∷ e.start.path
+
+-- the first event is before the second, by key and then by its place in the body
+abbrev pub IsEarlierEvent : {S : Type 0} → Program S → Event S → Event S → Type 0
+IsEarlierEvent P e g = IsBefore (reverse (place P e)) (reverse (place P g)) ⊎ ((place P e ≡ place P g) × (length e.past < length g.past))
+
+-- the act is done in the state
+pub record Happened {S : Type 0} (s : State S) (e : Event S) : Type 0 where
+  pub task : Task S
+  pub at_ : At s e.start.path task
+  pub start : task.body.start ≡ e.start
+  pub found : IsSuffix (e.answer ∷ e.past) task.body.found
+
+-- the act changes the cell; the flag says that it goes to the slot
+pub data Changes {S : Type 0} : Act S → ℕ → Bool → Type 0 where
+  store : {c v : ℕ} → Changes (Store c v) c false
+  folded : {c : ℕ} {op : Op} {v : ℕ} {slot : Bool} → Changes (Folded c op v slot) c slot
+
+-- a change that is done: one in the slot once it is joined
+pub record DoneChange {S : Type 0} (P : Program S) (s : State S) (c : ℕ) (e : Event S) : Type 0 where
+  pub slot : Bool
+  pub changes : Changes (stage_act P e.start e.past) c slot
+  pub happened : Happened s e
+  pub joined : slot ≡ true → In c happened.task.given
+
+-- the value of a cell after an act
+abbrev pub changed : {S : Type 0} → Act S → ℕ → ℕ
+changed (Store c v) w = v
+changed (Folded c op v slot) w = combine op w v
+changed _ w = w
+
+abbrev pub replay : {S : Type 0} → Program S → List (Event S) → ℕ → ℕ
+replay P [] w = w
+replay P (e ∷ es) w = replay P es (changed (stage_act P e.start e.past) w)
+
+abbrev pub IsSorted : {S : Type 0} → Program S → List (Event S) → Type 0
+IsSorted P [] = Unit {0}
+IsSorted P (e ∷ es) = ((g : Event _) → In g es → IsEarlierEvent P e g) × IsSorted P es
+
+-- a cell has the value that the done changes of it give, in point order
+pub record IsValue {S : Type 0} (P : Program S) (s : State S) (first : List ℕ) (c : ℕ) : Type 0 where
+  pub list : List (Event S)
+  pub sorted : IsSorted P list
+  pub only : (e : Event S) → In e list → DoneChange P s c e
+  pub all : (e : Event S) → DoneChange P s c e → In e list
+  pub value : slice_index s.cells c ≡ replay P list (slice_index first c)

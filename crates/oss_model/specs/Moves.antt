@@ -1,0 +1,150 @@
+-- The moves of the machine.
+use Rattle.std.specs.Prelude.{◌≡◌, ◌≢◌, ℕ, ◌+◌, ◌-◌, ◌%◌, ◌^◌, ◌==◌, Bool, true, false, if◌then◌else◌, List, [], ◌∷◌, reverse, ◌⊎◌, slice_index, slice_set, bit_and, bit_or, bit_xor}
+use Rattle.oss_syntax.specs.declared.access.Mode.{Mode}
+use Rattle.oss_syntax.specs.declared.access.Op.{Op}
+use Rattle.oss_syntax.specs.declared.access.Op.TheVariants.{Add, And, Or, Xor}
+use Rattle.oss_syntax.specs.declared.access.Mode.TheVariants.{Fold}
+use Rattle.oss_model.specs.Context.{right_of}
+use Rattle.oss_model.specs.Order.{In, IsBefore}
+use Rattle.oss_model.specs.Forest.{SatX}
+use Rattle.oss_model.specs.Rights.{Released, Holds}
+use Rattle.oss_model.specs.Bodies.{Order, Program, Act, Start, Body, stack_from, stage_act, stage_created, child_start, Stops}
+use Rattle.oss_model.specs.Bodies.Act.{Load, Store, Folded, Created}
+use Rattle.oss_model.specs.Machine.{Task, State, find, At, accesses, IsReady, Owes, IsComplete, WaitMet}
+
+abbrev pub combine : Op → ℕ → ℕ → ℕ
+combine Add a b = (a + b) % 2 ^ 64
+combine And a b = bit_and a b
+combine Or a b = bit_or a b
+combine Xor a b = bit_xor a b
+
+abbrev pub neutral : Op → ℕ
+neutral And = 2 ^ 64 - 1
+neutral _ = 0
+
+-- the cells after an act; a fold into a slot leaves them
+abbrev pub cells_after : {S : Type 0} → Act S → List ℕ → List ℕ
+cells_after (Store c v) cells = slice_set cells c v
+cells_after (Folded c op v false) cells = slice_set cells c (combine op (slice_index cells c) v)
+cells_after _ cells = cells
+
+-- what an act finds
+abbrev pub found_by : {S : Type 0} → Act S → List ℕ → ℕ
+found_by (Load c) cells = slice_index cells c
+found_by _ cells = 0
+
+-- the slot of a task on a cell, after these answers
+abbrev pub slot_more : {S : Type 0} → Act S → ℕ → Op → ℕ → ℕ
+slot_more (Folded d op v true) c own held = if d == c then combine own held v else held
+slot_more _ c own held = held
+
+unfoldable pub slot_of : {S : Type 0} → Program S → Start S → ℕ → Op → List ℕ → ℕ
+slot_of P b c op [] = neutral op
+slot_of P b c op (v ∷ vs) = slot_more (stage_act P b vs) c op (slot_of P b c op vs)
+
+abbrev pub act_now : {S : Type 0} → Program S → Body S → Act S
+act_now P b = stage_act P b.start b.found
+
+abbrev pub created_now : {S : Type 0} → Program S → Body S → ℕ
+created_now P b = stage_created P b.start b.found
+
+abbrev pub is_over : {S : Type 0} → Program S → Body S → Bool
+is_over P b = (stack_from P b.start b.found).over
+
+abbrev pub answered : {S : Type 0} → ℕ → Task S → Task S
+answered v t = record { body = record { start = t.body.start; found = v ∷ t.body.found }; given = t.given }
+
+abbrev pub gives : {S : Type 0} → ℕ → Task S → Task S
+gives c t = record { body = t.body; given = c ∷ t.given }
+
+abbrev pub new_task : {S : Type 0} → Program S → Body S → Order S → Task S
+new_task P b o = record { body = record { start = child_start (stack_from P b.start b.found).base o; found = [] }; given = [] }
+
+-- each child is complete where the task has the clause wait
+abbrev pub WaitClause : {S : Type 0} → Program S → State S → List ℕ → Task S → Type 0
+WaitClause P s p t = t.body.start.order.wait ≡ true → (k : ℕ) (u : Task _) → At s (k ∷ p) u → IsComplete P s (k ∷ p)
+
+-- the next act of the task may happen
+pub record CanStep {S : Type 0} (P : Program S) (s : State S) (p : List ℕ) (t : Task S) : Type 0 where
+  pub at_ : At s p t
+  pub goes : Stops (act_now P t.body) → ⊥
+  pub ready : t.body.found ≡ [] → IsReady s p t.body.start.context
+  pub waits : WaitMet P s p (created_now P t.body) (act_now P t.body)
+
+-- the tasks after an act with this answer
+pub record TaskStep {S : Type 0} (P : Program S) (s : State S) (p : List ℕ) (t : Task S) (v : ℕ) (n : State S) : Type 0 where
+  pub own : At n p (answered v t)
+  pub made : (o : Order S) → act_now P t.body ≡ Created o false → At n (created_now P t.body ∷ p) (new_task P t.body o)
+  pub others : (q : List ℕ) → q ≢ p → ((o : Order S) → act_now P t.body ≡ Created o false → q ≢ created_now P t.body ∷ p) → find n.tasks q ≡ find s.tasks q
+
+-- the state after a step of the machine
+pub record Stepped {S : Type 0} (P : Program S) (s : State S) (p : List ℕ) (t : Task S) (n : State S) : Type 0 where
+  pub cells : n.cells ≡ cells_after (act_now P t.body) s.cells
+  pub tasks : TaskStep P s p t (found_by (act_now P t.body) s.cells) n
+
+-- the task may give up the cell
+pub record CanLet {S : Type 0} (P : Program S) (s : State S) (p : List ℕ) (c : ℕ) (t : Task S) : Type 0 where
+  pub at_ : At s p t
+  pub not_main : p ≢ []
+  pub mode : Mode
+  pub strong : Bool
+  pub right : right_of t.body.start.context c ≡ Holds mode strong
+  pub no_fold : (op : Op) → right_of t.body.start.context c ≢ Holds (Fold op) true
+  pub kept : In c t.given → ⊥
+  pub gone : ((right_of (stack_from P t.body.start t.body.found).base.context) c ≡ Released) ⊎ ((is_over P t.body ≡ true) × WaitClause P s p t)
+
+-- the slot of the task may be joined
+pub record CanJoin {S : Type 0} (P : Program S) (s : State S) (p : List ℕ) (c : ℕ) (op : Op) (t : Task S) : Type 0 where
+  pub at_ : At s p t
+  pub right : right_of t.body.start.context c ≡ Holds (Fold op) true
+  pub kept : In c t.given → ⊥
+  pub ended : is_over P t.body ≡ true
+  pub wait : WaitClause P s p t
+  pub satisfied : SatX (accesses s c) op p
+
+-- the state after a cell was given up
+pub record Gave {S : Type 0} (s : State S) (p : List ℕ) (c : ℕ) (t : Task S) (n : State S) : Type 0 where
+  pub own : At n p (gives c t)
+  pub others : (q : List ℕ) → q ≢ p → find n.tasks q ≡ find s.tasks q
+
+abbrev pub joined_cells : {S : Type 0} → Program S → ℕ → Op → Task S → List ℕ → List ℕ
+joined_cells P c op t cells = slice_set cells c (combine op (slice_index cells c) (slot_of P t.body.start c op t.body.found))
+
+-- a state after a Let, and after a Join
+pub record LetGo {S : Type 0} (s : State S) (p : List ℕ) (c : ℕ) (t : Task S) (n : State S) : Type 0 where
+  pub cells : n.cells ≡ s.cells
+  pub tasks : Gave s p c t n
+
+pub record Joined {S : Type 0} (P : Program S) (s : State S) (p : List ℕ) (c : ℕ) (op : Op) (t : Task S) (n : State S) : Type 0 where
+  pub cells : n.cells ≡ joined_cells P c op t s.cells
+  pub tasks : Gave s p c t n
+
+-- a state after some move of another
+pub data Moved {S : Type 0} (P : Program S) (s n : State S) : Type 0 where
+  steps : {p : List ℕ} {t : Task S} → CanStep P s p t → Stepped P s p t n → Moved P s n
+  lets : {p : List ℕ} {c : ℕ} {t : Task S} → CanLet P s p c t → LetGo s p c t n → Moved P s n
+  joins : {p : List ℕ} {c : ℕ} {op : Op} {t : Task S} → CanJoin P s p c op t → Joined P s p c op t n → Moved P s n
+
+-- the state with main alone
+abbrev pub opening : {S : Type 0} → Start S → List ℕ → State S
+opening main cells = record { cells = cells; tasks = record { body = record { start = main; found = [] }; given = [] } ∷ [] }
+
+-- a state that the machine comes to
+pub data Reached {S : Type 0} (P : Program S) (main : Start S) (cells : List ℕ) : State S → Type 0 where
+  opens : Reached P main cells (opening main cells)
+  moves : {s n : State S} → Reached P main cells s → Moved P s n → Reached P main cells n
+
+-- the body has ended, and each cell is given up
+pub record IsClosed {S : Type 0} (P : Program S) (p : List ℕ) (t : Task S) : Type 0 where
+  pub over : is_over P t.body ≡ true
+  pub given : (c : ℕ) → Owes p t.body.start.context c → In c t.given
+
+-- some move may be made
+pub data SomeMove {S : Type 0} (P : Program S) (s : State S) : Type 0 where
+  a_step : {p : List ℕ} {t : Task S} → CanStep P s p t → SomeMove P s
+  a_let : {p : List ℕ} {c : ℕ} {t : Task S} → CanLet P s p c t → SomeMove P s
+  a_join : {p : List ℕ} {c : ℕ} {op : Op} {t : Task S} → CanJoin P s p c op t → SomeMove P s
+
+-- every task that stands before this one in point order is closed
+abbrev pub IsLeast : {S : Type 0} → Program S → State S → List ℕ → Task S → Type 0
+IsLeast P s p t = (q : List ℕ) (u : Task _) → At s q u → IsBefore (reverse (created_now P u.body ∷ q)) (reverse (created_now P t.body ∷ p)) → IsClosed P q u
