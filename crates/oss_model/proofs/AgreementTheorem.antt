@@ -8,21 +8,21 @@ use Rattle.oss_model.specs.declared.answer.FaultKind.{FaultKind}
 use Rattle.std.specs.Prelude.{slice_index, slice_set, ◌==◌, if◌then◌else◌}
 use Rattle.std.proofs.lemmas.Nat.{or_lt, xor_lt, and_le_l}
 use Rattle.std.proofs.lemmas.List.{get_or_past}
-use Rattle.oss_model.specs.Order.{IsSuffix, In}
+use Rattle.oss_model.specs.Order.{IsSuffix, IsIn}
 use Rattle.oss_model.specs.Rights.{Right, Holds, Reads, Writes, Folds, touch_fault, is_fold}
 use Rattle.oss_model.specs.Context.{create_fault, tick_fault, release_fault, wait_on_fault, right_of, lent_of}
-use Rattle.oss_model.specs.Bodies.{Ask, Program, Act, Frame, Start, judged, act_of_ask, asked, frame_act, stack_act, stack_from, act_of, stage_act, low}
+use Rattle.oss_model.specs.Bodies.{Ask, Program, Act, Frame, Start, judged_act, act_of_ask, ask_of, frame_act, stack_act, stack_from, act_of, stage_act, word_of}
 use Rattle.oss_model.specs.Bodies.Act.{Created, WaitedOn, Ticked, Load, Store, Folded, Releases}
 use Rattle.oss_model.specs.Machine.{Task, State, At}
 use Rattle.oss_model.specs.History.{IsComparable}
-use Rattle.oss_model.specs.Moves.{act_now, combine, cells_after, slot_more, slot_of, neutral, CanStep, Stepped, CanLet, CanJoin, Gave, LetGo, Joined, Moved, steps, lets, joins, opening, Reached, opens, moves}
+use Rattle.oss_model.specs.Moves.{act_now, combine, cells_after, slot_more, slot_of, neutral_value, CanStep, Stepped, CanLet, CanJoin, GaveUp, LetGo, Joined, Moved, steps, lets, joins, opening, Reached, opens, moves}
 use Rattle.oss_model.specs.Memory.{Event, Happened, Changes, IsValue}
 use Rattle.oss_model.specs.Sequence.{Running, Sequential}
 use Rattle.oss_model.specs.Agreement.{AreWords, Setting, Compatible, Agrees}
 use Rattle.oss_model.specs.Claims.{EveryStateAgrees}
 use Rattle.oss_model.proofs.TreeLemmas.{at_same, starts_well, path_found}
 use Rattle.oss_model.proofs.StageLemmas.{stage_touch}
-use Rattle.oss_model.proofs.MoveLemmas.{step_made, step_started, gave_made, gave_started, gave_view, GaveView, own, old, MayGive, let_may, join_may}
+use Rattle.oss_model.proofs.MoveLemmas.{step_made, step_started, gave_made, gave_started, gave_view, GaveUpView, own, old, MayGive, let_may, join_may}
 use Rattle.oss_model.proofs.MemoryLemmas.{value_step, cells_length, change_touch, fold_mode}
 use Rattle.oss_model.proofs.SequenceLemmas.{opening_at, opening_made, stands}
 use Rattle.oss_model.proofs.RecallLemmas.{suffix_nil}
@@ -35,10 +35,10 @@ IsWordAct (Store c v) = v < 2 ^ 64
 IsWordAct (Folded c op v slot) = v < 2 ^ 64
 IsWordAct _ = Unit {0}
 
-low_is : (v : ℕ) → low v < 2 ^ 64
-low_is v = omega arith
+word_is : (v : ℕ) → word_of v < 2 ^ 64
+word_is v = omega arith
 
-judged_word : {S : Type 0} (f : Frame S) (line : ℕ) (r : Option FaultKind) (a : Act S) → IsWordAct a → IsWordAct (judged f line r a)
+judged_word : {S : Type 0} (f : Frame S) (line : ℕ) (r : Option FaultKind) (a : Act S) → IsWordAct a → IsWordAct (judged_act f line r a)
 judged_word f line None a h = h
 judged_word f line (Some k) a h = tt
 
@@ -46,8 +46,8 @@ ask_word : {S : Type 0} (slots : ℕ → Right) (inc : Bool) (f : Frame S) (a : 
 ask_word slots inc f Ask.Begin line = judged_word f line (create_fault f.context) _ tt
 ask_word slots inc f Ask.Tick line = judged_word f line (tick_fault f.context) Ticked tt
 ask_word slots inc f (Ask.Read c) line = judged_word f line (touch_fault ((right_of f.context) c) ((lent_of f.context) c) Reads) (Load c) tt
-ask_word slots inc f (Ask.Write c v) line = judged_word f line (touch_fault ((right_of f.context) c) ((lent_of f.context) c) Writes) (Store c (low v)) (low_is v)
-ask_word slots inc f (Ask.Fold c op v) line = judged_word f line (touch_fault ((right_of f.context) c) ((lent_of f.context) c) (Folds op)) (Folded c op (low v) (is_fold (slots c))) (low_is v)
+ask_word slots inc f (Ask.Write c v) line = judged_word f line (touch_fault ((right_of f.context) c) ((lent_of f.context) c) Writes) (Store c (word_of v)) (word_is v)
+ask_word slots inc f (Ask.Fold c op v) line = judged_word f line (touch_fault ((right_of f.context) c) ((lent_of f.context) c) (Folds op)) (Folded c op (word_of v) (is_fold (slots c))) (word_is v)
 ask_word slots inc f (Ask.Create o) line = judged_word f line _ (Created o f.context.final) tt
 ask_word slots inc f Ask.Await line = tt
 ask_word slots inc f Ask.Wait line = tt
@@ -59,7 +59,7 @@ ask_word slots inc f (Ask.Fails k) line = tt
 
 frame_word : {S : Type 0} (P : Program S) (slots : ℕ → Right) (inc : Bool) (f : Frame S) (w : Bool) → IsWordAct (frame_act P slots inc f w)
 frame_word P slots inc f true = tt
-frame_word P slots inc f false = ask_word slots inc f (asked P f).ask (asked P f).line
+frame_word P slots inc f false = ask_word slots inc f (ask_of P f).ask (ask_of P f).line
 
 stack_word : {S : Type 0} (P : Program S) (slots : ℕ → Right) (base : Frame S) (inner : List (Frame S)) (over : Bool) → IsWordAct (stack_act P slots base inner over)
 stack_word P slots base inner true = tt
@@ -68,7 +68,7 @@ stack_word P slots base (f ∷ fs) false = frame_word P slots true f f.awaits
 
 stage_word : {S : Type 0} (P : Program S) (b : Start S) (past : List ℕ) → IsWordAct (stage_act P b past)
 unfolding stage_act act_of
-stage_word P b past = let x = stack_from P b past in stack_word P (right_of b.context) x.base x.inner x.over
+stage_word P b past = let x = stack_from P b past in stack_word P (right_of b.context) x.base x.inner x.ended
 
 combine_word : (op : Op) (a b : ℕ) → a < 2 ^ 64 → b < 2 ^ 64 → combine op a b < 2 ^ 64
 combine_word Add a b h k = omega arith
@@ -99,7 +99,7 @@ words_after (Folded d op v false) cells h w c = set_word cells d (combine op (ge
 words_after (Folded d op v true) cells h w c = w c
 words_after _ cells h w c = w c
 
-neutral_word : (op : Op) → neutral op < 2 ^ 64
+neutral_word : (op : Op) → neutral_value op < 2 ^ 64
 neutral_word Add = omega arith
 neutral_word And = omega arith
 neutral_word Or = omega arith
@@ -134,10 +134,10 @@ module _ {S : Type 0} (P : Program S) (main : Start S) (cells : List ℕ) (z : R
       none : IsSuffix (v ∷ past) [] → ⊥
       none h = elim h [ ]
 
-  nothing_given : (p : List ℕ) (t : Task S) (c : ℕ) → At (opening main cells) p t → In c t.given → ⊥
-  nothing_given p t c h f = none (subst (λ (x : Task S). In c x.given) (opening_task p t h) f)
+  nothing_given : (p : List ℕ) (t : Task S) (c : ℕ) → At (opening main cells) p t → IsIn c t.given → ⊥
+  nothing_given p t c h f = none (subst (λ (x : Task S). IsIn c x.given) (opening_task p t h) f)
     where
-      none : In c [] → ⊥
+      none : IsIn c [] → ⊥
       none h = elim h [ ]
 
   pub opening_agrees : Agrees P main cells z (opening main cells)
@@ -174,10 +174,10 @@ module _ {S : Type 0} (P : Program S) (main : Start S) (cells : List ℕ) (z : R
         value = λ c l. value_step P main s n p t set_.starts a.made a.started can step (path_found s.tasks p t can.at_) cells c (let k = a.size in omega arith) (a.value c l);
       }
 
-  gave_same : (s n : State S) (p : List ℕ) (c : ℕ) (t : Task S) → Agrees P main cells z s → At s p t → MayGive P s p c t → Gave s p c t n → Compatible z.state n
+  gave_same : (s n : State S) (p : List ℕ) (c : ℕ) (t : Task S) → Agrees P main cells z s → At s p t → MayGive P s p c t → GaveUp s p c t n → Compatible z.state n
   gave_same s n p c t a at_ may gave q u v h k = view q v (gave_view P main s n p c t a.made a.started at_ may gave q v k) u h
     where
-      view : (q : List ℕ) (v : Task S) → GaveView s p c t q v → (u : Task S) → At z.state q u → IsComparable u.body v.body
+      view : (q : List ℕ) (v : Task S) → GaveUpView s p c t q v → (u : Task S) → At z.state q u → IsComparable u.body v.body
       view q v own u h = a.same q u t h at_
       view q v (old e g) u h = a.same q u v h g
 

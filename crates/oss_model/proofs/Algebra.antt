@@ -9,7 +9,7 @@ use Rattle.std.specs.Int.{bit_at}
 use Rattle.std.specs.Int.Bits.{xor_assoc}
 use Rattle.std.proofs.Math.Pow.{pow_mono}
 use Rattle.std.proofs.Math.Nat.{two-pow-succ}
-use Rattle.oss_model.specs.Moves.{combine, neutral}
+use Rattle.oss_model.specs.Moves.{combine, neutral_value}
 
 add_fold : (w s x : ℕ) → ((w + s) % 2 ^ 64 + x) % 2 ^ 64 ≡ (w + (s + x) % 2 ^ 64) % 2 ^ 64
 add_fold w s x = omega arith
@@ -76,7 +76,7 @@ fold_swap And w a b = and_swap w a b
 fold_swap Or w a b = or_assoc w a b ∙ (ap (λ (z : ℕ). bit_or w z) (or_comm a b) ∙ sym (or_assoc w b a))
 fold_swap Xor w a b = xor_swap w a b
 
-pub fold_none : (op : Op) (w : ℕ) → w < 2 ^ 64 → combine op w (neutral op) ≡ w
+pub fold_none : (op : Op) (w : ℕ) → w < 2 ^ 64 → combine op w (neutral_value op) ≡ w
 fold_none Add w h = add_none w h
 fold_none And w h = and_none w h
 fold_none Or w h = or_none w

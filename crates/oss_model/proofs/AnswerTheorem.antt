@@ -6,20 +6,20 @@ use Rattle.oss_syntax.specs.declared.access.Mode.TheVariants.{Fold}
 use Rattle.oss_model.specs.Agreement.{Compatible, Setting, Agrees}
 use Rattle.std.proofs.Common.{◌≡◌, ◌≢◌, ℕ, ◌+◌, ◌<◌, ◌≤◌, ◌⊎◌, inl, inr, refl, sym, subst, ap, ◌∙◌, List, [], ◌∷◌, length, reverse, arith, Bool, true, false, Option, Some, None}
 use Rattle.std.specs.Prelude.{slice_index}
-use Rattle.oss_model.specs.Order.{IsSuffix, whole, In, IsBefore}
+use Rattle.oss_model.specs.Order.{IsSuffix, whole, IsIn, IsBefore}
 use Rattle.oss_model.specs.Rights.{Holds}
-use Rattle.oss_model.specs.Bodies.{Program, Act, Start, Body, stage_act, stage_created, Stops, IsFault}
+use Rattle.oss_model.specs.Bodies.{Program, Act, Start, Body, stage_act, stage_created, IsHalt, IsFault}
 use Rattle.oss_model.specs.Bodies.Act.{Created, Over, Fault}
 use Rattle.oss_model.specs.Machine.{Task, State, At, find}
 use Rattle.oss_model.specs.History.{MadeBy, IsMade, IsComparable}
-use Rattle.oss_model.specs.Moves.{act_now, created_now, is_over, IsClosed, IsLeast}
+use Rattle.oss_model.specs.Moves.{act_now, created_now, is_ended, IsClosed, IsLeast}
 use Rattle.oss_model.specs.Memory.{Event, place, IsEarlierEvent, Happened, Changes, DoneChange, replay, IsValue}
-use Rattle.oss_model.specs.Sequence.{Running, Sequential, IsOver}
+use Rattle.oss_model.specs.Sequence.{Running, Sequential, IsAtEnd}
 use Rattle.oss_model.proofs.StageLemmas.{created_grows, stage_touch}
 use Rattle.oss_model.proofs.OrderLemmas.{suffix_trans, suffix_drop, suffix_length, suffix_linear, suffix_full, before_child, before_up, before_across}
 use Rattle.oss_model.proofs.TreeLemmas.{at_same, over_stops, path_found, next_of, starts_well}
 use Rattle.oss_model.proofs.SortLemmas.{event_trans, sorted_one}
-use Rattle.oss_model.specs.Claims.{StopsAs, ended, failed, EveryStopIsTheAnswer}
+use Rattle.oss_model.specs.Claims.{IsStoppedAs, ended, failed, EveryStopIsTheAnswer}
 use Rattle.oss_model.proofs.ProgressTheorem.{Outlook, progress}
 use Rattle.oss_model.proofs.MoveLemmas.{which_path}
 use Rattle.oss_model.proofs.SequenceLemmas.{Stands, stands, stage_of, stage_later, on_way}
@@ -52,7 +52,7 @@ module _ {S : Type 0} (P : Program S) (main : Start S) (cells : List ℕ) (z : R
     at_ : At s q task
     start : task.body.start ≡ e.start
     stage : IsSuffix task.body.found e.past
-    open_ : is_over P task.body ≡ true → ⊥
+    open_ : is_ended P task.body ≡ true → ⊥
 
   -- an event of the sequential run is done in s, or its task stands behind it, or a task above does
   caught_at : (q : List ℕ) (e : Event S) → e.start.path ≡ q → Happened z.state e → (u : Task S) → At s q u → Happened s e ⊎ Behind q e
@@ -70,8 +70,8 @@ module _ {S : Type 0} (P : Program S) (main : Start S) (cells : List ℕ) (z : R
             stage = k;
             open_ = λ o.
                 let n = next_of (suffix_trans k (suffix_drop h.found)) (let a = suffix_length k in let b = suffix_length h.found in omega arith) in
-                let x : Stops (stage_act P u.body.start u.body.found) = subst Stops (sym (over_stops P u.body.start u.body.found o)) tt in
-                st.made.goes e.start.path h.task u.body.found n.0 h.at_ n.1 (subst (λ (y : Start S). Stops (stage_act P y u.body.found)) (sym c.start) x);
+                let x : IsHalt (stage_act P u.body.start u.body.found) = subst IsHalt (sym (over_stops P u.body.start u.body.found o)) tt in
+                st.made.goes e.start.path h.task u.body.found n.0 h.at_ n.1 (subst (λ (y : Start S). IsHalt (stage_act P y u.body.found)) (sym c.start) x);
           }
 
       go : IsComparable h.task.body u.body → Happened s e ⊎ Behind q e
@@ -126,7 +126,7 @@ module _ {S : Type 0} (P : Program S) (main : Start S) (cells : List ℕ) (z : R
             let at2 : At s (k ∷ b.creator.body.start.path) m.0 = subst (λ (x : ℕ). At s (x ∷ b.creator.body.start.path) m.0) num m.1 in
             settle (caught_at (k ∷ q) e path h m.0 (subst (λ (x : List ℕ). At s (k ∷ x) m.0) pb at2))
 
-  module _ (over : IsOver P z) where
+  module _ (over : IsAtEnd P z) where
     f : Task S
     f = over.task
 
@@ -138,18 +138,18 @@ module _ {S : Type 0} (P : Program S) (main : Start S) (cells : List ℕ) (z : R
     active_path : over.task.body.start.path ≡ z.active
     active_path = path_found z.state.tasks z.active over.task over.at_
 
-    is_active : (q : List ℕ) (w : Task S) → At z.state q w → q ≡ z.active → Stops (act_now P w.body)
+    is_active : (q : List ℕ) (w : Task S) → At z.state q w → q ≡ z.active → IsHalt (act_now P w.body)
     is_active q w h e =
         let k = at_same z.state z.active over.task w over.at_ (subst (λ (x : List ℕ). At z.state x w) e h) in
-        subst (λ (x : Task S). Stops (act_now P x.body)) k over.stops
+        subst (λ (x : Task S). IsHalt (act_now P x.body)) k over.stops
 
     -- a task of z that s has gone beyond waits for a child
-    passed : (q : List ℕ) (w : Task S) → At z.state q w → (Stops (act_now P w.body) → ⊥) → (j : ℕ) × IsSuffix (j ∷ q) z.active
+    passed : (q : List ℕ) (w : Task S) → At z.state q w → (IsHalt (act_now P w.body) → ⊥) → (j : ℕ) × IsSuffix (j ∷ q) z.active
     passed q w h goes = go (st.others q w h)
       where
-        go : IsSuffix q z.active ⊎ (is_over P w.body ≡ true) → (j : ℕ) × IsSuffix (j ∷ q) z.active
+        go : IsSuffix q z.active ⊎ (is_ended P w.body ≡ true) → (j : ℕ) × IsSuffix (j ∷ q) z.active
         go (inl k) = on_way k (λ e. goes (is_active q w h e))
-        go (inr o) = absurd (goes (subst Stops (sym (over_stops P w.body.start w.body.found o)) tt))
+        go (inr o) = absurd (goes (subst IsHalt (sym (over_stops P w.body.start w.body.found o)) tt))
 
     active_before : (q : List ℕ) (j n : ℕ) (x : Event S) → x.start.path ≡ q → IsSuffix (j ∷ q) z.active → j < stage_created P x.start x.past → IsEarlierEvent P (stage_of over.task.body) x
     active_before q j n x path k l =
@@ -163,7 +163,7 @@ module _ {S : Type 0} (P : Program S) (main : Start S) (cells : List ℕ) (z : R
         far : IsComparable w.body u.body → IsSuffix w.body.found u.body.found → length w.body.found < length x.past → Where q x
         far c k l =
             let n = next_of k (let a = suffix_length fu in omega arith) in
-            let goes : Stops (act_now P w.body) → ⊥ = λ e. made.goes q u w.body.found n.0 hu n.1 (subst (λ (y : Start S). Stops (stage_act P y w.body.found)) c.start e) in
+            let goes : IsHalt (act_now P w.body) → ⊥ = λ e. made.goes q u w.body.found n.0 hu n.1 (subst (λ (y : Start S). IsHalt (stage_act P y w.body.found)) c.start e) in
             let p = passed q w hw goes in
             let m = st.chain q p.0 w p.1 hw in
             let g : stage_created P w.body.start w.body.found ≤ stage_created P w.body.start x.past = created_grows P w.body.start (suffix_linear k fu (omega arith)) in
@@ -207,11 +207,11 @@ module _ {S : Type 0} (P : Program S) (main : Start S) (cells : List ℕ) (z : R
             num_w : stage_created P w.body.start b.past ≡ k
             num_w = subst (λ (y : Start S). stage_created P y b.past ≡ k) (sym sw) b.number
 
-            goes : {p : List ℕ} → b.past ≡ p → Stops (stage_act P w.body.start p) → ⊥
+            goes : {p : List ℕ} → b.past ≡ p → IsHalt (stage_act P w.body.start p) → ⊥
             goes e2 h = no_stop (subst (λ (y : List ℕ). stage_act P w.body.start y ≡ Created b.order false) e2 act_w) h
               where
-                no_stop : {a : Act S} → a ≡ Created b.order false → Stops a → ⊥
-                no_stop e3 h3 = subst Stops e3 h3
+                no_stop : {a : Act S} → a ≡ Created b.order false → IsHalt a → ⊥
+                no_stop e3 h3 = subst IsHalt e3 h3
 
             split : (length b.past < length w.body.found) ⊎ (length w.body.found ≡ length b.past) → Where (k ∷ q) x
             split (inl l) =
@@ -244,7 +244,7 @@ module _ {S : Type 0} (P : Program S) (main : Start S) (cells : List ℕ) (z : R
                 equal : (length over.task.body.found < length u.body.found) ⊎ (length u.body.found ≡ length over.task.body.found) → u.body.found ≡ over.task.body.found
                 equal (inl l) =
                     let n = next_of k l in
-                    absurd (made.goes z.active u over.task.body.found n.0 h2 n.1 (subst (λ (y : Start S). Stops (stage_act P y over.task.body.found)) c.start over.stops))
+                    absurd (made.goes z.active u over.task.body.found n.0 h2 n.1 (subst (λ (y : Start S). IsHalt (stage_act P y over.task.body.found)) c.start over.stops))
                 equal (inr l) = sym (suffix_full k (omega arith))
             found_same c h2 (inr k) = equal (lt_or (length over.task.body.found) (length u.body.found) (suffix_length k))
               where
@@ -286,11 +286,11 @@ module _ {S : Type 0} (P : Program S) (main : Start S) (cells : List ℕ) (z : R
       path_t = path_found s.tasks p t at_
 
       -- no open task of s stands before the least one
-      no_open : (q : List ℕ) (u : Task S) → At s q u → (is_over P u.body ≡ true → ⊥) → IsEarlierEvent P (stage_of u.body) (stage_of t.body) → ⊥
+      no_open : (q : List ℕ) (u : Task S) → At s q u → (is_ended P u.body ≡ true → ⊥) → IsEarlierEvent P (stage_of u.body) (stage_of t.body) → ⊥
       no_open q u h open_ (inl l) =
           let pu = path_found s.tasks q u h in
           open_ (least q u h (subst (λ (y : List ℕ). IsBefore (reverse (created_now P u.body ∷ y)) (reverse (created_now P t.body ∷ p))) pu
-          (subst (λ (y : List ℕ). IsBefore (reverse (created_now P u.body ∷ u.body.start.path)) (reverse (created_now P t.body ∷ y))) path_t l))).over
+          (subst (λ (y : List ℕ). IsBefore (reverse (created_now P u.body ∷ u.body.start.path)) (reverse (created_now P t.body ∷ y))) path_t l))).ended
       no_open q u h open_ (inr l) =
           let e : u.body.start.path ≡ t.body.start.path = cc (l.0) in
           let q2 : q ≡ p = sym (path_found s.tasks q u h) ∙ (e ∙ path_t) in
@@ -324,7 +324,7 @@ module _ {S : Type 0} (P : Program S) (main : Start S) (cells : List ℕ) (z : R
           let k = active_in_s (λ e h b. caught_before e (event_trans P e (stage_of over.task.body) (stage_of t.body) b l) h) in
           let live = st.alive over.task over.at_ (λ e. no_way (subst (λ (y : List ℕ). IsSuffix (j ∷ a) y) e way)) in
           let same : k.0.body ≡ over.task.body = λ i. record { start = k.2 i; found = k.3 i } in
-          let open_ : is_over P k.0.body ≡ true → ⊥ = λ o. let x : true ≡ false = sym o ∙ (ap (λ (y : Body S). is_over P y) same ∙ live) in cc in
+          let open_ : is_ended P k.0.body ≡ true → ⊥ = λ o. let x : true ≡ false = sym o ∙ (ap (λ (y : Body S). is_ended P y) same ∙ live) in cc in
           no_open z.active k.0 k.1 open_ (subst (λ (y : Body S). IsEarlierEvent P (stage_of y) (stage_of t.body)) (sym same) l)
         where
           no_way : IsSuffix (j ∷ a) [] → ⊥
@@ -334,15 +334,15 @@ module _ {S : Type 0} (P : Program S) (main : Start S) (cells : List ℕ) (z : R
       pub fault_is : IsFault (act_now P t.body) → (z.active ≡ p) × (over.task.body ≡ t.body) × ((e : Event S) → Happened z.state e → Happened s e)
       fault_is fault = go (where_is p (stage_of t.body) path_t t at_ refl whole)
         where
-          stops : Stops (act_now P t.body)
+          stops : IsHalt (act_now P t.body)
           stops = fault_stops (act_now P t.body) fault
             where
-              fault_stops : (a : Act S) → IsFault a → Stops a
+              fault_stops : (a : Act S) → IsFault a → IsHalt a
               fault_stops (Fault kind line key) h = tt
               fault_stops Over h = tt
               fault_stops _ h = absurd h
 
-          not_ended : is_over P t.body ≡ true → ⊥
+          not_ended : is_ended P t.body ≡ true → ⊥
           not_ended o = no_fault (act_now P t.body) (over_stops P t.body.start t.body.found o) fault
             where
               no_fault : (a : Act S) → a ≡ Over → IsFault a → ⊥
@@ -369,28 +369,28 @@ module _ {S : Type 0} (P : Program S) (main : Start S) (cells : List ℕ) (z : R
               split : (length t.body.found < length w.body.found) ⊎ (length w.body.found ≡ length t.body.found) → (z.active ≡ p) × (over.task.body ≡ t.body) × ((e : Event S) → Happened z.state e → Happened s e)
               split (inl l) =
                   let n = next_of fw l in
-                  absurd (st.made.goes p w t.body.found n.0 hw n.1 (subst (λ (y : Start S). Stops (stage_act P y t.body.found)) (sym sw) stops))
+                  absurd (st.made.goes p w t.body.found n.0 hw n.1 (subst (λ (y : Start S). IsHalt (stage_act P y t.body.found)) (sym sw) stops))
               split (inr l) =
                   let same_found : t.body.found ≡ w.body.found = suffix_full fw (omega arith) in
                   let same : w.body ≡ t.body = λ i. record { start = sw i; found = sym same_found i } in
                   chain_of (st.others p w hw) w hw same
                 where
-                  chain_of : IsSuffix p z.active ⊎ (is_over P w.body ≡ true) → (w : Task S) → At z.state p w → w.body ≡ t.body → (z.active ≡ p) × (over.task.body ≡ t.body) × ((e : Event S) → Happened z.state e → Happened s e)
+                  chain_of : IsSuffix p z.active ⊎ (is_ended P w.body ≡ true) → (w : Task S) → At z.state p w → w.body ≡ t.body → (z.active ≡ p) × (over.task.body ≡ t.body) × ((e : Event S) → Happened z.state e → Happened s e)
                   chain_of (inl k) w hw same = here_ w hw same k
                   chain_of (inr o) w2 hw2 same2 =
                       let m = at_same z.state p w w2 hw hw2 in
-                      absurd (not_ended (subst (λ (y : Body S). is_over P y ≡ true) (ap (λ (y : Task S). y.body) m ∙ same2) o))
+                      absurd (not_ended (subst (λ (y : Body S). is_ended P y ≡ true) (ap (λ (y : Task S). y.body) m ∙ same2) o))
 
     -- where every task of s is closed, the run is over at main's end, and has done the same
     module _ (closed : (q : List ℕ) (u : Task S) → At s q u → IsClosed P q u) where
       all_caught : (e : Event S) → Happened z.state e → Happened s e
-      all_caught e h = caught (λ g. Unit {0}) (λ g i k l. tt) (λ q g path l b. b.open_ (closed q b.task b.at_).over) e.start.path e refl tt h
+      all_caught e h = caught (λ g. Unit {0}) (λ g i k l. tt) (λ q g path l b. b.open_ (closed q b.task b.at_).ended) e.start.path e refl tt h
 
-      pub run_ended : is_over P over.task.body ≡ true
+      pub run_ended : is_ended P over.task.body ≡ true
       run_ended =
           let k = active_in_s (λ e h b. all_caught e h) in
           let same : k.0.body ≡ over.task.body = λ i. record { start = k.2 i; found = k.3 i } in
-          subst (λ (y : Body S). is_over P y ≡ true) same (closed z.active k.0 k.1).over
+          subst (λ (y : Body S). is_ended P y ≡ true) same (closed z.active k.0 k.1).ended
 
       at_main : z.active ≡ []
       at_main = go (which_path z.active [])
@@ -410,7 +410,7 @@ module _ {S : Type 0} (P : Program S) (main : Start S) (cells : List ℕ) (z : R
           go (beyond j a i l) = absurd (no_way j a (subst (λ (y : List ℕ). IsSuffix (j ∷ a) y) at_main i))
 
       -- a fold into a slot of a closed task is joined
-      joined : (c : ℕ) (e : Event S) (h : Happened s e) → Changes (stage_act P e.start e.past) c true → In c h.task.given
+      joined : (c : ℕ) (e : Event S) (h : Happened s e) → Changes (stage_act P e.start e.past) c true → IsIn c h.task.given
       joined c e h k =
           let ct = change_touch k in
           let fd = ct.fold refl in
@@ -420,7 +420,7 @@ module _ {S : Type 0} (P : Program S) (main : Start S) (cells : List ℕ) (z : R
           let right : (right_of h.task.body.start.context) c ≡ Holds (Fold fd.0) true = subst (λ (y : Start S). (right_of y.context) c ≡ Holds (Fold fd.0) true) (sym h.start) (r.holds ∙ ap (λ (y : Mode). Holds y true) m) in
           go e.start.path h.at_ right
         where
-          go : (q : List ℕ) → At s q h.task → {op : Op} → (right_of h.task.body.start.context) c ≡ Holds (Fold op) true → In c h.task.given
+          go : (q : List ℕ) → At s q h.task → {op : Op} → (right_of h.task.body.start.context) c ≡ Holds (Fold op) true → IsIn c h.task.given
           go [] at_ {op = op} right =
               let same = at_same s [] h.task made.main_task at_ made.main_at in
               let r2 : (right_of main.context) c ≡ Holds (Fold op) true = subst (λ (y : Start S). (right_of y.context) c ≡ Holds (Fold op) true) made.main_start (subst (λ (y : Task S). (right_of y.body.start.context) c ≡ Holds (Fold op) true) same right) in
@@ -435,10 +435,10 @@ module _ {S : Type 0} (P : Program S) (main : Start S) (cells : List ℕ) (z : R
           let w = (recalls P main cells set_.starts set_.memory z run).value c l in
           v.value ∙ (ap (λ (y : List (Event S)). replay P y (slice_index cells c)) (sorted_one P v.list w.list v.sorted w.sorted (λ e i. forth w e (v.only e i)) (λ e i. back v e (w.only e i))) ∙ sym w.value)
         where
-          forth : (w : RunValue P z cells c) (e : Event S) → DoneChange P s c e → In e w.list
+          forth : (w : RunValue P z cells c) (e : Event S) → DoneChange P s c e → IsIn e w.list
           forth w e d = w.all e (record { slot = d.slot; changes = d.changes; happened = all_back e d.happened })
 
-          back : (v : IsValue P s cells c) (e : Event S) → RunChange P z c e → In e v.list
+          back : (v : IsValue P s cells c) (e : Event S) → RunChange P z c e → IsIn e v.list
           back v e d =
               let h = all_caught e d.happened in
               v.all e (record { slot = d.slot; changes = d.changes; happened = h; joined = λ x. joined c e h (subst (λ (y : Bool). Changes (stage_act P e.start e.past) c y) x d.changes) })
@@ -446,7 +446,7 @@ module _ {S : Type 0} (P : Program S) (main : Start S) (cells : List ℕ) (z : R
 pub every_stop_is_the_answer : (S : Type 0) → EveryStopIsTheAnswer S
 every_stop_is_the_answer S P main cells z over s set_ run a none = go (progress P main cells s a.made set_.memory)
   where
-    go : Outlook P main cells s a.made set_.memory → StopsAs P cells z over s
+    go : Outlook P main cells s a.made set_.memory → IsStoppedAs P cells z over s
     go (Outlook.finished f) =
         ended f (run_ended P main cells z s set_ run a over f) (record { forth = λ e h. all_caught P main cells z s set_ run a over f e h; back = λ e h. all_back P main cells z s set_ run a over f e h }) (λ c l. cells_same P main cells z s set_ run a over f c l)
     go (Outlook.moves_on m) = absurd (none m)

@@ -7,10 +7,10 @@ use Rattle.oss_syntax.specs.declared.access.Op.TheVariants.{Add, And, Or, Xor}
 use Rattle.oss_syntax.specs.declared.access.Mode.TheVariants.{Read, Write, Fold}
 use Rattle.oss_model.specs.declared.answer.FaultKind.{FaultKind}
 use Rattle.std.specs.Prelude.{◌||◌, if◌then◌else◌}
-use Rattle.oss_model.specs.Order.{In, here, there}
+use Rattle.oss_model.specs.Order.{IsIn, here, there}
 use Rattle.oss_model.specs.Rights.{Right, NoRight, Released, Holds, Reads, Writes, Folds, covers, touch_fault, in_access, right_from, join_modes, join_held, join_right, Free}
 use Rattle.oss_model.specs.Context.{Context, clause_fault, child_context, in_clauses, create_fault, release_fault, wait_on_fault, tick_fault, right_of, lent_of, release, lend_cell, or_else, creation_fault}
-use Rattle.oss_model.specs.Bodies.{Order, Ask, Program, Act, Frame, Stack, Start, judged, act_of_ask, asked, frame_act, stack_act, answer, child_frame, count_one, lend_when, frame_after, includes, base_after, inner_after, stepped, passed, pass, settle, settle_stack, next_stack, start_frame, stack_from}
+use Rattle.oss_model.specs.Bodies.{Order, Ask, Program, Act, Frame, Stack, Start, judged_act, act_of_ask, ask_of, frame_act, stack_act, answered_frame, child_frame, one_more_created, lent_when, frame_after, including_frame, base_after, inner_after, stack_after, past_ask, past_silent, settled_frame, settled_parts, next_stack, start_frame, stack_from, IsHalt}
 use Rattle.oss_model.specs.Bodies.Act.{Ticked, Load, Store, Folded, Created, Awaited, Waited, WaitedOn, Releases, Printed, Ended, Fault, Over}
 use Rattle.oss_model.proofs.ContextLemmas.{same_right, entry_cases, child_right}
 use Rattle.oss_model.proofs.JudgeLemmas.{Covered, covers_trans, clauses_covered}
@@ -38,11 +38,11 @@ released_right clauses x c = go (entry_cases (λ d. record { right = if in_claus
     go (inl e) (inr h) = inr (e ∙ h)
     go (inr e) h = inl (e.0 ∙ sym e.1)
 
-lend_when_right : (w : Bool) (given : ℕ → Right) (x : Context) (c : ℕ) → (right_of (lend_when w given x)) c ≡ (right_of x) c
+lend_when_right : (w : Bool) (given : ℕ → Right) (x : Context) (c : ℕ) → (right_of (lent_when w given x)) c ≡ (right_of x) c
 lend_when_right true given x c = same_right (λ d. record { right = right_of x d; lent = lend_cell (given d) (lent_of x d) }) x c refl
 lend_when_right false given x c = refl
 
-lend_when_final : (w : Bool) (given : ℕ → Right) (x : Context) → (lend_when w given x).final ≡ x.final
+lend_when_final : (w : Bool) (given : ℕ → Right) (x : Context) → (lent_when w given x).final ≡ x.final
 lend_when_final true given x = refl
 lend_when_final false given x = refl
 
@@ -51,8 +51,8 @@ frame_after_kept Ticked v f = record { path = refl; final = refl; right = λ c. 
 frame_after_kept (Created o included) v f =
     record {
       path = refl;
-      final = lend_when_final o.when (right_of (child_context f.context o.clauses o.last)) (count_one f.context);
-      right = λ c. inl (lend_when_right o.when (right_of (child_context f.context o.clauses o.last)) (count_one f.context) c);
+      final = lend_when_final o.when (right_of (child_context f.context o.clauses o.last)) (one_more_created f.context);
+      right = λ c. inl (lend_when_right o.when (right_of (child_context f.context o.clauses o.last)) (one_more_created f.context) c);
     }
 frame_after_kept Awaited v f = record { path = refl; final = refl; right = λ c. inl refl }
 frame_after_kept Waited v f = record { path = refl; final = refl; right = λ c. inl (same_right (λ d. record { right = right_of f.context d; lent = Free }) f.context c refl) }
@@ -66,34 +66,28 @@ pub record SameButAnswers {S : Type 0} (f g : Frame S) : Type 0 where
   pub path : g.path ≡ f.path
   pub awaits : g.awaits ≡ f.awaits
 
-passed_same : {S : Type 0} (P : Program S) (f : Frame S) (a : Ask S) → SameButAnswers f (passed P f a)
+passed_same : {S : Type 0} (P : Program S) (f : Frame S) (a : Ask S) → SameButAnswers f (past_ask P f a)
 passed_same P f Ask.Begin = split (create_fault f.context)
   where
-    split : (o : Option FaultKind) → SameButAnswers f (elim o [ None ↦ answer 0 f | Some kind ↦ f ])
+    split : (o : Option FaultKind) → SameButAnswers f (elim o [ None ↦ answered_frame 0 f | Some kind ↦ f ])
     split None = record { context = refl; path = refl; awaits = refl }
     split (Some kind) = record { context = refl; path = refl; awaits = refl }
 passed_same P f Ask.Await = split f.awaits
   where
-    split : (b : Bool) → SameButAnswers f (if b then f else answer 0 f)
+    split : (b : Bool) → SameButAnswers f (if b then f else answered_frame 0 f)
     split true = record { context = refl; path = refl; awaits = refl }
     split false = record { context = refl; path = refl; awaits = refl }
 passed_same P f _ = record { context = refl; path = refl; awaits = refl }
 
-pub settle_same : {S : Type 0} (P : Program S) (f : Frame S) → SameButAnswers f (settle P f)
+pub settle_same : {S : Type 0} (P : Program S) (f : Frame S) → SameButAnswers f (settled_frame P f)
 settle_same P f =
-    let a = passed_same P f (asked P f).ask in
-    let b = passed_same P (pass P f) (asked P (pass P f)).ask in
+    let a = passed_same P f (ask_of P f).ask in
+    let b = passed_same P (past_silent P f) (ask_of P (past_silent P f)).ask in
     record { context = b.context ∙ a.context; path = b.path ∙ a.path; awaits = b.awaits ∙ a.awaits }
 
--- an act that is a fault, or that is none
-abbrev pub Stops : {S : Type 0} → Act S → Type 0
-Stops (Fault kind line key) = Unit {0}
-Stops Over = Unit {0}
-Stops _ = ⊥
-
-pub judged_goes : {S : Type 0} (f : Frame S) (line : ℕ) (r : Option FaultKind) (act a : Act S) → judged f line r act ≡ a → (Stops a → ⊥) → (r ≡ None) × (act ≡ a)
+pub judged_goes : {S : Type 0} (f : Frame S) (line : ℕ) (r : Option FaultKind) (act a : Act S) → judged_act f line r act ≡ a → (IsHalt a → ⊥) → (r ≡ None) × (act ≡ a)
 judged_goes f line None act a h g = (refl, h)
-judged_goes f line (Some kind) act a h g = absurd (g (subst Stops h tt))
+judged_goes f line (Some kind) act a h g = absurd (g (subst IsHalt h tt))
 
 creation_clauses : (a b : Option FaultKind) → or_else a b ≡ None → b ≡ None
 creation_clauses None b h = h
@@ -125,7 +119,7 @@ created_by slots inc f (Ask.Fails kind) line o i h = cc
 
 frame_created : {S : Type 0} (P : Program S) (slots : ℕ → Right) (inc : Bool) (f : Frame S) (w : Bool) (o : Order S) (i : Bool) → frame_act P slots inc f w ≡ Created o i → CreatedBy f o i
 frame_created P slots inc f true o i h = cc
-frame_created P slots inc f false o i h = created_by slots inc f (asked P f).ask (asked P f).line o i h
+frame_created P slots inc f false o i h = created_by slots inc f (ask_of P f).ask (ask_of P f).line o i h
 
 -- a creation of the task itself, and one of a task that it includes
 pub base_created : {S : Type 0} (P : Program S) (slots : ℕ → Right) (base : Frame S) (over : Bool) (o : Order S) (i : Bool) → stack_act P slots base [] over ≡ Created o i → CreatedBy base o i
@@ -145,9 +139,9 @@ pub record StackOk {S : Type 0} (x : Context) (p : List ℕ) (base : Frame S) (i
   pub path : base.path ≡ p
   pub final : base.context.final ≡ x.final
   pub right : (c : ℕ) → ((right_of base.context) c ≡ (right_of x) c) ⊎ ((right_of base.context) c ≡ Released)
-  pub inner : (f : Frame S) → In f included → InnerOk base.context f
+  pub inner : (f : Frame S) → IsIn f included → InnerOk base.context f
 
-no_inner : {S : Type 0} (f : Frame S) {A : Type 0} → In f [] → A
+no_inner : {S : Type 0} (f : Frame S) {A : Type 0} → IsIn f [] → A
 no_inner f h = elim h [ ]
 
 pub lost_right : (r s t : Right) → (s ≡ r) ⊎ (s ≡ Released) → (t ≡ s) ⊎ (t ≡ Released) → (t ≡ r) ⊎ (t ≡ Released)
@@ -182,7 +176,7 @@ top_kept : {S : Type 0} {x : Context} {path : List ℕ} {base f g : Frame S} {fs
 top_kept {base = base} {f = f} {g = g} {fs = fs} ok k =
     record { path = ok.path; final = ok.final; right = ok.right; inner = λ h i. go h i }
   where
-    go : (h : Frame _) → In h (g ∷ fs) → InnerOk base.context h
+    go : (h : Frame _) → IsIn h (g ∷ fs) → InnerOk base.context h
     go h here = inner_kept (ok.inner f here) k
     go h (there i) = ok.inner h (there i)
 
@@ -204,7 +198,7 @@ final_strong final (a ∷ rest) c m strong f h = split (in_access a c) refl (λ 
     split true e g = joined (right_from final rest c) (rw e at h)
     split false e g = g e
 
-nothing_lost : {S : Type 0} (f : Frame S) → FrameKept f (includes f)
+nothing_lost : {S : Type 0} (f : Frame S) → FrameKept f (including_frame f)
 nothing_lost f = record { path = refl; final = refl; right = λ c. inl refl }
 
 pub or_true : (a b : Bool) → a ≡ true → (a || b) ≡ true
@@ -224,12 +218,12 @@ child_ok x f o fin own none cov =
           (final_strong (f.context.final || o.last) o.clauses c m strong (or_true f.context.final o.last fin) h2, record { mode = l.mode; strong = l.strong; holds = l.holds; covers = covers_trans l.mode k.mode m l.covers k.covers });
     }
 
-one_inner : {S : Type 0} {x : Context} {p : List ℕ} {base f g : Frame S} → StackOk x p base [] → FrameKept base g → g.context ≡ count_one base.context → InnerOk base.context f → StackOk x p g (f ∷ [])
+one_inner : {S : Type 0} {x : Context} {p : List ℕ} {base f g : Frame S} → StackOk x p base [] → FrameKept base g → g.context ≡ one_more_created base.context → InnerOk base.context f → StackOk x p g (f ∷ [])
 one_inner {base = base} {f = f} {g = g} ok k e i =
     let b = base_kept ok k in
     record { path = b.path; final = b.final; right = b.right; inner = λ h j. go h j }
   where
-    go : (h : Frame _) → In h (f ∷ []) → InnerOk g.context h
+    go : (h : Frame _) → IsIn h (f ∷ []) → InnerOk g.context h
     go h here =
         record {
           final = i.final;
@@ -241,7 +235,7 @@ one_inner {base = base} {f = f} {g = g} ok k e i =
 deeper : {S : Type 0} {x : Context} {p : List ℕ} {base f g : Frame S} {fs : List (Frame S)} → StackOk x p base (f ∷ fs) → InnerOk base.context g → StackOk x p base (g ∷ f ∷ fs)
 deeper {base = base} {f = f} {g = g} {fs = fs} ok i = record { path = ok.path; final = ok.final; right = ok.right; inner = λ h j. go h j }
   where
-    go : (h : Frame _) → In h (g ∷ f ∷ fs) → InnerOk base.context h
+    go : (h : Frame _) → IsIn h (g ∷ f ∷ fs) → InnerOk base.context h
     go h here = i
     go h (there j) = ok.inner h j
 
@@ -293,23 +287,23 @@ inner_step P slots x p base f fs over v (Printed key text) h ok = top_kept ok (f
 inner_step P slots x p base f fs over v (Fault kind line key) h ok = top_kept ok (frame_after_kept (Fault kind line key) v f)
 inner_step P slots x p base f fs over v Over h ok = top_kept ok (frame_after_kept Over v f)
 
-pub settle_kept : {S : Type 0} (P : Program S) (f : Frame S) → FrameKept f (settle P f)
+pub settle_kept : {S : Type 0} (P : Program S) (f : Frame S) → FrameKept f (settled_frame P f)
 settle_kept P f =
     let k = settle_same P f in
     record { path = k.path; final = ap (λ (x : Context). x.final) k.context; right = λ c. inl (ap (λ (x : Context). (right_of x) c) k.context) }
 
-settle_ok : {S : Type 0} (P : Program S) (x : Context) (p : List ℕ) (base : Frame S) (inner : List (Frame S)) (over : Bool) → StackOk x p base inner → StackOk x p (settle_stack P base inner over).base (settle_stack P base inner over).inner
+settle_ok : {S : Type 0} (P : Program S) (x : Context) (p : List ℕ) (base : Frame S) (inner : List (Frame S)) (over : Bool) → StackOk x p base inner → StackOk x p (settled_parts P base inner over).base (settled_parts P base inner over).inner
 settle_ok P x p base [] over ok = base_kept ok (settle_kept P base)
 settle_ok P x p base (f ∷ fs) over ok = top_kept ok (settle_kept P f)
 
 step_ok : {S : Type 0} (P : Program S) (slots : ℕ → Right) (x : Context) (p : List ℕ) (base : Frame S) (inner : List (Frame S)) (over : Bool) (v : ℕ) → StackOk x p base inner
-    → StackOk x p (stepped (stack_act P slots base inner over) v base inner).base (stepped (stack_act P slots base inner over) v base inner).inner
+    → StackOk x p (stack_after (stack_act P slots base inner over) v base inner).base (stack_after (stack_act P slots base inner over) v base inner).inner
 step_ok P slots x p base [] over v ok = base_step P slots x p base over v (stack_act P slots base [] over) refl ok
 step_ok P slots x p base (f ∷ fs) over v ok = inner_step P slots x p base f fs over v (stack_act P slots base (f ∷ fs) over) refl ok
 
 pub next_ok : {S : Type 0} (P : Program S) (slots : ℕ → Right) (x : Context) (p : List ℕ) (v : ℕ) (s : Stack S) → StackOk x p s.base s.inner → StackOk x p (next_stack P slots v s).base (next_stack P slots v s).inner
 next_ok P slots x p v s ok =
-    settle_ok P x p _ _ (stepped (stack_act P slots s.base s.inner s.over) v s.base s.inner).over (step_ok P slots x p s.base s.inner s.over v ok)
+    settle_ok P x p _ _ (stack_after (stack_act P slots s.base s.inner s.ended) v s.base s.inner).ended (step_ok P slots x p s.base s.inner s.ended v ok)
 
 pub stack_ok : {S : Type 0} (P : Program S) (b : Start S) (past : List ℕ) → StackOk b.context b.path (stack_from P b past).base (stack_from P b past).inner
 unfolding stack_from

@@ -6,24 +6,24 @@ use Rattle.oss_syntax.specs.declared.access.Mode.TheVariants.{Write}
 use Rattle.std.specs.Prelude.{◌||◌}
 use Rattle.std.proofs.lemmas.List.{get_or_past}
 use Rattle.oss_model.specs.Rights.{NoRight, Holds, Free, right_from}
-use Rattle.oss_model.specs.Context.{Entry, Context, no_entry, right_of, lent_of, tabled, with_entries, child_context, main_context}
+use Rattle.oss_model.specs.Context.{Entry, Context, no_entry, right_of, lent_of, table_from, with_entries, child_context, main_context}
 
-pub tabled_in : {A : Type 0} (f : ℕ → A) (k n c : ℕ) (d : A) → c < n → get_or (tabled f k n) c d ≡ f (k + c)
-unfolding tabled
+pub tabled_in : {A : Type 0} (f : ℕ → A) (k n c : ℕ) (d : A) → c < n → get_or (table_from f k n) c d ≡ f (k + c)
+unfolding table_from
 tabled_in f k zero c d l = absurd (omega arith)
 tabled_in f k (suc n) zero d l = ap f (omega arith)
 tabled_in f k (suc n) (suc c) d l = tabled_in f (suc k) n c d (omega arith) ∙ ap f (omega arith)
 
-pub length-tabled : {A : Type 0} (f : ℕ → A) (k n : ℕ) → length (tabled f k n) ≡ n
-unfolding tabled
-length-tabled f k zero = refl
-length-tabled f k (suc n) = ap suc (length-tabled f (suc k) n)
+pub length-table_from : {A : Type 0} (f : ℕ → A) (k n : ℕ) → length (table_from f k n) ≡ n
+unfolding table_from
+length-table_from f k zero = refl
+length-table_from f k (suc n) = ap suc (length-table_from f (suc k) n)
 
-pub tabled_at : {A : Type 0} (f : ℕ → A) (n c : ℕ) (d : A) → c < n → get_or (tabled f 0 n) c d ≡ f c
+pub tabled_at : {A : Type 0} (f : ℕ → A) (n c : ℕ) (d : A) → c < n → get_or (table_from f 0 n) c d ≡ f c
 tabled_at f n c d l = tabled_in f 0 n c d l ∙ ap f (omega arith)
 
-pub tabled_past : {A : Type 0} (f : ℕ → A) (n c : ℕ) (d : A) → n ≤ c → get_or (tabled f 0 n) c d ≡ d
-tabled_past f n c d l = get_or_past (tabled f 0 n) c d (let k = length-tabled f 0 n in omega arith)
+pub tabled_past : {A : Type 0} (f : ℕ → A) (n c : ℕ) (d : A) → n ≤ c → get_or (table_from f 0 n) c d ≡ d
+tabled_past f n c d l = get_or_past (table_from f 0 n) c d (let k = length-table_from f 0 n in omega arith)
 
 le_or : (m n : ℕ) → (m < n) ⊎ (n ≤ m)
 le_or m n = grind arith
@@ -69,7 +69,7 @@ pub child_right : (x : Context) (clauses : List Access) (last : Bool) (c : ℕ) 
 unfolding child_entry
 child_right x clauses last c m strong h =
     let k = right_within (child_context x clauses last) c m strong h in
-    let n : length (tabled (child_entry x clauses last) 0 (length x.entries)) ≡ length x.entries = length-tabled (child_entry x clauses last) 0 (length x.entries) in
+    let n : length (table_from (child_entry x clauses last) 0 (length x.entries)) ≡ length x.entries = length-table_from (child_entry x clauses last) 0 (length x.entries) in
     let l : c < length x.entries = omega arith in
     (sym (ap (λ (e : Entry). e.right) (tabled_at (child_entry x clauses last) (length x.entries) c no_entry l)) ∙ h, l)
 
@@ -81,7 +81,7 @@ pub main_right : (cells fuel c : ℕ) (m : Mode) (strong : Bool) → right_of (m
 unfolding main_entry
 main_right cells fuel c m strong h =
     let k = right_within (main_context cells fuel) c m strong h in
-    let n : length (tabled main_entry 0 cells) ≡ cells = length-tabled main_entry 0 cells in
+    let n : length (table_from main_entry 0 cells) ≡ cells = length-table_from main_entry 0 cells in
     let l : c < cells = omega arith in
     let e : Holds Write true ≡ Holds m strong = sym (ap (λ (e : Entry). e.right) (tabled_at main_entry cells c no_entry l)) ∙ h in
     (l, cc (e))

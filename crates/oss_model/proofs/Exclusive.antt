@@ -10,7 +10,7 @@ use Rattle.oss_model.specs.Bodies.{Order, Program, Act, Start, Touches, load, st
 use Rattle.oss_model.specs.Bodies.Act.{Created}
 use Rattle.oss_model.specs.Machine.{Task, State, At, find, same_path, IsReady}
 use Rattle.oss_model.specs.History.{IsMade, IsStarted}
-use Rattle.oss_model.specs.Moves.{act_now, answered, found_by, cells_after, CanStep, Stepped}
+use Rattle.oss_model.specs.Moves.{act_now, after_answer, found_by, cells_after, CanStep, Stepped}
 use Rattle.oss_model.specs.Memory.{Event, place, IsEarlierEvent}
 use Rattle.oss_model.proofs.ContextLemmas.{main_right}
 use Rattle.oss_model.proofs.OrderLemmas.{Compared, compare}
@@ -25,7 +25,7 @@ same_self (x ∷ p) = grind (arith, nat_tests, same_self p)
 
 -- the state after a step that makes no task
 after : {S : Type 0} → Program S → State S → Task S → State S
-after P s t = record { cells = cells_after (act_now P t.body) s.cells; tasks = answered (found_by (act_now P t.body) s.cells) t ∷ s.tasks }
+after P s t = record { cells = cells_after (act_now P t.body) s.cells; tasks = after_answer (found_by (act_now P t.body) s.cells) t ∷ s.tasks }
 
 after_step : {S : Type 0} (P : Program S) (s : State S) (p : List ℕ) (t : Task S) → At s p t → ((o : Order S) → act_now P t.body ≢ Created o false) → Stepped P s p t (after P s t)
 unfolding after find
@@ -34,13 +34,13 @@ after_step {S = S} P s p t h none =
     record {
       cells = refl;
       tasks = record {
-        own = subst (λ (q : List ℕ). find (answered (found_by (act_now P t.body) s.cells) t ∷ s.tasks) q ≡ Some (answered (found_by (act_now P t.body) s.cells) t)) e (rw (same_self t.body.start.path) refl);
+        own = subst (λ (q : List ℕ). find (after_answer (found_by (act_now P t.body) s.cells) t ∷ s.tasks) q ≡ Some (after_answer (found_by (act_now P t.body) s.cells) t)) e (rw (same_self t.body.start.path) refl);
         made = λ o a. absurd (none o a);
         others = λ q ne f. other q ne (same_path t.body.start.path q) refl;
       };
     }
   where
-    other : (q : List ℕ) → q ≢ p → (b : Bool) → same_path t.body.start.path q ≡ b → find (answered (found_by (act_now P t.body) s.cells) t ∷ s.tasks) q ≡ find s.tasks q
+    other : (q : List ℕ) → q ≢ p → (b : Bool) → same_path t.body.start.path q ≡ b → find (after_answer (found_by (act_now P t.body) s.cells) t ∷ s.tasks) q ≡ find s.tasks q
     other q ne true k = absurd (ne (sym (same_path_is t.body.start.path q k) ∙ path_found s.tasks p t h))
     other q ne false k = rw k refl
 
@@ -66,7 +66,7 @@ module _ {S : Type 0} (P : Program S) (main : Start S) (s : State S) (ms : MainS
       let xm = n_made P main s (after P s t) p t ms made started ct step in
       let comp = comp_after P main s (after P s t) p t ms made started ct step in
       let e : Event S = record { start = t.body.start; past = t.body.found; answer = v } in
-      let tin : TouchIn P main (after P s t) s ms xm made started comp e c a false = record { task = answered v t; at_ = subst (λ (z : List ℕ). At (after P s t) z (answered v t)) (sym pt) step.tasks.own; start = refl; found = whole; touches = ha } in
+      let tin : TouchIn P main (after P s t) s ms xm made started comp e c a false = record { task = after_answer v t; at_ = subst (λ (z : List ℕ). At (after P s t) z (after_answer v t)) (sym pt) step.tasks.own; start = refl; found = whole; touches = ha } in
       let gr : Granted P main (after P s t) s ms xm made started comp (stage_of u.body) c b false =
       record { task = u; at_ = subst (λ (z : List ℕ). At s z u) (sym pu) cu.at_; start = refl; stage = whole; touches = hb; direct = λ k. subst (λ (z : List ℕ). IsReady s z u.body.start.context) (sym pu) (ready_now q u cu); joined = λ op k1 k2. absurd (cc (k2)) } in
       let r = in_order P main (after P s t) s ms xm made started comp e (stage_of u.body) c a b false false tin gr clash (again l) in

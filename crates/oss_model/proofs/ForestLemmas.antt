@@ -1,13 +1,13 @@
 use Rattle.std.proofs.Common.{◌≡◌, ◌⊎◌, inl, inr, sym, subst, ◌∙◌}
 use Rattle.oss_syntax.specs.declared.access.Op.{Op}
-use Rattle.oss_model.specs.Forest.{Forest, Done, SatW, SatR, SatX, IsRead, InRun, done, top_w, child_w, top_r, child_r, top_x, child_fold, child_write}
+use Rattle.oss_model.specs.Forest.{Forest, IsDone, IsWriteSatisfied, IsReadSatisfied, IsJoinSatisfied, IsRead, InRun, done, write_top, write_child, read_top, read_child, join_top, join_below_fold, join_below_write}
 
 -- a later forest: more may be given up, and new accesses stand neither below what was given up nor before an old one
 pub record Grows {K : Type 0} (F G : Forest K) : Type 0 where
   pub given : (u : K) → F.Given u → G.Given u
   pub child : (u v : K) → F.Given u → G.Child u v → F.Child u v
 
-pub done_stays : {K : Type 0} (F G : Forest K) → Grows F G → (u : K) → Done F u → Done G u
+pub done_stays : {K : Type 0} (F G : Forest K) → Grows F G → (u : K) → IsDone F u → IsDone G u
 done_stays F G g u (done here below) =
     done (g.given u here) (λ v c. done_stays F G g v (below v (g.child u v here c)))
 
@@ -26,38 +26,38 @@ pub record Keeps {K : Type 0} (A : K → Type 0) (F G : Forest K) : Type 0 where
   pub earlier_access : (u v : K) → F.Earlier u v → A u
   pub child_access : (u v : K) → F.Child u v → A u
 
-pub sat_w_known : {K : Type 0} (F : Forest K) → (v : K) → SatW F v → Known F v
-sat_w_known F v (top_w t e) = top t
-sat_w_known F v (child_w {p = p} c s e) = below c (sat_w_known F p s)
+pub write_satisfied_known : {K : Type 0} (F : Forest K) → (v : K) → IsWriteSatisfied F v → Known F v
+write_satisfied_known F v (write_top t e) = top t
+write_satisfied_known F v (write_child {p = p} c s e) = below c (write_satisfied_known F p s)
 
-pub sat_r_known : {K : Type 0} (F : Forest K) → (v : K) → SatR F v → Known F v
-sat_r_known F v (top_r t e) = top t
-sat_r_known F v (child_r {p = p} c s e) = below c (sat_r_known F p s)
+pub read_satisfied_known : {K : Type 0} (F : Forest K) → (v : K) → IsReadSatisfied F v → Known F v
+read_satisfied_known F v (read_top t e) = top t
+read_satisfied_known F v (read_child {p = p} c s e) = below c (read_satisfied_known F p s)
 
-pub sat_x_known : {K : Type 0} (F : Forest K) (op : Op) → (v : K) → SatX F op v → Known F v
-sat_x_known F op v (top_x t e) = top t
-sat_x_known F op v (child_fold {p = p} c m s e) = below c (sat_x_known F op p s)
-sat_x_known F op v (child_write {p = p} c m s e) = below c (sat_w_known F p s)
+pub join_satisfied_known : {K : Type 0} (F : Forest K) (op : Op) → (v : K) → IsJoinSatisfied F op v → Known F v
+join_satisfied_known F op v (join_top t e) = top t
+join_satisfied_known F op v (join_below_fold {p = p} c m s e) = below c (join_satisfied_known F op p s)
+join_satisfied_known F op v (join_below_write {p = p} c m s e) = below c (write_satisfied_known F p s)
 
-pub sat_w_stays : {K : Type 0} (A : K → Type 0) (F G : Forest K) → Keeps A F G → (v : K) → SatW F v → SatW G v
-sat_w_stays A F G k v (top_w t e) =
-    top_w (k.top v t) (λ u b. done_stays F G k.grows u (e u (k.earlier u v (top t) b)))
-sat_w_stays A F G k v (child_w {p = p} c s e) =
-    child_w (k.child p v c) (sat_w_stays A F G k p s) (λ u b. done_stays F G k.grows u (e u (k.earlier u v (below c (sat_w_known F p s)) b)))
+pub write_satisfied_stays : {K : Type 0} (A : K → Type 0) (F G : Forest K) → Keeps A F G → (v : K) → IsWriteSatisfied F v → IsWriteSatisfied G v
+write_satisfied_stays A F G k v (write_top t e) =
+    write_top (k.top v t) (λ u b. done_stays F G k.grows u (e u (k.earlier u v (top t) b)))
+write_satisfied_stays A F G k v (write_child {p = p} c s e) =
+    write_child (k.child p v c) (write_satisfied_stays A F G k p s) (λ u b. done_stays F G k.grows u (e u (k.earlier u v (below c (write_satisfied_known F p s)) b)))
 
-read_stays : {K : Type 0} (A : K → Type 0) (F G : Forest K) → Keeps A F G → (v : K) → Known F v → ((u : K) → F.Earlier u v → (IsRead (F.mode u) → ⊥) → Done F u) → (u : K) → G.Earlier u v → (IsRead (G.mode u) → ⊥) → Done G u
-read_stays A F G k v known e u b n =
+unread_stay : {K : Type 0} (A : K → Type 0) (F G : Forest K) → Keeps A F G → (v : K) → Known F v → ((u : K) → F.Earlier u v → (IsRead (F.mode u) → ⊥) → IsDone F u) → (u : K) → G.Earlier u v → (IsRead (G.mode u) → ⊥) → IsDone G u
+unread_stay A F G k v known e u b n =
     let b' = k.earlier u v known b in
     done_stays F G k.grows u (e u b' (λ r. n (subst IsRead (sym (k.mode u (k.earlier_access u v b'))) r)))
 
-pub sat_r_stays : {K : Type 0} (A : K → Type 0) (F G : Forest K) → Keeps A F G → (v : K) → SatR F v → SatR G v
-sat_r_stays A F G k v (top_r t e) = top_r (k.top v t) (read_stays A F G k v (top t) e)
-sat_r_stays A F G k v (child_r {p = p} c s e) = child_r (k.child p v c) (sat_r_stays A F G k p s) (read_stays A F G k v (below c (sat_r_known F p s)) e)
+pub read_satisfied_stays : {K : Type 0} (A : K → Type 0) (F G : Forest K) → Keeps A F G → (v : K) → IsReadSatisfied F v → IsReadSatisfied G v
+read_satisfied_stays A F G k v (read_top t e) = read_top (k.top v t) (unread_stay A F G k v (top t) e)
+read_satisfied_stays A F G k v (read_child {p = p} c s e) = read_child (k.child p v c) (read_satisfied_stays A F G k p s) (unread_stay A F G k v (below c (read_satisfied_known F p s)) e)
 
-run_stays : {K : Type 0} (A : K → Type 0) (F G : Forest K) → Keeps A F G → (op : Op) (v : K) → Known F v → ((u w : K) → G.Earlier u w → F.Earlier w v → F.Earlier u w) → ((u : K) → F.Earlier u v → InRun F op u v ⊎ Done F u) → (u : K) → G.Earlier u v → InRun G op u v ⊎ Done G u
+run_stays : {K : Type 0} (A : K → Type 0) (F G : Forest K) → Keeps A F G → (op : Op) (v : K) → Known F v → ((u w : K) → G.Earlier u w → F.Earlier w v → F.Earlier u w) → ((u : K) → F.Earlier u v → InRun F op u v ⊎ IsDone F u) → (u : K) → G.Earlier u v → InRun G op u v ⊎ IsDone G u
 run_stays A F G k op v known mid e u b = go (k.earlier u v known b) (e u (k.earlier u v known b))
   where
-    go : F.Earlier u v → InRun F op u v ⊎ Done F u → InRun G op u v ⊎ Done G u
+    go : F.Earlier u v → InRun F op u v ⊎ IsDone F u → InRun G op u v ⊎ IsDone G u
     go b' (inl r) =
         inl (record {
           first = k.mode u (k.earlier_access u v b') ∙ r.first;
@@ -69,9 +69,9 @@ run_stays A F G k op v known mid e u b = go (k.earlier u v known b) (e u (k.earl
 abbrev pub Between : {K : Type 0} → Forest K → Forest K → Type 0
 Between {K} F G = (u w v : K) → G.Earlier u w → F.Earlier w v → F.Earlier u w
 
-pub sat_x_stays : {K : Type 0} (A : K → Type 0) (F G : Forest K) → Keeps A F G → Between F G → (op : Op) (v : K) → SatX F op v → SatX G op v
-sat_x_stays A F G k m op v (top_x t e) = top_x (k.top v t) (run_stays A F G k op v (top t) (λ u w a b. m u w v a b) e)
-sat_x_stays A F G k m op v (child_fold {p = p} c q s e) =
-    child_fold (k.child p v c) (k.mode p (k.child_access p v c) ∙ q) (sat_x_stays A F G k m op p s) (run_stays A F G k op v (below c (sat_x_known F op p s)) (λ u w a b. m u w v a b) e)
-sat_x_stays A F G k m op v (child_write {p = p} c q s e) =
-    child_write (k.child p v c) (k.mode p (k.child_access p v c) ∙ q) (sat_w_stays A F G k p s) (run_stays A F G k op v (below c (sat_w_known F p s)) (λ u w a b. m u w v a b) e)
+pub join_satisfied_stays : {K : Type 0} (A : K → Type 0) (F G : Forest K) → Keeps A F G → Between F G → (op : Op) (v : K) → IsJoinSatisfied F op v → IsJoinSatisfied G op v
+join_satisfied_stays A F G k m op v (join_top t e) = join_top (k.top v t) (run_stays A F G k op v (top t) (λ u w a b. m u w v a b) e)
+join_satisfied_stays A F G k m op v (join_below_fold {p = p} c q s e) =
+    join_below_fold (k.child p v c) (k.mode p (k.child_access p v c) ∙ q) (join_satisfied_stays A F G k m op p s) (run_stays A F G k op v (below c (join_satisfied_known F op p s)) (λ u w a b. m u w v a b) e)
+join_satisfied_stays A F G k m op v (join_below_write {p = p} c q s e) =
+    join_below_write (k.child p v c) (k.mode p (k.child_access p v c) ∙ q) (write_satisfied_stays A F G k p s) (run_stays A F G k op v (below c (write_satisfied_known F p s)) (λ u w a b. m u w v a b) e)

@@ -2,24 +2,24 @@
 use Rattle.std.proofs.Common.{◌≡◌, ℕ, ◌+◌, ◌<◌, ◌≤◌, ◌⊎◌, inl, inr, refl, sym, subst, ap, List, [], ◌∷◌, arith, Bool, true, false}
 use Rattle.oss_syntax.specs.declared.access.Mode.{Mode}
 use Rattle.oss_syntax.specs.declared.access.Op.{Op}
-use Rattle.oss_model.specs.Forest.{Done, SatW, SatR, SatX}
-use Rattle.oss_model.specs.Order.{IsSuffix, In}
+use Rattle.oss_model.specs.Forest.{IsDone, IsWriteSatisfied, IsReadSatisfied, IsJoinSatisfied}
+use Rattle.oss_model.specs.Order.{IsSuffix, IsIn}
 use Rattle.oss_model.specs.Rights.{Released, Holds}
 use Rattle.oss_model.specs.Context.{Context, right_of}
 use Rattle.oss_model.specs.Bodies.{Order, Program, Act, Start, stack_from, stage_act, stage_created, child_start}
 use Rattle.oss_model.specs.Bodies.Act.{Created, Awaited, Waited, WaitedOn}
-use Rattle.oss_model.specs.Machine.{Task, State, At, find, HasAccess, HasGiven, accesses, IsTop, is_top, IsChild, is_child, IsEarlier, is_earlier, mode_in, IsReady, Owes, IsComplete, complete, WaitMet}
+use Rattle.oss_model.specs.Machine.{Task, State, At, find, HasAccess, HasGiven, accesses, IsTop, is_top, IsChild, is_child, IsEarlier, is_earlier, mode_in, IsReady, Owes, IsComplete, complete, IsWaitMet}
 use Rattle.oss_model.specs.History.{IsMade, IsStarted}
-use Rattle.oss_model.specs.Moves.{act_now, created_now, is_over}
+use Rattle.oss_model.specs.Moves.{act_now, created_now, is_ended}
 use Rattle.oss_model.proofs.StageLemmas.{creating, created_grows, creation_counts}
 use Rattle.oss_model.proofs.TreeLemmas.{at_same, covered_stage, over_stops}
-use Rattle.oss_model.proofs.ForestLemmas.{Grows, Keeps, Known, Between, done_stays, sat_w_stays, sat_r_stays, sat_x_stays}
+use Rattle.oss_model.proofs.ForestLemmas.{Grows, Keeps, Known, Between, done_stays, write_satisfied_stays, read_satisfied_stays, join_satisfied_stays}
 
 -- the task has gone on, and given up more
 pub record TaskGrows {S : Type 0} (u v : Task S) : Type 0 where
   pub start : v.body.start ≡ u.body.start
   pub found : IsSuffix u.body.found v.body.found
-  pub given : (c : ℕ) → In c u.given → In c v.given
+  pub given : (c : ℕ) → IsIn c u.given → IsIn c v.given
 
 -- a task that the next act of its creator makes
 pub record NewTask {S : Type 0} (P : Program S) (s : State S) (q : List ℕ) (v : Task S) : Type 0 where
@@ -64,11 +64,11 @@ module _ {S : Type 0} (P : Program S) (main : Start S) (s n : State S) (made : I
       record { task = u; at_ = h; mode = a.mode; strong = a.strong; right = subst (λ (z : Start S). (right_of z.context) c ≡ Holds a.mode a.strong) k.2.start r }
 
   -- a task that gave up a cell makes no child on it
-  no_new_child : (c : ℕ) (p : List ℕ) (t : Task S) (o : Order S) (v : Task S) (m : Mode) (strong : Bool) → At s p t → In c t.given → act_now P t.body ≡ Created o false
+  no_new_child : (c : ℕ) (p : List ℕ) (t : Task S) (o : Order S) (v : Task S) (m : Mode) (strong : Bool) → At s p t → IsIn c t.given → act_now P t.body ≡ Created o false
       → v.body.start ≡ child_start (stack_from P t.body.start t.body.found).base o → (right_of v.body.start.context) c ≡ Holds m strong → ⊥
   no_new_child c p t o v m strong h g act start r = go (started.given p t c h g).gone
     where
-      go : ((right_of (stack_from P t.body.start t.body.found).base.context) c ≡ Released) ⊎ ((stack_from P t.body.start t.body.found).over ≡ true) → ⊥
+      go : ((right_of (stack_from P t.body.start t.body.found).base.context) c ≡ Released) ⊎ ((stack_from P t.body.start t.body.found).ended ≡ true) → ⊥
       go (inl e) =
           let k = covered_stage P c m strong t t.body.found o (creating P t.body.start t.body.found o act) v start r in
           let f = k.holds in
@@ -90,7 +90,7 @@ module _ {S : Type 0} (P : Program S) (main : Start S) (s n : State S) (made : I
           let e : p ≡ w.path = cc (w.place) in
           let at2 : At s w.path g.task = subst (λ (z : List ℕ). At s z g.task) e g.at_ in
           let t = at_same s w.path w.creator g.task w.at_ at2 in
-          let gg : In c w.creator.given = subst (λ (z : Task S). In c z.given) (sym t) g.given in
+          let gg : IsIn c w.creator.given = subst (λ (z : Task S). IsIn c z.given) (sym t) g.given in
           absurd (no_new_child c w.path w.creator w.order b.task b.mode b.strong w.at_ gg w.act w.start b.right)
 
   child_back : (c : ℕ) (u v : List ℕ) → HasGiven s c u → IsChild n c u v → IsChild s c u v
@@ -161,36 +161,36 @@ module _ {S : Type 0} (P : Program S) (main : Start S) (s n : State S) (made : I
       go : (u w v : List ℕ) → IsEarlier n c u w → IsEarlier s c w v → IsEarlier s c u w
       go u w v a (is_earlier {i = i} {k = k} {p = p} l h) = earlier_back c u (i ∷ p) h.task h.at_ a
 
-  pub w_stays : (c : ℕ) (p : List ℕ) → SatW (accesses s c) p → SatW (accesses n c) p
-  w_stays c p h = sat_w_stays (HasAccess s c) (accesses s c) (accesses n c) (keeps_forest c) p h
+  pub write_stays : (c : ℕ) (p : List ℕ) → IsWriteSatisfied (accesses s c) p → IsWriteSatisfied (accesses n c) p
+  write_stays c p h = write_satisfied_stays (HasAccess s c) (accesses s c) (accesses n c) (keeps_forest c) p h
 
-  pub r_stays : (c : ℕ) (p : List ℕ) → SatR (accesses s c) p → SatR (accesses n c) p
-  r_stays c p h = sat_r_stays (HasAccess s c) (accesses s c) (accesses n c) (keeps_forest c) p h
+  pub read_stays : (c : ℕ) (p : List ℕ) → IsReadSatisfied (accesses s c) p → IsReadSatisfied (accesses n c) p
+  read_stays c p h = read_satisfied_stays (HasAccess s c) (accesses s c) (accesses n c) (keeps_forest c) p h
 
-  pub x_stays : (c : ℕ) (op : Op) (p : List ℕ) → SatX (accesses s c) op p → SatX (accesses n c) op p
-  x_stays c op p h = sat_x_stays (HasAccess s c) (accesses s c) (accesses n c) (keeps_forest c) (between c) op p h
+  pub join_stays : (c : ℕ) (op : Op) (p : List ℕ) → IsJoinSatisfied (accesses s c) op p → IsJoinSatisfied (accesses n c) op p
+  join_stays c op p h = join_satisfied_stays (HasAccess s c) (accesses s c) (accesses n c) (keeps_forest c) (between c) op p h
 
-  pub access_done_stays : (c : ℕ) (p : List ℕ) → Done (accesses s c) p → Done (accesses n c) p
+  pub access_done_stays : (c : ℕ) (p : List ℕ) → IsDone (accesses s c) p → IsDone (accesses n c) p
   access_done_stays c p h = done_stays (accesses s c) (accesses n c) (grows c) p h
 
   pub ready_stays : (p : List ℕ) (x : Context) → IsReady s p x → IsReady n p x
   ready_stays [] x h = tt
-  ready_stays (k ∷ p) x h = ((λ c r. r_stays c (k ∷ p) (h.0 c r)), (λ c r. w_stays c (k ∷ p) (h.1 c r)))
+  ready_stays (k ∷ p) x h = ((λ c r. read_stays c (k ∷ p) (h.0 c r)), (λ c r. write_stays c (k ∷ p) (h.1 c r)))
 
   owes_back : (p : List ℕ) (x y : Context) (c : ℕ) → y ≡ x → Owes p y c → Owes p x c
   owes_back p x y c e h = subst (λ (z : Context). Owes p z c) e h
 
-  over_creates : (t : Task S) (o : Order S) → is_over P t.body ≡ true → act_now P t.body ≡ Created o false → ⊥
+  over_creates : (t : Task S) (o : Order S) → is_ended P t.body ≡ true → act_now P t.body ≡ Created o false → ⊥
   over_creates t o h k = let f = over_stops P t.body.start t.body.found h in cc
 
-  pub complete_stays : ((q : List ℕ) (u v : Task S) → At s q u → At n q v → is_over P u.body ≡ true → is_over P v.body ≡ true) → (p : List ℕ) → IsComplete P s p → IsComplete P n p
+  pub complete_stays : ((q : List ℕ) (u v : Task S) → At s q u → At n q v → is_ended P u.body ≡ true → is_ended P v.body ≡ true) → (p : List ℕ) → IsComplete P s p → IsComplete P n p
   complete_stays still p (complete {t = t} at_ over gives below) =
       let k = grown.keeps p t at_ in
       complete k.1 (still p t k.0 at_ k.1 over)
       (λ c o. k.2.given c (gives c (owes_back p t.body.start.context k.0.body.start.context c (ap (λ (z : Start S). z.context) k.2.start) o)))
       (λ j v h. child still p t at_ over (λ i u g. complete_stays still (i ∷ p) (below i u g)) j v h (grown.news (j ∷ p) v h))
     where
-      child : ((q : List ℕ) (u v : Task S) → At s q u → At n q v → is_over P u.body ≡ true → is_over P v.body ≡ true) → (p : List ℕ) (t : Task S) → At s p t → is_over P t.body ≡ true
+      child : ((q : List ℕ) (u v : Task S) → At s q u → At n q v → is_ended P u.body ≡ true → is_ended P v.body ≡ true) → (p : List ℕ) (t : Task S) → At s p t → is_ended P t.body ≡ true
           → ((i : ℕ) (u : Task S) → At s (i ∷ p) u → IsComplete P n (i ∷ p)) → (j : ℕ) (v : Task S) → At n (j ∷ p) v → ((u : Task S) × At s (j ∷ p) u × TaskGrows u v) ⊎ NewTask P s (j ∷ p) v → IsComplete P n (j ∷ p)
       child still p t at_ over f j v h (inl u) = f j u.0 u.1
       child still p t at_ over f j v h (inr w) =
@@ -210,7 +210,7 @@ module _ {S : Type 0} (P : Program S) (main : Start S) (s n : State S) (made : I
       omega arith
 
   -- what a done act waited for stays met
-  pub wait_stays : ((q : List ℕ) (u v : Task S) → At s q u → At n q v → is_over P u.body ≡ true → is_over P v.body ≡ true) → (p : List ℕ) (t : Task S) (k : ℕ) (act : Act S) → At s p t → k ≤ created_now P t.body → WaitMet P s p k act → WaitMet P n p k act
+  pub wait_stays : ((q : List ℕ) (u v : Task S) → At s q u → At n q v → is_ended P u.body ≡ true → is_ended P v.body ≡ true) → (p : List ℕ) (t : Task S) (k : ℕ) (act : Act S) → At s p t → k ≤ created_now P t.body → IsWaitMet P s p k act → IsWaitMet P n p k act
   wait_stays still p t k Waited at_ l h = λ i u m a. complete_stays still (i ∷ p) (go i u m (grown.news (i ∷ p) u a))
     where
       go : (i : ℕ) (u : Task S) → i < k → ((w : Task S) × At s (i ∷ p) w × TaskGrows w u) ⊎ NewTask P s (i ∷ p) u → IsComplete P s (i ∷ p)

@@ -8,18 +8,18 @@ use Rattle.oss_model.specs.Agreement.{MainStarts, Compatible}
 use Rattle.std.proofs.Common.{◌≡◌, ◌≢◌, ℕ, ◌^◌, ◌<◌, ◌⊎◌, inl, inr, refl, sym, subst, ap, ◌∙◌, List, [], ◌∷◌, length, arith, Bool, true, false, get_or, get_or-set_same}
 use Rattle.std.specs.Prelude.{slice_index, ◌==◌}
 use Rattle.std.proofs.lemmas.Bool.Decides.{nat_tests}
-use Rattle.oss_model.specs.Order.{IsSuffix, whole, longer, In, here, there}
+use Rattle.oss_model.specs.Order.{IsSuffix, whole, longer, IsIn, here, there}
 use Rattle.oss_model.specs.Rights.{Holds, Touch, Folds}
 use Rattle.oss_model.specs.Bodies.{Program, Act, Start, stage_act, Touches}
 use Rattle.oss_model.specs.Bodies.Act.{Created, Awaited, Waited, WaitedOn, Over, Ticked, Load, Store, Folded, Releases, Printed, Ended, Fault}
 use Rattle.oss_model.specs.Machine.{Task, State, At}
 use Rattle.oss_model.specs.History.{IsMade, IsStarted, IsComparable}
-use Rattle.oss_model.specs.Moves.{gives, combine, slot_more, slot_of, CanJoin, Gave, joined_cells}
-use Rattle.oss_model.specs.Memory.{Event, IsEarlierEvent, Happened, Changes, store, folded, DoneChange, changed, replay, IsSorted, IsValue}
+use Rattle.oss_model.specs.Moves.{after_giving, combine, slot_more, slot_of, CanJoin, GaveUp, joined_cells}
+use Rattle.oss_model.specs.Memory.{Event, IsEarlierEvent, Happened, Changes, store, folded, DoneChange, value_after, replay, IsSorted, IsValue}
 use Rattle.oss_model.proofs.StageLemmas.{stage_touch, StartsWell}
 use Rattle.oss_model.proofs.OrderLemmas.{suffix_trans, suffix_drop}
 use Rattle.oss_model.proofs.TreeLemmas.{at_same, starts_well, path_found}
-use Rattle.oss_model.proofs.MoveLemmas.{MayGive, join_may, GaveView, own, old, gave_view, in_cons, which_path}
+use Rattle.oss_model.proofs.MoveLemmas.{MayGive, join_may, GaveUpView, own, old, gave_view, in_cons, which_path}
 use Rattle.oss_model.proofs.OrderTheorem.{Clash, TouchIn, in_order}
 use Rattle.oss_model.proofs.SortLemmas.{Ordered, first, same, last, in_order_or_one, Inserted, Commutes, insert}
 use Rattle.oss_model.proofs.MemoryLemmas.{change_touch, granted_change, fold_mode, changing, last_one}
@@ -47,7 +47,7 @@ which_op Xor Or = inr (λ e. cc)
 data IsSlotFold {S : Type 0} (op : Op) : Act S → Type 0 where
   slot_fold : {c v : ℕ} → IsSlotFold op (Folded c op v true)
 
-folds_swap : {S : Type 0} {op : Op} {a b : Act S} → IsSlotFold op a → IsSlotFold op b → (w : ℕ) → changed b (changed a w) ≡ changed a (changed b w)
+folds_swap : {S : Type 0} {op : Op} {a b : Act S} → IsSlotFold op a → IsSlotFold op b → (w : ℕ) → value_after b (value_after a w) ≡ value_after a (value_after b w)
 folds_swap {op = op} (slot_fold {v = x}) (slot_fold {v = y}) w = fold_swap op w x y
 
 -- a change that doesn't clash with a fold into a slot is such a fold
@@ -120,15 +120,15 @@ module _ {S : Type 0} (P : Program S) (main : Start S) (s : State S) (p : List �
           let r = in_order P main s s ms made made started self e g c (Folds op) (change_touch d.changes).touch true d.slot tin (granted_change P main s s ms made made started self c g d) clash l in
           let q = r.given refl in
           let w = at_same s p q.task t (subst (λ (z : List ℕ). At s z q.task) (ap (λ (z : Start S). z.path) k.start ∙ path_t) q.at_) can.at_ in
-          can.kept (subst (λ (z : Task S). In c z.given) w q.given)
+          can.kept (subst (λ (z : Task S). IsIn c z.given) w q.given)
 
   -- the done changes, with the task's folds within these answers
   record Part (past : List ℕ) : Type 0 where
     list : List (Event S)
     sorted : IsSorted P list
-    only : (g : Event S) → In g list → DoneChange P s c g ⊎ SlotEvent past g
-    done : (g : Event S) → DoneChange P s c g → In g list
-    slots : (g : Event S) → SlotEvent past g → In g list
+    only : (g : Event S) → IsIn g list → DoneChange P s c g ⊎ SlotEvent past g
+    done : (g : Event S) → DoneChange P s c g → IsIn g list
+    slots : (g : Event S) → SlotEvent past g → IsIn g list
     total : replay P list (slice_index cells c) ≡ combine op (slice_index s.cells c) (slot_of P t.body.start c op past)
 
   -- an act that folds into the slot, or leaves it
@@ -191,7 +191,7 @@ module _ {S : Type 0} (P : Program S) (main : Start S) (s : State S) (p : List �
         total = sym value.value ∙ sym (fold_none op (slice_index s.cells c) word);
       }
     where
-      none : (g : Event S) → IsSuffix (g.answer ∷ g.past) [] → In g value.list
+      none : (g : Event S) → IsSuffix (g.answer ∷ g.past) [] → IsIn g value.list
       none g h = elim h [ ]
 
   more_part : (v : ℕ) (vs : List ℕ) → IsSuffix (v ∷ vs) t.body.found → Part vs → Part (v ∷ vs)
@@ -234,7 +234,7 @@ module _ {S : Type 0} (P : Program S) (main : Start S) (s : State S) (p : List �
           only e (inl d) = inl d
           only e (inr k) = inr (widen e k)
 
-          slots : (e : Event S) → ((e ≡ record { start = t.body.start; past = vs; answer = v }) × Changes (stage_act P t.body.start vs) c true) ⊎ SlotEvent vs e → In e q.list
+          slots : (e : Event S) → ((e ≡ record { start = t.body.start; past = vs; answer = v }) × Changes (stage_act P t.body.start vs) c true) ⊎ SlotEvent vs e → IsIn e q.list
           slots e (inl k) = absurd (f true k.1)
           slots e (inr k) = q.slots e k
 
@@ -261,7 +261,7 @@ module _ {S : Type 0} (P : Program S) (main : Start S) (s : State S) (p : List �
           not_old g (inl d) e =
               let d2 : DoneChange P s c (record { start = t.body.start; past = vs; answer = v }) = subst (λ (z : Event S). DoneChange P s c z) (sym e) d in
               let w = at_same s p d2.happened.task t (subst (λ (z : List ℕ). At s z d2.happened.task) path_t d2.happened.at_) can.at_ in
-              can.kept (subst (λ (z : Task S). In c z.given) w (d2.joined (flag d2.slot d2.changes)))
+              can.kept (subst (λ (z : Task S). IsIn c z.given) w (d2.joined (flag d2.slot d2.changes)))
             where
               flag : (b : Bool) → Changes (stage_act P t.body.start vs) c b → b ≡ true
               flag b h2 = let k = (changing (subst (λ (z : Act S). Changes z c b) a h2)).1 in sym k
@@ -289,10 +289,10 @@ module _ {S : Type 0} (P : Program S) (main : Start S) (s : State S) (p : List �
                 only = λ e i. only e (r.only e i);
                 done = λ e d. r.old e (q.done e d);
                 slots = λ e k. slots e (narrow e k);
-                total = r.value (slice_index cells c) ∙ (ap (λ (z : ℕ). changed (stage_act P t.body.start vs) z) q.total ∙ one_more);
+                total = r.value (slice_index cells c) ∙ (ap (λ (z : ℕ). value_after (stage_act P t.body.start vs) z) q.total ∙ one_more);
               }
             where
-              only : (e : Event S) → (e ≡ record { start = t.body.start; past = vs; answer = v }) ⊎ In e q.list → DoneChange P s c e ⊎ SlotEvent (v ∷ vs) e
+              only : (e : Event S) → (e ≡ record { start = t.body.start; past = vs; answer = v }) ⊎ IsIn e q.list → DoneChange P s c e ⊎ SlotEvent (v ∷ vs) e
               only e (inl k) = inr (subst (λ (z : Event S). SlotEvent (v ∷ vs) z) (sym k) mine)
               only e (inr i) = wide (q.only e i)
                 where
@@ -300,11 +300,11 @@ module _ {S : Type 0} (P : Program S) (main : Start S) (s : State S) (p : List �
                   wide (inl d) = inl d
                   wide (inr k) = inr (widen e k)
 
-              slots : (e : Event S) → ((e ≡ record { start = t.body.start; past = vs; answer = v }) × Changes (stage_act P t.body.start vs) c true) ⊎ SlotEvent vs e → In e r.list
-              slots e (inl k) = subst (λ (z : Event S). In z r.list) (sym k.0) r.new
+              slots : (e : Event S) → ((e ≡ record { start = t.body.start; past = vs; answer = v }) × Changes (stage_act P t.body.start vs) c true) ⊎ SlotEvent vs e → IsIn e r.list
+              slots e (inl k) = subst (λ (z : Event S). IsIn z r.list) (sym k.0) r.new
               slots e (inr k) = r.old e (q.slots e k)
 
-              one_more : changed (stage_act P t.body.start vs) (combine op (slice_index s.cells c) (slot_of P t.body.start c op vs)) ≡ combine op (slice_index s.cells c) (slot_more (stage_act P t.body.start vs) c op (slot_of P t.body.start c op vs))
+              one_more : value_after (stage_act P t.body.start vs) (combine op (slice_index s.cells c) (slot_of P t.body.start c op vs)) ≡ combine op (slice_index s.cells c) (slot_more (stage_act P t.body.start vs) c op (slot_of P t.body.start c op vs))
               one_more =
                   let k : (c == c) ≡ true = grind (arith, nat_tests) in
                   rw (a, k) (fold_assoc op (slice_index s.cells c) (slot_of P t.body.start c op vs) x)
@@ -318,7 +318,7 @@ module _ {S : Type 0} (P : Program S) (main : Start S) (s : State S) (p : List �
   part (v ∷ vs) h = more_part v vs h (part vs (suffix_drop h))
 
 -- the done changes after a cell was given up
-module _ {S : Type 0} (P : Program S) (main : Start S) (s n : State S) (p : List ℕ) (d : ℕ) (t : Task S) (made : IsMade P main s) (started : IsStarted P s) (at_ : At s p t) (may : MayGive P s p d t) (gave : Gave s p d t n) where
+module _ {S : Type 0} (P : Program S) (main : Start S) (s n : State S) (p : List ℕ) (d : ℕ) (t : Task S) (made : IsMade P main s) (started : IsStarted P s) (at_ : At s p t) (may : MayGive P s p d t) (gave : GaveUp s p d t n) where
   path_is : t.body.start.path ≡ p
   path_is = path_found s.tasks p t at_
 
@@ -334,8 +334,8 @@ module _ {S : Type 0} (P : Program S) (main : Start S) (s n : State S) (p : List
           record {
             slot = k.slot;
             changes = k.changes;
-            happened = record { task = gives d t; at_ = subst (λ (z : List ℕ). At n z (gives d t)) (sym q) gave.own; start = ap (λ (z : Task S). z.body.start) (sym w) ∙ k.happened.start; found = subst (λ (z : Task S). IsSuffix (e.answer ∷ e.past) z.body.found) w k.happened.found };
-            joined = λ f. there (subst (λ (z : Task S). In c z.given) w (k.joined f));
+            happened = record { task = after_giving d t; at_ = subst (λ (z : List ℕ). At n z (after_giving d t)) (sym q) gave.own; start = ap (λ (z : Task S). z.body.start) (sym w) ∙ k.happened.start; found = subst (λ (z : Task S). IsSuffix (e.answer ∷ e.past) z.body.found) w k.happened.found };
+            joined = λ f. there (subst (λ (z : Task S). IsIn c z.given) w (k.joined f));
           }
       go (inr q) =
           record {
@@ -349,7 +349,7 @@ module _ {S : Type 0} (P : Program S) (main : Start S) (s n : State S) (p : List
   gave_back : (c : ℕ) (e : Event S) → DoneChange P n c e → DoneChange P s c e ⊎ ((c ≡ d) × (e.start ≡ t.body.start) × IsSuffix (e.answer ∷ e.past) t.body.found × Changes (stage_act P e.start e.past) c true)
   gave_back c e k = view e.start.path k.happened.task (gave_view P main s n p d t made started at_ may gave e.start.path k.happened.task k.happened.at_) refl k.happened.start k.happened.found k.joined
     where
-      view : (r : List ℕ) (u : Task S) → GaveView s p d t r u → r ≡ e.start.path → u.body.start ≡ e.start → IsSuffix (e.answer ∷ e.past) u.body.found → (k.slot ≡ true → In c u.given)
+      view : (r : List ℕ) (u : Task S) → GaveUpView s p d t r u → r ≡ e.start.path → u.body.start ≡ e.start → IsSuffix (e.answer ∷ e.past) u.body.found → (k.slot ≡ true → IsIn c u.given)
           → DoneChange P s c e ⊎ ((c ≡ d) × (e.start ≡ t.body.start) × IsSuffix (e.answer ∷ e.past) t.body.found × Changes (stage_act P e.start e.past) c true)
       view r u (old ne h) q1 q2 f j = inl (record { slot = k.slot; changes = k.changes; happened = record { task = u; at_ = subst (λ (z : List ℕ). At s z u) q1 h; start = q2; found = f }; joined = j })
       view r u own q1 q2 f j = flag k.slot refl
@@ -361,7 +361,7 @@ module _ {S : Type 0} (P : Program S) (main : Start S) (s n : State S) (p : List
           flag false g = inl (record { slot = k.slot; changes = k.changes; happened = record { task = t; at_ = subst (λ (z : List ℕ). At s z t) q1 at_; start = q2; found = f }; joined = λ g2. let x : true ≡ false = sym g2 ∙ g in cc })
           flag true g = split (in_cons (j g))
             where
-              split : (c ≡ d) ⊎ In c t.given → DoneChange P s c e ⊎ ((c ≡ d) × (e.start ≡ t.body.start) × IsSuffix (e.answer ∷ e.past) t.body.found × Changes (stage_act P e.start e.past) c true)
+              split : (c ≡ d) ⊎ IsIn c t.given → DoneChange P s c e ⊎ ((c ≡ d) × (e.start ≡ t.body.start) × IsSuffix (e.answer ∷ e.past) t.body.found × Changes (stage_act P e.start e.past) c true)
               split (inl x) = inr (x, sym q2, f, subst (λ (z : Bool). Changes (stage_act P e.start e.past) c z) g k.changes)
               split (inr x) = inl (record { slot = k.slot; changes = k.changes; happened = record { task = t; at_ = subst (λ (z : List ℕ). At s z t) q1 at_; start = q2; found = f }; joined = λ g2. x })
 
@@ -376,12 +376,12 @@ module _ {S : Type 0} (P : Program S) (main : Start S) (s n : State S) (p : List
         value = same_value ∙ v.value;
       }
     where
-      all : (e : Event S) → DoneChange P s c e ⊎ ((c ≡ d) × (e.start ≡ t.body.start) × IsSuffix (e.answer ∷ e.past) t.body.found × Changes (stage_act P e.start e.past) c true) → In e v.list
+      all : (e : Event S) → DoneChange P s c e ⊎ ((c ≡ d) × (e.start ≡ t.body.start) × IsSuffix (e.answer ∷ e.past) t.body.found × Changes (stage_act P e.start e.past) c true) → IsIn e v.list
       all e (inl k) = v.all e k
       all e (inr k) = absurd (none e k.0 k.1 k.3)
 
 -- the value of the joined cell
-pub join_value : {S : Type 0} (P : Program S) (main : Start S) (s n : State S) (p : List ℕ) (c : ℕ) (op : Op) (t : Task S) (ms : MainStarts main) (made : IsMade P main s) (started : IsStarted P s) (can : CanJoin P s p c op t) (gave : Gave s p c t n) → n.cells ≡ joined_cells P c op t s.cells
+pub join_value : {S : Type 0} (P : Program S) (main : Start S) (s n : State S) (p : List ℕ) (c : ℕ) (op : Op) (t : Task S) (ms : MainStarts main) (made : IsMade P main s) (started : IsStarted P s) (can : CanJoin P s p c op t) (gave : GaveUp s p c t n) → n.cells ≡ joined_cells P c op t s.cells
     → (cells : List ℕ) → c < length s.cells → slice_index s.cells c < 2 ^ 64 → IsValue P s cells c → IsValue P n cells c
 join_value {S = S} P main s n p c op t ms made started can gave cells_are cells l word v =
     let q = part P main s p c op t ms made started can cells v word t.body.found whole in
@@ -399,10 +399,10 @@ join_value {S = S} P main s n p c op t ms made started can gave cells_are cells 
         record {
           slot = true;
           changes = k.changes;
-          happened = record { task = gives c t; at_ = subst (λ (z : List ℕ). At n z (gives c t)) (sym (ap (λ (z : Start S). z.path) k.start ∙ path_found s.tasks p t can.at_)) gave.own; start = sym k.start; found = k.within };
+          happened = record { task = after_giving c t; at_ = subst (λ (z : List ℕ). At n z (after_giving c t)) (sym (ap (λ (z : Start S). z.path) k.start ∙ path_found s.tasks p t can.at_)) gave.own; start = sym k.start; found = k.within };
           joined = λ e2. here;
         }
 
-    all : (e : Event S) → DoneChange P s c e ⊎ ((c ≡ c) × (e.start ≡ t.body.start) × IsSuffix (e.answer ∷ e.past) t.body.found × Changes (stage_act P e.start e.past) c true) → In e (part P main s p c op t ms made started can cells v word t.body.found whole).list
+    all : (e : Event S) → DoneChange P s c e ⊎ ((c ≡ c) × (e.start ≡ t.body.start) × IsSuffix (e.answer ∷ e.past) t.body.found × Changes (stage_act P e.start e.past) c true) → IsIn e (part P main s p c op t ms made started can cells v word t.body.found whole).list
     all e (inl d) = (part P main s p c op t ms made started can cells v word t.body.found whole).done e d
     all e (inr k) = (part P main s p c op t ms made started can cells v word t.body.found whole).slots e (record { start = k.1; within = k.2; changes = k.3 })

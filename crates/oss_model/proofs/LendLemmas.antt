@@ -7,8 +7,8 @@ use Rattle.oss_syntax.specs.declared.access.Mode.TheVariants.{Read, Write, Fold}
 use Rattle.std.specs.Prelude.{not, if◌then◌else◌}
 use Rattle.oss_model.specs.Order.{IsSuffix, whole, longer}
 use Rattle.oss_model.specs.Rights.{Right, NoRight, Released, Holds, Lending, Free, Reading, Writing, Touch, Reads}
-use Rattle.oss_model.specs.Context.{Context, child_context, in_clauses, lend_cell, right_of, lent_of, Entry, with_entries, waited_on, lend}
-use Rattle.oss_model.specs.Bodies.{Order, Program, Act, Frame, Stack, Start, stack_act, lend_when, count_one, frame_after, base_after, inner_after, stepped, settle, settle_stack, next_stack, stack_from, act_of, stage_act}
+use Rattle.oss_model.specs.Context.{Context, child_context, in_clauses, lend_cell, right_of, lent_of, Entry, with_entries, after_wait_on, lend}
+use Rattle.oss_model.specs.Bodies.{Order, Program, Act, Frame, Stack, Start, stack_act, lent_when, one_more_created, frame_after, base_after, inner_after, stack_after, settled_frame, settled_parts, next_stack, stack_from, act_of, stage_act}
 use Rattle.oss_model.specs.Bodies.Act.{Created, Awaited, Waited, WaitedOn, Ended, Releases}
 use Rattle.oss_model.proofs.ContextLemmas.{new_lent, lent_past, child_right}
 use Rattle.oss_model.proofs.JudgeLemmas.{Unlent}
@@ -57,21 +57,21 @@ lent_kept f x m c h k = go (lent_past x c)
     go (inl l) = subst (λ (z : Lending). LentFor m z) (sym (new_lent f x c l)) k
     go (inr e) = absurd (subst (λ (z : Lending). LentFor m z) e h)
 
-lend_when_keeps : (w : Bool) (given : ℕ → Right) (x : Context) (m : Mode) (c : ℕ) → LentFor m (lent_of x c) → LentFor m (lent_of (lend_when w given x) c)
+lend_when_keeps : (w : Bool) (given : ℕ → Right) (x : Context) (m : Mode) (c : ℕ) → LentFor m (lent_of x c) → LentFor m (lent_of (lent_when w given x) c)
 lend_when_keeps true given x m c h = lent_kept (λ d. record { right = right_of x d; lent = lend_cell (given d) (lent_of x d) }) x m c h (lend_cell_keeps (given c) m (lent_of x c) h)
 lend_when_keeps false given x m c h = h
 
-waited_on_keeps : (named : List Access) (x : Context) (m : Mode) (c : ℕ) → LentFor m (lent_of x c) → (in_clauses named c ≡ true) ⊎ LentFor m (lent_of (waited_on named x) c)
+waited_on_keeps : (named : List Access) (x : Context) (m : Mode) (c : ℕ) → LentFor m (lent_of x c) → (in_clauses named c ≡ true) ⊎ LentFor m (lent_of (after_wait_on named x) c)
 waited_on_keeps named x m c h = go (in_clauses named c) refl
   where
-    go : (b : Bool) → in_clauses named c ≡ b → (in_clauses named c ≡ true) ⊎ LentFor m (lent_of (waited_on named x) c)
+    go : (b : Bool) → in_clauses named c ≡ b → (in_clauses named c ≡ true) ⊎ LentFor m (lent_of (after_wait_on named x) c)
     go true e = inl e
     go false e = inr (lent_kept (λ d. record { right = right_of x d; lent = if in_clauses named d then Free else lent_of x d }) x m c h (rw e h))
 
 frame_lent : {S : Type 0} (a : Act S) (v : ℕ) (f : Frame S) (m : Mode) (c : ℕ) → LentFor m (lent_of f.context c) → Clears a c ⊎ LentFor m (lent_of (frame_after a v f).context c)
 frame_lent Waited v f m c h = inl tt
 frame_lent (WaitedOn named) v f m c h = waited_on_keeps named f.context m c h
-frame_lent (Created o i) v f m c h = inr (lend_when_keeps o.when (right_of (child_context f.context o.clauses o.last)) (count_one f.context) m c h)
+frame_lent (Created o i) v f m c h = inr (lend_when_keeps o.when (right_of (child_context f.context o.clauses o.last)) (one_more_created f.context) m c h)
 frame_lent (Releases clauses i) v f m c h = inr (lent_kept (λ d. record { right = if in_clauses clauses d then Released else right_of f.context d; lent = lent_of f.context d }) f.context m c h h)
 frame_lent _ v f m c h = inr h
 
@@ -89,11 +89,11 @@ inner_lent Ended v base f fs m c h = h
 inner_lent (Created o i) v base f fs m c h = h
 inner_lent _ v base f fs m c h = h
 
-stepped_lent : {S : Type 0} (a : Act S) (v : ℕ) (base : Frame S) (inner : List (Frame S)) (m : Mode) (c : ℕ) → LentFor m ((lent_of base.context) c) → Clears a c ⊎ LentFor m ((lent_of (stepped a v base inner).base.context) c)
+stepped_lent : {S : Type 0} (a : Act S) (v : ℕ) (base : Frame S) (inner : List (Frame S)) (m : Mode) (c : ℕ) → LentFor m ((lent_of base.context) c) → Clears a c ⊎ LentFor m ((lent_of (stack_after a v base inner).base.context) c)
 stepped_lent a v base [] m c h = base_lent a v base m c h
 stepped_lent a v base (f ∷ fs) m c h = inr (inner_lent a v base f fs m c h)
 
-settled_lent : {S : Type 0} (P : Program S) (base : Frame S) (inner : List (Frame S)) (over : Bool) (m : Mode) (c : ℕ) → LentFor m ((lent_of base.context) c) → LentFor m ((lent_of (settle_stack P base inner over).base.context) c)
+settled_lent : {S : Type 0} (P : Program S) (base : Frame S) (inner : List (Frame S)) (over : Bool) (m : Mode) (c : ℕ) → LentFor m ((lent_of base.context) c) → LentFor m ((lent_of (settled_parts P base inner over).base.context) c)
 settled_lent P base [] over m c h = subst (λ (x : Context). LentFor m ((lent_of x) c)) (sym (settle_same P base).context) h
 settled_lent P base (f ∷ fs) over m c h = h
 
@@ -104,9 +104,9 @@ next_lent : {S : Type 0} (P : Program S) (b : Start S) (v : ℕ) (vs : List ℕ)
 unfolding stack_from stage_act act_of
 next_lent P b v vs m c h = go (stepped_lent (stage_act P b vs) v (stack_from P b vs).base (stack_from P b vs).inner m c h)
   where
-    go : Clears (stage_act P b vs) c ⊎ LentFor m ((lent_of (stepped (stage_act P b vs) v (stack_from P b vs).base (stack_from P b vs).inner).base.context) c) → Clears (stage_act P b vs) c ⊎ LentFor m (stage_lent P b (v ∷ vs) c)
+    go : Clears (stage_act P b vs) c ⊎ LentFor m ((lent_of (stack_after (stage_act P b vs) v (stack_from P b vs).base (stack_from P b vs).inner).base.context) c) → Clears (stage_act P b vs) c ⊎ LentFor m (stage_lent P b (v ∷ vs) c)
     go (inl k) = inl k
-    go (inr k) = inr (let n = stepped (stage_act P b vs) v (stack_from P b vs).base (stack_from P b vs).inner in settled_lent P n.base n.inner n.over m c k)
+    go (inr k) = inr (let n = stack_after (stage_act P b vs) v (stack_from P b vs).base (stack_from P b vs).inner in settled_lent P n.base n.inner n.ended m c k)
 
 -- a stage at which the body passed a wait for the cell
 pub record Cleared {S : Type 0} (P : Program S) (b : Start S) (from to : List ℕ) (c : ℕ) : Type 0 where
@@ -131,16 +131,16 @@ lent_or_cleared P b from m c h (longer {y = v} {ys = vs} k) = go (lent_or_cleare
 
 stack_create_lends : {S : Type 0} (P : Program S) (slots : ℕ → Right) (v : ℕ) (base : Frame S) (inner : List (Frame S)) (over : Bool) (o : Order S) (c : ℕ) (m : Mode) (strong : Bool)
     → inner ≡ [] → stack_act P slots base inner over ≡ Created o false → o.when ≡ true → (right_of (child_context base.context o.clauses o.last)) c ≡ Holds m strong
-    → LentFor m ((lent_of (next_stack P slots v (record { base = base; inner = inner; over = over })).base.context) c)
+    → LentFor m ((lent_of (next_stack P slots v (record { base = base; inner = inner; ended = over })).base.context) c)
 stack_create_lends P slots v base (f ∷ fs) over o c m strong e a w r = absurd (cc (e))
 stack_create_lends P slots v base [] over o c m strong e a w r =
-    let n = stepped (stack_act P slots base [] over) v base [] in
+    let n = stack_after (stack_act P slots base [] over) v base [] in
     let within = (child_right base.context o.clauses o.last c m strong r).1 in
     let given = right_of (child_context base.context o.clauses o.last) in
-    let x = count_one base.context in
+    let x = one_more_created base.context in
     let k : lent_of (lend given x) c ≡ lend_cell (given c) (lent_of x c) = new_lent (λ d. record { right = right_of x d; lent = lend_cell (given d) (lent_of x d) }) x c within in
     let l : LentFor m (lend_cell (given c) (lent_of x c)) = subst (λ (z : Right). LentFor m (lend_cell z (lent_of x c))) (sym r) (lend_cell_lends m strong (lent_of x c)) in
-    settled_lent P n.base n.inner n.over m c (rw (a, w) (subst (λ (z : Lending). LentFor m z) (sym k) l))
+    settled_lent P n.base n.inner n.ended m c (rw (a, w) (subst (λ (z : Lending). LentFor m z) (sym k) l))
 
 -- a creation that is awaited by no false if lends the cells of the new task
 pub created_lends : {S : Type 0} (P : Program S) (b : Start S) (v : ℕ) (past : List ℕ) (o : Order S) (c : ℕ) (m : Mode) (strong : Bool)
@@ -148,28 +148,28 @@ pub created_lends : {S : Type 0} (P : Program S) (b : Start S) (v : ℕ) (past :
 unfolding stack_from stage_act act_of
 created_lends P b v past o c m strong a w r =
     let s = stack_from P b past in
-    stack_create_lends P (right_of b.context) v s.base s.inner s.over o c m strong (creating P b past o a).alone a w r
+    stack_create_lends P (right_of b.context) v s.base s.inner s.ended o c m strong (creating P b past o a).alone a w r
 
 awaited : {S : Type 0} (P : Program S) (slots : ℕ → Right) (base : Frame S) (inner : List (Frame S)) (over : Bool) → base.awaits ≡ true → inner ≡ [] → over ≡ false → stack_act P slots base inner over ≡ Awaited
 awaited P slots base inner over a b c = rw (c, b, a) refl
 
 stack_create_awaits : {S : Type 0} (P : Program S) (slots : ℕ → Right) (v : ℕ) (base : Frame S) (inner : List (Frame S)) (over : Bool) (o : Order S)
     → inner ≡ [] → stack_act P slots base inner over ≡ Created o false → o.when ≡ false
-    → act_of P slots (next_stack P slots v (record { base = base; inner = inner; over = over })) ≡ Awaited
+    → act_of P slots (next_stack P slots v (record { base = base; inner = inner; ended = over })) ≡ Awaited
 unfolding act_of
 stack_create_awaits P slots v base (f ∷ fs) over o e a w = absurd (cc (e))
 stack_create_awaits {S = S} P slots v base [] over o e a w =
-    let n = stepped (stack_act P slots base [] over) v base [] in
-    let d : n ≡ record { base = frame_after (Created o false) v base; inner = []; over = false } = rw a refl in
-    let k : (settle P (frame_after (Created o false) v base)).awaits ≡ true = (settle_same P (frame_after (Created o false) v base)).awaits ∙ ap not w in
-    subst (λ (z : Stack S). stack_act P slots (settle_stack P z.base z.inner z.over).base (settle_stack P z.base z.inner z.over).inner (settle_stack P z.base z.inner z.over).over ≡ Awaited) (sym d) (awaited P slots (settle P (frame_after (Created o false) v base)) [] false k refl refl)
+    let n = stack_after (stack_act P slots base [] over) v base [] in
+    let d : n ≡ record { base = frame_after (Created o false) v base; inner = []; ended = false } = rw a refl in
+    let k : (settled_frame P (frame_after (Created o false) v base)).awaits ≡ true = (settle_same P (frame_after (Created o false) v base)).awaits ∙ ap not w in
+    subst (λ (z : Stack S). stack_act P slots (settled_parts P z.base z.inner z.ended).base (settled_parts P z.base z.inner z.ended).inner (settled_parts P z.base z.inner z.ended).ended ≡ Awaited) (sym d) (awaited P slots (settled_frame P (frame_after (Created o false) v base)) [] false k refl refl)
 
 -- after a creation under a false if the await stands next
 pub created_awaits : {S : Type 0} (P : Program S) (b : Start S) (v : ℕ) (past : List ℕ) (o : Order S) → stage_act P b past ≡ Created o false → o.when ≡ false → stage_act P b (v ∷ past) ≡ Awaited
 unfolding stack_from stage_act act_of
 created_awaits P b v past o a w =
     let s = stack_from P b past in
-    stack_create_awaits P (right_of b.context) v s.base s.inner s.over o (creating P b past o a).alone a w
+    stack_create_awaits P (right_of b.context) v s.base s.inner s.ended o (creating P b past o a).alone a w
 
 -- a touch under lending: both read, or the right is a fold
 pub lent_touch : (held m : Mode) (t : Touch) (l : Lending) → Unlent held t l → LentFor m l → ((t ≡ Reads) × (m ≡ Read)) ⊎ ((op : Op) × (held ≡ Fold op))

@@ -2,13 +2,13 @@
 use Rattle.oss_model.specs.Agreement.{MainStarts, InMemory, Compatible}
 use Rattle.std.proofs.Common.{◌≡◌, ◌≢◌, ℕ, ◌<◌, ◌≤◌, ◌⊎◌, inl, inr, refl, sym, subst, ap, ◌∙◌, List, [], ◌∷◌, length, reverse, arith, true, false, Option, Some, None}
 use Rattle.std.specs.Prelude.{slice_index}
-use Rattle.oss_model.specs.Order.{IsSuffix, whole, longer, In, IsBefore}
+use Rattle.oss_model.specs.Order.{IsSuffix, whole, longer, IsIn, IsBefore}
 use Rattle.oss_model.specs.Rights.{Reads}
-use Rattle.oss_model.specs.Bodies.{Order, Program, Act, Start, stack_from, stage_act, stage_created, child_start, Touches, Stops}
+use Rattle.oss_model.specs.Bodies.{Order, Program, Act, Start, stack_from, stage_act, stage_created, child_start, Touches, IsHalt}
 use Rattle.oss_model.specs.Bodies.Act.{Created, Awaited, Waited, WaitedOn, Over, Ticked, Load, Store, Folded, Releases, Printed, Ended, Fault}
 use Rattle.oss_model.specs.Machine.{Task, State, At, find, IsReady}
 use Rattle.oss_model.specs.History.{MadeBy, IsMade, IsStarted, IsComparable}
-use Rattle.oss_model.specs.Moves.{act_now, created_now, is_over, answered, new_task, found_by, CanStep, Stepped}
+use Rattle.oss_model.specs.Moves.{act_now, created_now, is_ended, after_answer, new_task, found_by, CanStep, Stepped}
 use Rattle.oss_model.specs.Memory.{Event, place, IsEarlierEvent, Happened, DoneChange, replay, IsValue}
 use Rattle.oss_model.specs.Sequence.{Running, Sequential}
 use Rattle.oss_model.proofs.StageLemmas.{created_grows, creation_counts}
@@ -38,13 +38,13 @@ module _ {S : Type 0} (P : Program S) (main : Start S) (cells : List ℕ) (z : R
       into : IsComparable u.body h.task.body → IsSuffix (g.answer ∷ g.past) u.body.found → Happened z.state g
       into c f = record { task = u; at_ = subst (λ (x : List ℕ). At z.state x u) (sym path) at_; start = c.start ∙ h.start; found = f }
 
-      going : IsComparable u.body h.task.body → IsSuffix u.body.found h.task.body.found → length u.body.found < length h.task.body.found → is_over P u.body ≡ true → ⊥
+      going : IsComparable u.body h.task.body → IsSuffix u.body.found h.task.body.found → length u.body.found < length h.task.body.found → is_ended P u.body ≡ true → ⊥
       going c k l o =
           let n = next_of k l in
-          let o' : Stops (stage_act P u.body.start u.body.found) = subst Stops (sym (over_stops P u.body.start u.body.found o)) tt in
-          made.goes g.start.path h.task u.body.found n.0 h.at_ n.1 (subst (λ (x : Start S). Stops (stage_act P x u.body.found)) c.start o')
+          let o' : IsHalt (stage_act P u.body.start u.body.found) = subst IsHalt (sym (over_stops P u.body.start u.body.found o)) tt in
+          made.goes g.start.path h.task u.body.found n.0 h.at_ n.1 (subst (λ (x : Start S). IsHalt (stage_act P x u.body.found)) c.start o')
 
-      passed : IsComparable u.body h.task.body → IsSuffix u.body.found g.past → IsSuffix q z.active ⊎ (is_over P u.body ≡ true) → IsSuffix u.body.found h.task.body.found → (e : Event S) → Happened z.state e → IsEarlierEvent P e g
+      passed : IsComparable u.body h.task.body → IsSuffix u.body.found g.past → IsSuffix q z.active ⊎ (is_ended P u.body ≡ true) → IsSuffix u.body.found h.task.body.found → (e : Event S) → Happened z.state e → IsEarlierEvent P e g
       passed c k (inr o) f e i = absurd (going c f (let a = suffix_length h.found in let b = suffix_length k in omega arith) o)
       passed c k (inl w) f e i = later (lt_or (length g.past) (length u.body.found) (suffix_length k))
         where
@@ -165,17 +165,17 @@ module _ {S : Type 0} (P : Program S) (main : Start S) (cells : List ℕ) (z : R
           mine : Happened z.state (their u w)
           mine = record { task = u; at_ = subst (λ (x : List ℕ). At z.state x u) (sym (path_found z.state.tasks p u at_)) at_; start = refl; found = found }
 
-          forth : (g : Event S) → DoneChange P s c g → In g f.list
+          forth : (g : Event S) → DoneChange P s c g → IsIn g f.list
           forth g d = go (in_or_beyond P main cells z s ms mem run made comp g.start.path g refl d.happened)
             where
               before : IsEarlierEvent P g (their u w)
               before = to_theirs g (after_all P main s n p t ms made started can step path_t c Reads load_t g d)
 
-              go : Happened z.state g ⊎ ((e : Event S) → Happened z.state e → IsEarlierEvent P e g) → In g f.list
+              go : Happened z.state g ⊎ ((e : Event S) → Happened z.state e → IsEarlierEvent P e g) → IsIn g f.list
               go (inl h) = f.all g (record { slot = d.slot; changes = d.changes; happened = h }) before
               go (inr b) = absurd (event_not P g (their u w) before (b (their u w) mine))
 
-          back : (g : Event S) → RunChange P z c g × IsEarlierEvent P g (their u w) → In g v.list
+          back : (g : Event S) → RunChange P z c g × IsEarlierEvent P g (their u w) → IsIn g v.list
           back g k =
               let ct = change_touch k.0.changes in
               let h = k.0.happened in
@@ -187,10 +187,10 @@ module _ {S : Type 0} (P : Program S) (main : Start S) (cells : List ℕ) (z : R
               let r = in_order P main z.state s ms zst.made made started comp g ours c ct.touch Reads k.0.slot false tin gr ct.clash_read early in
               v.all g (record { slot = k.0.slot; changes = k.0.changes; happened = r.happened; joined = λ e. given_here r e })
             where
-              given_here : (r : Concluded P main z.state s ms zst.made made started comp g c k.0.slot) → k.0.slot ≡ true → In c r.happened.task.given
+              given_here : (r : Concluded P main z.state s ms zst.made made started comp g c k.0.slot) → k.0.slot ≡ true → IsIn c r.happened.task.given
               given_here r e =
                   let q = r.given e in
-                  subst (λ (x : Task S). In c x.given) (at_same s g.start.path q.task r.happened.task q.at_ r.happened.at_) q.given
+                  subst (λ (x : Task S). IsIn c x.given) (at_same s g.start.path q.task r.happened.task q.at_ r.happened.at_) q.given
 
   same_answer : (u : Task S) (w : ℕ) → At z.state p u → u.body.start ≡ t.body.start → IsSuffix (w ∷ t.body.found) u.body.found → w ≡ found_by (act_now P t.body) s.cells
   same_answer u w at_ same found = go (is_load (act_now P t.body))
@@ -239,10 +239,10 @@ module _ {S : Type 0} (P : Program S) (main : Start S) (cells : List ℕ) (z : R
           joint (inl g) = at (suffix_trans b.happened g) whole (which (length b.past) (length t.body.found))
           joint (inr g) = at b.happened g (which (length b.past) (length t.body.found))
 
-  own_same : (u : Task S) → At z.state p u → IsComparable u.body (answered (found_by (act_now P t.body) s.cells) t).body
+  own_same : (u : Task S) → At z.state p u → IsComparable u.body (after_answer (found_by (act_now P t.body) s.cells) t).body
   own_same u at_ = go (comp p u t at_ can.at_)
     where
-      go : IsComparable u.body t.body → IsComparable u.body (answered (found_by (act_now P t.body) s.cells) t).body
+      go : IsComparable u.body t.body → IsComparable u.body (after_answer (found_by (act_now P t.body) s.cells) t).body
       go c = record { start = c.start; found = split c.found }
         where
           more : IsSuffix t.body.found u.body.found → (length t.body.found < length u.body.found) ⊎ (length u.body.found ≤ length t.body.found) → IsSuffix u.body.found (found_by (act_now P t.body) s.cells ∷ t.body.found) ⊎ IsSuffix (found_by (act_now P t.body) s.cells ∷ t.body.found) u.body.found

@@ -5,14 +5,14 @@ use Rattle.oss_syntax.specs.declared.access.Op.{Op}
 use Rattle.oss_syntax.specs.declared.access.Mode.TheVariants.{Fold}
 use Rattle.std.specs.Prelude.{slice_index}
 use Rattle.oss_model.specs.Context.{right_of}
-use Rattle.oss_model.specs.Order.{IsSuffix, whole, longer, In}
+use Rattle.oss_model.specs.Order.{IsSuffix, whole, longer, IsIn}
 use Rattle.oss_model.specs.Rights.{Holds, Touch, Reads, Writes, Folds}
-use Rattle.oss_model.specs.Bodies.{Program, Act, Start, stage_act, Touches, Stops}
+use Rattle.oss_model.specs.Bodies.{Program, Act, Start, stage_act, Touches, IsHalt}
 use Rattle.oss_model.specs.Bodies.Act.{Store, Folded}
 use Rattle.oss_model.specs.Machine.{Task, State, At, IsReady}
 use Rattle.oss_model.specs.History.{IsMade, IsStarted, IsComparable}
-use Rattle.oss_model.specs.Moves.{act_now, answered, combine, cells_after, found_by, CanStep, Stepped}
-use Rattle.oss_model.specs.Memory.{Event, IsEarlierEvent, Happened, Changes, store, folded, DoneChange, changed, IsValue}
+use Rattle.oss_model.specs.Moves.{act_now, after_answer, combine, cells_after, found_by, CanStep, Stepped}
+use Rattle.oss_model.specs.Memory.{Event, IsEarlierEvent, Happened, Changes, store, folded, DoneChange, value_after, IsValue}
 use Rattle.oss_model.specs.Agreement.{MainStarts, Compatible}
 use Rattle.oss_model.proofs.JudgeLemmas.{Permits}
 use Rattle.oss_model.proofs.StageLemmas.{stage_touch, StartsWell}
@@ -66,7 +66,7 @@ which_cell x y = grind arith
 
 -- an act that changes the cell at once, or leaves it
 unfoldable pub Effect : {S : Type 0} → Act S → ℕ → List ℕ → Type 0
-Effect a c cells = ((Changes a c false) × (slice_index (cells_after a cells) c ≡ changed a (slice_index cells c))) ⊎ ((Changes a c false → ⊥) × (slice_index (cells_after a cells) c ≡ slice_index cells c))
+Effect a c cells = ((Changes a c false) × (slice_index (cells_after a cells) c ≡ value_after a (slice_index cells c))) ⊎ ((Changes a c false → ⊥) × (slice_index (cells_after a cells) c ≡ slice_index cells c))
 
 stored_at : (S : Type 0) (d v c : ℕ) (cells : List ℕ) → c < length cells → (d ≡ c) ⊎ (d ≢ c) → Effect {S = S} (Store d v) c cells
 unfolding Effect
@@ -145,7 +145,7 @@ module _ {S : Type 0} (P : Program S) (main : Start S) (s n : State S) (p : List
   no_later path c u h g d l =
       let k = change_touch d.changes in
       let in_x : TouchIn P main n s ms n_made made started comp_after new_event c u false =
-      record { task = answered (found_by (act_now P t.body) s.cells) t; at_ = subst (λ (z : List ℕ). At n z (answered (found_by (act_now P t.body) s.cells) t)) (sym path) step.tasks.own; start = refl; found = whole; touches = h } in
+      record { task = after_answer (found_by (act_now P t.body) s.cells) t; at_ = subst (λ (z : List ℕ). At n z (after_answer (found_by (act_now P t.body) s.cells) t)) (sym path) step.tasks.own; start = refl; found = whole; touches = h } in
       let r = in_order P main n s ms n_made made started comp_after new_event g c u k.touch false d.slot in_x (granted_change P main n s ms n_made made started comp_after c g d) (clash_of u k) l in
       let e : r.happened.task ≡ t = at_same s p r.happened.task t (subst (λ (z : List ℕ). At s z r.happened.task) path r.happened.at_) can.at_ in
       let f : IsSuffix (found_by (act_now P t.body) s.cells ∷ t.body.found) t.body.found = subst (λ (z : Task S). IsSuffix (found_by (act_now P t.body) s.cells ∷ t.body.found) z.body.found) e r.happened.found in
@@ -156,7 +156,7 @@ module _ {S : Type 0} (P : Program S) (main : Start S) (s n : State S) (p : List
 
   -- a change that is done after the step was done before, or is the step
   change_view : (r : List ℕ) (u : Task S) → StepView P s p t (found_by (act_now P t.body) s.cells) r u → (c : ℕ) (e : Event S) → r ≡ e.start.path → u.body.start ≡ e.start → IsSuffix (e.answer ∷ e.past) u.body.found
-      → (slot : Bool) → Changes (stage_act P e.start e.past) c slot → (slot ≡ true → In c u.given) → DoneChange P s c e ⊎ ((e ≡ new_event) × Changes (act_now P t.body) c false)
+      → (slot : Bool) → Changes (stage_act P e.start e.past) c slot → (slot ≡ true → IsIn c u.given) → DoneChange P s c e ⊎ ((e ≡ new_event) × Changes (act_now P t.body) c false)
   change_view r u own c e re se f slot ch j = go (answer_cases f)
     where
       go : ((e.answer ≡ found_by (act_now P t.body) s.cells) × (e.past ≡ t.body.found)) ⊎ IsSuffix (e.answer ∷ e.past) t.body.found → DoneChange P s c e ⊎ ((e ≡ new_event) × Changes (act_now P t.body) c false)
@@ -172,7 +172,7 @@ module _ {S : Type 0} (P : Program S) (main : Start S) (s n : State S) (p : List
               let w = (starts_well P main s ms made p t can.at_).0 in
               let tt1 = stage_touch P t.body.start t.body.found c k.touch true w k.touches in
               let o = (started.given p t c can.at_ (j e1)).fold_over (k.fold refl).0 (tt1.holds ∙ ap (λ (z : Mode). Holds z true) (fold_mode tt1.mode k.touch true (k.fold refl).0 tt1.permits (k.fold refl).1 refl)) in
-              absurd (can.goes (subst Stops (sym (over_stops P t.body.start t.body.found o)) tt))
+              absurd (can.goes (subst IsHalt (sym (over_stops P t.body.start t.body.found o)) tt))
       go (inr g) = inl (record { slot = slot; changes = ch; happened = record { task = t; at_ = subst (λ (z : List ℕ). At s z t) re can.at_; start = se; found = g }; joined = j })
   change_view r u (new o a) c e re se f slot ch j = elim f [ ]
   change_view r u (old ne h) c e re se f slot ch j = inl (record { slot = slot; changes = ch; happened = record { task = u; at_ = subst (λ (z : List ℕ). At s z u) re h; start = se; found = f }; joined = j })
@@ -193,7 +193,7 @@ module _ {S : Type 0} (P : Program S) (main : Start S) (s n : State S) (p : List
       record {
         slot = false;
         changes = h;
-        happened = record { task = answered (found_by (act_now P t.body) s.cells) t; at_ = subst (λ (z : List ℕ). At n z (answered (found_by (act_now P t.body) s.cells) t)) (sym path) step.tasks.own; start = refl; found = whole };
+        happened = record { task = after_answer (found_by (act_now P t.body) s.cells) t; at_ = subst (λ (z : List ℕ). At n z (after_answer (found_by (act_now P t.body) s.cells) t)) (sym path) step.tasks.own; start = refl; found = whole };
         joined = λ e. cc;
       }
 
@@ -202,7 +202,7 @@ module _ {S : Type 0} (P : Program S) (main : Start S) (s n : State S) (p : List
   after_all path c u h g d = go (in_order_or_one P n new_event g (happens h) (change_forth c g d).happened)
     where
       happens : Touches (act_now P t.body) c u false → Happened n new_event
-      happens h = record { task = answered (found_by (act_now P t.body) s.cells) t; at_ = subst (λ (z : List ℕ). At n z (answered (found_by (act_now P t.body) s.cells) t)) (sym path) step.tasks.own; start = refl; found = whole }
+      happens h = record { task = after_answer (found_by (act_now P t.body) s.cells) t; at_ = subst (λ (z : List ℕ). At n z (after_answer (found_by (act_now P t.body) s.cells) t)) (sym path) step.tasks.own; start = refl; found = whole }
 
       go : Ordered P new_event g → IsEarlierEvent P g new_event
       go (first l) = absurd (no_later path c u h g d l)
@@ -229,16 +229,16 @@ module _ {S : Type 0} (P : Program S) (main : Start S) (s n : State S) (p : List
             sorted = sorted_append P new_event v.list v.sorted (λ g i. after_all path c h.touch h.touches g (v.only g i));
             only = λ e i. only e (in_append v.list i);
             all = λ e d. all e (change_back c e d);
-            value = here_value ∙ (k.1 ∙ (ap (λ (z : ℕ). changed (act_now P t.body) z) v.value ∙ sym (replay-append P new_event v.list (slice_index cells c))));
+            value = here_value ∙ (k.1 ∙ (ap (λ (z : ℕ). value_after (act_now P t.body) z) v.value ∙ sym (replay-append P new_event v.list (slice_index cells c))));
           }
         where
-          only : (e : Event S) → In e v.list ⊎ (e ≡ new_event) → DoneChange P n c e
+          only : (e : Event S) → IsIn e v.list ⊎ (e ≡ new_event) → DoneChange P n c e
           only e (inl i) = change_forth c e (v.only e i)
           only e (inr q) = subst (λ (z : Event S). DoneChange P n c z) (sym q) (change_new path c k.0)
 
-          all : (e : Event S) → DoneChange P s c e ⊎ ((e ≡ new_event) × Changes (act_now P t.body) c false) → In e (v.list ++ new_event ∷ [])
+          all : (e : Event S) → DoneChange P s c e ⊎ ((e ≡ new_event) × Changes (act_now P t.body) c false) → IsIn e (v.list ++ new_event ∷ [])
           all e (inl d) = in_left new_event v.list (v.all e d)
-          all e (inr q) = subst (λ (z : Event S). In z (v.list ++ new_event ∷ [])) (sym q.0) (in_last v.list)
+          all e (inr q) = subst (λ (z : Event S). IsIn z (v.list ++ new_event ∷ [])) (sym q.0) (in_last v.list)
       go (inr k) =
           record {
             list = v.list;
@@ -248,6 +248,6 @@ module _ {S : Type 0} (P : Program S) (main : Start S) (s n : State S) (p : List
             value = here_value ∙ (k.1 ∙ v.value);
           }
         where
-          all : (e : Event S) → DoneChange P s c e ⊎ ((e ≡ new_event) × Changes (act_now P t.body) c false) → In e v.list
+          all : (e : Event S) → DoneChange P s c e ⊎ ((e ≡ new_event) × Changes (act_now P t.body) c false) → IsIn e v.list
           all e (inl d) = v.all e d
           all e (inr q) = absurd (k.0 q.1)

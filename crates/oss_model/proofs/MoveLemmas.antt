@@ -3,18 +3,18 @@ use Rattle.std.proofs.Common.{◌≡◌, ◌≢◌, ℕ, suc, ◌⊎◌, inl, in
 use Rattle.oss_syntax.specs.declared.access.Op.{Op}
 use Rattle.oss_syntax.specs.declared.access.Mode.TheVariants.{Fold}
 use Rattle.oss_model.specs.Context.{right_of}
-use Rattle.oss_model.specs.Forest.{SatX}
-use Rattle.oss_model.specs.Order.{IsSuffix, whole, longer, In, here, there}
+use Rattle.oss_model.specs.Forest.{IsJoinSatisfied}
+use Rattle.oss_model.specs.Order.{IsSuffix, whole, longer, IsIn, here, there}
 use Rattle.oss_model.specs.Rights.{Released, Holds}
-use Rattle.oss_model.specs.Bodies.{Order, Program, Act, Start, Body, stack_from, stage_act, stage_created, child_start, Stops}
+use Rattle.oss_model.specs.Bodies.{Order, Program, Act, Start, Body, stack_from, stage_act, stage_created, child_start, IsHalt}
 use Rattle.oss_model.specs.Bodies.Act.{Created, Awaited, Waited, WaitedOn, Over, Ticked, Load, Store, Folded, Releases, Printed, Ended, Fault}
-use Rattle.oss_model.specs.Machine.{Task, State, At, accesses, IsReady, WaitMet}
-use Rattle.oss_model.specs.History.{MadeBy, IsMade, IsStarted, GivenWell}
-use Rattle.oss_model.specs.Moves.{act_now, created_now, is_over, answered, gives, new_task, CanStep, TaskStep, CanLet, CanJoin, Gave}
+use Rattle.oss_model.specs.Machine.{Task, State, At, accesses, IsReady, IsWaitMet}
+use Rattle.oss_model.specs.History.{MadeBy, IsMade, IsStarted, IsRightlyGiven}
+use Rattle.oss_model.specs.Moves.{act_now, created_now, is_ended, after_answer, after_giving, new_task, CanStep, TaskStep, CanLet, CanJoin, GaveUp}
 use Rattle.oss_model.proofs.StageLemmas.{creation_counts, created_grows, released_stays}
 use Rattle.oss_model.proofs.OrderLemmas.{suffix_trans, suffix_drop}
 use Rattle.oss_model.proofs.TreeLemmas.{at_same, over_stops}
-use Rattle.oss_model.proofs.GrowLemmas.{TaskGrows, NewTask, Grown, x_stays, ready_stays, wait_stays}
+use Rattle.oss_model.proofs.GrowLemmas.{TaskGrows, NewTask, Grown, join_stays, ready_stays, wait_stays}
 
 which_number : (x y : ℕ) → (x ≡ y) ⊎ (x ≢ y)
 which_number x y = grind arith
@@ -48,7 +48,7 @@ is_creation Over = inr (λ q e. cc)
 
 -- what a task of the state after a step is
 pub data StepView {S : Type 0} (P : Program S) (s : State S) (p : List ℕ) (t : Task S) (v0 : ℕ) : List ℕ → Task S → Type 0 where
-  own : StepView P s p t v0 p (answered v0 t)
+  own : StepView P s p t v0 p (after_answer v0 t)
   new : (o : Order S) → act_now P t.body ≡ Created o false → StepView P s p t v0 (created_now P t.body ∷ p) (new_task P t.body o)
   old : {q : List ℕ} {u : Task S} → q ≢ p → At s q u → StepView P s p t v0 q u
 
@@ -71,7 +71,7 @@ fresh_child {S = S} P main s p t u made at_ k =
 grows_self : {S : Type 0} (u : Task S) → TaskGrows u u
 grows_self u = record { start = refl; found = whole; given = λ c h. h }
 
-module _ {S : Type 0} (P : Program S) (main : Start S) (s n : State S) (p : List ℕ) (t : Task S) (v0 : ℕ) (made : IsMade P main s) (at_ : At s p t) (goes : Stops (act_now P t.body) → ⊥) (step : TaskStep P s p t v0 n) where
+module _ {S : Type 0} (P : Program S) (main : Start S) (s n : State S) (p : List ℕ) (t : Task S) (v0 : ℕ) (made : IsMade P main s) (at_ : At s p t) (goes : IsHalt (act_now P t.body) → ⊥) (step : TaskStep P s p t v0 n) where
   pub step_view : (q : List ℕ) (u : Task S) → At n q u → StepView P s p t v0 q u
   step_view q u h = go (which_path q p)
     where
@@ -122,8 +122,8 @@ module _ {S : Type 0} (P : Program S) (main : Start S) (s n : State S) (p : List
       keep : (q : List ℕ) (u : Task S) → At s q u → (q ≡ p) ⊎ (q ≢ p) → (v : Task S) × At n q v × TaskGrows u v
       keep q u h (inl e) =
           let f = at_same s p u t (subst (λ (z : List ℕ). At s z u) e h) at_ in
-          let g : TaskGrows u (answered v0 t) = subst (λ (z : Task S). TaskGrows z (answered v0 t)) (sym f) (record { start = refl; found = longer whole; given = λ c i. i }) in
-          (answered v0 t, subst (λ (z : List ℕ). At n z (answered v0 t)) (sym e) step.own, g)
+          let g : TaskGrows u (after_answer v0 t) = subst (λ (z : Task S). TaskGrows z (after_answer v0 t)) (sym f) (record { start = refl; found = longer whole; given = λ c i. i }) in
+          (after_answer v0 t, subst (λ (z : List ℕ). At n z (after_answer v0 t)) (sym e) step.own, g)
       keep q u h (inr e) = (u, others_forth q u e h, grows_self u)
 
       from : (q : List ℕ) (v : Task S) → StepView P s p t v0 q v → ((u : Task S) × At s q u × TaskGrows u v) ⊎ NewTask P s q v
@@ -132,17 +132,17 @@ module _ {S : Type 0} (P : Program S) (main : Start S) (s n : State S) (p : List
       from q v (old e h) = inl (v, h, grows_self v)
 
   -- a task that has ended makes no step
-  pub step_still : (q : List ℕ) (u v : Task S) → At s q u → At n q v → is_over P u.body ≡ true → is_over P v.body ≡ true
+  pub step_still : (q : List ℕ) (u v : Task S) → At s q u → At n q v → is_ended P u.body ≡ true → is_ended P v.body ≡ true
   step_still q u v h k o = go (which_path q p)
     where
-      go : (q ≡ p) ⊎ (q ≢ p) → is_over P v.body ≡ true
+      go : (q ≡ p) ⊎ (q ≢ p) → is_ended P v.body ≡ true
       go (inl e) =
           let f = at_same s p u t (subst (λ (z : List ℕ). At s z u) e h) at_ in
-          let g : is_over P t.body ≡ true = subst (λ (z : Task S). is_over P z.body ≡ true) f o in
-          absurd (goes (subst Stops (sym (over_stops P t.body.start t.body.found g)) tt))
+          let g : is_ended P t.body ≡ true = subst (λ (z : Task S). is_ended P z.body ≡ true) f o in
+          absurd (goes (subst IsHalt (sym (over_stops P t.body.start t.body.found g)) tt))
       go (inr e) =
           let f = at_same n q v u k (others_forth q u e h) in
-          subst (λ (z : Task S). is_over P z.body ≡ true) (sym f) o
+          subst (λ (z : Task S). is_ended P z.body ≡ true) (sym f) o
 
   -- a task of s is there in n, gone on
   kept : (q : List ℕ) (u : Task S) → At s q u → (v : Task S) × At n q v × TaskGrows u v
@@ -169,7 +169,7 @@ module _ {S : Type 0} (P : Program S) (main : Start S) (s n : State S) (p : List
       let f : created_now P t.body ≡ k = cc (e) in
       let g : p ≡ q = cc (e) in
       subst (λ (z : List ℕ). MadeBy P n k z (new_task P t.body o)) g (record {
-        creator = answered v0 t;
+        creator = after_answer v0 t;
         at_ = step.own;
         past = t.body.found;
         answer = v0;
@@ -195,11 +195,11 @@ module _ {S : Type 0} (P : Program S) (main : Start S) (s n : State S) (p : List
   made_view r u (new o' a') past v o h a = elim h [ ]
   made_view r u (old ne g) past v o h a = let k = made.made r u past v o g h a in forth_at (stage_created P u.body.start past ∷ r) k.0 k.1
 
-  goes_view : (r : List ℕ) (u : Task S) → StepView P s p t v0 r u → (past : List ℕ) (v : ℕ) → IsSuffix (v ∷ past) u.body.found → Stops (stage_act P u.body.start past) → ⊥
+  goes_view : (r : List ℕ) (u : Task S) → StepView P s p t v0 r u → (past : List ℕ) (v : ℕ) → IsSuffix (v ∷ past) u.body.found → IsHalt (stage_act P u.body.start past) → ⊥
   goes_view r u own past v h x = go (suffix_cases h)
     where
       go : (past ≡ t.body.found) ⊎ IsSuffix (v ∷ past) t.body.found → ⊥
-      go (inl e) = goes (subst (λ (z : List ℕ). Stops (stage_act P t.body.start z)) e x)
+      go (inl e) = goes (subst (λ (z : List ℕ). IsHalt (stage_act P t.body.start z)) e x)
       go (inr g) = made.goes p t past v at_ g x
   goes_view r u (new o' a') past v h x = elim h [ ]
   goes_view r u (old ne g) past v h x = made.goes r u past v g h x
@@ -223,7 +223,7 @@ module _ {S : Type 0} (P : Program S) (main : Start S) (s n : State S) (p : List
   grown : Grown P s n
   grown = step_grown P main s n p t v0 made can.at_ can.goes step
 
-  still : (q : List ℕ) (u v : Task S) → At s q u → At n q v → is_over P u.body ≡ true → is_over P v.body ≡ true
+  still : (q : List ℕ) (u v : Task S) → At s q u → At n q v → is_ended P u.body ≡ true → is_ended P v.body ≡ true
   still q u v h k o = step_still P main s n p t v0 made can.at_ can.goes step q u v h k o
 
   ready_view : (r : List ℕ) (u : Task S) → StepView P s p t v0 r u → (v : ℕ) (past : List ℕ) → IsSuffix (v ∷ past) u.body.found → IsReady n r u.body.start.context
@@ -235,17 +235,17 @@ module _ {S : Type 0} (P : Program S) (main : Start S) (s n : State S) (p : List
   ready_view r u (new o a) v past h = elim h [ ]
   ready_view r u (old ne g) v past h = ready_stays P main s n made started grown r u.body.start.context (started.ready r u v past g h)
 
-  joined_view : (r : List ℕ) (u : Task S) → StepView P s p t v0 r u → (c : ℕ) (op : Op) → (right_of u.body.start.context) c ≡ Holds (Fold op) true → In c u.given → SatX (accesses n c) op r
-  joined_view r u own c op h g = x_stays P main s n made started grown c op p (started.joined p t c op can.at_ h g)
+  joined_view : (r : List ℕ) (u : Task S) → StepView P s p t v0 r u → (c : ℕ) (op : Op) → (right_of u.body.start.context) c ≡ Holds (Fold op) true → IsIn c u.given → IsJoinSatisfied (accesses n c) op r
+  joined_view r u own c op h g = join_stays P main s n made started grown c op p (started.joined p t c op can.at_ h g)
   joined_view r u (new o a) c op h g = elim g [ ]
-  joined_view r u (old ne k) c op h g = x_stays P main s n made started grown c op r (started.joined r u c op k h g)
+  joined_view r u (old ne k) c op h g = join_stays P main s n made started grown c op r (started.joined r u c op k h g)
 
-  waited_view : (r : List ℕ) (u : Task S) → StepView P s p t v0 r u → (v : ℕ) (past : List ℕ) → IsSuffix (v ∷ past) u.body.found → WaitMet P n r (stage_created P u.body.start past) (stage_act P u.body.start past)
+  waited_view : (r : List ℕ) (u : Task S) → StepView P s p t v0 r u → (v : ℕ) (past : List ℕ) → IsSuffix (v ∷ past) u.body.found → IsWaitMet P n r (stage_created P u.body.start past) (stage_act P u.body.start past)
   waited_view r u own v past h = go (suffix_cases h)
     where
-      go : (past ≡ t.body.found) ⊎ IsSuffix (v ∷ past) t.body.found → WaitMet P n p (stage_created P t.body.start past) (stage_act P t.body.start past)
+      go : (past ≡ t.body.found) ⊎ IsSuffix (v ∷ past) t.body.found → IsWaitMet P n p (stage_created P t.body.start past) (stage_act P t.body.start past)
       go (inl e) =
-          subst (λ (z : List ℕ). WaitMet P n p (stage_created P t.body.start z) (stage_act P t.body.start z)) (sym e)
+          subst (λ (z : List ℕ). IsWaitMet P n p (stage_created P t.body.start z) (stage_act P t.body.start z)) (sym e)
           (wait_stays P main s n made started grown still p t (created_now P t.body) (act_now P t.body) can.at_ (omega arith) can.waits)
       go (inr g) =
           wait_stays P main s n made started grown still p t (stage_created P t.body.start past) (stage_act P t.body.start past) can.at_ (created_grows P t.body.start (suffix_drop g)) (started.waited p t v past can.at_ g)
@@ -253,18 +253,18 @@ module _ {S : Type 0} (P : Program S) (main : Start S) (s n : State S) (p : List
   waited_view r u (old ne k) v past h =
       wait_stays P main s n made started grown still r u (stage_created P u.body.start past) (stage_act P u.body.start past) k (created_grows P u.body.start (suffix_drop h)) (started.waited r u v past k h)
 
-  given_view : (r : List ℕ) (u : Task S) → StepView P s p t v0 r u → (c : ℕ) → In c u.given → GivenWell P u c
+  given_view : (r : List ℕ) (u : Task S) → StepView P s p t v0 r u → (c : ℕ) → IsIn c u.given → IsRightlyGiven P u c
   given_view r u own c g =
       let k = started.given p t c can.at_ g in
       record { mode = k.mode; strong = k.strong; right = k.right; gone = go k.gone; fold_over = λ op h. absurd (goes_on (k.fold_over op h)) }
     where
-      goes_on : (stack_from P t.body.start t.body.found).over ≡ true → ⊥
-      goes_on e = can.goes (subst Stops (sym (over_stops P t.body.start t.body.found e)) tt)
+      goes_on : (stack_from P t.body.start t.body.found).ended ≡ true → ⊥
+      goes_on e = can.goes (subst IsHalt (sym (over_stops P t.body.start t.body.found e)) tt)
 
-      go : ((right_of (stack_from P t.body.start t.body.found).base.context) c ≡ Released) ⊎ ((stack_from P t.body.start t.body.found).over ≡ true)
-          → ((right_of (stack_from P t.body.start (v0 ∷ t.body.found)).base.context) c ≡ Released) ⊎ ((stack_from P t.body.start (v0 ∷ t.body.found)).over ≡ true)
+      go : ((right_of (stack_from P t.body.start t.body.found).base.context) c ≡ Released) ⊎ ((stack_from P t.body.start t.body.found).ended ≡ true)
+          → ((right_of (stack_from P t.body.start (v0 ∷ t.body.found)).base.context) c ≡ Released) ⊎ ((stack_from P t.body.start (v0 ∷ t.body.found)).ended ≡ true)
       go (inl e) = inl (released_stays P t.body.start t.body.found (v0 ∷ t.body.found) c (longer whole) e)
-      go (inr e) = absurd (can.goes (subst Stops (sym (over_stops P t.body.start t.body.found e)) tt))
+      go (inr e) = absurd (can.goes (subst IsHalt (sym (over_stops P t.body.start t.body.found e)) tt))
   given_view r u (new o a) c g = elim g [ ]
   given_view r u (old ne k) c g = started.given r u c k g
 
@@ -278,27 +278,27 @@ module _ {S : Type 0} (P : Program S) (main : Start S) (s n : State S) (p : List
       }
 
 -- what a task of the state after a cell was given up is
-pub data GaveView {S : Type 0} (s : State S) (p : List ℕ) (c : ℕ) (t : Task S) : List ℕ → Task S → Type 0 where
-  own : GaveView s p c t p (gives c t)
-  old : {q : List ℕ} {u : Task S} → q ≢ p → At s q u → GaveView s p c t q u
+pub data GaveUpView {S : Type 0} (s : State S) (p : List ℕ) (c : ℕ) (t : Task S) : List ℕ → Task S → Type 0 where
+  own : GaveUpView s p c t p (after_giving c t)
+  old : {q : List ℕ} {u : Task S} → q ≢ p → At s q u → GaveUpView s p c t q u
 
 -- why the cell may be given up
 pub record MayGive {S : Type 0} (P : Program S) (s : State S) (p : List ℕ) (c : ℕ) (t : Task S) : Type 0 where
-  pub well : GivenWell P t c
-  pub satisfied : (op : Op) → (right_of t.body.start.context) c ≡ Holds (Fold op) true → SatX (accesses s c) op p
+  pub well : IsRightlyGiven P t c
+  pub satisfied : (op : Op) → (right_of t.body.start.context) c ≡ Holds (Fold op) true → IsJoinSatisfied (accesses s c) op p
 
-pub in_cons : {c d : ℕ} {xs : List ℕ} → In d (c ∷ xs) → (d ≡ c) ⊎ In d xs
+pub in_cons : {c d : ℕ} {xs : List ℕ} → IsIn d (c ∷ xs) → (d ≡ c) ⊎ IsIn d xs
 in_cons here = inl refl
 in_cons (there h) = inr h
 
-module _ {S : Type 0} (P : Program S) (main : Start S) (s n : State S) (p : List ℕ) (d : ℕ) (t : Task S) (made : IsMade P main s) (started : IsStarted P s) (at_ : At s p t) (may : MayGive P s p d t) (gave : Gave s p d t n) where
-  pub gave_view : (q : List ℕ) (u : Task S) → At n q u → GaveView s p d t q u
+module _ {S : Type 0} (P : Program S) (main : Start S) (s n : State S) (p : List ℕ) (d : ℕ) (t : Task S) (made : IsMade P main s) (started : IsStarted P s) (at_ : At s p t) (may : MayGive P s p d t) (gave : GaveUp s p d t n) where
+  pub gave_view : (q : List ℕ) (u : Task S) → At n q u → GaveUpView s p d t q u
   gave_view q u h = go (which_path q p)
     where
-      go : (q ≡ p) ⊎ (q ≢ p) → GaveView s p d t q u
+      go : (q ≡ p) ⊎ (q ≢ p) → GaveUpView s p d t q u
       go (inl e) =
           let f = at_same n p u _ (subst (λ (z : List ℕ). At n z u) e h) gave.own in
-          subst (λ (z : List ℕ). GaveView s p d t z u) (sym e) (subst (λ (z : Task S). GaveView s p d t p z) (sym f) own)
+          subst (λ (z : List ℕ). GaveUpView s p d t z u) (sym e) (subst (λ (z : Task S). GaveUpView s p d t p z) (sym f) own)
       go (inr e) = old e (sym (gave.others q e) ∙ h)
 
   pub gave_grown : Grown P s n
@@ -307,24 +307,24 @@ module _ {S : Type 0} (P : Program S) (main : Start S) (s n : State S) (p : List
       keep : (q : List ℕ) (u : Task S) → At s q u → (q ≡ p) ⊎ (q ≢ p) → (v : Task S) × At n q v × TaskGrows u v
       keep q u h (inl e) =
           let f = at_same s p u t (subst (λ (z : List ℕ). At s z u) e h) at_ in
-          let g : TaskGrows u (gives d t) = subst (λ (z : Task S). TaskGrows z (gives d t)) (sym f) (record { start = refl; found = whole; given = λ c i. there i }) in
-          (gives d t, subst (λ (z : List ℕ). At n z (gives d t)) (sym e) gave.own, g)
+          let g : TaskGrows u (after_giving d t) = subst (λ (z : Task S). TaskGrows z (after_giving d t)) (sym f) (record { start = refl; found = whole; given = λ c i. there i }) in
+          (after_giving d t, subst (λ (z : List ℕ). At n z (after_giving d t)) (sym e) gave.own, g)
       keep q u h (inr e) = (u, gave.others q e ∙ h, grows_self u)
 
-      from : (q : List ℕ) (v : Task S) → GaveView s p d t q v → (u : Task S) × At s q u × TaskGrows u v
+      from : (q : List ℕ) (v : Task S) → GaveUpView s p d t q v → (u : Task S) × At s q u × TaskGrows u v
       from q v own = (t, at_, record { start = refl; found = whole; given = λ c i. there i })
       from q v (old e h) = (v, h, grows_self v)
 
   -- the body of each task is as it was
-  body_back : (q : List ℕ) (u : Task S) → GaveView s p d t q u → (w : Task S) × At s q w × (w.body ≡ u.body)
+  body_back : (q : List ℕ) (u : Task S) → GaveUpView s p d t q u → (w : Task S) × At s q w × (w.body ≡ u.body)
   body_back q u own = (t, at_, refl)
   body_back q u (old e h) = (u, h, refl)
 
-  pub gave_still : (q : List ℕ) (u v : Task S) → At s q u → At n q v → is_over P u.body ≡ true → is_over P v.body ≡ true
+  pub gave_still : (q : List ℕ) (u v : Task S) → At s q u → At n q v → is_ended P u.body ≡ true → is_ended P v.body ≡ true
   gave_still q u v h k o =
       let b = body_back q v (gave_view q v k) in
       let e = at_same s q u b.0 h b.1 in
-      subst (λ (z : Body S). is_over P z ≡ true) (ap (λ (z : Task S). z.body) e ∙ b.2) o
+      subst (λ (z : Body S). is_ended P z ≡ true) (ap (λ (z : Task S). z.body) e ∙ b.2) o
 
   body_forth : (q : List ℕ) (u : Task S) → At s q u → (v : Task S) × At n q v × (v.body ≡ u.body)
   body_forth q u h = go (which_path q p)
@@ -332,7 +332,7 @@ module _ {S : Type 0} (P : Program S) (main : Start S) (s n : State S) (p : List
       go : (q ≡ p) ⊎ (q ≢ p) → (v : Task S) × At n q v × (v.body ≡ u.body)
       go (inl e) =
           let f = at_same s p u t (subst (λ (z : List ℕ). At s z u) e h) at_ in
-          (gives d t, subst (λ (z : List ℕ). At n z (gives d t)) (sym e) gave.own, ap (λ (z : Task S). z.body) (sym f))
+          (after_giving d t, subst (λ (z : List ℕ). At n z (after_giving d t)) (sym e) gave.own, ap (λ (z : Task S). z.body) (sym f))
       go (inr e) = (u, gave.others q e ∙ h, refl)
 
   made_by_forth : (k : ℕ) (q : List ℕ) (u v : Task S) → u.body ≡ v.body → MadeBy P s k q u → MadeBy P n k q v
@@ -360,7 +360,7 @@ module _ {S : Type 0} (P : Program S) (main : Start S) (s n : State S) (p : List
         child = λ k q u h. let b = body_back (k ∷ q) u (gave_view (k ∷ q) u h) in made_by_forth k q b.0 u b.2 (made.child k q b.0 b.1);
         made = λ q u past v o h g a. creates q u past v o g a (body_back q u (gave_view q u h));
         goes = λ q u past v h g x. let b = body_back q u (gave_view q u h) in
-            made.goes q b.0 past v b.1 (subst (λ (z : Body S). IsSuffix (v ∷ past) z.found) (sym b.2) g) (subst (λ (z : Body S). Stops (stage_act P z.start past)) (sym b.2) x);
+            made.goes q b.0 past v b.1 (subst (λ (z : Body S). IsSuffix (v ∷ past) z.found) (sym b.2) g) (subst (λ (z : Body S). IsHalt (stage_act P z.start past)) (sym b.2) x);
       }
     where
       creates : (q : List ℕ) (u : Task S) (past : List ℕ) (v : ℕ) (o : Order S) → IsSuffix (v ∷ past) u.body.found → stage_act P u.body.start past ≡ Created o false → (w : Task S) × At s q w × (w.body ≡ u.body) → (w : Task S) × At n (stage_created P u.body.start past ∷ q) w
@@ -369,22 +369,22 @@ module _ {S : Type 0} (P : Program S) (main : Start S) (s n : State S) (p : List
           let f = body_forth (stage_created P b.0.body.start past ∷ q) k.0 k.1 in
           (f.0, subst (λ (z : Body S). At n (stage_created P z.start past ∷ q) f.0) b.2 f.1)
 
-  joined_gave : (r : List ℕ) (u : Task S) → GaveView s p d t r u → (c : ℕ) (op : Op) → (right_of u.body.start.context) c ≡ Holds (Fold op) true → In c u.given → SatX (accesses n c) op r
-  joined_gave r u own c op h g = x_stays P main s n made started gave_grown c op p (go (in_cons g))
+  joined_gave : (r : List ℕ) (u : Task S) → GaveUpView s p d t r u → (c : ℕ) (op : Op) → (right_of u.body.start.context) c ≡ Holds (Fold op) true → IsIn c u.given → IsJoinSatisfied (accesses n c) op r
+  joined_gave r u own c op h g = join_stays P main s n made started gave_grown c op p (go (in_cons g))
     where
-      go : (c ≡ d) ⊎ In c t.given → SatX (accesses s c) op p
-      go (inl e) = subst (λ (z : ℕ). SatX (accesses s z) op p) (sym e) (may.satisfied op (subst (λ (z : ℕ). (right_of t.body.start.context) z ≡ Holds (Fold op) true) e h))
+      go : (c ≡ d) ⊎ IsIn c t.given → IsJoinSatisfied (accesses s c) op p
+      go (inl e) = subst (λ (z : ℕ). IsJoinSatisfied (accesses s z) op p) (sym e) (may.satisfied op (subst (λ (z : ℕ). (right_of t.body.start.context) z ≡ Holds (Fold op) true) e h))
       go (inr i) = started.joined p t c op at_ h i
-  joined_gave r u (old e k) c op h g = x_stays P main s n made started gave_grown c op r (started.joined r u c op k h g)
+  joined_gave r u (old e k) c op h g = join_stays P main s n made started gave_grown c op r (started.joined r u c op k h g)
 
-  given_gave : (r : List ℕ) (u : Task S) → GaveView s p d t r u → (c : ℕ) → In c u.given → GivenWell P u c
+  given_gave : (r : List ℕ) (u : Task S) → GaveUpView s p d t r u → (c : ℕ) → IsIn c u.given → IsRightlyGiven P u c
   given_gave r u own c g = go (in_cons g)
     where
-      again : (e : ℕ) → GivenWell P t e → GivenWell P (gives d t) e
+      again : (e : ℕ) → IsRightlyGiven P t e → IsRightlyGiven P (after_giving d t) e
       again e k = record { mode = k.mode; strong = k.strong; right = k.right; gone = k.gone; fold_over = k.fold_over }
 
-      go : (c ≡ d) ⊎ In c t.given → GivenWell P (gives d t) c
-      go (inl e) = subst (λ (z : ℕ). GivenWell P (gives d t) z) (sym e) (again d may.well)
+      go : (c ≡ d) ⊎ IsIn c t.given → IsRightlyGiven P (after_giving d t) c
+      go (inl e) = subst (λ (z : ℕ). IsRightlyGiven P (after_giving d t) z) (sym e) (again d may.well)
       go (inr i) = again c (started.given p t c at_ i)
   given_gave r u (old e k) c g = started.given r u c k g
 
@@ -402,10 +402,10 @@ module _ {S : Type 0} (P : Program S) (main : Start S) (s n : State S) (p : List
           subst (λ (z : Body S). IsReady n q z.start.context) b.2 (ready_stays P main s n made started gave_grown q b.0.body.start.context
           (started.ready q b.0 v past b.1 (subst (λ (z : Body S). IsSuffix (v ∷ past) z.found) (sym b.2) g)))
 
-      waits : (q : List ℕ) (u : Task S) (v : ℕ) (past : List ℕ) → IsSuffix (v ∷ past) u.body.found → (w : Task S) × At s q w × (w.body ≡ u.body) → WaitMet P n q (stage_created P u.body.start past) (stage_act P u.body.start past)
+      waits : (q : List ℕ) (u : Task S) (v : ℕ) (past : List ℕ) → IsSuffix (v ∷ past) u.body.found → (w : Task S) × At s q w × (w.body ≡ u.body) → IsWaitMet P n q (stage_created P u.body.start past) (stage_act P u.body.start past)
       waits q u v past g b =
           let g' = subst (λ (z : Body S). IsSuffix (v ∷ past) z.found) (sym b.2) g in
-          subst (λ (z : Body S). WaitMet P n q (stage_created P z.start past) (stage_act P z.start past)) b.2
+          subst (λ (z : Body S). IsWaitMet P n q (stage_created P z.start past) (stage_act P z.start past)) b.2
           (wait_stays P main s n made started gave_grown gave_still q b.0 (stage_created P b.0.body.start past) (stage_act P b.0.body.start past) b.1 (created_grows P b.0.body.start (suffix_drop g')) (started.waited q b.0 v past b.1 g'))
 
 -- a Let and a Join may give the cell up
@@ -427,8 +427,8 @@ join_may P s p c op t k =
       satisfied = λ q h. same q h;
     }
   where
-    same : (q : Op) → (right_of t.body.start.context) c ≡ Holds (Fold q) true → SatX (accesses s c) q p
-    same q h = let e : op ≡ q = fold_op op q (sym k.right ∙ h) in subst (λ (z : Op). SatX (accesses s c) z p) e k.satisfied
+    same : (q : Op) → (right_of t.body.start.context) c ≡ Holds (Fold q) true → IsJoinSatisfied (accesses s c) q p
+    same q h = let e : op ≡ q = fold_op op q (sym k.right ∙ h) in subst (λ (z : Op). IsJoinSatisfied (accesses s c) z p) e k.satisfied
       where
         fold_op : (a b : Op) → Holds (Fold a) true ≡ Holds (Fold b) true → a ≡ b
         fold_op a b e = cc

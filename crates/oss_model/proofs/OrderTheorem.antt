@@ -3,21 +3,21 @@ use Rattle.std.proofs.Common.{◌≡◌, ℕ, ◌+◌, ◌<◌, ◌≤◌, ◌�
 use Rattle.oss_syntax.specs.declared.access.Mode.{Mode}
 use Rattle.oss_syntax.specs.declared.access.Op.{Op}
 use Rattle.oss_syntax.specs.declared.access.Mode.TheVariants.{Read, Write, Fold}
-use Rattle.oss_model.specs.Forest.{Done, SatW, SatR, SatX, IsRead, done}
+use Rattle.oss_model.specs.Forest.{IsDone, IsWriteSatisfied, IsReadSatisfied, IsJoinSatisfied, IsRead, done}
 use Rattle.oss_model.specs.Order.{IsSuffix, whole, longer}
 use Rattle.oss_model.specs.Rights.{Right, Holds, Touch, Reads, Folds, covers}
 use Rattle.oss_model.specs.Context.{Context, child_context, right_of}
 use Rattle.oss_model.specs.Bodies.{Order, Program, Act, Start, stack_from, stage_act, stage_created, child_start, Touches}
 use Rattle.oss_model.specs.Bodies.Act.{Created, Awaited, Waited, WaitedOn, Over}
-use Rattle.oss_model.specs.Machine.{Task, State, At, find, HasAccess, HasGiven, accesses, IsChild, is_child, mode_in, IsReady, IsComplete, WaitMet}
+use Rattle.oss_model.specs.Machine.{Task, State, At, find, HasAccess, HasGiven, accesses, IsChild, is_child, mode_in, IsReady, IsComplete, IsWaitMet}
 use Rattle.oss_model.specs.Memory.{Event, IsEarlierEvent, Happened}
-use Rattle.oss_model.specs.History.{MadeBy, IsMade, IsStarted, GivenWell}
+use Rattle.oss_model.specs.History.{MadeBy, IsMade, IsStarted, IsRightlyGiven}
 use Rattle.oss_model.specs.Agreement.{MainStarts, Compatible}
 use Rattle.oss_model.proofs.JudgeLemmas.{covers_trans, Permits, op_eq_is}
 use Rattle.oss_model.proofs.StageLemmas.{creating, stage_right, StartsWell, Touching, stage_touch, created_grows, creation_counts, creation_at, stage_passes}
 use Rattle.oss_model.proofs.LendLemmas.{LentFor, Clears, Cleared, stage_lent, lent_or_cleared, created_lends, created_awaits, lent_touch}
 use Rattle.oss_model.proofs.OrderLemmas.{suffix_trans, suffix_drop, suffix_linear, suffix_full, Lie, lie}
-use Rattle.oss_model.proofs.TreeLemmas.{at_same, AccessOf, has_access, access_up, access_chain, task_above, sat_w_above, sat_r_above, sat_x_above, sat_w_before, sat_r_before, sat_x_before, mode_is, complete_done, Late, covered_stage, before_given, starts_well, next_of, start_right}
+use Rattle.oss_model.proofs.TreeLemmas.{at_same, AccessOf, has_access, access_up, access_chain, task_above, write_satisfied_above, read_satisfied_above, join_satisfied_above, write_satisfied_before, read_satisfied_before, join_satisfied_before, mode_is, complete_done, Late, covered_stage, before_given, starts_well, next_of, start_right}
 
 -- two touches of one cell, of which the order matters
 abbrev pub Clash : Touch → Bool → Touch → Bool → Type 0
@@ -89,12 +89,12 @@ module _ {S : Type 0} (P : Program S) (main : Start S) (x s : State S) (main_sta
   record Found (c : ℕ) (p : List ℕ) : Type 0 where
     pub task : Task S
     pub at_ : At s p task
-    is_done : Done (accesses s c) p
+    is_done : IsDone (accesses s c) p
 
-  given_well : (c : ℕ) (p : List ℕ) → Done (accesses s c) p → (t : Task S) × At s p t × GivenWell P t c
+  given_well : (c : ℕ) (p : List ℕ) → IsDone (accesses s c) p → (t : Task S) × At s p t × IsRightlyGiven P t c
   given_well c p (done g below) = (g.task, g.at_, s_started.given p g.task c g.at_ g.given)
 
-  below_done : (c k : ℕ) (p : List ℕ) → Done (accesses s c) p → IsChild s c p (k ∷ p) → Done (accesses s c) (k ∷ p)
+  below_done : (c k : ℕ) (p : List ℕ) → IsDone (accesses s c) p → IsChild s c p (k ∷ p) → IsDone (accesses s c) (k ∷ p)
   below_done c k p (done g below) h = below (k ∷ p) h
 
   step_down : (c i k : ℕ) (p : List ℕ) (m : Mode) → AccessOf x c (k ∷ i ∷ p) m → Found c (i ∷ p) → Found c (k ∷ i ∷ p)
@@ -115,7 +115,7 @@ module _ {S : Type 0} (P : Program S) (main : Start S) (x s : State S) (main_sta
       let own : HasAccess s c (i ∷ p) = record { task = gw.0; at_ = gw.1; mode = gw.2.mode; strong = gw.2.strong; right = gw.2.right } in
       record { task = made.0; at_ = at2; is_done = below_done c k (i ∷ p) f.is_done (is_child own acc) }
 
-  descend : (c i : ℕ) (a : List ℕ) {p : List ℕ} (m : Mode) → IsSuffix (i ∷ a) p → AccessOf x c p m → Done (accesses s c) (i ∷ a) → Found c p
+  descend : (c i : ℕ) (a : List ℕ) {p : List ℕ} (m : Mode) → IsSuffix (i ∷ a) p → AccessOf x c p m → IsDone (accesses s c) (i ∷ a) → Found c p
   descend c i a m whole acc d = let g = given_well c (i ∷ a) d in record { task = g.0; at_ = g.1; is_done = d }
   descend c i a m (longer {y = k} {ys = []} h) acc d = elim h [ ]
   descend c i a m (longer {y = k} {ys = j ∷ p} h) acc d =
@@ -138,7 +138,7 @@ module _ {S : Type 0} (P : Program S) (main : Start S) (x s : State S) (main_sta
     pub stage : IsSuffix g.past task.body.found
     pub touches : Touches (stage_act P g.start g.past) c t slot
     pub direct : slot ≡ false → IsReady s g.start.path g.start.context
-    pub joined : (op : Op) → t ≡ Folds op → slot ≡ true → SatX (accesses s c) op g.start.path
+    pub joined : (op : Op) → t ≡ Folds op → slot ≡ true → IsJoinSatisfied (accesses s c) op g.start.path
 
   -- the touch is done in s, and joined where it went to a slot
   pub record Concluded (e : Event S) (c : ℕ) (slot : Bool) : Type 0 where
@@ -167,7 +167,7 @@ module _ {S : Type 0} (P : Program S) (main : Start S) (x s : State S) (main_sta
       record { task = h.task; at_ = h.at_; strong = true; right = subst (λ (z : Start S). (right_of z.context) c ≡ Holds k.mode true) (sym h.start) k.holds }
 
   -- where the access is done, the touch is done
-  by_done : (e : Event S) (c : ℕ) (t : Touch) (slot : Bool) → TouchIn e c t slot → Done (accesses s c) e.start.path → Concluded e c slot
+  by_done : (e : Event S) (c : ℕ) (t : Touch) (slot : Bool) → TouchIn e c t slot → IsDone (accesses s c) e.start.path → Concluded e c slot
   by_done e c t slot h d =
       let g = given_well c e.start.path d in
       let k = touching e c t slot h in
@@ -179,10 +179,10 @@ module _ {S : Type 0} (P : Program S) (main : Start S) (x s : State S) (main_sta
         given = λ _. given_of d;
       }
     where
-      given_of : Done (accesses s c) e.start.path → HasGiven s c e.start.path
+      given_of : IsDone (accesses s c) e.start.path → HasGiven s c e.start.path
       given_of (done here_ below) = here_
 
-  by_done_above : (e : Event S) (c : ℕ) (t : Touch) (slot : Bool) (i : ℕ) (a : List ℕ) (h : TouchIn e c t slot) → IsSuffix (i ∷ a) e.start.path → Done (accesses s c) (i ∷ a) → Concluded e c slot
+  by_done_above : (e : Event S) (c : ℕ) (t : Touch) (slot : Bool) (i : ℕ) (a : List ℕ) (h : TouchIn e c t slot) → IsSuffix (i ∷ a) e.start.path → IsDone (accesses s c) (i ∷ a) → Concluded e c slot
   by_done_above e c t slot i a h g d =
       by_done e c t slot h (descend c i a (touching e c t slot h).mode g (access_in e c t slot h) d).is_done
 
@@ -280,11 +280,11 @@ module _ {S : Type 0} (P : Program S) (main : Start S) (x s : State S) (main_sta
   move_access c p m u acc at_ =
       record { task = u; at_ = at_; strong = acc.strong; right = subst (λ (z : Start S). (right_of z.context) c ≡ Holds m acc.strong) (comp p acc.task u acc.at_ at_).start acc.right }
 
-  writes_ready : (c j : ℕ) (a : List ℕ) (q : List ℕ) (y : Context) → IsSuffix (j ∷ a) q → IsReady s q y → (right_of y) c ≡ Holds Write true → SatW (accesses s c) q
+  writes_ready : (c j : ℕ) (a : List ℕ) (q : List ℕ) (y : Context) → IsSuffix (j ∷ a) q → IsReady s q y → (right_of y) c ≡ Holds Write true → IsWriteSatisfied (accesses s c) q
   writes_ready c j a [] y g h r = elim g [ ]
   writes_ready c j a (k ∷ q) y g h r = h.1 c r
 
-  reads_ready : (c j : ℕ) (a : List ℕ) (q : List ℕ) (y : Context) → IsSuffix (j ∷ a) q → IsReady s q y → (right_of y) c ≡ Holds Read true → SatR (accesses s c) q
+  reads_ready : (c j : ℕ) (a : List ℕ) (q : List ℕ) (y : Context) → IsSuffix (j ∷ a) q → IsReady s q y → (right_of y) c ≡ Holds Read true → IsReadSatisfied (accesses s c) q
   reads_ready c j a [] y g h r = elim g [ ]
   reads_ready c j a (k ∷ q) y g h r = h.0 c r
 
@@ -303,16 +303,16 @@ module _ {S : Type 0} (P : Program S) (main : Start S) (x s : State S) (main_sta
       let acc = move_access c (i ∷ q) up.mode sib.0 up.access sib.1 in
       by_done_above e c t a i q h left (go tg.mode up.mode acc tg.holds tg.permits up.covers)
     where
-      go : (mg mx : Mode) → AccessOf s c (i ∷ q) mx → (right_of g.start.context) c ≡ Holds mg true → Permits mg u b → covers mx (touching e c t a h).mode ≡ true → Done (accesses s c) (i ∷ q)
+      go : (mg mx : Mode) → AccessOf s c (i ∷ q) mx → (right_of g.start.context) c ≡ Holds mg true → Permits mg u b → covers mx (touching e c t a h).mode ≡ true → IsDone (accesses s c) (i ∷ q)
       go Write mx acc r p cov =
           let f : b ≡ false = write_flag u b p in
-          sat_w_before s c i j q l (has_access acc) (sat_w_above s c j q right (writes_ready c j q g.start.path g.start.context right (k.direct f) r))
+          write_satisfied_before s c i j q l (has_access acc) (write_satisfied_above s c j q right (writes_ready c j q g.start.path g.start.context right (k.direct f) r))
         where
           write_flag : (u : Touch) (b : Bool) → Permits Write u b → b ≡ false
           write_flag u b Permits.write = refl
       go Read mx acc r p cov =
           let f : (b ≡ false) × (u ≡ Reads) = read_flag u b p in
-          sat_r_before s c i j q l (has_access acc) (not_read mx _ (mode_is s c (i ∷ q) mx acc) (λ z. wrong z f.1)) (sat_r_above s c j q right (reads_ready c j q g.start.path g.start.context right (k.direct f.0) r))
+          read_satisfied_before s c i j q l (has_access acc) (not_read mx _ (mode_is s c (i ∷ q) mx acc) (λ z. wrong z f.1)) (read_satisfied_above s c j q right (reads_ready c j q g.start.path g.start.context right (k.direct f.0) r))
         where
           read_flag : (u : Touch) (b : Bool) → Permits Read u b → (b ≡ false) × (u ≡ Reads)
           read_flag u b Permits.read = (refl, refl)
@@ -323,7 +323,7 @@ module _ {S : Type 0} (P : Program S) (main : Start S) (x s : State S) (main_sta
               clash_reads_at t a b (subst (λ (y : Mode). Permits y t a) v (touching e c t a h).permits) (subst (λ (y : Touch). Clash t a y b) w clash)
       go (Fold op) mx acc r p cov =
           let f : (b ≡ true) × (u ≡ Folds op) = fold_flag u b p in
-          satisfied (sat_x_above s c op j q right (k.joined op f.1 f.0))
+          satisfied (join_satisfied_above s c op j q right (k.joined op f.1 f.0))
         where
           fold_flag : (u : Touch) (b : Bool) → Permits (Fold op) u b → (b ≡ true) × (u ≡ Folds op)
           fold_flag u b Permits.fold = (refl, refl)
@@ -333,23 +333,23 @@ module _ {S : Type 0} (P : Program S) (main : Start S) (x s : State S) (main_sta
               let v : (touching e c t a h).mode ≡ Fold op = covers_fold op (touching e c t a h).mode (subst (λ (y : Mode). covers y (touching e c t a h).mode ≡ true) z cov) in
               clash_folds op t a u b (subst (λ (y : Mode). Permits y t a) v (touching e c t a h).permits) p clash
 
-          before : (mode_in (find s.tasks (i ∷ q)) c ≡ Fold op) ⊎ Done (accesses s c) (i ∷ q) → Done (accesses s c) (i ∷ q)
+          before : (mode_in (find s.tasks (i ∷ q)) c ≡ Fold op) ⊎ IsDone (accesses s c) (i ∷ q) → IsDone (accesses s c) (i ∷ q)
           before (inl z) = absurd (wrong (sym (mode_is s c (i ∷ q) mx acc) ∙ z))
           before (inr d) = d
 
-          satisfied : SatX (accesses s c) op (j ∷ q) ⊎ SatW (accesses s c) (j ∷ q) → Done (accesses s c) (i ∷ q)
-          satisfied (inl z) = before (sat_x_before s c op i j q l (has_access acc) z)
-          satisfied (inr z) = sat_w_before s c i j q l (has_access acc) z
+          satisfied : IsJoinSatisfied (accesses s c) op (j ∷ q) ⊎ IsWriteSatisfied (accesses s c) (j ∷ q) → IsDone (accesses s c) (i ∷ q)
+          satisfied (inl z) = before (join_satisfied_before s c op i j q l (has_access acc) z)
+          satisfied (inr z) = write_satisfied_before s c i j q l (has_access acc) z
 
-  waits_done : (c i : ℕ) (q : List ℕ) (n : ℕ) (act : Act S) → HasAccess s c (i ∷ q) → i < n → Clears act c → WaitMet P s q n act → Done (accesses s c) (i ∷ q)
+  waits_done : (c i : ℕ) (q : List ℕ) (n : ℕ) (act : Act S) → HasAccess s c (i ∷ q) → i < n → Clears act c → IsWaitMet P s q n act → IsDone (accesses s c) (i ∷ q)
   waits_done c i q n Waited acc l cl w = complete_done P s c i q (w i acc.task l acc.at_) acc
   waits_done c i q n (WaitedOn named) acc l cl w = w i c l cl acc
   waits_done c i q n _ acc l cl w = absurd cl
 
-  awaits_done : (c i : ℕ) (q : List ℕ) (n : ℕ) (act : Act S) → HasAccess s c (i ∷ q) → i + 1 ≡ n → act ≡ Awaited → WaitMet P s q n act → Done (accesses s c) (i ∷ q)
+  awaits_done : (c i : ℕ) (q : List ℕ) (n : ℕ) (act : Act S) → HasAccess s c (i ∷ q) → i + 1 ≡ n → act ≡ Awaited → IsWaitMet P s q n act → IsDone (accesses s c) (i ∷ q)
   awaits_done c i q n act acc l e w = complete_done P s c i q (go act e w) acc
     where
-      go : (act : Act S) → act ≡ Awaited → WaitMet P s q n act → IsComplete P s (i ∷ q)
+      go : (act : Act S) → act ≡ Awaited → IsWaitMet P s q n act → IsComplete P s (i ∷ q)
       go Awaited e w = w i acc.task l acc.at_
       go Act.Ticked e w = cc
       go (Act.Load d) e w = cc
@@ -367,13 +367,13 @@ module _ {S : Type 0} (P : Program S) (main : Start S) (x s : State S) (main_sta
   -- a creation that lent the cell before the second touch
   lent_then : (g : Event S) (c : ℕ) (u : Touch) (b : Bool) (k : Granted g c u b) (i : ℕ) (past : List ℕ) (answer : ℕ) (o : Order S) (mx : Mode) (strong : Bool) → HasAccess s c (i ∷ g.start.path)
       → stage_created P g.start past ≡ i → stage_act P g.start past ≡ Created o false → o.when ≡ true → (right_of (child_context (stack_from P g.start past).base.context o.clauses o.last)) c ≡ Holds mx strong → IsSuffix (answer ∷ past) g.past
-      → Done (accesses s c) (i ∷ g.start.path) ⊎ LentFor mx (stage_lent P g.start g.past c)
+      → IsDone (accesses s c) (i ∷ g.start.path) ⊎ LentFor mx (stage_lent P g.start g.past c)
   lent_then g c u b k i past answer o mx strong acc number act when_ r before = go (lent_or_cleared P g.start (answer ∷ past) mx c (created_lends P g.start answer past o c mx strong act when_ r) before)
     where
-      go : Cleared P g.start (answer ∷ past) g.past c ⊎ LentFor mx (stage_lent P g.start g.past c) → Done (accesses s c) (i ∷ g.start.path) ⊎ LentFor mx (stage_lent P g.start g.past c)
+      go : Cleared P g.start (answer ∷ past) g.past c ⊎ LentFor mx (stage_lent P g.start g.past c) → IsDone (accesses s c) (i ∷ g.start.path) ⊎ LentFor mx (stage_lent P g.start g.past c)
       go (inl cl) =
           let w = s_started.waited g.start.path k.task cl.answer cl.past k.at_ (suffix_trans cl.happened k.stage) in
-          let w' : WaitMet P s g.start.path (stage_created P g.start cl.past) (stage_act P g.start cl.past) = subst (λ (z : Start S). WaitMet P s g.start.path (stage_created P z cl.past) (stage_act P z cl.past)) k.start w in
+          let w' : IsWaitMet P s g.start.path (stage_created P g.start cl.past) (stage_act P g.start cl.past) = subst (λ (z : Start S). IsWaitMet P s g.start.path (stage_created P z cl.past) (stage_act P z cl.past)) k.start w in
           let n = created_grows P g.start cl.after in
           let one = creation_counts P g.start answer past o act in
           inl (waits_done c i g.start.path (stage_created P g.start cl.past) (stage_act P g.start cl.past) acc (omega arith) cl.clears w')
@@ -381,12 +381,12 @@ module _ {S : Type 0} (P : Program S) (main : Start S) (x s : State S) (main_sta
 
   -- a creation under a false if before the second touch
   awaited_then : (g : Event S) (c : ℕ) (u : Touch) (b : Bool) (k : Granted g c u b) (i : ℕ) (past : List ℕ) (answer : ℕ) (o : Order S) → HasAccess s c (i ∷ g.start.path)
-      → stage_created P g.start past ≡ i → stage_act P g.start past ≡ Created o false → o.when ≡ false → IsSuffix (answer ∷ past) g.past → Done (accesses s c) (i ∷ g.start.path)
+      → stage_created P g.start past ≡ i → stage_act P g.start past ≡ Created o false → o.when ≡ false → IsSuffix (answer ∷ past) g.past → IsDone (accesses s c) (i ∷ g.start.path)
   awaited_then g c u b k i past answer o acc number act when_ before =
       let aw = created_awaits P g.start answer past o act when_ in
       let n = next_of before (longer_then aw) in
       let w = s_started.waited g.start.path k.task n.0 (answer ∷ past) k.at_ (suffix_trans n.1 k.stage) in
-      let w' : WaitMet P s g.start.path (stage_created P g.start (answer ∷ past)) (stage_act P g.start (answer ∷ past)) = subst (λ (z : Start S). WaitMet P s g.start.path (stage_created P z (answer ∷ past)) (stage_act P z (answer ∷ past))) k.start w in
+      let w' : IsWaitMet P s g.start.path (stage_created P g.start (answer ∷ past)) (stage_act P g.start (answer ∷ past)) = subst (λ (z : Start S). IsWaitMet P s g.start.path (stage_created P z (answer ∷ past)) (stage_act P z (answer ∷ past))) k.start w in
       let one = creation_counts P g.start answer past o act in
       awaits_done c i g.start.path (stage_created P g.start (answer ∷ past)) (stage_act P g.start (answer ∷ past)) acc (omega arith) aw w'
     where
@@ -419,7 +419,7 @@ module _ {S : Type 0} (P : Program S) (main : Start S) (x s : State S) (main_sta
       let acc = move_access c (i ∷ g.start.path) up.mode child.0 up.access at2 in
       by_done_above e c t a i g.start.path h below (finish open_ up.mode acc up.covers (s_made.child i g.start.path acc.task acc.at_))
     where
-      finish : g.start.context.final ≡ false → (mx : Mode) (acc : AccessOf s c (i ∷ g.start.path) mx) → covers mx (touching e c t a h).mode ≡ true → MadeBy P s i g.start.path acc.task → Done (accesses s c) (i ∷ g.start.path)
+      finish : g.start.context.final ≡ false → (mx : Mode) (acc : AccessOf s c (i ∷ g.start.path) mx) → covers mx (touching e c t a h).mode ≡ true → MadeBy P s i g.start.path acc.task → IsDone (accesses s c) (i ∷ g.start.path)
       finish open_ mx acc cov mk = go same mk.order.when refl
         where
           same : mk.creator.body.start ≡ g.start
@@ -448,32 +448,32 @@ module _ {S : Type 0} (P : Program S) (main : Start S) (x s : State S) (main_sta
               let m : over.mode ≡ (touching_s g c u b k).mode = holds_same ((right_of g.start.context) c) over.mode (touching_s g c u b k).mode over.access.strong true r (touching_s g c u b k).holds in
               subst (λ (z : Mode). covers z mx ≡ true) m over.covers
 
-          both_read : (u ≡ Reads) × (mx ≡ Read) → Done (accesses s c) (i ∷ g.start.path)
+          both_read : (u ≡ Reads) × (mx ≡ Read) → IsDone (accesses s c) (i ∷ g.start.path)
           both_read (r, z) =
               let v : (touching e c t a h).mode ≡ Read = covers_read (touching e c t a h).mode (subst (λ (y : Mode). covers y (touching e c t a h).mode ≡ true) z cov) in
               absurd (clash_reads_at t a b (subst (λ (y : Mode). Permits y t a) v (touching e c t a h).permits) (subst (λ (y : Touch). Clash t a y b) r clash))
 
-          both_fold : (op : Op) → (touching_s g c u b k).mode ≡ Fold op → Done (accesses s c) (i ∷ g.start.path)
+          both_fold : (op : Op) → (touching_s g c u b k).mode ≡ Fold op → IsDone (accesses s c) (i ∷ g.start.path)
           both_fold op z =
               let y = covers_fold op mx (subst (λ (q : Mode). covers q mx ≡ true) z covered_g) in
               let v : (touching e c t a h).mode ≡ Fold op = covers_fold op (touching e c t a h).mode (subst (λ (q : Mode). covers q (touching e c t a h).mode ≡ true) y cov) in
               absurd (clash_folds op t a u b (subst (λ (q : Mode). Permits q t a) v (touching e c t a h).permits) (subst (λ (q : Mode). Permits q u b) z (touching_s g c u b k).permits) clash)
 
-          lent : LentFor mx (stage_lent P g.start g.past c) → Done (accesses s c) (i ∷ g.start.path)
+          lent : LentFor mx (stage_lent P g.start g.past c) → IsDone (accesses s c) (i ∷ g.start.path)
           lent lf =
               let p = stage_passes P g.start g.past c u b open_ k.touches in
               let m : p.mode ≡ (touching_s g c u b k).mode = holds_same (stage_right P g.start g.past c) p.mode (touching_s g c u b k).mode true true p.holds (touching_s g c u b k).stands in
               which m (lent_touch p.mode mx u (stage_lent P g.start g.past c) p.unlent lf)
             where
-              which : {n : Mode} → n ≡ (touching_s g c u b k).mode → ((u ≡ Reads) × (mx ≡ Read)) ⊎ ((op : Op) × (n ≡ Fold op)) → Done (accesses s c) (i ∷ g.start.path)
+              which : {n : Mode} → n ≡ (touching_s g c u b k).mode → ((u ≡ Reads) × (mx ≡ Read)) ⊎ ((op : Op) × (n ≡ Fold op)) → IsDone (accesses s c) (i ∷ g.start.path)
               which m (inl z) = both_read z
               which m (inr z) = both_fold z.0 (sym m ∙ z.1)
 
-          settle : Done (accesses s c) (i ∷ g.start.path) ⊎ LentFor mx (stage_lent P g.start g.past c) → Done (accesses s c) (i ∷ g.start.path)
+          settle : IsDone (accesses s c) (i ∷ g.start.path) ⊎ LentFor mx (stage_lent P g.start g.past c) → IsDone (accesses s c) (i ∷ g.start.path)
           settle (inl d) = d
           settle (inr lf) = lent lf
 
-          go : mk.creator.body.start ≡ g.start → (w : Bool) → mk.order.when ≡ w → Done (accesses s c) (i ∷ g.start.path)
+          go : mk.creator.body.start ≡ g.start → (w : Bool) → mk.order.when ≡ w → IsDone (accesses s c) (i ∷ g.start.path)
           go e1 true w = settle (lent_then g c u b k i mk.past mk.answer mk.order mx acc.strong (has_access acc) number act w right before)
           go e1 false w = awaited_then g c u b k i mk.past mk.answer mk.order (has_access acc) number act w before
 

@@ -5,14 +5,14 @@ use Rattle.oss_syntax.specs.declared.access.Op.{Op}
 use Rattle.oss_model.specs.Agreement.{MainStarts, InMemory}
 use Rattle.std.proofs.Common.{◌≡◌, ◌≢◌, ℕ, ◌<◌, ◌⊎◌, inl, inr, refl, sym, subst, ap, ◌∙◌, List, [], ◌∷◌, ◌++◌, length, arith, Bool, true, false, get_or, get_or-set_same, get_or-set_other, length-set}
 use Rattle.std.specs.Prelude.{slice_index}
-use Rattle.oss_model.specs.Order.{IsSuffix, whole, longer, In}
+use Rattle.oss_model.specs.Order.{IsSuffix, whole, longer, IsIn}
 use Rattle.oss_model.specs.Rights.{Holds, Touch, Reads}
 use Rattle.oss_model.specs.Bodies.{Program, Act, Start, stage_act, Touches}
 use Rattle.oss_model.specs.Bodies.Act.{Load, Store, Folded}
 use Rattle.oss_model.specs.Machine.{Task, State, At}
 use Rattle.oss_model.specs.History.{IsMade}
-use Rattle.oss_model.specs.Moves.{act_now, answered, found_by, combine}
-use Rattle.oss_model.specs.Memory.{Event, IsEarlierEvent, Happened, Changes, store, folded, changed, replay, IsSorted}
+use Rattle.oss_model.specs.Moves.{act_now, after_answer, found_by, combine}
+use Rattle.oss_model.specs.Memory.{Event, IsEarlierEvent, Happened, Changes, store, folded, value_after, replay, IsSorted}
 use Rattle.oss_model.specs.Sequence.{Running, direct_cells, RunsOn, Sequential, opens, runs_on}
 use Rattle.oss_model.proofs.StageLemmas.{stage_touch}
 use Rattle.oss_model.proofs.OrderLemmas.{suffix_trans}
@@ -32,16 +32,16 @@ pub record RunChange {S : Type 0} (P : Program S) (z : Running S) (c : ℕ) (e :
 pub record RunValue {S : Type 0} (P : Program S) (z : Running S) (cells : List ℕ) (c : ℕ) : Type 0 where
   pub list : List (Event S)
   pub sorted : IsSorted P list
-  pub only : (e : Event S) → In e list → RunChange P z c e
-  pub all : (e : Event S) → RunChange P z c e → In e list
+  pub only : (e : Event S) → IsIn e list → RunChange P z c e
+  pub all : (e : Event S) → RunChange P z c e → IsIn e list
   pub value : slice_index z.state.cells c ≡ replay P list (slice_index cells c)
 
 -- what a load found is the value of the changes before it
 pub record LoadFound {S : Type 0} (P : Program S) (z : Running S) (cells : List ℕ) (c : ℕ) (e : Event S) : Type 0 where
   pub list : List (Event S)
   pub sorted : IsSorted P list
-  pub only : (g : Event S) → In g list → RunChange P z c g × IsEarlierEvent P g e
-  pub all : (g : Event S) → RunChange P z c g → IsEarlierEvent P g e → In g list
+  pub only : (g : Event S) → IsIn g list → RunChange P z c g × IsEarlierEvent P g e
+  pub all : (g : Event S) → RunChange P z c g → IsEarlierEvent P g e → IsIn g list
   pub value : e.answer ≡ replay P list (slice_index cells c)
 
 pub record Recalls {S : Type 0} (P : Program S) (cells : List ℕ) (z : Running S) : Type 0 where
@@ -69,7 +69,7 @@ touch_in_memory P main s cells ms p t past c u slot made mem h k =
 
 -- the effect of an act of the run on a cell
 pub RunEffect : {S : Type 0} → Act S → ℕ → List ℕ → Type 0
-RunEffect a c cells = ((slot : Bool) × (Changes a c slot) × (slice_index (direct_cells a cells) c ≡ changed a (slice_index cells c))) ⊎ (((slot : Bool) → Changes a c slot → ⊥) × (slice_index (direct_cells a cells) c ≡ slice_index cells c))
+RunEffect a c cells = ((slot : Bool) × (Changes a c slot) × (slice_index (direct_cells a cells) c ≡ value_after a (slice_index cells c))) ⊎ (((slot : Bool) → Changes a c slot → ⊥) × (slice_index (direct_cells a cells) c ≡ slice_index cells c))
 
 which_cell : (x y : ℕ) → (x ≡ y) ⊎ (x ≢ y)
 which_cell x y = grind arith
@@ -114,7 +114,7 @@ module _ {S : Type 0} (P : Program S) (main : Start S) (cells : List ℕ) (z y :
   happened_new : Happened y.state ev
   happened_new =
       let q = path_found z.state.tasks z.active r.task r.at_ in
-      record { task = answered (found_by (act_now P r.task.body) z.state.cells) r.task; at_ = subst (λ (x : List ℕ). At y.state x (answered (found_by (act_now P r.task.body) z.state.cells) r.task)) (sym q) r.tasks.own; start = refl; found = whole }
+      record { task = after_answer (found_by (act_now P r.task.body) z.state.cells) r.task; at_ = subst (λ (x : List ℕ). At y.state x (after_answer (found_by (act_now P r.task.body) z.state.cells) r.task)) (sym q) r.tasks.own; start = refl; found = whole }
 
   change_forth : (c : ℕ) (e : Event S) → RunChange P z c e → RunChange P y c e
   change_forth c e k = record { slot = k.slot; changes = k.changes; happened = happened_forth e k.happened }
@@ -153,16 +153,16 @@ module _ {S : Type 0} (P : Program S) (main : Start S) (cells : List ℕ) (z y :
             sorted = sorted_append P ev v.list v.sorted (λ g i. before_new g (v.only g i).happened);
             only = λ e i. only e (in_append v.list i);
             all = λ e d. all e (change_back c e d);
-            value = here_value ∙ (k.2 ∙ (ap (λ (x : ℕ). changed (act_now P r.task.body) x) v.value ∙ sym (replay-append P ev v.list (slice_index cells c))));
+            value = here_value ∙ (k.2 ∙ (ap (λ (x : ℕ). value_after (act_now P r.task.body) x) v.value ∙ sym (replay-append P ev v.list (slice_index cells c))));
           }
         where
-          only : (e : Event S) → In e v.list ⊎ (e ≡ ev) → RunChange P y c e
+          only : (e : Event S) → IsIn e v.list ⊎ (e ≡ ev) → RunChange P y c e
           only e (inl i) = change_forth c e (v.only e i)
           only e (inr q) = subst (λ (x : Event S). RunChange P y c x) (sym q) (change_new c k.0 k.1)
 
-          all : (e : Event S) → RunChange P z c e ⊎ (e ≡ ev) → In e (v.list ++ ev ∷ [])
+          all : (e : Event S) → RunChange P z c e ⊎ (e ≡ ev) → IsIn e (v.list ++ ev ∷ [])
           all e (inl d) = in_left ev v.list (v.all e d)
-          all e (inr q) = subst (λ (x : Event S). In x (v.list ++ ev ∷ [])) (sym q) (in_last v.list)
+          all e (inr q) = subst (λ (x : Event S). IsIn x (v.list ++ ev ∷ [])) (sym q) (in_last v.list)
       go v (inr k) =
           record {
             list = v.list;
@@ -172,7 +172,7 @@ module _ {S : Type 0} (P : Program S) (main : Start S) (cells : List ℕ) (z y :
             value = here_value ∙ (k.1 ∙ v.value);
           }
         where
-          all : (e : Event S) → RunChange P y c e → RunChange P z c e ⊎ (e ≡ ev) → In e v.list
+          all : (e : Event S) → RunChange P y c e → RunChange P z c e ⊎ (e ≡ ev) → IsIn e v.list
           all e d (inl x) = v.all e x
           all e d (inr q) = let w = changes_at c e d q in absurd (k.0 w.0 w.1)
 
@@ -186,7 +186,7 @@ module _ {S : Type 0} (P : Program S) (main : Start S) (cells : List ℕ) (z y :
         value = f.value;
       }
     where
-      all : (g : Event S) → IsEarlierEvent P g e → RunChange P z c g ⊎ (g ≡ ev) → In g f.list
+      all : (g : Event S) → IsEarlierEvent P g e → RunChange P z c g ⊎ (g ≡ ev) → IsIn g f.list
       all g l (inl d) = f.all g d l
       all g l (inr q) = absurd (event_not P e ev (before_new e h) (subst (λ (x : Event S). IsEarlierEvent P x e) q l))
 
@@ -203,7 +203,7 @@ module _ {S : Type 0} (P : Program S) (main : Start S) (cells : List ℕ) (z y :
             value = ap (λ (x : Act S). found_by x z.state.cells) a ∙ v.value;
           }
         where
-          all : (g : Event S) → IsEarlierEvent P g ev → RunChange P z c g ⊎ (g ≡ ev) → In g v.list
+          all : (g : Event S) → IsEarlierEvent P g ev → RunChange P z c g ⊎ (g ≡ ev) → IsIn g v.list
           all g l (inl d) = v.all g d
           all g l (inr q) = let l' = subst (λ (x : Event S). IsEarlierEvent P x ev) q l in absurd (event_not P ev ev l' l')
 

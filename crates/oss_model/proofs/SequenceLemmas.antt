@@ -7,9 +7,9 @@ use Rattle.oss_model.specs.Bodies.{Order, Program, Act, Start, Body, stage_creat
 use Rattle.oss_model.specs.Bodies.Act.{Created, Awaited, Waited, WaitedOn, Over, Ticked, Load, Store, Folded, Releases, Printed, Ended, Fault}
 use Rattle.oss_model.specs.Machine.{same_path, Task, At, find}
 use Rattle.oss_model.specs.History.{IsMade}
-use Rattle.oss_model.specs.Moves.{act_now, created_now, is_over, answered, new_task, found_by}
+use Rattle.oss_model.specs.Moves.{act_now, created_now, is_ended, after_answer, new_task, found_by}
 use Rattle.oss_model.specs.Memory.{Event, place, IsEarlierEvent, Happened}
-use Rattle.oss_model.specs.Sequence.{Running, above, active_after, RunsOn, Sequential, opens, runs_on}
+use Rattle.oss_model.specs.Sequence.{Running, path_above, active_after, RunsOn, Sequential, opens, runs_on}
 use Rattle.oss_model.proofs.StageLemmas.{created_goes_on, start_goes_on, created_grows, creation_counts}
 use Rattle.oss_model.proofs.OrderLemmas.{suffix_drop, suffix_length, suffix_full, before_number, before_child, before_up}
 use Rattle.oss_model.proofs.TreeLemmas.{at_same, path_found, next_of, same_path_is}
@@ -27,10 +27,10 @@ pub record Stands {S : Type 0} (P : Program S) (main : Start S) (z : Running S) 
   -- the tasks above the one that runs wait for the child on the way to it, which they made last
   pub chain : (q : List ℕ) (j : ℕ) (u : Task S) → IsSuffix (j ∷ q) z.active → At z.state q u → created_now P u.body ≡ j + 1
   -- they have not ended, nor has the one that runs, unless it is main
-  pub waiting : (q : List ℕ) (j : ℕ) (u : Task S) → IsSuffix (j ∷ q) z.active → At z.state q u → is_over P u.body ≡ false
-  pub alive : (u : Task S) → At z.state z.active u → z.active ≢ [] → is_over P u.body ≡ false
+  pub waiting : (q : List ℕ) (j : ℕ) (u : Task S) → IsSuffix (j ∷ q) z.active → At z.state q u → is_ended P u.body ≡ false
+  pub alive : (u : Task S) → At z.state z.active u → z.active ≢ [] → is_ended P u.body ≡ false
   -- each other task has ended
-  pub others : (q : List ℕ) (u : Task S) → At z.state q u → IsSuffix q z.active ⊎ (is_over P u.body ≡ true)
+  pub others : (q : List ℕ) (u : Task S) → At z.state q u → IsSuffix q z.active ⊎ (is_ended P u.body ≡ true)
   -- what is done is before what the tasks on the way do next
   pub ahead : (q : List ℕ) (u : Task S) → At z.state q u → IsSuffix q z.active → (e : Event S) → Happened z.state e → IsEarlierEvent P e (stage_of u.body)
 
@@ -59,11 +59,11 @@ on_way {q = q} {p = p} h ne = next_of h (go (le_or (length q) (length p)))
 not_itself : {q p : List ℕ} {j : ℕ} → IsSuffix (j ∷ q) p → q ≡ p → ⊥
 not_itself {q = q} {p = p} h e = let l = suffix_length h in let f : length q ≡ length p = ap (λ (z : List ℕ). length z) e in omega arith
 
-suffix_above : {q p : List ℕ} → IsSuffix q (above p) → IsSuffix q p
+suffix_above : {q p : List ℕ} → IsSuffix q (path_above p) → IsSuffix q p
 suffix_above {p = []} h = h
 suffix_above {p = k ∷ p} h = longer h
 
-suffix_rest : {q p : List ℕ} → IsSuffix q p → q ≢ p → IsSuffix q (above p)
+suffix_rest : {q p : List ℕ} → IsSuffix q p → q ≢ p → IsSuffix q (path_above p)
 suffix_rest {p = []} whole ne = absurd (ne refl)
 suffix_rest {p = k ∷ p} whole ne = absurd (ne refl)
 suffix_rest {p = k ∷ p} (longer h) ne = h
@@ -75,31 +75,31 @@ suffix_split (longer h) = inr h
 -- which task runs after an act
 data Turn {S : Type 0} (P : Program S) (t : Task S) (p : List ℕ) (v : ℕ) : List ℕ → Type 0 where
   down : (o : Order S) → act_now P t.body ≡ Created o false → Turn P t p v (created_now P t.body ∷ p)
-  up : ((o : Order S) → act_now P t.body ≢ Created o false) → is_over P (answered v t).body ≡ true → Turn P t p v (above p)
-  stay : ((o : Order S) → act_now P t.body ≢ Created o false) → is_over P (answered v t).body ≡ false → Turn P t p v p
+  up : ((o : Order S) → act_now P t.body ≢ Created o false) → is_ended P (after_answer v t).body ≡ true → Turn P t p v (path_above p)
+  stay : ((o : Order S) → act_now P t.body ≢ Created o false) → is_ended P (after_answer v t).body ≡ false → Turn P t p v p
 
 turn : {S : Type 0} (P : Program S) (t : Task S) (p : List ℕ) (v : ℕ) → Turn P t p v (active_after P t p v (act_now P t.body))
 turn {S = S} P t p v = go (act_now P t.body) refl
   where
-    rest : (a : Act S) → act_now P t.body ≡ a → ((o : Order S) → a ≢ Created o false) → (b : Bool) → is_over P (answered v t).body ≡ b → Turn P t p v (if b then above p else p)
+    rest : (a : Act S) → act_now P t.body ≡ a → ((o : Order S) → a ≢ Created o false) → (b : Bool) → is_ended P (after_answer v t).body ≡ b → Turn P t p v (if b then path_above p else p)
     rest a e ne true o = up (λ o' e'. ne o' (sym e ∙ e')) o
     rest a e ne false o = stay (λ o' e'. ne o' (sym e ∙ e')) o
 
     go : (a : Act S) → act_now P t.body ≡ a → Turn P t p v (active_after P t p v a)
     go (Created o false) e = down o e
-    go (Created o true) e = rest (Created o true) e (λ o' e'. cc) (is_over P (answered v t).body) refl
-    go Ticked e = rest Ticked e (λ o' e'. cc) (is_over P (answered v t).body) refl
-    go (Load c) e = rest (Load c) e (λ o' e'. cc) (is_over P (answered v t).body) refl
-    go (Store c w) e = rest (Store c w) e (λ o' e'. cc) (is_over P (answered v t).body) refl
-    go (Folded c op w b) e = rest (Folded c op w b) e (λ o' e'. cc) (is_over P (answered v t).body) refl
-    go Awaited e = rest Awaited e (λ o' e'. cc) (is_over P (answered v t).body) refl
-    go Waited e = rest Waited e (λ o' e'. cc) (is_over P (answered v t).body) refl
-    go (WaitedOn named) e = rest (WaitedOn named) e (λ o' e'. cc) (is_over P (answered v t).body) refl
-    go (Releases cl b) e = rest (Releases cl b) e (λ o' e'. cc) (is_over P (answered v t).body) refl
-    go (Printed key text) e = rest (Printed key text) e (λ o' e'. cc) (is_over P (answered v t).body) refl
-    go Ended e = rest Ended e (λ o' e'. cc) (is_over P (answered v t).body) refl
-    go (Fault kind line key) e = rest (Fault kind line key) e (λ o' e'. cc) (is_over P (answered v t).body) refl
-    go Over e = rest Over e (λ o' e'. cc) (is_over P (answered v t).body) refl
+    go (Created o true) e = rest (Created o true) e (λ o' e'. cc) (is_ended P (after_answer v t).body) refl
+    go Ticked e = rest Ticked e (λ o' e'. cc) (is_ended P (after_answer v t).body) refl
+    go (Load c) e = rest (Load c) e (λ o' e'. cc) (is_ended P (after_answer v t).body) refl
+    go (Store c w) e = rest (Store c w) e (λ o' e'. cc) (is_ended P (after_answer v t).body) refl
+    go (Folded c op w b) e = rest (Folded c op w b) e (λ o' e'. cc) (is_ended P (after_answer v t).body) refl
+    go Awaited e = rest Awaited e (λ o' e'. cc) (is_ended P (after_answer v t).body) refl
+    go Waited e = rest Waited e (λ o' e'. cc) (is_ended P (after_answer v t).body) refl
+    go (WaitedOn named) e = rest (WaitedOn named) e (λ o' e'. cc) (is_ended P (after_answer v t).body) refl
+    go (Releases cl b) e = rest (Releases cl b) e (λ o' e'. cc) (is_ended P (after_answer v t).body) refl
+    go (Printed key text) e = rest (Printed key text) e (λ o' e'. cc) (is_ended P (after_answer v t).body) refl
+    go Ended e = rest Ended e (λ o' e'. cc) (is_ended P (after_answer v t).body) refl
+    go (Fault kind line key) e = rest (Fault kind line key) e (λ o' e'. cc) (is_ended P (after_answer v t).body) refl
+    go Over e = rest Over e (λ o' e'. cc) (is_ended P (after_answer v t).body) refl
 
 module _ {S : Type 0} (P : Program S) (main : Start S) (z y : Running S) (ms : MainStarts main) (st : Stands P main z) (r : RunsOn P z y) where
   answer_found : ℕ
@@ -143,38 +143,38 @@ module _ {S : Type 0} (P : Program S) (main : Start S) (z y : Running S) (ms : M
   seq_chain a (stay n b) q j u h k = chain_same q j u h k
   seq_chain a (up n o) q j u h k = chain_same q j u (suffix_above h) k
   seq_chain a (down o e) q j u whole k =
-      let w = at_same y.state z.active u (answered (found_by (act_now P r.task.body) z.state.cells) r.task) k r.tasks.own in
+      let w = at_same y.state z.active u (after_answer (found_by (act_now P r.task.body) z.state.cells) r.task) k r.tasks.own in
       ap (λ (x : Task S). created_now P x.body) w ∙ creation_counts P r.task.body.start (found_by (act_now P r.task.body) z.state.cells) r.task.body.found o e
   seq_chain a (down o e) q j u (longer h) k = chain_same q j u h k
 
-  waiting_same : (q : List ℕ) (j : ℕ) (u : Task S) → IsSuffix (j ∷ q) z.active → At y.state q u → is_over P u.body ≡ false
+  waiting_same : (q : List ℕ) (j : ℕ) (u : Task S) → IsSuffix (j ∷ q) z.active → At y.state q u → is_ended P u.body ≡ false
   waiting_same q j u h k = st.waiting q j u h (above_same q u j h (seq_view q u k))
 
-  own_goes_on : (o : Order S) → act_now P r.task.body ≡ Created o false → is_over P (answered (found_by (act_now P r.task.body) z.state.cells) r.task).body ≡ false
+  own_goes_on : (o : Order S) → act_now P r.task.body ≡ Created o false → is_ended P (after_answer (found_by (act_now P r.task.body) z.state.cells) r.task).body ≡ false
   own_goes_on o e = created_goes_on P r.task.body.start (found_by (act_now P r.task.body) z.state.cells) r.task.body.found o e
 
-  seq_waiting : (a : List ℕ) → Turn P r.task z.active (found_by (act_now P r.task.body) z.state.cells) a → (q : List ℕ) (j : ℕ) (u : Task S) → IsSuffix (j ∷ q) a → At y.state q u → is_over P u.body ≡ false
+  seq_waiting : (a : List ℕ) → Turn P r.task z.active (found_by (act_now P r.task.body) z.state.cells) a → (q : List ℕ) (j : ℕ) (u : Task S) → IsSuffix (j ∷ q) a → At y.state q u → is_ended P u.body ≡ false
   seq_waiting a (stay n b) q j u h k = waiting_same q j u h k
   seq_waiting a (up n o) q j u h k = waiting_same q j u (suffix_above h) k
   seq_waiting a (down o e) q j u whole k =
-      let w = at_same y.state z.active u (answered (found_by (act_now P r.task.body) z.state.cells) r.task) k r.tasks.own in
-      ap (λ (x : Task S). is_over P x.body) w ∙ own_goes_on o e
+      let w = at_same y.state z.active u (after_answer (found_by (act_now P r.task.body) z.state.cells) r.task) k r.tasks.own in
+      ap (λ (x : Task S). is_ended P x.body) w ∙ own_goes_on o e
   seq_waiting a (down o e) q j u (longer h) k = waiting_same q j u h k
 
-  above_way : (p : List ℕ) → above p ≢ [] → (j : ℕ) × IsSuffix (j ∷ above p) p
+  above_way : (p : List ℕ) → path_above p ≢ [] → (j : ℕ) × IsSuffix (j ∷ path_above p) p
   above_way [] ne = absurd (ne refl)
   above_way (k ∷ p) ne = (k, whole)
 
-  seq_alive : (a : List ℕ) → Turn P r.task z.active (found_by (act_now P r.task.body) z.state.cells) a → (u : Task S) → At y.state a u → a ≢ [] → is_over P u.body ≡ false
+  seq_alive : (a : List ℕ) → Turn P r.task z.active (found_by (act_now P r.task.body) z.state.cells) a → (u : Task S) → At y.state a u → a ≢ [] → is_ended P u.body ≡ false
   seq_alive a (stay n b) u k ne =
-      let w = at_same y.state z.active u (answered (found_by (act_now P r.task.body) z.state.cells) r.task) k r.tasks.own in
-      ap (λ (x : Task S). is_over P x.body) w ∙ b
-  seq_alive a (up n o) u k ne = let w = above_way z.active ne in waiting_same (above z.active) w.0 u w.1 k
+      let w = at_same y.state z.active u (after_answer (found_by (act_now P r.task.body) z.state.cells) r.task) k r.tasks.own in
+      ap (λ (x : Task S). is_ended P x.body) w ∙ b
+  seq_alive a (up n o) u k ne = let w = above_way z.active ne in waiting_same (path_above z.active) w.0 u w.1 k
   seq_alive a (down o e) u k ne =
       let w = at_same y.state (created_now P r.task.body ∷ z.active) u (new_task P r.task.body o) k (r.tasks.made o e) in
-      ap (λ (x : Task S). is_over P x.body) w ∙ start_goes_on P (new_task P r.task.body o).body.start
+      ap (λ (x : Task S). is_ended P x.body) w ∙ start_goes_on P (new_task P r.task.body o).body.start
 
-  seq_others : (a : List ℕ) → Turn P r.task z.active (found_by (act_now P r.task.body) z.state.cells) a → (q : List ℕ) (u : Task S) → StepView P z.state z.active r.task (found_by (act_now P r.task.body) z.state.cells) q u → IsSuffix q a ⊎ (is_over P u.body ≡ true)
+  seq_others : (a : List ℕ) → Turn P r.task z.active (found_by (act_now P r.task.body) z.state.cells) a → (q : List ℕ) (u : Task S) → StepView P z.state z.active r.task (found_by (act_now P r.task.body) z.state.cells) q u → IsSuffix q a ⊎ (is_ended P u.body ≡ true)
   seq_others a (down o e) q u own = inl (longer whole)
   seq_others a (up n o) q u own = inr o
   seq_others a (stay n b) q u own = inl whole
@@ -183,7 +183,7 @@ module _ {S : Type 0} (P : Program S) (main : Start S) (z y : Running S) (ms : M
   seq_others a (stay n b) q u (new o' e') = absurd (n o' e')
   seq_others a t q u (old ne h) = go a t (st.others q u h)
     where
-      go : (a : List ℕ) → Turn P r.task z.active (found_by (act_now P r.task.body) z.state.cells) a → IsSuffix q z.active ⊎ (is_over P u.body ≡ true) → IsSuffix q a ⊎ (is_over P u.body ≡ true)
+      go : (a : List ℕ) → Turn P r.task z.active (found_by (act_now P r.task.body) z.state.cells) a → IsSuffix q z.active ⊎ (is_ended P u.body ≡ true) → IsSuffix q a ⊎ (is_ended P u.body ≡ true)
       go a t (inr o) = inr o
       go a (down o e) (inl k) = inl (longer k)
       go a (up n o) (inl k) = inl (suffix_rest k ne)
@@ -198,7 +198,7 @@ module _ {S : Type 0} (P : Program S) (main : Start S) (z y : Running S) (ms : M
       inl (subst (λ (x : List ℕ). IsBefore (reverse (created_now P r.task.body ∷ x)) (reverse (created_now P u.body ∷ u.body.start.path))) (sym path_t)
       (subst (λ (x : List ℕ). IsBefore (reverse (created_now P r.task.body ∷ z.active)) (reverse (created_now P u.body ∷ x))) (sym pu) b))
 
-  own_later : (e : Event S) → IsEarlierEvent P (stage_of r.task.body) (stage_of (answered (found_by (act_now P r.task.body) z.state.cells) r.task).body)
+  own_later : (e : Event S) → IsEarlierEvent P (stage_of r.task.body) (stage_of (after_answer (found_by (act_now P r.task.body) z.state.cells) r.task).body)
   own_later e = stage_later P r.task.body.start r.task.body.found (found_by (act_now P r.task.body) z.state.cells ∷ r.task.body.found) 0 0 (longer whole) (omega arith)
 
   new_later : (o : Order S) → act_now P r.task.body ≡ Created o false → IsEarlierEvent P (stage_of r.task.body) (stage_of (new_task P r.task.body o).body)
@@ -221,8 +221,8 @@ module _ {S : Type 0} (P : Program S) (main : Start S) (z y : Running S) (ms : M
 
   seq_ahead : (a : List ℕ) → Turn P r.task z.active (found_by (act_now P r.task.body) z.state.cells) a → (q : List ℕ) (u : Task S) → StepView P z.state z.active r.task (found_by (act_now P r.task.body) z.state.cells) q u → IsSuffix q a → (e : Event S) → Happened y.state e → IsEarlierEvent P e (stage_of u.body)
   seq_ahead a t q u own k e h =
-      event_ahead (stage_of (answered (found_by (act_now P r.task.body) z.state.cells) r.task).body)
-      (λ e' h'. event_trans P e' (stage_of r.task.body) (stage_of (answered (found_by (act_now P r.task.body) z.state.cells) r.task).body) (old_ahead e' h') (own_later e'))
+      event_ahead (stage_of (after_answer (found_by (act_now P r.task.body) z.state.cells) r.task).body)
+      (λ e' h'. event_trans P e' (stage_of r.task.body) (stage_of (after_answer (found_by (act_now P r.task.body) z.state.cells) r.task).body) (old_ahead e' h') (own_later e'))
       (stage_later P r.task.body.start r.task.body.found (found_by (act_now P r.task.body) z.state.cells ∷ r.task.body.found) (found_by (act_now P r.task.body) z.state.cells) 0 (longer whole) (omega arith)) e h
   seq_ahead a t q u (new o e') k e h =
       event_ahead (stage_of (new_task P r.task.body o).body)
@@ -256,7 +256,7 @@ module _ {S : Type 0} (P : Program S) (main : Start S) (z y : Running S) (ms : M
         chain = λ q j u h k. seq_chain _ t q j u (subst (λ (x : List ℕ). IsSuffix (j ∷ q) x) r.active h) k;
         waiting = λ q j u h k. seq_waiting _ t q j u (subst (λ (x : List ℕ). IsSuffix (j ∷ q) x) r.active h) k;
         alive = λ u h ne. seq_alive _ t u (subst (λ (x : List ℕ). At y.state x u) r.active h) (λ e. ne (r.active ∙ e));
-        others = λ q u h. subst (λ (x : List ℕ). IsSuffix q x ⊎ (is_over P u.body ≡ true)) (sym r.active) (seq_others _ t q u (seq_view q u h));
+        others = λ q u h. subst (λ (x : List ℕ). IsSuffix q x ⊎ (is_ended P u.body ≡ true)) (sym r.active) (seq_others _ t q u (seq_view q u h));
         ahead = λ q u h k e g. seq_ahead _ t q u (seq_view q u h) (subst (λ (x : List ℕ). IsSuffix q x) r.active k) e g;
       }
 

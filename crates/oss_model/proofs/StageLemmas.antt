@@ -6,11 +6,11 @@ use Rattle.std.specs.Prelude.{◌||◌}
 use Rattle.oss_model.specs.Order.{IsSuffix, whole, longer, here}
 use Rattle.oss_model.specs.Rights.{Right, Released, Holds, Touch, Reads, Writes, Folds, touch_fault, is_fold}
 use Rattle.oss_model.specs.Context.{Context, child_context, create_fault, release_fault, wait_on_fault, tick_fault, right_of, lent_of, creation_fault}
-use Rattle.oss_model.specs.Bodies.{Order, Ask, Program, Act, Frame, Stack, Start, act_of_ask, asked, frame_act, stack_act, count_one, lend_when, frame_after, base_after, inner_after, stepped, settle_stack, next_stack, start_frame, stack_from, act_of, stage_act, stage_created, Touches, load, store, folded, low}
+use Rattle.oss_model.specs.Bodies.{Order, Ask, Program, Act, Frame, Stack, Start, act_of_ask, ask_of, frame_act, stack_act, one_more_created, lent_when, frame_after, base_after, inner_after, stack_after, settled_parts, next_stack, start_frame, stack_from, act_of, stage_act, stage_created, Touches, load, store, folded, word_of, IsHalt}
 use Rattle.oss_model.specs.Bodies.Act.{Ticked, Load, Store, Folded, Created, Awaited, Waited, WaitedOn, Releases, Printed, Ended, Fault, Over}
 use Rattle.oss_model.proofs.ContextLemmas.{child_right}
 use Rattle.oss_model.proofs.JudgeLemmas.{Covered, clauses_covered, Passes, Permits, touch_passes, covers_permits}
-use Rattle.oss_model.proofs.BodyLemmas.{Stops, judged_goes, StackOk, InnerOk, stack_ok, base_created, inner_created, FrameKept, frame_same, frame_after_kept, lost_right, settle_kept, settle_same}
+use Rattle.oss_model.proofs.BodyLemmas.{judged_goes, StackOk, InnerOk, stack_ok, base_created, inner_created, FrameKept, frame_same, frame_after_kept, lost_right, settle_kept, settle_same}
 
 -- a touch by the top frame passes the judge
 pub record TouchedBy {S : Type 0} (slots : ℕ → Right) (f : Frame S) (c : ℕ) (t : Touch) (slot : Bool) : Type 0 where
@@ -29,7 +29,7 @@ touch_is load = (refl, refl)
 touch_is store = (refl, refl)
 touch_is folded = (refl, refl, refl)
 
-is_touch : {S : Type 0} (a : Act S) (c : ℕ) (t : Touch) (slot : Bool) → IsTouch a c t slot → Stops a → ⊥
+is_touch : {S : Type 0} (a : Act S) (c : ℕ) (t : Touch) (slot : Bool) → IsTouch a c t slot → IsHalt a → ⊥
 is_touch (Fault kind line key) c t slot h s = h
 is_touch Over c t slot h s = h
 is_touch _ c t slot h s = s
@@ -52,18 +52,18 @@ touched_by {S = S} slots inc f (Ask.Read d) line act c t slot h i =
     go Writes n j = absurd j
     go (Folds op) n j = absurd j
 touched_by {S = S} slots inc f (Ask.Write d v) line act c t slot h i =
-    let k = judged_goes f line (touch_fault ((right_of f.context) d) ((lent_of f.context) d) Writes) (Store d (low v)) act h (is_touch act c t slot i) in
+    let k = judged_goes f line (touch_fault ((right_of f.context) d) ((lent_of f.context) d) Writes) (Store d (word_of v)) act h (is_touch act c t slot i) in
     go t k.0 (subst (λ (z : Act _). IsTouch z c t slot) (sym k.1) i)
   where
-    go : (t : Touch) → touch_fault ((right_of f.context) d) ((lent_of f.context) d) Writes ≡ None → IsTouch {S = S} (Store d (low v)) c t slot → TouchedBy slots f c t slot
+    go : (t : Touch) → touch_fault ((right_of f.context) d) ((lent_of f.context) d) Writes ≡ None → IsTouch {S = S} (Store d (word_of v)) c t slot → TouchedBy slots f c t slot
     go Writes n j = record { fault = subst (λ (z : ℕ). touch_fault ((right_of f.context) z) ((lent_of f.context) z) Writes ≡ None) j.0 n; flag = λ m p. j.1 ∙ same_flag m _ Writes (inr refl) p }
     go Reads n j = absurd j
     go (Folds op) n j = absurd j
 touched_by {S = S} slots inc f (Ask.Fold d op v) line act c t slot h i =
-    let k = judged_goes f line (touch_fault ((right_of f.context) d) ((lent_of f.context) d) (Folds op)) (Folded d op (low v) (is_fold (slots d))) act h (is_touch act c t slot i) in
+    let k = judged_goes f line (touch_fault ((right_of f.context) d) ((lent_of f.context) d) (Folds op)) (Folded d op (word_of v) (is_fold (slots d))) act h (is_touch act c t slot i) in
     go t k.0 (subst (λ (z : Act _). IsTouch z c t slot) (sym k.1) i)
   where
-    go : (t : Touch) → touch_fault ((right_of f.context) d) ((lent_of f.context) d) (Folds op) ≡ None → IsTouch {S = S} (Folded d op (low v) (is_fold (slots d))) c t slot → TouchedBy slots f c t slot
+    go : (t : Touch) → touch_fault ((right_of f.context) d) ((lent_of f.context) d) (Folds op) ≡ None → IsTouch {S = S} (Folded d op (word_of v) (is_fold (slots d))) c t slot → TouchedBy slots f c t slot
     go (Folds b) n j =
         record {
           fault = subst (λ (z : ℕ). touch_fault ((right_of f.context) z) ((lent_of f.context) z) (Folds b) ≡ None) j.0 (subst (λ (z : Op). touch_fault ((right_of f.context) d) ((lent_of f.context) d) (Folds z) ≡ None) j.1 n);
@@ -82,7 +82,7 @@ touched_by slots inc f (Ask.Fails kind) line act c t slot h i = absurd (subst (�
 
 frame_touched : {S : Type 0} (P : Program S) (slots : ℕ → Right) (inc : Bool) (f : Frame S) (w : Bool) (c : ℕ) (t : Touch) (slot : Bool) → IsTouch (frame_act P slots inc f w) c t slot → TouchedBy slots f c t slot
 frame_touched P slots inc f true c t slot i = absurd i
-frame_touched P slots inc f false c t slot i = touched_by slots inc f (asked P f).ask (asked P f).line _ c t slot refl i
+frame_touched P slots inc f false c t slot i = touched_by slots inc f (ask_of P f).ask (ask_of P f).line _ c t slot refl i
 
 -- a touch has a right of the task itself behind it, which is not released, and permits it
 pub record Touching (x now : Right) (t : Touch) (slot : Bool) : Type 0 where
@@ -134,7 +134,7 @@ pub stage_touch : {S : Type 0} (P : Program S) (b : Start S) (past : List ℕ) (
 unfolding stage_act act_of
 stage_touch P b past c t slot well h =
     let s = stack_from P b past in
-    stack_touch P b.context b.path s.base s.inner s.over c t slot well (stack_ok P b past) (touch_is h)
+    stack_touch P b.context b.path s.base s.inner s.ended c t slot well (stack_ok P b past) (touch_is h)
 
 -- the own frame of a body after an act
 base_after_kept : {S : Type 0} (a : Act S) (v : ℕ) (base : Frame S) → FrameKept base (base_after a v base).base
@@ -158,7 +158,7 @@ inner_after_base Ended v base f fs = refl
 inner_after_base (Created o i) v base f fs = refl
 inner_after_base _ v base f fs = refl
 
-stepped_kept : {S : Type 0} (a : Act S) (v : ℕ) (base : Frame S) (inner : List (Frame S)) → FrameKept base (stepped a v base inner).base
+stepped_kept : {S : Type 0} (a : Act S) (v : ℕ) (base : Frame S) (inner : List (Frame S)) → FrameKept base (stack_after a v base inner).base
 stepped_kept a v base [] = base_after_kept a v base
 stepped_kept a v base (f ∷ fs) = subst (λ (g : Frame _). FrameKept base g) (sym (inner_after_base a v base f fs)) (frame_same base)
 
@@ -170,14 +170,14 @@ kept_trans {f = f} {g = g} {h = h} a b =
       right = λ c. lost_right ((right_of f.context) c) ((right_of g.context) c) ((right_of h.context) c) (a.right c) (b.right c);
     }
 
-settled_kept : {S : Type 0} (P : Program S) (base : Frame S) (inner : List (Frame S)) (over : Bool) → FrameKept base (settle_stack P base inner over).base
-settled_kept P base [] over = settle_kept P base
-settled_kept P base (f ∷ fs) over = frame_same base
+settled_kept : {S : Type 0} (P : Program S) (base : Frame S) (inner : List (Frame S)) (over : Bool) → FrameKept base (settled_parts P base inner over).base
+settled_kept P base [] ended = settle_kept P base
+settled_kept P base (f ∷ fs) ended = frame_same base
 
 pub next_kept : {S : Type 0} (P : Program S) (slots : ℕ → Right) (v : ℕ) (s : Stack S) → FrameKept s.base (next_stack P slots v s).base
 next_kept P slots v s =
-    let n = stepped (stack_act P slots s.base s.inner s.over) v s.base s.inner in
-    kept_trans (stepped_kept (stack_act P slots s.base s.inner s.over) v s.base s.inner) (settled_kept P n.base n.inner n.over)
+    let n = stack_after (stack_act P slots s.base s.inner s.ended) v s.base s.inner in
+    kept_trans (stepped_kept (stack_act P slots s.base s.inner s.ended) v s.base s.inner) (settled_kept P n.base n.inner n.ended)
 
 -- a later stage has lost at most rights
 pub later_kept : {S : Type 0} (P : Program S) (b : Start S) {past more : List ℕ} → IsSuffix past more → FrameKept (stack_from P b past).base (stack_from P b more).base
@@ -200,13 +200,13 @@ own_creation [] (Created o included) = 1
 own_creation [] _ = 0
 own_creation (f ∷ fs) a = 0
 
-lend_when_created : (w : Bool) (given : ℕ → Right) (x : Context) → (lend_when w given x).created ≡ x.created
+lend_when_created : (w : Bool) (given : ℕ → Right) (x : Context) → (lent_when w given x).created ≡ x.created
 lend_when_created true given x = refl
 lend_when_created false given x = refl
 
 frame_after_created : {S : Type 0} (a : Act S) (v : ℕ) (f : Frame S) → (frame_after a v f).context.created ≡ f.context.created + own_creation {S = S} [] a
 frame_after_created Ticked v f = omega arith
-frame_after_created (Created o included) v f = lend_when_created o.when (right_of (child_context f.context o.clauses o.last)) (count_one f.context)
+frame_after_created (Created o included) v f = lend_when_created o.when (right_of (child_context f.context o.clauses o.last)) (one_more_created f.context)
 frame_after_created Awaited v f = omega arith
 frame_after_created Waited v f = omega arith
 frame_after_created (WaitedOn named) v f = omega arith
@@ -229,21 +229,21 @@ base_after_created (Printed key text) v base = frame_after_created (Printed key 
 base_after_created (Fault kind line key) v base = frame_after_created (Fault kind line key) v base
 base_after_created Over v base = frame_after_created Over v base
 
-stepped_created : {S : Type 0} (a : Act S) (v : ℕ) (base : Frame S) (inner : List (Frame S)) → (stepped a v base inner).base.context.created ≡ base.context.created + own_creation inner a
+stepped_created : {S : Type 0} (a : Act S) (v : ℕ) (base : Frame S) (inner : List (Frame S)) → (stack_after a v base inner).base.context.created ≡ base.context.created + own_creation inner a
 stepped_created a v base [] = base_after_created a v base
 stepped_created a v base (f ∷ fs) = ap (λ (g : Frame _). g.context.created) (inner_after_base a v base f fs) ∙ (omega arith)
 
-settled_created : {S : Type 0} (P : Program S) (base : Frame S) (inner : List (Frame S)) (over : Bool) → (settle_stack P base inner over).base.context.created ≡ base.context.created
-settled_created P base [] over = ap (λ (x : Context). x.created) (settle_same P base).context
-settled_created P base (f ∷ fs) over = refl
+settled_created : {S : Type 0} (P : Program S) (base : Frame S) (inner : List (Frame S)) (over : Bool) → (settled_parts P base inner over).base.context.created ≡ base.context.created
+settled_created P base [] ended = ap (λ (x : Context). x.created) (settle_same P base).context
+settled_created P base (f ∷ fs) ended = refl
 
 -- a body's own creations are counted
 pub created_next : {S : Type 0} (P : Program S) (b : Start S) (v : ℕ) (vs : List ℕ) → stage_created P b (v ∷ vs) ≡ stage_created P b vs + own_creation (stack_from P b vs).inner (stage_act P b vs)
 unfolding stage_created stage_act act_of stack_from
 created_next P b v vs =
     let s = stack_from P b vs in
-    let n = stepped (stack_act P (right_of b.context) s.base s.inner s.over) v s.base s.inner in
-    settled_created P n.base n.inner n.over ∙ stepped_created (stack_act P (right_of b.context) s.base s.inner s.over) v s.base s.inner
+    let n = stack_after (stack_act P (right_of b.context) s.base s.inner s.ended) v s.base s.inner in
+    settled_created P n.base n.inner n.ended ∙ stepped_created (stack_act P (right_of b.context) s.base s.inner s.ended) v s.base s.inner
 
 pub created_grows : {S : Type 0} (P : Program S) (b : Start S) {past more : List ℕ} → IsSuffix past more → stage_created P b past ≤ stage_created P b more
 created_grows P b {past = past} whole = omega arith
@@ -269,7 +269,7 @@ pub creating : {S : Type 0} (P : Program S) (b : Start S) (past : List ℕ) (o :
 unfolding stage_act act_of
 creating P b past o h =
     let s = stack_from P b past in
-    let k = stack_create P b.context b.path s.base s.inner s.over o (stack_ok P b past) h in
+    let k = stack_create P b.context b.path s.base s.inner s.ended o (stack_ok P b past) h in
     record { alone = k.0; open_ = k.1; covered = k.2 }
 
 -- a creation counts
@@ -306,7 +306,7 @@ unfolding stage_act act_of
 one_creation {S = S} P b past open_ h =
     let s = stack_from P b past in
     let k = own_creation_one s.inner (stage_act P b past) h in
-    let n : k.1 ≡ false = not_included P b.context b.path s.base s.inner s.over k.0 k.1 (stack_ok P b past) open_ k.2 in
+    let n : k.1 ≡ false = not_included P b.context b.path s.base s.inner s.ended k.0 k.1 (stack_ok P b past) open_ k.2 in
     (k.0, k.2 ∙ ap (λ (i : Bool). Created k.0 i) n)
 
 pub start_created : {S : Type 0} (P : Program S) (b : Start S) → b.context.created ≡ 0 → stage_created P b [] ≡ 0
@@ -342,24 +342,24 @@ pub stage_passes : {S : Type 0} (P : Program S) (b : Start S) (past : List ℕ) 
 unfolding stage_act act_of
 stage_passes P b past c t slot open_ h =
     let s = stack_from P b past in
-    stack_unlent P b.context b.path s.base s.inner s.over c t slot (stack_ok P b past) open_ (touch_is h)
+    stack_unlent P b.context b.path s.base s.inner s.ended c t slot (stack_ok P b past) open_ (touch_is h)
 
-settled_over : {S : Type 0} (P : Program S) (base : Frame S) (inner : List (Frame S)) (over : Bool) → (settle_stack P base inner over).over ≡ over
-settled_over P base [] over = refl
-settled_over P base (f ∷ fs) over = refl
+settled_over : {S : Type 0} (P : Program S) (base : Frame S) (inner : List (Frame S)) (over : Bool) → (settled_parts P base inner over).ended ≡ over
+settled_over P base [] ended = refl
+settled_over P base (f ∷ fs) ended = refl
 
-create_over : {S : Type 0} (P : Program S) (slots : ℕ → Right) (v : ℕ) (base : Frame S) (inner : List (Frame S)) (over : Bool) (o : Order S) → inner ≡ [] → stack_act P slots base inner over ≡ Created o false → (stepped (stack_act P slots base inner over) v base inner).over ≡ false
+create_over : {S : Type 0} (P : Program S) (slots : ℕ → Right) (v : ℕ) (base : Frame S) (inner : List (Frame S)) (over : Bool) (o : Order S) → inner ≡ [] → stack_act P slots base inner over ≡ Created o false → (stack_after (stack_act P slots base inner over) v base inner).ended ≡ false
 create_over P slots v base [] over o e a = rw a refl
 create_over P slots v base (f ∷ fs) over o e a = cc (e)
 
 -- a body goes on after a creation, and from its start
-pub created_goes_on : {S : Type 0} (P : Program S) (b : Start S) (v : ℕ) (past : List ℕ) (o : Order S) → stage_act P b past ≡ Created o false → (stack_from P b (v ∷ past)).over ≡ false
+pub created_goes_on : {S : Type 0} (P : Program S) (b : Start S) (v : ℕ) (past : List ℕ) (o : Order S) → stage_act P b past ≡ Created o false → (stack_from P b (v ∷ past)).ended ≡ false
 unfolding stack_from stage_act act_of
 created_goes_on P b v past o a =
     let s = stack_from P b past in
-    let n = stepped (stack_act P (right_of b.context) s.base s.inner s.over) v s.base s.inner in
-    settled_over P n.base n.inner n.over ∙ create_over P (right_of b.context) v s.base s.inner s.over o (creating P b past o a).alone a
+    let n = stack_after (stack_act P (right_of b.context) s.base s.inner s.ended) v s.base s.inner in
+    settled_over P n.base n.inner n.ended ∙ create_over P (right_of b.context) v s.base s.inner s.ended o (creating P b past o a).alone a
 
-pub start_goes_on : {S : Type 0} (P : Program S) (b : Start S) → (stack_from P b []).over ≡ false
+pub start_goes_on : {S : Type 0} (P : Program S) (b : Start S) → (stack_from P b []).ended ≡ false
 unfolding stack_from
 start_goes_on P b = refl

@@ -6,11 +6,11 @@ use Rattle.oss_syntax.specs.declared.access.Op.TheVariants.{Add, And, Or, Xor}
 use Rattle.oss_syntax.specs.declared.access.Mode.TheVariants.{Read, Write, Fold}
 use Rattle.std.specs.Prelude.{◌&&◌, ◌||◌, ◌==◌}
 use Rattle.std.proofs.lemmas.Bool.Decides.{nat_tests}
-use Rattle.oss_model.specs.Forest.{Done, SatW, SatR, SatX, InRun, IsRead, done, top_w, child_w, top_r, child_r, top_x, child_fold, child_write}
+use Rattle.oss_model.specs.Forest.{IsDone, IsWriteSatisfied, IsReadSatisfied, IsJoinSatisfied, InRun, IsRead, done, write_top, write_child, read_top, read_child, join_top, join_below_fold, join_below_write}
 use Rattle.oss_model.specs.Order.{IsSuffix, whole, longer}
 use Rattle.oss_model.specs.Rights.{Right, Released, Holds, covers}
 use Rattle.oss_model.specs.Context.{child_context, right_of}
-use Rattle.oss_model.specs.Bodies.{Order, Program, Frame, Start, Body, stack_from, stage_act, stack_act, act_of, child_start, Stops}
+use Rattle.oss_model.specs.Bodies.{Order, Program, Frame, Start, Body, stack_from, stage_act, stack_act, act_of, child_start, IsHalt}
 use Rattle.oss_model.specs.Bodies.Act.{Over}
 use Rattle.oss_model.specs.Machine.{same_path, Task, State, At, find, HasAccess, accesses, IsChild, is_child, is_earlier, mode_in, IsComplete, complete}
 use Rattle.oss_model.specs.History.{MadeBy, IsMade, IsComparable}
@@ -85,67 +85,67 @@ task_above P main s q t made (longer {y = k} {ys = p} g) h =
     let b = made.child k p t h in task_above P main s q b.creator made g b.at_
 
 -- what is satisfied below is satisfied above
-sat_w_up : {S : Type 0} (s : State S) (c k i : ℕ) (p : List ℕ) → SatW (accesses s c) (k ∷ i ∷ p) → SatW (accesses s c) (i ∷ p)
-sat_w_up s c k i p (top_w t e) = elim t [ ]
-sat_w_up s c k i p (child_w (is_child a b) h e) = h
+write_satisfied_up : {S : Type 0} (s : State S) (c k i : ℕ) (p : List ℕ) → IsWriteSatisfied (accesses s c) (k ∷ i ∷ p) → IsWriteSatisfied (accesses s c) (i ∷ p)
+write_satisfied_up s c k i p (write_top t e) = elim t [ ]
+write_satisfied_up s c k i p (write_child (is_child a b) h e) = h
 
-sat_r_up : {S : Type 0} (s : State S) (c k i : ℕ) (p : List ℕ) → SatR (accesses s c) (k ∷ i ∷ p) → SatR (accesses s c) (i ∷ p)
-sat_r_up s c k i p (top_r t e) = elim t [ ]
-sat_r_up s c k i p (child_r (is_child a b) h e) = h
+read_satisfied_up : {S : Type 0} (s : State S) (c k i : ℕ) (p : List ℕ) → IsReadSatisfied (accesses s c) (k ∷ i ∷ p) → IsReadSatisfied (accesses s c) (i ∷ p)
+read_satisfied_up s c k i p (read_top t e) = elim t [ ]
+read_satisfied_up s c k i p (read_child (is_child a b) h e) = h
 
-sat_x_up : {S : Type 0} (s : State S) (c : ℕ) (op : Op) (k i : ℕ) (p : List ℕ) → SatX (accesses s c) op (k ∷ i ∷ p) → SatX (accesses s c) op (i ∷ p) ⊎ SatW (accesses s c) (i ∷ p)
-sat_x_up s c op k i p (top_x t e) = elim t [ ]
-sat_x_up s c op k i p (child_fold (is_child a b) m h e) = inl h
-sat_x_up s c op k i p (child_write (is_child a b) m h e) = inr h
+join_satisfied_up : {S : Type 0} (s : State S) (c : ℕ) (op : Op) (k i : ℕ) (p : List ℕ) → IsJoinSatisfied (accesses s c) op (k ∷ i ∷ p) → IsJoinSatisfied (accesses s c) op (i ∷ p) ⊎ IsWriteSatisfied (accesses s c) (i ∷ p)
+join_satisfied_up s c op k i p (join_top t e) = elim t [ ]
+join_satisfied_up s c op k i p (join_below_fold (is_child a b) m h e) = inl h
+join_satisfied_up s c op k i p (join_below_write (is_child a b) m h e) = inr h
 
-pub sat_w_above : {S : Type 0} (s : State S) (c j : ℕ) (a : List ℕ) {p : List ℕ} → IsSuffix (j ∷ a) p → SatW (accesses s c) p → SatW (accesses s c) (j ∷ a)
-sat_w_above s c j a whole h = h
-sat_w_above s c j a (longer {y = k} {ys = []} g) h = elim g [ ]
-sat_w_above s c j a (longer {y = k} {ys = i ∷ p} g) h = sat_w_above s c j a g (sat_w_up s c k i p h)
+pub write_satisfied_above : {S : Type 0} (s : State S) (c j : ℕ) (a : List ℕ) {p : List ℕ} → IsSuffix (j ∷ a) p → IsWriteSatisfied (accesses s c) p → IsWriteSatisfied (accesses s c) (j ∷ a)
+write_satisfied_above s c j a whole h = h
+write_satisfied_above s c j a (longer {y = k} {ys = []} g) h = elim g [ ]
+write_satisfied_above s c j a (longer {y = k} {ys = i ∷ p} g) h = write_satisfied_above s c j a g (write_satisfied_up s c k i p h)
 
-pub sat_r_above : {S : Type 0} (s : State S) (c j : ℕ) (a : List ℕ) {p : List ℕ} → IsSuffix (j ∷ a) p → SatR (accesses s c) p → SatR (accesses s c) (j ∷ a)
-sat_r_above s c j a whole h = h
-sat_r_above s c j a (longer {y = k} {ys = []} g) h = elim g [ ]
-sat_r_above s c j a (longer {y = k} {ys = i ∷ p} g) h = sat_r_above s c j a g (sat_r_up s c k i p h)
+pub read_satisfied_above : {S : Type 0} (s : State S) (c j : ℕ) (a : List ℕ) {p : List ℕ} → IsSuffix (j ∷ a) p → IsReadSatisfied (accesses s c) p → IsReadSatisfied (accesses s c) (j ∷ a)
+read_satisfied_above s c j a whole h = h
+read_satisfied_above s c j a (longer {y = k} {ys = []} g) h = elim g [ ]
+read_satisfied_above s c j a (longer {y = k} {ys = i ∷ p} g) h = read_satisfied_above s c j a g (read_satisfied_up s c k i p h)
 
-sat_x_or_w : {S : Type 0} (s : State S) (c : ℕ) (op : Op) (j : ℕ) (a : List ℕ) {p : List ℕ} → IsSuffix (j ∷ a) p → SatX (accesses s c) op p ⊎ SatW (accesses s c) p → SatX (accesses s c) op (j ∷ a) ⊎ SatW (accesses s c) (j ∷ a)
-sat_x_or_w s c op j a whole h = h
-sat_x_or_w s c op j a (longer {y = k} {ys = []} g) h = elim g [ ]
-sat_x_or_w s c op j a (longer {y = k} {ys = i ∷ p} g) (inl h) = sat_x_or_w s c op j a g (sat_x_up s c op k i p h)
-sat_x_or_w s c op j a (longer {y = k} {ys = i ∷ p} g) (inr h) = sat_x_or_w s c op j a g (inr (sat_w_up s c k i p h))
+join_satisfied_or_w : {S : Type 0} (s : State S) (c : ℕ) (op : Op) (j : ℕ) (a : List ℕ) {p : List ℕ} → IsSuffix (j ∷ a) p → IsJoinSatisfied (accesses s c) op p ⊎ IsWriteSatisfied (accesses s c) p → IsJoinSatisfied (accesses s c) op (j ∷ a) ⊎ IsWriteSatisfied (accesses s c) (j ∷ a)
+join_satisfied_or_w s c op j a whole h = h
+join_satisfied_or_w s c op j a (longer {y = k} {ys = []} g) h = elim g [ ]
+join_satisfied_or_w s c op j a (longer {y = k} {ys = i ∷ p} g) (inl h) = join_satisfied_or_w s c op j a g (join_satisfied_up s c op k i p h)
+join_satisfied_or_w s c op j a (longer {y = k} {ys = i ∷ p} g) (inr h) = join_satisfied_or_w s c op j a g (inr (write_satisfied_up s c k i p h))
 
-pub sat_x_above : {S : Type 0} (s : State S) (c : ℕ) (op : Op) (j : ℕ) (a : List ℕ) {p : List ℕ} → IsSuffix (j ∷ a) p → SatX (accesses s c) op p → SatX (accesses s c) op (j ∷ a) ⊎ SatW (accesses s c) (j ∷ a)
-sat_x_above s c op j a g h = sat_x_or_w s c op j a g (inl h)
+pub join_satisfied_above : {S : Type 0} (s : State S) (c : ℕ) (op : Op) (j : ℕ) (a : List ℕ) {p : List ℕ} → IsSuffix (j ∷ a) p → IsJoinSatisfied (accesses s c) op p → IsJoinSatisfied (accesses s c) op (j ∷ a) ⊎ IsWriteSatisfied (accesses s c) (j ∷ a)
+join_satisfied_above s c op j a g h = join_satisfied_or_w s c op j a g (inl h)
 
 -- what an earlier sibling has done where a later one is satisfied
-pub sat_w_before : {S : Type 0} (s : State S) (c i j : ℕ) (a : List ℕ) → i < j → HasAccess s c (i ∷ a) → SatW (accesses s c) (j ∷ a) → Done (accesses s c) (i ∷ a)
-sat_w_before s c i j a l h (top_w t e) = e (i ∷ a) (is_earlier l h)
-sat_w_before s c i j a l h (child_w b g e) = e (i ∷ a) (is_earlier l h)
+pub write_satisfied_before : {S : Type 0} (s : State S) (c i j : ℕ) (a : List ℕ) → i < j → HasAccess s c (i ∷ a) → IsWriteSatisfied (accesses s c) (j ∷ a) → IsDone (accesses s c) (i ∷ a)
+write_satisfied_before s c i j a l h (write_top t e) = e (i ∷ a) (is_earlier l h)
+write_satisfied_before s c i j a l h (write_child b g e) = e (i ∷ a) (is_earlier l h)
 
-pub sat_r_before : {S : Type 0} (s : State S) (c i j : ℕ) (a : List ℕ) → i < j → HasAccess s c (i ∷ a) → (IsRead (mode_in (find s.tasks (i ∷ a)) c) → ⊥) → SatR (accesses s c) (j ∷ a) → Done (accesses s c) (i ∷ a)
-sat_r_before s c i j a l h n (top_r t e) = e (i ∷ a) (is_earlier l h) n
-sat_r_before s c i j a l h n (child_r b g e) = e (i ∷ a) (is_earlier l h) n
+pub read_satisfied_before : {S : Type 0} (s : State S) (c i j : ℕ) (a : List ℕ) → i < j → HasAccess s c (i ∷ a) → (IsRead (mode_in (find s.tasks (i ∷ a)) c) → ⊥) → IsReadSatisfied (accesses s c) (j ∷ a) → IsDone (accesses s c) (i ∷ a)
+read_satisfied_before s c i j a l h n (read_top t e) = e (i ∷ a) (is_earlier l h) n
+read_satisfied_before s c i j a l h n (read_child b g e) = e (i ∷ a) (is_earlier l h) n
 
-pub sat_x_before : {S : Type 0} (s : State S) (c : ℕ) (op : Op) (i j : ℕ) (a : List ℕ) → i < j → HasAccess s c (i ∷ a) → SatX (accesses s c) op (j ∷ a) → (mode_in (find s.tasks (i ∷ a)) c ≡ Fold op) ⊎ Done (accesses s c) (i ∷ a)
-sat_x_before {S = S} s c op i j a l h x = go x
+pub join_satisfied_before : {S : Type 0} (s : State S) (c : ℕ) (op : Op) (i j : ℕ) (a : List ℕ) → i < j → HasAccess s c (i ∷ a) → IsJoinSatisfied (accesses s c) op (j ∷ a) → (mode_in (find s.tasks (i ∷ a)) c ≡ Fold op) ⊎ IsDone (accesses s c) (i ∷ a)
+join_satisfied_before {S = S} s c op i j a l h x = go x
   where
-    run : InRun (accesses s c) op (i ∷ a) (j ∷ a) ⊎ Done (accesses s c) (i ∷ a) → (mode_in (find s.tasks (i ∷ a)) c ≡ Fold op) ⊎ Done (accesses s c) (i ∷ a)
+    run : InRun (accesses s c) op (i ∷ a) (j ∷ a) ⊎ IsDone (accesses s c) (i ∷ a) → (mode_in (find s.tasks (i ∷ a)) c ≡ Fold op) ⊎ IsDone (accesses s c) (i ∷ a)
     run (inl r) = inl r.first
     run (inr d) = inr d
 
-    go : SatX (accesses s c) op (j ∷ a) → (mode_in (find s.tasks (i ∷ a)) c ≡ Fold op) ⊎ Done (accesses s c) (i ∷ a)
-    go (top_x t e) = run (e (i ∷ a) (is_earlier l h))
-    go (child_fold b m g e) = run (e (i ∷ a) (is_earlier l h))
-    go (child_write b m g e) = run (e (i ∷ a) (is_earlier l h))
+    go : IsJoinSatisfied (accesses s c) op (j ∷ a) → (mode_in (find s.tasks (i ∷ a)) c ≡ Fold op) ⊎ IsDone (accesses s c) (i ∷ a)
+    go (join_top t e) = run (e (i ∷ a) (is_earlier l h))
+    go (join_below_fold b m g e) = run (e (i ∷ a) (is_earlier l h))
+    go (join_below_write b m g e) = run (e (i ∷ a) (is_earlier l h))
 
 pub mode_is : {S : Type 0} (s : State S) (c : ℕ) (p : List ℕ) (m : Mode) → AccessOf s c p m → mode_in (find s.tasks p) c ≡ m
 mode_is s c p m a = rw (a.at_, a.right) refl
 
-children_done : {S : Type 0} (s : State S) (c k : ℕ) (p : List ℕ) → ((j : ℕ) (u : Task S) → At s (j ∷ k ∷ p) u → HasAccess s c (j ∷ k ∷ p) → Done (accesses s c) (j ∷ k ∷ p)) → (v : List ℕ) → IsChild s c (k ∷ p) v → Done (accesses s c) v
+children_done : {S : Type 0} (s : State S) (c k : ℕ) (p : List ℕ) → ((j : ℕ) (u : Task S) → At s (j ∷ k ∷ p) u → HasAccess s c (j ∷ k ∷ p) → IsDone (accesses s c) (j ∷ k ∷ p)) → (v : List ℕ) → IsChild s c (k ∷ p) v → IsDone (accesses s c) v
 children_done s c k p f v (is_child {k = j} a b) = f j b.task b.at_ b
 
 -- a task that is complete is done on each of its cells
-pub complete_done : {S : Type 0} (P : Program S) (s : State S) (c k : ℕ) (p : List ℕ) → IsComplete P s (k ∷ p) → HasAccess s c (k ∷ p) → Done (accesses s c) (k ∷ p)
+pub complete_done : {S : Type 0} (P : Program S) (s : State S) (c k : ℕ) (p : List ℕ) → IsComplete P s (k ∷ p) → HasAccess s c (k ∷ p) → IsDone (accesses s c) (k ∷ p)
 complete_done P s c k p (complete {t = t} at_ over gives below) a =
     let e = at_same s (k ∷ p) a.task t a.at_ at_ in
     let r : (right_of t.body.start.context) c ≡ Holds a.mode a.strong = subst (λ (z : Task _). (right_of z.body.start.context) c ≡ Holds a.mode a.strong) e a.right in
@@ -158,9 +158,9 @@ pub record Late {S : Type 0} (P : Program S) (b : Start S) (past : List ℕ) (c 
   pub strong : Bool
   pub stands : stage_right P b past c ≡ Holds mode strong
 
-pub over_stops : {S : Type 0} (P : Program S) (b : Start S) (past : List ℕ) → (stack_from P b past).over ≡ true → stage_act P b past ≡ Over
+pub over_stops : {S : Type 0} (P : Program S) (b : Start S) (past : List ℕ) → (stack_from P b past).ended ≡ true → stage_act P b past ≡ Over
 unfolding stage_act act_of
-over_stops P b past h = over_act P (right_of b.context) (stack_from P b past).base (stack_from P b past).inner (stack_from P b past).over h
+over_stops P b past h = over_act P (right_of b.context) (stack_from P b past).base (stack_from P b past).inner (stack_from P b past).ended h
   where
     over_act : {S : Type 0} (P : Program S) (slots : ℕ → Right) (base : Frame S) (inner : List (Frame S)) (over : Bool) → over ≡ true → stack_act P slots base inner over ≡ Over
     over_act P slots base inner true h = refl
@@ -172,8 +172,8 @@ next_of (longer {y = y} whole) h = (y, whole)
 next_of (longer (longer g)) h = let k = next_of (longer g) (omega (arith, suffix_length g)) in (k.0, longer k.1)
 
 pub before_given : {S : Type 0} (P : Program S) (c : ℕ) (x t : Body S) (past : List ℕ) (answer : ℕ)
-    → IsComparable x t → ((right_of (stack_from P t.start t.found).base.context) c ≡ Released) ⊎ ((stack_from P t.start t.found).over ≡ true)
-    → ((past : List ℕ) (answer : ℕ) → IsSuffix (answer ∷ past) x.found → Stops (stage_act P x.start past) → ⊥)
+    → IsComparable x t → ((right_of (stack_from P t.start t.found).base.context) c ≡ Released) ⊎ ((stack_from P t.start t.found).ended ≡ true)
+    → ((past : List ℕ) (answer : ℕ) → IsSuffix (answer ∷ past) x.found → IsHalt (stage_act P x.start past) → ⊥)
     → IsSuffix (answer ∷ past) x.found → Late P x.start past c → IsSuffix (answer ∷ past) t.found
 before_given {S = S} P c x t past answer comp gone goes h late = split comp.found
   where
@@ -181,7 +181,7 @@ before_given {S = S} P c x t past answer comp gone goes h late = split comp.foun
     short g (inl l) = suffix_linear h g (omega arith)
     short g (inr l) = absurd (none gone)
       where
-        none : ((right_of (stack_from P t.start t.found).base.context) c ≡ Released) ⊎ ((stack_from P t.start t.found).over ≡ true) → ⊥
+        none : ((right_of (stack_from P t.start t.found).base.context) c ≡ Released) ⊎ ((stack_from P t.start t.found).ended ≡ true) → ⊥
         none (inl r) =
             let back = suffix_linear g (suffix_drop h) l in
             let r' : stage_right P x.start t.found c ≡ Released = subst (λ (z : Start S). stage_right P z t.found c ≡ Released) (sym comp.start) r in
@@ -190,8 +190,8 @@ before_given {S = S} P c x t past answer comp gone goes h late = split comp.foun
             cc
         none (inr o) =
             let k = next_of g (omega (arith, suffix_length h)) in
-            let o' : (stack_from P x.start t.found).over ≡ true = subst (λ (z : Start S). (stack_from P z t.found).over ≡ true) (sym comp.start) o in
-            goes t.found k.0 k.1 (subst Stops (sym (over_stops P x.start t.found o')) tt)
+            let o' : (stack_from P x.start t.found).ended ≡ true = subst (λ (z : Start S). (stack_from P z t.found).ended ≡ true) (sym comp.start) o in
+            goes t.found k.0 k.1 (subst IsHalt (sym (over_stops P x.start t.found o')) tt)
 
     split : IsSuffix x.found t.found ⊎ IsSuffix t.found x.found → IsSuffix (answer ∷ past) t.found
     split (inl g) = suffix_trans h g

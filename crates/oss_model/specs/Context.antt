@@ -30,18 +30,18 @@ abbrev pub lent_of : Context → ℕ → Lending
 lent_of x c = (slice_index_or x.entries c no_entry).lent
 
 -- the values of a function from a number on, of which there are n
-unfoldable pub tabled : {A : Type 0} → (ℕ → A) → ℕ → ℕ → List A
-tabled f k zero = []
-tabled f k (suc n) = f k ∷ tabled f (suc k) n
+unfoldable pub table_from : {A : Type 0} → (ℕ → A) → ℕ → ℕ → List A
+table_from f k zero = []
+table_from f k (suc n) = f k ∷ table_from f (suc k) n
 
 -- the context with these entries
 abbrev pub with_entries : (ℕ → Entry) → Context → Context
-with_entries f x = record x { entries = tabled f 0 (length x.entries) }
+with_entries f x = record x { entries = table_from f 0 (length x.entries) }
 
 -- main's context
 abbrev pub main_context : ℕ → ℕ → Context
 main_context cells fuel = record {
-  entries = tabled (λ c. record { right = Holds Write true; lent = Free }) 0 cells;
+  entries = table_from (λ c. record { right = Holds Write true; lent = Free }) 0 cells;
   ticks = 0;
   fuel = fuel;
   created = 0;
@@ -94,7 +94,7 @@ wait_on_fault x named =
 -- the context of a new task
 abbrev pub child_context : Context → List Access → Bool → Context
 child_context x clauses last = record {
-  entries = tabled (λ c. record { right = right_from (x.final || last) clauses c; lent = Free }) 0 (length x.entries);
+  entries = table_from (λ c. record { right = right_from (x.final || last) clauses c; lent = Free }) 0 (length x.entries);
   ticks = 0;
   fuel = x.fuel;
   created = 0;
@@ -114,8 +114,8 @@ lend given x = with_entries (λ c. record { right = right_of x c; lent = lend_ce
 abbrev pub release : List Access → Context → Context
 release clauses x = with_entries (λ c. record { right = if in_clauses clauses c then Released else right_of x c; lent = lent_of x c }) x
 
-abbrev pub waited : Context → Context
-waited x = with_entries (λ c. record { right = right_of x c; lent = Free }) x
+abbrev pub after_wait : Context → Context
+after_wait x = with_entries (λ c. record { right = right_of x c; lent = Free }) x
 
-abbrev pub waited_on : List Access → Context → Context
-waited_on named x = with_entries (λ c. record { right = right_of x c; lent = if in_clauses named c then Free else lent_of x c }) x
+abbrev pub after_wait_on : List Access → Context → Context
+after_wait_on named x = with_entries (λ c. record { right = right_of x c; lent = if in_clauses named c then Free else lent_of x c }) x

@@ -16,13 +16,13 @@ pub record Forest (K : Type 0) : Type 1 where
   pub Given : K → Type 0
 
 -- the task has given up the cell, and each access in its list is done
-pub data Done {K : Type 0} (F : Forest K) : K → Type 0 where
-  done : {u : K} → F.Given u → ((v : K) → F.Child u v → Done F v) → Done F u
+pub data IsDone {K : Type 0} (F : Forest K) : K → Type 0 where
+  done : {u : K} → F.Given u → ((v : K) → F.Child u v → IsDone F v) → IsDone F u
 
 -- nothing earlier stands in the way of a write
-pub data SatW {K : Type 0} (F : Forest K) : K → Type 0 where
-  top_w : {v : K} → F.Top v → ((u : K) → F.Earlier u v → Done F u) → SatW F v
-  child_w : {p v : K} → F.Child p v → SatW F p → ((u : K) → F.Earlier u v → Done F u) → SatW F v
+pub data IsWriteSatisfied {K : Type 0} (F : Forest K) : K → Type 0 where
+  write_top : {v : K} → F.Top v → ((u : K) → F.Earlier u v → IsDone F u) → IsWriteSatisfied F v
+  write_child : {p v : K} → F.Child p v → IsWriteSatisfied F p → ((u : K) → F.Earlier u v → IsDone F u) → IsWriteSatisfied F v
 
 abbrev pub IsRead : Mode → Type 0
 IsRead Read = Unit {0}
@@ -30,9 +30,9 @@ IsRead Write = ⊥
 IsRead (Fold op) = ⊥
 
 -- nothing earlier stands in the way of a read
-pub data SatR {K : Type 0} (F : Forest K) : K → Type 0 where
-  top_r : {v : K} → F.Top v → ((u : K) → F.Earlier u v → (IsRead (F.mode u) → ⊥) → Done F u) → SatR F v
-  child_r : {p v : K} → F.Child p v → SatR F p → ((u : K) → F.Earlier u v → (IsRead (F.mode u) → ⊥) → Done F u) → SatR F v
+pub data IsReadSatisfied {K : Type 0} (F : Forest K) : K → Type 0 where
+  read_top : {v : K} → F.Top v → ((u : K) → F.Earlier u v → (IsRead (F.mode u) → ⊥) → IsDone F u) → IsReadSatisfied F v
+  read_child : {p v : K} → F.Child p v → IsReadSatisfied F p → ((u : K) → F.Earlier u v → (IsRead (F.mode u) → ⊥) → IsDone F u) → IsReadSatisfied F v
 
 -- the accesses from u up to v are all folds of this operator
 pub record InRun {K : Type 0} (F : Forest K) (op : Op) (u v : K) : Type 0 where
@@ -40,7 +40,7 @@ pub record InRun {K : Type 0} (F : Forest K) (op : Op) (u v : K) : Type 0 where
   pub between : (w : K) → F.Earlier u w → F.Earlier w v → F.mode w ≡ Fold op
 
 -- nothing earlier stands in the way of the join of a fold
-pub data SatX {K : Type 0} (F : Forest K) (op : Op) : K → Type 0 where
-  top_x : {v : K} → F.Top v → ((u : K) → F.Earlier u v → InRun F op u v ⊎ Done F u) → SatX F op v
-  child_fold : {p v : K} → F.Child p v → F.mode p ≡ Fold op → SatX F op p → ((u : K) → F.Earlier u v → InRun F op u v ⊎ Done F u) → SatX F op v
-  child_write : {p v : K} → F.Child p v → F.mode p ≡ Write → SatW F p → ((u : K) → F.Earlier u v → InRun F op u v ⊎ Done F u) → SatX F op v
+pub data IsJoinSatisfied {K : Type 0} (F : Forest K) (op : Op) : K → Type 0 where
+  join_top : {v : K} → F.Top v → ((u : K) → F.Earlier u v → InRun F op u v ⊎ IsDone F u) → IsJoinSatisfied F op v
+  join_below_fold : {p v : K} → F.Child p v → F.mode p ≡ Fold op → IsJoinSatisfied F op p → ((u : K) → F.Earlier u v → InRun F op u v ⊎ IsDone F u) → IsJoinSatisfied F op v
+  join_below_write : {p v : K} → F.Child p v → F.mode p ≡ Write → IsWriteSatisfied F p → ((u : K) → F.Earlier u v → InRun F op u v ⊎ IsDone F u) → IsJoinSatisfied F op v

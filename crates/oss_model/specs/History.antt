@@ -4,12 +4,12 @@ use Rattle.oss_syntax.specs.declared.access.Mode.{Mode}
 use Rattle.oss_syntax.specs.declared.access.Op.{Op}
 use Rattle.oss_syntax.specs.declared.access.Mode.TheVariants.{Fold}
 use Rattle.oss_model.specs.Context.{right_of}
-use Rattle.oss_model.specs.Forest.{SatX}
-use Rattle.oss_model.specs.Order.{In, IsSuffix}
+use Rattle.oss_model.specs.Forest.{IsJoinSatisfied}
+use Rattle.oss_model.specs.Order.{IsIn, IsSuffix}
 use Rattle.oss_model.specs.Rights.{Released, Holds}
-use Rattle.oss_model.specs.Bodies.{Order, Program, Act, Start, Body, stack_from, stage_act, stage_created, child_start, Stops}
+use Rattle.oss_model.specs.Bodies.{Order, Program, Act, Start, Body, stack_from, stage_act, stage_created, child_start, IsHalt}
 use Rattle.oss_model.specs.Bodies.Act.{Created}
-use Rattle.oss_model.specs.Machine.{Task, State, At, accesses, IsReady, WaitMet}
+use Rattle.oss_model.specs.Machine.{Task, State, At, accesses, IsReady, IsWaitMet}
 
 -- a done creation of its creator made the task
 pub record MadeBy {S : Type 0} (P : Program S) (s : State S) (k : ℕ) (p : List ℕ) (t : Task S) : Type 0 where
@@ -30,21 +30,21 @@ pub record IsMade {S : Type 0} (P : Program S) (main : Start S) (s : State S) : 
   pub main_start : main_task.body.start ≡ main
   pub child : (k : ℕ) (p : List ℕ) (t : Task S) → At s (k ∷ p) t → MadeBy P s k p t
   pub made : (p : List ℕ) (u : Task S) (past : List ℕ) (answer : ℕ) (o : Order S) → At s p u → IsSuffix (answer ∷ past) u.body.found → stage_act P u.body.start past ≡ Created o false → (t : Task S) × At s (stage_created P u.body.start past ∷ p) t
-  pub goes : (p : List ℕ) (u : Task S) (past : List ℕ) (answer : ℕ) → At s p u → IsSuffix (answer ∷ past) u.body.found → Stops (stage_act P u.body.start past) → ⊥
+  pub goes : (p : List ℕ) (u : Task S) (past : List ℕ) (answer : ℕ) → At s p u → IsSuffix (answer ∷ past) u.body.found → IsHalt (stage_act P u.body.start past) → ⊥
 
 -- a cell was given up once its task had released it or had ended
-pub record GivenWell {S : Type 0} (P : Program S) (t : Task S) (c : ℕ) : Type 0 where
+pub record IsRightlyGiven {S : Type 0} (P : Program S) (t : Task S) (c : ℕ) : Type 0 where
   pub mode : Mode
   pub strong : Bool
   pub right : right_of t.body.start.context c ≡ Holds mode strong
-  pub gone : ((right_of (stack_from P t.body.start t.body.found).base.context) c ≡ Released) ⊎ ((stack_from P t.body.start t.body.found).over ≡ true)
-  pub fold_over : (op : Op) → right_of t.body.start.context c ≡ Holds (Fold op) true → (stack_from P t.body.start t.body.found).over ≡ true
+  pub gone : ((right_of (stack_from P t.body.start t.body.found).base.context) c ≡ Released) ⊎ ((stack_from P t.body.start t.body.found).ended ≡ true)
+  pub fold_over : (op : Op) → right_of t.body.start.context c ≡ Holds (Fold op) true → (stack_from P t.body.start t.body.found).ended ≡ true
 
 pub record IsStarted {S : Type 0} (P : Program S) (s : State S) : Type 0 where
   pub ready : (p : List ℕ) (t : Task S) (answer : ℕ) (past : List ℕ) → At s p t → IsSuffix (answer ∷ past) t.body.found → IsReady s p t.body.start.context
-  pub joined : (p : List ℕ) (t : Task S) (c : ℕ) (op : Op) → At s p t → right_of t.body.start.context c ≡ Holds (Fold op) true → In c t.given → SatX (accesses s c) op p
-  pub waited : (p : List ℕ) (t : Task S) (answer : ℕ) (past : List ℕ) → At s p t → IsSuffix (answer ∷ past) t.body.found → WaitMet P s p (stage_created P t.body.start past) (stage_act P t.body.start past)
-  pub given : (p : List ℕ) (t : Task S) (c : ℕ) → At s p t → In c t.given → GivenWell P t c
+  pub joined : (p : List ℕ) (t : Task S) (c : ℕ) (op : Op) → At s p t → right_of t.body.start.context c ≡ Holds (Fold op) true → IsIn c t.given → IsJoinSatisfied (accesses s c) op p
+  pub waited : (p : List ℕ) (t : Task S) (answer : ℕ) (past : List ℕ) → At s p t → IsSuffix (answer ∷ past) t.body.found → IsWaitMet P s p (stage_created P t.body.start past) (stage_act P t.body.start past)
+  pub given : (p : List ℕ) (t : Task S) (c : ℕ) → At s p t → IsIn c t.given → IsRightlyGiven P t c
 
 -- two bodies of one task: one has gone at most further than the other
 pub record IsComparable {S : Type 0} (a b : Body S) : Type 0 where

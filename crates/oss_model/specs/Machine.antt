@@ -2,8 +2,8 @@
 use Rattle.std.specs.Prelude.{◌≡◌, ℕ, ◌+◌, ◌<◌, ◌==◌, Bool, true, false, ◌&&◌, if◌then◌else◌, List, [], ◌∷◌, Option, Some, None}
 use Rattle.oss_syntax.specs.declared.access.Mode.{Mode}
 use Rattle.oss_syntax.specs.declared.access.Mode.TheVariants.{Read, Write}
-use Rattle.oss_model.specs.Forest.{Forest, Done, SatW, SatR}
-use Rattle.oss_model.specs.Order.{In}
+use Rattle.oss_model.specs.Forest.{Forest, IsDone, IsWriteSatisfied, IsReadSatisfied}
+use Rattle.oss_model.specs.Order.{IsIn}
 use Rattle.oss_model.specs.Rights.{Right, Holds}
 use Rattle.oss_model.specs.Context.{Context, in_clauses, right_of}
 use Rattle.oss_model.specs.Bodies.{Program, Act, Body, stack_from}
@@ -60,7 +60,7 @@ mode_in None c = Read
 pub record HasGiven {S : Type 0} (s : State S) (c : ℕ) (p : List ℕ) : Type 0 where
   pub task : Task S
   pub at_ : At s p task
-  pub given : In c task.given
+  pub given : IsIn c task.given
 
 abbrev pub accesses : {S : Type 0} → State S → ℕ → Forest (List ℕ)
 accesses s c = record {
@@ -75,7 +75,7 @@ accesses s c = record {
 abbrev pub IsReady : {S : Type 0} → State S → List ℕ → Context → Type 0
 IsReady s [] x = Unit {0}
 IsReady s (k ∷ p) x =
-    ((c : ℕ) → right_of x c ≡ Holds Read true → SatR (accesses s c) (k ∷ p)) × ((c : ℕ) → right_of x c ≡ Holds Write true → SatW (accesses s c) (k ∷ p))
+    ((c : ℕ) → right_of x c ≡ Holds Read true → IsReadSatisfied (accesses s c) (k ∷ p)) × ((c : ℕ) → right_of x c ≡ Holds Write true → IsWriteSatisfied (accesses s c) (k ∷ p))
 
 -- main has no cells to give up
 abbrev pub Owes : List ℕ → Context → ℕ → Type 0
@@ -83,12 +83,12 @@ Owes [] x c = ⊥
 Owes (k ∷ p) x c = (m : Mode) × (strong : Bool) × (right_of x c ≡ Holds m strong)
 
 pub data IsComplete {S : Type 0} (P : Program S) (s : State S) : List ℕ → Type 0 where
-  complete : {p : List ℕ} {t : Task S} → At s p t → (stack_from P t.body.start t.body.found).over ≡ true → ((c : ℕ) → Owes p t.body.start.context c → In c t.given)
+  complete : {p : List ℕ} {t : Task S} → At s p t → (stack_from P t.body.start t.body.found).ended ≡ true → ((c : ℕ) → Owes p t.body.start.context c → IsIn c t.given)
       → ((k : ℕ) (u : Task S) → At s (k ∷ p) u → IsComplete P s (k ∷ p)) → IsComplete P s p
 
 -- what an act waits for, where its task has created n tasks
-abbrev pub WaitMet : {S : Type 0} → Program S → State S → List ℕ → ℕ → Act S → Type 0
-WaitMet P s p n Waited = (k : ℕ) (u : Task _) → k < n → At s (k ∷ p) u → IsComplete P s (k ∷ p)
-WaitMet P s p n Awaited = (k : ℕ) (u : Task _) → k + 1 ≡ n → At s (k ∷ p) u → IsComplete P s (k ∷ p)
-WaitMet P s p n (WaitedOn named) = (k c : ℕ) → k < n → in_clauses named c ≡ true → HasAccess s c (k ∷ p) → Done (accesses s c) (k ∷ p)
-WaitMet P s p n _ = Unit {0}
+abbrev pub IsWaitMet : {S : Type 0} → Program S → State S → List ℕ → ℕ → Act S → Type 0
+IsWaitMet P s p n Waited = (k : ℕ) (u : Task _) → k < n → At s (k ∷ p) u → IsComplete P s (k ∷ p)
+IsWaitMet P s p n Awaited = (k : ℕ) (u : Task _) → k + 1 ≡ n → At s (k ∷ p) u → IsComplete P s (k ∷ p)
+IsWaitMet P s p n (WaitedOn named) = (k c : ℕ) → k < n → in_clauses named c ≡ true → HasAccess s c (k ∷ p) → IsDone (accesses s c) (k ∷ p)
+IsWaitMet P s p n _ = Unit {0}

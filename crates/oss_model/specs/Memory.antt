@@ -1,7 +1,7 @@
 -- Done acts in point order, and the memory that they give.
 use Rattle.std.specs.Prelude.{◌≡◌, ℕ, ◌<◌, Bool, true, false, List, [], ◌∷◌, length, reverse, ◌⊎◌, slice_index}
 use Rattle.oss_syntax.specs.declared.access.Op.{Op}
-use Rattle.oss_model.specs.Order.{In, IsSuffix, IsBefore}
+use Rattle.oss_model.specs.Order.{IsIn, IsSuffix, IsBefore}
 use Rattle.oss_model.specs.Bodies.{Program, Act, Start, stage_act, stage_created}
 use Rattle.oss_model.specs.Bodies.Act.{Store, Folded}
 use Rattle.oss_model.specs.Machine.{Task, State, At}
@@ -38,26 +38,26 @@ pub record DoneChange {S : Type 0} (P : Program S) (s : State S) (c : ℕ) (e : 
   pub slot : Bool
   pub changes : Changes (stage_act P e.start e.past) c slot
   pub happened : Happened s e
-  pub joined : slot ≡ true → In c happened.task.given
+  pub joined : slot ≡ true → IsIn c happened.task.given
 
 -- the value of a cell after an act
-abbrev pub changed : {S : Type 0} → Act S → ℕ → ℕ
-changed (Store c v) w = v
-changed (Folded c op v slot) w = combine op w v
-changed _ w = w
+abbrev pub value_after : {S : Type 0} → Act S → ℕ → ℕ
+value_after (Store c v) w = v
+value_after (Folded c op v slot) w = combine op w v
+value_after _ w = w
 
 abbrev pub replay : {S : Type 0} → Program S → List (Event S) → ℕ → ℕ
 replay P [] w = w
-replay P (e ∷ es) w = replay P es (changed (stage_act P e.start e.past) w)
+replay P (e ∷ es) w = replay P es (value_after (stage_act P e.start e.past) w)
 
 abbrev pub IsSorted : {S : Type 0} → Program S → List (Event S) → Type 0
 IsSorted P [] = Unit {0}
-IsSorted P (e ∷ es) = ((g : Event _) → In g es → IsEarlierEvent P e g) × IsSorted P es
+IsSorted P (e ∷ es) = ((g : Event _) → IsIn g es → IsEarlierEvent P e g) × IsSorted P es
 
 -- a cell has the value that the done changes of it give, in point order
 pub record IsValue {S : Type 0} (P : Program S) (s : State S) (first : List ℕ) (c : ℕ) : Type 0 where
   pub list : List (Event S)
   pub sorted : IsSorted P list
-  pub only : (e : Event S) → In e list → DoneChange P s c e
-  pub all : (e : Event S) → DoneChange P s c e → In e list
+  pub only : (e : Event S) → IsIn e list → DoneChange P s c e
+  pub all : (e : Event S) → DoneChange P s c e → IsIn e list
   pub value : slice_index s.cells c ≡ replay P list (slice_index first c)

@@ -5,12 +5,12 @@ use Rattle.oss_syntax.specs.declared.access.Op.{Op}
 use Rattle.oss_syntax.specs.declared.access.Op.TheVariants.{Add, And, Or, Xor}
 use Rattle.oss_syntax.specs.declared.access.Mode.TheVariants.{Fold}
 use Rattle.oss_model.specs.Context.{right_of}
-use Rattle.oss_model.specs.Order.{In, IsBefore}
-use Rattle.oss_model.specs.Forest.{SatX}
+use Rattle.oss_model.specs.Order.{IsIn, IsBefore}
+use Rattle.oss_model.specs.Forest.{IsJoinSatisfied}
 use Rattle.oss_model.specs.Rights.{Released, Holds}
-use Rattle.oss_model.specs.Bodies.{Order, Program, Act, Start, Body, stack_from, stage_act, stage_created, child_start, Stops}
+use Rattle.oss_model.specs.Bodies.{Order, Program, Act, Start, Body, stack_from, stage_act, stage_created, child_start, IsHalt}
 use Rattle.oss_model.specs.Bodies.Act.{Load, Store, Folded, Created}
-use Rattle.oss_model.specs.Machine.{Task, State, find, At, accesses, IsReady, Owes, IsComplete, WaitMet}
+use Rattle.oss_model.specs.Machine.{Task, State, find, At, accesses, IsReady, Owes, IsComplete, IsWaitMet}
 
 abbrev pub combine : Op → ℕ → ℕ → ℕ
 combine Add a b = (a + b) % 2 ^ 64
@@ -18,9 +18,9 @@ combine And a b = bit_and a b
 combine Or a b = bit_or a b
 combine Xor a b = bit_xor a b
 
-abbrev pub neutral : Op → ℕ
-neutral And = 2 ^ 64 - 1
-neutral _ = 0
+abbrev pub neutral_value : Op → ℕ
+neutral_value And = 2 ^ 64 - 1
+neutral_value _ = 0
 
 -- the cells after an act; a fold into a slot leaves them
 abbrev pub cells_after : {S : Type 0} → Act S → List ℕ → List ℕ
@@ -39,7 +39,7 @@ slot_more (Folded d op v true) c own held = if d == c then combine own held v el
 slot_more _ c own held = held
 
 unfoldable pub slot_of : {S : Type 0} → Program S → Start S → ℕ → Op → List ℕ → ℕ
-slot_of P b c op [] = neutral op
+slot_of P b c op [] = neutral_value op
 slot_of P b c op (v ∷ vs) = slot_more (stage_act P b vs) c op (slot_of P b c op vs)
 
 abbrev pub act_now : {S : Type 0} → Program S → Body S → Act S
@@ -48,14 +48,14 @@ act_now P b = stage_act P b.start b.found
 abbrev pub created_now : {S : Type 0} → Program S → Body S → ℕ
 created_now P b = stage_created P b.start b.found
 
-abbrev pub is_over : {S : Type 0} → Program S → Body S → Bool
-is_over P b = (stack_from P b.start b.found).over
+abbrev pub is_ended : {S : Type 0} → Program S → Body S → Bool
+is_ended P b = (stack_from P b.start b.found).ended
 
-abbrev pub answered : {S : Type 0} → ℕ → Task S → Task S
-answered v t = record { body = record { start = t.body.start; found = v ∷ t.body.found }; given = t.given }
+abbrev pub after_answer : {S : Type 0} → ℕ → Task S → Task S
+after_answer v t = record { body = record { start = t.body.start; found = v ∷ t.body.found }; given = t.given }
 
-abbrev pub gives : {S : Type 0} → ℕ → Task S → Task S
-gives c t = record { body = t.body; given = c ∷ t.given }
+abbrev pub after_giving : {S : Type 0} → ℕ → Task S → Task S
+after_giving c t = record { body = t.body; given = c ∷ t.given }
 
 abbrev pub new_task : {S : Type 0} → Program S → Body S → Order S → Task S
 new_task P b o = record { body = record { start = child_start (stack_from P b.start b.found).base o; found = [] }; given = [] }
@@ -67,13 +67,13 @@ WaitClause P s p t = t.body.start.order.wait ≡ true → (k : ℕ) (u : Task _)
 -- the next act of the task may happen
 pub record CanStep {S : Type 0} (P : Program S) (s : State S) (p : List ℕ) (t : Task S) : Type 0 where
   pub at_ : At s p t
-  pub goes : Stops (act_now P t.body) → ⊥
+  pub goes : IsHalt (act_now P t.body) → ⊥
   pub ready : t.body.found ≡ [] → IsReady s p t.body.start.context
-  pub waits : WaitMet P s p (created_now P t.body) (act_now P t.body)
+  pub waits : IsWaitMet P s p (created_now P t.body) (act_now P t.body)
 
 -- the tasks after an act with this answer
 pub record TaskStep {S : Type 0} (P : Program S) (s : State S) (p : List ℕ) (t : Task S) (v : ℕ) (n : State S) : Type 0 where
-  pub own : At n p (answered v t)
+  pub own : At n p (after_answer v t)
   pub made : (o : Order S) → act_now P t.body ≡ Created o false → At n (created_now P t.body ∷ p) (new_task P t.body o)
   pub others : (q : List ℕ) → q ≢ p → ((o : Order S) → act_now P t.body ≡ Created o false → q ≢ created_now P t.body ∷ p) → find n.tasks q ≡ find s.tasks q
 
@@ -90,21 +90,21 @@ pub record CanLet {S : Type 0} (P : Program S) (s : State S) (p : List ℕ) (c :
   pub strong : Bool
   pub right : right_of t.body.start.context c ≡ Holds mode strong
   pub no_fold : (op : Op) → right_of t.body.start.context c ≢ Holds (Fold op) true
-  pub kept : In c t.given → ⊥
-  pub gone : ((right_of (stack_from P t.body.start t.body.found).base.context) c ≡ Released) ⊎ ((is_over P t.body ≡ true) × WaitClause P s p t)
+  pub kept : IsIn c t.given → ⊥
+  pub gone : ((right_of (stack_from P t.body.start t.body.found).base.context) c ≡ Released) ⊎ ((is_ended P t.body ≡ true) × WaitClause P s p t)
 
 -- the slot of the task may be joined
 pub record CanJoin {S : Type 0} (P : Program S) (s : State S) (p : List ℕ) (c : ℕ) (op : Op) (t : Task S) : Type 0 where
   pub at_ : At s p t
   pub right : right_of t.body.start.context c ≡ Holds (Fold op) true
-  pub kept : In c t.given → ⊥
-  pub ended : is_over P t.body ≡ true
+  pub kept : IsIn c t.given → ⊥
+  pub ended : is_ended P t.body ≡ true
   pub wait : WaitClause P s p t
-  pub satisfied : SatX (accesses s c) op p
+  pub satisfied : IsJoinSatisfied (accesses s c) op p
 
 -- the state after a cell was given up
-pub record Gave {S : Type 0} (s : State S) (p : List ℕ) (c : ℕ) (t : Task S) (n : State S) : Type 0 where
-  pub own : At n p (gives c t)
+pub record GaveUp {S : Type 0} (s : State S) (p : List ℕ) (c : ℕ) (t : Task S) (n : State S) : Type 0 where
+  pub own : At n p (after_giving c t)
   pub others : (q : List ℕ) → q ≢ p → find n.tasks q ≡ find s.tasks q
 
 abbrev pub joined_cells : {S : Type 0} → Program S → ℕ → Op → Task S → List ℕ → List ℕ
@@ -113,11 +113,11 @@ joined_cells P c op t cells = slice_set cells c (combine op (slice_index cells c
 -- a state after a Let, and after a Join
 pub record LetGo {S : Type 0} (s : State S) (p : List ℕ) (c : ℕ) (t : Task S) (n : State S) : Type 0 where
   pub cells : n.cells ≡ s.cells
-  pub tasks : Gave s p c t n
+  pub tasks : GaveUp s p c t n
 
 pub record Joined {S : Type 0} (P : Program S) (s : State S) (p : List ℕ) (c : ℕ) (op : Op) (t : Task S) (n : State S) : Type 0 where
   pub cells : n.cells ≡ joined_cells P c op t s.cells
-  pub tasks : Gave s p c t n
+  pub tasks : GaveUp s p c t n
 
 -- a state after some move of another
 pub data Moved {S : Type 0} (P : Program S) (s n : State S) : Type 0 where
@@ -136,8 +136,8 @@ pub data Reached {S : Type 0} (P : Program S) (main : Start S) (cells : List ℕ
 
 -- the body has ended, and each cell is given up
 pub record IsClosed {S : Type 0} (P : Program S) (p : List ℕ) (t : Task S) : Type 0 where
-  pub over : is_over P t.body ≡ true
-  pub given : (c : ℕ) → Owes p t.body.start.context c → In c t.given
+  pub ended : is_ended P t.body ≡ true
+  pub given : (c : ℕ) → Owes p t.body.start.context c → IsIn c t.given
 
 -- some move may be made
 pub data SomeMove {S : Type 0} (P : Program S) (s : State S) : Type 0 where

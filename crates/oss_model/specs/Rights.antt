@@ -84,19 +84,19 @@ right_from final [] c = NoRight
 right_from final (a ∷ rest) c =
     if in_access a c then join_right a.mode (final || a.strong) (right_from final rest c) else right_from final rest c
 
-abbrev pub clash : Option Mode → Bool
-clash (Some m) = false
-clash None = true
+abbrev pub is_no_join : Option Mode → Bool
+is_no_join (Some m) = false
+is_no_join None = true
 
-abbrev pub clashes_with : Mode → Right → Bool
-clashes_with m (Holds n strong) = clash (join_modes m n)
-clashes_with m _ = false
+abbrev pub is_unjoinable : Mode → Right → Bool
+is_unjoinable m (Holds n strong) = is_no_join (join_modes m n)
+is_unjoinable m _ = false
 
 -- a cell has accesses that can't be joined
 abbrev pub is_mixed : Bool → List Access → ℕ → Bool
 is_mixed final [] c = false
 is_mixed final (a ∷ rest) c =
-    is_mixed final rest c || (in_access a c && clashes_with a.mode (right_from final rest c))
+    is_mixed final rest c || (in_access a c && is_unjoinable a.mode (right_from final rest c))
 
 -- some cell from low on, of which there are n, passes the test
 abbrev pub any_from : (ℕ → Bool) → ℕ → ℕ → Bool

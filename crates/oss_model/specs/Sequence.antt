@@ -1,9 +1,9 @@
 -- The sequential run: each body runs where it is created.
 use Rattle.std.specs.Prelude.{◌≡◌, ℕ, false, if◌then◌else◌, List, [], ◌∷◌, slice_index, slice_set}
-use Rattle.oss_model.specs.Bodies.{Program, Act, Start, Stops}
+use Rattle.oss_model.specs.Bodies.{Program, Act, Start, IsHalt}
 use Rattle.oss_model.specs.Bodies.Act.{Store, Folded, Created}
 use Rattle.oss_model.specs.Machine.{Task, State, At}
-use Rattle.oss_model.specs.Moves.{combine, act_now, created_now, is_over, answered, found_by, TaskStep}
+use Rattle.oss_model.specs.Moves.{combine, act_now, created_now, is_ended, after_answer, found_by, TaskStep}
 
 -- a state of the run, and the path of the task that runs; those above it wait for it
 pub record Running (S : Type 0) : Type 0 where
@@ -16,19 +16,19 @@ direct_cells (Store c v) cells = slice_set cells c v
 direct_cells (Folded c op v slot) cells = slice_set cells c (combine op (slice_index cells c) v)
 direct_cells _ cells = cells
 
-abbrev pub above : List ℕ → List ℕ
-above [] = []
-above (k ∷ p) = p
+abbrev pub path_above : List ℕ → List ℕ
+path_above [] = []
+path_above (k ∷ p) = p
 
 -- the task that runs after an act of the task at p: a new task, or the creator of one that has ended
 abbrev pub active_after : {S : Type 0} → Program S → Task S → List ℕ → ℕ → Act S → List ℕ
 active_after P t p v (Created o false) = created_now P t.body ∷ p
-active_after P t p v act = if is_over P (answered v t).body then above p else p
+active_after P t p v act = if is_ended P (after_answer v t).body then path_above p else p
 
 pub record RunsOn {S : Type 0} (P : Program S) (z y : Running S) : Type 0 where
   pub task : Task S
   pub at_ : At z.state z.active task
-  pub goes : Stops (act_now P task.body) → ⊥
+  pub goes : IsHalt (act_now P task.body) → ⊥
   pub tasks : TaskStep P z.state z.active task (found_by (act_now P task.body) z.state.cells) y.state
   pub cells : y.state.cells ≡ direct_cells (act_now P task.body) z.state.cells
   pub active : y.active ≡ active_after P task z.active (found_by (act_now P task.body) z.state.cells) (act_now P task.body)
@@ -39,7 +39,7 @@ pub data Sequential {S : Type 0} (P : Program S) (main : Start S) (cells : List 
   runs_on : {z y : Running S} → Sequential P main cells z → RunsOn P z y → Sequential P main cells y
 
 -- it is over: main has ended, or the task that runs stands before a fault
-pub record IsOver {S : Type 0} (P : Program S) (z : Running S) : Type 0 where
+pub record IsAtEnd {S : Type 0} (P : Program S) (z : Running S) : Type 0 where
   pub task : Task S
   pub at_ : At z.state z.active task
-  pub stops : Stops (act_now P task.body)
+  pub stops : IsHalt (act_now P task.body)
