@@ -16,10 +16,11 @@ use Rattle.oss_model.specs.Bodies.Act.{Created, WaitedOn, Ticked, Load, Store, F
 use Rattle.oss_model.specs.Machine.{Task, State, At}
 use Rattle.oss_model.specs.History.{IsComparable}
 use Rattle.oss_model.specs.Moves.{act_now, combine, cells_after, slot_more, slot_of, neutral_value, CanStep, Stepped, CanLet, CanJoin, GaveUp, LetGo, Joined, Moved, steps, lets, joins, opening, Reached, opens, moves}
-use Rattle.oss_model.specs.Memory.{Event, Happened, Changes, IsValue}
+use Rattle.oss_model.specs.Memory.{Event, Happened, Changes}
 use Rattle.oss_model.specs.Sequence.{Running, Sequential}
 use Rattle.oss_model.specs.Agreement.{AreWords, Setting, Compatible, Agrees}
 use Rattle.oss_model.specs.Claims.{EveryStateAgrees}
+use Rattle.oss_model.proofs.Places.{PlacedValue}
 use Rattle.oss_model.proofs.TreeLemmas.{at_same, starts_well, path_found}
 use Rattle.oss_model.proofs.StageLemmas.{stage_touch}
 use Rattle.oss_model.proofs.MoveLemmas.{step_made, step_started, gave_made, gave_started, gave_view, GaveUpView, own, old, MayGive, let_may, join_may}
@@ -28,6 +29,7 @@ use Rattle.oss_model.proofs.SequenceLemmas.{opening_at, opening_made, stands}
 use Rattle.oss_model.proofs.RecallLemmas.{suffix_nil}
 use Rattle.oss_model.proofs.LoadTheorem.{step_same}
 use Rattle.oss_model.proofs.JoinLemmas.{gave_value, join_value}
+use Rattle.oss_model.proofs.KeyOrder.{keyed_value, placed_value}
 
 -- the program's store values are words
 abbrev pub IsWordAct : {S : Type 0} → Act S → Type 0
@@ -168,10 +170,11 @@ module _ {S : Type 0} (P : Program S) (main : Start S) (cells : List ℕ) (z : R
       record {
         made = step_made P main s n p t _ a.made can.at_ can.goes step.tasks;
         started = step_started P main s n p t _ a.made a.started can step.tasks;
-        same = step_same P main cells z s n p t set_.starts set_.memory run a.made a.started a.same a.value can step;
+        same = step_same P main cells z s n p t set_.starts set_.memory run a.made a.started a.same (λ c l. placed_value P main s a.made cells c (a.value c l)) can step;
         size = ap (λ (x : List ℕ). length x) step.cells ∙ (cells_length (act_now P t.body) s.cells ∙ a.size);
         words = subst AreWords (sym step.cells) (words_after (act_now P t.body) s.cells (stage_word P t.body.start t.body.found) a.words);
-        value = λ c l. value_step P main s n p t set_.starts a.made a.started can step (path_found s.tasks p t can.at_) cells c (let k = a.size in omega arith) (a.value c l);
+        value = λ c l. keyed_value P main n (step_made P main s n p t _ a.made can.at_ can.goes step.tasks) cells c
+            (value_step P main s n p t set_.starts a.made a.started can step (path_found s.tasks p t can.at_) cells c (let k = a.size in omega arith) (placed_value P main s a.made cells c (a.value c l)));
       }
 
   gave_same : (s n : State S) (p : List ℕ) (c : ℕ) (t : Task S) → Agrees P main cells z s → At s p t → MayGive P s p c t → GaveUp s p c t n → Compatible z.state n
@@ -190,7 +193,8 @@ module _ {S : Type 0} (P : Program S) (main : Start S) (cells : List ℕ) (z : R
         same = gave_same s n p c t a can.at_ may go.tasks;
         size = ap (λ (x : List ℕ). length x) go.cells ∙ a.size;
         words = subst AreWords (sym go.cells) a.words;
-        value = λ d l. gave_value P main s n p c t a.made a.started can.at_ may go.tasks cells d (inl go.cells) (ap (λ (x : List ℕ). slice_index x d) go.cells) (λ e q r k. no_slot e d q r k) (a.value d l);
+        value = λ d l. keyed_value P main n (gave_made P main s n p c t a.made a.started can.at_ may go.tasks) cells d
+            (gave_value P main s n p c t a.made a.started can.at_ may go.tasks cells d (inl go.cells) (ap (λ (x : List ℕ). slice_index x d) go.cells) (λ e q r k. no_slot e d q r k) (placed_value P main s a.made cells d (a.value d l)));
       }
     where
       no_slot : (e : Event S) (d : ℕ) → d ≡ c → e.start ≡ t.body.start → Changes (stage_act P e.start e.past) d true → ⊥
@@ -212,20 +216,20 @@ module _ {S : Type 0} (P : Program S) (main : Start S) (cells : List ℕ) (z : R
         size = ap (λ (x : List ℕ). length x) go.cells ∙ (length-set s.cells c (combine op (get_or s.cells c 0) (slot_of P t.body.start c op t.body.found)) ∙ a.size);
         words = λ d. subst (λ (x : List ℕ). slice_index x d < 2 ^ 64) (sym go.cells) (set_word s.cells c (combine op (get_or s.cells c 0) (slot_of P t.body.start c op t.body.found)) d
             (combine_word op (get_or s.cells c 0) (slot_of P t.body.start c op t.body.found) (a.words c) (slot_word P t.body.start c op t.body.found)) a.words);
-        value = λ d l. value_of d l (which d c);
+        value = λ d l. keyed_value P main n (gave_made P main s n p c t a.made a.started can.at_ may go.tasks) cells d (value_of d l (which d c));
       }
     where
       which : (x y : ℕ) → (x ≡ y) ⊎ (x ≢ y)
       which x y = grind arith
 
-      value_of : (d : ℕ) → d < length cells → (d ≡ c) ⊎ (d ≢ c) → IsValue P n cells d
+      value_of : (d : ℕ) → d < length cells → (d ≡ c) ⊎ (d ≢ c) → PlacedValue P n cells d
       value_of d l (inl e) =
           let k = a.size in
-          subst (λ (x : ℕ). IsValue P n cells x) (sym e) (join_value P main s n p c op t set_.starts a.made a.started can go.tasks go.cells cells (subst (λ (x : ℕ). x < length s.cells) e (omega arith)) (a.words c) (subst (λ (x : ℕ). IsValue P s cells x) e (a.value d l)))
+          subst (λ (x : ℕ). PlacedValue P n cells x) (sym e) (join_value P main s n p c op t set_.starts a.made a.started can go.tasks go.cells cells (subst (λ (x : ℕ). x < length s.cells) e (omega arith)) (a.words c) (subst (λ (x : ℕ). PlacedValue P s cells x) e (placed_value P main s a.made cells d (a.value d l))))
       value_of d l (inr ne) =
           gave_value P main s n p c t a.made a.started can.at_ (join_may P s p c op t can) go.tasks cells d (inr ne)
           (ap (λ (x : List ℕ). slice_index x d) go.cells ∙ get_or-set_other s.cells c d (combine op (get_or s.cells c 0) (slot_of P t.body.start c op t.body.found)) 0 ne)
-          (λ e q r k. ne q) (a.value d l)
+          (λ e q r k. ne q) (placed_value P main s a.made cells d (a.value d l))
 
   pub moved_agrees : (s n : State S) → Agrees P main cells z s → Moved P s n → Agrees P main cells z n
   moved_agrees s n a (steps {p = p} {t = t} can step) = step_agrees s n p t a can step

@@ -12,14 +12,16 @@ use Rattle.oss_model.specs.Bodies.{Program, Act, Start, Body, stage_act, stage_c
 use Rattle.oss_model.specs.Bodies.Act.{Created, Over, Fault}
 use Rattle.oss_model.specs.Machine.{Task, State, At, find}
 use Rattle.oss_model.specs.History.{MadeBy, IsMade, IsComparable}
-use Rattle.oss_model.specs.Moves.{act_now, created_now, is_ended, IsClosed, IsLeast}
-use Rattle.oss_model.specs.Memory.{Event, place, IsEarlierEvent, Happened, Changes, DoneChange, replay, IsValue}
+use Rattle.oss_model.specs.Moves.{act_now, created_now, is_ended, IsClosed}
+use Rattle.oss_model.specs.Memory.{Event, Happened, Changes, DoneChange, replay, IsValue}
 use Rattle.oss_model.specs.Sequence.{Running, Sequential, IsAtEnd}
 use Rattle.oss_model.proofs.StageLemmas.{created_grows, stage_touch}
 use Rattle.oss_model.proofs.OrderLemmas.{suffix_trans, suffix_drop, suffix_length, suffix_linear, suffix_full, before_child, before_up, before_across}
 use Rattle.oss_model.proofs.TreeLemmas.{at_same, over_stops, path_found, next_of, starts_well}
 use Rattle.oss_model.proofs.SortLemmas.{event_trans, sorted_one}
 use Rattle.oss_model.specs.Claims.{IsStoppedAs, ended, failed, EveryStopIsTheAnswer}
+use Rattle.oss_model.proofs.Places.{IsLeastPlace, place, IsEarlierPlace}
+use Rattle.oss_model.proofs.KeyOrder.{placed, least_key}
 use Rattle.oss_model.proofs.ProgressTheorem.{Outlook, progress}
 use Rattle.oss_model.proofs.MoveLemmas.{which_path}
 use Rattle.oss_model.proofs.SequenceLemmas.{Stands, stands, stage_of, stage_later, on_way}
@@ -91,7 +93,7 @@ module _ {S : Type 0} (P : Program S) (main : Start S) (cells : List ℕ) (z : R
       let p = path_found z.state.tasks q b.creator b.at_ in
       record { task = b.creator; at_ = subst (λ (x : List ℕ). At z.state x b.creator) (sym p) b.at_; start = refl; found = b.happened }
 
-  creation_before : (k : ℕ) (q : List ℕ) (u : Task S) (b : MadeBy P z.state k q u) (e : Event S) → e.start.path ≡ k ∷ q → IsEarlierEvent P (record { start = b.creator.body.start; past = b.past; answer = b.answer }) e
+  creation_before : (k : ℕ) (q : List ℕ) (u : Task S) (b : MadeBy P z.state k q u) (e : Event S) → e.start.path ≡ k ∷ q → IsEarlierPlace P (record { start = b.creator.body.start; past = b.past; answer = b.answer }) e
   creation_before k q u b e path =
       let p = path_found z.state.tasks q b.creator b.at_ in
       inl (subst (λ (x : List ℕ). IsBefore (reverse (stage_created P b.creator.body.start b.past ∷ x)) (reverse (place P e))) (sym p)
@@ -99,7 +101,7 @@ module _ {S : Type 0} (P : Program S) (main : Start S) (cells : List ℕ) (z : R
       (subst (λ (x : List ℕ). IsBefore (reverse (k ∷ q)) (reverse (stage_created P e.start e.past ∷ x))) (sym path) (before_child (stage_created P e.start e.past) k q))))
 
   -- a condition under which a task that stands behind an event is impossible
-  module _ (Early : Event S → Type 0) (earlier : (e g : Event S) → IsEarlierEvent P e g → Early g → Early e) (never : (q : List ℕ) (e : Event S) → e.start.path ≡ q → Early e → Behind q e → ⊥) where
+  module _ (Early : Event S → Type 0) (earlier : (e g : Event S) → IsEarlierPlace P e g → Early g → Early e) (never : (q : List ℕ) (e : Event S) → e.start.path ≡ q → Early e → Behind q e → ⊥) where
     caught : (q : List ℕ) (e : Event S) → e.start.path ≡ q → Early e → Happened z.state e → Happened s e
     caught [] e path early h = settle (caught_at [] e path h made.main_task made.main_at)
       where
@@ -133,7 +135,7 @@ module _ {S : Type 0} (P : Program S) (main : Start S) (cells : List ℕ) (z : R
     -- where a stage of s stands: within the sequential run, or past all that it has done
     data Where (q : List ℕ) (x : Event S) : Type 0 where
       within : (w : Task S) → At z.state q w → w.body.start ≡ x.start → IsSuffix x.past w.body.found → Where q x
-      beyond : (j : ℕ) (a : List ℕ) → IsSuffix (j ∷ a) z.active → IsEarlierEvent P (stage_of over.task.body) x → Where q x
+      beyond : (j : ℕ) (a : List ℕ) → IsSuffix (j ∷ a) z.active → IsEarlierPlace P (stage_of over.task.body) x → Where q x
 
     active_path : over.task.body.start.path ≡ z.active
     active_path = path_found z.state.tasks z.active over.task over.at_
@@ -151,7 +153,7 @@ module _ {S : Type 0} (P : Program S) (main : Start S) (cells : List ℕ) (z : R
         go (inl k) = on_way k (λ e. goes (is_active q w h e))
         go (inr o) = absurd (goes (subst IsHalt (sym (over_stops P w.body.start w.body.found o)) tt))
 
-    active_before : (q : List ℕ) (j n : ℕ) (x : Event S) → x.start.path ≡ q → IsSuffix (j ∷ q) z.active → j < stage_created P x.start x.past → IsEarlierEvent P (stage_of over.task.body) x
+    active_before : (q : List ℕ) (j n : ℕ) (x : Event S) → x.start.path ≡ q → IsSuffix (j ∷ q) z.active → j < stage_created P x.start x.past → IsEarlierPlace P (stage_of over.task.body) x
     active_before q j n x path k l =
         inl (subst (λ (y : List ℕ). IsBefore (reverse (created_now P over.task.body ∷ y)) (reverse (place P x))) (sym active_path)
         (subst (λ (y : List ℕ). IsBefore (reverse (created_now P over.task.body ∷ z.active)) (reverse (stage_created P x.start x.past ∷ y))) (sym path)
@@ -189,7 +191,7 @@ module _ {S : Type 0} (P : Program S) (main : Start S) (cells : List ℕ) (z : R
         go (find z.state.tasks (k ∷ q)) refl b
         (where_is q (record { start = b.creator.body.start; past = b.past; answer = b.answer }) (path_found s.tasks q b.creator b.at_) b.creator b.at_ refl (suffix_drop b.happened))
       where
-        earlier : (b : MadeBy P s k q u) → IsEarlierEvent P (record { start = b.creator.body.start; past = b.past; answer = b.answer }) x
+        earlier : (b : MadeBy P s k q u) → IsEarlierPlace P (record { start = b.creator.body.start; past = b.past; answer = b.answer }) x
         earlier b =
             let p = path_found s.tasks q b.creator b.at_ in
             inl (subst (λ (y : List ℕ). IsBefore (reverse (stage_created P b.creator.body.start b.past ∷ y)) (reverse (place P x))) (sym p)
@@ -229,7 +231,7 @@ module _ {S : Type 0} (P : Program S) (main : Start S) (cells : List ℕ) (z : R
                 (before_across q p.0 k (created_now P over.task.body) (stage_created P x.start x.past) (omega arith) p.1 whole))))
 
     -- the task at which the run is over is there in s, and stands where it stands in the run, once all before it is caught
-    active_in_s : ((e : Event S) → Happened z.state e → IsEarlierEvent P e (stage_of over.task.body) → Happened s e) → (u : Task S) × At s z.active u × (u.body.start ≡ over.task.body.start) × (u.body.found ≡ over.task.body.found)
+    active_in_s : ((e : Event S) → Happened z.state e → IsEarlierPlace P e (stage_of over.task.body) → Happened s e) → (u : Task S) × At s z.active u × (u.body.start ≡ over.task.body.start) × (u.body.found ≡ over.task.body.found)
     active_in_s caught_ = go z.active refl
       where
         at_path : (p : List ℕ) → z.active ≡ p → (u : Task S) → At s p u → (u : Task S) × At s z.active u × (u.body.start ≡ over.task.body.start) × (u.body.found ≡ over.task.body.found)
@@ -274,19 +276,19 @@ module _ {S : Type 0} (P : Program S) (main : Start S) (cells : List ℕ) (z : R
             let at2 : At s (k ∷ b.creator.body.start.path) m.0 = subst (λ (x : ℕ). At s (x ∷ b.creator.body.start.path) m.0) num m.1 in
             at_path (k ∷ q) e m.0 (subst (λ (x : List ℕ). At s (k ∷ x) m.0) pb at2)
 
-    later_stage : (b : Start S) (past more : List ℕ) (v w : ℕ) → IsSuffix past more → (IsEarlierEvent P (record { start = b; past = past; answer = v }) (record { start = b; past = more; answer = w })) ⊎ (past ≡ more)
+    later_stage : (b : Start S) (past more : List ℕ) (v w : ℕ) → IsSuffix past more → (IsEarlierPlace P (record { start = b; past = past; answer = v }) (record { start = b; past = more; answer = w })) ⊎ (past ≡ more)
     later_stage b past more v w k = go (lt_or (length more) (length past) (suffix_length k))
       where
-        go : (length past < length more) ⊎ (length more ≡ length past) → (IsEarlierEvent P (record { start = b; past = past; answer = v }) (record { start = b; past = more; answer = w })) ⊎ (past ≡ more)
+        go : (length past < length more) ⊎ (length more ≡ length past) → (IsEarlierPlace P (record { start = b; past = past; answer = v }) (record { start = b; past = more; answer = w })) ⊎ (past ≡ more)
         go (inl l) = inl (stage_later P b past more v w k l)
         go (inr l) = inr (suffix_full k (omega arith))
 
-    module _ (p : List ℕ) (t : Task S) (at_ : At s p t) (least : IsLeast P s p t) where
+    module _ (p : List ℕ) (t : Task S) (at_ : At s p t) (least : IsLeastPlace P s p t) where
       path_t : t.body.start.path ≡ p
       path_t = path_found s.tasks p t at_
 
       -- no open task of s stands before the least one
-      no_open : (q : List ℕ) (u : Task S) → At s q u → (is_ended P u.body ≡ true → ⊥) → IsEarlierEvent P (stage_of u.body) (stage_of t.body) → ⊥
+      no_open : (q : List ℕ) (u : Task S) → At s q u → (is_ended P u.body ≡ true → ⊥) → IsEarlierPlace P (stage_of u.body) (stage_of t.body) → ⊥
       no_open q u h open_ (inl l) =
           let pu = path_found s.tasks q u h in
           open_ (least q u h (subst (λ (y : List ℕ). IsBefore (reverse (created_now P u.body ∷ y)) (reverse (created_now P t.body ∷ p))) pu
@@ -299,33 +301,33 @@ module _ {S : Type 0} (P : Program S) (main : Start S) (cells : List ℕ) (z : R
           let m = l.1 in
           omega arith
 
-      never_behind : (q : List ℕ) (e : Event S) → e.start.path ≡ q → IsEarlierEvent P e (stage_of t.body) → Behind q e → ⊥
+      never_behind : (q : List ℕ) (e : Event S) → e.start.path ≡ q → IsEarlierPlace P e (stage_of t.body) → Behind q e → ⊥
       never_behind q e path early b = no_open q b.task b.at_ b.open_ (before (later_stage b.task.body.start b.task.body.found e.past 0 e.answer b.stage))
         where
-          before : (IsEarlierEvent P (stage_of b.task.body) (record { start = b.task.body.start; past = e.past; answer = e.answer })) ⊎ (b.task.body.found ≡ e.past) → IsEarlierEvent P (stage_of b.task.body) (stage_of t.body)
-          before (inl l) = event_trans P (stage_of b.task.body) e (stage_of t.body) (subst (λ (y : Start S). IsEarlierEvent P (stage_of b.task.body) (record { start = y; past = e.past; answer = e.answer })) b.start l) early
-          before (inr l) = free (subst (λ (y : List ℕ). IsEarlierEvent P (record { start = b.task.body.start; past = y; answer = e.answer }) (stage_of t.body)) (sym l)
-              (subst (λ (y : Start S). IsEarlierEvent P (record { start = y; past = e.past; answer = e.answer }) (stage_of t.body)) (sym b.start) early))
+          before : (IsEarlierPlace P (stage_of b.task.body) (record { start = b.task.body.start; past = e.past; answer = e.answer })) ⊎ (b.task.body.found ≡ e.past) → IsEarlierPlace P (stage_of b.task.body) (stage_of t.body)
+          before (inl l) = event_trans P (stage_of b.task.body) e (stage_of t.body) (subst (λ (y : Start S). IsEarlierPlace P (stage_of b.task.body) (record { start = y; past = e.past; answer = e.answer })) b.start l) early
+          before (inr l) = free (subst (λ (y : List ℕ). IsEarlierPlace P (record { start = b.task.body.start; past = y; answer = e.answer }) (stage_of t.body)) (sym l)
+              (subst (λ (y : Start S). IsEarlierPlace P (record { start = y; past = e.past; answer = e.answer }) (stage_of t.body)) (sym b.start) early))
             where
-              free : IsEarlierEvent P (record { start = b.task.body.start; past = b.task.body.found; answer = e.answer }) (stage_of t.body) → IsEarlierEvent P (stage_of b.task.body) (stage_of t.body)
+              free : IsEarlierPlace P (record { start = b.task.body.start; past = b.task.body.found; answer = e.answer }) (stage_of t.body) → IsEarlierPlace P (stage_of b.task.body) (stage_of t.body)
               free (inl x) = inl x
               free (inr x) = inr x
 
       -- what the run does before the least open task is done in s
-      caught_before : (e : Event S) → IsEarlierEvent P e (stage_of t.body) → Happened z.state e → Happened s e
-      caught_before e early h = caught (λ g. IsEarlierEvent P g (stage_of t.body)) (λ g i k l. event_trans P g i (stage_of t.body) k l) never_behind e.start.path e refl early h
+      caught_before : (e : Event S) → IsEarlierPlace P e (stage_of t.body) → Happened z.state e → Happened s e
+      caught_before e early h = caught (λ g. IsEarlierPlace P g (stage_of t.body)) (λ g i k l. event_trans P g i (stage_of t.body) k l) never_behind e.start.path e refl early h
 
-      ahead_active : (e : Event S) → Happened z.state e → IsEarlierEvent P e (stage_of over.task.body)
+      ahead_active : (e : Event S) → Happened z.state e → IsEarlierPlace P e (stage_of over.task.body)
       ahead_active e h = st.ahead z.active over.task over.at_ whole e h
 
       -- the run can't be over before the least open task
-      not_before : (j : ℕ) (a : List ℕ) → IsSuffix (j ∷ a) z.active → IsEarlierEvent P (stage_of over.task.body) (stage_of t.body) → ⊥
+      not_before : (j : ℕ) (a : List ℕ) → IsSuffix (j ∷ a) z.active → IsEarlierPlace P (stage_of over.task.body) (stage_of t.body) → ⊥
       not_before j a way l =
           let k = active_in_s (λ e h b. caught_before e (event_trans P e (stage_of over.task.body) (stage_of t.body) b l) h) in
           let live = st.alive over.task over.at_ (λ e. no_way (subst (λ (y : List ℕ). IsSuffix (j ∷ a) y) e way)) in
           let same : k.0.body ≡ over.task.body = λ i. record { start = k.2 i; found = k.3 i } in
           let open_ : is_ended P k.0.body ≡ true → ⊥ = λ o. let x : true ≡ false = sym o ∙ (ap (λ (y : Body S). is_ended P y) same ∙ live) in cc in
-          no_open z.active k.0 k.1 open_ (subst (λ (y : Body S). IsEarlierEvent P (stage_of y) (stage_of t.body)) (sym same) l)
+          no_open z.active k.0 k.1 open_ (subst (λ (y : Body S). IsEarlierPlace P (stage_of y) (stage_of t.body)) (sym same) l)
         where
           no_way : IsSuffix (j ∷ a) [] → ⊥
           no_way h = elim h [ ]
@@ -355,7 +357,7 @@ module _ {S : Type 0} (P : Program S) (main : Start S) (cells : List ℕ) (z : R
               split (inl e) =
                   let m = at_same z.state z.active over.task w over.at_ (subst (λ (y : List ℕ). At z.state y w) e hw) in
                   let b : over.task.body ≡ t.body = ap (λ (y : Task S). y.body) m ∙ same in
-                  (sym e, b, λ ev h. caught_before ev (subst (λ (y : Body S). IsEarlierEvent P ev (stage_of y)) b (ahead_active ev h)) h)
+                  (sym e, b, λ ev h. caught_before ev (subst (λ (y : Body S). IsEarlierPlace P ev (stage_of y)) b (ahead_active ev h)) h)
               split (inr ne) =
                   let j = on_way k ne in
                   let m = st.chain p j.0 w j.1 hw in
@@ -433,7 +435,7 @@ module _ {S : Type 0} (P : Program S) (main : Start S) (cells : List ℕ) (z : R
       cells_same c l =
           let v = agrees.value c l in
           let w = (recalls P main cells set_.starts set_.memory z run).value c l in
-          v.value ∙ (ap (λ (y : List (Event S)). replay P y (slice_index cells c)) (sorted_one P v.list w.list v.sorted w.sorted (λ e i. forth w e (v.only e i)) (λ e i. back v e (w.only e i))) ∙ sym w.value)
+          v.value ∙ (ap (λ (y : List (Event S)). replay P y (slice_index cells c)) (sorted_one P v.list w.list (placed P main s made v.list (λ e i. (v.only e i).happened) v.sorted) w.sorted (λ e i. forth w e (v.only e i)) (λ e i. back v e (w.only e i))) ∙ sym w.value)
         where
           forth : (w : RunValue P z cells c) (e : Event S) → DoneChange P s c e → IsIn e w.list
           forth w e d = w.all e (record { slot = d.slot; changes = d.changes; happened = all_back e d.happened })
@@ -452,4 +454,4 @@ every_stop_is_the_answer S P main cells z over s set_ run a none = go (progress 
     go (Outlook.moves_on m) = absurd (none m)
     go (Outlook.faulted p t at_ least x) =
         let k = fault_is P main cells z s set_ run a over p t at_ least x in
-        failed p t at_ least x k.0 k.1 k.2
+        failed p t at_ (least_key P main s a.made p t at_ least) x k.0 k.1 k.2

@@ -11,7 +11,8 @@ use Rattle.oss_model.specs.Bodies.Act.{Created}
 use Rattle.oss_model.specs.Machine.{Task, State, At, find, same_path, IsReady}
 use Rattle.oss_model.specs.History.{IsMade, IsStarted}
 use Rattle.oss_model.specs.Moves.{act_now, after_answer, found_by, cells_after, CanStep, Stepped}
-use Rattle.oss_model.specs.Memory.{Event, place, IsEarlierEvent}
+use Rattle.oss_model.specs.Memory.{Event}
+use Rattle.oss_model.proofs.Places.{place, IsEarlierPlace}
 use Rattle.oss_model.proofs.ContextLemmas.{main_right}
 use Rattle.oss_model.proofs.OrderLemmas.{Compared, compare}
 use Rattle.oss_model.proofs.TreeLemmas.{at_same, path_found, same_path_is}
@@ -57,7 +58,7 @@ module _ {S : Type 0} (P : Program S) (main : Start S) (s : State S) (ms : MainS
       go [] e = can.ready e
       go (w ∷ ws) e = started.ready p t w ws can.at_ (subst (λ (x : List ℕ). IsSuffix (w ∷ ws) x) (sym e) whole)
 
-  one_first : (p q : List ℕ) (t u : Task S) (c : ℕ) (a b : Touch) → CanStep P s p t → CanStep P s q u → Touches (act_now P t.body) c a false → Touches (act_now P u.body) c b false → Clash a false b false → IsEarlierEvent P (stage_of t.body) (stage_of u.body) → ⊥
+  one_first : (p q : List ℕ) (t u : Task S) (c : ℕ) (a b : Touch) → CanStep P s p t → CanStep P s q u → Touches (act_now P t.body) c a false → Touches (act_now P u.body) c b false → Clash a false b false → IsEarlierPlace P (stage_of t.body) (stage_of u.body) → ⊥
   one_first p q t u c a b ct cu ha hb clash l =
       let pt = path_found s.tasks p t ct.at_ in
       let pu = path_found s.tasks q u cu.at_ in
@@ -73,7 +74,7 @@ module _ {S : Type 0} (P : Program S) (main : Start S) (s : State S) (ms : MainS
       let w = at_same s p r.happened.task t (subst (λ (z : List ℕ). At s z r.happened.task) pt r.happened.at_) ct.at_ in
       last_one (subst (λ (z : Task S). IsSuffix (v ∷ t.body.found) z.body.found) w r.happened.found) refl
     where
-      again : IsEarlierEvent P (stage_of t.body) (stage_of u.body) → IsEarlierEvent P (record { start = t.body.start; past = t.body.found; answer = found_by (act_now P t.body) s.cells }) (stage_of u.body)
+      again : IsEarlierPlace P (stage_of t.body) (stage_of u.body) → IsEarlierPlace P (record { start = t.body.start; past = t.body.found; answer = found_by (act_now P t.body) s.cells }) (stage_of u.body)
       again (inl x) = inl x
       again (inr x) = inr x
 

@@ -15,7 +15,8 @@ use Rattle.oss_model.specs.Bodies.Act.{Created, Awaited, Waited, WaitedOn, Over,
 use Rattle.oss_model.specs.Machine.{Task, State, At}
 use Rattle.oss_model.specs.History.{IsMade, IsStarted, IsComparable}
 use Rattle.oss_model.specs.Moves.{after_giving, combine, slot_more, slot_of, CanJoin, GaveUp, joined_cells}
-use Rattle.oss_model.specs.Memory.{Event, IsEarlierEvent, Happened, Changes, store, folded, DoneChange, value_after, replay, IsSorted, IsValue}
+use Rattle.oss_model.specs.Memory.{Event, Happened, Changes, store, folded, DoneChange, value_after, replay}
+use Rattle.oss_model.proofs.Places.{IsEarlierPlace, IsPlaced, PlacedValue}
 use Rattle.oss_model.proofs.StageLemmas.{stage_touch, StartsWell}
 use Rattle.oss_model.proofs.OrderLemmas.{suffix_trans, suffix_drop}
 use Rattle.oss_model.proofs.TreeLemmas.{at_same, starts_well, path_found}
@@ -61,7 +62,7 @@ no_clash {S = S} op (folded {c = c} {op = q} {v = v} {slot = true}) n = go (whic
     go (inl e) = subst (λ (z : Op). IsSlotFold {S = S} op (Folded c z v true)) e slot_fold
     go (inr e) = absurd (n e)
 
-module _ {S : Type 0} (P : Program S) (main : Start S) (s : State S) (p : List ℕ) (c : ℕ) (op : Op) (t : Task S) (ms : MainStarts main) (made : IsMade P main s) (started : IsStarted P s) (can : CanJoin P s p c op t) (cells : List ℕ) (value : IsValue P s cells c) (word : slice_index s.cells c < 2 ^ 64) where
+module _ {S : Type 0} (P : Program S) (main : Start S) (s : State S) (p : List ℕ) (c : ℕ) (op : Op) (t : Task S) (ms : MainStarts main) (made : IsMade P main s) (started : IsStarted P s) (can : CanJoin P s p c op t) (cells : List ℕ) (value : PlacedValue P s cells c) (word : slice_index s.cells c < 2 ^ 64) where
   self : Compatible s s
   self q u v h k = subst (λ (z : Task S). IsComparable u.body z.body) (at_same s q u v h k) (record { start = refl; found = inl whole })
 
@@ -104,7 +105,7 @@ module _ {S : Type 0} (P : Program S) (main : Start S) (s : State S) (p : List �
                   let f : o2 ≡ op = cc (e3, e2) in subst (λ (z : Op). IsSlotFold {S = S} op (Folded c z v true)) (sym f) slot_fold
 
   -- a done change later than a fold of the slot is a fold of the same kind
-  later_folds : (e : Event S) (past : List ℕ) → IsSuffix past t.body.found → SlotEvent past e → (g : Event S) → DoneChange P s c g → IsEarlierEvent P e g → IsSlotFold op (stage_act P g.start g.past)
+  later_folds : (e : Event S) (past : List ℕ) → IsSuffix past t.body.found → SlotEvent past e → (g : Event S) → DoneChange P s c g → IsEarlierPlace P e g → IsSlotFold op (stage_act P g.start g.past)
   later_folds e past h k g d l = no_clash op d.changes (λ clash. contradiction clash)
     where
       op_e : IsSlotFold op (stage_act P e.start e.past)
@@ -125,7 +126,7 @@ module _ {S : Type 0} (P : Program S) (main : Start S) (s : State S) (p : List �
   -- the done changes, with the task's folds within these answers
   record Part (past : List ℕ) : Type 0 where
     list : List (Event S)
-    sorted : IsSorted P list
+    sorted : IsPlaced P list
     only : (g : Event S) → IsIn g list → DoneChange P s c g ⊎ SlotEvent past g
     done : (g : Event S) → DoneChange P s c g → IsIn g list
     slots : (g : Event S) → SlotEvent past g → IsIn g list
@@ -269,15 +270,15 @@ module _ {S : Type 0} (P : Program S) (main : Start S) (s : State S) (p : List �
               let k2 : SlotEvent vs (record { start = t.body.start; past = vs; answer = v }) = subst (λ (z : Event S). SlotEvent vs z) (sym e) k in
               last_one k2.within refl
 
-          place_of : (g : Event S) → DoneChange P s c g ⊎ SlotEvent vs g → IsEarlierEvent P (record { start = t.body.start; past = vs; answer = v }) g ⊎ IsEarlierEvent P g (record { start = t.body.start; past = vs; answer = v })
+          place_of : (g : Event S) → DoneChange P s c g ⊎ SlotEvent vs g → IsEarlierPlace P (record { start = t.body.start; past = vs; answer = v }) g ⊎ IsEarlierPlace P g (record { start = t.body.start; past = vs; answer = v })
           place_of g k = go2 (in_order_or_one P s (record { start = t.body.start; past = vs; answer = v }) g (happened_here (record { start = t.body.start; past = vs; answer = v }) (v ∷ vs) h mine) (happened_of g k))
             where
-              go2 : Ordered P (record { start = t.body.start; past = vs; answer = v }) g → IsEarlierEvent P (record { start = t.body.start; past = vs; answer = v }) g ⊎ IsEarlierEvent P g (record { start = t.body.start; past = vs; answer = v })
+              go2 : Ordered P (record { start = t.body.start; past = vs; answer = v }) g → IsEarlierPlace P (record { start = t.body.start; past = vs; answer = v }) g ⊎ IsEarlierPlace P g (record { start = t.body.start; past = vs; answer = v })
               go2 (first l) = inl l
               go2 (last l) = inr l
               go2 (same e) = absurd (not_old g k e)
 
-          commute : (g : Event S) → IsEarlierEvent P (record { start = t.body.start; past = vs; answer = v }) g → DoneChange P s c g ⊎ SlotEvent vs g → Commutes P (record { start = t.body.start; past = vs; answer = v }) g
+          commute : (g : Event S) → IsEarlierPlace P (record { start = t.body.start; past = vs; answer = v }) g → DoneChange P s c g ⊎ SlotEvent vs g → Commutes P (record { start = t.body.start; past = vs; answer = v }) g
           commute g l (inl d) = folds_swap slot_here (later_folds (record { start = t.body.start; past = vs; answer = v }) (v ∷ vs) h mine g d l)
           commute g l (inr k) = folds_swap slot_here (slot_op g vs k)
 
@@ -366,7 +367,7 @@ module _ {S : Type 0} (P : Program S) (main : Start S) (s n : State S) (p : List
               split (inr x) = inl (record { slot = k.slot; changes = k.changes; happened = record { task = t; at_ = subst (λ (z : List ℕ). At s z t) q1 at_; start = q2; found = f }; joined = λ g2. x })
 
   -- a cell of which no fold is joined by this keeps its value
-  pub gave_value : (cells : List ℕ) (c : ℕ) → (n.cells ≡ s.cells) ⊎ (c ≢ d) → slice_index n.cells c ≡ slice_index s.cells c → ((e : Event S) → c ≡ d → e.start ≡ t.body.start → Changes (stage_act P e.start e.past) c true → ⊥) → IsValue P s cells c → IsValue P n cells c
+  pub gave_value : (cells : List ℕ) (c : ℕ) → (n.cells ≡ s.cells) ⊎ (c ≢ d) → slice_index n.cells c ≡ slice_index s.cells c → ((e : Event S) → c ≡ d → e.start ≡ t.body.start → Changes (stage_act P e.start e.past) c true → ⊥) → PlacedValue P s cells c → PlacedValue P n cells c
   gave_value cells c which_ same_value none v =
       record {
         list = v.list;
@@ -382,7 +383,7 @@ module _ {S : Type 0} (P : Program S) (main : Start S) (s n : State S) (p : List
 
 -- the value of the joined cell
 pub join_value : {S : Type 0} (P : Program S) (main : Start S) (s n : State S) (p : List ℕ) (c : ℕ) (op : Op) (t : Task S) (ms : MainStarts main) (made : IsMade P main s) (started : IsStarted P s) (can : CanJoin P s p c op t) (gave : GaveUp s p c t n) → n.cells ≡ joined_cells P c op t s.cells
-    → (cells : List ℕ) → c < length s.cells → slice_index s.cells c < 2 ^ 64 → IsValue P s cells c → IsValue P n cells c
+    → (cells : List ℕ) → c < length s.cells → slice_index s.cells c < 2 ^ 64 → PlacedValue P s cells c → PlacedValue P n cells c
 join_value {S = S} P main s n p c op t ms made started can gave cells_are cells l word v =
     let q = part P main s p c op t ms made started can cells v word t.body.found whole in
     record {

@@ -8,12 +8,15 @@ pub mod ForestLemmas
 pub mod GrowLemmas
 pub mod JoinLemmas
 pub mod JudgeLemmas
+pub mod KeyLemmas
+pub mod KeyOrder
 pub mod LendLemmas
 pub mod LoadTheorem
 pub mod MemoryLemmas
 pub mod MoveLemmas
 pub mod OrderLemmas
 pub mod OrderTheorem
+pub mod Places
 pub mod ProgressTheorem
 pub mod RecallLemmas
 pub mod SequenceLemmas

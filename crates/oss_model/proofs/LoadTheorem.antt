@@ -9,8 +9,9 @@ use Rattle.oss_model.specs.Bodies.Act.{Created, Awaited, Waited, WaitedOn, Over,
 use Rattle.oss_model.specs.Machine.{Task, State, At, find, IsReady}
 use Rattle.oss_model.specs.History.{MadeBy, IsMade, IsStarted, IsComparable}
 use Rattle.oss_model.specs.Moves.{act_now, created_now, is_ended, after_answer, new_task, found_by, CanStep, Stepped}
-use Rattle.oss_model.specs.Memory.{Event, place, IsEarlierEvent, Happened, DoneChange, replay, IsValue}
+use Rattle.oss_model.specs.Memory.{Event, Happened, DoneChange, replay}
 use Rattle.oss_model.specs.Sequence.{Running, Sequential}
+use Rattle.oss_model.proofs.Places.{place, IsEarlierPlace, PlacedValue}
 use Rattle.oss_model.proofs.StageLemmas.{created_grows, creation_counts}
 use Rattle.oss_model.proofs.OrderLemmas.{suffix_trans, suffix_drop, suffix_length, suffix_linear, suffix_full, before_child}
 use Rattle.oss_model.proofs.TreeLemmas.{at_same, over_stops, path_found, next_of}
@@ -32,7 +33,7 @@ module _ {S : Type 0} (P : Program S) (main : Start S) (cells : List ℕ) (z : R
   st = stands P main cells ms z run
 
   -- the task of z at the path, with what s has done of it
-  past_in_z : (q : List ℕ) (u : Task S) (g : Event S) (h : Happened s g) → g.start.path ≡ q → At z.state q u → Happened z.state g ⊎ ((e : Event S) → Happened z.state e → IsEarlierEvent P e g)
+  past_in_z : (q : List ℕ) (u : Task S) (g : Event S) (h : Happened s g) → g.start.path ≡ q → At z.state q u → Happened z.state g ⊎ ((e : Event S) → Happened z.state e → IsEarlierPlace P e g)
   past_in_z q u g h path at_ = go (comp q u h.task at_ (subst (λ (x : List ℕ). At s x h.task) path h.at_))
     where
       into : IsComparable u.body h.task.body → IsSuffix (g.answer ∷ g.past) u.body.found → Happened z.state g
@@ -44,40 +45,40 @@ module _ {S : Type 0} (P : Program S) (main : Start S) (cells : List ℕ) (z : R
           let o' : IsHalt (stage_act P u.body.start u.body.found) = subst IsHalt (sym (over_stops P u.body.start u.body.found o)) tt in
           made.goes g.start.path h.task u.body.found n.0 h.at_ n.1 (subst (λ (x : Start S). IsHalt (stage_act P x u.body.found)) c.start o')
 
-      passed : IsComparable u.body h.task.body → IsSuffix u.body.found g.past → IsSuffix q z.active ⊎ (is_ended P u.body ≡ true) → IsSuffix u.body.found h.task.body.found → (e : Event S) → Happened z.state e → IsEarlierEvent P e g
+      passed : IsComparable u.body h.task.body → IsSuffix u.body.found g.past → IsSuffix q z.active ⊎ (is_ended P u.body ≡ true) → IsSuffix u.body.found h.task.body.found → (e : Event S) → Happened z.state e → IsEarlierPlace P e g
       passed c k (inr o) f e i = absurd (going c f (let a = suffix_length h.found in let b = suffix_length k in omega arith) o)
       passed c k (inl w) f e i = later (lt_or (length g.past) (length u.body.found) (suffix_length k))
         where
-          first : IsEarlierEvent P e (stage_of u.body)
+          first : IsEarlierPlace P e (stage_of u.body)
           first = st.ahead q u at_ w e i
 
           same : u.body.start ≡ g.start
           same = c.start ∙ h.start
 
-          later : (length u.body.found < length g.past) ⊎ (length g.past ≡ length u.body.found) → IsEarlierEvent P e g
+          later : (length u.body.found < length g.past) ⊎ (length g.past ≡ length u.body.found) → IsEarlierPlace P e g
           later (inl l) =
-              let m : IsEarlierEvent P (record { start = g.start; past = u.body.found; answer = 0 }) g = stage_later P g.start u.body.found g.past 0 g.answer k l in
-              event_trans P e (stage_of u.body) g first (subst (λ (x : Start S). IsEarlierEvent P (record { start = x; past = u.body.found; answer = 0 }) g) (sym same) m)
-          later (inr l) = answer_free (subst (λ (x : Start S). IsEarlierEvent P e (record { start = x; past = g.past; answer = 0 })) same
-              (subst (λ (x : List ℕ). IsEarlierEvent P e (record { start = u.body.start; past = x; answer = 0 })) (suffix_full k (omega arith)) first))
+              let m : IsEarlierPlace P (record { start = g.start; past = u.body.found; answer = 0 }) g = stage_later P g.start u.body.found g.past 0 g.answer k l in
+              event_trans P e (stage_of u.body) g first (subst (λ (x : Start S). IsEarlierPlace P (record { start = x; past = u.body.found; answer = 0 }) g) (sym same) m)
+          later (inr l) = answer_free (subst (λ (x : Start S). IsEarlierPlace P e (record { start = x; past = g.past; answer = 0 })) same
+              (subst (λ (x : List ℕ). IsEarlierPlace P e (record { start = u.body.start; past = x; answer = 0 })) (suffix_full k (omega arith)) first))
             where
-              answer_free : IsEarlierEvent P e (record { start = g.start; past = g.past; answer = 0 }) → IsEarlierEvent P e g
+              answer_free : IsEarlierPlace P e (record { start = g.start; past = g.past; answer = 0 }) → IsEarlierPlace P e g
               answer_free (inl x) = inl x
               answer_free (inr x) = inr x
 
-      go : IsComparable u.body h.task.body → Happened z.state g ⊎ ((e : Event S) → Happened z.state e → IsEarlierEvent P e g)
+      go : IsComparable u.body h.task.body → Happened z.state g ⊎ ((e : Event S) → Happened z.state e → IsEarlierPlace P e g)
       go c = split c.found
         where
-          long : IsSuffix u.body.found h.task.body.found → (length g.past < length u.body.found) ⊎ (length u.body.found ≤ length g.past) → Happened z.state g ⊎ ((e : Event S) → Happened z.state e → IsEarlierEvent P e g)
+          long : IsSuffix u.body.found h.task.body.found → (length g.past < length u.body.found) ⊎ (length u.body.found ≤ length g.past) → Happened z.state g ⊎ ((e : Event S) → Happened z.state e → IsEarlierPlace P e g)
           long k (inl l) = inl (into c (suffix_linear h.found k (omega arith)))
           long k (inr l) = inr (passed c (suffix_linear k (suffix_drop h.found) l) (st.others q u at_) k)
 
-          split : IsSuffix u.body.found h.task.body.found ⊎ IsSuffix h.task.body.found u.body.found → Happened z.state g ⊎ ((e : Event S) → Happened z.state e → IsEarlierEvent P e g)
+          split : IsSuffix u.body.found h.task.body.found ⊎ IsSuffix h.task.body.found u.body.found → Happened z.state g ⊎ ((e : Event S) → Happened z.state e → IsEarlierPlace P e g)
           split (inl k) = long k (le_or (length g.past) (length u.body.found))
           split (inr k) = inl (into c (suffix_trans h.found k))
 
   -- what is done in s is done in the sequential run, or it stands after all that is done there
-  pub in_or_beyond : (q : List ℕ) (g : Event S) → g.start.path ≡ q → Happened s g → Happened z.state g ⊎ ((e : Event S) → Happened z.state e → IsEarlierEvent P e g)
+  pub in_or_beyond : (q : List ℕ) (g : Event S) → g.start.path ≡ q → Happened s g → Happened z.state g ⊎ ((e : Event S) → Happened z.state e → IsEarlierPlace P e g)
   in_or_beyond [] g path h = past_in_z [] st.made.main_task g h path st.made.main_at
   in_or_beyond (k ∷ q) g path h =
       let b = made.child k q h.task (subst (λ (x : List ℕ). At s x h.task) path h.at_) in
@@ -87,8 +88,8 @@ module _ {S : Type 0} (P : Program S) (main : Start S) (cells : List ℕ) (z : R
       (record { task = b.creator; at_ = subst (λ (x : List ℕ). At s x b.creator) (sym pb) b.at_; start = refl; found = b.happened }))
     where
       go : (o : Option (Task S)) → find z.state.tasks (k ∷ q) ≡ o → (b : MadeBy P s k q h.task)
-          → Happened z.state (record { start = b.creator.body.start; past = b.past; answer = b.answer }) ⊎ ((e : Event S) → Happened z.state e → IsEarlierEvent P e (record { start = b.creator.body.start; past = b.past; answer = b.answer }))
-          → Happened z.state g ⊎ ((e : Event S) → Happened z.state e → IsEarlierEvent P e g)
+          → Happened z.state (record { start = b.creator.body.start; past = b.past; answer = b.answer }) ⊎ ((e : Event S) → Happened z.state e → IsEarlierPlace P e (record { start = b.creator.body.start; past = b.past; answer = b.answer }))
+          → Happened z.state g ⊎ ((e : Event S) → Happened z.state e → IsEarlierPlace P e g)
       go (Some u) e b r = past_in_z (k ∷ q) u g h path e
       go None e b (inl r) =
           let pb = path_found s.tasks q b.creator b.at_ in
@@ -123,7 +124,7 @@ is_load (Fault kind line key) = inr (λ c e. cc)
 is_load Over = inr (λ c e. cc)
 
 module _ {S : Type 0} (P : Program S) (main : Start S) (cells : List ℕ) (z : Running S) (s n : State S) (p : List ℕ) (t : Task S) (ms : MainStarts main) (mem : InMemory main cells) (run : Sequential P main cells z)
-    (made : IsMade P main s) (started : IsStarted P s) (comp : Compatible z.state s) (value : (c : ℕ) → c < length cells → IsValue P s cells c) (can : CanStep P s p t) (step : Stepped P s p t n) where
+    (made : IsMade P main s) (started : IsStarted P s) (comp : Compatible z.state s) (value : (c : ℕ) → c < length cells → PlacedValue P s cells c) (can : CanStep P s p t) (step : Stepped P s p t n) where
   zst : Stands P main z
   zst = stands P main cells ms z run
 
@@ -152,14 +153,14 @@ module _ {S : Type 0} (P : Program S) (main : Start S) (cells : List ℕ) (z : R
       let f = (recalls P main cells ms mem z run).loads (their u w) c (record { task = u; at_ = at2; start = refl; found = found }) act_u in
       f.value ∙ (ap (λ (x : List (Event S)). replay P x (slice_index cells c)) (sym (lists load_t v f)) ∙ sym v.value)
     where
-      to_theirs : (g : Event S) → IsEarlierEvent P g (record { start = t.body.start; past = t.body.found; answer = found_by (act_now P t.body) s.cells }) → IsEarlierEvent P g (their u w)
-      to_theirs g h = subst (λ (x : Start S). IsEarlierEvent P g (record { start = x; past = t.body.found; answer = w })) (sym same) (again h)
+      to_theirs : (g : Event S) → IsEarlierPlace P g (record { start = t.body.start; past = t.body.found; answer = found_by (act_now P t.body) s.cells }) → IsEarlierPlace P g (their u w)
+      to_theirs g h = subst (λ (x : Start S). IsEarlierPlace P g (record { start = x; past = t.body.found; answer = w })) (sym same) (again h)
         where
-          again : IsEarlierEvent P g (record { start = t.body.start; past = t.body.found; answer = found_by (act_now P t.body) s.cells }) → IsEarlierEvent P g (record { start = t.body.start; past = t.body.found; answer = w })
+          again : IsEarlierPlace P g (record { start = t.body.start; past = t.body.found; answer = found_by (act_now P t.body) s.cells }) → IsEarlierPlace P g (record { start = t.body.start; past = t.body.found; answer = w })
           again (inl x) = inl x
           again (inr x) = inr x
 
-      lists : Touches (act_now P t.body) c Reads false → (v : IsValue P s cells c) (f : LoadFound P z cells c (their u w)) → v.list ≡ f.list
+      lists : Touches (act_now P t.body) c Reads false → (v : PlacedValue P s cells c) (f : LoadFound P z cells c (their u w)) → v.list ≡ f.list
       lists load_t v f = sorted_one P v.list f.list v.sorted f.sorted (λ g i. forth g (v.only g i)) (λ g i. back g (f.only g i))
         where
           mine : Happened z.state (their u w)
@@ -168,19 +169,19 @@ module _ {S : Type 0} (P : Program S) (main : Start S) (cells : List ℕ) (z : R
           forth : (g : Event S) → DoneChange P s c g → IsIn g f.list
           forth g d = go (in_or_beyond P main cells z s ms mem run made comp g.start.path g refl d.happened)
             where
-              before : IsEarlierEvent P g (their u w)
+              before : IsEarlierPlace P g (their u w)
               before = to_theirs g (after_all P main s n p t ms made started can step path_t c Reads load_t g d)
 
-              go : Happened z.state g ⊎ ((e : Event S) → Happened z.state e → IsEarlierEvent P e g) → IsIn g f.list
+              go : Happened z.state g ⊎ ((e : Event S) → Happened z.state e → IsEarlierPlace P e g) → IsIn g f.list
               go (inl h) = f.all g (record { slot = d.slot; changes = d.changes; happened = h }) before
               go (inr b) = absurd (event_not P g (their u w) before (b (their u w) mine))
 
-          back : (g : Event S) → RunChange P z c g × IsEarlierEvent P g (their u w) → IsIn g v.list
+          back : (g : Event S) → RunChange P z c g × IsEarlierPlace P g (their u w) → IsIn g v.list
           back g k =
               let ct = change_touch k.0.changes in
               let h = k.0.happened in
               let ours : Event S = record { start = t.body.start; past = t.body.found; answer = w } in
-              let early : IsEarlierEvent P g ours = subst (λ (x : Start S). IsEarlierEvent P g (record { start = x; past = t.body.found; answer = w })) same k.1 in
+              let early : IsEarlierPlace P g ours = subst (λ (x : Start S). IsEarlierPlace P g (record { start = x; past = t.body.found; answer = w })) same k.1 in
               let tin : TouchIn P main z.state s ms zst.made made started comp g c ct.touch k.0.slot = record { task = h.task; at_ = h.at_; start = h.start; found = h.found; touches = ct.touches } in
               let gr : Granted P main z.state s ms zst.made made started comp ours c Reads false =
               record { task = t; at_ = subst (λ (x : List ℕ). At s x t) (sym path_t) can.at_; start = refl; stage = whole; touches = load_t; direct = λ e. subst (λ (x : List ℕ). IsReady s x t.body.start.context) (sym path_t) ready_now; joined = λ op e e2. absurd (cc (e2)) } in

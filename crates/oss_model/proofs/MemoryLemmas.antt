@@ -12,8 +12,9 @@ use Rattle.oss_model.specs.Bodies.Act.{Store, Folded}
 use Rattle.oss_model.specs.Machine.{Task, State, At, IsReady}
 use Rattle.oss_model.specs.History.{IsMade, IsStarted, IsComparable}
 use Rattle.oss_model.specs.Moves.{act_now, after_answer, combine, cells_after, found_by, CanStep, Stepped}
-use Rattle.oss_model.specs.Memory.{Event, IsEarlierEvent, Happened, Changes, store, folded, DoneChange, value_after, IsValue}
+use Rattle.oss_model.specs.Memory.{Event, Happened, Changes, store, folded, DoneChange, value_after}
 use Rattle.oss_model.specs.Agreement.{MainStarts, Compatible}
+use Rattle.oss_model.proofs.Places.{IsEarlierPlace, PlacedValue}
 use Rattle.oss_model.proofs.JudgeLemmas.{Permits}
 use Rattle.oss_model.proofs.StageLemmas.{stage_touch, StartsWell}
 use Rattle.oss_model.proofs.OrderLemmas.{suffix_trans, suffix_drop, suffix_length}
@@ -141,7 +142,7 @@ module _ {S : Type 0} (P : Program S) (main : Start S) (s n : State S) (p : List
       subst (λ (z : Task S). IsComparable z.body w.body) (sym e) (record { start = g.2.start; found = inr g.2.found })
 
   -- no done change stands after a touch that is no fold in a slot and may happen now
-  pub no_later : (path : t.body.start.path ≡ p) (c : ℕ) (u : Touch) → Touches (act_now P t.body) c u false → (g : Event S) → DoneChange P s c g → IsEarlierEvent P new_event g → ⊥
+  pub no_later : (path : t.body.start.path ≡ p) (c : ℕ) (u : Touch) → Touches (act_now P t.body) c u false → (g : Event S) → DoneChange P s c g → IsEarlierPlace P new_event g → ⊥
   no_later path c u h g d l =
       let k = change_touch d.changes in
       let in_x : TouchIn P main n s ms n_made made started comp_after new_event c u false =
@@ -198,13 +199,13 @@ module _ {S : Type 0} (P : Program S) (main : Start S) (s n : State S) (p : List
       }
 
   -- the new event is after each done change of a cell that it touches at once
-  pub after_all : (path : t.body.start.path ≡ p) (c : ℕ) (u : Touch) → Touches (act_now P t.body) c u false → (g : Event S) → DoneChange P s c g → IsEarlierEvent P g new_event
+  pub after_all : (path : t.body.start.path ≡ p) (c : ℕ) (u : Touch) → Touches (act_now P t.body) c u false → (g : Event S) → DoneChange P s c g → IsEarlierPlace P g new_event
   after_all path c u h g d = go (in_order_or_one P n new_event g (happens h) (change_forth c g d).happened)
     where
       happens : Touches (act_now P t.body) c u false → Happened n new_event
       happens h = record { task = after_answer (found_by (act_now P t.body) s.cells) t; at_ = subst (λ (z : List ℕ). At n z (after_answer (found_by (act_now P t.body) s.cells) t)) (sym path) step.tasks.own; start = refl; found = whole }
 
-      go : Ordered P new_event g → IsEarlierEvent P g new_event
+      go : Ordered P new_event g → IsEarlierPlace P g new_event
       go (first l) = absurd (no_later path c u h g d l)
       go (last l) = l
       go (same e) =
@@ -214,14 +215,14 @@ module _ {S : Type 0} (P : Program S) (main : Start S) (s n : State S) (p : List
           absurd (last_one (subst (λ (z : Task S). IsSuffix (found_by (act_now P t.body) s.cells ∷ t.body.found) z.body.found) q hp2.found) refl)
 
   -- a step keeps that a cell has the value of its done changes
-  pub value_step : (path : t.body.start.path ≡ p) (cells : List ℕ) (c : ℕ) → c < length s.cells → IsValue P s cells c → IsValue P n cells c
+  pub value_step : (path : t.body.start.path ≡ p) (cells : List ℕ) (c : ℕ) → c < length s.cells → PlacedValue P s cells c → PlacedValue P n cells c
   unfolding Effect
   value_step path cells c l v = go (effect (act_now P t.body) c s.cells l)
     where
       here_value : slice_index n.cells c ≡ slice_index (cells_after (act_now P t.body) s.cells) c
       here_value = ap (λ (z : List ℕ). slice_index z c) step.cells
 
-      go : Effect (act_now P t.body) c s.cells → IsValue P n cells c
+      go : Effect (act_now P t.body) c s.cells → PlacedValue P n cells c
       go (inl k) =
           let h = change_touch k.0 in
           record {

@@ -10,9 +10,10 @@ use Rattle.oss_model.specs.Context.{Context, child_context, right_of}
 use Rattle.oss_model.specs.Bodies.{Order, Program, Act, Start, stack_from, stage_act, stage_created, child_start, Touches}
 use Rattle.oss_model.specs.Bodies.Act.{Created, Awaited, Waited, WaitedOn, Over}
 use Rattle.oss_model.specs.Machine.{Task, State, At, find, HasAccess, HasGiven, accesses, IsChild, is_child, mode_in, IsReady, IsComplete, IsWaitMet}
-use Rattle.oss_model.specs.Memory.{Event, IsEarlierEvent, Happened}
+use Rattle.oss_model.specs.Memory.{Event, Happened}
 use Rattle.oss_model.specs.History.{MadeBy, IsMade, IsStarted, IsRightlyGiven}
 use Rattle.oss_model.specs.Agreement.{MainStarts, Compatible}
+use Rattle.oss_model.proofs.Places.{IsEarlierPlace}
 use Rattle.oss_model.proofs.JudgeLemmas.{covers_trans, Permits, op_eq_is}
 use Rattle.oss_model.proofs.StageLemmas.{creating, stage_right, StartsWell, Touching, stage_touch, created_grows, creation_counts, creation_at, stage_passes}
 use Rattle.oss_model.proofs.LendLemmas.{LentFor, Clears, Cleared, stage_lent, lent_or_cleared, created_lends, created_awaits, lent_touch}
@@ -478,7 +479,7 @@ module _ {S : Type 0} (P : Program S) (main : Start S) (x s : State S) (main_sta
           go e1 false w = awaited_then g c u b k i mk.past mk.answer mk.order (has_access acc) number act w before
 
   -- an earlier conflicting touch of x is done in s
-  pub in_order : (e g : Event S) (c : ℕ) (t u : Touch) (a b : Bool) → TouchIn e c t a → Granted g c u b → Clash t a u b → IsEarlierEvent P e g → Concluded e c a
+  pub in_order : (e g : Event S) (c : ℕ) (t u : Touch) (a b : Bool) → TouchIn e c t a → Granted g c u b → Clash t a u b → IsEarlierPlace P e g → Concluded e c a
   in_order e g c t u a b h k clash (inr q) =
       let p : e.start.path ≡ g.start.path = cc (q.0) in case_one e g c t u a b h k clash p (inr q.1)
   in_order e g c t u a b h k clash (inl q) = go (lie e.start.path g.start.path (stage_created P e.start e.past) (stage_created P g.start g.past) q)

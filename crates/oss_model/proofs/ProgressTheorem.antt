@@ -12,8 +12,9 @@ use Rattle.oss_model.specs.Bodies.{Ask, Program, Act, Frame, Start, Body, judged
 use Rattle.oss_model.specs.Bodies.Act.{Created, Awaited, Waited, WaitedOn, Over, Ticked, Load, Store, Folded, Releases, Fault}
 use Rattle.oss_model.specs.Machine.{Task, State, At, find, same_path, HasAccess, accesses, is_top, IsChild, is_child, IsEarlier, is_earlier, IsReady, Owes, IsComplete, complete, IsWaitMet}
 use Rattle.oss_model.specs.History.{IsMade}
-use Rattle.oss_model.specs.Moves.{act_now, created_now, is_ended, WaitClause, IsClosed, SomeMove, a_step, a_let, a_join, IsLeast}
+use Rattle.oss_model.specs.Moves.{act_now, created_now, is_ended, WaitClause, IsClosed, SomeMove, a_step, a_let, a_join}
 use Rattle.oss_model.specs.Agreement.{InMemory}
+use Rattle.oss_model.proofs.Places.{IsLeastPlace}
 use Rattle.oss_model.proofs.OrderLemmas.{suffix_drop, before_up, before_across, before_trans, before_not, Compared, compare}
 use Rattle.oss_model.proofs.StageLemmas.{created_grows, creation_counts}
 use Rattle.oss_model.proofs.TreeLemmas.{at_same, AccessOf, AccessAbove, has_access, access_up, path_found, mode_is, same_path_is}
@@ -201,7 +202,7 @@ module _ {S : Type 0} (P : Program S) (main : Start S) (cells : List ℕ) (s : S
       go (inl f) = none (λ c o. f c (right_in_memory P main s cells c (k ∷ q) o.0 made mem (record { task = t; at_ = at_; strong = o.1; right = o.2 })) o.0 o.1 o.2)
       go (inr a) = some k q refl a.0 a.1 a.2 a.3 a.4
 
-  module _ (p : List ℕ) (t : Task S) (at_ : At s p t) (least : IsLeast P s p t) where
+  module _ (p : List ℕ) (t : Task S) (at_ : At s p t) (least : IsLeastPlace P s p t) where
     free : (c i k : ℕ) (a : List ℕ) → i < k → IsSuffix (k ∷ a) p → HasAccess s c (i ∷ a) → IsDone (accesses s c) (i ∷ a)
     free c i k a l h acc = all_done P main s made c i a acc (λ q u g j. least q u g (before_across a i k (created_now P u.body) (created_now P t.body) l j h))
 
@@ -383,7 +384,7 @@ module _ {S : Type 0} (P : Program S) (main : Start S) (cells : List ℕ) (s : S
   pub data Outlook : Type 0 where
     finished : ((q : List ℕ) (u : Task S) → At s q u → IsClosed P q u) → Outlook
     moves_on : SomeMove P s → Outlook
-    faulted : (p : List ℕ) (t : Task S) → At s p t → IsLeast P s p t → IsFault (act_now P t.body) → Outlook
+    faulted : (p : List ℕ) (t : Task S) → At s p t → IsLeastPlace P s p t → IsFault (act_now P t.body) → Outlook
 
   pub progress : Outlook
   progress = go (best_of (paths s.tasks))
@@ -392,7 +393,7 @@ module _ {S : Type 0} (P : Program S) (main : Start S) (cells : List ℕ) (s : S
       go (all_closed f) = finished (λ q u h. f q u (found_in s.tasks q u h) h)
       go (best p t at_ o f) = end (least_moves P main cells s made mem p t at_ least o)
         where
-          least : IsLeast P s p t
+          least : IsLeastPlace P s p t
           least q u h l = f q u (found_in s.tasks q u h) h l
 
           end : IsFault (act_now P t.body) ⊎ SomeMove P s → Outlook

@@ -12,8 +12,9 @@ use Rattle.oss_model.specs.Bodies.Act.{Load, Store, Folded}
 use Rattle.oss_model.specs.Machine.{Task, State, At}
 use Rattle.oss_model.specs.History.{IsMade}
 use Rattle.oss_model.specs.Moves.{act_now, after_answer, found_by, combine}
-use Rattle.oss_model.specs.Memory.{Event, IsEarlierEvent, Happened, Changes, store, folded, value_after, replay, IsSorted}
+use Rattle.oss_model.specs.Memory.{Event, Happened, Changes, store, folded, value_after, replay}
 use Rattle.oss_model.specs.Sequence.{Running, direct_cells, RunsOn, Sequential, opens, runs_on}
+use Rattle.oss_model.proofs.Places.{IsEarlierPlace, IsPlaced}
 use Rattle.oss_model.proofs.StageLemmas.{stage_touch}
 use Rattle.oss_model.proofs.OrderLemmas.{suffix_trans}
 use Rattle.oss_model.proofs.TreeLemmas.{at_same, starts_well, path_found, AccessOf, access_chain}
@@ -31,7 +32,7 @@ pub record RunChange {S : Type 0} (P : Program S) (z : Running S) (c : ℕ) (e :
 
 pub record RunValue {S : Type 0} (P : Program S) (z : Running S) (cells : List ℕ) (c : ℕ) : Type 0 where
   pub list : List (Event S)
-  pub sorted : IsSorted P list
+  pub sorted : IsPlaced P list
   pub only : (e : Event S) → IsIn e list → RunChange P z c e
   pub all : (e : Event S) → RunChange P z c e → IsIn e list
   pub value : slice_index z.state.cells c ≡ replay P list (slice_index cells c)
@@ -39,9 +40,9 @@ pub record RunValue {S : Type 0} (P : Program S) (z : Running S) (cells : List �
 -- what a load found is the value of the changes before it
 pub record LoadFound {S : Type 0} (P : Program S) (z : Running S) (cells : List ℕ) (c : ℕ) (e : Event S) : Type 0 where
   pub list : List (Event S)
-  pub sorted : IsSorted P list
-  pub only : (g : Event S) → IsIn g list → RunChange P z c g × IsEarlierEvent P g e
-  pub all : (g : Event S) → RunChange P z c g → IsEarlierEvent P g e → IsIn g list
+  pub sorted : IsPlaced P list
+  pub only : (g : Event S) → IsIn g list → RunChange P z c g × IsEarlierPlace P g e
+  pub all : (g : Event S) → RunChange P z c g → IsEarlierPlace P g e → IsIn g list
   pub value : e.answer ≡ replay P list (slice_index cells c)
 
 pub record Recalls {S : Type 0} (P : Program S) (cells : List ℕ) (z : Running S) : Type 0 where
@@ -132,10 +133,10 @@ module _ {S : Type 0} (P : Program S) (main : Start S) (cells : List ℕ) (z y :
   changes_at : (c : ℕ) (e : Event S) → RunChange P y c e → e ≡ ev → (slot : Bool) × Changes (act_now P r.task.body) c slot
   changes_at c e k q = (k.slot, subst (λ (x : Event S). Changes (stage_act P x.start x.past) c k.slot) q k.changes)
 
-  before_new : (e : Event S) → Happened z.state e → IsEarlierEvent P e ev
+  before_new : (e : Event S) → Happened z.state e → IsEarlierPlace P e ev
   before_new e h = go (old_ahead P main z y ms st r e h)
     where
-      go : IsEarlierEvent P e (stage_of r.task.body) → IsEarlierEvent P e ev
+      go : IsEarlierPlace P e (stage_of r.task.body) → IsEarlierPlace P e ev
       go (inl k) = inl k
       go (inr k) = inr k
 
@@ -186,9 +187,9 @@ module _ {S : Type 0} (P : Program S) (main : Start S) (cells : List ℕ) (z y :
         value = f.value;
       }
     where
-      all : (g : Event S) → IsEarlierEvent P g e → RunChange P z c g ⊎ (g ≡ ev) → IsIn g f.list
+      all : (g : Event S) → IsEarlierPlace P g e → RunChange P z c g ⊎ (g ≡ ev) → IsIn g f.list
       all g l (inl d) = f.all g d l
-      all g l (inr q) = absurd (event_not P e ev (before_new e h) (subst (λ (x : Event S). IsEarlierEvent P x e) q l))
+      all g l (inr q) = absurd (event_not P e ev (before_new e h) (subst (λ (x : Event S). IsEarlierPlace P x e) q l))
 
   load_new : (c : ℕ) → act_now P r.task.body ≡ Load c → LoadFound P y cells c ev
   load_new c a = go (re.value c (touch_in_memory P main z.state cells ms z.active r.task r.task.body.found c Reads false st.made mem r.at_ (subst (λ (x : Act S). Touches x c Reads false) (sym a) Touches.load)))
@@ -203,9 +204,9 @@ module _ {S : Type 0} (P : Program S) (main : Start S) (cells : List ℕ) (z y :
             value = ap (λ (x : Act S). found_by x z.state.cells) a ∙ v.value;
           }
         where
-          all : (g : Event S) → IsEarlierEvent P g ev → RunChange P z c g ⊎ (g ≡ ev) → IsIn g v.list
+          all : (g : Event S) → IsEarlierPlace P g ev → RunChange P z c g ⊎ (g ≡ ev) → IsIn g v.list
           all g l (inl d) = v.all g d
-          all g l (inr q) = let l' = subst (λ (x : Event S). IsEarlierEvent P x ev) q l in absurd (event_not P ev ev l' l')
+          all g l (inr q) = let l' = subst (λ (x : Event S). IsEarlierPlace P x ev) q l in absurd (event_not P ev ev l' l')
 
   pub recalls_on : Recalls P cells y
   recalls_on =

@@ -8,8 +8,9 @@ use Rattle.oss_model.specs.Bodies.Act.{Created, Awaited, Waited, WaitedOn, Over,
 use Rattle.oss_model.specs.Machine.{same_path, Task, At, find}
 use Rattle.oss_model.specs.History.{IsMade}
 use Rattle.oss_model.specs.Moves.{act_now, created_now, is_ended, after_answer, new_task, found_by}
-use Rattle.oss_model.specs.Memory.{Event, place, IsEarlierEvent, Happened}
+use Rattle.oss_model.specs.Memory.{Event, Happened}
 use Rattle.oss_model.specs.Sequence.{Running, path_above, active_after, RunsOn, Sequential, opens, runs_on}
+use Rattle.oss_model.proofs.Places.{place, IsEarlierPlace}
 use Rattle.oss_model.proofs.StageLemmas.{created_goes_on, start_goes_on, created_grows, creation_counts}
 use Rattle.oss_model.proofs.OrderLemmas.{suffix_drop, suffix_length, suffix_full, before_number, before_child, before_up}
 use Rattle.oss_model.proofs.TreeLemmas.{at_same, path_found, next_of, same_path_is}
@@ -32,16 +33,16 @@ pub record Stands {S : Type 0} (P : Program S) (main : Start S) (z : Running S) 
   -- each other task has ended
   pub others : (q : List ℕ) (u : Task S) → At z.state q u → IsSuffix q z.active ⊎ (is_ended P u.body ≡ true)
   -- what is done is before what the tasks on the way do next
-  pub ahead : (q : List ℕ) (u : Task S) → At z.state q u → IsSuffix q z.active → (e : Event S) → Happened z.state e → IsEarlierEvent P e (stage_of u.body)
+  pub ahead : (q : List ℕ) (u : Task S) → At z.state q u → IsSuffix q z.active → (e : Event S) → Happened z.state e → IsEarlierPlace P e (stage_of u.body)
 
 -- a later stage of a body stands later
-pub stage_later : {S : Type 0} (P : Program S) (b : Start S) (past more : List ℕ) (v w : ℕ) → IsSuffix past more → length past < length more → IsEarlierEvent P (record { start = b; past = past; answer = v }) (record { start = b; past = more; answer = w })
+pub stage_later : {S : Type 0} (P : Program S) (b : Start S) (past more : List ℕ) (v w : ℕ) → IsSuffix past more → length past < length more → IsEarlierPlace P (record { start = b; past = past; answer = v }) (record { start = b; past = more; answer = w })
 stage_later P b past more v w h l = go (which (stage_created P b past) (stage_created P b more))
   where
     which : (m n : ℕ) → (m < n) ⊎ (m ≡ n) ⊎ (n < m)
     which m n = grind arith
 
-    go : (stage_created P b past < stage_created P b more) ⊎ (stage_created P b past ≡ stage_created P b more) ⊎ (stage_created P b more < stage_created P b past) → IsEarlierEvent P (record { start = b; past = past; answer = v }) (record { start = b; past = more; answer = w })
+    go : (stage_created P b past < stage_created P b more) ⊎ (stage_created P b past ≡ stage_created P b more) ⊎ (stage_created P b more < stage_created P b past) → IsEarlierPlace P (record { start = b; past = past; answer = v }) (record { start = b; past = more; answer = w })
     go (inl k) = inl (before_number (stage_created P b past) (stage_created P b more) b.path k)
     go (inr (inl k)) = inr (ap (λ (z : ℕ). z ∷ b.path) k, l)
     go (inr (inr k)) = let g = created_grows P b h in absurd (omega arith)
@@ -190,7 +191,7 @@ module _ {S : Type 0} (P : Program S) (main : Start S) (z y : Running S) (ms : M
       go a (stay n b) (inl k) = inl k
 
   -- the new event is before what a task above does next
-  event_before_above : (q : List ℕ) (u : Task S) → At z.state q u → (j : ℕ) → IsSuffix (j ∷ q) z.active → IsEarlierEvent P seq_event (stage_of u.body)
+  event_before_above : (q : List ℕ) (u : Task S) → At z.state q u → (j : ℕ) → IsSuffix (j ∷ q) z.active → IsEarlierPlace P seq_event (stage_of u.body)
   event_before_above q u h j k =
       let c = st.chain q j u k h in
       let pu = path_found z.state.tasks q u h in
@@ -198,28 +199,28 @@ module _ {S : Type 0} (P : Program S) (main : Start S) (z y : Running S) (ms : M
       inl (subst (λ (x : List ℕ). IsBefore (reverse (created_now P r.task.body ∷ x)) (reverse (created_now P u.body ∷ u.body.start.path))) (sym path_t)
       (subst (λ (x : List ℕ). IsBefore (reverse (created_now P r.task.body ∷ z.active)) (reverse (created_now P u.body ∷ x))) (sym pu) b))
 
-  own_later : (e : Event S) → IsEarlierEvent P (stage_of r.task.body) (stage_of (after_answer (found_by (act_now P r.task.body) z.state.cells) r.task).body)
+  own_later : (e : Event S) → IsEarlierPlace P (stage_of r.task.body) (stage_of (after_answer (found_by (act_now P r.task.body) z.state.cells) r.task).body)
   own_later e = stage_later P r.task.body.start r.task.body.found (found_by (act_now P r.task.body) z.state.cells ∷ r.task.body.found) 0 0 (longer whole) (omega arith)
 
-  new_later : (o : Order S) → act_now P r.task.body ≡ Created o false → IsEarlierEvent P (stage_of r.task.body) (stage_of (new_task P r.task.body o).body)
+  new_later : (o : Order S) → act_now P r.task.body ≡ Created o false → IsEarlierPlace P (stage_of r.task.body) (stage_of (new_task P r.task.body o).body)
   new_later o e =
       let pn = path_found y.state.tasks (created_now P r.task.body ∷ z.active) (new_task P r.task.body o) (r.tasks.made o e) in
       let b = before_child (stage_created P (new_task P r.task.body o).body.start []) (created_now P r.task.body) z.active in
       inl (subst (λ (x : List ℕ). IsBefore (reverse (created_now P r.task.body ∷ x)) (reverse (place P (stage_of (new_task P r.task.body o).body)))) (sym path_t)
       (subst (λ (x : List ℕ). IsBefore (reverse (created_now P r.task.body ∷ z.active)) (reverse (stage_created P (new_task P r.task.body o).body.start [] ∷ x))) (sym pn) b))
 
-  pub old_ahead : (e : Event S) → Happened z.state e → IsEarlierEvent P e (stage_of r.task.body)
+  pub old_ahead : (e : Event S) → Happened z.state e → IsEarlierPlace P e (stage_of r.task.body)
   old_ahead e h = st.ahead z.active r.task r.at_ whole e h
 
   -- all events of y are before what a task on the way does next
-  event_ahead : (f : Event S) → ((e : Event S) → Happened z.state e → IsEarlierEvent P e f) → IsEarlierEvent P seq_event f → (e : Event S) → Happened y.state e → IsEarlierEvent P e f
+  event_ahead : (f : Event S) → ((e : Event S) → Happened z.state e → IsEarlierPlace P e f) → IsEarlierPlace P seq_event f → (e : Event S) → Happened y.state e → IsEarlierPlace P e f
   event_ahead f a b e h = go (event_back e h)
     where
-      go : Happened z.state e ⊎ (e ≡ seq_event) → IsEarlierEvent P e f
+      go : Happened z.state e ⊎ (e ≡ seq_event) → IsEarlierPlace P e f
       go (inl k) = a e k
-      go (inr k) = subst (λ (x : Event S). IsEarlierEvent P x f) (sym k) b
+      go (inr k) = subst (λ (x : Event S). IsEarlierPlace P x f) (sym k) b
 
-  seq_ahead : (a : List ℕ) → Turn P r.task z.active (found_by (act_now P r.task.body) z.state.cells) a → (q : List ℕ) (u : Task S) → StepView P z.state z.active r.task (found_by (act_now P r.task.body) z.state.cells) q u → IsSuffix q a → (e : Event S) → Happened y.state e → IsEarlierEvent P e (stage_of u.body)
+  seq_ahead : (a : List ℕ) → Turn P r.task z.active (found_by (act_now P r.task.body) z.state.cells) a → (q : List ℕ) (u : Task S) → StepView P z.state z.active r.task (found_by (act_now P r.task.body) z.state.cells) q u → IsSuffix q a → (e : Event S) → Happened y.state e → IsEarlierPlace P e (stage_of u.body)
   seq_ahead a t q u own k e h =
       event_ahead (stage_of (after_answer (found_by (act_now P r.task.body) z.state.cells) r.task).body)
       (λ e' h'. event_trans P e' (stage_of r.task.body) (stage_of (after_answer (found_by (act_now P r.task.body) z.state.cells) r.task).body) (old_ahead e' h') (own_later e'))
@@ -229,10 +230,10 @@ module _ {S : Type 0} (P : Program S) (main : Start S) (z y : Running S) (ms : M
       (λ f g. event_trans P f (stage_of r.task.body) (stage_of (new_task P r.task.body o).body) (old_ahead f g) (new_later o e'))
       (seq_new o e') e h
     where
-      seq_new : (o : Order S) → act_now P r.task.body ≡ Created o false → IsEarlierEvent P seq_event (stage_of (new_task P r.task.body o).body)
+      seq_new : (o : Order S) → act_now P r.task.body ≡ Created o false → IsEarlierPlace P seq_event (stage_of (new_task P r.task.body o).body)
       seq_new o e1 = go (new_later o e1)
         where
-          go : IsEarlierEvent P (stage_of r.task.body) (stage_of (new_task P r.task.body o).body) → IsEarlierEvent P seq_event (stage_of (new_task P r.task.body o).body)
+          go : IsEarlierPlace P (stage_of r.task.body) (stage_of (new_task P r.task.body o).body) → IsEarlierPlace P seq_event (stage_of (new_task P r.task.body o).body)
           go (inl x) = inl x
           go (inr x) = inr x
   seq_ahead a t q u (old ne g) k e h =

@@ -4,34 +4,35 @@ use Rattle.std.proofs.lemmas.List.{reverse-reverse}
 use Rattle.oss_model.specs.Order.{IsSuffix, IsIn, here, there, IsBefore}
 use Rattle.oss_model.specs.Bodies.{Program, stage_act}
 use Rattle.oss_model.specs.Machine.{Task, State, At}
-use Rattle.oss_model.specs.Memory.{Event, place, IsEarlierEvent, Happened, value_after, replay, IsSorted}
+use Rattle.oss_model.specs.Memory.{Event, Happened, value_after, replay}
+use Rattle.oss_model.proofs.Places.{place, IsEarlierPlace, IsPlaced}
 use Rattle.oss_model.proofs.OrderLemmas.{before_trans, before_not, Compared, before, equal, after, compare, suffix_linear, suffix_full}
 use Rattle.oss_model.proofs.TreeLemmas.{at_same}
 
-pub event_trans : {S : Type 0} (P : Program S) (e f g : Event S) → IsEarlierEvent P e f → IsEarlierEvent P f g → IsEarlierEvent P e g
+pub event_trans : {S : Type 0} (P : Program S) (e f g : Event S) → IsEarlierPlace P e f → IsEarlierPlace P f g → IsEarlierPlace P e g
 event_trans P e f g (inl h) (inl k) = inl (before_trans h k)
 event_trans P e f g (inl h) (inr k) = inl (subst (λ (z : List ℕ). IsBefore (reverse (place P e)) (reverse z)) k.0 h)
 event_trans P e f g (inr h) (inl k) = inl (subst (λ (z : List ℕ). IsBefore (reverse z) (reverse (place P g))) (sym h.0) k)
 event_trans P e f g (inr h) (inr k) = let a = h.1 in let b = k.1 in inr (h.0 ∙ k.0, omega arith)
 
-pub event_not : {S : Type 0} (P : Program S) (e g : Event S) → IsEarlierEvent P e g → IsEarlierEvent P g e → ⊥
+pub event_not : {S : Type 0} (P : Program S) (e g : Event S) → IsEarlierPlace P e g → IsEarlierPlace P g e → ⊥
 event_not P e g h k = go (event_trans P e g e h k)
   where
-    go : IsEarlierEvent P e e → ⊥
+    go : IsEarlierPlace P e e → ⊥
     go (inl a) = before_not a refl
     go (inr a) = let b = a.1 in omega arith
 
-pub event_self : {S : Type 0} (P : Program S) (e g : Event S) → e ≡ g → IsEarlierEvent P e g → ⊥
-event_self {S = S} P e g q h = event_not P e g h (subst (λ (z : Event S). IsEarlierEvent P g z) (sym q) (subst (λ (z : Event S). IsEarlierEvent P z g) q h))
+pub event_self : {S : Type 0} (P : Program S) (e g : Event S) → e ≡ g → IsEarlierPlace P e g → ⊥
+event_self {S = S} P e g q h = event_not P e g h (subst (λ (z : Event S). IsEarlierPlace P g z) (sym q) (subst (λ (z : Event S). IsEarlierPlace P z g) q h))
 
-reverse_same : (xs ys : List ℕ) → reverse xs ≡ reverse ys → xs ≡ ys
+pub reverse_same : (xs ys : List ℕ) → reverse xs ≡ reverse ys → xs ≡ ys
 reverse_same xs ys h = sym (reverse-reverse xs) ∙ (ap reverse h ∙ reverse-reverse ys)
 
 -- two done acts of one state are in order, or one
 pub data Ordered {S : Type 0} (P : Program S) (e g : Event S) : Type 0 where
-  first : IsEarlierEvent P e g → Ordered P e g
+  first : IsEarlierPlace P e g → Ordered P e g
   same : e ≡ g → Ordered P e g
-  last : IsEarlierEvent P g e → Ordered P e g
+  last : IsEarlierPlace P g e → Ordered P e g
 
 cons_parts : {x y : ℕ} {xs ys : List ℕ} → x ∷ xs ≡ y ∷ ys → (x ≡ y) × (xs ≡ ys)
 cons_parts h = (cc, cc)
@@ -60,7 +61,7 @@ in_order_or_one {S = S} P s e g h k = go (compare (reverse (place P e)) (reverse
     go (after h1) = last (inl h1)
 
 -- two sorted lists with the same events are one list
-pub sorted_one : {S : Type 0} (P : Program S) (xs ys : List (Event S)) → IsSorted P xs → IsSorted P ys → ((e : Event S) → IsIn e xs → IsIn e ys) → ((e : Event S) → IsIn e ys → IsIn e xs) → xs ≡ ys
+pub sorted_one : {S : Type 0} (P : Program S) (xs ys : List (Event S)) → IsPlaced P xs → IsPlaced P ys → ((e : Event S) → IsIn e xs → IsIn e ys) → ((e : Event S) → IsIn e ys → IsIn e xs) → xs ≡ ys
 sorted_one P [] [] a b f g = refl
 sorted_one P [] (y ∷ ys) a b f g = elim (g y here) [ ]
 sorted_one P (x ∷ xs) [] a b f g = elim (f x here) [ ]
@@ -102,7 +103,7 @@ in_cases (there h) = inr h
 -- the list with one more event at its place, whose change commutes with those of the later events
 pub record Inserted {S : Type 0} (P : Program S) (e : Event S) (xs : List (Event S)) : Type 0 where
   pub list : List (Event S)
-  pub sorted : IsSorted P list
+  pub sorted : IsPlaced P list
   pub only : (g : Event S) → IsIn g list → (g ≡ e) ⊎ IsIn g xs
   pub new : IsIn e list
   pub old : (g : Event S) → IsIn g xs → IsIn g list
@@ -117,7 +118,7 @@ replay_past P e [] c w = refl
 replay_past P e (x ∷ xs) c w =
     ap (λ (z : ℕ). replay P xs z) (c x here w) ∙ replay_past P e xs (λ g h. c g (there h)) (value_after (stage_act P x.start x.past) w)
 
-pub insert : {S : Type 0} (P : Program S) (e : Event S) (xs : List (Event S)) → IsSorted P xs → ((g : Event S) → IsIn g xs → IsEarlierEvent P e g ⊎ IsEarlierEvent P g e) → ((g : Event S) → IsIn g xs → IsEarlierEvent P e g → Commutes P e g) → Inserted P e xs
+pub insert : {S : Type 0} (P : Program S) (e : Event S) (xs : List (Event S)) → IsPlaced P xs → ((g : Event S) → IsIn g xs → IsEarlierPlace P e g ⊎ IsEarlierPlace P g e) → ((g : Event S) → IsIn g xs → IsEarlierPlace P e g → Commutes P e g) → Inserted P e xs
 insert P e [] sorted which_ commutes =
     record { list = e ∷ []; sorted = ((λ g h. elim h [ ]), tt); only = λ g h. only g h; new = here; old = λ g h. elim h [ ]; value = λ w. refl }
   where
@@ -125,14 +126,14 @@ insert P e [] sorted which_ commutes =
     only g h = in_cases h
 insert {S = S} P e (x ∷ xs) sorted which_ commutes = go (which_ x here) (insert P e xs sorted.1 (λ g h. which_ g (there h)) (λ g h k. commutes g (there h) k))
   where
-    all_later : IsEarlierEvent P e x → (g : Event S) → IsIn g (x ∷ xs) → IsEarlierEvent P e g
+    all_later : IsEarlierPlace P e x → (g : Event S) → IsIn g (x ∷ xs) → IsEarlierPlace P e g
     all_later l g h = later (in_cases h)
       where
-        later : (g ≡ x) ⊎ IsIn g xs → IsEarlierEvent P e g
-        later (inl q) = subst (λ (z : Event S). IsEarlierEvent P e z) (sym q) l
+        later : (g ≡ x) ⊎ IsIn g xs → IsEarlierPlace P e g
+        later (inl q) = subst (λ (z : Event S). IsEarlierPlace P e z) (sym q) l
         later (inr k) = event_trans P e x g l (sorted.0 g k)
 
-    go : IsEarlierEvent P e x ⊎ IsEarlierEvent P x e → Inserted P e xs → Inserted P e (x ∷ xs)
+    go : IsEarlierPlace P e x ⊎ IsEarlierPlace P x e → Inserted P e xs → Inserted P e (x ∷ xs)
     go (inl l) r =
         record {
           list = e ∷ x ∷ xs;
@@ -152,8 +153,8 @@ insert {S = S} P e (x ∷ xs) sorted which_ commutes = go (which_ x here) (inser
           value = λ w. r.value (value_after (stage_act P x.start x.past) w);
         }
       where
-        first_before : (g : Event S) → (g ≡ e) ⊎ IsIn g xs → IsEarlierEvent P x g
-        first_before g (inl q) = subst (λ (z : Event S). IsEarlierEvent P x z) (sym q) l
+        first_before : (g : Event S) → (g ≡ e) ⊎ IsIn g xs → IsEarlierPlace P x g
+        first_before g (inl q) = subst (λ (z : Event S). IsEarlierPlace P x z) (sym q) l
         first_before g (inr k) = sorted.0 g k
 
         only : (g : Event S) → (g ≡ x) ⊎ IsIn g r.list → (g ≡ e) ⊎ IsIn g (x ∷ xs)
@@ -187,11 +188,11 @@ pub in_last : {A : Type 0} {x : A} (xs : List A) → IsIn x (xs ++ x ∷ [])
 in_last [] = here
 in_last (y ∷ xs) = there (in_last xs)
 
-before_append : {S : Type 0} (P : Program S) (e x g : Event S) (xs : List (Event S)) → ((g : Event S) → IsIn g xs → IsEarlierEvent P x g) → IsEarlierEvent P x e → IsIn g xs ⊎ (g ≡ e) → IsEarlierEvent P x g
+before_append : {S : Type 0} (P : Program S) (e x g : Event S) (xs : List (Event S)) → ((g : Event S) → IsIn g xs → IsEarlierPlace P x g) → IsEarlierPlace P x e → IsIn g xs ⊎ (g ≡ e) → IsEarlierPlace P x g
 before_append P e x g xs f l (inl h) = f g h
-before_append {S = S} P e x g xs f l (inr h) = subst (λ (z : Event S). IsEarlierEvent P x z) (sym h) l
+before_append {S = S} P e x g xs f l (inr h) = subst (λ (z : Event S). IsEarlierPlace P x z) (sym h) l
 
-pub sorted_append : {S : Type 0} (P : Program S) (e : Event S) (xs : List (Event S)) → IsSorted P xs → ((g : Event S) → IsIn g xs → IsEarlierEvent P g e) → IsSorted P (xs ++ e ∷ [])
+pub sorted_append : {S : Type 0} (P : Program S) (e : Event S) (xs : List (Event S)) → IsPlaced P xs → ((g : Event S) → IsIn g xs → IsEarlierPlace P g e) → IsPlaced P (xs ++ e ∷ [])
 sorted_append P e [] a f = ((λ g h. elim h [ ]), tt)
 sorted_append P e (x ∷ xs) a f = ((λ g h. before_append P e x g xs a.0 (f x here) (in_append xs h)), sorted_append P e xs a.1 (λ g h. f g (there h)))
 

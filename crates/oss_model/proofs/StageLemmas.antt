@@ -204,7 +204,7 @@ lend_when_created : (w : Bool) (given : ℕ → Right) (x : Context) → (lent_w
 lend_when_created true given x = refl
 lend_when_created false given x = refl
 
-frame_after_created : {S : Type 0} (a : Act S) (v : ℕ) (f : Frame S) → (frame_after a v f).context.created ≡ f.context.created + own_creation {S = S} [] a
+pub frame_after_created : {S : Type 0} (a : Act S) (v : ℕ) (f : Frame S) → (frame_after a v f).context.created ≡ f.context.created + own_creation {S = S} [] a
 frame_after_created Ticked v f = omega arith
 frame_after_created (Created o included) v f = lend_when_created o.when (right_of (child_context f.context o.clauses o.last)) (one_more_created f.context)
 frame_after_created Awaited v f = omega arith
@@ -288,7 +288,7 @@ pub record CreationAt {S : Type 0} (P : Program S) (b : Start S) (more : List �
   pub number : stage_created P b past ≡ i
   pub act : stage_act P b past ≡ Created order false
 
-no_inner_of_open : {S : Type 0} (x : Context) (p : List ℕ) (base : Frame S) (inner : List (Frame S)) → StackOk x p base inner → x.final ≡ false → inner ≡ []
+pub no_inner_of_open : {S : Type 0} (x : Context) (p : List ℕ) (base : Frame S) (inner : List (Frame S)) → StackOk x p base inner → x.final ≡ false → inner ≡ []
 no_inner_of_open x p base [] ok h = refl
 no_inner_of_open x p base (f ∷ fs) ok h = let e : true ≡ false = sym (ok.inner f here).owner ∙ (ok.final ∙ h) in cc
 

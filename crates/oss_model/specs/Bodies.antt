@@ -1,5 +1,5 @@
 -- Bodies: a program answers the next ask of a body; the judge makes it an act or a fault.
-use Rattle.std.specs.Prelude.{ℕ, ◌+◌, ◌%◌, ◌^◌, Bool, true, false, ◌||◌, not, if◌then◌else◌, List, [], ◌∷◌, Option, Some, None}
+use Rattle.std.specs.Prelude.{ℕ, ◌+◌, ◌%◌, ◌^◌, Bool, true, false, ◌||◌, not, if◌then◌else◌, List, [], ◌∷◌, ℤ, Option, Some, None}
 use Rattle.oss_syntax.specs.declared.access.Access.{Access}
 use Rattle.oss_syntax.specs.declared.access.Op.{Op}
 use Rattle.oss_model.specs.declared.answer.FaultKind.{FaultKind}
@@ -14,6 +14,8 @@ pub record Order (S : Type 0) : Type 0 where
   pub when : Bool
   pub last : Bool
   pub wait : Bool
+  -- has no effect on what may happen
+  pub priority : ℤ
 
 -- what a body asks for next, before it is judged
 pub data Ask (S : Type 0) : Type 0 where
@@ -227,6 +229,15 @@ stage_act P b past = act_of P (right_of b.context) (stack_from P b past)
 
 unfoldable pub stage_created : {S : Type 0} → Program S → Start S → List ℕ → ℕ
 stage_created P b past = (stack_from P b past).base.context.created
+
+-- the frame that acts next
+abbrev pub top_frame : {S : Type 0} → Frame S → List (Frame S) → Frame S
+top_frame base [] = base
+top_frame base (f ∷ fs) = f
+
+-- the key of the act that stands next after these answers; an act of an included task has that task's key
+unfoldable pub stage_key : {S : Type 0} → Program S → Start S → List ℕ → List ℕ
+stage_key P b past = key_of (top_frame (stack_from P b past).base (stack_from P b past).inner)
 
 -- the touch of a cell that an act is; the flag says that it goes to the slot
 pub data Touches {S : Type 0} : Act S → ℕ → Touch → Bool → Type 0 where

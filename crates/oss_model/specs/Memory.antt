@@ -1,8 +1,8 @@
 -- Done acts in point order, and the memory that they give.
-use Rattle.std.specs.Prelude.{◌≡◌, ℕ, ◌<◌, Bool, true, false, List, [], ◌∷◌, length, reverse, ◌⊎◌, slice_index}
+use Rattle.std.specs.Prelude.{◌≡◌, ℕ, ◌<◌, Bool, true, false, List, [], ◌∷◌, length, ◌⊎◌, slice_index}
 use Rattle.oss_syntax.specs.declared.access.Op.{Op}
-use Rattle.oss_model.specs.Order.{IsIn, IsSuffix, IsBefore}
-use Rattle.oss_model.specs.Bodies.{Program, Act, Start, stage_act, stage_created}
+use Rattle.oss_model.specs.Order.{IsIn, IsSuffix, IsEarlierKey}
+use Rattle.oss_model.specs.Bodies.{Program, Act, Start, stage_act, stage_key}
 use Rattle.oss_model.specs.Bodies.Act.{Store, Folded}
 use Rattle.oss_model.specs.Machine.{Task, State, At}
 use Rattle.oss_model.specs.Moves.{combine}
@@ -14,12 +14,12 @@ pub record Event (S : Type 0) : Type 0 where
   pub answer : ℕ
 
 -- where the act stands in point order
-abbrev pub place : {S : Type 0} → Program S → Event S → List ℕ
-place P e = stage_created P e.start e.past ∷ e.start.path
+abbrev pub key_at : {S : Type 0} → Program S → Event S → List ℕ
+key_at P e = stage_key P e.start e.past
 
--- the first event is before the second, by key and then by its place in the body
+-- the first event is before the second: by key, and acts of one key in the order of their body
 abbrev pub IsEarlierEvent : {S : Type 0} → Program S → Event S → Event S → Type 0
-IsEarlierEvent P e g = IsBefore (reverse (place P e)) (reverse (place P g)) ⊎ ((place P e ≡ place P g) × (length e.past < length g.past))
+IsEarlierEvent P e g = IsEarlierKey (key_at P e) (key_at P g) ⊎ ((key_at P e ≡ key_at P g) × (length e.past < length g.past))
 
 -- the act is done in the state
 pub record Happened {S : Type 0} (s : State S) (e : Event S) : Type 0 where

@@ -1,14 +1,14 @@
 -- The moves of the machine.
-use Rattle.std.specs.Prelude.{◌≡◌, ◌≢◌, ℕ, ◌+◌, ◌-◌, ◌%◌, ◌^◌, ◌==◌, Bool, true, false, if◌then◌else◌, List, [], ◌∷◌, reverse, ◌⊎◌, slice_index, slice_set, bit_and, bit_or, bit_xor}
+use Rattle.std.specs.Prelude.{◌≡◌, ◌≢◌, ℕ, ◌+◌, ◌-◌, ◌%◌, ◌^◌, ◌==◌, Bool, true, false, if◌then◌else◌, List, [], ◌∷◌, ◌⊎◌, slice_index, slice_set, bit_and, bit_or, bit_xor}
 use Rattle.oss_syntax.specs.declared.access.Mode.{Mode}
 use Rattle.oss_syntax.specs.declared.access.Op.{Op}
 use Rattle.oss_syntax.specs.declared.access.Op.TheVariants.{Add, And, Or, Xor}
 use Rattle.oss_syntax.specs.declared.access.Mode.TheVariants.{Fold}
 use Rattle.oss_model.specs.Context.{right_of}
-use Rattle.oss_model.specs.Order.{IsIn, IsBefore}
+use Rattle.oss_model.specs.Order.{IsIn, IsEarlierKey}
 use Rattle.oss_model.specs.Forest.{IsJoinSatisfied}
 use Rattle.oss_model.specs.Rights.{Released, Holds}
-use Rattle.oss_model.specs.Bodies.{Order, Program, Act, Start, Body, stack_from, stage_act, stage_created, child_start, IsHalt}
+use Rattle.oss_model.specs.Bodies.{Order, Program, Act, Start, Body, stack_from, stage_act, stage_created, stage_key, child_start, IsHalt}
 use Rattle.oss_model.specs.Bodies.Act.{Load, Store, Folded, Created}
 use Rattle.oss_model.specs.Machine.{Task, State, find, At, accesses, IsReady, Owes, IsComplete, IsWaitMet}
 
@@ -145,6 +145,10 @@ pub data SomeMove {S : Type 0} (P : Program S) (s : State S) : Type 0 where
   a_let : {p : List ℕ} {c : ℕ} {t : Task S} → CanLet P s p c t → SomeMove P s
   a_join : {p : List ℕ} {c : ℕ} {op : Op} {t : Task S} → CanJoin P s p c op t → SomeMove P s
 
+-- where a body stands in point order: the key of its next act
+abbrev pub key_now : {S : Type 0} → Program S → Body S → List ℕ
+key_now P b = stage_key P b.start b.found
+
 -- every task that stands before this one in point order is closed
 abbrev pub IsLeast : {S : Type 0} → Program S → State S → List ℕ → Task S → Type 0
-IsLeast P s p t = (q : List ℕ) (u : Task _) → At s q u → IsBefore (reverse (created_now P u.body ∷ q)) (reverse (created_now P t.body ∷ p)) → IsClosed P q u
+IsLeast P s p t = (q : List ℕ) (u : Task _) → At s q u → IsEarlierKey (key_now P u.body) (key_now P t.body) → IsClosed P q u

@@ -1,7 +1,7 @@
 -- The sequential run: each body runs where it is created.
-use Rattle.std.specs.Prelude.{◌≡◌, ℕ, false, if◌then◌else◌, List, [], ◌∷◌, slice_index, slice_set}
+use Rattle.std.specs.Prelude.{◌≡◌, ℕ, false, if◌then◌else◌, List, [], ◌∷◌, ◌++◌, slice_index, slice_set}
 use Rattle.oss_model.specs.Bodies.{Program, Act, Start, IsHalt}
-use Rattle.oss_model.specs.Bodies.Act.{Store, Folded, Created}
+use Rattle.oss_model.specs.Bodies.Act.{Store, Folded, Created, Printed}
 use Rattle.oss_model.specs.Machine.{Task, State, At}
 use Rattle.oss_model.specs.Moves.{combine, act_now, created_now, is_ended, after_answer, found_by, TaskStep}
 
@@ -9,12 +9,19 @@ use Rattle.oss_model.specs.Moves.{combine, act_now, created_now, is_ended, after
 pub record Running (S : Type 0) : Type 0 where
   pub state : State S
   pub active : List ℕ
+  -- the output so far
+  pub printed : List ℕ
 
 -- every fold goes straight to memory
 abbrev pub direct_cells : {S : Type 0} → Act S → List ℕ → List ℕ
 direct_cells (Store c v) cells = slice_set cells c v
 direct_cells (Folded c op v slot) cells = slice_set cells c (combine op (slice_index cells c) v)
 direct_cells _ cells = cells
+
+-- the output after an act
+abbrev pub printed_after : {S : Type 0} → Act S → List ℕ → List ℕ
+printed_after (Printed key text) output = output ++ text
+printed_after _ output = output
 
 abbrev pub path_above : List ℕ → List ℕ
 path_above [] = []
@@ -32,10 +39,11 @@ pub record RunsOn {S : Type 0} (P : Program S) (z y : Running S) : Type 0 where
   pub tasks : TaskStep P z.state z.active task (found_by (act_now P task.body) z.state.cells) y.state
   pub cells : y.state.cells ≡ direct_cells (act_now P task.body) z.state.cells
   pub active : y.active ≡ active_after P task z.active (found_by (act_now P task.body) z.state.cells) (act_now P task.body)
+  pub printed : y.printed ≡ printed_after (act_now P task.body) z.printed
 
 -- the run has come to this
 pub data Sequential {S : Type 0} (P : Program S) (main : Start S) (cells : List ℕ) : Running S → Type 0 where
-  opens : Sequential P main cells (record { state = record { cells = cells; tasks = record { body = record { start = main; found = [] }; given = [] } ∷ [] }; active = [] })
+  opens : Sequential P main cells (record { state = record { cells = cells; tasks = record { body = record { start = main; found = [] }; given = [] } ∷ [] }; active = []; printed = [] })
   runs_on : {z y : Running S} → Sequential P main cells z → RunsOn P z y → Sequential P main cells y
 
 -- it is over: main has ended, or the task that runs stands before a fault
