@@ -24,7 +24,7 @@ use Rattle.oss_model.proofs.Places.{IsLeastPlace, place, IsEarlierPlace}
 use Rattle.oss_model.proofs.KeyOrder.{placed, least_key}
 use Rattle.oss_model.proofs.ProgressTheorem.{Outlook, progress}
 use Rattle.oss_model.proofs.MoveLemmas.{which_path}
-use Rattle.oss_model.proofs.SequenceLemmas.{Stands, stands, stage_of, stage_later, on_way}
+use Rattle.oss_model.proofs.SequenceLemmas.{Stands, stands, stage_of, stage_later, on_way, not_itself}
 use Rattle.oss_model.proofs.MemoryLemmas.{change_touch, fold_mode}
 use Rattle.oss_model.proofs.RecallLemmas.{RunChange, RunValue, recalls}
 
@@ -133,11 +133,11 @@ module _ {S : Type 0} (P : Program S) (main : Start S) (cells : List ℕ) (z : R
     f = over.task
 
     -- where a stage of s stands: within the sequential run, or past all that it has done
-    data Where (q : List ℕ) (x : Event S) : Type 0 where
+    pub data Where (q : List ℕ) (x : Event S) : Type 0 where
       within : (w : Task S) → At z.state q w → w.body.start ≡ x.start → IsSuffix x.past w.body.found → Where q x
-      beyond : (j : ℕ) (a : List ℕ) → IsSuffix (j ∷ a) z.active → IsEarlierPlace P (stage_of over.task.body) x → Where q x
+      beyond : (j : ℕ) (a : List ℕ) → q ≢ z.active → IsSuffix (j ∷ a) z.active → IsEarlierPlace P (stage_of over.task.body) x → Where q x
 
-    active_path : over.task.body.start.path ≡ z.active
+    pub active_path : over.task.body.start.path ≡ z.active
     active_path = path_found z.state.tasks z.active over.task over.at_
 
     is_active : (q : List ℕ) (w : Task S) → At z.state q w → q ≡ z.active → IsHalt (act_now P w.body)
@@ -146,14 +146,14 @@ module _ {S : Type 0} (P : Program S) (main : Start S) (cells : List ℕ) (z : R
         subst (λ (x : Task S). IsHalt (act_now P x.body)) k over.stops
 
     -- a task of z that s has gone beyond waits for a child
-    passed : (q : List ℕ) (w : Task S) → At z.state q w → (IsHalt (act_now P w.body) → ⊥) → (j : ℕ) × IsSuffix (j ∷ q) z.active
+    pub passed : (q : List ℕ) (w : Task S) → At z.state q w → (IsHalt (act_now P w.body) → ⊥) → (j : ℕ) × IsSuffix (j ∷ q) z.active
     passed q w h goes = go (st.others q w h)
       where
         go : IsSuffix q z.active ⊎ (is_ended P w.body ≡ true) → (j : ℕ) × IsSuffix (j ∷ q) z.active
         go (inl k) = on_way k (λ e. goes (is_active q w h e))
         go (inr o) = absurd (goes (subst IsHalt (sym (over_stops P w.body.start w.body.found o)) tt))
 
-    active_before : (q : List ℕ) (j n : ℕ) (x : Event S) → x.start.path ≡ q → IsSuffix (j ∷ q) z.active → j < stage_created P x.start x.past → IsEarlierPlace P (stage_of over.task.body) x
+    pub active_before : (q : List ℕ) (j n : ℕ) (x : Event S) → x.start.path ≡ q → IsSuffix (j ∷ q) z.active → j < stage_created P x.start x.past → IsEarlierPlace P (stage_of over.task.body) x
     active_before q j n x path k l =
         inl (subst (λ (y : List ℕ). IsBefore (reverse (created_now P over.task.body ∷ y)) (reverse (place P x))) (sym active_path)
         (subst (λ (y : List ℕ). IsBefore (reverse (created_now P over.task.body ∷ z.active)) (reverse (stage_created P x.start x.past ∷ y))) (sym path)
@@ -171,7 +171,7 @@ module _ {S : Type 0} (P : Program S) (main : Start S) (cells : List ℕ) (z : R
             let g : stage_created P w.body.start w.body.found ≤ stage_created P w.body.start x.past = created_grows P w.body.start (suffix_linear k fu (omega arith)) in
             let e : w.body.start ≡ x.start = c.start ∙ su in
             let g' : stage_created P w.body.start w.body.found ≤ stage_created P x.start x.past = subst (λ (y : Start S). stage_created P w.body.start w.body.found ≤ stage_created P y x.past) e g in
-            beyond p.0 q p.1 (active_before q p.0 0 x path p.1 (omega arith))
+            beyond p.0 q (not_itself p.1) p.1 (active_before q p.0 0 x path p.1 (omega arith))
 
         near : IsComparable w.body u.body → IsSuffix w.body.found u.body.found → (length w.body.found < length x.past) ⊎ (length x.past ≤ length w.body.found) → Where q x
         near c k (inl l) = far c k l
@@ -184,7 +184,7 @@ module _ {S : Type 0} (P : Program S) (main : Start S) (cells : List ℕ) (z : R
             split (inl k) = near c k (le_or (length w.body.found) (length x.past))
             split (inr k) = within w hw (c.start ∙ su) (suffix_trans fu k)
 
-    where_is : (q : List ℕ) (x : Event S) → x.start.path ≡ q → (u : Task S) → At s q u → u.body.start ≡ x.start → IsSuffix x.past u.body.found → Where q x
+    pub where_is : (q : List ℕ) (x : Event S) → x.start.path ≡ q → (u : Task S) → At s q u → u.body.start ≡ x.start → IsSuffix x.past u.body.found → Where q x
     where_is [] x path u hu su fu = at_task [] x path u hu su fu st.made.main_task st.made.main_at
     where_is (k ∷ q) x path u hu su fu =
         let b = made.child k q u hu in
@@ -198,9 +198,12 @@ module _ {S : Type 0} (P : Program S) (main : Start S) (cells : List ℕ) (z : R
             (subst (λ (y : ℕ). IsBefore (reverse (y ∷ q)) (reverse (place P x))) (sym b.number)
             (subst (λ (y : List ℕ). IsBefore (reverse (k ∷ q)) (reverse (stage_created P x.start x.past ∷ y))) (sym path) (before_child (stage_created P x.start x.past) k q))))
 
+        not_active : find z.state.tasks (k ∷ q) ≡ None → (k ∷ q) ≢ z.active
+        not_active e x = let h : At z.state (k ∷ q) over.task = subst (λ (y : List ℕ). At z.state y over.task) (sym x) over.at_ in absurd (cc (sym e ∙ h))
+
         go : (o : Option (Task S)) → find z.state.tasks (k ∷ q) ≡ o → (b : MadeBy P s k q u) → Where q (record { start = b.creator.body.start; past = b.past; answer = b.answer }) → Where (k ∷ q) x
         go (Some w) e b r = at_task (k ∷ q) x path u hu su fu w e
-        go None e b (beyond j a i l) = beyond j a i (event_trans P (stage_of over.task.body) (record { start = b.creator.body.start; past = b.past; answer = b.answer }) x l (earlier b))
+        go None e b (beyond j a ne i l) = beyond j a (not_active e) i (event_trans P (stage_of over.task.body) (record { start = b.creator.body.start; past = b.past; answer = b.answer }) x l (earlier b))
         go None e b (within w hw sw fw) = split (lt_or (length w.body.found) (length b.past) (suffix_length fw))
           where
             act_w : stage_act P w.body.start b.past ≡ Created b.order false
@@ -226,7 +229,7 @@ module _ {S : Type 0} (P : Program S) (main : Start S) (cells : List ℕ) (z : R
                 let p = passed q w hw (goes same) in
                 let m = st.chain q p.0 w p.1 hw in
                 let m2 : created_now P w.body ≡ k = subst (λ (y : List ℕ). stage_created P w.body.start y ≡ k) same num_w in
-                beyond p.0 q p.1 (inl (subst (λ (y : List ℕ). IsBefore (reverse (created_now P over.task.body ∷ y)) (reverse (place P x))) (sym active_path)
+                beyond p.0 q (not_active e) p.1 (inl (subst (λ (y : List ℕ). IsBefore (reverse (created_now P over.task.body ∷ y)) (reverse (place P x))) (sym active_path)
                 (subst (λ (y : List ℕ). IsBefore (reverse (created_now P over.task.body ∷ z.active)) (reverse (stage_created P x.start x.past ∷ y))) (sym path)
                 (before_across q p.0 k (created_now P over.task.body) (stage_created P x.start x.past) (omega arith) p.1 whole))))
 
@@ -365,7 +368,7 @@ module _ {S : Type 0} (P : Program S) (main : Start S) (cells : List ℕ) (z : R
                   absurd (not_before j.0 p j.1 (active_before p j.0 0 (stage_of t.body) path_t j.1 (omega arith)))
 
           go : Where p (stage_of t.body) → (z.active ≡ p) × (over.task.body ≡ t.body) × ((e : Event S) → Happened z.state e → Happened s e)
-          go (beyond j a i l) = absurd (not_before j a i l)
+          go (beyond j a ne i l) = absurd (not_before j a i l)
           go (within w hw sw fw) = split (lt_or (length w.body.found) (length t.body.found) (suffix_length fw))
             where
               split : (length t.body.found < length w.body.found) ⊎ (length w.body.found ≡ length t.body.found) → (z.active ≡ p) × (over.task.body ≡ t.body) × ((e : Event S) → Happened z.state e → Happened s e)
@@ -409,7 +412,7 @@ module _ {S : Type 0} (P : Program S) (main : Start S) (cells : List ℕ) (z : R
 
           go : Where e.start.path (record { start = e.start; past = e.answer ∷ e.past; answer = 0 }) → Happened z.state e
           go (within w hw sw fw) = record { task = w; at_ = hw; start = sw; found = fw }
-          go (beyond j a i l) = absurd (no_way j a (subst (λ (y : List ℕ). IsSuffix (j ∷ a) y) at_main i))
+          go (beyond j a ne i l) = absurd (no_way j a (subst (λ (y : List ℕ). IsSuffix (j ∷ a) y) at_main i))
 
       -- a fold into a slot of a closed task is joined
       joined : (c : ℕ) (e : Event S) (h : Happened s e) → Changes (stage_act P e.start e.past) c true → IsIn c h.task.given

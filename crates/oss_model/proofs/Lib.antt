@@ -16,6 +16,7 @@ pub mod MemoryLemmas
 pub mod MoveLemmas
 pub mod OrderLemmas
 pub mod OrderTheorem
+pub mod OutputLemmas
 pub mod Places
 pub mod ProgressTheorem
 pub mod RecallLemmas

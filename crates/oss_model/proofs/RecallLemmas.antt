@@ -101,18 +101,18 @@ no_load (Load c) cells h = absurd (h c refl)
 no_load _ cells h = refl
 
 module _ {S : Type 0} (P : Program S) (main : Start S) (cells : List ℕ) (z y : Running S) (ms : MainStarts main) (mem : InMemory main cells) (st : Stands P main z) (r : RunsOn P z y) (re : Recalls P cells z) where
-  abbrev ev : Event S
+  abbrev pub ev : Event S
   ev = record { start = r.task.body.start; past = r.task.body.found; answer = found_by (act_now P r.task.body) z.state.cells }
 
   run_grown : Grown P z.state y.state
   run_grown = step_grown P main z.state y.state z.active r.task (found_by (act_now P r.task.body) z.state.cells) st.made r.at_ r.goes r.tasks
 
-  happened_forth : (e : Event S) → Happened z.state e → Happened y.state e
+  pub happened_forth : (e : Event S) → Happened z.state e → Happened y.state e
   happened_forth e h =
       let g = run_grown.keeps e.start.path h.task h.at_ in
       record { task = g.0; at_ = g.1; start = g.2.start ∙ h.start; found = suffix_trans h.found g.2.found }
 
-  happened_new : Happened y.state ev
+  pub happened_new : Happened y.state ev
   happened_new =
       let q = path_found z.state.tasks z.active r.task r.at_ in
       record { task = after_answer (found_by (act_now P r.task.body) z.state.cells) r.task; at_ = subst (λ (x : List ℕ). At y.state x (after_answer (found_by (act_now P r.task.body) z.state.cells) r.task)) (sym q) r.tasks.own; start = refl; found = whole }
@@ -133,7 +133,7 @@ module _ {S : Type 0} (P : Program S) (main : Start S) (cells : List ℕ) (z y :
   changes_at : (c : ℕ) (e : Event S) → RunChange P y c e → e ≡ ev → (slot : Bool) × Changes (act_now P r.task.body) c slot
   changes_at c e k q = (k.slot, subst (λ (x : Event S). Changes (stage_act P x.start x.past) c k.slot) q k.changes)
 
-  before_new : (e : Event S) → Happened z.state e → IsEarlierPlace P e ev
+  pub before_new : (e : Event S) → Happened z.state e → IsEarlierPlace P e ev
   before_new e h = go (old_ahead P main z y ms st r e h)
     where
       go : IsEarlierPlace P e (stage_of r.task.body) → IsEarlierPlace P e ev

@@ -57,7 +57,7 @@ on_way {q = q} {p = p} h ne = next_of h (go (le_or (length q) (length p)))
     go (inl l) = l
     go (inr l) = absurd (ne (suffix_full h l))
 
-not_itself : {q p : List ℕ} {j : ℕ} → IsSuffix (j ∷ q) p → q ≡ p → ⊥
+pub not_itself : {q p : List ℕ} {j : ℕ} → IsSuffix (j ∷ q) p → q ≡ p → ⊥
 not_itself {q = q} {p = p} h e = let l = suffix_length h in let f : length q ≡ length p = ap (λ (z : List ℕ). length z) e in omega arith
 
 suffix_above : {q p : List ℕ} → IsSuffix q (path_above p) → IsSuffix q p

@@ -1,4 +1,5 @@
 pub mod Agreement
+pub mod Answers
 pub mod Bodies
 pub mod Claims
 pub mod Context
