@@ -20,6 +20,7 @@ pub mod OutputLemmas
 pub mod Places
 pub mod ProgressTheorem
 pub mod RecallLemmas
+pub mod ResultTheorem
 pub mod SequenceLemmas
 pub mod SortLemmas
 pub mod StageLemmas

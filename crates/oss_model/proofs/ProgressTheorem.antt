@@ -83,7 +83,7 @@ module _ {S : Type 0} (P : Program S) (main : Start S) (s : State S) (made : IsM
   all_done : (c k : ℕ) (x : List ℕ) → HasAccess s c (k ∷ x) → ((q : List ℕ) (u : Task S) → At s q u → IsSuffix (k ∷ x) q → IsClosed P q u) → IsDone (accesses s c) (k ∷ x)
   all_done c k x a f = done_below (suc (total s.tasks)) c k x (omega arith) a f
 
-  all_complete : (x : List ℕ) (t : Task S) → At s x t → ((q : List ℕ) (u : Task S) → At s q u → IsSuffix x q → IsClosed P q u) → IsComplete P s x
+  pub all_complete : (x : List ℕ) (t : Task S) → At s x t → ((q : List ℕ) (u : Task S) → At s q u → IsSuffix x q → IsClosed P q u) → IsComplete P s x
   all_complete x t h f = complete_below (suc (total s.tasks)) x t (omega arith) h f
 
   -- the earlier siblings on every level above a path are done

@@ -8,7 +8,7 @@ use Rattle.oss_model.specs.Bodies.{Program, Start}
 use Rattle.oss_model.specs.Machine.{Task, State, At}
 use Rattle.oss_model.specs.History.{IsMade, IsStarted, IsComparable}
 use Rattle.oss_model.specs.Memory.{IsValue}
-use Rattle.oss_model.specs.Sequence.{Running}
+use Rattle.oss_model.specs.Sequence.{Running, Sequential}
 
 -- main as it starts
 pub record MainStarts {S : Type 0} (main : Start S) : Type 0 where
@@ -42,3 +42,7 @@ pub record Agrees {S : Type 0} (P : Program S) (main : Start S) (cells : List �
   pub size : length s.cells ≡ length cells
   pub words : AreWords s.cells
   pub value : (c : ℕ) → c < length cells → IsValue P s cells c
+
+-- a state agrees with every stage of the sequential run
+abbrev pub AgreesWithRun : {S : Type 0} → Program S → Start S → List ℕ → State S → Type 0
+AgreesWithRun P main cells s = (z : Running _) → Sequential P main cells z → Agrees P main cells z s
