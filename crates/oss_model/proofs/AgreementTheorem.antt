@@ -19,7 +19,7 @@ use Rattle.oss_model.specs.Moves.{act_now, combine, cells_after, slot_more, slot
 use Rattle.oss_model.specs.Memory.{Event, Happened, Changes}
 use Rattle.oss_model.specs.Sequence.{Running, Sequential}
 use Rattle.oss_model.specs.Agreement.{AreWords, Setting, Compatible, Agrees}
-use Rattle.oss_model.specs.Claims.{EveryStateAgrees}
+use Rattle.oss_model.specs.Claims.{OpeningAgrees, StepAgrees, LetAgrees, JoinAgrees, EveryStateAgrees}
 use Rattle.oss_model.proofs.Places.{PlacedValue}
 use Rattle.oss_model.proofs.TreeLemmas.{at_same, starts_well, path_found}
 use Rattle.oss_model.proofs.StageLemmas.{stage_touch}
@@ -243,3 +243,15 @@ module _ {S : Type 0} (P : Program S) (main : Start S) (cells : List ℕ) (z : R
 
 pub every_state_agrees : (S : Type 0) → EveryStateAgrees S
 every_state_agrees S P main cells z s set_ run r = reached_agrees P main cells z set_ run s r
+
+pub opening_agrees_law : (S : Type 0) → OpeningAgrees S
+opening_agrees_law S P main cells z set_ run = opening_agrees P main cells z set_ run
+
+pub step_agrees_law : (S : Type 0) → StepAgrees S
+step_agrees_law S P main cells z s n p t set_ run a can step = step_agrees P main cells z set_ run s n p t a can step
+
+pub let_agrees_law : (S : Type 0) → LetAgrees S
+let_agrees_law S P main cells z s n p c t set_ run a can go = let_agrees P main cells z set_ run s n p c t a can go
+
+pub join_agrees_law : (S : Type 0) → JoinAgrees S
+join_agrees_law S P main cells z s n p c op t set_ run a can go = join_agrees P main cells z set_ run s n p c op t a can go

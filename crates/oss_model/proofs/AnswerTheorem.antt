@@ -19,7 +19,7 @@ use Rattle.oss_model.proofs.StageLemmas.{created_grows, stage_touch}
 use Rattle.oss_model.proofs.OrderLemmas.{suffix_trans, suffix_drop, suffix_length, suffix_linear, suffix_full, before_child, before_up, before_across}
 use Rattle.oss_model.proofs.TreeLemmas.{at_same, over_stops, path_found, next_of, starts_well}
 use Rattle.oss_model.proofs.SortLemmas.{event_trans, sorted_one}
-use Rattle.oss_model.specs.Claims.{IsStoppedAs, ended, failed, EveryStopIsTheAnswer}
+use Rattle.oss_model.specs.Claims.{IsStoppedAs, ended, failed, EveryStopIsTheEnd}
 use Rattle.oss_model.proofs.Places.{IsLeastPlace, place, IsEarlierPlace}
 use Rattle.oss_model.proofs.KeyOrder.{placed, least_key}
 use Rattle.oss_model.proofs.ProgressTheorem.{Outlook, progress}
@@ -448,8 +448,8 @@ module _ {S : Type 0} (P : Program S) (main : Start S) (cells : List ℕ) (z : R
               let h = all_caught e d.happened in
               v.all e (record { slot = d.slot; changes = d.changes; happened = h; joined = λ x. joined c e h (subst (λ (y : Bool). Changes (stage_act P e.start e.past) c y) x d.changes) })
 
-pub every_stop_is_the_answer : (S : Type 0) → EveryStopIsTheAnswer S
-every_stop_is_the_answer S P main cells z over s set_ run a none = go (progress P main cells s a.made set_.memory)
+pub every_stop_is_the_end : (S : Type 0) → EveryStopIsTheEnd S
+every_stop_is_the_end S P main cells z over s set_ run a none = go (progress P main cells s a.made set_.memory)
   where
     go : Outlook P main cells s a.made set_.memory → IsStoppedAs P cells z over s
     go (Outlook.finished f) =

@@ -10,16 +10,10 @@ use Rattle.oss_model.specs.Bodies.{Order, Program, Act, Start, stack_from, stage
 use Rattle.oss_model.specs.Bodies.Act.{Created, Awaited, Waited, WaitedOn}
 use Rattle.oss_model.specs.Machine.{Task, State, At, find, HasAccess, HasGiven, accesses, IsTop, is_top, IsChild, is_child, IsEarlier, is_earlier, mode_in, IsReady, Owes, IsComplete, complete, IsWaitMet}
 use Rattle.oss_model.specs.History.{IsMade, IsStarted}
-use Rattle.oss_model.specs.Moves.{act_now, created_now, is_ended}
+use Rattle.oss_model.specs.Moves.{act_now, created_now, is_ended, GoesOn}
 use Rattle.oss_model.proofs.StageLemmas.{creating, created_grows, creation_counts}
 use Rattle.oss_model.proofs.TreeLemmas.{at_same, covered_stage, over_stops}
 use Rattle.oss_model.proofs.ForestLemmas.{Grows, Keeps, Known, Between, done_stays, write_satisfied_stays, read_satisfied_stays, join_satisfied_stays}
-
--- the task has gone on, and given up more
-pub record TaskGrows {S : Type 0} (u v : Task S) : Type 0 where
-  pub start : v.body.start ≡ u.body.start
-  pub found : IsSuffix u.body.found v.body.found
-  pub given : (c : ℕ) → IsIn c u.given → IsIn c v.given
 
 -- a task that the next act of its creator makes
 pub record NewTask {S : Type 0} (P : Program S) (s : State S) (q : List ℕ) (v : Task S) : Type 0 where
@@ -34,8 +28,8 @@ pub record NewTask {S : Type 0} (P : Program S) (s : State S) (q : List ℕ) (v 
   pub given : v.given ≡ []
 
 pub record Grown {S : Type 0} (P : Program S) (s n : State S) : Type 0 where
-  pub keeps : (q : List ℕ) (u : Task S) → At s q u → (v : Task S) × At n q v × TaskGrows u v
-  pub news : (q : List ℕ) (v : Task S) → At n q v → ((u : Task S) × At s q u × TaskGrows u v) ⊎ NewTask P s q v
+  pub keeps : (q : List ℕ) (u : Task S) → At s q u → (v : Task S) × At n q v × GoesOn u v
+  pub news : (q : List ℕ) (v : Task S) → At n q v → ((u : Task S) × At s q u × GoesOn u v) ⊎ NewTask P s q v
 
 module _ {S : Type 0} (P : Program S) (main : Start S) (s n : State S) (made : IsMade P main s) (started : IsStarted P s) (grown : Grown P s n) where
   -- the number of the next child is new
@@ -84,7 +78,7 @@ module _ {S : Type 0} (P : Program S) (main : Start S) (s n : State S) (made : I
   back_below : (c k : ℕ) (p : List ℕ) → HasGiven s c p → (b : HasAccess n c (k ∷ p)) → HasAccess s c (k ∷ p)
   back_below c k p g b = go (grown.news (k ∷ p) b.task b.at_)
     where
-      go : ((u : Task S) × At s (k ∷ p) u × TaskGrows u b.task) ⊎ NewTask P s (k ∷ p) b.task → HasAccess s c (k ∷ p)
+      go : ((u : Task S) × At s (k ∷ p) u × GoesOn u b.task) ⊎ NewTask P s (k ∷ p) b.task → HasAccess s c (k ∷ p)
       go (inl u) = access_back c (k ∷ p) b u.0 u.1
       go (inr w) =
           let e : p ≡ w.path = cc (w.place) in
@@ -108,7 +102,7 @@ module _ {S : Type 0} (P : Program S) (main : Start S) (s n : State S) (made : I
   sibling_back : (c i k : ℕ) (p : List ℕ) (t : Task S) → i < k → At s (k ∷ p) t → HasAccess n c (i ∷ p) → HasAccess s c (i ∷ p)
   sibling_back c i k p t l h a = go (grown.news (i ∷ p) a.task a.at_)
     where
-      go : ((u : Task S) × At s (i ∷ p) u × TaskGrows u a.task) ⊎ NewTask P s (i ∷ p) a.task → HasAccess s c (i ∷ p)
+      go : ((u : Task S) × At s (i ∷ p) u × GoesOn u a.task) ⊎ NewTask P s (i ∷ p) a.task → HasAccess s c (i ∷ p)
       go (inl u) = access_back c (i ∷ p) a u.0 u.1
       go (inr w) =
           let e : p ≡ w.path = cc (w.place) in
@@ -191,7 +185,7 @@ module _ {S : Type 0} (P : Program S) (main : Start S) (s n : State S) (made : I
       (λ j v h. child still p t at_ over (λ i u g. complete_stays still (i ∷ p) (below i u g)) j v h (grown.news (j ∷ p) v h))
     where
       child : ((q : List ℕ) (u v : Task S) → At s q u → At n q v → is_ended P u.body ≡ true → is_ended P v.body ≡ true) → (p : List ℕ) (t : Task S) → At s p t → is_ended P t.body ≡ true
-          → ((i : ℕ) (u : Task S) → At s (i ∷ p) u → IsComplete P n (i ∷ p)) → (j : ℕ) (v : Task S) → At n (j ∷ p) v → ((u : Task S) × At s (j ∷ p) u × TaskGrows u v) ⊎ NewTask P s (j ∷ p) v → IsComplete P n (j ∷ p)
+          → ((i : ℕ) (u : Task S) → At s (i ∷ p) u → IsComplete P n (i ∷ p)) → (j : ℕ) (v : Task S) → At n (j ∷ p) v → ((u : Task S) × At s (j ∷ p) u × GoesOn u v) ⊎ NewTask P s (j ∷ p) v → IsComplete P n (j ∷ p)
       child still p t at_ over f j v h (inl u) = f j u.0 u.1
       child still p t at_ over f j v h (inr w) =
           let e : p ≡ w.path = cc (w.place) in
@@ -213,17 +207,17 @@ module _ {S : Type 0} (P : Program S) (main : Start S) (s n : State S) (made : I
   pub wait_stays : ((q : List ℕ) (u v : Task S) → At s q u → At n q v → is_ended P u.body ≡ true → is_ended P v.body ≡ true) → (p : List ℕ) (t : Task S) (k : ℕ) (act : Act S) → At s p t → k ≤ created_now P t.body → IsWaitMet P s p k act → IsWaitMet P n p k act
   wait_stays still p t k Waited at_ l h = λ i u m a. complete_stays still (i ∷ p) (go i u m (grown.news (i ∷ p) u a))
     where
-      go : (i : ℕ) (u : Task S) → i < k → ((w : Task S) × At s (i ∷ p) w × TaskGrows w u) ⊎ NewTask P s (i ∷ p) u → IsComplete P s (i ∷ p)
+      go : (i : ℕ) (u : Task S) → i < k → ((w : Task S) × At s (i ∷ p) w × GoesOn w u) ⊎ NewTask P s (i ∷ p) u → IsComplete P s (i ∷ p)
       go i u m (inl w) = h i w.0 m w.1
       go i u m (inr w) = absurd (not_new i p t k at_ (omega arith) w)
   wait_stays still p t k Awaited at_ l h = λ i u m a. complete_stays still (i ∷ p) (go i u m (grown.news (i ∷ p) u a))
     where
-      go : (i : ℕ) (u : Task S) → i + 1 ≡ k → ((w : Task S) × At s (i ∷ p) w × TaskGrows w u) ⊎ NewTask P s (i ∷ p) u → IsComplete P s (i ∷ p)
+      go : (i : ℕ) (u : Task S) → i + 1 ≡ k → ((w : Task S) × At s (i ∷ p) w × GoesOn w u) ⊎ NewTask P s (i ∷ p) u → IsComplete P s (i ∷ p)
       go i u m (inl w) = h i w.0 m w.1
       go i u m (inr w) = absurd (not_new i p t k at_ (omega arith) w)
   wait_stays still p t k (WaitedOn named) at_ l h = λ i c m e a. access_done_stays c (i ∷ p) (h i c m e (go i c m a (grown.news (i ∷ p) a.task a.at_)))
     where
-      go : (i c : ℕ) → i < k → (a : HasAccess n c (i ∷ p)) → ((w : Task S) × At s (i ∷ p) w × TaskGrows w a.task) ⊎ NewTask P s (i ∷ p) a.task → HasAccess s c (i ∷ p)
+      go : (i c : ℕ) → i < k → (a : HasAccess n c (i ∷ p)) → ((w : Task S) × At s (i ∷ p) w × GoesOn w a.task) ⊎ NewTask P s (i ∷ p) a.task → HasAccess s c (i ∷ p)
       go i c m a (inl w) = access_back c (i ∷ p) a w.0 w.1
       go i c m a (inr w) = absurd (not_new i p t k at_ (omega arith) w)
   wait_stays still p t k _ at_ l h = tt

@@ -9,7 +9,7 @@ use Rattle.std.proofs.Common.{◌≡◌, ◌≢◌, ℕ, ◌^◌, ◌<◌, ◌�
 use Rattle.std.specs.Prelude.{slice_index, ◌==◌}
 use Rattle.std.proofs.lemmas.Bool.Decides.{nat_tests}
 use Rattle.oss_model.specs.Order.{IsSuffix, whole, longer, IsIn, here, there}
-use Rattle.oss_model.specs.Rights.{Holds, Touch, Folds}
+use Rattle.oss_model.specs.Rights.{Holds, Touch, Folds, Conflicts}
 use Rattle.oss_model.specs.Bodies.{Program, Act, Start, stage_act, Touches}
 use Rattle.oss_model.specs.Bodies.Act.{Created, Awaited, Waited, WaitedOn, Over, Ticked, Load, Store, Folded, Releases, Printed, Ended, Fault}
 use Rattle.oss_model.specs.Machine.{Task, State, At}
@@ -21,7 +21,7 @@ use Rattle.oss_model.proofs.StageLemmas.{stage_touch, StartsWell}
 use Rattle.oss_model.proofs.OrderLemmas.{suffix_trans, suffix_drop}
 use Rattle.oss_model.proofs.TreeLemmas.{at_same, starts_well, path_found}
 use Rattle.oss_model.proofs.MoveLemmas.{MayGive, join_may, GaveUpView, own, old, gave_view, in_cons, which_path}
-use Rattle.oss_model.proofs.OrderTheorem.{Clash, TouchIn, in_order}
+use Rattle.oss_model.proofs.OrderTheorem.{TouchIn, in_order}
 use Rattle.oss_model.proofs.SortLemmas.{Ordered, first, same, last, in_order_or_one, Inserted, Commutes, insert}
 use Rattle.oss_model.proofs.MemoryLemmas.{change_touch, granted_change, fold_mode, changing, last_one}
 use Rattle.oss_model.proofs.Algebra.{fold_assoc, fold_swap, fold_none}
@@ -52,7 +52,7 @@ folds_swap : {S : Type 0} {op : Op} {a b : Act S} → IsSlotFold op a → IsSlot
 folds_swap {op = op} (slot_fold {v = x}) (slot_fold {v = y}) w = fold_swap op w x y
 
 -- a change that doesn't clash with a fold into a slot is such a fold
-no_clash : {S : Type 0} {a : Act S} {c : ℕ} {slot : Bool} (op : Op) (h : Changes a c slot) → (Clash (Folds op) true (change_touch h).touch slot → ⊥) → IsSlotFold op a
+no_clash : {S : Type 0} {a : Act S} {c : ℕ} {slot : Bool} (op : Op) (h : Changes a c slot) → (Conflicts (Folds op) true (change_touch h).touch slot → ⊥) → IsSlotFold op a
 unfolding change_touch
 no_clash op store n = absurd (n tt)
 no_clash op (folded {slot = false}) n = absurd (n tt)
@@ -114,7 +114,7 @@ module _ {S : Type 0} (P : Program S) (main : Start S) (s : State S) (p : List �
       touches_e : (a : Act S) → IsSlotFold op a → Changes a c true → Touches a c (Folds op) true
       touches_e a (slot_fold {c = d} {v = v}) ch = subst (λ (z : ℕ). Touches {S = S} (Folded d op v true) z (Folds op) true) (changing ch).0 Touches.folded
 
-      contradiction : Clash (Folds op) true (change_touch d.changes).touch d.slot → ⊥
+      contradiction : Conflicts (Folds op) true (change_touch d.changes).touch d.slot → ⊥
       contradiction clash =
           let hp = happened_here e past h k in
           let tin : TouchIn P main s s ms made made started self e c (Folds op) true = record { task = hp.task; at_ = hp.at_; start = hp.start; found = hp.found; touches = touches_e (stage_act P e.start e.past) op_e k.changes } in

@@ -12,6 +12,7 @@ pub mod KeyLemmas
 pub mod KeyOrder
 pub mod LendLemmas
 pub mod LoadTheorem
+pub mod MatchingLemmas
 pub mod MemoryLemmas
 pub mod MoveLemmas
 pub mod OrderLemmas
@@ -24,4 +25,5 @@ pub mod ResultTheorem
 pub mod SequenceLemmas
 pub mod SortLemmas
 pub mod StageLemmas
+pub mod StayLemmas
 pub mod TreeLemmas

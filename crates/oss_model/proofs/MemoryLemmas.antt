@@ -6,7 +6,7 @@ use Rattle.oss_syntax.specs.declared.access.Mode.TheVariants.{Fold}
 use Rattle.std.specs.Prelude.{slice_index}
 use Rattle.oss_model.specs.Context.{right_of}
 use Rattle.oss_model.specs.Order.{IsSuffix, whole, longer, IsIn}
-use Rattle.oss_model.specs.Rights.{Holds, Touch, Reads, Writes, Folds}
+use Rattle.oss_model.specs.Rights.{Holds, Touch, Reads, Writes, Folds, Conflicts}
 use Rattle.oss_model.specs.Bodies.{Program, Act, Start, stage_act, Touches, IsHalt}
 use Rattle.oss_model.specs.Bodies.Act.{Store, Folded}
 use Rattle.oss_model.specs.Machine.{Task, State, At, IsReady}
@@ -21,34 +21,34 @@ use Rattle.oss_model.proofs.OrderLemmas.{suffix_trans, suffix_drop, suffix_lengt
 use Rattle.oss_model.proofs.TreeLemmas.{at_same, over_stops, starts_well}
 use Rattle.oss_model.proofs.GrowLemmas.{Grown}
 use Rattle.oss_model.proofs.MoveLemmas.{StepView, own, new, old, step_view, step_grown, step_made}
-use Rattle.oss_model.proofs.OrderTheorem.{Clash, TouchIn, Granted, in_order}
+use Rattle.oss_model.proofs.OrderTheorem.{TouchIn, Granted, in_order}
 use Rattle.oss_model.proofs.SortLemmas.{Ordered, first, same, last, in_order_or_one, in_append, in_left, in_last, sorted_append, replay-append}
 
 -- a change is a touch that is no read
 pub record ChangeTouch {S : Type 0} (a : Act S) (c : ℕ) (slot : Bool) : Type 0 where
   pub touch : Touch
   pub touches : Touches a c touch slot
-  pub clash : (u : Touch) (b : Bool) → slot ≡ false → Clash touch slot u b
-  pub clash_back : (u : Touch) → Clash u false touch slot
-  pub clash_read : Clash touch slot Reads false
+  pub clash : (u : Touch) (b : Bool) → slot ≡ false → Conflicts touch slot u b
+  pub clash_back : (u : Touch) → Conflicts u false touch slot
+  pub clash_read : Conflicts touch slot Reads false
   pub fold : slot ≡ true → (op : Op) × (touch ≡ Folds op)
 
 unfoldable pub change_touch : {S : Type 0} {a : Act S} {c : ℕ} {slot : Bool} → Changes a c slot → ChangeTouch a c slot
 change_touch store = record { touch = Writes; touches = Touches.store; clash = λ u b e. tt; clash_back = λ u. back u; clash_read = tt; fold = λ e. cc }
   where
-    back : (u : Touch) → Clash u false Writes false
+    back : (u : Touch) → Conflicts u false Writes false
     back Reads = tt
     back Writes = tt
     back (Folds op) = tt
 change_touch (folded {op = op} {slot = false}) = record { touch = Folds op; touches = Touches.folded; clash = λ u b e. tt; clash_back = λ u. back u; clash_read = tt; fold = λ e. cc }
   where
-    back : (u : Touch) → Clash u false (Folds op) false
+    back : (u : Touch) → Conflicts u false (Folds op) false
     back Reads = tt
     back Writes = tt
     back (Folds q) = tt
 change_touch (folded {op = op} {slot = true}) = record { touch = Folds op; touches = Touches.folded; clash = λ u b e. cc; clash_back = λ u. back u; clash_read = tt; fold = λ e. (op, refl) }
   where
-    back : (u : Touch) → Clash u false (Folds op) true
+    back : (u : Touch) → Conflicts u false (Folds op) true
     back Reads = tt
     back Writes = tt
     back (Folds q) = tt
@@ -152,7 +152,7 @@ module _ {S : Type 0} (P : Program S) (main : Start S) (s n : State S) (p : List
       let f : IsSuffix (found_by (act_now P t.body) s.cells ∷ t.body.found) t.body.found = subst (λ (z : Task S). IsSuffix (found_by (act_now P t.body) s.cells ∷ t.body.found) z.body.found) e r.happened.found in
       last_one f refl
     where
-      clash_of : (u : Touch) (k : ChangeTouch (stage_act P g.start g.past) c d.slot) → Clash u false k.touch d.slot
+      clash_of : (u : Touch) (k : ChangeTouch (stage_act P g.start g.past) c d.slot) → Conflicts u false k.touch d.slot
       clash_of u k = k.clash_back u
 
   -- a change that is done after the step was done before, or is the step

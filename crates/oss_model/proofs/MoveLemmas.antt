@@ -10,11 +10,11 @@ use Rattle.oss_model.specs.Bodies.{Order, Program, Act, Start, Body, stack_from,
 use Rattle.oss_model.specs.Bodies.Act.{Created, Awaited, Waited, WaitedOn, Over, Ticked, Load, Store, Folded, Releases, Printed, Ended, Fault}
 use Rattle.oss_model.specs.Machine.{Task, State, At, accesses, IsReady, IsWaitMet}
 use Rattle.oss_model.specs.History.{MadeBy, IsMade, IsStarted, IsRightlyGiven}
-use Rattle.oss_model.specs.Moves.{act_now, created_now, is_ended, after_answer, after_giving, new_task, CanStep, TaskStep, CanLet, CanJoin, GaveUp}
+use Rattle.oss_model.specs.Moves.{act_now, created_now, is_ended, after_answer, after_giving, new_task, CanStep, TaskStep, CanLet, CanJoin, GaveUp, GoesOn}
 use Rattle.oss_model.proofs.StageLemmas.{creation_counts, created_grows, released_stays}
 use Rattle.oss_model.proofs.OrderLemmas.{suffix_trans, suffix_drop}
 use Rattle.oss_model.proofs.TreeLemmas.{at_same, over_stops}
-use Rattle.oss_model.proofs.GrowLemmas.{TaskGrows, NewTask, Grown, join_stays, ready_stays, wait_stays}
+use Rattle.oss_model.proofs.GrowLemmas.{NewTask, Grown, join_stays, ready_stays, wait_stays}
 
 which_number : (x y : ℕ) → (x ≡ y) ⊎ (x ≢ y)
 which_number x y = grind arith
@@ -68,7 +68,7 @@ fresh_child {S = S} P main s p t u made at_ k =
     let l = created_grows P t.body.start d in
     omega arith
 
-grows_self : {S : Type 0} (u : Task S) → TaskGrows u u
+grows_self : {S : Type 0} (u : Task S) → GoesOn u u
 grows_self u = record { start = refl; found = whole; given = λ c h. h }
 
 module _ {S : Type 0} (P : Program S) (main : Start S) (s n : State S) (p : List ℕ) (t : Task S) (v0 : ℕ) (made : IsMade P main s) (at_ : At s p t) (goes : IsHalt (act_now P t.body) → ⊥) (step : TaskStep P s p t v0 n) where
@@ -119,14 +119,14 @@ module _ {S : Type 0} (P : Program S) (main : Start S) (s n : State S) (p : List
   pub step_grown : Grown P s n
   step_grown = record { keeps = λ q u h. keep q u h (which_path q p); news = λ q v h. from q v (step_view q v h) }
     where
-      keep : (q : List ℕ) (u : Task S) → At s q u → (q ≡ p) ⊎ (q ≢ p) → (v : Task S) × At n q v × TaskGrows u v
+      keep : (q : List ℕ) (u : Task S) → At s q u → (q ≡ p) ⊎ (q ≢ p) → (v : Task S) × At n q v × GoesOn u v
       keep q u h (inl e) =
           let f = at_same s p u t (subst (λ (z : List ℕ). At s z u) e h) at_ in
-          let g : TaskGrows u (after_answer v0 t) = subst (λ (z : Task S). TaskGrows z (after_answer v0 t)) (sym f) (record { start = refl; found = longer whole; given = λ c i. i }) in
+          let g : GoesOn u (after_answer v0 t) = subst (λ (z : Task S). GoesOn z (after_answer v0 t)) (sym f) (record { start = refl; found = longer whole; given = λ c i. i }) in
           (after_answer v0 t, subst (λ (z : List ℕ). At n z (after_answer v0 t)) (sym e) step.own, g)
       keep q u h (inr e) = (u, others_forth q u e h, grows_self u)
 
-      from : (q : List ℕ) (v : Task S) → StepView P s p t v0 q v → ((u : Task S) × At s q u × TaskGrows u v) ⊎ NewTask P s q v
+      from : (q : List ℕ) (v : Task S) → StepView P s p t v0 q v → ((u : Task S) × At s q u × GoesOn u v) ⊎ NewTask P s q v
       from q v own = inl (t, at_, record { start = refl; found = longer whole; given = λ c i. i })
       from q v (new o a) = inr (record { path = p; creator = t; at_ = at_; order = o; act = a; place = refl; start = refl; found = refl; given = refl })
       from q v (old e h) = inl (v, h, grows_self v)
@@ -145,7 +145,7 @@ module _ {S : Type 0} (P : Program S) (main : Start S) (s n : State S) (p : List
           subst (λ (z : Task S). is_ended P z.body ≡ true) (sym f) o
 
   -- a task of s is there in n, gone on
-  kept : (q : List ℕ) (u : Task S) → At s q u → (v : Task S) × At n q v × TaskGrows u v
+  kept : (q : List ℕ) (u : Task S) → At s q u → (v : Task S) × At n q v × GoesOn u v
   kept q u h = (step_grown).keeps q u h
 
   made_forth : (k : ℕ) (q : List ℕ) (u v : Task S) → v.body.start ≡ u.body.start → MadeBy P s k q u → MadeBy P n k q v
@@ -304,14 +304,14 @@ module _ {S : Type 0} (P : Program S) (main : Start S) (s n : State S) (p : List
   pub gave_grown : Grown P s n
   gave_grown = record { keeps = λ q u h. keep q u h (which_path q p); news = λ q v h. inl (from q v (gave_view q v h)) }
     where
-      keep : (q : List ℕ) (u : Task S) → At s q u → (q ≡ p) ⊎ (q ≢ p) → (v : Task S) × At n q v × TaskGrows u v
+      keep : (q : List ℕ) (u : Task S) → At s q u → (q ≡ p) ⊎ (q ≢ p) → (v : Task S) × At n q v × GoesOn u v
       keep q u h (inl e) =
           let f = at_same s p u t (subst (λ (z : List ℕ). At s z u) e h) at_ in
-          let g : TaskGrows u (after_giving d t) = subst (λ (z : Task S). TaskGrows z (after_giving d t)) (sym f) (record { start = refl; found = whole; given = λ c i. there i }) in
+          let g : GoesOn u (after_giving d t) = subst (λ (z : Task S). GoesOn z (after_giving d t)) (sym f) (record { start = refl; found = whole; given = λ c i. there i }) in
           (after_giving d t, subst (λ (z : List ℕ). At n z (after_giving d t)) (sym e) gave.own, g)
       keep q u h (inr e) = (u, gave.others q e ∙ h, grows_self u)
 
-      from : (q : List ℕ) (v : Task S) → GaveUpView s p d t q v → (u : Task S) × At s q u × TaskGrows u v
+      from : (q : List ℕ) (v : Task S) → GaveUpView s p d t q v → (u : Task S) × At s q u × GoesOn u v
       from q v own = (t, at_, record { start = refl; found = whole; given = λ c i. there i })
       from q v (old e h) = (v, h, grows_self v)
 

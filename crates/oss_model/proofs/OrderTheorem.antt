@@ -5,7 +5,7 @@ use Rattle.oss_syntax.specs.declared.access.Op.{Op}
 use Rattle.oss_syntax.specs.declared.access.Mode.TheVariants.{Read, Write, Fold}
 use Rattle.oss_model.specs.Forest.{IsDone, IsWriteSatisfied, IsReadSatisfied, IsJoinSatisfied, IsRead, done}
 use Rattle.oss_model.specs.Order.{IsSuffix, whole, longer}
-use Rattle.oss_model.specs.Rights.{Right, Holds, Touch, Reads, Folds, covers}
+use Rattle.oss_model.specs.Rights.{Right, Holds, Touch, Reads, Folds, covers, Conflicts}
 use Rattle.oss_model.specs.Context.{Context, child_context, right_of}
 use Rattle.oss_model.specs.Bodies.{Order, Program, Act, Start, stack_from, stage_act, stage_created, child_start, Touches}
 use Rattle.oss_model.specs.Bodies.Act.{Created, Awaited, Waited, WaitedOn, Over}
@@ -20,19 +20,13 @@ use Rattle.oss_model.proofs.LendLemmas.{LentFor, Clears, Cleared, stage_lent, le
 use Rattle.oss_model.proofs.OrderLemmas.{suffix_trans, suffix_drop, suffix_linear, suffix_full, Lie, lie}
 use Rattle.oss_model.proofs.TreeLemmas.{at_same, AccessOf, has_access, access_up, access_chain, task_above, write_satisfied_above, read_satisfied_above, join_satisfied_above, write_satisfied_before, read_satisfied_before, join_satisfied_before, mode_is, complete_done, Late, covered_stage, before_given, starts_well, next_of, start_right}
 
--- two touches of one cell, of which the order matters
-abbrev pub Clash : Touch → Bool → Touch → Bool → Type 0
-Clash Reads a Reads b = ⊥
-Clash (Folds f) true (Folds g) true = f ≡ g → ⊥
-Clash _ _ _ _ = Unit {0}
-
-clash_folds : (op : Op) (t : Touch) (a : Bool) (u : Touch) (b : Bool) → Permits (Fold op) t a → Permits (Fold op) u b → Clash t a u b → ⊥
+clash_folds : (op : Op) (t : Touch) (a : Bool) (u : Touch) (b : Bool) → Permits (Fold op) t a → Permits (Fold op) u b → Conflicts t a u b → ⊥
 clash_folds op t a u b Permits.fold Permits.fold h = h refl
 
-clash_reads : (t : Touch) (a : Bool) (u : Touch) (b : Bool) → Permits Read t a → Permits Read u b → Clash t a u b → ⊥
+clash_reads : (t : Touch) (a : Bool) (u : Touch) (b : Bool) → Permits Read t a → Permits Read u b → Conflicts t a u b → ⊥
 clash_reads t a u b Permits.read Permits.read h = h
 
-clash_reads_at : (t : Touch) (a : Bool) (b : Bool) → Permits Read t a → Clash t a Reads b → ⊥
+clash_reads_at : (t : Touch) (a : Bool) (b : Bool) → Permits Read t a → Conflicts t a Reads b → ⊥
 clash_reads_at t a b Permits.read h = h
 
 covers_read : (m : Mode) → covers Read m ≡ true → m ≡ Read
@@ -188,7 +182,7 @@ module _ {S : Type 0} (P : Program S) (main : Start S) (x s : State S) (main_sta
       by_done e c t slot h (descend c i a (touching e c t slot h).mode g (access_in e c t slot h) d).is_done
 
   -- the two touches are of one task
-  case_one : (e g : Event S) (c : ℕ) (t u : Touch) (a b : Bool) → TouchIn e c t a → Granted g c u b → Clash t a u b → e.start.path ≡ g.start.path → (stage_created P e.start e.past < stage_created P g.start g.past) ⊎ (length e.past < length g.past) → Concluded e c a
+  case_one : (e g : Event S) (c : ℕ) (t u : Touch) (a b : Bool) → TouchIn e c t a → Granted g c u b → Conflicts t a u b → e.start.path ≡ g.start.path → (stage_created P e.start e.past < stage_created P g.start g.past) ⊎ (length e.past < length g.past) → Concluded e c a
   case_one e g c t u a b h k clash path order =
       let at2 : At x g.start.path h.task = subst (λ (p : List ℕ). At x p h.task) path h.at_ in
       let m = comp g.start.path h.task k.task at2 k.at_ in
@@ -209,7 +203,7 @@ module _ {S : Type 0} (P : Program S) (main : Start S) (x s : State S) (main_sta
       shorter_than same m (inr l) = l
 
   -- the first touch is of a task above that of the second
-  case_down : (e g : Event S) (c : ℕ) (t u : Touch) (a b : Bool) (j : ℕ) → TouchIn e c t a → Granted g c u b → Clash t a u b → stage_created P e.start e.past ≤ j → IsSuffix (j ∷ e.start.path) g.start.path → Concluded e c a
+  case_down : (e g : Event S) (c : ℕ) (t u : Touch) (a b : Bool) (j : ℕ) → TouchIn e c t a → Granted g c u b → Conflicts t a u b → stage_created P e.start e.past ≤ j → IsSuffix (j ∷ e.start.path) g.start.path → Concluded e c a
   case_down e g c t u a b j h k clash low below =
       let child = task_above P main s (j ∷ e.start.path) k.task s_made below k.at_ in
       let mk = s_made.child j e.start.path child.0 child.1 in
@@ -295,7 +289,7 @@ module _ {S : Type 0} (P : Program S) (main : Start S) (x s : State S) (main_sta
   not_read m (Fold op) e f h = h
 
   -- the two touches are of tasks below two siblings
-  case_across : (e g : Event S) (c : ℕ) (t u : Touch) (a b : Bool) (q : List ℕ) (i j : ℕ) → TouchIn e c t a → Granted g c u b → Clash t a u b → i < j → IsSuffix (i ∷ q) e.start.path → IsSuffix (j ∷ q) g.start.path → Concluded e c a
+  case_across : (e g : Event S) (c : ℕ) (t u : Touch) (a b : Bool) (q : List ℕ) (i j : ℕ) → TouchIn e c t a → Granted g c u b → Conflicts t a u b → i < j → IsSuffix (i ∷ q) e.start.path → IsSuffix (j ∷ q) g.start.path → Concluded e c a
   case_across e g c t u a b q i j h k clash l left right =
       let te = touching e c t a h in
       let tg = touching_s g c u b k in
@@ -321,7 +315,7 @@ module _ {S : Type 0} (P : Program S) (main : Start S) (x s : State S) (main_sta
           wrong : mx ≡ Read → u ≡ Reads → ⊥
           wrong z w =
               let v : (touching e c t a h).mode ≡ Read = covers_read (touching e c t a h).mode (subst (λ (y : Mode). covers y (touching e c t a h).mode ≡ true) z cov) in
-              clash_reads_at t a b (subst (λ (y : Mode). Permits y t a) v (touching e c t a h).permits) (subst (λ (y : Touch). Clash t a y b) w clash)
+              clash_reads_at t a b (subst (λ (y : Mode). Permits y t a) v (touching e c t a h).permits) (subst (λ (y : Touch). Conflicts t a y b) w clash)
       go (Fold op) mx acc r p cov =
           let f : (b ≡ true) × (u ≡ Folds op) = fold_flag u b p in
           satisfied (join_satisfied_above s c op j q right (k.joined op f.1 f.0))
@@ -402,7 +396,7 @@ module _ {S : Type 0} (P : Program S) (main : Start S) (x s : State S) (main_sta
           go (inr l) = absurd (touch_no_await k.touches (subst (λ (z : List ℕ). stage_act P g.start z ≡ Awaited) (suffix_full before l) aw))
 
   -- the second touch is of a task above that of the first, after it created the task on the way
-  case_up : (e g : Event S) (c : ℕ) (t u : Touch) (a b : Bool) (i : ℕ) → TouchIn e c t a → Granted g c u b → Clash t a u b → i < stage_created P g.start g.past → IsSuffix (i ∷ g.start.path) e.start.path → Concluded e c a
+  case_up : (e g : Event S) (c : ℕ) (t u : Touch) (a b : Bool) (i : ℕ) → TouchIn e c t a → Granted g c u b → Conflicts t a u b → i < stage_created P g.start g.past → IsSuffix (i ∷ g.start.path) e.start.path → Concluded e c a
   case_up e g c t u a b i h k clash low below =
       let w = g.start.path in
       let te = touching e c t a h in
@@ -452,7 +446,7 @@ module _ {S : Type 0} (P : Program S) (main : Start S) (x s : State S) (main_sta
           both_read : (u ≡ Reads) × (mx ≡ Read) → IsDone (accesses s c) (i ∷ g.start.path)
           both_read (r, z) =
               let v : (touching e c t a h).mode ≡ Read = covers_read (touching e c t a h).mode (subst (λ (y : Mode). covers y (touching e c t a h).mode ≡ true) z cov) in
-              absurd (clash_reads_at t a b (subst (λ (y : Mode). Permits y t a) v (touching e c t a h).permits) (subst (λ (y : Touch). Clash t a y b) r clash))
+              absurd (clash_reads_at t a b (subst (λ (y : Mode). Permits y t a) v (touching e c t a h).permits) (subst (λ (y : Touch). Conflicts t a y b) r clash))
 
           both_fold : (op : Op) → (touching_s g c u b k).mode ≡ Fold op → IsDone (accesses s c) (i ∷ g.start.path)
           both_fold op z =
@@ -479,7 +473,7 @@ module _ {S : Type 0} (P : Program S) (main : Start S) (x s : State S) (main_sta
           go e1 false w = awaited_then g c u b k i mk.past mk.answer mk.order (has_access acc) number act w before
 
   -- an earlier conflicting touch of x is done in s
-  pub in_order : (e g : Event S) (c : ℕ) (t u : Touch) (a b : Bool) → TouchIn e c t a → Granted g c u b → Clash t a u b → IsEarlierPlace P e g → Concluded e c a
+  pub in_order : (e g : Event S) (c : ℕ) (t u : Touch) (a b : Bool) → TouchIn e c t a → Granted g c u b → Conflicts t a u b → IsEarlierPlace P e g → Concluded e c a
   in_order e g c t u a b h k clash (inr q) =
       let p : e.start.path ≡ g.start.path = cc (q.0) in case_one e g c t u a b h k clash p (inr q.1)
   in_order e g c t u a b h k clash (inl q) = go (lie e.start.path g.start.path (stage_created P e.start e.past) (stage_created P g.start g.past) q)

@@ -17,8 +17,10 @@ use Rattle.oss_model.specs.Agreement.{InMemory}
 use Rattle.oss_model.proofs.Places.{IsLeastPlace}
 use Rattle.oss_model.proofs.OrderLemmas.{suffix_drop, before_up, before_across, before_trans, before_not, Compared, compare}
 use Rattle.oss_model.proofs.StageLemmas.{created_grows, creation_counts}
-use Rattle.oss_model.proofs.TreeLemmas.{at_same, AccessOf, AccessAbove, has_access, access_up, path_found, mode_is, same_path_is}
+use Rattle.oss_model.proofs.TreeLemmas.{at_same, AccessOf, AccessAbove, has_access, access_up, path_found, mode_is, same_path_is, over_stops}
 use Rattle.oss_model.proofs.RecallLemmas.{right_in_memory}
+use Rattle.oss_model.specs.Claims.{FaultIsNext, OpenTasksMove}
+use Rattle.oss_model.proofs.KeyOrder.{least_key}
 use Rattle.oss_model.proofs.JudgeLemmas.{op_eq_is}
 
 -- paths have a bound
@@ -399,3 +401,14 @@ module _ {S : Type 0} (P : Program S) (main : Start S) (cells : List ℕ) (s : S
           end : IsFault (act_now P t.body) ⊎ SomeMove P s → Outlook
           end (inl x) = faulted p t at_ least x
           end (inr m) = moves_on m
+
+pub open_tasks_move : (S : Type 0) → OpenTasksMove S
+open_tasks_move S P main cells z s p t set_ a at_ open_ = go (progress P main cells s a.made set_.memory)
+  where
+    fault_open : (q : List ℕ) (u : Task S) → IsFault (act_now P u.body) → IsClosed P q u → ⊥
+    fault_open q u x k = subst IsFault (over_stops P u.body.start u.body.found k.ended) x
+
+    go : Outlook P main cells s a.made set_.memory → SomeMove P s ⊎ FaultIsNext P s
+    go (Outlook.finished f) = absurd (open_ (f p t at_))
+    go (Outlook.moves_on m) = inl m
+    go (Outlook.faulted q u h least x) = inr (record { path = q; task = u; at_ = h; open_ = λ k. fault_open q u x k; least = least_key P main s a.made q u h least; fault = x })

@@ -15,7 +15,7 @@ use Rattle.oss_model.specs.Sequence.{Running, Sequential, IsAtEnd}
 use Rattle.oss_model.specs.History.{IsMade, IsComparable}
 use Rattle.oss_model.specs.Agreement.{Setting, Agrees, AgreesWithRun}
 use Rattle.oss_model.specs.Answers.{IsNotPast, DonePrint, texts, IsOutput, IsResult, ends, fails, IsStopped, IsFinished, IsLeastFault, IsAnswer, finished, faulted}
-use Rattle.oss_model.specs.Claims.{SameActs, IsStoppedAs, ended, failed}
+use Rattle.oss_model.specs.Claims.{SameActs, IsStoppedAs, ended, failed, EveryResultIsTheAnswer, EveryAnswerIsTheResult, AnswersAreOne, RunKeepsOutput}
 use Rattle.oss_model.proofs.Places.{place, IsEarlierPlace}
 use Rattle.oss_model.proofs.OrderLemmas.{suffix_trans, suffix_drop, suffix_length, suffix_linear, suffix_full, before_trans, before_not, Compared, compare}
 use Rattle.oss_model.proofs.TreeLemmas.{at_same, over_stops, path_found, next_of}
@@ -26,7 +26,7 @@ use Rattle.oss_model.proofs.RecallLemmas.{recalls}
 use Rattle.oss_model.proofs.ProgressTheorem.{all_complete}
 use Rattle.oss_model.proofs.KeyOrder.{StageIn, stage_in, apart, place_key, placed}
 use Rattle.oss_model.proofs.OutputLemmas.{print_key, fault_key, run_output}
-use Rattle.oss_model.proofs.AnswerTheorem.{Where, within, beyond, where_is, passed, active_before, active_path, every_stop_is_the_answer}
+use Rattle.oss_model.proofs.AnswerTheorem.{Where, within, beyond, where_is, passed, active_before, active_path, every_stop_is_the_end}
 
 shorter_or : (m n : ℕ) → n ≤ m → (n < m) ⊎ (m ≡ n)
 shorter_or m n h = grind arith
@@ -118,8 +118,8 @@ module _ {S : Type 0} (P : Program S) (main : Start S) (cells : List ℕ) (z : R
       inside w hw sw fw (inr l) =
           let same : e.past ≡ w.body.found = suffix_full fw (omega arith) in
           let goes : IsHalt (act_now P w.body) → ⊥ = λ x.
-              let x2 : IsHalt (stage_act P w.body.start e.past) = subst (λ (y : List ℕ). IsHalt (stage_act P w.body.start y)) (sym same) x in
-              made.goes e.start.path h.task e.past e.answer h.at_ h.found (subst (λ (y : Start S). IsHalt (stage_act P y e.past)) (sw ∙ sym h.start) x2) in
+          let x2 : IsHalt (stage_act P w.body.start e.past) = subst (λ (y : List ℕ). IsHalt (stage_act P w.body.start y)) (sym same) x in
+          made.goes e.start.path h.task e.past e.answer h.at_ h.found (subst (λ (y : Start S). IsHalt (stage_act P y e.past)) (sw ∙ sym h.start) x2) in
           let p = passed P main cells z s set_ run agrees end e.start.path w hw goes in
           let m = st.chain e.start.path p.0 w p.1 hw in
           let c : stage_created P e.start e.past ≡ p.0 + 1 = ap (λ (y : List ℕ). stage_created P e.start y) same ∙ (ap (λ (y : Start S). stage_created P y w.body.found) (sym sw) ∙ m) in
@@ -221,6 +221,25 @@ module _ {S : Type 0} (P : Program S) (main : Start S) (cells : List ℕ) (z : R
 
 -- the result of the sequential run is an answer of each stopped state
 pub result_answers : {S : Type 0} (P : Program S) (main : Start S) (cells : List ℕ) (s : State S) (b : Answer) → Setting main cells → AgreesWithRun P main cells s → IsStopped P s → IsResult P main cells b → IsAnswer P s b
-result_answers {S = S} P main cells s b set_ agrees none (ends {z = z} run end o) = end_answer P main cells z s set_ run (agrees z run) end o (every_stop_is_the_answer S P main cells z end s set_ run (agrees z run) none)
+result_answers {S = S} P main cells s b set_ agrees none (ends {z = z} run end o) = end_answer P main cells z s set_ run (agrees z run) end o (every_stop_is_the_end S P main cells z end s set_ run (agrees z run) none)
 result_answers {S = S} P main cells s b set_ agrees none (fails {z = z} {kind = kind} {line = line} {key = key} run end a) =
-    stop_answer P main cells z s set_ run (agrees z run) end kind line key a (every_stop_is_the_answer S P main cells z end s set_ run (agrees z run) none)
+    stop_answer P main cells z s set_ run (agrees z run) end kind line key a (every_stop_is_the_end S P main cells z end s set_ run (agrees z run) none)
+
+pub every_result_is_the_answer : (S : Type 0) → EveryResultIsTheAnswer S
+every_result_is_the_answer S P main cells s b set_ agrees none r = result_answers P main cells s b set_ agrees none r
+
+pub answers_are_one : (S : Type 0) → AnswersAreOne S
+answers_are_one S P main cells z s a b agrees h k = one_answer P main s a b agrees.made h k
+
+-- the stage of the sequential run behind a result
+result_stage : {S : Type 0} (P : Program S) (main : Start S) (cells : List ℕ) (b : Answer) → IsResult P main cells b → (z : Running S) × Sequential P main cells z
+result_stage P main cells b (ends {z = z} run end o) = (z, run)
+result_stage P main cells b (fails {z = z} run end a) = (z, run)
+
+pub every_answer_is_the_result : (S : Type 0) → EveryAnswerIsTheResult S
+every_answer_is_the_result S P main cells s a b set_ agrees none h r =
+    let z = result_stage P main cells b r in
+    one_answer P main s a b (agrees z.0 z.1).made h (result_answers P main cells s b set_ agrees none r)
+
+pub run_keeps_output : (S : Type 0) → RunKeepsOutput S
+run_keeps_output S P main cells z set_ run = run_output P main cells set_.starts set_.memory z run

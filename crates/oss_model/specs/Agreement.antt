@@ -2,9 +2,9 @@
 use Rattle.std.specs.Prelude.{◌≡◌, ℕ, ◌^◌, ◌<◌, List, [], length, slice_index, false, Bool}
 use Rattle.oss_syntax.specs.declared.access.Mode.{Mode}
 use Rattle.oss_syntax.specs.declared.access.Mode.TheVariants.{Write}
-use Rattle.oss_model.specs.Context.{right_of}
+use Rattle.oss_model.specs.Context.{main_context, right_of}
 use Rattle.oss_model.specs.Rights.{Holds}
-use Rattle.oss_model.specs.Bodies.{Program, Start}
+use Rattle.oss_model.specs.Bodies.{Order, Program, Start}
 use Rattle.oss_model.specs.Machine.{Task, State, At}
 use Rattle.oss_model.specs.History.{IsMade, IsStarted, IsComparable}
 use Rattle.oss_model.specs.Memory.{IsValue}
@@ -22,6 +22,10 @@ InMemory main cells = (c : ℕ) (m : Mode) (strong : _) → right_of main.contex
 
 abbrev pub AreWords : List ℕ → Type 0
 AreWords cells = (c : ℕ) → slice_index cells c < 2 ^ 64
+
+-- how main starts
+abbrev pub main_start : {S : Type 0} → Order S → ℕ → ℕ → Start S
+main_start order cells fuel = record { order = order; context = main_context cells fuel; path = [] }
 
 -- the setting: main as it starts, and the cells at the start
 pub record Setting {S : Type 0} (main : Start S) (cells : List ℕ) : Type 0 where

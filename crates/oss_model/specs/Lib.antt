@@ -6,6 +6,7 @@ pub mod Context
 pub mod Forest
 pub mod History
 pub mod Machine
+pub mod Matching
 pub mod Memory
 pub mod Moves
 pub mod Order

@@ -5,7 +5,7 @@ use Rattle.oss_syntax.specs.declared.access.Op.{Op}
 use Rattle.oss_syntax.specs.declared.access.Op.TheVariants.{Add, And, Or, Xor}
 use Rattle.oss_syntax.specs.declared.access.Mode.TheVariants.{Fold}
 use Rattle.oss_model.specs.Context.{right_of}
-use Rattle.oss_model.specs.Order.{IsIn, IsEarlierKey}
+use Rattle.oss_model.specs.Order.{IsSuffix, IsIn, IsEarlierKey}
 use Rattle.oss_model.specs.Forest.{IsJoinSatisfied}
 use Rattle.oss_model.specs.Rights.{Released, Holds}
 use Rattle.oss_model.specs.Bodies.{Order, Program, Act, Start, Body, stack_from, stage_act, stage_created, stage_key, child_start, IsHalt}
@@ -124,6 +124,12 @@ pub data Moved {S : Type 0} (P : Program S) (s n : State S) : Type 0 where
   steps : {p : List ℕ} {t : Task S} → CanStep P s p t → Stepped P s p t n → Moved P s n
   lets : {p : List ℕ} {c : ℕ} {t : Task S} → CanLet P s p c t → LetGo s p c t n → Moved P s n
   joins : {p : List ℕ} {c : ℕ} {op : Op} {t : Task S} → CanJoin P s p c op t → Joined P s p c op t n → Moved P s n
+
+-- a task after more moves: its body has gone on, and it has given up more
+pub record GoesOn {S : Type 0} (u v : Task S) : Type 0 where
+  pub start : v.body.start ≡ u.body.start
+  pub found : IsSuffix u.body.found v.body.found
+  pub given : (c : ℕ) → IsIn c u.given → IsIn c v.given
 
 -- the state with main alone
 abbrev pub opening : {S : Type 0} → Start S → List ℕ → State S

@@ -1,5 +1,5 @@
 -- Rights, lending and the judge of touches.
-use Rattle.std.specs.Prelude.{ℕ, zero, suc, ◌+◌, ◌-◌, nat_lt, nat_le, Bool, true, false, ◌&&◌, ◌||◌, not, if◌then◌else◌, List, [], ◌∷◌, Option, Some, None}
+use Rattle.std.specs.Prelude.{◌≡◌, ℕ, zero, suc, ◌+◌, ◌-◌, nat_lt, nat_le, Bool, true, false, ◌&&◌, ◌||◌, not, if◌then◌else◌, List, [], ◌∷◌, Option, Some, None}
 use Rattle.oss_syntax.specs.declared.access.Access.{Access}
 use Rattle.oss_syntax.specs.declared.access.Mode.{Mode}
 use Rattle.oss_syntax.specs.declared.access.Op.{Op}
@@ -24,6 +24,12 @@ pub data Touch : Type 0 where
   Reads : Touch
   Writes : Touch
   Folds : (op : Op) → Touch
+
+-- two touches of one cell whose order matters; a flag says that the touch is a fold into a slot
+abbrev pub Conflicts : Touch → Bool → Touch → Bool → Type 0
+Conflicts Reads a Reads b = ⊥
+Conflicts (Folds f) true (Folds g) true = f ≡ g → ⊥
+Conflicts _ _ _ _ = Unit {0}
 
 abbrev pub op_eq : Op → Op → Bool
 op_eq Add Add = true
