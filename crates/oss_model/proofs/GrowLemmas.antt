@@ -10,7 +10,7 @@ use Rattle.oss_model.specs.Bodies.{Order, Program, Act, Start, stack_from, stage
 use Rattle.oss_model.specs.Bodies.Act.{Created, Awaited, Waited, WaitedOn}
 use Rattle.oss_model.specs.Machine.{Task, State, At, find, HasAccess, HasGiven, accesses, IsTop, is_top, IsChild, is_child, IsEarlier, is_earlier, mode_in, IsReady, Owes, IsComplete, complete, IsWaitMet}
 use Rattle.oss_model.specs.History.{IsMade, IsStarted}
-use Rattle.oss_model.specs.Moves.{act_now, created_now, is_ended, GoesOn}
+use Rattle.oss_model.specs.Moves.{act_now, created_now, is_ended, WaitClause, GoesOn}
 use Rattle.oss_model.proofs.StageLemmas.{creating, created_grows, creation_counts}
 use Rattle.oss_model.proofs.TreeLemmas.{at_same, covered_stage, over_stops}
 use Rattle.oss_model.proofs.ForestLemmas.{Grows, Keeps, Known, Between, done_stays, write_satisfied_stays, read_satisfied_stays, join_satisfied_stays}
@@ -193,6 +193,19 @@ module _ {S : Type 0} (P : Program S) (main : Start S) (s n : State S) (made : I
           let same = at_same s w.path w.creator t w.at_ at2 in
           let act : act_now P t.body ≡ Created w.order false = subst (λ (z : Task S). act_now P z.body ≡ Created w.order false) same w.act in
           absurd (over_creates t w.order over act)
+
+  -- a task that has ended makes no child, so its clause wait stays met
+  pub clause_stays : ((q : List ℕ) (u v : Task S) → At s q u → At n q v → is_ended P u.body ≡ true → is_ended P v.body ≡ true) → (p : List ℕ) (t v : Task S) → At s p t → v.body.start ≡ t.body.start → is_ended P t.body ≡ true → WaitClause P s p t → WaitClause P n p v
+  clause_stays still p t v at_ e o w = λ wait k u h. child k u (w (subst (λ (z : Start S). z.order.wait ≡ true) e wait)) (grown.news (k ∷ p) u h)
+    where
+      child : (k : ℕ) (u : Task S) → ((j : ℕ) (x : Task S) → At s (j ∷ p) x → IsComplete P s (j ∷ p)) → ((x : Task S) × At s (k ∷ p) x × GoesOn x u) ⊎ NewTask P s (k ∷ p) u → IsComplete P n (k ∷ p)
+      child k u f (inl x) = complete_stays still (k ∷ p) (f k x.0 x.1)
+      child k u f (inr x) =
+          let q : p ≡ x.path = cc (x.place) in
+          let at2 : At s x.path t = subst (λ (z : List ℕ). At s z t) q at_ in
+          let same = at_same s x.path x.creator t x.at_ at2 in
+          let act : act_now P t.body ≡ Created x.order false = subst (λ (z : Task S). act_now P z.body ≡ Created x.order false) same x.act in
+          absurd (over_creates t x.order o act)
 
   not_new : (i : ℕ) (p : List ℕ) (t : Task S) (k : ℕ) {v : Task S} → At s p t → i < created_now P t.body → NewTask P s (i ∷ p) v → ⊥
   not_new i p t k at_ l w =

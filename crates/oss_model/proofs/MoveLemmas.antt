@@ -10,11 +10,11 @@ use Rattle.oss_model.specs.Bodies.{Order, Program, Act, Start, Body, stack_from,
 use Rattle.oss_model.specs.Bodies.Act.{Created, Awaited, Waited, WaitedOn, Over, Ticked, Load, Store, Folded, Releases, Printed, Ended, Fault}
 use Rattle.oss_model.specs.Machine.{Task, State, At, accesses, IsReady, IsWaitMet}
 use Rattle.oss_model.specs.History.{MadeBy, IsMade, IsStarted, IsRightlyGiven}
-use Rattle.oss_model.specs.Moves.{act_now, created_now, is_ended, after_answer, after_giving, new_task, CanStep, TaskStep, CanLet, CanJoin, GaveUp, GoesOn}
+use Rattle.oss_model.specs.Moves.{act_now, created_now, is_ended, after_answer, after_giving, new_task, CanStep, TaskStep, CanLet, CanJoin, GaveUp, IsGone, GoesOn}
 use Rattle.oss_model.proofs.StageLemmas.{creation_counts, created_grows, released_stays}
 use Rattle.oss_model.proofs.OrderLemmas.{suffix_trans, suffix_drop}
 use Rattle.oss_model.proofs.TreeLemmas.{at_same, over_stops}
-use Rattle.oss_model.proofs.GrowLemmas.{NewTask, Grown, join_stays, ready_stays, wait_stays}
+use Rattle.oss_model.proofs.GrowLemmas.{NewTask, Grown, join_stays, ready_stays, clause_stays, wait_stays}
 
 which_number : (x y : ℕ) → (x ≡ y) ⊎ (x ≢ y)
 which_number x y = grind arith
@@ -268,6 +268,19 @@ module _ {S : Type 0} (P : Program S) (main : Start S) (s n : State S) (p : List
   given_view r u (new o a) c g = elim g [ ]
   given_view r u (old ne k) c g = started.given r u c k g
 
+  clause_view : (r : List ℕ) (u : Task S) → StepView P s p t v0 r u → (c : ℕ) → IsIn c u.given → IsGone P n r c u
+  clause_view r u own c g = go (started.clause p t c can.at_ g)
+    where
+      go : IsGone P s p c t → IsGone P n p c (after_answer v0 t)
+      go (inl e) = inl (released_stays P t.body.start t.body.found (v0 ∷ t.body.found) c (longer whole) e)
+      go (inr e) = absurd (can.goes (subst IsHalt (sym (over_stops P t.body.start t.body.found e.0)) tt))
+  clause_view r u (new o a) c g = elim g [ ]
+  clause_view r u (old ne k) c g = go (started.clause r u c k g)
+    where
+      go : IsGone P s r c u → IsGone P n r c u
+      go (inl e) = inl e
+      go (inr e) = inr (e.0, clause_stays P main s n made started grown still r u u k refl e.0 e.1)
+
   pub step_started : IsStarted P n
   step_started =
       record {
@@ -275,6 +288,7 @@ module _ {S : Type 0} (P : Program S) (main : Start S) (s n : State S) (p : List
         joined = λ q u c op h r g. joined_view q u (view q u h) c op r g;
         waited = λ q u v past h g. waited_view q u (view q u h) v past g;
         given = λ q u c h g. given_view q u (view q u h) c g;
+        clause = λ q u c h g. clause_view q u (view q u h) c g;
       }
 
 -- what a task of the state after a cell was given up is
@@ -286,6 +300,7 @@ pub data GaveUpView {S : Type 0} (s : State S) (p : List ℕ) (c : ℕ) (t : Tas
 pub record MayGive {S : Type 0} (P : Program S) (s : State S) (p : List ℕ) (c : ℕ) (t : Task S) : Type 0 where
   pub well : IsRightlyGiven P t c
   pub satisfied : (op : Op) → (right_of t.body.start.context) c ≡ Holds (Fold op) true → IsJoinSatisfied (accesses s c) op p
+  pub clause : IsGone P s p c t
 
 pub in_cons : {c d : ℕ} {xs : List ℕ} → IsIn d (c ∷ xs) → (d ≡ c) ⊎ IsIn d xs
 in_cons here = inl refl
@@ -388,6 +403,22 @@ module _ {S : Type 0} (P : Program S) (main : Start S) (s n : State S) (p : List
       go (inr i) = again c (started.given p t c at_ i)
   given_gave r u (old e k) c g = started.given r u c k g
 
+  clause_gave : (r : List ℕ) (u : Task S) → GaveUpView s p d t r u → (c : ℕ) → IsIn c u.given → IsGone P n r c u
+  clause_gave r u own c g = go (in_cons g)
+    where
+      again : (e : ℕ) → IsGone P s p e t → IsGone P n p e (after_giving d t)
+      again e (inl h) = inl h
+      again e (inr h) = inr (h.0, clause_stays P main s n made started gave_grown gave_still p t (after_giving d t) at_ refl h.0 h.1)
+
+      go : (c ≡ d) ⊎ IsIn c t.given → IsGone P n p c (after_giving d t)
+      go (inl e) = subst (λ (z : ℕ). IsGone P n p z (after_giving d t)) (sym e) (again d may.clause)
+      go (inr i) = again c (started.clause p t c at_ i)
+  clause_gave r u (old e k) c g = go (started.clause r u c k g)
+    where
+      go : IsGone P s r c u → IsGone P n r c u
+      go (inl h) = inl h
+      go (inr h) = inr (h.0, clause_stays P main s n made started gave_grown gave_still r u u k refl h.0 h.1)
+
   pub gave_started : IsStarted P n
   gave_started =
       record {
@@ -395,6 +426,7 @@ module _ {S : Type 0} (P : Program S) (main : Start S) (s n : State S) (p : List
         joined = λ q u c op h r g. joined_gave q u (gave_view q u h) c op r g;
         waited = λ q u v past h g. waits q u v past g (body_back q u (gave_view q u h));
         given = λ q u c h g. given_gave q u (gave_view q u h) c g;
+        clause = λ q u c h g. clause_gave q u (gave_view q u h) c g;
       }
     where
       readies : (q : List ℕ) (u : Task S) (v : ℕ) (past : List ℕ) → IsSuffix (v ∷ past) u.body.found → (w : Task S) × At s q w × (w.body ≡ u.body) → IsReady n q u.body.start.context
@@ -414,6 +446,7 @@ let_may P s p c t k =
     record {
       well = record { mode = k.mode; strong = k.strong; right = k.right; gone = go k.gone; fold_over = λ op h. absurd (k.no_fold op h) };
       satisfied = λ op h. absurd (k.no_fold op h);
+      clause = k.gone;
     }
   where
     go : {A B C : Type 0} → A ⊎ (B × C) → A ⊎ B
@@ -425,6 +458,7 @@ join_may P s p c op t k =
     record {
       well = record { mode = Fold op; strong = true; right = k.right; gone = inr k.ended; fold_over = λ q h. k.ended };
       satisfied = λ q h. same q h;
+      clause = inr (k.ended, k.wait);
     }
   where
     same : (q : Op) → (right_of t.body.start.context) c ≡ Holds (Fold q) true → IsJoinSatisfied (accesses s c) q p

@@ -10,6 +10,7 @@ use Rattle.oss_model.specs.Rights.{Released, Holds}
 use Rattle.oss_model.specs.Bodies.{Order, Program, Act, Start, Body, stack_from, stage_act, stage_created, child_start, IsHalt}
 use Rattle.oss_model.specs.Bodies.Act.{Created}
 use Rattle.oss_model.specs.Machine.{Task, State, At, accesses, IsReady, IsWaitMet}
+use Rattle.oss_model.specs.Moves.{IsGone}
 
 -- a done creation of its creator made the task
 pub record MadeBy {S : Type 0} (P : Program S) (s : State S) (k : ℕ) (p : List ℕ) (t : Task S) : Type 0 where
@@ -45,6 +46,7 @@ pub record IsStarted {S : Type 0} (P : Program S) (s : State S) : Type 0 where
   pub joined : (p : List ℕ) (t : Task S) (c : ℕ) (op : Op) → At s p t → right_of t.body.start.context c ≡ Holds (Fold op) true → IsIn c t.given → IsJoinSatisfied (accesses s c) op p
   pub waited : (p : List ℕ) (t : Task S) (answer : ℕ) (past : List ℕ) → At s p t → IsSuffix (answer ∷ past) t.body.found → IsWaitMet P s p (stage_created P t.body.start past) (stage_act P t.body.start past)
   pub given : (p : List ℕ) (t : Task S) (c : ℕ) → At s p t → IsIn c t.given → IsRightlyGiven P t c
+  pub clause : (p : List ℕ) (t : Task S) (c : ℕ) → At s p t → IsIn c t.given → IsGone P s p c t
 
 -- two bodies of one task: one has gone at most further than the other
 pub record IsComparable {S : Type 0} (a b : Body S) : Type 0 where

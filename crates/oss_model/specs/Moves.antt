@@ -82,6 +82,10 @@ pub record Stepped {S : Type 0} (P : Program S) (s : State S) (p : List ℕ) (t 
   pub cells : n.cells ≡ cells_after (act_now P t.body) s.cells
   pub tasks : TaskStep P s p t (found_by (act_now P t.body) s.cells) n
 
+-- why the cell is no longer needed: the task itself has released it, or the body has ended and the clause wait is met
+abbrev pub IsGone : {S : Type 0} → Program S → State S → List ℕ → ℕ → Task S → Type 0
+IsGone P s p c t = (right_of (stack_from P t.body.start t.body.found).base.context c ≡ Released) ⊎ ((is_ended P t.body ≡ true) × WaitClause P s p t)
+
 -- the task may give up the cell
 pub record CanLet {S : Type 0} (P : Program S) (s : State S) (p : List ℕ) (c : ℕ) (t : Task S) : Type 0 where
   pub at_ : At s p t
@@ -91,7 +95,7 @@ pub record CanLet {S : Type 0} (P : Program S) (s : State S) (p : List ℕ) (c :
   pub right : right_of t.body.start.context c ≡ Holds mode strong
   pub no_fold : (op : Op) → right_of t.body.start.context c ≢ Holds (Fold op) true
   pub kept : IsIn c t.given → ⊥
-  pub gone : ((right_of (stack_from P t.body.start t.body.found).base.context) c ≡ Released) ⊎ ((is_ended P t.body ≡ true) × WaitClause P s p t)
+  pub gone : IsGone P s p c t
 
 -- the slot of the task may be joined
 pub record CanJoin {S : Type 0} (P : Program S) (s : State S) (p : List ℕ) (c : ℕ) (op : Op) (t : Task S) : Type 0 where
