@@ -151,7 +151,6 @@ module _ {S : Type 0} (P : Program S) (main : Start S) (cells : List ℕ) (z : R
           joined = λ p t c op h r g. absurd (nothing_given p t c h g);
           waited = λ p t v past h f. absurd (nothing_done p t v past h f);
           given = λ p t c h g. absurd (nothing_given p t c h g);
-          clause = λ p t c h g. absurd (nothing_given p t c h g);
         };
         same = λ p u t h k. compare p u t h k;
         size = refl;

@@ -10,7 +10,7 @@ use Rattle.oss_model.specs.Bodies.{Order, Program, Act, Start, stack_from, stage
 use Rattle.oss_model.specs.Bodies.Act.{Created, Awaited, Waited, WaitedOn}
 use Rattle.oss_model.specs.Machine.{Task, State, At, find, HasAccess, HasGiven, accesses, IsTop, is_top, IsChild, is_child, IsEarlier, is_earlier, mode_in, IsReady, Owes, IsComplete, complete, IsWaitMet}
 use Rattle.oss_model.specs.History.{IsMade, IsStarted}
-use Rattle.oss_model.specs.Moves.{act_now, created_now, is_ended, WaitClause, GoesOn}
+use Rattle.oss_model.specs.Moves.{act_now, created_now, is_ended, WaitClause, IsGone, GoesOn}
 use Rattle.oss_model.proofs.StageLemmas.{creating, created_grows, creation_counts}
 use Rattle.oss_model.proofs.TreeLemmas.{at_same, covered_stage, over_stops}
 use Rattle.oss_model.proofs.ForestLemmas.{Grows, Keeps, Known, Between, done_stays, write_satisfied_stays, read_satisfied_stays, join_satisfied_stays}
@@ -62,12 +62,12 @@ module _ {S : Type 0} (P : Program S) (main : Start S) (s n : State S) (made : I
       → v.body.start ≡ child_start (stack_from P t.body.start t.body.found).base o → (right_of v.body.start.context) c ≡ Holds m strong → ⊥
   no_new_child c p t o v m strong h g act start r = go (started.given p t c h g).gone
     where
-      go : ((right_of (stack_from P t.body.start t.body.found).base.context) c ≡ Released) ⊎ ((stack_from P t.body.start t.body.found).ended ≡ true) → ⊥
+      go : IsGone P s p c t → ⊥
       go (inl e) =
           let k = covered_stage P c m strong t t.body.found o (creating P t.body.start t.body.found o act) v start r in
           let f = k.holds in
           cc
-      go (inr e) = let f = over_stops P t.body.start t.body.found e in cc
+      go (inr e) = let f = over_stops P t.body.start t.body.found e.0 in cc
 
   given_forth : (c : ℕ) (u : List ℕ) → HasGiven s c u → HasGiven n c u
   given_forth c u g =

@@ -253,7 +253,7 @@ module _ {S : Type 0} (P : Program S) (main : Start S) (s n : State S) (p : List
   waited_view r u (old ne k) v past h =
       wait_stays P main s n made started grown still r u (stage_created P u.body.start past) (stage_act P u.body.start past) k (created_grows P u.body.start (suffix_drop h)) (started.waited r u v past k h)
 
-  given_view : (r : List ℕ) (u : Task S) → StepView P s p t v0 r u → (c : ℕ) → IsIn c u.given → IsRightlyGiven P u c
+  given_view : (r : List ℕ) (u : Task S) → StepView P s p t v0 r u → (c : ℕ) → IsIn c u.given → IsRightlyGiven P n r u c
   given_view r u own c g =
       let k = started.given p t c can.at_ g in
       record { mode = k.mode; strong = k.strong; right = k.right; gone = go k.gone; fold_over = λ op h. absurd (goes_on (k.fold_over op h)) }
@@ -261,21 +261,13 @@ module _ {S : Type 0} (P : Program S) (main : Start S) (s n : State S) (p : List
       goes_on : (stack_from P t.body.start t.body.found).ended ≡ true → ⊥
       goes_on e = can.goes (subst IsHalt (sym (over_stops P t.body.start t.body.found e)) tt)
 
-      go : ((right_of (stack_from P t.body.start t.body.found).base.context) c ≡ Released) ⊎ ((stack_from P t.body.start t.body.found).ended ≡ true)
-          → ((right_of (stack_from P t.body.start (v0 ∷ t.body.found)).base.context) c ≡ Released) ⊎ ((stack_from P t.body.start (v0 ∷ t.body.found)).ended ≡ true)
-      go (inl e) = inl (released_stays P t.body.start t.body.found (v0 ∷ t.body.found) c (longer whole) e)
-      go (inr e) = absurd (can.goes (subst IsHalt (sym (over_stops P t.body.start t.body.found e)) tt))
-  given_view r u (new o a) c g = elim g [ ]
-  given_view r u (old ne k) c g = started.given r u c k g
-
-  clause_view : (r : List ℕ) (u : Task S) → StepView P s p t v0 r u → (c : ℕ) → IsIn c u.given → IsGone P n r c u
-  clause_view r u own c g = go (started.clause p t c can.at_ g)
-    where
       go : IsGone P s p c t → IsGone P n p c (after_answer v0 t)
       go (inl e) = inl (released_stays P t.body.start t.body.found (v0 ∷ t.body.found) c (longer whole) e)
-      go (inr e) = absurd (can.goes (subst IsHalt (sym (over_stops P t.body.start t.body.found e.0)) tt))
-  clause_view r u (new o a) c g = elim g [ ]
-  clause_view r u (old ne k) c g = go (started.clause r u c k g)
+      go (inr e) = absurd (goes_on e.0)
+  given_view r u (new o a) c g = elim g [ ]
+  given_view r u (old ne k) c g =
+      let h = started.given r u c k g in
+      record { mode = h.mode; strong = h.strong; right = h.right; gone = go h.gone; fold_over = h.fold_over }
     where
       go : IsGone P s r c u → IsGone P n r c u
       go (inl e) = inl e
@@ -288,7 +280,6 @@ module _ {S : Type 0} (P : Program S) (main : Start S) (s n : State S) (p : List
         joined = λ q u c op h r g. joined_view q u (view q u h) c op r g;
         waited = λ q u v past h g. waited_view q u (view q u h) v past g;
         given = λ q u c h g. given_view q u (view q u h) c g;
-        clause = λ q u c h g. clause_view q u (view q u h) c g;
       }
 
 -- what a task of the state after a cell was given up is
@@ -298,9 +289,8 @@ pub data GaveUpView {S : Type 0} (s : State S) (p : List ℕ) (c : ℕ) (t : Tas
 
 -- why the cell may be given up
 pub record MayGive {S : Type 0} (P : Program S) (s : State S) (p : List ℕ) (c : ℕ) (t : Task S) : Type 0 where
-  pub well : IsRightlyGiven P t c
+  pub well : IsRightlyGiven P s p t c
   pub satisfied : (op : Op) → (right_of t.body.start.context) c ≡ Holds (Fold op) true → IsJoinSatisfied (accesses s c) op p
-  pub clause : IsGone P s p c t
 
 pub in_cons : {c d : ℕ} {xs : List ℕ} → IsIn d (c ∷ xs) → (d ≡ c) ⊎ IsIn d xs
 in_cons here = inl refl
@@ -392,28 +382,22 @@ module _ {S : Type 0} (P : Program S) (main : Start S) (s n : State S) (p : List
       go (inr i) = started.joined p t c op at_ h i
   joined_gave r u (old e k) c op h g = join_stays P main s n made started gave_grown c op r (started.joined r u c op k h g)
 
-  given_gave : (r : List ℕ) (u : Task S) → GaveUpView s p d t r u → (c : ℕ) → IsIn c u.given → IsRightlyGiven P u c
+  given_gave : (r : List ℕ) (u : Task S) → GaveUpView s p d t r u → (c : ℕ) → IsIn c u.given → IsRightlyGiven P n r u c
   given_gave r u own c g = go (in_cons g)
     where
-      again : (e : ℕ) → IsRightlyGiven P t e → IsRightlyGiven P (after_giving d t) e
-      again e k = record { mode = k.mode; strong = k.strong; right = k.right; gone = k.gone; fold_over = k.fold_over }
+      gone_still : (e : ℕ) → IsGone P s p e t → IsGone P n p e (after_giving d t)
+      gone_still e (inl h) = inl h
+      gone_still e (inr h) = inr (h.0, clause_stays P main s n made started gave_grown gave_still p t (after_giving d t) at_ refl h.0 h.1)
 
-      go : (c ≡ d) ⊎ IsIn c t.given → IsRightlyGiven P (after_giving d t) c
-      go (inl e) = subst (λ (z : ℕ). IsRightlyGiven P (after_giving d t) z) (sym e) (again d may.well)
+      again : (e : ℕ) → IsRightlyGiven P s p t e → IsRightlyGiven P n p (after_giving d t) e
+      again e k = record { mode = k.mode; strong = k.strong; right = k.right; gone = gone_still e k.gone; fold_over = k.fold_over }
+
+      go : (c ≡ d) ⊎ IsIn c t.given → IsRightlyGiven P n p (after_giving d t) c
+      go (inl e) = subst (λ (z : ℕ). IsRightlyGiven P n p (after_giving d t) z) (sym e) (again d may.well)
       go (inr i) = again c (started.given p t c at_ i)
-  given_gave r u (old e k) c g = started.given r u c k g
-
-  clause_gave : (r : List ℕ) (u : Task S) → GaveUpView s p d t r u → (c : ℕ) → IsIn c u.given → IsGone P n r c u
-  clause_gave r u own c g = go (in_cons g)
-    where
-      again : (e : ℕ) → IsGone P s p e t → IsGone P n p e (after_giving d t)
-      again e (inl h) = inl h
-      again e (inr h) = inr (h.0, clause_stays P main s n made started gave_grown gave_still p t (after_giving d t) at_ refl h.0 h.1)
-
-      go : (c ≡ d) ⊎ IsIn c t.given → IsGone P n p c (after_giving d t)
-      go (inl e) = subst (λ (z : ℕ). IsGone P n p z (after_giving d t)) (sym e) (again d may.clause)
-      go (inr i) = again c (started.clause p t c at_ i)
-  clause_gave r u (old e k) c g = go (started.clause r u c k g)
+  given_gave r u (old e k) c g =
+      let h = started.given r u c k g in
+      record { mode = h.mode; strong = h.strong; right = h.right; gone = go h.gone; fold_over = h.fold_over }
     where
       go : IsGone P s r c u → IsGone P n r c u
       go (inl h) = inl h
@@ -426,7 +410,6 @@ module _ {S : Type 0} (P : Program S) (main : Start S) (s n : State S) (p : List
         joined = λ q u c op h r g. joined_gave q u (gave_view q u h) c op r g;
         waited = λ q u v past h g. waits q u v past g (body_back q u (gave_view q u h));
         given = λ q u c h g. given_gave q u (gave_view q u h) c g;
-        clause = λ q u c h g. clause_gave q u (gave_view q u h) c g;
       }
     where
       readies : (q : List ℕ) (u : Task S) (v : ℕ) (past : List ℕ) → IsSuffix (v ∷ past) u.body.found → (w : Task S) × At s q w × (w.body ≡ u.body) → IsReady n q u.body.start.context
@@ -444,21 +427,15 @@ module _ {S : Type 0} (P : Program S) (main : Start S) (s n : State S) (p : List
 pub let_may : {S : Type 0} (P : Program S) (s : State S) (p : List ℕ) (c : ℕ) (t : Task S) → CanLet P s p c t → MayGive P s p c t
 let_may P s p c t k =
     record {
-      well = record { mode = k.mode; strong = k.strong; right = k.right; gone = go k.gone; fold_over = λ op h. absurd (k.no_fold op h) };
+      well = record { mode = k.mode; strong = k.strong; right = k.right; gone = k.gone; fold_over = λ op h. absurd (k.no_fold op h) };
       satisfied = λ op h. absurd (k.no_fold op h);
-      clause = k.gone;
     }
-  where
-    go : {A B C : Type 0} → A ⊎ (B × C) → A ⊎ B
-    go (inl a) = inl a
-    go (inr b) = inr b.0
 
 pub join_may : {S : Type 0} (P : Program S) (s : State S) (p : List ℕ) (c : ℕ) (op : Op) (t : Task S) → CanJoin P s p c op t → MayGive P s p c t
 join_may P s p c op t k =
     record {
-      well = record { mode = Fold op; strong = true; right = k.right; gone = inr k.ended; fold_over = λ q h. k.ended };
+      well = record { mode = Fold op; strong = true; right = k.right; gone = inr (k.ended, k.wait); fold_over = λ q h. k.ended };
       satisfied = λ q h. same q h;
-      clause = inr (k.ended, k.wait);
     }
   where
     same : (q : Op) → (right_of t.body.start.context) c ≡ Holds (Fold q) true → IsJoinSatisfied (accesses s c) q p

@@ -79,6 +79,10 @@ no_shorter P b {xs = xs} {ys = ys} {past = past} {more = more} c h g l = go (le_
     go (inl k) = k
     go (inr k) = absurd (omega (arith, created_grows P b (back k)))
 
+released_or_ended : {A B C : Type 0} → A ⊎ (B × C) → A ⊎ B
+released_or_ended (inl a) = inl a
+released_or_ended (inr b) = inr b.0
+
 module _ {S : Type 0} (P : Program S) (main : Start S) (x s : State S) (main_starts : MainStarts main) (x_made : IsMade P main x) (s_made : IsMade P main s) (s_started : IsStarted P s) (comp : Compatible x s) where
   -- a task of x below a done access is a task of s, whose access is done
   record Found (c : ℕ) (p : List ℕ) : Type 0 where
@@ -86,7 +90,7 @@ module _ {S : Type 0} (P : Program S) (main : Start S) (x s : State S) (main_sta
     pub at_ : At s p task
     is_done : IsDone (accesses s c) p
 
-  given_well : (c : ℕ) (p : List ℕ) → IsDone (accesses s c) p → (t : Task S) × At s p t × IsRightlyGiven P t c
+  given_well : (c : ℕ) (p : List ℕ) → IsDone (accesses s c) p → (t : Task S) × At s p t × IsRightlyGiven P s p t c
   given_well c p (done g below) = (g.task, g.at_, s_started.given p g.task c g.at_ g.given)
 
   below_done : (c k : ℕ) (p : List ℕ) → IsDone (accesses s c) p → IsChild s c p (k ∷ p) → IsDone (accesses s c) (k ∷ p)
@@ -100,7 +104,7 @@ module _ {S : Type 0} (P : Program S) (main : Start S) (x s : State S) (main_sta
       let e : gw.0 ≡ f.task = at_same s (i ∷ p) gw.0 f.task gw.1 f.at_ in
       let cc1 = comp (i ∷ p) b.creator gw.0 b.at_ gw.1 in
       let cov = covered_stage P c m a.strong b.creator b.past b.order cr a.task b.start a.right in
-      let h = before_given P c b.creator.body gw.0.body b.past b.answer cc1 gw.2.gone (λ past answer g. x_made.goes (i ∷ p) b.creator past answer b.at_ g) b.happened (record { mode = cov.mode; strong = cov.strong; stands = cov.holds }) in
+      let h = before_given P c b.creator.body gw.0.body b.past b.answer cc1 (released_or_ended gw.2.gone) (λ past answer g. x_made.goes (i ∷ p) b.creator past answer b.at_ g) b.happened (record { mode = cov.mode; strong = cov.strong; stands = cov.holds }) in
       let act_s : stage_act P gw.0.body.start b.past ≡ Created b.order false = subst (λ (z : Start S). stage_act P z b.past ≡ Created b.order false) cc1.start b.act in
       let made = s_made.made (i ∷ p) gw.0 b.past b.answer b.order gw.1 h act_s in
       let num : stage_created P gw.0.body.start b.past ≡ k = subst (λ (z : Start S). stage_created P z b.past ≡ k) cc1.start b.number in
@@ -168,7 +172,7 @@ module _ {S : Type 0} (P : Program S) (main : Start S) (x s : State S) (main_sta
       let k = touching e c t slot h in
       let m = comp e.start.path h.task g.0 h.at_ g.1 in
       let late : Late P h.task.body.start e.past c = record { mode = k.mode; strong = true; stands = subst (λ (z : Start S). stage_right P z e.past c ≡ Holds k.mode true) (sym h.start) k.stands } in
-      let f = before_given P c h.task.body g.0.body e.past e.answer m g.2.gone (λ past answer j. x_made.goes e.start.path h.task past answer h.at_ j) h.found late in
+      let f = before_given P c h.task.body g.0.body e.past e.answer m (released_or_ended g.2.gone) (λ past answer j. x_made.goes e.start.path h.task past answer h.at_ j) h.found late in
       record {
         happened = record { task = g.0; at_ = g.1; start = sym m.start ∙ h.start; found = f };
         given = λ _. given_of d;

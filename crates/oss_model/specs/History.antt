@@ -33,20 +33,19 @@ pub record IsMade {S : Type 0} (P : Program S) (main : Start S) (s : State S) : 
   pub made : (p : List ℕ) (u : Task S) (past : List ℕ) (answer : ℕ) (o : Order S) → At s p u → IsSuffix (answer ∷ past) u.body.found → stage_act P u.body.start past ≡ Created o false → (t : Task S) × At s (stage_created P u.body.start past ∷ p) t
   pub goes : (p : List ℕ) (u : Task S) (past : List ℕ) (answer : ℕ) → At s p u → IsSuffix (answer ∷ past) u.body.found → IsHalt (stage_act P u.body.start past) → ⊥
 
--- a cell was given up once its task had released it or had ended
-pub record IsRightlyGiven {S : Type 0} (P : Program S) (t : Task S) (c : ℕ) : Type 0 where
+-- a cell was given up once its task had released it or had ended; that of a strong fold only at the end
+pub record IsRightlyGiven {S : Type 0} (P : Program S) (s : State S) (p : List ℕ) (t : Task S) (c : ℕ) : Type 0 where
   pub mode : Mode
   pub strong : Bool
   pub right : right_of t.body.start.context c ≡ Holds mode strong
-  pub gone : ((right_of (stack_from P t.body.start t.body.found).base.context) c ≡ Released) ⊎ ((stack_from P t.body.start t.body.found).ended ≡ true)
+  pub gone : IsGone P s p c t
   pub fold_over : (op : Op) → right_of t.body.start.context c ≡ Holds (Fold op) true → (stack_from P t.body.start t.body.found).ended ≡ true
 
 pub record IsStarted {S : Type 0} (P : Program S) (s : State S) : Type 0 where
   pub ready : (p : List ℕ) (t : Task S) (answer : ℕ) (past : List ℕ) → At s p t → IsSuffix (answer ∷ past) t.body.found → IsReady s p t.body.start.context
   pub joined : (p : List ℕ) (t : Task S) (c : ℕ) (op : Op) → At s p t → right_of t.body.start.context c ≡ Holds (Fold op) true → IsIn c t.given → IsJoinSatisfied (accesses s c) op p
   pub waited : (p : List ℕ) (t : Task S) (answer : ℕ) (past : List ℕ) → At s p t → IsSuffix (answer ∷ past) t.body.found → IsWaitMet P s p (stage_created P t.body.start past) (stage_act P t.body.start past)
-  pub given : (p : List ℕ) (t : Task S) (c : ℕ) → At s p t → IsIn c t.given → IsRightlyGiven P t c
-  pub clause : (p : List ℕ) (t : Task S) (c : ℕ) → At s p t → IsIn c t.given → IsGone P s p c t
+  pub given : (p : List ℕ) (t : Task S) (c : ℕ) → At s p t → IsIn c t.given → IsRightlyGiven P s p t c
 
 -- two bodies of one task: one has gone at most further than the other
 pub record IsComparable {S : Type 0} (a b : Body S) : Type 0 where
