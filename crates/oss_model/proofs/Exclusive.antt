@@ -1,5 +1,5 @@
 -- Acts that may both happen do not conflict, and a setting for every program.
-use Rattle.oss_model.specs.Agreement.{MainStarts, AreWords, Setting, Compatible, Agrees, main_start}
+use Rattle.oss_model.specs.Agreement.{MainStarts, AreWords, Setting, Agrees, main_start}
 use Rattle.std.proofs.Common.{◌≡◌, ◌≢◌, ℕ, inl, inr, refl, sym, subst, ap, ◌∙◌, List, [], ◌∷◌, length, reverse, arith, Bool, true, false, Some}
 use Rattle.std.proofs.lemmas.Bool.Decides.{nat_tests}
 use Rattle.oss_model.specs.Order.{IsSuffix, whole, IsIn}
@@ -20,6 +20,7 @@ use Rattle.oss_model.proofs.SortLemmas.{reverse_same}
 use Rattle.oss_model.proofs.TreeLemmas.{at_same, path_found, same_path_is}
 use Rattle.oss_model.proofs.OrderTheorem.{TouchIn, Granted, in_order}
 use Rattle.oss_model.proofs.MemoryLemmas.{n_made, comp_after, last_one}
+use Rattle.oss_model.proofs.KeyOrder.{itself}
 use Rattle.oss_model.proofs.SequenceLemmas.{stage_of}
 
 same_self : (p : List ℕ) → same_path p p ≡ true
@@ -102,9 +103,6 @@ module _ {S : Type 0} (P : Program S) (main : Start S) (s : State S) (ms : MainS
   folds_conflict_back Writes op = tt
   folds_conflict_back (Folds q) op = tt
 
-  itself : Compatible s s
-  itself p t u h k = let e = at_same s p t u h k in record { start = ap (λ (z : Task S). z.body.start) e; found = inl (subst (λ (z : Task S). IsSuffix t.body.found z.body.found) e whole) }
-
   module _ (p q : List ℕ) (t u : Task S) (c : ℕ) (a : Touch) (op : Op) (past : List ℕ) (v w : ℕ) (ct : CanStep P s p t) (ha : Touches (act_now P t.body) c a false) (cj : CanJoin P s q c op u) (done_ : IsSuffix (v ∷ past) u.body.found) (fold : stage_act P u.body.start past ≡ Folded c op w true) where
     pt : t.body.start.path ≡ p
     pt = path_found s.tasks p t ct.at_
@@ -151,10 +149,10 @@ module _ {S : Type 0} (P : Program S) (main : Start S) (s : State S) (ms : MainS
     -- a fold that stands before the act of t would be joined
     fold_first : IsEarlierPlace P folded_at (stage_of t.body) → ⊥
     fold_first l =
-        let tin : TouchIn P main s s ms made made started itself folded_at c (Folds op) true = record { task = u; at_ = subst (λ (z : List ℕ). At s z u) (sym pu) cj.at_; start = refl; found = done_; touches = touches_u } in
-        let gr : Granted P main s s ms made made started itself (stage_of t.body) c a false =
+        let tin : TouchIn P main s s ms made made started (itself s) folded_at c (Folds op) true = record { task = u; at_ = subst (λ (z : List ℕ). At s z u) (sym pu) cj.at_; start = refl; found = done_; touches = touches_u } in
+        let gr : Granted P main s s ms made made started (itself s) (stage_of t.body) c a false =
         record { task = t; at_ = subst (λ (z : List ℕ). At s z t) (sym pt) ct.at_; start = refl; stage = whole; touches = ha; direct = λ k. subst (λ (z : List ℕ). IsReady s z t.body.start.context) (sym pt) (ready_now p t ct); joined = λ o k1 k2. absurd (cc (k2)) } in
-        let r = in_order P main s s ms made made started itself folded_at (stage_of t.body) c (Folds op) a true false tin gr (folds_conflict_back a op) l in
+        let r = in_order P main s s ms made made started (itself s) folded_at (stage_of t.body) c (Folds op) a true false tin gr (folds_conflict_back a op) l in
         let g = r.given refl in
         let m = at_same s q g.task u (subst (λ (z : List ℕ). At s z g.task) pu g.at_) cj.at_ in
         cj.kept (subst (λ (z : Task S). IsIn c z.given) m g.given)

@@ -4,6 +4,7 @@ use Rattle.oss_model.specs.Order.{IsSuffix, whole, longer, IsIn, here, there, Is
 use Rattle.oss_model.specs.Bodies.{Program, Start, stage_key, stage_created}
 use Rattle.oss_model.specs.Machine.{Task, State, At}
 use Rattle.oss_model.specs.History.{IsMade}
+use Rattle.oss_model.specs.Agreement.{Compatible}
 use Rattle.oss_model.specs.Moves.{created_now, key_now, IsClosed, IsLeast}
 use Rattle.oss_model.specs.Memory.{Event, key_at, IsEarlierEvent, Happened, DoneChange, IsSorted, IsValue}
 use Rattle.oss_model.proofs.Places.{place, IsEarlierPlace, IsPlaced, PlacedValue, IsLeastPlace}
@@ -39,23 +40,39 @@ key_not P e g (inr h) (inr k) = let a = h.1 in let b = k.1 in omega arith
 key_self : {S : Type 0} (P : Program S) (e g : Event S) → e ≡ g → IsEarlierEvent P e g → ⊥
 key_self {S = S} P e g q h = key_not P e g h (subst (λ (z : Event S). IsEarlierEvent P g z) (sym q) (subst (λ (z : Event S). IsEarlierEvent P z g) q h))
 
-module _ {S : Type 0} (P : Program S) (main : Start S) (s : State S) (made : IsMade P main s) where
-  -- a task above another is not final
-  above_open : (j : ℕ) (q : List ℕ) {p : List ℕ} (t u : Task S) → IsSuffix (j ∷ q) p → At s p t → At s q u → u.body.start.context.final ≡ false
-  above_open j q t u h at_ hu =
-      let w = task_above P main s (j ∷ q) t made h at_ in
-      let b = made.child j q w.0 w.1 in
-      let e = at_same s q b.creator u b.at_ hu in
-      subst (λ (z : Task S). z.body.start.context.final ≡ false) e (creating P b.creator.body.start b.past b.order b.act).open_
+-- a state goes together with itself
+pub itself : {S : Type 0} (s : State S) → Compatible s s
+itself s p t u h k =
+    let e = at_same s p t u h k in
+    record { start = ap (λ (z : Task _). z.body.start) e; found = inl (subst (λ (z : Task _). IsSuffix t.body.found z.body.found) e whole) }
 
-  form_below : (q : List ℕ) (u : Task S) (past : List ℕ) → At s q u → (f : KeyForm P u.body.start past) → IsSuffix q f.path
-  form_below q u past h f = subst (λ (z : List ℕ). IsSuffix z f.path) (path_found s.tasks q u h) f.below
+-- a task above another is not final
+above_open : {S : Type 0} (P : Program S) (main : Start S) (s : State S) (j : ℕ) (q : List ℕ) {p : List ℕ} (t : Task S) → IsMade P main s → IsSuffix (j ∷ q) p → At s p t → (v : Task S) × At s q v × (v.body.start.context.final ≡ false)
+above_open P main s j q t made h at_ =
+    let w = task_above P main s (j ∷ q) t made h at_ in
+    let b = made.child j q w.0 w.1 in
+    (b.creator, b.at_, (creating P b.creator.body.start b.past b.order b.act).open_)
 
-  form_own : (q : List ℕ) (u : Task S) (past : List ℕ) → At s q u → u.body.start.context.final ≡ false → (f : KeyForm P u.body.start past) → stage_key P u.body.start past ≡ stage_created P u.body.start past ∷ q
-  form_own q u past h o f = f.own o ∙ ap (λ (z : List ℕ). stage_created P u.body.start past ∷ z) (path_found s.tasks q u h)
+-- two states of one program whose tasks go together
+module _ {S : Type 0} (P : Program S) (main : Start S) (x s : State S) (x_made : IsMade P main x) (s_made : IsMade P main s) (comp : Compatible x s) where
+  open_in_x : (j : ℕ) (q : List ℕ) {p : List ℕ} (t u : Task S) → IsSuffix (j ∷ q) p → At s p t → At x q u → u.body.start.context.final ≡ false
+  open_in_x j q t u h at_ hu =
+      let v = above_open P main s j q t s_made h at_ in
+      subst (λ (z : Start S). z.context.final ≡ false) (sym (comp q u v.0 hu v.1).start) v.2
+
+  open_in_s : (j : ℕ) (q : List ℕ) {p : List ℕ} (t u : Task S) → IsSuffix (j ∷ q) p → At x p t → At s q u → u.body.start.context.final ≡ false
+  open_in_s j q t u h at_ hu =
+      let v = above_open P main x j q t x_made h at_ in
+      subst (λ (z : Start S). z.context.final ≡ false) (comp q v.0 u v.1 hu).start v.2
+
+  form_below : (y : State S) (q : List ℕ) (u : Task S) (past : List ℕ) → At y q u → (f : KeyForm P u.body.start past) → IsSuffix q f.path
+  form_below y q u past h f = subst (λ (z : List ℕ). IsSuffix z f.path) (path_found y.tasks q u h) f.below
+
+  form_own : (y : State S) (q : List ℕ) (u : Task S) (past : List ℕ) → At y q u → u.body.start.context.final ≡ false → (f : KeyForm P u.body.start past) → stage_key P u.body.start past ≡ stage_created P u.body.start past ∷ q
+  form_own y q u past h o f = f.own o ∙ ap (λ (z : List ℕ). stage_created P u.body.start past ∷ z) (path_found y.tasks q u h)
 
   -- the keys of two tasks are in the order of their places
-  pub apart : (q p : List ℕ) (u t : Task S) (past more : List ℕ) → At s q u → At s p t → q ≢ p → IsBefore (reverse (stage_created P u.body.start past ∷ q)) (reverse (stage_created P t.body.start more ∷ p)) → IsEarlierKey (stage_key P u.body.start past) (stage_key P t.body.start more)
+  pub apart : (q p : List ℕ) (u t : Task S) (past more : List ℕ) → At x q u → At s p t → q ≢ p → IsBefore (reverse (stage_created P u.body.start past ∷ q)) (reverse (stage_created P t.body.start more ∷ p)) → IsEarlierKey (stage_key P u.body.start past) (stage_key P t.body.start more)
   apart q p u t past more hu ht ne l = go (key_form P u.body.start past) (key_form P t.body.start more) (lie q p (stage_created P u.body.start past) (stage_created P t.body.start more) l)
     where
       both : {k m : List ℕ} → stage_key P u.body.start past ≡ k → stage_key P t.body.start more ≡ m → IsEarlierKey k m → IsEarlierKey (stage_key P u.body.start past) (stage_key P t.body.start more)
@@ -65,11 +82,16 @@ module _ {S : Type 0} (P : Program S) (main : Start S) (s : State S) (made : IsM
       go : KeyForm P u.body.start past → KeyForm P t.body.start more → Lie q (stage_created P u.body.start past) p (stage_created P t.body.start more) → IsEarlierKey (stage_key P u.body.start past) (stage_key P t.body.start more)
       go f g (Lie.one e m) = absurd (ne e)
       go f g (Lie.down j m h) =
-          both (form_own q u past hu (above_open j q t u h ht hu) f) g.key (before_down (stage_created P u.body.start past) j q g.number m (suffix_trans h (form_below p t more ht g)))
+          both (form_own x q u past hu (open_in_x j q t u h ht hu) f) g.key (before_down (stage_created P u.body.start past) j q g.number m (suffix_trans h (form_below s p t more ht g)))
       go f g (Lie.up i m h) =
-          both f.key (form_own p t more ht (above_open i p u t h hu ht) g) (before_up i (stage_created P t.body.start more) f.number p (suffix_trans h (form_below q u past hu f)) m)
+          both f.key (form_own s p t more ht (open_in_s i p u t h hu ht) g) (before_up i (stage_created P t.body.start more) f.number p (suffix_trans h (form_below x q u past hu f)) m)
       go f g (Lie.across a i j m h k) =
-          both f.key g.key (before_across a i j f.number g.number m (suffix_trans h (form_below q u past hu f)) (suffix_trans k (form_below p t more ht g)))
+          both f.key g.key (before_across a i j f.number g.number m (suffix_trans h (form_below x q u past hu f)) (suffix_trans k (form_below s p t more ht g)))
+
+module _ {S : Type 0} (P : Program S) (main : Start S) (s : State S) (made : IsMade P main s) where
+  -- the keys of two tasks of one state
+  pub apart_in : (q p : List ℕ) (u t : Task S) (past more : List ℕ) → At s q u → At s p t → q ≢ p → IsBefore (reverse (stage_created P u.body.start past ∷ q)) (reverse (stage_created P t.body.start more ∷ p)) → IsEarlierKey (stage_key P u.body.start past) (stage_key P t.body.start more)
+  apart_in q p u t past more hu ht ne l = apart P main s s made made (itself s) q p u t past more hu ht ne l
 
   -- a stage that a body of the state has reached
   pub record StageIn (e : Event S) : Type 0 where
@@ -128,7 +150,7 @@ module _ {S : Type 0} (P : Program S) (main : Start S) (s : State S) (made : IsM
       other ne =
           let k2 = subst (λ (z : Start S). IsBefore (reverse (stage_created P z e.past ∷ e.start.path)) (reverse (place P g))) (sym a.start) k in
           let k3 = subst (λ (z : Start S). IsBefore (reverse (stage_created P a.task.body.start e.past ∷ e.start.path)) (reverse (stage_created P z g.past ∷ g.start.path))) (sym b.start) k2 in
-          let r = apart e.start.path g.start.path a.task b.task e.past g.past a.at_ b.at_ ne k3 in
+          let r = apart_in e.start.path g.start.path a.task b.task e.past g.past a.at_ b.at_ ne k3 in
           let r2 = subst (λ (z : Start S). IsEarlierKey (stage_key P z e.past) (stage_key P b.task.body.start g.past)) a.start r in
           inl (subst (λ (z : Start S). IsEarlierKey (stage_key P e.start e.past) (stage_key P z g.past)) b.start r2)
 
@@ -175,15 +197,15 @@ module _ {S : Type 0} (P : Program S) (main : Start S) (s : State S) (made : IsM
   pub least_key : (p : List ℕ) (t : Task S) → At s p t → IsLeastPlace P s p t → IsLeast P s p t
   least_key p t ht least q u hu l = go (compare (reverse (created_now P u.body ∷ q)) (reverse (created_now P t.body ∷ p)))
     where
-      itself : q ≡ p → IsClosed P q u
-      itself e =
+      one_task : q ≡ p → IsClosed P q u
+      one_task e =
           let same : u ≡ t = at_same s p u t (subst (λ (z : List ℕ). At s z u) e hu) ht in
           absurd (before_not l (ap (λ (z : Task S). reverse (key_now P z.body)) same))
 
       go : Compared (reverse (created_now P u.body ∷ q)) (reverse (created_now P t.body ∷ p)) → IsClosed P q u
       go (Compared.before h) = least q u hu h
-      go (Compared.equal h) = let k = reverse_same (created_now P u.body ∷ q) (created_now P t.body ∷ p) h in itself (cc (k))
-      go (Compared.after h) = absurd (before_not (before_trans l (apart p q t u t.body.found u.body.found ht hu ne h)) refl)
+      go (Compared.equal h) = let k = reverse_same (created_now P u.body ∷ q) (created_now P t.body ∷ p) h in one_task (cc (k))
+      go (Compared.after h) = absurd (before_not (before_trans l (apart_in p q t u t.body.found u.body.found ht hu ne h)) refl)
         where
           ne : p ≢ q
           ne e =

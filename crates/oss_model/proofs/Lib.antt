@@ -2,6 +2,7 @@ pub mod AgreementTheorem
 pub mod Algebra
 pub mod AnswerTheorem
 pub mod BodyLemmas
+pub mod ConflictTheorem
 pub mod ContextLemmas
 pub mod Exclusive
 pub mod ForestLemmas

@@ -156,7 +156,7 @@ stack_not_over P slots base inner true h e = cc
 stack_not_over P slots base [] false h e = frame_not_over P slots false base base.awaits e
 stack_not_over P slots base (f ∷ fs) false h e = frame_not_over P slots true f f.awaits e
 
-not_over : {S : Type 0} (P : Program S) (b : Body S) → is_ended P b ≡ false → act_now P b ≢ Over
+pub not_over : {S : Type 0} (P : Program S) (b : Body S) → is_ended P b ≡ false → act_now P b ≢ Over
 unfolding stage_act act_of
 not_over P b h e = let x = stack_from P b.start b.found in stack_not_over P (right_of b.start.context) x.base x.inner x.ended h e
 

@@ -15,7 +15,7 @@ use Rattle.oss_model.specs.Sequence.{Running, Sequential, IsAtEnd}
 use Rattle.oss_model.specs.History.{IsMade, IsComparable}
 use Rattle.oss_model.specs.Agreement.{Setting, Agrees, AgreesWithRun}
 use Rattle.oss_model.specs.Answers.{IsNotPast, DonePrint, texts, IsOutput, IsResult, ends, fails, IsStopped, IsFinished, IsLeastFault, IsAnswer, finished, faulted}
-use Rattle.oss_model.specs.Claims.{SameActs, IsStoppedAs, ended, failed, EveryResultIsTheAnswer, EveryAnswerIsTheResult, AnswersAreOne, RunKeepsOutput}
+use Rattle.oss_model.specs.Claims.{SameActs, IsStoppedAs, ended, failed, EveryResultIsTheAnswer, EveryAnswerIsTheResult, AnswersAreOne, RunKeepsOutput, ActsUpToFault, ActsUpToEnd}
 use Rattle.oss_model.proofs.Places.{place, IsEarlierPlace}
 use Rattle.oss_model.proofs.OrderLemmas.{suffix_trans, suffix_drop, suffix_length, suffix_linear, suffix_full, before_trans, before_not, Compared, compare}
 use Rattle.oss_model.proofs.TreeLemmas.{at_same, over_stops, path_found, next_of}
@@ -23,8 +23,8 @@ use Rattle.oss_model.proofs.SortLemmas.{sorted_one, reverse_same}
 use Rattle.oss_model.proofs.MoveLemmas.{which_path}
 use Rattle.oss_model.proofs.SequenceLemmas.{Stands, stands, stage_of, not_itself}
 use Rattle.oss_model.proofs.RecallLemmas.{recalls}
-use Rattle.oss_model.proofs.ProgressTheorem.{all_complete}
-use Rattle.oss_model.proofs.KeyOrder.{StageIn, stage_in, apart, place_key, placed}
+use Rattle.oss_model.proofs.ProgressTheorem.{all_complete, not_over}
+use Rattle.oss_model.proofs.KeyOrder.{StageIn, stage_in, apart, apart_in, place_key, placed}
 use Rattle.oss_model.proofs.OutputLemmas.{print_key, fault_key, run_output}
 use Rattle.oss_model.proofs.AnswerTheorem.{Where, within, beyond, where_is, passed, active_before, active_path, every_stop_is_the_end}
 
@@ -70,9 +70,9 @@ one_answer {S = S} P main s a b made (faulted p t {kind = kind} {line = line} {k
     same_path k (inr ne) = by_place (compare (reverse (stage_created P t.body.start t.body.found ∷ p)) (reverse (stage_created P u.body.start u.body.found ∷ q)))
       where
         by_place : Compared (reverse (stage_created P t.body.start t.body.found ∷ p)) (reverse (stage_created P u.body.start u.body.found ∷ q)) → p ≡ q
-        by_place (Compared.before h) = absurd (before_not (apart P main s made p q t u t.body.found u.body.found ht hu ne h) (ap (λ (z : List ℕ). reverse z) (keys k)))
+        by_place (Compared.before h) = absurd (before_not (apart_in P main s made p q t u t.body.found u.body.found ht hu ne h) (ap (λ (z : List ℕ). reverse z) (keys k)))
         by_place (Compared.equal h) = let r = reverse_same (stage_created P t.body.start t.body.found ∷ p) (stage_created P u.body.start u.body.found ∷ q) h in cc (r)
-        by_place (Compared.after h) = absurd (before_not (apart P main s made q p u t u.body.found t.body.found hu ht (λ r. ne (sym r)) h) (ap (λ (z : List ℕ). reverse z) (sym (keys k))))
+        by_place (Compared.after h) = absurd (before_not (apart_in P main s made q p u t u.body.found t.body.found hu ht (λ r. ne (sym r)) h) (ap (λ (z : List ℕ). reverse z) (sym (keys k))))
 
     go : key ≡ key2 → answers.Fault kind line x ≡ answers.Fault kind2 line2 y
     go k =
@@ -129,6 +129,45 @@ module _ {S : Type 0} (P : Program S) (main : Start S) (cells : List ℕ) (z : R
       go (within w hw sw fw) = inside w hw sw fw (shorter_or (length w.body.found) (length e.past) (suffix_length fw))
       go (beyond j a ne i l) = behind ne l
 
+  -- what s did beyond the run is past the fault
+  past_fault : (kind : FaultKind) (line : ℕ) (key : List ℕ) → act_now P end.task.body ≡ Fault kind line key → (e : Event S) → (h : Happened s e) → e.start.path ≢ z.active → IsBefore (reverse (place P (stage_of end.task.body))) (reverse (place P e)) → IsEarlierKey key (key_at P e)
+  past_fault kind line key act e h ne l =
+      let b = end.task.body in
+      let l2 : IsBefore (reverse (stage_created P b.start b.found ∷ z.active)) (reverse (place P e)) = subst (λ (x : List ℕ). IsBefore (reverse (stage_created P b.start b.found ∷ x)) (reverse (place P e))) (path_found z.state.tasks z.active end.task end.at_) l in
+      let l3 : IsBefore (reverse (stage_created P b.start b.found ∷ z.active)) (reverse (stage_created P h.task.body.start e.past ∷ e.start.path)) = subst (λ (x : Start S). IsBefore (reverse (stage_created P b.start b.found ∷ z.active)) (reverse (stage_created P x e.past ∷ e.start.path))) (sym h.start) l2 in
+      let k = apart P main z.state s st.made made agrees.same z.active e.start.path end.task h.task b.found e.past end.at_ h.at_ (λ q. ne (sym q)) l3 in
+      let k2 : IsEarlierKey (stage_key P b.start b.found) (key_at P e) = subst (λ (x : Start S). IsEarlierKey (stage_key P b.start b.found) (stage_key P x e.past)) h.start k in
+      subst (λ (x : List ℕ). IsEarlierKey x (key_at P e)) (sym (fault_key P b.start b.found kind line key act)) k2
+
+  -- what s did up to the fault is done in the run
+  pub up_to_fault : (kind : FaultKind) (line : ℕ) (key : List ℕ) → act_now P end.task.body ≡ Fault kind line key → (e : Event S) → Happened s e → IsNotPast (Some key) (key_at P e) → Happened z.state e
+  up_to_fault kind line key act e h within_ = go (in_or_past e h)
+    where
+      go : InOrPast e → Happened z.state e
+      go (inl k) = k
+      go (inr k) = absurd (within_ (past_fault kind line key act e h k.0 k.1))
+
+  -- where the run has ended, what s did is done in the run
+  pub up_to_end : act_now P end.task.body ≡ Over → (e : Event S) → Happened s e → Happened z.state e
+  up_to_end o e h = go (where_is P main cells z s set_ run agrees end e.start.path after_ refl h.task h.at_ h.start h.found)
+    where
+      after_ : Event S
+      after_ = record { start = e.start; past = e.answer ∷ e.past; answer = 0 }
+
+      no_way : (j : ℕ) (a : List ℕ) → IsSuffix (j ∷ a) [] → ⊥
+      no_way j a k = elim k [ ]
+
+      at_main : z.active ≡ []
+      at_main = main_or (which_path z.active [])
+        where
+          main_or : (z.active ≡ []) ⊎ (z.active ≢ []) → z.active ≡ []
+          main_or (inl q) = q
+          main_or (inr ne) = absurd (not_over P end.task.body (st.alive end.task end.at_ ne) o)
+
+      go : Where P main cells z s set_ run agrees end e.start.path after_ → Happened z.state e
+      go (within w hw sw fw) = record { task = w; at_ = hw; start = sw; found = fw }
+      go (beyond j a ne i l) = absurd (no_way j a (subst (λ (y : List ℕ). IsSuffix (j ∷ a) y) at_main i))
+
   same_cells : ((c : ℕ) → c < length cells → slice_index s.cells c ≡ slice_index z.state.cells c) → s.cells ≡ z.state.cells
   same_cells f =
       let a = agrees.size in
@@ -174,16 +213,6 @@ module _ {S : Type 0} (P : Program S) (main : Start S) (cells : List ℕ) (z : R
         go (inl k) = before_not (before_trans l2 k) refl
         go (inr k) = before_not l2 (ap (λ (x : List ℕ). reverse x) (sym k.0))
 
-    -- what s did beyond the run is past the fault
-    past : (e : Event S) → (h : Happened s e) → e.start.path ≢ z.active → IsBefore (reverse (place P (stage_of end.task.body))) (reverse (place P e)) → IsEarlierKey key (key_at P e)
-    past e h ne l =
-        let l1 : IsBefore (reverse (stage_created P t.body.start t.body.found ∷ t.body.start.path)) (reverse (place P e)) = subst (λ (b : Body S). IsBefore (reverse (place P (stage_of b))) (reverse (place P e))) same l in
-        let l2 : IsBefore (reverse (stage_created P t.body.start t.body.found ∷ p)) (reverse (place P e)) = subst (λ (x : List ℕ). IsBefore (reverse (stage_created P t.body.start t.body.found ∷ x)) (reverse (place P e))) (path_found s.tasks p t at_) l1 in
-        let l3 : IsBefore (reverse (stage_created P t.body.start t.body.found ∷ p)) (reverse (stage_created P h.task.body.start e.past ∷ e.start.path)) = subst (λ (x : Start S). IsBefore (reverse (stage_created P t.body.start t.body.found ∷ p)) (reverse (stage_created P x e.past ∷ e.start.path))) (sym h.start) l2 in
-        let k = apart P main s made p e.start.path t h.task t.body.found e.past at_ h.at_ (λ q. ne (sym q ∙ sym active)) l3 in
-        let k2 : IsEarlierKey (stage_key P t.body.start t.body.found) (key_at P e) = subst (λ (x : Start S). IsEarlierKey (stage_key P t.body.start t.body.found) (stage_key P x e.past)) h.start k in
-        subst (λ (x : List ℕ). IsEarlierKey x (key_at P e)) (sym key_t) k2
-
     fault_output : IsOutput P s (Some key) z.printed
     fault_output =
         let o = run_output P main cells set_.starts set_.memory z run in
@@ -198,7 +227,7 @@ module _ {S : Type 0} (P : Program S) (main : Start S) (cells : List ℕ) (z : R
       where
         back : (e : Event S) → DonePrint P s (Some key) e → InOrPast e → Happened z.state e
         back e d (inl h) = h
-        back e d (inr k) = absurd (d.within (subst (λ (x : List ℕ). IsEarlierKey key x) (sym (print_key P e.start e.past d.key d.text d.prints)) (past e d.happened k.0 k.1)))
+        back e d (inr k) = absurd (d.within (subst (λ (x : List ℕ). IsEarlierKey key x) (sym (print_key P e.start e.past d.key d.text d.prints)) (past_fault kind line key act e d.happened k.0 k.1)))
 
     least_fault : IsLeastFault P s key
     least_fault q u kind2 line2 other h a l =
@@ -243,3 +272,9 @@ every_answer_is_the_result S P main cells s a b set_ agrees none h r =
 
 pub run_keeps_output : (S : Type 0) → RunKeepsOutput S
 run_keeps_output S P main cells z set_ run = run_output P main cells set_.starts set_.memory z run
+
+pub acts_up_to_fault : (S : Type 0) → ActsUpToFault S
+acts_up_to_fault S P main cells z s end kind line key e set_ run a act h w = up_to_fault P main cells z s set_ run a end kind line key act e h w
+
+pub acts_up_to_end : (S : Type 0) → ActsUpToEnd S
+acts_up_to_end S P main cells z s end e set_ run a o h = up_to_end P main cells z s set_ run a end o e h

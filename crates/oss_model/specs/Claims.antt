@@ -1,19 +1,20 @@
 -- What the laws say.
-use Rattle.std.specs.Prelude.{◌≡◌, ◌≢◌, ℕ, ◌<◌, ◌≤◌, ◌⊎◌, List, ◌∷◌, length, slice_index, Bool, true, false, Option, None}
+use Rattle.std.specs.Prelude.{◌≡◌, ◌≢◌, ℕ, ◌<◌, ◌≤◌, ◌⊎◌, List, ◌∷◌, length, slice_index, Bool, true, false, Option, Some, None}
 use Rattle.oss_syntax.specs.declared.access.Op.{Op}
 use Rattle.oss_model.specs.declared.answer.Answer.{Answer}
+use Rattle.oss_model.specs.declared.answer.FaultKind.{FaultKind}
 use Rattle.oss_model.specs.Order.{IsSuffix}
 use Rattle.oss_model.specs.Rights.{Touch, Conflicts}
 use Rattle.oss_model.specs.Context.{Context}
 use Rattle.oss_model.specs.Bodies.{Order, Program, Act, Start, Touches, stage_act, IsFault}
-use Rattle.oss_model.specs.Bodies.Act.{Folded}
+use Rattle.oss_model.specs.Bodies.Act.{Folded, Fault, Over}
 use Rattle.oss_model.specs.Forest.{IsDone, IsWriteSatisfied, IsReadSatisfied, IsJoinSatisfied}
 use Rattle.oss_model.specs.Machine.{Task, State, At, accesses, IsReady, IsComplete, IsWaitMet}
 use Rattle.oss_model.specs.Moves.{act_now, created_now, is_ended, CanStep, Stepped, CanLet, LetGo, CanJoin, Joined, Moved, opening, Reached, GoesOn, IsClosed, SomeMove, IsLeast}
-use Rattle.oss_model.specs.Memory.{Event, Happened}
+use Rattle.oss_model.specs.Memory.{Event, key_at, IsEarlierEvent, Happened, DoneTouch}
 use Rattle.oss_model.specs.Sequence.{Running, Sequential, IsAtEnd}
 use Rattle.oss_model.specs.Agreement.{AreWords, Setting, main_start, Agrees, AgreesWithRun}
-use Rattle.oss_model.specs.Answers.{IsOutput, IsResult, IsStopped, IsAnswer}
+use Rattle.oss_model.specs.Answers.{IsNotPast, IsOutput, IsResult, IsStopped, IsAnswer}
 
 -- main may start with any memory of 64-bit words
 abbrev pub EveryMainIsASetting : Type 0 → Type 0
@@ -57,6 +58,22 @@ OpenTasksMove S = (P : Program S) (main : Start S) (cells : List ℕ) (z : Runni
 -- the output that the sequential run keeps is that of its state
 abbrev pub RunKeepsOutput : Type 0 → Type 0
 RunKeepsOutput S = (P : Program S) (main : Start S) (cells : List ℕ) (z : Running S) → Setting main cells → Sequential P main cells z → IsOutput P z.state None z.printed
+
+-- the done acts of a state that are not past the fault of the sequential run are done there, with the same answers
+abbrev pub ActsUpToFault : Type 0 → Type 0
+ActsUpToFault S = (P : Program S) (main : Start S) (cells : List ℕ) (z : Running S) (s : State S) (end : IsAtEnd P z) (kind : FaultKind) (line : ℕ) (key : List ℕ) (e : Event S)
+    → Setting main cells → Sequential P main cells z → Agrees P main cells z s → act_now P end.task.body ≡ Fault kind line key → Happened s e → IsNotPast (Some key) (key_at P e) → Happened z.state e
+
+-- where the sequential run has ended, all done acts of a state are done there
+abbrev pub ActsUpToEnd : Type 0 → Type 0
+ActsUpToEnd S = (P : Program S) (main : Start S) (cells : List ℕ) (z : Running S) (s : State S) (end : IsAtEnd P z) (e : Event S)
+    → Setting main cells → Sequential P main cells z → Agrees P main cells z s → act_now P end.task.body ≡ Over → Happened s e → Happened z.state e
+
+-- a touch of the sequential run that conflicts with a later one which is done in a state is done there too
+abbrev pub EarlierConflictsAreDone : Type 0 → Type 0
+EarlierConflictsAreDone S = (P : Program S) (main : Start S) (cells : List ℕ) (z : Running S) (s : State S) (e g : Event S) (c : ℕ) (a b : Touch) (slot other : Bool)
+    → Setting main cells → Sequential P main cells z → Agrees P main cells z s → Happened z.state e → Touches (stage_act P e.start e.past) c a slot → DoneTouch P s c g b other
+    → Conflicts a slot b other → IsEarlierEvent P e g → DoneTouch P s c e a slot
 
 -- the same acts are done in the two states
 pub record SameActs {S : Type 0} (x s : State S) : Type 0 where

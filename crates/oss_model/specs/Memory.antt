@@ -2,7 +2,8 @@
 use Rattle.std.specs.Prelude.{◌≡◌, ℕ, ◌<◌, Bool, true, false, List, [], ◌∷◌, length, ◌⊎◌, slice_index}
 use Rattle.oss_syntax.specs.declared.access.Op.{Op}
 use Rattle.oss_model.specs.Order.{IsIn, IsSuffix, IsEarlierKey}
-use Rattle.oss_model.specs.Bodies.{Program, Act, Start, stage_act, stage_key}
+use Rattle.oss_model.specs.Rights.{Touch}
+use Rattle.oss_model.specs.Bodies.{Program, Act, Start, stage_act, stage_key, Touches}
 use Rattle.oss_model.specs.Bodies.Act.{Store, Folded}
 use Rattle.oss_model.specs.Machine.{Task, State, At}
 use Rattle.oss_model.specs.Moves.{combine}
@@ -27,6 +28,12 @@ pub record Happened {S : Type 0} (s : State S) (e : Event S) : Type 0 where
   pub at_ : At s e.start.path task
   pub start : task.body.start ≡ e.start
   pub found : IsSuffix (e.answer ∷ e.past) task.body.found
+
+-- a touch of a cell that is done; a fold into the slot once it is joined
+pub record DoneTouch {S : Type 0} (P : Program S) (s : State S) (c : ℕ) (e : Event S) (touch : Touch) (slot : Bool) : Type 0 where
+  pub touches : Touches (stage_act P e.start e.past) c touch slot
+  pub happened : Happened s e
+  pub joined : slot ≡ true → IsIn c happened.task.given
 
 -- the act changes the cell; the flag says that it goes to the slot
 pub data Changes {S : Type 0} : Act S → ℕ → Bool → Type 0 where

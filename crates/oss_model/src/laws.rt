@@ -1,7 +1,7 @@
 //! What holds of every run of tasks, whatever the program is: laws, each carried by a function that does nothing. A crate
 //! above calls the function for its type of scripts, and then has the law.
 
-ghost use Rattle.oss_model.specs.Claims.{EveryMainIsASetting, OpeningAgrees, StepAgrees, LetAgrees, JoinAgrees, EveryStateAgrees, OpenTasksMove, RunKeepsOutput, EveryStopIsTheEnd, EveryAnswerIsTheResult, EveryResultIsTheAnswer, AnswersAreOne, DoneStays, WriteStays, ReadStays, JoinStays, ReadyStays, CompleteStays, WaitStays, TaskGoesOn, StepsExclude, JoinExcludes};
+ghost use Rattle.oss_model.specs.Claims.{EveryMainIsASetting, OpeningAgrees, StepAgrees, LetAgrees, JoinAgrees, EveryStateAgrees, OpenTasksMove, RunKeepsOutput, ActsUpToFault, ActsUpToEnd, EarlierConflictsAreDone, EveryStopIsTheEnd, EveryAnswerIsTheResult, EveryResultIsTheAnswer, AnswersAreOne, DoneStays, WriteStays, ReadStays, JoinStays, ReadyStays, CompleteStays, WaitStays, TaskGoesOn, StepsExclude, JoinExcludes};
 ghost use Rattle.oss_model.specs.Matching.{MatchingForestsAgree, MatchingStateAgrees};
 
 /// Main may start over any memory of 64-bit numbers.
@@ -42,6 +42,21 @@ pub fn open_tasks_move<S>()
 /// The sequential run prints in point order.
 pub fn run_keeps_output<S>()
     ensures { RunKeepsOutput S }
+{}
+
+/// The acts of a state that are not past the fault of the sequential run are acts of that run.
+pub fn acts_up_to_fault<S>()
+    ensures { ActsUpToFault S }
+{}
+
+/// Where the sequential run has ended without a fault, the acts of a state are acts of that run.
+pub fn acts_up_to_end<S>()
+    ensures { ActsUpToEnd S }
+{}
+
+/// Where a touch is done, each touch of the sequential run before it that conflicts with it is done.
+pub fn earlier_conflicts_are_done<S>()
+    ensures { EarlierConflictsAreDone S }
 {}
 
 /// Where no move is left, a state has done what the sequential run has done at its end.
