@@ -2,13 +2,12 @@
 use Rattle.std.proofs.Common.{◌≡◌, ℕ, ◌⊎◌, inl, inr, refl, sym, subst, ap, ◌∙◌, List, [], ◌∷◌, Bool, true, false, Option, Some, None}
 use Rattle.oss_syntax.specs.declared.access.Access.{Access}
 use Rattle.oss_syntax.specs.declared.access.Mode.{Mode}
-use Rattle.oss_syntax.specs.declared.access.Op.{Op}
 use Rattle.oss_syntax.specs.declared.access.Op.TheVariants.{Add, And, Or, Xor}
 use Rattle.oss_syntax.specs.declared.access.Mode.TheVariants.{Read, Write, Fold}
 use Rattle.oss_model.specs.declared.answer.FaultKind.{FaultKind}
 use Rattle.std.specs.Prelude.{◌||◌, if◌then◌else◌}
 use Rattle.oss_model.specs.Order.{IsIn, here, there}
-use Rattle.oss_model.specs.Rights.{Right, NoRight, Released, Holds, Reads, Writes, Folds, covers, touch_fault, in_access, right_from, join_modes, join_held, join_right, Free}
+use Rattle.oss_model.specs.Rights.{Right, NoRight, Released, Holds, Reads, Writes, Folds, covers, touch_fault, in_access, right_from, joined_mode, right_held, joined_right, Free}
 use Rattle.oss_model.specs.Context.{Context, clause_fault, child_context, in_clauses, create_fault, release_fault, wait_on_fault, tick_fault, right_of, lent_of, release, lend_cell, or_else, creation_fault}
 use Rattle.oss_model.specs.Bodies.{Order, Ask, Program, Act, Frame, Stack, Start, judged_act, act_of_ask, ask_of, frame_act, stack_act, answered_frame, child_frame, one_more_created, lent_when, frame_after, including_frame, base_after, inner_after, stack_after, past_ask, past_silent, settled_frame, settled_parts, next_stack, start_frame, stack_from, IsHalt}
 use Rattle.oss_model.specs.Bodies.Act.{Ticked, Load, Store, Folded, Created, Awaited, Waited, WaitedOn, Releases, Printed, Ended, Fault, Over}
@@ -180,7 +179,7 @@ top_kept {base = base} {f = f} {g = g} {fs = fs} ok k =
     go h here = inner_kept (ok.inner f here) k
     go h (there i) = ok.inner h (there i)
 
-join_strong : (o : Option Mode) (s : Bool) (m : Mode) (strong : Bool) → join_held o s ≡ Holds m strong → strong ≡ s
+join_strong : (o : Option Mode) (s : Bool) (m : Mode) (strong : Bool) → right_held o s ≡ Holds m strong → strong ≡ s
 join_strong (Some n) s m strong h = cc
 join_strong None s m strong h = cc
 
@@ -189,10 +188,10 @@ pub final_strong : (final : Bool) (xs : List Access) (c : ℕ) (m : Mode) (stron
 final_strong final [] c m strong f h = cc
 final_strong final (a ∷ rest) c m strong f h = split (in_access a c) refl (λ e. final_strong final rest c m strong f (rw e at h))
   where
-    joined : (r : Right) → join_right a.mode (final || a.strong) r ≡ Holds m strong → strong ≡ true
+    joined : (r : Right) → joined_right a.mode (final || a.strong) r ≡ Holds m strong → strong ≡ true
     joined NoRight k = rw f at (let e : strong ≡ (final || a.strong) = cc in e)
     joined Released k = rw f at (let e : strong ≡ (final || a.strong) = cc in e)
-    joined (Holds n other) k = rw f at (join_strong (join_modes a.mode n) ((final || a.strong) || other) m strong k)
+    joined (Holds n other) k = rw f at (join_strong (joined_mode a.mode n) ((final || a.strong) || other) m strong k)
 
     split : (b : Bool) → in_access a c ≡ b → (in_access a c ≡ false → strong ≡ true) → strong ≡ true
     split true e g = joined (right_from final rest c) (rw e at h)

@@ -1,17 +1,15 @@
 -- Touches of the sequential run that conflict with a later one are done before it.
-use Rattle.std.proofs.Common.{◌≡◌, ℕ, ◌⊎◌, inl, inr, refl, sym, subst, ap, ◌∙◌, List, Bool, true}
-use Rattle.oss_syntax.specs.declared.access.Op.{Op}
+use Rattle.std.proofs.Common.{◌≡◌, ℕ, ◌⊎◌, inl, inr, refl, sym, subst, ap, ◌∙◌, Bool, true}
 use Rattle.oss_syntax.specs.declared.access.Mode.{Mode}
 use Rattle.oss_syntax.specs.declared.access.Mode.TheVariants.{Fold}
 use Rattle.oss_model.specs.Order.{IsIn}
-use Rattle.oss_model.specs.Rights.{Holds, Touch, Conflicts}
+use Rattle.oss_model.specs.Rights.{Holds, Touch}
 use Rattle.oss_model.specs.Context.{right_of}
-use Rattle.oss_model.specs.Bodies.{Program, Start, Touches, stage_act}
-use Rattle.oss_model.specs.Machine.{Task, State, At, IsReady, HasGiven}
+use Rattle.oss_model.specs.Bodies.{Program, Start}
+use Rattle.oss_model.specs.Machine.{Task, State, IsReady}
 use Rattle.oss_model.specs.History.{IsMade, IsStarted}
-use Rattle.oss_model.specs.Memory.{Event, IsEarlierEvent, Happened, DoneTouch}
-use Rattle.oss_model.specs.Sequence.{Running, Sequential}
-use Rattle.oss_model.specs.Agreement.{MainStarts, Compatible, Setting, Agrees}
+use Rattle.oss_model.specs.Memory.{Event, Happened, DoneTouch}
+use Rattle.oss_model.specs.Agreement.{MainStarts, Compatible}
 use Rattle.oss_model.specs.Claims.{EarlierConflictsAreDone}
 use Rattle.oss_model.proofs.Places.{IsEarlierPlace}
 use Rattle.oss_model.proofs.OrderLemmas.{suffix_drop}

@@ -1,6 +1,6 @@
 -- Acts that may both happen do not conflict, and a setting for every program.
-use Rattle.oss_model.specs.Agreement.{MainStarts, AreWords, Setting, Agrees, main_start}
-use Rattle.std.proofs.Common.{◌≡◌, ◌≢◌, ℕ, inl, inr, refl, sym, subst, ap, ◌∙◌, List, [], ◌∷◌, length, reverse, arith, Bool, true, false, Some}
+use Rattle.oss_model.specs.Agreement.{MainStarts, AreWords, Setting, main_start}
+use Rattle.std.proofs.Common.{◌≡◌, ◌≢◌, ℕ, inl, inr, refl, sym, subst, ◌∙◌, List, [], ◌∷◌, length, reverse, arith, Bool, true, false, Some}
 use Rattle.std.proofs.lemmas.Bool.Decides.{nat_tests}
 use Rattle.oss_model.specs.Order.{IsSuffix, whole, IsIn}
 use Rattle.oss_model.specs.Rights.{Touch, Reads, Writes, Folds, Conflicts}

@@ -4,7 +4,7 @@ use Rattle.oss_syntax.specs.declared.access.Mode.{Mode}
 use Rattle.oss_syntax.specs.declared.access.Op.{Op}
 use Rattle.oss_model.specs.Forest.{IsDone, IsWriteSatisfied, IsReadSatisfied, IsJoinSatisfied}
 use Rattle.oss_model.specs.Order.{IsSuffix, IsIn}
-use Rattle.oss_model.specs.Rights.{Released, Holds}
+use Rattle.oss_model.specs.Rights.{Holds}
 use Rattle.oss_model.specs.Context.{Context, right_of}
 use Rattle.oss_model.specs.Bodies.{Order, Program, Act, Start, stack_from, stage_act, stage_created, child_start}
 use Rattle.oss_model.specs.Bodies.Act.{Created, Awaited, Waited, WaitedOn}

@@ -1,8 +1,8 @@
 -- The keys of a body's acts grow.
-use Rattle.std.proofs.Common.{◌≡◌, ℕ, ◌+◌, ◌<◌, ◌≤◌, ◌⊎◌, inl, inr, refl, sym, subst, ap, ◌∙◌, List, [], ◌∷◌, reverse, arith, Bool, true, false}
+use Rattle.std.proofs.Common.{◌≡◌, ℕ, ◌<◌, ◌≤◌, ◌⊎◌, inl, inr, refl, sym, subst, ap, ◌∙◌, List, [], ◌∷◌, reverse, arith, Bool, true, false}
 use Rattle.oss_model.specs.Order.{IsSuffix, whole, longer, IsBefore, IsEarlierKey}
 use Rattle.oss_model.specs.Context.{right_of}
-use Rattle.oss_model.specs.Bodies.{Program, Act, Frame, Stack, Start, key_of, top_frame, child_frame, frame_after, base_after, inner_after, stack_after, settled_parts, next_stack, stack_act, start_frame, stack_from, stage_key, stage_created}
+use Rattle.oss_model.specs.Bodies.{Program, Act, Frame, Start, key_of, top_frame, frame_after, base_after, inner_after, stack_after, settled_parts, stack_act, stack_from, stage_key, stage_created}
 use Rattle.oss_model.specs.Bodies.Act.{Created, Ended}
 use Rattle.oss_model.proofs.BodyLemmas.{frame_after_kept, settle_same, stack_ok}
 use Rattle.oss_model.proofs.StageLemmas.{frame_after_created, no_inner_of_open}

@@ -1,12 +1,12 @@
 -- Keys and places put the acts of a state into one order.
-use Rattle.std.proofs.Common.{◌≡◌, ◌≢◌, ℕ, ◌<◌, ◌≤◌, ◌⊎◌, inl, inr, refl, sym, subst, ap, ◌∙◌, List, [], ◌∷◌, length, reverse, arith, Bool, false}
+use Rattle.std.proofs.Common.{◌≡◌, ◌≢◌, ℕ, ◌<◌, ◌≤◌, ◌⊎◌, inl, inr, refl, sym, subst, ap, ◌∙◌, List, [], ◌∷◌, length, reverse, arith, false}
 use Rattle.oss_model.specs.Order.{IsSuffix, whole, longer, IsIn, here, there, IsBefore, IsEarlierKey}
 use Rattle.oss_model.specs.Bodies.{Program, Start, stage_key, stage_created}
 use Rattle.oss_model.specs.Machine.{Task, State, At}
 use Rattle.oss_model.specs.History.{IsMade}
 use Rattle.oss_model.specs.Agreement.{Compatible}
 use Rattle.oss_model.specs.Moves.{created_now, key_now, IsClosed, IsLeast}
-use Rattle.oss_model.specs.Memory.{Event, key_at, IsEarlierEvent, Happened, DoneChange, IsSorted, IsValue}
+use Rattle.oss_model.specs.Memory.{Event, IsEarlierEvent, Happened, IsSorted, IsValue}
 use Rattle.oss_model.proofs.Places.{place, IsEarlierPlace, IsPlaced, PlacedValue, IsLeastPlace}
 use Rattle.oss_model.proofs.OrderLemmas.{suffix_trans, suffix_drop, suffix_linear, before_trans, before_not, Compared, compare, Lie, lie, before_number, before_child, before_up, before_across}
 use Rattle.oss_model.proofs.StageLemmas.{created_grows, creating}

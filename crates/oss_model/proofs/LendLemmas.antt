@@ -7,7 +7,7 @@ use Rattle.oss_syntax.specs.declared.access.Mode.TheVariants.{Read, Write, Fold}
 use Rattle.std.specs.Prelude.{not, if◌then◌else◌}
 use Rattle.oss_model.specs.Order.{IsSuffix, whole, longer}
 use Rattle.oss_model.specs.Rights.{Right, NoRight, Released, Holds, Lending, Free, Reading, Writing, Touch, Reads}
-use Rattle.oss_model.specs.Context.{Context, child_context, in_clauses, lend_cell, right_of, lent_of, Entry, with_entries, after_wait_on, lend}
+use Rattle.oss_model.specs.Context.{Context, child_context, in_clauses, lend_cell, right_of, lent_of, Entry, with_entries, waited_on, lend}
 use Rattle.oss_model.specs.Bodies.{Order, Program, Act, Frame, Stack, Start, stack_act, lent_when, one_more_created, frame_after, base_after, inner_after, stack_after, settled_frame, settled_parts, next_stack, stack_from, act_of, stage_act}
 use Rattle.oss_model.specs.Bodies.Act.{Created, Awaited, Waited, WaitedOn, Ended, Releases}
 use Rattle.oss_model.proofs.ContextLemmas.{new_lent, lent_past, child_right}
@@ -61,10 +61,10 @@ lend_when_keeps : (w : Bool) (given : ℕ → Right) (x : Context) (m : Mode) (c
 lend_when_keeps true given x m c h = lent_kept (λ d. record { right = right_of x d; lent = lend_cell (given d) (lent_of x d) }) x m c h (lend_cell_keeps (given c) m (lent_of x c) h)
 lend_when_keeps false given x m c h = h
 
-waited_on_keeps : (named : List Access) (x : Context) (m : Mode) (c : ℕ) → LentFor m (lent_of x c) → (in_clauses named c ≡ true) ⊎ LentFor m (lent_of (after_wait_on named x) c)
+waited_on_keeps : (named : List Access) (x : Context) (m : Mode) (c : ℕ) → LentFor m (lent_of x c) → (in_clauses named c ≡ true) ⊎ LentFor m (lent_of (waited_on named x) c)
 waited_on_keeps named x m c h = go (in_clauses named c) refl
   where
-    go : (b : Bool) → in_clauses named c ≡ b → (in_clauses named c ≡ true) ⊎ LentFor m (lent_of (after_wait_on named x) c)
+    go : (b : Bool) → in_clauses named c ≡ b → (in_clauses named c ≡ true) ⊎ LentFor m (lent_of (waited_on named x) c)
     go true e = inl e
     go false e = inr (lent_kept (λ d. record { right = right_of x d; lent = if in_clauses named d then Free else lent_of x d }) x m c h (rw e h))
 

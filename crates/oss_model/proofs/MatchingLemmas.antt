@@ -1,11 +1,10 @@
 -- Partners in matching forests have the same flags.
-use Rattle.std.proofs.Common.{◌≡◌, ◌⊎◌, inl, inr, sym, subst, ◌∙◌}
+use Rattle.std.proofs.Common.{◌⊎◌, inl, inr, sym, subst, ◌∙◌}
 use Rattle.oss_syntax.specs.declared.access.Op.{Op}
-use Rattle.oss_syntax.specs.declared.access.Mode.{Mode}
 use Rattle.oss_model.specs.Forest.{Forest, IsDone, IsWriteSatisfied, IsReadSatisfied, IsJoinSatisfied, IsRead, InRun, done, write_top, write_child, read_top, read_child, join_top, join_below_fold, join_below_write}
 use Rattle.std.specs.Prelude.{IsTrue}
 use Rattle.oss_model.specs.Machine.{accesses}
-use Rattle.oss_model.specs.Matching.{above, below, before, Matches, HaveSameFlags, ForestTests, tested, MatchingForestsAgree, MatchingStateAgrees}
+use Rattle.oss_model.specs.Matching.{above, below, before, Matches, HaveSameFlags, tested, MatchingForestsAgree, MatchingStateAgrees}
 
 -- the other way round
 turned : {K L : Type 0} (F : Forest K) (G : Forest L) (R : K → L → Type 0) → Matches F G R → Matches G F (λ v u. R u v)

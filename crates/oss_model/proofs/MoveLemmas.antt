@@ -5,7 +5,7 @@ use Rattle.oss_syntax.specs.declared.access.Mode.TheVariants.{Fold}
 use Rattle.oss_model.specs.Context.{right_of}
 use Rattle.oss_model.specs.Forest.{IsJoinSatisfied}
 use Rattle.oss_model.specs.Order.{IsSuffix, whole, longer, IsIn, here, there}
-use Rattle.oss_model.specs.Rights.{Released, Holds}
+use Rattle.oss_model.specs.Rights.{Holds}
 use Rattle.oss_model.specs.Bodies.{Order, Program, Act, Start, Body, stack_from, stage_act, stage_created, child_start, IsHalt}
 use Rattle.oss_model.specs.Bodies.Act.{Created, Awaited, Waited, WaitedOn, Over, Ticked, Load, Store, Folded, Releases, Printed, Ended, Fault}
 use Rattle.oss_model.specs.Machine.{Task, State, At, accesses, IsReady, IsWaitMet}

@@ -1,3 +1,4 @@
+-- Ends of lists, the order of points, and how two points lie in the tree of tasks.
 use Rattle.std.proofs.Common.{◌≡◌, ℕ, ◌<◌, ◌≤◌, ◌⊎◌, inl, inr, refl, subst, List, [], ◌∷◌, ◌++◌, length, reverse, arith, append_assoc}
 use Rattle.std.proofs.lemmas.List.{reverse-append}
 use Rattle.oss_model.specs.Order.{IsSuffix, whole, longer, IsBefore, shorter, less, same}

@@ -6,7 +6,7 @@ use Rattle.oss_model.specs.Rights.{Right, Reads, Writes, Folds, touch_fault, is_
 use Rattle.oss_model.specs.Context.{create_fault, tick_fault, release_fault, wait_on_fault, right_of, lent_of}
 use Rattle.oss_model.specs.Bodies.{Ask, Program, Act, Frame, Start, key_of, top_frame, judged_act, act_of_ask, ask_of, frame_act, stack_act, stack_from, act_of, stage_act, stage_key, word_of}
 use Rattle.oss_model.specs.Bodies.Act.{Ticked, Load, Store, Folded, Created, Awaited, Waited, WaitedOn, Releases, Printed, Ended, Fault, Over}
-use Rattle.oss_model.specs.Machine.{Task, State, At}
+use Rattle.oss_model.specs.Machine.{Task}
 use Rattle.oss_model.specs.Moves.{act_now}
 use Rattle.oss_model.specs.Memory.{Event, Happened}
 use Rattle.oss_model.specs.Sequence.{Running, printed_after, RunsOn, Sequential, opens, runs_on}

@@ -1,22 +1,22 @@
 -- Where no move is left, the answer of the state is the result of the sequential run.
-use Rattle.std.proofs.Common.{◌≡◌, ◌≢◌, ℕ, ◌<◌, ◌≤◌, ◌⊎◌, inl, inr, refl, sym, subst, ap, ◌∙◌, List, [], ◌∷◌, ◌++◌, length, reverse, arith, true, Option, Some, None}
+use Rattle.std.proofs.Common.{◌≡◌, ◌≢◌, ℕ, ◌<◌, ◌≤◌, ◌⊎◌, inl, inr, refl, sym, subst, ap, ◌∙◌, List, [], ◌∷◌, length, reverse, arith, true, Option, Some, None}
 use Rattle.std.proofs.lemmas.List.{ext_get_or}
 use Rattle.std.specs.Prelude.{◌+◌, slice_index}
 use Rattle.oss_model.specs.declared.answer.FaultKind.{FaultKind}
 use Rattle.oss_model.specs.declared.answer.Answer.{Answer}
 use Rattle.oss_model.specs.declared.answer.Answer.TheVariants as answers
-use Rattle.oss_model.specs.Order.{IsSuffix, whole, IsIn, IsBefore, IsEarlierKey}
+use Rattle.oss_model.specs.Order.{IsSuffix, whole, IsBefore, IsEarlierKey}
 use Rattle.oss_model.specs.Bodies.{Program, Act, Start, Body, stage_act, stage_created, stage_key, IsHalt, IsFault}
 use Rattle.oss_model.specs.Bodies.Act.{Fault, Over}
 use Rattle.oss_model.specs.Machine.{Task, State, At, IsComplete, complete}
 use Rattle.oss_model.specs.Moves.{act_now, key_now, is_ended, IsClosed, IsLeast}
 use Rattle.oss_model.specs.Memory.{Event, key_at, IsEarlierEvent, Happened}
 use Rattle.oss_model.specs.Sequence.{Running, Sequential, IsAtEnd}
-use Rattle.oss_model.specs.History.{IsMade, IsComparable}
+use Rattle.oss_model.specs.History.{IsMade}
 use Rattle.oss_model.specs.Agreement.{Setting, Agrees, AgreesWithRun}
 use Rattle.oss_model.specs.Answers.{IsNotPast, DonePrint, texts, IsOutput, IsResult, ends, fails, IsStopped, IsFinished, IsLeastFault, IsAnswer, finished, faulted}
 use Rattle.oss_model.specs.Claims.{SameActs, IsStoppedAs, ended, failed, EveryResultIsTheAnswer, EveryAnswerIsTheResult, AnswersAreOne, RunKeepsOutput, ActsUpToFault, ActsUpToEnd}
-use Rattle.oss_model.proofs.Places.{place, IsEarlierPlace}
+use Rattle.oss_model.proofs.Places.{place}
 use Rattle.oss_model.proofs.OrderLemmas.{suffix_trans, suffix_drop, suffix_length, suffix_linear, suffix_full, before_trans, before_not, Compared, compare}
 use Rattle.oss_model.proofs.TreeLemmas.{at_same, over_stops, path_found, next_of}
 use Rattle.oss_model.proofs.SortLemmas.{sorted_one, reverse_same}

@@ -1,6 +1,6 @@
 -- No move takes away what is done, satisfied, ready, complete or waited for.
-use Rattle.std.proofs.Common.{◌≡◌, ℕ, ◌≤◌, List, true}
-use Rattle.oss_model.specs.Bodies.{Program, Act, Start}
+use Rattle.std.proofs.Common.{◌≡◌, ℕ, List, true}
+use Rattle.oss_model.specs.Bodies.{Program, Start}
 use Rattle.oss_model.specs.Machine.{Task, State, At}
 use Rattle.oss_model.specs.Moves.{is_ended, Moved, steps, lets, joins}
 use Rattle.oss_model.specs.Sequence.{Running}
