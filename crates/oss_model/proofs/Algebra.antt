@@ -45,10 +45,6 @@ or_bits : (w s x i : ℕ) → bit_at (bit_or (bit_or w s) x) i ≡ bit_at (bit_o
 or_bits w s x i =
     rw (bit_at_or (bit_or w s) x i, bit_at_or w s i, bit_at_or w (bit_or s x) i, bit_at_or s x i) (max_three (bit_at w i) (bit_at s i) (bit_at x i))
 
-or_fold : (w s x : ℕ) → w < 2 ^ 64 → s < 2 ^ 64 → x < 2 ^ 64 → bit_or (bit_or w s) x ≡ bit_or w (bit_or s x)
-or_fold w s x a b c =
-    same_from_bits_below 64 (bit_or (bit_or w s) x) (bit_or w (bit_or s x)) (or_lt 64 (bit_or w s) x (or_lt 64 w s a b) c) (or_lt 64 w (bit_or s x) a (or_lt 64 s x b c)) (λ i l. or_bits w s x i)
-
 less_pow : (n : ℕ) → n < 2 ^ n
 less_pow zero = omega arith
 less_pow (suc n) = let a = less_pow n in let b = two-pow-succ n in omega arith

@@ -44,10 +44,6 @@ module _ {S : Type 0} (P : Program S) (main : Start S) (cells : List ℕ) (z : R
   comp : Compatible z.state s
   comp = agrees.same
 
-  -- where each task of s that stands before what it does in the sequential run is not open, all of that is done
-  Caught : Event S → Type 0
-  Caught e = Happened z.state e → Happened s e
-
   -- a task of s that stands at or before an event of the sequential run which is not done in s
   record Behind (q : List ℕ) (e : Event S) : Type 0 where
     task : Task S

@@ -32,18 +32,6 @@ pub record Grown {S : Type 0} (P : Program S) (s n : State S) : Type 0 where
   pub news : (q : List ℕ) (v : Task S) → At n q v → ((u : Task S) × At s q u × GoesOn u v) ⊎ NewTask P s q v
 
 module _ {S : Type 0} (P : Program S) (main : Start S) (s n : State S) (made : IsMade P main s) (started : IsStarted P s) (grown : Grown P s n) where
-  -- the number of the next child is new
-  pub fresh : (p : List ℕ) (t u : Task S) → At s p t → At s (created_now P t.body ∷ p) u → ⊥
-  fresh p t u h k =
-      let b = made.child (created_now P t.body) p u k in
-      let e = at_same s p b.creator t b.at_ h in
-      let f : IsSuffix (b.answer ∷ b.past) t.body.found = subst (λ (z : Task S). IsSuffix (b.answer ∷ b.past) z.body.found) e b.happened in
-      let num : stage_created P t.body.start b.past ≡ created_now P t.body = subst (λ (z : Task S). stage_created P z.body.start b.past ≡ created_now P t.body) e b.number in
-      let act : stage_act P t.body.start b.past ≡ Created b.order false = subst (λ (z : Task S). stage_act P z.body.start b.past ≡ Created b.order false) e b.act in
-      let one = creation_counts P t.body.start b.answer b.past b.order act in
-      let l = created_grows P t.body.start f in
-      omega arith
-
   access_forth : (c : ℕ) (p : List ℕ) → HasAccess s c p → HasAccess n c p
   access_forth c p a =
       let k = grown.keeps p a.task a.at_ in

@@ -320,9 +320,6 @@ module _ {S : Type 0} (P : Program S) (main : Start S) (s : State S) (p : List �
 
 -- the done changes after a cell was given up
 module _ {S : Type 0} (P : Program S) (main : Start S) (s n : State S) (p : List ℕ) (d : ℕ) (t : Task S) (made : IsMade P main s) (started : IsStarted P s) (at_ : At s p t) (may : MayGive P s p d t) (gave : GaveUp s p d t n) where
-  path_is : t.body.start.path ≡ p
-  path_is = path_found s.tasks p t at_
-
   gave_forth : (c : ℕ) (e : Event S) → DoneChange P s c e → DoneChange P n c e
   gave_forth c e k = go (which_path e.start.path p)
     where
@@ -355,9 +352,6 @@ module _ {S : Type 0} (P : Program S) (main : Start S) (s n : State S) (p : List
       view r u (old ne h) q1 q2 f j = inl (record { slot = k.slot; changes = k.changes; happened = record { task = u; at_ = subst (λ (z : List ℕ). At s z u) q1 h; start = q2; found = f }; joined = j })
       view r u own q1 q2 f j = flag k.slot refl
         where
-          hap : Happened s e
-          hap = record { task = t; at_ = subst (λ (z : List ℕ). At s z t) q1 at_; start = q2; found = f }
-
           flag : (b : Bool) → k.slot ≡ b → DoneChange P s c e ⊎ ((c ≡ d) × (e.start ≡ t.body.start) × IsSuffix (e.answer ∷ e.past) t.body.found × Changes (stage_act P e.start e.past) c true)
           flag false g = inl (record { slot = k.slot; changes = k.changes; happened = record { task = t; at_ = subst (λ (z : List ℕ). At s z t) q1 at_; start = q2; found = f }; joined = λ g2. let x : true ≡ false = sym g2 ∙ g in cc })
           flag true g = split (in_cons (j g))

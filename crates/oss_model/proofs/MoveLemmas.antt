@@ -94,9 +94,6 @@ module _ {S : Type 0} (P : Program S) (main : Start S) (s n : State S) (p : List
       go (inl e) = same_own e
       go (inr e) = other e (is_creation (act_now P t.body))
 
-  cons_longer : (k : ℕ) (q : List ℕ) → q ≡ k ∷ q → ⊥
-  cons_longer k q e = let l : length q ≡ suc (length q) = ap (λ (z : List ℕ). length z) e in omega arith
-
   -- a task of s other than the one that stepped is as it was
   pub others_forth : (q : List ℕ) (u : Task S) → q ≢ p → At s q u → At n q u
   others_forth q u ne h = step.others q ne (λ o a e. fresh_here o a e) ∙ h

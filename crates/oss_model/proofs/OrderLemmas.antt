@@ -111,10 +111,6 @@ lie p q n m h =
     let k = rw (reverse_cons n p, reverse_cons m q) at h in
     rw (onto-reverse p, onto-reverse q) at (lie_onto (reverse p) (reverse q) [] n m k)
 
--- the converse: places in the tree are in the order of their keys
-same_front : (n m : ℕ) (xs ys zs : List ℕ) → IsBefore (xs ++ n ∷ ys) (xs ++ m ∷ zs) → IsBefore (xs ++ n ∷ ys) (xs ++ m ∷ zs)
-same_front n m xs ys zs h = h
-
 before_front : (xs ys zs : List ℕ) → IsBefore ys zs → IsBefore (xs ++ ys) (xs ++ zs)
 before_front [] ys zs h = h
 before_front (x ∷ xs) ys zs h = same (before_front xs ys zs h)
@@ -128,9 +124,6 @@ before_child n k p = rw (reverse_cons n (k ∷ p)) (longer_one (reverse (k ∷ p
     longer_one : (xs : List ℕ) → IsBefore xs (xs ++ n ∷ [])
     longer_one [] = shorter
     longer_one (x ∷ xs) = same (longer_one xs)
-
-before_after : (xs ys zs : List ℕ) → IsBefore xs ys → IsSuffix [] zs → IsBefore xs ys
-before_after xs ys zs h k = h
 
 -- what stands below a child is before what its creator does later
 pub before_up : (j m n : ℕ) (q : List ℕ) {p : List ℕ} → IsSuffix (j ∷ q) p → j < m → IsBefore (reverse (n ∷ p)) (reverse (m ∷ q))

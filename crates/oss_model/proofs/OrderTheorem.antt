@@ -23,9 +23,6 @@ use Rattle.oss_model.proofs.TreeLemmas.{at_same, AccessOf, has_access, access_up
 clash_folds : (op : Op) (t : Touch) (a : Bool) (u : Touch) (b : Bool) → Permits (Fold op) t a → Permits (Fold op) u b → Conflicts t a u b → ⊥
 clash_folds op t a u b Permits.fold Permits.fold h = h refl
 
-clash_reads : (t : Touch) (a : Bool) (u : Touch) (b : Bool) → Permits Read t a → Permits Read u b → Conflicts t a u b → ⊥
-clash_reads t a u b Permits.read Permits.read h = h
-
 clash_reads_at : (t : Touch) (a : Bool) (b : Bool) → Permits Read t a → Conflicts t a Reads b → ⊥
 clash_reads_at t a b Permits.read h = h
 

@@ -62,10 +62,6 @@ in_or_not c (x ∷ xs) = go (which c x) (in_or_not c xs)
     go (inr ne) (inr f) = inr (λ h. neither ne f (cases h))
 
 module _ {S : Type 0} (P : Program S) (main : Start S) (s : State S) (made : IsMade P main s) where
-  -- the tasks from a path on down are closed
-  ClosedBelow : List ℕ → Type 0
-  ClosedBelow x = (q : List ℕ) (u : Task S) → At s q u → IsSuffix x q → IsClosed P q u
-
   children_of : (c : ℕ) (u v : List ℕ) → IsChild s c u v → (k : ℕ) × (v ≡ k ∷ u) × HasAccess s c v
   children_of c u v (is_child {k = k} a b) = (k, refl, b)
 

@@ -103,9 +103,6 @@ turn {S = S} P t p v = go (act_now P t.body) refl
     go Over e = rest Over e (λ o' e'. cc) (is_ended P (after_answer v t).body) refl
 
 module _ {S : Type 0} (P : Program S) (main : Start S) (z y : Running S) (ms : MainStarts main) (st : Stands P main z) (r : RunsOn P z y) where
-  answer_found : ℕ
-  answer_found = found_by (act_now P r.task.body) z.state.cells
-
   seq_view : (q : List ℕ) (u : Task S) → At y.state q u → StepView P z.state z.active r.task (found_by (act_now P r.task.body) z.state.cells) q u
   seq_view q u h = step_view P main z.state y.state z.active r.task (found_by (act_now P r.task.body) z.state.cells) st.made r.at_ r.goes r.tasks q u h
 
