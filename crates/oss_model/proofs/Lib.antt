@@ -28,3 +28,4 @@ pub mod SortLemmas
 pub mod StageLemmas
 pub mod StayLemmas
 pub mod TreeLemmas
+pub mod WeightLemmas

@@ -12,3 +12,4 @@ pub mod Moves
 pub mod Order
 pub mod Rights
 pub mod Sequence
+pub mod Termination
