@@ -23,7 +23,7 @@ use Rattle.oss_model.proofs.MemoryLemmas.{n_made, comp_after, last_one}
 use Rattle.oss_model.proofs.KeyOrder.{itself}
 use Rattle.oss_model.proofs.SequenceLemmas.{stage_of}
 
-same_self : (p : List ℕ) → same_path p p ≡ true
+pub same_self : (p : List ℕ) → same_path p p ≡ true
 same_self [] = refl
 same_self (x ∷ p) = grind (arith, nat_tests, same_self p)
 

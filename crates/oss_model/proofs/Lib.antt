@@ -27,5 +27,6 @@ pub mod SequenceLemmas
 pub mod SortLemmas
 pub mod StageLemmas
 pub mod StayLemmas
+pub mod TerminationTheorem
 pub mod TreeLemmas
 pub mod WeightLemmas

@@ -74,12 +74,12 @@ suffix_split whole = inl refl
 suffix_split (longer h) = inr h
 
 -- which task runs after an act
-data Turn {S : Type 0} (P : Program S) (t : Task S) (p : List ℕ) (v : ℕ) : List ℕ → Type 0 where
+pub data Turn {S : Type 0} (P : Program S) (t : Task S) (p : List ℕ) (v : ℕ) : List ℕ → Type 0 where
   down : (o : Order S) → act_now P t.body ≡ Created o false → Turn P t p v (created_now P t.body ∷ p)
   up : ((o : Order S) → act_now P t.body ≢ Created o false) → is_ended P (after_answer v t).body ≡ true → Turn P t p v (path_above p)
   stay : ((o : Order S) → act_now P t.body ≢ Created o false) → is_ended P (after_answer v t).body ≡ false → Turn P t p v p
 
-turn : {S : Type 0} (P : Program S) (t : Task S) (p : List ℕ) (v : ℕ) → Turn P t p v (active_after P t p v (act_now P t.body))
+pub turn : {S : Type 0} (P : Program S) (t : Task S) (p : List ℕ) (v : ℕ) → Turn P t p v (active_after P t p v (act_now P t.body))
 turn {S = S} P t p v = go (act_now P t.body) refl
   where
     rest : (a : Act S) → act_now P t.body ≡ a → ((o : Order S) → a ≢ Created o false) → (b : Bool) → is_ended P (after_answer v t).body ≡ b → Turn P t p v (if b then path_above p else p)
@@ -267,7 +267,7 @@ opening_at {S = S} main cells p t e h = go (same_path main.path p) refl
     go true k = (sym (same_path_is main.path p k) ∙ e, cc (rw k at h))
     go false k = absurd (cc (rw k at h))
 
-opening_main : {S : Type 0} (main : Start S) (cells : List ℕ) → main.path ≡ [] → At (record { cells = cells; tasks = record { body = record { start = main; found = [] }; given = [] } ∷ [] }) [] (record { body = record { start = main; found = [] }; given = [] })
+pub opening_main : {S : Type 0} (main : Start S) (cells : List ℕ) → main.path ≡ [] → At (record { cells = cells; tasks = record { body = record { start = main; found = [] }; given = [] } ∷ [] }) [] (record { body = record { start = main; found = [] }; given = [] })
 unfolding find
 opening_main main cells e = rw e refl
 

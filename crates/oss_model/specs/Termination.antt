@@ -1,7 +1,7 @@
 -- When the sequential run comes to its end: each task has fuel, and between two ticks a body asks for little.
 use Rattle.std.specs.Prelude.{ℕ, ◌<◌, ◌≤◌, List, ◌∷◌}
 use Rattle.oss_model.specs.declared.answer.Answer.{Answer}
-use Rattle.oss_model.specs.Bodies.{Ask, Asked, Program, Start}
+use Rattle.oss_model.specs.Bodies.{Ask, Program, Start}
 use Rattle.oss_model.specs.Bodies.Ask.{Tick, End, Fails}
 use Rattle.oss_model.specs.Sequence.{Running, Sequential, IsAtEnd}
 use Rattle.oss_model.specs.Agreement.{Setting}

@@ -3,6 +3,7 @@
 
 ghost use Rattle.oss_model.specs.Claims.{EveryMainIsASetting, OpeningAgrees, StepAgrees, LetAgrees, JoinAgrees, EveryStateAgrees, OpenTasksMove, RunKeepsOutput, ActsUpToFault, ActsUpToEnd, EarlierConflictsAreDone, EveryStopIsTheEnd, EveryAnswerIsTheResult, EveryResultIsTheAnswer, AnswersAreOne, DoneStays, WriteStays, ReadStays, JoinStays, ReadyStays, CompleteStays, WaitStays, TaskGoesOn, StepsExclude, JoinExcludes};
 ghost use Rattle.oss_model.specs.Matching.{MatchingForestsAgree, MatchingStateAgrees};
+ghost use Rattle.oss_model.specs.Termination.{RunEnds, RunHasResult};
 
 /// Main may start over any memory of 64-bit numbers.
 pub fn every_main_is_a_setting<S>()
@@ -42,6 +43,16 @@ pub fn open_tasks_move<S>()
 /// The sequential run prints in point order.
 pub fn run_keeps_output<S>()
     ensures { RunKeepsOutput S }
+{}
+
+/// The sequential run of a lively program comes to its end.
+pub fn run_ends<S>()
+    ensures { RunEnds S }
+{}
+
+/// So it has an answer.
+pub fn run_has_result<S>()
+    ensures { RunHasResult S }
 {}
 
 /// The acts of a state that are not past the fault of the sequential run are acts of that run.
