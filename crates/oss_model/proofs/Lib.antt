@@ -23,6 +23,7 @@ pub mod Places
 pub mod ProgressTheorem
 pub mod RecallLemmas
 pub mod ResultTheorem
+pub mod RunLemmas
 pub mod SequenceLemmas
 pub mod SortLemmas
 pub mod StageLemmas
