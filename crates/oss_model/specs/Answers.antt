@@ -1,4 +1,5 @@
 -- The answer of the sequential run, and that of a state in which no move is left.
+-- Which fault is the answer, and which prints count before it, are rules of this language.
 -- Read against: a task with out(x) that prints 1 and 2, a task with inout(y) that prints 3 and divides by y,
 -- which is 0, and a print of 4 in main behind them. The answer is the division's fault with the output 1, 2, 3:
 -- main's print may have been made, but its key is past the fault's.

@@ -5,7 +5,7 @@
 -- the children. The runtime of Álvarez, Sala, Maroñas, Roca and Beltran (PPoPP 2021) moves the same facts by
 -- messages between neighbours; here they are said outright.
 -- Read against: weakinout(a) over two children with out(a[0;2]) and out(a[2;2]), and a later task in(a[0]),
--- which waits for the first child alone.
+-- which waits for the end of the weak task's body and for the first child, and not for the second.
 use Rattle.std.specs.Prelude.{◌≡◌, ◌⊎◌}
 use Rattle.oss_syntax.specs.declared.access.Mode.{Mode}
 use Rattle.oss_syntax.specs.declared.access.Op.{Op}

@@ -1,6 +1,7 @@
 -- Done acts in point order, and the memory that they give.
 -- Whatever the order of the moves was, a cell has the value that its done changes give when they are applied in
--- point order: the order of the sequential run.
+-- point order: the order of the sequential run. A store replaces a value (C11 6.5.16p3), and a fold combines
+-- one with it.
 use Rattle.std.specs.Prelude.{◌≡◌, ℕ, ◌<◌, Bool, true, false, List, [], ◌∷◌, length, ◌⊎◌, slice_index}
 use Rattle.oss_syntax.specs.declared.access.Op.{Op}
 use Rattle.oss_model.specs.Order.{IsIn, IsSuffix, IsEarlierKey}

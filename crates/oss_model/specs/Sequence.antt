@@ -7,7 +7,7 @@ use Rattle.std.specs.Prelude.{◌≡◌, ℕ, false, if◌then◌else◌, List, 
 use Rattle.oss_model.specs.Bodies.{Program, Act, Start, IsHalt}
 use Rattle.oss_model.specs.Bodies.Act.{Store, Folded, Created, Printed}
 use Rattle.oss_model.specs.Machine.{Task, State, At}
-use Rattle.oss_model.specs.Moves.{combine, act_now, created_now, is_ended, after_answer, found_by, TaskStep}
+use Rattle.oss_model.specs.Moves.{combine, act_now, created_now, is_ended, after_answer, opening, found_by, TaskStep}
 
 -- A stage of the run: the tasks as they stand, the path of the one that runs, and the output.
 pub record Running (S : Type 0) : Type 0 where
@@ -51,7 +51,7 @@ pub record RunsOn {S : Type 0} (P : Program S) (z y : Running S) : Type 0 where
 
 -- The run comes to this stage.
 pub data Sequential {S : Type 0} (P : Program S) (main : Start S) (cells : List ℕ) : Running S → Type 0 where
-  opens : Sequential P main cells (record { state = record { cells = cells; tasks = record { body = record { start = main; found = [] }; given = [] } ∷ [] }; active = []; printed = [] })
+  opens : Sequential P main cells (record { state = opening main cells; active = []; printed = [] })
   runs_on : {z y : Running S} → Sequential P main cells z → RunsOn P z y → Sequential P main cells y
 
 -- The run is at its end: main has ended, or the task that runs stands before a fault.
