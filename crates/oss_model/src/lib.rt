@@ -3,6 +3,7 @@
 
 mod answer;
 mod format;
+pub mod laws;
 mod refusal;
 
 pub use answer::{Answer, FaultKind};

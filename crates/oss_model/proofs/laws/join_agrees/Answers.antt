@@ -1,0 +1,6 @@
+use Rattle.oss_model.proofs.AgreementTheorem as lemmas
+use Rattle.oss_model.specs.contracts.laws.join_agrees.{S-type}
+use Rattle.oss_model.proofs.laws.join_agrees.Goals as goal
+
+pub returns : goal.returns
+returns g c = lemmas.join_agrees_law (S-type g.row.S)
