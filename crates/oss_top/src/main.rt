@@ -4,6 +4,8 @@
 mod form;
 mod nest6;
 mod reply;
+#[cfg(test)]
+mod tests;
 mod texts;
 mod words;
 

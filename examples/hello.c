@@ -1,0 +1,2 @@
+long a, b;
+int main() { a = 41; b = a; printf("hello\n"); }

@@ -1,0 +1,2 @@
+long a;
+int main() { a = b; }
