@@ -1,6 +1,7 @@
 pub mod Agreement
 pub mod Answers
 pub mod Bodies
+pub mod Cells
 pub mod Claims
 pub mod Context
 pub mod Forest

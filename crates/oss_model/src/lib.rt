@@ -2,10 +2,12 @@
 #![tactic(auto)]
 
 mod answer;
+mod cell;
 mod format;
 pub mod laws;
 mod refusal;
 
 pub use answer::{Answer, FaultKind};
+pub use cell::range_of;
 pub use format::{Piece, arguments, pieces, write_pieces};
 pub use refusal::{Refusal, Refused, RefusedKind};

@@ -1,13 +1,15 @@
-ghost use Rattle.std.specs.Prelude.{◌≡◌, ◌++◌, map, IfOk, OnOk};
-ghost use Rattle.oss_model.specs.Scalars.{after, answer_from, answer_of, cells_with, main_body, named_by, target_place, value_of};
-ghost use Rattle.oss_model.specs.declared.answer.Answer.TheVariants as Answer;
-ghost use Rattle.oss_model.specs.Texts.{printed};
+ghost use Rattle.std.specs.Prelude.{◌≡◌, ◌≤◌, length, IfOk};
+ghost use Rattle.oss_model.specs.Scalars.{answer_of, main_body, mark_accesses, names_of, run_of, runs_of, task_run, tasks_of};
+ghost use Rattle.oss_serial.specs.Endings.{Ends};
 
-use crate::variables::{Variables, cells_at_start};
-use oss_model::{Answer, FaultKind, pieces, write_pieces};
-use oss_syntax::{Bytes, Cells, Expr, ExprKind, Item, Program, Stmt, StmtKind};
+use crate::accesses::declared;
+use crate::state::State;
+use crate::stop::Stop;
+use crate::variables::Variables;
+use oss_judge::JudgeRefused;
+use oss_model::Answer;
+use oss_syntax::{Item, Program, Stmt, StmtKind, TaskMark};
 use std::alloc::{AllocError, Global};
-use std::marker::Model;
 
 /// The answer of a run, and how many tasks it had: main, and each that was created and not included.
 #[derive(Debug, Drop)]
@@ -16,21 +18,30 @@ pub struct Ran {
     pub tasks: u64,
 }
 
-/// Runs a program of scalars one statement after the other, where a task may do `fuel` ticks. Want of memory is the one
-/// error.
+/// Runs a program one statement after the other, where a task may do `fuel` ticks. Condition: it has at most 1,048,576
+/// globals. Want of memory is the one error.
 pub fn serial_tree(alloc: Global, program: &Program, fuel: u32) -> Result<Ran, AllocError>
+    requires { length (names_of program.now.items) ≤ 1048576 }
     ensures answer { IfOk result (λ ran. ran.answer ≡ answer_of program.now fuel) }
-    ensures tasks { IfOk result (λ ran. ran.tasks ≡ 1) }
+    ensures tasks { IfOk result (λ ran. ran.tasks ≡ tasks_of program.now fuel) }
 {
     let items = program.items.as_slice();
     let variables = Variables::of(alloc, items)?;
-    let cells = cells_at_start(alloc, items)?;
-    let state = State {
-        cells,
-        output: Vec::new(alloc),
-    };
-    let answer = run(alloc, &variables, main_statements(items), fuel, state)?;
-    Ok(Ran { answer, tasks: 1 })
+    let mut state = State::opening(alloc, items, fuel)?;
+    match run_all(alloc, &variables, main_statements(items), &mut state) {
+        Ok(()) => {
+            let (answer, tasks) = state.into_answer();
+            Ok(Ran { answer, tasks })
+        }
+        Err(Stop::Fault(kind, line)) => {
+            let (output, tasks) = state.into_output();
+            Ok(Ran {
+                answer: Answer::Fault(kind, line, output),
+                tasks,
+            })
+        }
+        Err(Stop::Memory(full)) => Err(full),
+    }
 }
 
 /// The statements of the function `main`.
@@ -50,118 +61,109 @@ pub fn main_statements(items: &[Item]) -> &[Stmt]
     &[]
 }
 
-/// Runs statements from a state on, with so many ticks left.
-fn run(
+/// Runs statements in order.
+#[cycle(statements)]
+fn run_all(
     alloc: Global,
     variables: &Variables<'_>,
     statements: &[Stmt],
-    fuel: u32,
-    mut state: State,
-) -> Result<Answer, AllocError>
-    ensures { IfOk result (λ answer. answer ≡ answer_from variables.now.names variables.now.kinds statements.now fuel state) }
+    state: &mut State,
+) -> Result<(), Stop>
+    ensures { Ends (runs_of statements.now variables.now.names variables.now.kinds state.old) result state.new }
 {
-    let mut left = fuel;
     for statement in statements {
-        if left == 0 {
-            return Ok(Answer::Fault(FaultKind::OutOfFuel, statement.line, state.into_output()));
-        }
-        left -= 1;
-        state.execute(alloc, variables, &statement.what)?;
-    }
-    Ok(state.into_answer())
-}
-
-/// The cells and the output so far.
-#[derive(Drop)]
-struct State {
-    cells: Vec<u64>,
-    output: Vec<u8>,
-}
-
-impl Model for State {
-    ghost use Rattle.oss_model.specs.Scalars.{State as Meaning};
-
-    ghost Value = { Meaning };
-
-    ghost view = { λ s. record { cells = s.cells.items; output = s.output.items } };
-}
-
-impl State {
-    /// Runs one statement. After want of memory the run is given up.
-    fn execute(
-        &mut self,
-        alloc: Global,
-        variables: &Variables<'_>,
-        statement: &StmtKind,
-    ) -> Result<(), AllocError>
-        ensures { OnOk result (self.new ≡ after variables.now.names variables.now.kinds statement.now self.old) }
-    {
-        match statement {
-            StmtKind::Assign(target, None, value) => self.assign(variables, &target.what, value),
-            StmtKind::Print(format, arguments) => {
-                self.print(alloc, variables, format.as_slice(), arguments.as_slice())?;
-            }
-            StmtKind::Assign(_, Some(_), _) => {}
-            StmtKind::Block(_) => {}
-            StmtKind::Empty => {}
-            StmtKind::Declare(_) => {}
-            StmtKind::Call(_, _) => {}
-            StmtKind::If(_, _, _) => {}
-            StmtKind::While(_, _) => {}
-            StmtKind::For(_, _, _, _) => {}
-            StmtKind::Return(_) => {}
-            StmtKind::Break => {}
-            StmtKind::Continue => {}
-            StmtKind::Task(_, _) => {}
-            StmtKind::TaskWait(_) => {}
-            StmtKind::Release(_) => {}
-        }
-        Ok(())
-    }
-
-    fn assign(&mut self, variables: &Variables<'_>, target: &ExprKind, value: &Expr)
-        ensures { self.new ≡ record self.old { cells = cells_with self.old.cells variables.now.kinds (target_place variables.now.names (named_by target.now)) (value_of value.now variables.now.names self.old.cells) } }
-    {
-        let value = variables.value(value, self.cells.as_slice());
-        match variables.target(target) {
-            Some(place) => variables.store(place, value, self.cells.as_mut_slice()),
-            None => {}
+        match run_one(alloc, variables, statement, state) {
+            Ok(()) => {}
+            Err(stop) => return Err(stop),
         }
     }
+    Ok(())
+}
 
-    /// Prints values in the places of a string. After want of memory the run is given up.
-    fn print(
-        &mut self,
-        alloc: Global,
-        variables: &Variables<'_>,
-        format: &[u8],
-        arguments: &[Expr],
-    ) -> Result<(), AllocError>
-        ensures { OnOk result (self.new ≡ record self.old { output = self.old.output ++ printed format.now (map (λ e. value_of e variables.now.names self.old.cells) arguments.now) }) }
-    {
-        let values = variables.values(alloc, arguments, self.cells.as_slice())?;
-        match pieces(alloc, format)? {
-            Some(pieces) => write_pieces(
+/// Runs one statement.
+#[cycle(statements)]
+fn run_one(
+    alloc: Global,
+    variables: &Variables<'_>,
+    statement: &Stmt,
+    state: &mut State,
+) -> Result<(), Stop>
+    ensures { Ends (run_of statement.now variables.now.names variables.now.kinds state.old) result state.new }
+{
+    let line = statement.line;
+    match &statement.what {
+        StmtKind::Block(all) => run_all(alloc, variables, all.as_slice(), state),
+        StmtKind::Assign(target, None, value) => match state.tick(line) {
+            Ok(()) => state.assign(variables, line, target, value),
+            Err(stop) => Err(stop),
+        },
+        StmtKind::Print(format, arguments) => match state.tick(line) {
+            Ok(()) => state.print(
                 alloc,
-                pieces.as_slice(),
-                values.as_slice(),
-                &mut self.output,
+                variables,
+                line,
+                format.as_slice(),
+                arguments.as_slice(),
             ),
-            None => Ok(()),
-        }
+            Err(stop) => Err(stop),
+        },
+        StmtKind::Task(mark, body) => match state.tick(line) {
+            Ok(()) => run_task(alloc, variables, line, mark, body.get(), state),
+            Err(stop) => Err(stop),
+        },
+        StmtKind::TaskWait(None) => match state.tick(line) {
+            Ok(()) => {
+                state.wait();
+                Ok(())
+            }
+            Err(stop) => Err(stop),
+        },
+        StmtKind::Assign(_, Some(_), _) => state.tick(line),
+        StmtKind::TaskWait(Some(_)) => state.tick(line),
+        StmtKind::Empty => state.tick(line),
+        StmtKind::Declare(_) => state.tick(line),
+        StmtKind::Call(_, _) => state.tick(line),
+        StmtKind::If(_, _, _) => state.tick(line),
+        StmtKind::While(_, _) => state.tick(line),
+        StmtKind::For(_, _, _, _) => state.tick(line),
+        StmtKind::Return(_) => state.tick(line),
+        StmtKind::Break => state.tick(line),
+        StmtKind::Continue => state.tick(line),
+        StmtKind::Release(_) => state.tick(line),
     }
+}
 
-    fn into_output(self) -> Bytes
-        ensures { result ≡ self.output }
-    {
-        let State { cells: _, output } = self;
-        Bytes::from_vec(output)
+/// Creates a task and runs it to its end, and then goes on with its creator.
+#[cycle(statements)]
+fn run_task(
+    alloc: Global,
+    variables: &Variables<'_>,
+    line: u32,
+    mark: &TaskMark,
+    body: &Stmt,
+    state: &mut State,
+) -> Result<(), Stop>
+    ensures { Ends (task_run (mark_accesses variables.now.names mark.now.clauses) line (λ child. run_of body.now variables.now.names variables.now.kinds child) state.old) result state.new }
+{
+    match state.may_create() {
+        Ok(()) => {}
+        Err(kind) => return Err(Stop::Fault(kind, line)),
     }
-
-    fn into_answer(self) -> Answer
-        ensures { result ≡ Answer.Done self.output self.cells }
-    {
-        let State { cells, output } = self;
-        Answer::Done(Bytes::from_vec(output), Cells::from_vec(cells))
+    let accesses = match declared(alloc, variables, mark.clauses.as_slice()) {
+        Ok(accesses) => accesses,
+        Err(full) => return Err(Stop::Memory(full)),
+    };
+    let creator = match state.enter(&accesses) {
+        Ok(creator) => creator,
+        Err(JudgeRefused::Fault(kind)) => return Err(Stop::Fault(kind, line)),
+        Err(JudgeRefused::Memory(full)) => return Err(Stop::Memory(full)),
+    };
+    match run_one(alloc, variables, body, state) {
+        Ok(()) => {}
+        Err(stop) => return Err(stop),
+    }
+    match state.leave(creator, &accesses) {
+        Ok(()) => Ok(()),
+        Err(full) => Err(Stop::Memory(full)),
     }
 }

@@ -1,8 +1,11 @@
-ghost use Rattle.std.specs.Prelude.{◌≡◌, ◌∷◌, ◌++◌, ◌<◌, ◌^◌, ℕ, List, [], length, map, IfOk, OnOk};
-ghost use Rattle.oss_model.specs.Scalars.{names_of, kinds_of, first_cells, place_of, global_value, value_of, cells_with, target_place, named_by, summed};
+ghost use Rattle.std.specs.Prelude.{◌≡◌, ◌∷◌, ◌++◌, ◌<◌, ◌≤◌, ◌^◌, ℕ, List, [], length, IfOk, OnOk};
+ghost use Rattle.oss_model.specs.Scalars.{names_of, kinds_of, first_cells, place_of, loaded, value_of, values_of, cells_with, target_place, named_by, summed};
 ghost use Rattle.oss_serial.specs.Places.{Tells};
+ghost use Rattle.oss_serial.specs.Endings.{AreValues};
 ghost use Rattle.oss_model.specs.Values.{kept, widened};
 
+use oss_judge::{Context, JudgeRefused};
+use oss_model::FaultKind;
 use oss_syntax::{BinOp, Expr, ExprKind, Item, NumKind};
 use std::alloc::{AllocError, Global};
 use std::collections::HashMap;
@@ -12,7 +15,7 @@ use std::marker::Model;
 #[derive(Drop)]
 pub struct Variables<'p> {
     items: &'p [Item],
-    places: HashMap<&'p [u8], usize>,
+    places: HashMap<&'p [u8], u32>,
     kinds: Vec<NumKind>,
 }
 
@@ -30,6 +33,7 @@ impl<'p> Model for Variables<'p> {
 impl<'p> Variables<'p> {
     /// The globals of these items.
     pub fn of(alloc: Global, items: &'p [Item]) -> Result<Variables<'p>, AllocError>
+        requires { length (kinds_of items.now) ≤ 1048576 }
         ensures names { IfOk result (λ v. v.names ≡ names_of items.now) }
         ensures kinds { IfOk result (λ v. v.kinds ≡ kinds_of items.now) }
     {
@@ -38,7 +42,7 @@ impl<'p> Variables<'p> {
         for item in items {
             match item {
                 Item::Global(global) => {
-                    note(&mut places, global.name.as_slice(), kinds.len())?;
+                    note(&mut places, global.name.as_slice(), kinds.len() as u32)?;
                     kinds.push(global.kind)?;
                 }
                 Item::Function(_) => {}
@@ -52,50 +56,62 @@ impl<'p> Variables<'p> {
     }
 
     /// The cell of a global.
-    pub fn place(&self, name: &[u8]) -> Option<usize>
+    pub fn place(&self, name: &[u8]) -> Option<u32>
         ensures { result ≡ place_of self.now.names name.now }
     {
         self.places.get(name).copied()
     }
 
-    /// The value of an expression.
-    pub fn value(&self, expr: &Expr, cells: &[u64]) -> u64
-        ensures { result ≡ value_of expr.now self.now.names cells.now }
+    /// The value of an expression, or the fault of its first load that is not allowed.
+    pub fn value(&self, expr: &Expr, cells: &[u64], context: &Context) -> Result<u64, FaultKind>
+        ensures { result ≡ value_of expr.now self.now.names cells.now context.now }
     {
         match &expr.what {
-            ExprKind::Number(number, _) => *number,
-            ExprKind::Name(name) => self.global(name.as_slice(), cells),
+            ExprKind::Number(number, _) => Ok(*number),
+            ExprKind::Name(name) => load(self.place(name.as_slice()), cells, context),
             ExprKind::Binary(op, left, right) => {
-                summed_by(
-                    *op,
-                    self.value(left.get(), cells),
-                    self.value(right.get(), cells),
-                )
+                let left = match self.value(left.get(), cells, context) {
+                    Ok(value) => value,
+                    Err(kind) => return Err(kind),
+                };
+                let right = match self.value(right.get(), cells, context) {
+                    Ok(value) => value,
+                    Err(kind) => return Err(kind),
+                };
+                Ok(summed_by(*op, left, right))
             }
-            ExprKind::Index(_, _) => 0,
-            ExprKind::Unary(_, _) => 0,
-            ExprKind::Call(_, _) => 0,
+            ExprKind::Index(_, _) => Ok(0),
+            ExprKind::Unary(_, _) => Ok(0),
+            ExprKind::Call(_, _) => Ok(0),
         }
     }
 
-    /// The values of expressions, in order.
+    /// The values of expressions, from left to right, or the first fault.
     pub fn values(
         &self,
         alloc: Global,
         exprs: &[Expr],
         cells: &[u64],
-    ) -> Result<Vec<u64>, AllocError>
-        ensures { IfOk result (λ values. values.items ≡ map (λ e. value_of e self.now.names cells.now) exprs.now) }
+        context: &Context,
+    ) -> Result<Vec<u64>, JudgeRefused>
+        ensures { AreValues (values_of exprs.now self.now.names cells.now context.now) result }
     {
         let mut values = Vec::new(alloc);
         for expr in exprs {
-            values.push(self.value(expr, cells))?;
+            let value = match self.value(expr, cells, context) {
+                Ok(value) => value,
+                Err(kind) => return Err(JudgeRefused::Fault(kind)),
+            };
+            match values.push(value) {
+                Ok(()) => {}
+                Err(full) => return Err(JudgeRefused::Memory(AllocError::from(full))),
+            }
         }
         Ok(values)
     }
 
     /// The cell that a target names.
-    pub fn target(&self, target: &ExprKind) -> Option<usize>
+    pub fn target(&self, target: &ExprKind) -> Option<u32>
         ensures { result ≡ target_place self.now.names (named_by target.now) }
     {
         match target {
@@ -108,20 +124,11 @@ impl<'p> Variables<'p> {
         }
     }
 
-    /// The value of a global.
-    fn global(&self, name: &[u8], cells: &[u64]) -> u64
-        ensures { result ≡ global_value self.now.names cells.now name.now }
+    /// Stores a value in a cell, which keeps what its type can.
+    pub fn store(&self, cell: u32, value: u64, cells: &mut [u64])
+        ensures { cells.new ≡ cells_with cells.old self.now.kinds cell value }
     {
-        match self.place(name) {
-            Some(place) => cells.get(place).copied().unwrap_or(0),
-            None => 0,
-        }
-    }
-
-    /// Stores a value in the cell of a global, which keeps what its type can.
-    pub fn store(&self, place: usize, value: u64, cells: &mut [u64])
-        ensures { cells.new ≡ cells_with cells.old self.now.kinds (Some place) value }
-    {
+        let place = cell as usize;
         let kind = self.kinds.get(place).copied().unwrap_or(NumKind::Long);
         if place < cells.len() {
             cells[place] = kept_by(kind, value);
@@ -129,11 +136,24 @@ impl<'p> Variables<'p> {
     }
 }
 
+/// The value of a cell, where the judge allows its load.
+fn load(place: Option<u32>, cells: &[u64], context: &Context) -> Result<u64, FaultKind>
+    ensures { result ≡ loaded cells.now context.now place }
+{
+    match place {
+        None => Ok(0),
+        Some(cell) => match context.may_read(cell) {
+            Ok(()) => Ok(cells.get(cell as usize).copied().unwrap_or(0)),
+            Err(kind) => Err(kind),
+        },
+    }
+}
+
 /// Notes the place of a name, which is the number of the names before it. The first place of a name stays.
 fn note<'p>(
-    places: &mut HashMap<&'p [u8], usize>,
+    places: &mut HashMap<&'p [u8], u32>,
     name: &'p [u8],
-    place: usize,
+    place: u32,
 ) -> Result<(), AllocError>
     ensures { OnOk result ((names : List (List ℕ)) → Tells places.old names → length names ≡ place → Tells places.new (names ++ name.now ∷ [])) }
 {

@@ -1,7 +1,8 @@
-use Rattle.std.proofs.Common.{◌≡◌}
-use Rattle.std.specs.Prelude.{map, take}
-use Rattle.oss_model.specs.Scalars.{value_of}
+use Rattle.std.proofs.Common.{◌≡◌, ◌++◌, drop, Ok}
+use Rattle.oss_model.specs.Scalars.{values_of, and_then}
 use Rattle.oss_serial.proofs.variables.Variables.values.Given as goal
 
+-- the values so far stand before those of what is left
 abbrev pub invariant-loop-expr : goal.invariant-loop-expr
-invariant-loop-expr l = l.values.items ≡ map (λ e. value_of e l.self.names l.cells) (take l.expr-index l.exprs)
+invariant-loop-expr l =
+    and_then (values_of (drop l.expr-index l.exprs) l.self.names l.cells l.context) (λ vs. Ok (l.values.items ++ vs)) ≡ values_of l.exprs l.self.names l.cells l.context

@@ -1,0 +1,37 @@
+-- How a call of the run ends, as its meaning says: the run goes on in the state that the call leaves, or a fault on a line stops it
+-- there. Want of memory says nothing.
+use Rattle.std.specs.Prelude.{◌≡◌, ◌||◌, false, ℕ, List, Option, Some, None, Result, Ok, Err}
+use Rattle.std.specs.Global.{Vec}
+use Rattle.std.specs.declared.alloc.Global.{Global}
+use Rattle.oss_judge.specs.declared.refused.JudgeRefused.{JudgeRefused}
+use Rattle.oss_judge.specs.declared.refused.JudgeRefused.TheVariants as judge
+use Rattle.oss_model.specs.declared.answer.FaultKind.{FaultKind}
+use Rattle.oss_syntax.specs.declared.access.Access.{Access}
+use Rattle.oss_model.specs.Context.{Context, clause_fault}
+use Rattle.oss_model.specs.Scalars.{Ending, Goes, Stops, State, entered}
+use Rattle.oss_serial.specs.declared.stop.Stop.{Stop}
+use Rattle.oss_serial.specs.declared.stop.Stop.TheVariants as stop
+
+abbrev pub Ends : {U : Type 0} → Ending → Result U Stop → State → Type 0
+Ends ending (Ok u) now = ending ≡ Goes now
+Ends ending (Err (stop.Fault kind line)) now = ending ≡ Stops kind line now
+Ends ending (Err (stop.Memory e)) now = Unit {0}
+
+-- the values of expressions, or their first fault
+abbrev pub AreValues : Result (List ℕ) FaultKind → Result (Vec ℕ Global) JudgeRefused → Type 0
+AreValues values (Ok found) = values ≡ Ok found.items
+AreValues values (Err (judge.Fault kind)) = values ≡ Err kind
+AreValues values (Err (judge.Memory e)) = Unit {0}
+
+-- The same of the beginning of something that goes on: whatever comes behind it.
+abbrev pub GoesOn : {U : Type 0} → ((State → Ending) → Ending) → Result U Stop → State → Type 0
+GoesOn whole (Ok u) now = (behind : State → Ending) → whole behind ≡ behind now
+GoesOn whole (Err (stop.Fault kind line)) now = (behind : State → Ending) → whole behind ≡ Stops kind line now
+GoesOn whole (Err (stop.Memory e)) now = Unit {0}
+
+-- How a task is entered: its creator's context is answered, the creation has no fault, and the task stands before its body; or a
+-- fault of its clauses leaves all as it was.
+abbrev pub EntersTask : List Access → State → Result Context JudgeRefused → State → Type 0
+EntersTask accesses old (Ok creator) new = (creator ≡ old.context) × (clause_fault old.context accesses (old.context.final || false) ≡ None) × (new ≡ entered accesses old)
+EntersTask accesses old (Err (judge.Fault kind)) new = (clause_fault old.context accesses (old.context.final || false) ≡ Some kind) × (new ≡ old)
+EntersTask accesses old (Err (judge.Memory e)) new = Unit {0}

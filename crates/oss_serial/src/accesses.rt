@@ -1,0 +1,82 @@
+ghost use Rattle.std.specs.Prelude.{◌≡◌, ◌++◌, ◌∷◌, [], IfOk, OnOk};
+ghost use Rattle.oss_model.specs.Scalars.{cell_access, clause_accesses, mark_accesses, place_of, section_accesses};
+
+use crate::variables::Variables;
+use oss_model::range_of;
+use oss_syntax::{Access, Clause, List, Mode, Section};
+use std::alloc::{AllocError, Global};
+
+/// The accesses that the clauses of a task declare, in text order.
+pub fn declared(
+    alloc: Global,
+    variables: &Variables<'_>,
+    clauses: &[Clause],
+) -> Result<List<Access>, AllocError>
+    ensures { IfOk result (λ accesses. accesses ≡ mark_accesses variables.now.names clauses.now) }
+{
+    let mut accesses = List::new(alloc);
+    for clause in clauses {
+        add_clause(variables, clause, &mut accesses)?;
+    }
+    Ok(accesses)
+}
+
+/// Adds the accesses of a clause.
+fn add_clause(
+    variables: &Variables<'_>,
+    clause: &Clause,
+    accesses: &mut List<Access>,
+) -> Result<(), AllocError>
+    ensures { OnOk result (accesses.new ≡ accesses.old ++ clause_accesses variables.now.names clause.now) }
+{
+    match clause {
+        Clause::Depend(mode, strong, sections) => {
+            add_sections(variables, *mode, *strong, sections.as_slice(), accesses)
+        }
+        Clause::If(_) => Ok(()),
+        Clause::Final(_) => Ok(()),
+        Clause::Wait => Ok(()),
+        Clause::Label(_) => Ok(()),
+        Clause::Priority(_) => Ok(()),
+    }
+}
+
+/// Adds the accesses of the sections of a clause.
+fn add_sections(
+    variables: &Variables<'_>,
+    mode: Mode,
+    strong: bool,
+    sections: &[Section],
+    accesses: &mut List<Access>,
+) -> Result<(), AllocError>
+    ensures { OnOk result (accesses.new ≡ accesses.old ++ section_accesses variables.now.names mode strong sections.now) }
+{
+    for section in sections {
+        add_cell(
+            mode,
+            strong,
+            variables.place(section.base.as_slice()),
+            accesses,
+        )?;
+    }
+    Ok(())
+}
+
+/// Adds the access to a cell, where there is one.
+fn add_cell(
+    mode: Mode,
+    strong: bool,
+    place: Option<u32>,
+    accesses: &mut List<Access>,
+) -> Result<(), AllocError>
+    ensures { OnOk result (accesses.new ≡ accesses.old ++ cell_access mode strong place) }
+{
+    match place {
+        Some(cell) => accesses.push(Access {
+            range: range_of(cell),
+            mode,
+            strong,
+        }),
+        None => Ok(()),
+    }
+}
