@@ -4,7 +4,7 @@
 -- definition is total: what no program of this form has means nothing but its tick.
 -- Read against: with `long a, b;` the statements `a = 41; b = a; printf("hello\n");` leave 41 in both cells and write hello; with
 -- a task `out(x)` that sets x, a task `in(x) out(y)` that sets y to x + 1 and no wait, printing y is the fault Lent.
-use Rattle.std.specs.Prelude.{ℕ, length, ◌||◌, ◌+◌, ◌==◌, Bool, if◌then◌else◌, List, [], ◌∷◌, ◌++◌, ◌-◌, ◌^◌, true, false, min, slice_index, slice_index_or, slice_set, position, Option, Some, None, Result, Ok, Err, codes}
+use Rattle.std.specs.Prelude.{ℕ, length, map, ◌||◌, ◌+◌, ◌==◌, Bool, if◌then◌else◌, List, [], ◌∷◌, ◌++◌, ◌-◌, ◌^◌, true, false, min, slice_index, slice_index_or, slice_set, position, Option, Some, None, Result, Ok, Err, codes}
 use Rattle.std.specs.Str.{bytes_eq}
 use Rattle.oss_syntax.specs.declared.tree.expr.BinOp.{BinOp}
 use Rattle.oss_syntax.specs.declared.tree.expr.BinOp.TheVariants as op
@@ -206,20 +206,24 @@ in_order (r ∷ rest) names kinds st = then_go (r names kinds st) (λ next. in_o
 abbrev pub LineRun : Type 0
 LineRun = ℕ → Run
 
+-- what a statement does behind its tick
+abbrev pub act_step : StmtKind-F LineRun Run → LineRun
+act_step (open_stmt.Assign target None e) line names kinds st = assigned names kinds line target e st
+act_step (open_stmt.Print format es) line names kinds st = printed_values names line format es st
+act_step (open_stmt.Task mark body) line names kinds st = task_run (mark_accesses names mark.clauses) line (λ child. body names kinds child) st
+act_step (open_stmt.TaskWait None) line names kinds st = Goes (record st { context = waited st.context })
+act_step _ line names kinds st = Goes st
+
+-- a block is its statements in order, and every other statement does a tick first
 abbrev pub run_step : StmtKind-F LineRun Run → LineRun
 run_step (open_stmt.Block all) line names kinds st = in_order all names kinds st
-run_step (open_stmt.Assign target None e) line names kinds st = ticked line st (λ next. assigned names kinds line target e next)
-run_step (open_stmt.Print format es) line names kinds st = ticked line st (λ next. printed_values names line format es next)
-run_step (open_stmt.Task mark body) line names kinds st = ticked line st (λ next. task_run (mark_accesses names mark.clauses) line (λ child. body names kinds child) next)
-run_step (open_stmt.TaskWait None) line names kinds st = ticked line st (λ next. Goes (record next { context = waited next.context }))
-run_step _ line names kinds st = ticked line st (λ next. Goes next)
+run_step what line names kinds st = ticked line st (λ next. act_step what line names kinds next)
 
 abbrev pub run_of : Stmt → Run
 run_of = fold-Stmt LineRun Run run_step (λ s. s.what s.line)
 
 abbrev pub runs_of : List Stmt → Run
-runs_of [] names kinds st = Goes st
-runs_of (s ∷ rest) names kinds st = then_go (run_of s names kinds st) (λ next. runs_of rest names kinds next)
+runs_of ss = in_order (map run_of ss)
 
 -- main as it begins, with this fuel
 abbrev pub opening : List Item → ℕ → State

@@ -1,5 +1,5 @@
 -- The first place of a name, with one more name at the end, and the globals of one more item.
-use Rattle.std.proofs.Common.{◌≡◌, ℕ, suc, if◌then◌else◌, ◌+◌, ◌<◌, Bool, true, false, cond, List, [], ◌∷◌, ◌++◌, length, take, get_or, refl, sym, ap, ◌∙◌, arith, ◌≤◌, nat_lt, not, subst, true≢false, Option, Some, None, is_some, position, length-append}
+use Rattle.std.proofs.Common.{◌≡◌, ℕ, zero, suc, if◌then◌else◌, ◌+◌, ◌<◌, Bool, true, false, cond, List, [], ◌∷◌, ◌++◌, length, take, get_or, refl, sym, ap, ◌∙◌, arith, ◌≤◌, nat_lt, not, subst, true≢false, Option, Some, None, is_some, position, length-append}
 use Rattle.std.specs.List.{position_or_len}
 use Rattle.std.proofs.lemmas.Slice.Eq.{bytes_eq-Decides}
 use Rattle.std.proofs.lemmas.List.Sums.{prefix_len-le-length}
@@ -14,7 +14,7 @@ use Rattle.oss_syntax.specs.declared.tree.program.Item.{Item}
 use Rattle.oss_syntax.specs.declared.tree.program.Item.TheVariants as items
 use Rattle.oss_syntax.specs.declared.tree.program.GlobalDef.{GlobalDef}
 use Rattle.oss_syntax.specs.declared.tree.program.Function.{Function}
-use Rattle.oss_model.specs.Scalars.{place_of, names_of, kinds_of}
+use Rattle.oss_model.specs.Scalars.{place_of, names_of, kinds_of, first_cells}
 use Rattle.oss_serial.specs.Places.{Tells}
 
 -- the first element of a list and one more that passes
@@ -102,3 +102,21 @@ module _ (xs : List Item) (i : ℕ) (item : Item) (within : i < length xs) (at :
 
   pub kinds-function : (f : Function) → item ≡ items.Function f → kinds_of (take (i + 1) xs) ≡ kinds_of (take i xs)
   kinds-function f is = kinds-more ∙ ap (λ x. kinds_of (take i xs) ++ kinds_of (x ∷ [])) is ∙ append-nil (kinds_of (take i xs))
+
+-- fewer items have no more globals
+pub kinds-take : (i : ℕ) (xs : List Item) → length (kinds_of (take i xs)) ≤ length (kinds_of xs)
+kinds-take zero xs = omega arith
+kinds-take (suc i) [] = omega arith
+kinds-take (suc i) (items.Global g ∷ rest) = omega (arith, kinds-take i rest)
+kinds-take (suc i) (items.Function f ∷ rest) = kinds-take i rest
+
+-- there is a type and a cell for each name
+pub length-kinds-names : (xs : List Item) → length (kinds_of xs) ≡ length (names_of xs)
+length-kinds-names [] = refl
+length-kinds-names (items.Global g ∷ rest) = ap suc (length-kinds-names rest)
+length-kinds-names (items.Function f ∷ rest) = length-kinds-names rest
+
+pub length-cells-names : (xs : List Item) → length (first_cells xs) ≡ length (names_of xs)
+length-cells-names [] = refl
+length-cells-names (items.Global g ∷ rest) = ap suc (length-cells-names rest)
+length-cells-names (items.Function f ∷ rest) = length-cells-names rest

@@ -2,7 +2,6 @@
 -- there. Want of memory says nothing.
 use Rattle.std.specs.Prelude.{◌≡◌, ◌||◌, false, ℕ, List, Option, Some, None, Result, Ok, Err}
 use Rattle.std.specs.Global.{Vec}
-use Rattle.std.specs.declared.alloc.Global.{Global}
 use Rattle.oss_judge.specs.declared.refused.JudgeRefused.{JudgeRefused}
 use Rattle.oss_judge.specs.declared.refused.JudgeRefused.TheVariants as judge
 use Rattle.oss_model.specs.declared.answer.FaultKind.{FaultKind}
@@ -18,7 +17,7 @@ Ends ending (Err (stop.Fault kind line)) now = ending ≡ Stops kind line now
 Ends ending (Err (stop.Memory e)) now = Unit {0}
 
 -- the values of expressions, or their first fault
-abbrev pub AreValues : Result (List ℕ) FaultKind → Result (Vec ℕ Global) JudgeRefused → Type 0
+abbrev pub AreValues : Result (List ℕ) FaultKind → Result (Vec ℕ) JudgeRefused → Type 0
 AreValues values (Ok found) = values ≡ Ok found.items
 AreValues values (Err (judge.Fault kind)) = values ≡ Err kind
 AreValues values (Err (judge.Memory e)) = Unit {0}
@@ -35,3 +34,8 @@ abbrev pub EntersTask : List Access → State → Result Context JudgeRefused �
 EntersTask accesses old (Ok creator) new = (creator ≡ old.context) × (clause_fault old.context accesses (old.context.final || false) ≡ None) × (new ≡ entered accesses old)
 EntersTask accesses old (Err (judge.Fault kind)) new = (clause_fault old.context accesses (old.context.final || false) ≡ Some kind) × (new ≡ old)
 EntersTask accesses old (Err (judge.Memory e)) new = Unit {0}
+
+-- what the judge refuses stops the run on a line
+abbrev pub stop_for : ℕ → JudgeRefused → Stop
+stop_for line (judge.Fault kind) = stop.Fault kind line
+stop_for line (judge.Memory e) = stop.Memory e

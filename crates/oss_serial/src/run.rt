@@ -4,9 +4,8 @@ ghost use Rattle.oss_serial.specs.Endings.{Ends};
 
 use crate::accesses::declared;
 use crate::state::State;
-use crate::stop::Stop;
+use crate::stop::{Stop, stop_at};
 use crate::variables::Variables;
-use oss_judge::JudgeRefused;
 use oss_model::Answer;
 use oss_syntax::{Item, Program, Stmt, StmtKind, TaskMark};
 use std::alloc::{AllocError, Global};
@@ -155,8 +154,7 @@ fn run_task(
     };
     let creator = match state.enter(&accesses) {
         Ok(creator) => creator,
-        Err(JudgeRefused::Fault(kind)) => return Err(Stop::Fault(kind, line)),
-        Err(JudgeRefused::Memory(full)) => return Err(Stop::Memory(full)),
+        Err(refused) => return Err(stop_at(line, refused)),
     };
     match run_one(alloc, variables, body, state) {
         Ok(()) => {}

@@ -7,7 +7,7 @@ ghost use Rattle.oss_model.specs.Texts.{printed};
 ghost use Rattle.oss_model.specs.declared.answer.Answer.TheVariants as Answer;
 ghost use Rattle.oss_serial.specs.Endings.{Ends, EntersTask, GoesOn};
 
-use crate::stop::Stop;
+use crate::stop::{Stop, stop_at};
 use crate::variables::{Variables, cells_at_start};
 use oss_judge::{Context, JudgeRefused};
 use oss_model::{Answer, FaultKind, pieces, write_pieces};
@@ -115,8 +115,7 @@ impl State {
             &self.context,
         ) {
             Ok(values) => values,
-            Err(JudgeRefused::Fault(kind)) => return Err(Stop::Fault(kind, line)),
-            Err(JudgeRefused::Memory(full)) => return Err(Stop::Memory(full)),
+            Err(refused) => return Err(stop_at(line, refused)),
         };
         match write_formatted(alloc, format, values.as_slice(), &mut self.output) {
             Ok(()) => Ok(()),

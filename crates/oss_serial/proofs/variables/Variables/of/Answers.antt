@@ -2,7 +2,7 @@ use Rattle.std.proofs.Common.{◌≡◌, ◌∷◌, ◌++◌, ◌∙◌, [], ◌
 use Rattle.std.specs.HashMap.{get_by}
 use Rattle.std.specs.Str.{bytes_eq}
 use Rattle.oss_model.specs.Scalars.{names_of, place_of}
-use Rattle.oss_serial.proofs.PlaceLemmas.{kinds-function, kinds-global, length-kinds_of, names-function, names-global}
+use Rattle.oss_serial.proofs.PlaceLemmas.{kinds-function, kinds-global, kinds-take, length-kinds_of, names-function, names-global}
 use Rattle.oss_serial.proofs.variables.Variables.of.Goals as goal
 use Rattle.oss_serial.proofs.variables.Variables.of.Goals.{in-Global+in_ok-note-in-Global+in_ok-push-in-Global, in-Function}
 
@@ -30,3 +30,9 @@ loop-item-preserved c =
             typed = ap (λ v. v.items) w.kinds-is ∙ c.loop-item.invariant.typed ∙ sym (kinds-function xs i item within at f w.in-Function.is);
           }
     ]
+
+pub overflow_cast-len : goal.overflow_cast-len
+overflow_cast-len c =
+    let few = kinds-take c.loop-item.item-index c.args.items.now in
+    let typed = ap length c.loop-item.invariant.typed in
+    grind (arith, few, typed, c.len.ensures, c.requires)
