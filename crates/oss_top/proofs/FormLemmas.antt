@@ -1,5 +1,5 @@
 -- A text has one reading: what its tokens are not, it is not.
-use Rattle.std.proofs.Common.{◌≡◌, ◌≢◌, ℕ, List, [], Result, Ok, Err, sym, subst, refl, ◌∙◌, ◌⊎◌, inl, inr}
+use Rattle.std.proofs.Common.{◌≡◌, ℕ, List, [], Result, Ok, Err, sym, subst, refl, ◌∙◌, inl, inr}
 use Rattle.oss_syntax.specs.declared.token.Token.{Token}
 use Rattle.oss_syntax.specs.declared.tree.program.Program.{Program}
 use Rattle.oss_model.specs.declared.answer.Answer.{Answer}

@@ -1,5 +1,4 @@
 pub mod FormLemmas
-pub mod FuelLemmas
 pub mod ReplyLemmas
 pub mod RuleLemmas
 pub mod ScalarLemmas

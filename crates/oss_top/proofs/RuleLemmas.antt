@@ -1,11 +1,11 @@
 -- The static rules: a table of names has those of its list, and a list of names grows by one that is new.
-use Rattle.std.proofs.Common.{◌≡◌, ◌≢◌, ℕ, ◌+◌, ◌<◌, ◌↔◌, Bool, true, false, ◌||◌, List, [], ◌∷◌, ◌++◌, length, map, get_or, drop, refl, sym, ap, ◌∙◌, subst, arith, All, Contains, IsTrue, not, true≢false, take, codes, rules, ◌≤◌}
+use Rattle.std.proofs.Common.{◌≡◌, ◌≢◌, ℕ, ◌+◌, ◌<◌, ◌↔◌, Bool, true, false, ◌||◌, List, [], ◌∷◌, ◌++◌, length, map, get_or, drop, refl, sym, ap, ◌∙◌, subst, arith, All, Contains, IsTrue, not, true≢false, codes, rules}
 use Rattle.std.specs.Borrow.{Bor}
 use Rattle.std.specs.List.{list_any}
 use Rattle.std.specs.Str.{bytes_eq}
 use Rattle.std.proofs.lemmas.Grind.{common_steps}
 use Rattle.std.proofs.lemmas.List.{drop_more, get_or_default}
-use Rattle.std.proofs.lemmas.List.Elements.{All-nil, All-cons, All-head, All-tail, All-append, All-more}
+use Rattle.std.proofs.lemmas.List.Elements.{All-nil, All-cons, All-head, All-tail, All-append}
 use Rattle.std.proofs.lemmas.List.Folds.{list_any_at}
 use Rattle.std.proofs.lemmas.List.Quantifiers.{all_pairs_push}
 use Rattle.std.proofs.lemmas.Slice.Eq.{bytes_eq-Decides}
@@ -14,14 +14,20 @@ use Rattle.oss_syntax.specs.declared.tree.expr.Expr.{Expr}
 use Rattle.oss_syntax.specs.declared.tree.expr.ExprKind.TheVariants as exprs
 use Rattle.oss_syntax.specs.declared.tree.expr.ExprKind.TheFolds.{the_lemmas as expr_folds}
 use Rattle.oss_syntax.specs.declared.tree.expr.BinOp.{BinOp}
+use Rattle.oss_syntax.specs.declared.tree.pragma.Clause.{Clause}
+use Rattle.oss_syntax.specs.declared.tree.pragma.Section.{Section}
+use Rattle.oss_syntax.specs.declared.tree.pragma.TaskMark.{TaskMark}
 use Rattle.oss_syntax.specs.declared.tree.program.GlobalDef.{GlobalDef}
 use Rattle.oss_syntax.specs.declared.tree.program.Function.{Function}
 use Rattle.oss_syntax.specs.declared.tree.program.Item.{Item}
 use Rattle.oss_syntax.specs.declared.tree.program.Item.TheVariants as items
 use Rattle.oss_syntax.specs.declared.tree.program.Program.{Program}
 use Rattle.oss_syntax.specs.declared.tree.stmt.Stmt.{Stmt}
+use Rattle.oss_syntax.specs.declared.tree.stmt.StmtKind.TheVariants as stmts
+use Rattle.oss_syntax.specs.declared.tree.stmt.StmtKind.TheFolds.{the_lemmas as stmt_folds}
 use Rattle.oss_model.specs.Scalars.{main_body, names_of}
-use Rattle.oss_top.specs.ScalarRules.{AreDistinct, FormatFits, Obeys, names_in, names_in_all, names_used}
+use Rattle.oss_top.specs.ScalarRules.{AreDistinct, Meets, Need, Obeys, mark_needs, names_by, names_by_all, names_in, names_in_all, names_needed, needs_of, needs_of_all, print_needs}
+use Rattle.oss_top.specs.ScalarRules.Need.{global}
 
 -- the names behind references
 abbrev pub shown : List (Bor (List ℕ)) → List (List ℕ)
@@ -115,28 +121,72 @@ module _ (xs : List Item) (i : ℕ) (item : Item) (within : i < length xs) (at :
     pub split-function : (f : Function) → item ≡ items.Function f → names_of xs ≡ declared ++ names_of (drop (i + 1) xs)
     split-function f is = sym whole ∙ ap (λ ns. declared ++ ns) (left-function f is)
 
--- two facts of each element, of which one fails at an element
-pub not-all : {X : Type 0} (P Q : X → Type 0) (xs : List X) (i : ℕ) (x : X) → i < length xs → x ≡ get_or xs i x → (P x × Q x → ⊥) → All P xs × All Q xs → ⊥
-not-all P Q xs i x within at fails all = fails (subst P (sym at) (all.0 i x within), subst Q (sym at) (all.1 i x within))
+-- the names of clauses, of sections and the needs of statements, from one on
+pub clauses-left : (cs : List Clause) (i : ℕ) (c : Clause) → i < length cs → c ≡ get_or cs i c → names_by_all (drop i cs) ≡ names_by c ++ names_by_all (drop (i + 1) cs)
+clauses-left cs i c within at = ap names_by_all (drop_more cs i c within) ∙ ap (λ x. names_by x ++ names_by_all (drop (i + 1) cs)) (sym at)
 
-pub one-more : {X : Type 0} (P : X → Type 0) (xs : List X) (i : ℕ) (x : X) → i < length xs → x ≡ get_or xs i x → All P (take i xs) → P x → All P (take (i + 1) xs)
-one-more P xs i x within at all here = All-more P xs i x within all (subst P at here)
+pub sections-left : (xs : List Section) (i : ℕ) (s : Section) → i < length xs → s ≡ get_or xs i s → map (λ s. s.base) (drop i xs) ≡ (s.base ∷ []) ++ map (λ s. s.base) (drop (i + 1) xs)
+sections-left xs i s within at = ap (map (λ s. s.base)) (drop_more xs i s within) ∙ ap (λ x. x.base ∷ map (λ s. s.base) (drop (i + 1) xs)) (sym at)
 
-pub at-end : {X : Type 0} (P : X → Type 0) (xs : List X) (i : ℕ) → length xs ≤ i → All P (take i xs) → All P xs
-at-end P xs i end all = let e : take i xs ≡ xs = grind (arith, common_steps) in subst (All P) e all
+pub needs-left : (ss : List Stmt) (i : ℕ) (s : Stmt) → i < length ss → s ≡ get_or ss i s → needs_of_all (drop i ss) ≡ needs_of s ++ needs_of_all (drop (i + 1) ss)
+needs-left ss i s within at = ap needs_of_all (drop_more ss i s within) ∙ ap (λ x. needs_of x ++ needs_of_all (drop (i + 1) ss)) (sym at)
+
+-- a test of a fact is one of what the fact comes to
+pub via : {P Q : Type 0} (r : Bool) → IsTrue r ↔ P → P ↔ Q → IsTrue r ↔ Q
+via r h k = (λ t. k.0 (h.0 t), λ q. h.1 (k.1 q))
+
+pub with-first : {P Q : Type 0} (r : Bool) → P → IsTrue r ↔ Q → IsTrue r ↔ (P × Q)
+with-first r p h = (λ t. (p, h.0 t), λ both. h.1 both.1)
+
+pub with-second : {P Q : Type 0} (r : Bool) → Q → IsTrue r ↔ P → IsTrue r ↔ (P × Q)
+with-second r q h = (λ t. (h.0 t, q), λ both. h.1 both.0)
+
+pub never : {P : Type 0} → (P → ⊥) → IsTrue false ↔ P
+never fails = (λ h. absurd (true≢false (sym h)), λ p. absurd (fails p))
+
+-- one name
+pub one-name : (P : List ℕ → Type 0) (name : List ℕ) → P name ↔ All P (name ∷ [])
+one-name P name = (λ h. All-cons P name [] h (All-nil P), λ h. All-head P name [] h)
+
+-- names that are declared are needs that are met
+pub names-met : (names declared : List (List ℕ)) → All (Contains declared) names ↔ All (Meets declared) (names_needed names)
+names-met [] declared = (λ h. All-nil (Meets declared), λ h. All-nil (Contains declared))
+names-met (n ∷ names) declared =
+    let rest = names-met names declared in (
+      λ h. All-cons (Meets declared) (global n) (names_needed names) (All-head (Contains declared) n names h) (rest.0 (All-tail (Contains declared) n names h)),
+      λ h. All-cons (Contains declared) n names (All-head (Meets declared) (global n) (names_needed names) h) (rest.1 (All-tail (Meets declared) (global n) (names_needed names) h)),
+    )
+
+-- a need, and names behind it
+pub need-met : (need : Need) (names declared : List (List ℕ)) → (Meets declared need × All (Contains declared) names) ↔ All (Meets declared) (need ∷ names_needed names)
+need-met need names declared = (
+  λ h. All-cons (Meets declared) need (names_needed names) h.0 ((names-met names declared).0 h.1),
+  λ h. (All-head (Meets declared) need (names_needed names) h, (names-met names declared).1 (All-tail (Meets declared) need (names_needed names) h)),
+)
+
+-- the needs of each kind of statement
+pub needs-assign : (s : Stmt) (target e : Expr) (o : _) → s.what ≡ stmts.Assign target o e → needs_of s ≡ names_needed (names_in target ++ names_in e)
+needs-assign s target e o is = rw is (search (rules, stmt_folds))
+
+pub needs-print : (s : Stmt) (format : List ℕ) (es : List Expr) → s.what ≡ stmts.Print format es → needs_of s ≡ print_needs format es
+needs-print s format es is = rw is (search (rules, stmt_folds))
+
+pub needs-block : (s : Stmt) (inner : List Stmt) → s.what ≡ stmts.Block inner → needs_of s ≡ needs_of_all inner
+needs-block s inner is = rw is (search (rules, stmt_folds))
+
+pub needs-task : (s : Stmt) (mark : TaskMark) (inner : Stmt) → s.what ≡ stmts.Task mark inner → needs_of s ≡ mark_needs mark.clauses ++ needs_of inner
+needs-task s mark inner is = rw is (search (rules, stmt_folds))
 
 -- the rules, from their parts
 pub obeyed : (p : Program) (declared : List (List ℕ)) (statements : List Stmt) (has ok : Bool) → statements ≡ main_body p.items → declared ≡ names_of p.items → AreDistinct (names_of p.items)
-    → IsTrue has ↔ Contains declared (codes "main") → has ≡ false → IsTrue ok ↔ (All (λ s. All (Contains declared) (names_used s.what)) statements × All (λ s. FormatFits s.what) statements)
-    → IsTrue ok ↔ Obeys p
+    → IsTrue has ↔ Contains declared (codes "main") → has ≡ false → IsTrue ok ↔ All (Meets declared) (needs_of_all statements) → IsTrue ok ↔ Obeys p
 obeyed p declared statements has ok body names distinct known no_main lines =
-    let Lines : List (List ℕ) → List Stmt → Type 0 = λ ns ss. All (λ s. All (Contains ns) (names_used s.what)) ss × All (λ s. FormatFits s.what) ss in
-    let now : IsTrue ok ↔ Lines (names_of p.items) (main_body p.items) = subst (λ ns. IsTrue ok ↔ Lines ns (main_body p.items)) names (subst (λ ss. IsTrue ok ↔ Lines declared ss) body lines) in (
+    let now : IsTrue ok ↔ All (Meets (names_of p.items)) (needs_of_all (main_body p.items)) =
+    subst (λ ns. IsTrue ok ↔ All (Meets ns) (needs_of_all (main_body p.items))) names (subst (λ ss. IsTrue ok ↔ All (Meets declared) (needs_of_all ss)) body lines) in (
       λ h. record {
         distinct = distinct;
         no_main = λ there. true≢false (sym (known.1 (subst (λ ns. Contains ns (codes "main")) (sym names) there)) ∙ no_main);
-        declared = (now.0 h).0;
-        formats = (now.0 h).1;
+        needs = now.0 h;
       },
-      λ o. now.1 (o.declared, o.formats),
+      λ o. now.1 o.needs,
     )

@@ -1,26 +1,28 @@
--- Each reader of programs of scalars reads its grammar.
-use Rattle.std.proofs.Common.{◌≡◌, ℕ, ◌-◌, ◌<◌, Bool, true, false, List, [], ◌∷◌, ◌++◌, refl, sym, ap, ◌∙◌, subst, append_assoc, Option, Some, None, codes, ◌⊎◌, inl, inr}
-use Rattle.std.specs.Prelude.{is_some, ◌||◌, ◌&&◌}
+-- Each reader of programs of scalars with tasks reads its grammar.
+use Rattle.std.proofs.Common.{◌≡◌, ℕ, zero, suc, ◌-◌, ◌<◌, Bool, true, false, List, [], ◌∷◌, ◌++◌, refl, sym, ap, ◌∙◌, subst, append_assoc, arith, Option, Some, None, codes, ◌⊎◌, inl, inr}
+use Rattle.std.specs.Prelude.{is_some, ◌&&◌}
 use Rattle.std.specs.Str.{bytes_eq}
 use Rattle.std.proofs.lemmas.List.{append-nil}
 use Rattle.std.proofs.lemmas.Slice.Eq.{bytes_eq-Decides}
 use Rattle.oss_syntax.specs.declared.token.Token.{Token}
 use Rattle.oss_syntax.specs.declared.token.TokenKind.{TokenKind}
 use Rattle.oss_syntax.specs.declared.token.TokenKind.TheVariants as kinds
-use Rattle.oss_model.specs.Grammar.{One, Both, Mapped, Either, Maybe, Many, ChainWithin}
+use Rattle.oss_model.specs.Grammar.{One, Both, Either, Maybe, Many}
 use Rattle.oss_model.specs.Grammar.Either.{one_way, other_way}
 use Rattle.oss_model.specs.Grammar.Maybe.{without, with_it}
 use Rattle.oss_model.specs.Grammar.Many.{none, more}
-use Rattle.oss_model.specs.Readers.{read_one, read_both, read_mapped, read_either, read_maybe, read_many, read_chain, read_chained}
+use Rattle.oss_model.specs.Readers.{read_either, read_chain}
 use Rattle.oss_model.proofs.ReadingLemmas.{Reads, Anything, Past, MayFollow, Starts, NeverStarts, reads_one, reads_both, reads_mapped, reads_either, reads_maybe, reads_many, reads_chain, Repeats, repeats, begin_both, begin_mapped, begin_either, follows, told, rest_is, whole_in, whole_read, chain_none, chain_full, chain_fail, chain_go}
 use Rattle.oss_syntax.specs.declared.tree.expr.BinOp.{BinOp}
 use Rattle.oss_syntax.specs.declared.tree.expr.Expr.{Expr}
+use Rattle.oss_syntax.specs.declared.access.Mode.{Mode}
 use Rattle.oss_syntax.specs.declared.tree.program.NumKind.{NumKind}
 use Rattle.oss_syntax.specs.declared.tree.program.Program.{Program}
+use Rattle.oss_syntax.specs.declared.tree.stmt.Stmt.{Stmt}
 use Rattle.oss_top.specs.declared.form.cursor.Named.{Named}
 use Rattle.oss_top.specs.declared.form.reader.Declarator.{Declarator}
-use Rattle.oss_top.specs.ScalarGrammar.{is_symbol, is_keyword, is_name, symbol_at, keyword_at, main_at, name_at, named_in, number_at, number_in, text_at, term_at, operator_at, operator_in, kind_at, kind_in, ulong_of, negated_second, second, declarator_of, all_of, globals_of, joined_by, assignment_of, print_of, main_line, program_of, one_after_another, IsType, IsSigned, IsFirst, IsDeclarator, Comma, IsDeclarators, IsDeclaration, IsSum, IsAssignment, IsPrint, IsLine, IsHeader, IsProgram}
-use Rattle.oss_top.specs.ScalarReading.{begins, begins_comma, begins_line, begins_declaration, heads_main, is_type, read_type, read_signed, read_first, read_declarator, read_next_declarator, read_declarators, read_declaration, read_declarations, read_operation, read_sum, read_assignment, read_argument, read_arguments, read_print, read_line, read_lines, read_header, read_program}
+use Rattle.oss_top.specs.ScalarGrammar.{is_symbol, is_keyword, is_name, symbol_at, keyword_at, word_at, main_at, start_in, start_at, end_in, end_at, name_at, named_in, number_at, text_at, term_at, operator_at, kind_at, kind_in, mode_in, mode_at, section_at, ulong_of, negated_second, second, declarator_of, all_of, globals_of, joined_by, assignment_of, print_of, dependency_of, mark_of, wait_of, empty_of, block_of, task_of, main_line, program_of, one_after_another, IsType, IsSigned, IsFirst, IsDeclarator, Comma, IsDeclarators, IsDeclaration, IsSum, IsAssignment, IsPrint, IsSections, IsDependency, IsNextDependency, IsMark, IsWait, IsEmpty, IsBlock, IsTask, IsLine, IsLineWithin, IsHeader, IsProgram}
+use Rattle.oss_top.specs.ScalarReading.{begins, begins_comma, begins_line, begins_declaration, begins_dependency, dependency_start_at, line_start_at, behind_first, heads_main, heads_task, is_type, read_type, read_signed, read_first, read_declarator, read_next_declarator, read_declarators, read_declaration, read_declarations, read_operation, read_sum, read_assignment, read_argument, read_arguments, read_print, read_next_section, read_sections, read_dependency, read_next_dependency, read_dependencies, read_mark, read_wait, read_empty, read_block, read_task, read_pragma, read_line, read_line_within, read_lines, read_header, read_program}
 
 -- a token that passes one test, and whether it passes another
 abbrev pub Tells : {A B : Type 0} → (Token → Option A) → (Token → Option B) → Bool → Type 0
@@ -60,6 +62,16 @@ keyword_kind s kinds.PragmaOss e = absurd (cc)
 keyword_kind s kinds.PragmaEnd e = absurd (cc)
 keyword_kind s kinds.Directive e = absurd (cc)
 
+word_kind : (s : List ℕ) (k : TokenKind) → is_name s k ≡ true → k ≡ kinds.Name s
+word_kind s (kinds.Name w) e = ap kinds.Name (equal_bytes w s e)
+word_kind s (kinds.Symbol n) e = absurd (cc)
+word_kind s (kinds.Keyword n) e = absurd (cc)
+word_kind s (kinds.Number n u) e = absurd (cc)
+word_kind s (kinds.Text n) e = absurd (cc)
+word_kind s kinds.PragmaOss e = absurd (cc)
+word_kind s kinds.PragmaEnd e = absurd (cc)
+word_kind s kinds.Directive e = absurd (cc)
+
 bool_cases : (b : Bool) → (b ≡ true) ⊎ (b ≡ false)
 bool_cases true = inl refl
 bool_cases false = inr refl
@@ -84,6 +96,56 @@ module _ {B : Type 0} (other : Token → Option B) (b : Bool) where
 
   keyword_tells : (s : List ℕ) → ((line : ℕ) → is_some (other (record { what = kinds.Keyword s; line = line })) ≡ b) → Tells (keyword_at s) other b
   keyword_tells s tells t a r = keyword_told s tells (is_keyword s t.what) t.what t.line a refl r
+
+  word_told : (s : List ℕ) → ((line : ℕ) → is_some (other (record { what = kinds.Name s; line = line })) ≡ b) → (is : Bool) (k : TokenKind) (line a : ℕ) → is_name s k ≡ is
+      → word_at s (record { what = k; line = line }) ≡ Some a → is_some (other (record { what = k; line = line })) ≡ b
+  word_told s tells true k line a e r = told_of k (kinds.Name s) line (word_kind s k e) (tells line)
+  word_told s tells false k line a e r = let none : None ≡ Some a = rw e at r in absurd (cc)
+
+  word_tells : (s : List ℕ) → ((line : ℕ) → is_some (other (record { what = kinds.Name s; line = line })) ≡ b) → Tells (word_at s) other b
+  word_tells s tells t a r = word_told s tells (is_name s t.what) t.what t.line a refl r
+
+  start_told : ((line : ℕ) → is_some (other (record { what = kinds.PragmaOss; line = line })) ≡ b) → (k : TokenKind) (line a : ℕ) → start_in k line ≡ Some a
+      → is_some (other (record { what = k; line = line })) ≡ b
+  start_told tells kinds.PragmaOss line a r = tells line
+  start_told tells (kinds.Name n) line a r = absurd (cc)
+  start_told tells (kinds.Symbol n) line a r = absurd (cc)
+  start_told tells (kinds.Keyword n) line a r = absurd (cc)
+  start_told tells (kinds.Number n u) line a r = absurd (cc)
+  start_told tells (kinds.Text n) line a r = absurd (cc)
+  start_told tells kinds.PragmaEnd line a r = absurd (cc)
+  start_told tells kinds.Directive line a r = absurd (cc)
+
+  start_tells : ((line : ℕ) → is_some (other (record { what = kinds.PragmaOss; line = line })) ≡ b) → Tells start_at other b
+  start_tells tells t a r = start_told tells t.what t.line a r
+
+  end_told : ((line : ℕ) → is_some (other (record { what = kinds.PragmaEnd; line = line })) ≡ b) → (k : TokenKind) (line a : ℕ) → end_in k line ≡ Some a
+      → is_some (other (record { what = k; line = line })) ≡ b
+  end_told tells kinds.PragmaEnd line a r = tells line
+  end_told tells (kinds.Name n) line a r = absurd (cc)
+  end_told tells (kinds.Symbol n) line a r = absurd (cc)
+  end_told tells (kinds.Keyword n) line a r = absurd (cc)
+  end_told tells (kinds.Number n u) line a r = absurd (cc)
+  end_told tells (kinds.Text n) line a r = absurd (cc)
+  end_told tells kinds.PragmaOss line a r = absurd (cc)
+  end_told tells kinds.Directive line a r = absurd (cc)
+
+  end_tells : ((line : ℕ) → is_some (other (record { what = kinds.PragmaEnd; line = line })) ≡ b) → Tells end_at other b
+  end_tells tells t a r = end_told tells t.what t.line a r
+
+  mode_told : ((n : List ℕ) (line : ℕ) → is_some (other (record { what = kinds.Name n; line = line })) ≡ b) → (k : TokenKind) (line : ℕ) (a : Mode) → mode_in k ≡ Some a
+      → is_some (other (record { what = k; line = line })) ≡ b
+  mode_told tells (kinds.Name n) line a r = tells n line
+  mode_told tells (kinds.Symbol n) line a r = absurd (cc)
+  mode_told tells (kinds.Keyword n) line a r = absurd (cc)
+  mode_told tells (kinds.Number n u) line a r = absurd (cc)
+  mode_told tells (kinds.Text n) line a r = absurd (cc)
+  mode_told tells kinds.PragmaOss line a r = absurd (cc)
+  mode_told tells kinds.PragmaEnd line a r = absurd (cc)
+  mode_told tells kinds.Directive line a r = absurd (cc)
+
+  mode_tells : ((n : List ℕ) (line : ℕ) → is_some (other (record { what = kinds.Name n; line = line })) ≡ b) → Tells mode_at other b
+  mode_tells tells t a r = mode_told tells t.what t.line a r
 
   name_told : ((n : List ℕ) (line : ℕ) → is_some (other (record { what = kinds.Name n; line = line })) ≡ b) → (k : TokenKind) (line : ℕ) (a : Named) → named_in k line ≡ Some a
       → is_some (other (record { what = k; line = line })) ≡ b
@@ -234,30 +296,190 @@ unfolding read_print
 reads_print = reads_mapped print_of (reads_both (reads_one (keyword_at (codes "printf"))) (reads_both (reads_one opens) (reads_both (reads_one text_at) (reads_both reads_arguments
     (reads_both (reads_one closes) (reads_one semicolon) (λ ys b rest w free. tt)) bracket_apart) (λ ys b rest w free. tt)) (λ ys b rest w free. tt)) (λ ys b rest w free. tt))
 
-start_assignment : Starts IsAssignment (begins name_at)
-start_assignment = begin_mapped (begins name_at) true (begin_both (begins name_at) true (start_one name_at))
+-- how the kinds of lines begin
+module _ {B : Type 0} (other : Token → Option B) (b : Bool) where
+  assignment_begins : ((n : List ℕ) (line : ℕ) → is_some (other (record { what = kinds.Name n; line = line })) ≡ b) → (xs : List Token) (a : Stmt) (rest : List Token) → IsAssignment xs a → begins other (xs ++ rest) ≡ b
+  assignment_begins tells = begin_mapped (begins other) b (begin_both (begins other) b (begin_one name_at other b (name_tells other b tells)))
 
-print_no_name : NeverStarts IsPrint (begins name_at)
-print_no_name = begin_mapped (begins name_at) false (begin_both (begins name_at) false (begin_one (keyword_at (codes "printf")) name_at false (keyword_tells name_at false (codes "printf") (λ line. refl))))
+  print_begins : ((line : ℕ) → is_some (other (record { what = kinds.Keyword (codes "printf"); line = line })) ≡ b) → (xs : List Token) (a : Stmt) (rest : List Token) → IsPrint xs a → begins other (xs ++ rest) ≡ b
+  print_begins tells = begin_mapped (begins other) b (begin_both (begins other) b (begin_one (keyword_at (codes "printf")) other b (keyword_tells other b (codes "printf") tells)))
 
-start_print : Starts IsPrint (begins (keyword_at (codes "printf")))
-start_print = begin_mapped (begins (keyword_at (codes "printf"))) true (begin_both (begins (keyword_at (codes "printf"))) true (start_one (keyword_at (codes "printf"))))
+  block_begins : {Inner : List Token → Stmt → Type 0} → ((line : ℕ) → is_some (other (record { what = kinds.Symbol (codes "{"); line = line })) ≡ b) → (xs : List Token) (a : Stmt) (rest : List Token) → IsBlock Inner xs a → begins other (xs ++ rest) ≡ b
+  block_begins tells = begin_mapped (begins other) b (begin_both (begins other) b (begin_one (symbol_at (codes "{")) other b (symbol_tells other b (codes "{") tells)))
 
-pub reads_line : Reads read_line IsLine Anything
-unfolding read_line
-reads_line = reads_either (begins name_at) reads_assignment reads_print (λ xs a rest w free. start_assignment xs a rest w) (λ xs a rest w free. print_no_name xs a rest w)
+  empty_begins : ((line : ℕ) → is_some (other (record { what = kinds.Symbol (codes ";"); line = line })) ≡ b) → (xs : List Token) (a : Stmt) (rest : List Token) → IsEmpty xs a → begins other (xs ++ rest) ≡ b
+  empty_begins tells = begin_mapped (begins other) b (begin_one semicolon other b (symbol_tells other b (codes ";") tells))
 
-pub start_line : Starts IsLine begins_line
-start_line = begin_either begins_line true
-    (λ xs a rest w. let e : begins name_at (xs ++ rest) ≡ true = start_assignment xs a rest w in rw e refl)
-    (λ xs a rest w. let e : begins name_at (xs ++ rest) ≡ false = print_no_name xs a rest w in let p : begins (keyword_at (codes "printf")) (xs ++ rest) ≡ true = start_print xs a rest w in rw (e, p) refl)
+  task_begins : {Inner : List Token → Stmt → Type 0} → ((line : ℕ) → is_some (other (record { what = kinds.PragmaOss; line = line })) ≡ b) → (xs : List Token) (a : Stmt) (rest : List Token) → IsTask Inner xs a → begins other (xs ++ rest) ≡ b
+  task_begins tells = begin_mapped (begins other) b (begin_both (begins other) b (begin_mapped (begins other) b (begin_both (begins other) b (begin_one start_at other b (start_tells other b tells)))))
+
+  wait_begins : ((line : ℕ) → is_some (other (record { what = kinds.PragmaOss; line = line })) ≡ b) → (xs : List Token) (a : Stmt) (rest : List Token) → IsWait xs a → begins other (xs ++ rest) ≡ b
+  wait_begins tells = begin_mapped (begins other) b (begin_both (begins other) b (begin_one start_at other b (start_tells other b tells)))
+
+  pragma_begins : {Inner : List Token → Stmt → Type 0} → ((line : ℕ) → is_some (other (record { what = kinds.PragmaOss; line = line })) ≡ b) → (xs : List Token) (a : Stmt) (rest : List Token) → Either (IsTask Inner) IsWait xs a → begins other (xs ++ rest) ≡ b
+  pragma_begins tells = begin_either (begins other) b (task_begins tells) (wait_begins tells)
+
+-- what stands behind one token
+behind_one : {A B : Type 0} {test : Token → Option A} {H : List Token → B → Type 0} (starts : List Token → Bool) (b : Bool) → ((xs : List Token) (a : B) (rest : List Token) → H xs a → starts (xs ++ rest) ≡ b)
+    → (xs : List Token) (a : A × B) (rest : List Token) → Both (One test) H xs a → starts (behind_first (xs ++ rest)) ≡ b
+behind_one starts b s xs a rest w =
+    let whole : xs ++ rest ≡ w.before.token ∷ (w.back ++ rest) = ap (λ ts. ts ++ rest) w.split ∙ append_assoc w.front w.back rest ∙ ap (λ ts. ts ++ (w.back ++ rest)) w.before.only in
+    ap (λ ts. starts (behind_first ts)) whole ∙ s w.back a.1 rest w.behind
+
+-- the parts of a pragma
+pub reads_next_section : Reads read_next_section (Comma (One section_at)) Anything
+unfolding read_next_section
+reads_next_section = reads_mapped second (reads_both (reads_one comma) (reads_one section_at) (λ ys b rest w free. tt))
+
+pub section_apart : (zs : List Token) → begins_comma zs ≡ true → Anything zs
+section_apart zs e = tt
+
+pub reads_sections : Reads read_sections IsSections (MayFollow begins_comma Anything)
+unfolding read_sections
+reads_sections = reads_mapped all_of (reads_both (reads_one section_at) (reads_many begins_comma reads_next_section start_comma refl section_apart) (λ ys b rest w free. tt))
+
+-- a bracket ends sections
+closing_apart : (ys : List Token) (line : ℕ) (rest : List Token) → One closes ys line → Anything rest → MayFollow begins_comma Anything (ys ++ rest)
+closing_apart ys line rest w free = record { past = symbol_begins (codes ")") comma (λ line. refl) ys line rest w; free = tt }
+
+pub reads_dependency : Reads read_dependency IsDependency Anything
+unfolding read_dependency
+reads_dependency = reads_mapped dependency_of (reads_both (reads_one mode_at) (reads_both (reads_one opens) (reads_both reads_sections (reads_one closes) closing_apart) (λ ys b rest w free. tt)) (λ ys b rest w free. tt))
+
+dependency_no_comma : NeverStarts IsDependency begins_comma
+dependency_no_comma = begin_mapped begins_comma false (begin_both begins_comma false (begin_one mode_at comma false (mode_tells comma false (λ n line. refl))))
+
+pub reads_next_dependency : Reads read_next_dependency IsNextDependency Anything
+unfolding read_next_dependency
+reads_next_dependency = reads_either begins_comma (reads_mapped second (reads_both (reads_one comma) reads_dependency (λ ys b rest w free. tt))) reads_dependency
+    (λ xs a rest w free. start_comma xs a rest w) (λ xs a rest w free. dependency_no_comma xs a rest w)
+
+mode_starts : Tells mode_at dependency_start_at true
+mode_starts t a e = rw e refl
+
+pub start_dependency : Starts IsNextDependency begins_dependency
+start_dependency = begin_either begins_dependency true
+    (begin_mapped begins_dependency true (begin_both begins_dependency true (begin_one comma dependency_start_at true (symbol_tells dependency_start_at true (codes ",") (λ line. refl)))))
+    (begin_mapped begins_dependency true (begin_both begins_dependency true (begin_one mode_at dependency_start_at true mode_starts)))
+
+pub dependency_apart : (zs : List Token) → begins_dependency zs ≡ true → Anything zs
+dependency_apart zs e = tt
+
+pub reads_dependencies : Reads read_dependencies (Many IsNextDependency) (MayFollow begins_dependency Anything)
+unfolding read_dependencies
+reads_dependencies = reads_many begins_dependency reads_next_dependency start_dependency refl dependency_apart
+
+-- the end of a pragma ends dependencies
+end_apart : (ys : List Token) (line : ℕ) (rest : List Token) → One end_at ys line → Anything rest → MayFollow begins_dependency Anything (ys ++ rest)
+end_apart ys line rest w free = record { past = begin_one end_at dependency_start_at false (end_tells dependency_start_at false (λ line. refl)) ys line rest w; free = tt }
+
+pub reads_mark : Reads read_mark IsMark Anything
+unfolding read_mark
+reads_mark = reads_mapped mark_of (reads_both (reads_one start_at) (reads_both (reads_one (word_at (codes "task"))) (reads_both reads_dependencies (reads_one end_at) end_apart) (λ ys b rest w free. tt)) (λ ys b rest w free. tt))
+
+pub reads_wait : Reads read_wait IsWait Anything
+unfolding read_wait
+reads_wait = reads_mapped wait_of (reads_both (reads_one start_at) (reads_both (reads_one (word_at (codes "taskwait"))) (reads_one end_at) (λ ys b rest w free. tt)) (λ ys b rest w free. tt))
+
+pub reads_empty : Reads read_empty IsEmpty Anything
+unfolding read_empty
+reads_empty = reads_mapped empty_of (reads_one semicolon)
+
+-- the second token of a mark, and that of a wait
+mark_heads : Starts IsMark heads_task
+mark_heads = begin_mapped heads_task true (behind_one (begins (word_at (codes "task"))) true (begin_both (begins (word_at (codes "task"))) true (start_one (word_at (codes "task")))))
+
+wait_heads : NeverStarts IsWait heads_task
+wait_heads = begin_mapped heads_task false (behind_one (begins (word_at (codes "task"))) false (begin_both (begins (word_at (codes "task"))) false
+    (begin_one (word_at (codes "taskwait")) (word_at (codes "task")) false (word_tells (word_at (codes "task")) false (codes "taskwait") (λ line. refl)))))
+
+-- a bracket ends lines
+brace_apart : (ys : List Token) (line : ℕ) (rest : List Token) → One (symbol_at (codes "}")) ys line → Anything rest → MayFollow begins_line Anything (ys ++ rest)
+brace_apart ys line rest w free = record { past = symbol_begins (codes "}") line_start_at (λ line. refl) ys line rest w; free = tt }
 
 pub line_apart : (zs : List Token) → begins_line zs ≡ true → Anything zs
 line_apart zs e = tt
 
-pub reads_lines : Reads read_lines (Many IsLine) (MayFollow begins_line Anything)
+-- a line, in which lines are read that are in their grammar
+module _ {inner : List Token → Option (Stmt × List Token)} {Inner : List Token → Stmt → Type 0} (part : Reads inner Inner Anything) (starts : Starts Inner begins_line) where
+  reads_block : Reads (read_block inner) (IsBlock Inner) Anything
+  unfolding read_block
+  reads_block = reads_mapped block_of (reads_both (reads_one (symbol_at (codes "{"))) (reads_both (reads_many begins_line part starts refl line_apart) (reads_one (symbol_at (codes "}"))) brace_apart) (λ ys b rest w free. tt))
+
+  reads_task : Reads (read_task inner) (IsTask Inner) Anything
+  unfolding read_task
+  reads_task = reads_mapped task_of (reads_both reads_mark part (λ ys b rest w free. tt))
+
+  task_heads : Starts (IsTask Inner) heads_task
+  task_heads = begin_mapped heads_task true (begin_both heads_task true mark_heads)
+
+  reads_pragma : Reads (read_pragma inner) (Either (IsTask Inner) IsWait) Anything
+  unfolding read_pragma
+  reads_pragma = reads_either heads_task reads_task reads_wait (λ xs a rest w free. task_heads xs a rest w) (λ xs a rest w free. wait_heads xs a rest w)
+
+  reads_from_empty : Reads (read_either (begins semicolon) read_empty (read_pragma inner)) (Either IsEmpty (Either (IsTask Inner) IsWait)) Anything
+  reads_from_empty = reads_either (begins semicolon) reads_empty reads_pragma
+      (λ xs a rest w free. empty_begins semicolon true (λ line. refl) xs a rest w)
+      (λ xs a rest w free. pragma_begins semicolon false (λ line. refl) xs a rest w)
+
+  -- an empty line and a pragma do not begin as another thing does, and a block does not either
+  rest_begins : {B : Type 0} (other : Token → Option B) → ((line : ℕ) → is_some (other (record { what = kinds.Symbol (codes ";"); line = line })) ≡ false)
+      → ((line : ℕ) → is_some (other (record { what = kinds.PragmaOss; line = line })) ≡ false) → NeverStarts (Either IsEmpty (Either (IsTask Inner) IsWait)) (begins other)
+  rest_begins other e p = begin_either (begins other) false (empty_begins other false e) (pragma_begins other false p)
+
+  reads_from_block : Reads (read_either (begins (symbol_at (codes "{"))) (read_block inner) (read_either (begins semicolon) read_empty (read_pragma inner))) (Either (IsBlock Inner) (Either IsEmpty (Either (IsTask Inner) IsWait))) Anything
+  reads_from_block = reads_either (begins (symbol_at (codes "{"))) reads_block reads_from_empty
+      (λ xs a rest w free. block_begins (symbol_at (codes "{")) true (λ line. refl) xs a rest w)
+      (λ xs a rest w free. rest_begins (symbol_at (codes "{")) (λ line. refl) (λ line. refl) xs a rest w)
+
+  block_or_rest_begins : {B : Type 0} (other : Token → Option B) → ((line : ℕ) → is_some (other (record { what = kinds.Symbol (codes "{"); line = line })) ≡ false)
+      → ((line : ℕ) → is_some (other (record { what = kinds.Symbol (codes ";"); line = line })) ≡ false)
+      → ((line : ℕ) → is_some (other (record { what = kinds.PragmaOss; line = line })) ≡ false) → NeverStarts (Either (IsBlock Inner) (Either IsEmpty (Either (IsTask Inner) IsWait))) (begins other)
+  block_or_rest_begins other b e p = begin_either (begins other) false (block_begins other false b) (rest_begins other e p)
+
+  reads_from_print : Reads (read_either (begins (keyword_at (codes "printf"))) read_print (read_either (begins (symbol_at (codes "{"))) (read_block inner) (read_either (begins semicolon) read_empty (read_pragma inner))))
+      (Either IsPrint (Either (IsBlock Inner) (Either IsEmpty (Either (IsTask Inner) IsWait)))) Anything
+  reads_from_print = reads_either (begins (keyword_at (codes "printf"))) reads_print reads_from_block
+      (λ xs a rest w free. print_begins (keyword_at (codes "printf")) true (λ line. refl) xs a rest w)
+      (λ xs a rest w free. block_or_rest_begins (keyword_at (codes "printf")) (λ line. refl) (λ line. refl) (λ line. refl) xs a rest w)
+
+  no_name : NeverStarts (Either IsPrint (Either (IsBlock Inner) (Either IsEmpty (Either (IsTask Inner) IsWait)))) (begins name_at)
+  no_name = begin_either (begins name_at) false (print_begins name_at false (λ line. refl)) (block_or_rest_begins name_at (λ line. refl) (λ line. refl) (λ line. refl))
+
+  reads_line : Reads (read_line inner) (IsLine Inner) Anything
+  unfolding read_line
+  reads_line = reads_either (begins name_at) reads_assignment reads_from_print
+      (λ xs a rest w free. assignment_begins name_at true (λ n line. refl) xs a rest w)
+      (λ xs a rest w free. no_name xs a rest w)
+
+-- how a line begins
+start_line : (Inner : List Token → Stmt → Type 0) → Starts (IsLine Inner) begins_line
+start_line Inner = begin_either begins_line true (assignment_begins line_start_at true (λ n line. refl)) (begin_either begins_line true (print_begins line_start_at true (λ line. refl))
+    (begin_either begins_line true (block_begins line_start_at true (λ line. refl)) (begin_either begins_line true (empty_begins line_start_at true (λ line. refl)) (pragma_begins line_start_at true (λ line. refl)))))
+
+pub start_line_within : (levels : ℕ) → Starts (IsLineWithin levels) begins_line
+unfolding IsLineWithin
+start_line_within zero xs a rest w = absurd w
+start_line_within (suc levels) xs a rest w = start_line (IsLineWithin levels) xs a rest w
+
+pub reads_line_within : (levels : ℕ) → Reads (read_line_within levels) (IsLineWithin levels) Anything
+unfolding IsLineWithin read_line_within
+reads_line_within zero = record { takes = λ ts value rest r. absurd (cc); again = λ xs value rest w free. absurd w }
+reads_line_within (suc levels) = reads_line (reads_line_within levels) (start_line_within levels)
+
+pub reads_lines : (levels : ℕ) → Reads (read_lines levels) (Many (IsLineWithin levels)) (MayFollow begins_line Anything)
 unfolding read_lines
-reads_lines = reads_many begins_line reads_line start_line refl line_apart
+reads_lines levels = reads_many begins_line (reads_line_within levels) (start_line_within levels) refl line_apart
+
+-- a line that has no level is none, and with levels it is read as one in which lines have one less
+pub line_none : (ts : List Token) → read_line_within 0 ts ≡ None
+unfolding read_line_within
+line_none ts = refl
+
+pub line_some : (levels : ℕ) (ts : List Token) → 0 < levels → read_line_within levels ts ≡ read_line (read_line_within (levels - 1)) ts
+unfolding read_line_within
+line_some zero ts some = absurd (omega arith)
+line_some (suc levels) ts some = let less : suc levels - 1 ≡ levels = omega arith in rw less refl
 
 pub reads_header : Reads read_header IsHeader Anything
 unfolding read_header
@@ -362,15 +584,9 @@ header_apart ys b rest w free =
     one ∙ two ∙ ap (λ ts. h.before.token ∷ ts) (three ∙ ap (λ ts. m.before.token ∷ ts) four) in
     record { past = ap begins_declaration whole ∙ rw (main, bracket) (and-no (is_type h.before.token.what)); free = tt }
 
-brace_apart : (ys : List Token) (line : ℕ) (rest : List Token) → One (symbol_at (codes "}")) ys line → Anything rest → MayFollow begins_line Anything (ys ++ rest)
-brace_apart ys line rest w free =
-    let name : begins name_at (ys ++ rest) ≡ false = symbol_begins (codes "}") name_at (λ line. refl) ys line rest w in
-    let word : begins (keyword_at (codes "printf")) (ys ++ rest) ≡ false = symbol_begins (codes "}") (keyword_at (codes "printf")) (λ line. refl) ys line rest w in
-    record { past = rw (name, word) refl; free = tt }
-
 pub reads_program : Reads read_program IsProgram Anything
 unfolding read_program
-reads_program = reads_mapped program_of (reads_both reads_declarations (reads_both reads_header (reads_both reads_lines (reads_one (symbol_at (codes "}"))) brace_apart) (λ ys b rest w free. tt)) header_apart)
+reads_program = reads_mapped program_of (reads_both reads_declarations (reads_both reads_header (reads_both (reads_lines 64) (reads_one (symbol_at (codes "}"))) brace_apart) (λ ys b rest w free. tt)) header_apart)
 
 -- the loops
 pub repeats_declarators : Repeats begins_comma read_next_declarator
@@ -379,8 +595,14 @@ repeats_declarators = repeats begins_comma reads_next_declarator start_comma ref
 pub repeats_arguments : Repeats begins_comma read_argument
 repeats_arguments = repeats begins_comma reads_argument start_comma refl argument_apart
 
-pub repeats_lines : Repeats begins_line read_line
-repeats_lines = repeats begins_line reads_line start_line refl line_apart
+pub repeats_lines : (levels : ℕ) → Repeats begins_line (read_line_within levels)
+repeats_lines levels = repeats begins_line (reads_line_within levels) (start_line_within levels) refl line_apart
+
+pub repeats_sections : Repeats begins_comma read_next_section
+repeats_sections = repeats begins_comma reads_next_section start_comma refl section_apart
+
+pub repeats_dependencies : Repeats begins_dependency read_next_dependency
+repeats_dependencies = repeats begins_dependency reads_next_dependency start_dependency refl dependency_apart
 
 pub repeats_declarations : Repeats begins_declaration read_declaration
 repeats_declarations = repeats begins_declaration reads_declaration start_declaration refl declaration_apart

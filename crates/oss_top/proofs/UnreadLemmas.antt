@@ -1,5 +1,5 @@
 -- A fault of a part is the fault of the whole.
-use Rattle.std.proofs.Common.{◌≡◌, List, Option, Some, None, Result, Ok, Err}
+use Rattle.std.proofs.Common.{◌≡◌, List, Option, None, Err}
 use Rattle.oss_syntax.specs.declared.token.Token.{Token}
 use Rattle.oss_top.specs.declared.form.cursor.Unread.{Unread}
 use Rattle.oss_top.specs.declared.form.cursor.Unread.TheVariants as unread

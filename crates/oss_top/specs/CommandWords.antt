@@ -1,6 +1,6 @@
 -- The words of the command line, after the name of the program. The one command is `run FILE`; an operand is not empty and does
 -- not begin with `-`. Read against: no words, `run`, `run a.c b.c`, `run -a` and `run a.c --fuel=5` are refused.
-use Rattle.std.specs.Prelude.{ℕ, Bool, true, false, ◌&&◌, not, ◌==◌, if◌then◌else◌, List, [], ◌∷◌, ◌++◌, Option, Some, None, codes}
+use Rattle.std.specs.Prelude.{ℕ, Bool, false, ◌&&◌, not, ◌==◌, if◌then◌else◌, List, [], ◌∷◌, ◌++◌, Option, Some, None, codes}
 use Rattle.std.specs.Str.{bytes_eq}
 
 abbrev pub is_operand : List ℕ → Bool

@@ -95,6 +95,6 @@ pub data IsUnwritten (out_old out_new : Option (List ℕ)) (out_before out_now :
 
 -- Completeness: where no count of faults rises, a file that is given has the status of its text, or memory is wanting.
 pub record IsComplete (words : List (List ℕ)) (held : List ℕ → Option (List ℕ)) (status : ℕ) : Type 0 where
-  pub runs : (file text : List ℕ) (program : Program) → file_in words ≡ Some file → held file ≡ Some text → length text ≤ most_bytes → Accepts text program → (status ≡ 0) ⊎ (status ≡ 6)
+  pub runs : (file text : List ℕ) (program : Program) → file_in words ≡ Some file → held file ≡ Some text → length text ≤ most_bytes → Accepts text program → (status ≡ 0) ⊎ ((status ≡ 1) ⊎ (status ≡ 6))
   pub refuses : (file text : List ℕ) → file_in words ≡ Some file → held file ≡ Some text → length text ≤ most_bytes → Refuses text → (status ≡ 3) ⊎ (status ≡ 6)
   pub too_large : (file text : List ℕ) → file_in words ≡ Some file → held file ≡ Some text → most_bytes < length text → (status ≡ 3) ⊎ (status ≡ 6)

@@ -1,4 +1,4 @@
--- The texts that are programs of scalars: those whose tokens are a program that obeys the static rules.
+-- The texts that are programs of scalars with tasks: those whose tokens are a program that obeys the static rules.
 -- Read against: `long a, b;` and `int main() { a = 41; b = a; printf("hello\n"); }` is one; `int main() { x = 1; }` is none.
 use Rattle.std.specs.Prelude.{ℕ, List, Result, Ok, Err}
 use Rattle.oss_syntax.specs.declared.token.Token.{Token}

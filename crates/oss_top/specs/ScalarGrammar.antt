@@ -1,17 +1,25 @@
--- The grammar of programs of scalars, as a relation between a whole list of tokens and a tree:
+-- The grammar of programs of scalars with tasks, as a relation between a whole list of tokens and a tree:
 --
 --     program     = { declaration } "int" "main" "(" ")" "{" { line } "}"
 --     declaration = type declarator { "," declarator } ";"
 --     type        = "int" | "long" | "unsigned" "long"
 --     declarator  = name [ "=" [ "-" ] number ]
---     line        = name "=" sum ";" | "printf" "(" string { "," sum } ")" ";"
+--     line        = name "=" sum ";" | "printf" "(" string { "," sum } ")" ";" | block | ";"
+--                 | mark line | start "taskwait" end
+--     block       = "{" { line } "}"
+--     mark        = start "task" { [ "," ] dependency } end
+--     dependency  = ( "in" | "out" | "inout" ) "(" name { "," name } ")"
 --     sum         = term { ( "+" | "-" ) term }          with at most 256 operators
 --     term        = name | number
 --
--- (C11 6.5.6, 6.7, 6.8.3, 6.9, a part of them.) Each line of a tree is that of the first token of the thing, or of the name
--- that a declaration gives.
-use Rattle.std.specs.Prelude.{◌≡◌, ℕ, Bool, true, false, if◌then◌else◌, List, [], ◌∷◌, ◌++◌, Option, Some, None, unwrap_or, map, codes}
+-- (C11 6.5.6, 6.7, 6.8.2, 6.8.3, 6.9, and OmpSs-2's tasks, a part of them.) `start` and `end` are the first and the last token
+-- of a line `#pragma oss`; the words of a pragma are names to the lexer. The lines of `main` have level 1, a line in a block and
+-- the line of a task have one level more than what they stand in, and no line has a level above 64. Each line of a tree is that
+-- of the first token of the thing, or of the name that a declaration gives.
+use Rattle.std.specs.Prelude.{ℕ, zero, suc, Bool, true, false, ◌||◌, if◌then◌else◌, List, [], ◌∷◌, ◌++◌, Option, Some, None, unwrap_or, map, codes}
 use Rattle.std.specs.Str.{bytes_eq}
+use Rattle.oss_syntax.specs.declared.access.Mode.{Mode}
+use Rattle.oss_syntax.specs.declared.access.Mode.TheVariants as mode
 use Rattle.oss_syntax.specs.declared.token.Token.{Token}
 use Rattle.oss_syntax.specs.declared.token.TokenKind.{TokenKind}
 use Rattle.oss_syntax.specs.declared.token.TokenKind.TheVariants as kinds
@@ -19,8 +27,11 @@ use Rattle.oss_syntax.specs.declared.tree.expr.BinOp.{BinOp}
 use Rattle.oss_syntax.specs.declared.tree.expr.BinOp.TheVariants as op
 use Rattle.oss_syntax.specs.declared.tree.expr.Expr.{Expr}
 use Rattle.oss_syntax.specs.declared.tree.expr.ExprKind.TheVariants as exprs
-use Rattle.oss_syntax.specs.declared.tree.program.Function.{Function}
-use Rattle.oss_syntax.specs.declared.tree.program.GlobalDef.{GlobalDef}
+use Rattle.oss_syntax.specs.declared.tree.pragma.Clause.{Clause}
+use Rattle.oss_syntax.specs.declared.tree.pragma.Clause.TheVariants as clause
+use Rattle.oss_syntax.specs.declared.tree.pragma.Form.TheVariants as form
+use Rattle.oss_syntax.specs.declared.tree.pragma.Section.{Section}
+use Rattle.oss_syntax.specs.declared.tree.pragma.TaskMark.{TaskMark}
 use Rattle.oss_syntax.specs.declared.tree.program.Item.{Item}
 use Rattle.oss_syntax.specs.declared.tree.program.Item.TheVariants as items
 use Rattle.oss_syntax.specs.declared.tree.program.Kind.TheVariants as kind
@@ -46,15 +57,33 @@ abbrev pub is_name : List ℕ → TokenKind → Bool
 is_name n (kinds.Name w) = bytes_eq w n
 is_name n _ = false
 
--- the line of a symbol, of a keyword and of the name `main`
+-- the line of a symbol, of a keyword, of a name with these bytes and of the name `main`
 abbrev pub symbol_at : List ℕ → Token → Option ℕ
 symbol_at s t = if is_symbol s t.what then Some t.line else None
 
 abbrev pub keyword_at : List ℕ → Token → Option ℕ
 keyword_at k t = if is_keyword k t.what then Some t.line else None
 
+abbrev pub word_at : List ℕ → Token → Option ℕ
+word_at w t = if is_name w t.what then Some t.line else None
+
 abbrev pub main_at : Token → Option ℕ
-main_at t = if is_name (codes "main") t.what then Some t.line else None
+main_at = word_at (codes "main")
+
+-- the line of the first token of a pragma, and of its last one
+abbrev pub start_in : TokenKind → ℕ → Option ℕ
+start_in kinds.PragmaOss line = Some line
+start_in _ line = None
+
+abbrev pub start_at : Token → Option ℕ
+start_at t = start_in t.what t.line
+
+abbrev pub end_in : TokenKind → ℕ → Option ℕ
+end_in kinds.PragmaEnd line = Some line
+end_in _ line = None
+
+abbrev pub end_at : Token → Option ℕ
+end_at t = end_in t.what t.line
 
 -- a name, with its line
 abbrev pub named_in : TokenKind → ℕ → Option Named
@@ -167,8 +196,75 @@ abbrev pub IsPrint : List Token → Stmt → Type 0
 IsPrint = Mapped print_of (Both (One (keyword_at (codes "printf"))) (Both (One (symbol_at (codes "("))) (Both (One text_at)
     (Both (Many (Comma IsSum)) (Both (One (symbol_at (codes ")"))) (One (symbol_at (codes ";"))))))))
 
-abbrev pub IsLine : List Token → Stmt → Type 0
-IsLine = Either IsAssignment IsPrint
+-- how a dependency uses its cells
+abbrev pub mode_in : TokenKind → Option Mode
+mode_in k = if is_name (codes "in") k then Some mode.Read else if is_name (codes "out") k || is_name (codes "inout") k then Some mode.Write else None
+
+abbrev pub mode_at : Token → Option Mode
+mode_at t = mode_in t.what
+
+-- a name stands for a scalar
+abbrev pub section_in : TokenKind → ℕ → Option Section
+section_in (kinds.Name name) line = Some (record { base = name; form = form.Whole; line = line })
+section_in _ line = None
+
+abbrev pub section_at : Token → Option Section
+section_at t = section_in t.what t.line
+
+-- name { "," name }
+abbrev pub IsSections : List Token → List Section → Type 0
+IsSections = Mapped all_of (Both (One section_at) (Many (Comma (One section_at))))
+
+abbrev pub dependency_of : Mode × (ℕ × (List Section × ℕ)) → Clause
+dependency_of p = clause.Depend p.0 true p.1.1.0
+
+abbrev pub IsDependency : List Token → Clause → Type 0
+IsDependency = Mapped dependency_of (Both (One mode_at) (Both (One (symbol_at (codes "("))) (Both IsSections (One (symbol_at (codes ")"))))))
+
+-- [ "," ] dependency
+abbrev pub IsNextDependency : List Token → Clause → Type 0
+IsNextDependency = Either (Comma IsDependency) IsDependency
+
+abbrev pub mark_of : ℕ × (ℕ × (List Clause × ℕ)) → TaskMark
+mark_of p = record { clauses = p.1.1.0; line = p.0 }
+
+abbrev pub IsMark : List Token → TaskMark → Type 0
+IsMark = Mapped mark_of (Both (One start_at) (Both (One (word_at (codes "task"))) (Both (Many IsNextDependency) (One end_at))))
+
+abbrev pub wait_of : ℕ × (ℕ × ℕ) → Stmt
+wait_of p = record { what = stmts.TaskWait None; line = p.0 }
+
+abbrev pub IsWait : List Token → Stmt → Type 0
+IsWait = Mapped wait_of (Both (One start_at) (Both (One (word_at (codes "taskwait"))) (One end_at)))
+
+abbrev pub empty_of : ℕ → Stmt
+empty_of line = record { what = stmts.Empty; line = line }
+
+abbrev pub IsEmpty : List Token → Stmt → Type 0
+IsEmpty = Mapped empty_of (One (symbol_at (codes ";")))
+
+abbrev pub block_of : ℕ × (List Stmt × ℕ) → Stmt
+block_of p = record { what = stmts.Block p.1.0; line = p.0 }
+
+-- a block of such lines
+abbrev pub IsBlock : (List Token → Stmt → Type 0) → List Token → Stmt → Type 0
+IsBlock Inner = Mapped block_of (Both (One (symbol_at (codes "{"))) (Both (Many Inner) (One (symbol_at (codes "}")))))
+
+abbrev pub task_of : TaskMark × Stmt → Stmt
+task_of p = record { what = stmts.Task p.0 p.1; line = p.0.line }
+
+-- a task of such a line
+abbrev pub IsTask : (List Token → Stmt → Type 0) → List Token → Stmt → Type 0
+IsTask Inner = Mapped task_of (Both IsMark Inner)
+
+-- a line, in which such lines stand
+abbrev pub IsLine : (List Token → Stmt → Type 0) → List Token → Stmt → Type 0
+IsLine Inner = Either IsAssignment (Either IsPrint (Either (IsBlock Inner) (Either IsEmpty (Either (IsTask Inner) IsWait))))
+
+-- a line that has so many levels, its own with it
+unfoldable pub IsLineWithin : ℕ → List Token → Stmt → Type 0
+IsLineWithin zero = λ ts s. ⊥
+IsLineWithin (suc levels) = IsLine (IsLineWithin levels)
 
 abbrev pub main_line : ℕ × (ℕ × (ℕ × (ℕ × ℕ))) → ℕ
 main_line p = p.1.0
@@ -188,4 +284,4 @@ abbrev pub program_of : List (List Item) × (ℕ × (List Stmt × ℕ)) → Prog
 program_of p = record { items = one_after_another p.0 ++ main_of p.1.0 p.1.1.0 ∷ [] }
 
 abbrev pub IsProgram : List Token → Program → Type 0
-IsProgram = Mapped program_of (Both (Many IsDeclaration) (Both IsHeader (Both (Many IsLine) (One (symbol_at (codes "}"))))))
+IsProgram = Mapped program_of (Both (Many IsDeclaration) (Both IsHeader (Both (Many (IsLineWithin 64)) (One (symbol_at (codes "}"))))))

@@ -1,19 +1,21 @@
--- How a program of scalars is read from its tokens, from left to right. Each of these reads the grammar of the same name.
-use Rattle.std.specs.Prelude.{◌≡◌, ℕ, Bool, true, false, ◌&&◌, ◌||◌, not, List, [], ◌∷◌, Option, Some, None, is_some, Result, Ok, Err, codes}
+-- How a program of scalars with tasks is read from its tokens, from left to right. Each of these reads the grammar of the same name.
+use Rattle.std.specs.Prelude.{◌≡◌, ℕ, zero, suc, Bool, false, ◌&&◌, ◌||◌, not, if◌then◌else◌, List, [], ◌∷◌, Option, Some, None, is_some, Result, Ok, Err, codes}
 use Rattle.oss_syntax.specs.declared.token.Token.{Token}
 use Rattle.oss_syntax.specs.declared.token.TokenKind.{TokenKind}
 use Rattle.oss_syntax.specs.declared.tree.expr.BinOp.{BinOp}
 use Rattle.oss_syntax.specs.declared.tree.expr.Expr.{Expr}
+use Rattle.oss_syntax.specs.declared.tree.pragma.Clause.{Clause}
+use Rattle.oss_syntax.specs.declared.tree.pragma.Section.{Section}
+use Rattle.oss_syntax.specs.declared.tree.pragma.TaskMark.{TaskMark}
 use Rattle.oss_syntax.specs.declared.tree.program.Item.{Item}
 use Rattle.oss_syntax.specs.declared.tree.program.NumKind.{NumKind}
 use Rattle.oss_syntax.specs.declared.tree.program.Program.{Program}
 use Rattle.oss_syntax.specs.declared.tree.stmt.Stmt.{Stmt}
 use Rattle.oss_model.specs.Readers.{read_one, read_both, read_mapped, read_either, read_maybe, read_many, read_chained}
-use Rattle.oss_top.specs.declared.form.cursor.Named.{Named}
 use Rattle.oss_top.specs.declared.form.cursor.Unread.{Unread}
 use Rattle.oss_top.specs.declared.form.cursor.Unread.TheVariants as unread
 use Rattle.oss_top.specs.declared.form.reader.Declarator.{Declarator}
-use Rattle.oss_top.specs.ScalarGrammar.{is_symbol, is_keyword, is_name, symbol_at, keyword_at, main_at, name_at, number_at, text_at, term_at, operator_at, kind_at, ulong_of, negated_second, second, declarator_of, all_of, globals_of, joined_by, assignment_of, print_of, main_line, program_of, IsProgram}
+use Rattle.oss_top.specs.ScalarGrammar.{is_symbol, is_keyword, symbol_at, keyword_at, word_at, main_at, start_in, start_at, end_at, name_at, named_in, number_at, text_at, term_at, operator_at, kind_at, mode_in, mode_at, section_at, ulong_of, negated_second, second, declarator_of, all_of, globals_of, joined_by, assignment_of, print_of, dependency_of, mark_of, wait_of, empty_of, block_of, task_of, main_line, program_of, IsProgram}
 
 -- what a call of the reader gives: the value and the tokens behind it, or that there is none; want of memory says nothing
 abbrev pub Gives : {A : Type 0} → Option (A × List Token) → Result A Unread → List Token → Type 0
@@ -51,8 +53,31 @@ abbrev pub begins_declaration : List Token → Bool
 begins_declaration [] = false
 begins_declaration (t ∷ rest) = is_type t.what && not (heads_main rest)
 
+-- whether a line begins with a token, and its line
+abbrev pub is_line_start : TokenKind → Bool
+is_line_start k = is_some (named_in k 0) || (is_keyword (codes "printf") k || (is_symbol (codes "{") k || (is_symbol (codes ";") k || is_some (start_in k 0))))
+
+abbrev pub line_start_at : Token → Option ℕ
+line_start_at t = if is_line_start t.what then Some t.line else None
+
 abbrev pub begins_line : List Token → Bool
-begins_line ts = begins name_at ts || begins (keyword_at (codes "printf")) ts
+begins_line = begins line_start_at
+
+-- the tokens behind the first one
+abbrev pub behind_first : List Token → List Token
+behind_first [] = []
+behind_first (t ∷ rest) = rest
+
+-- whether the second token is the word of a task
+abbrev pub heads_task : List Token → Bool
+heads_task ts = begins (word_at (codes "task")) (behind_first ts)
+
+-- whether a dependency begins with a token, or a comma before one
+abbrev pub dependency_start_at : Token → Option ℕ
+dependency_start_at t = if is_some (mode_in t.what) || is_symbol (codes ",") t.what then Some t.line else None
+
+abbrev pub begins_dependency : List Token → Bool
+begins_dependency = begins dependency_start_at
 
 unfoldable pub read_type : List Token → Option (NumKind × List Token)
 read_type = read_either (begins kind_at) (read_one kind_at) (read_mapped ulong_of (read_both (read_one (keyword_at (codes "unsigned"))) (read_one (keyword_at (codes "long")))))
@@ -97,11 +122,52 @@ unfoldable pub read_print : List Token → Option (Stmt × List Token)
 read_print = read_mapped print_of (read_both (read_one (keyword_at (codes "printf"))) (read_both (read_one (symbol_at (codes "("))) (read_both (read_one text_at)
     (read_both read_arguments (read_both (read_one (symbol_at (codes ")"))) (read_one (symbol_at (codes ";"))))))))
 
-unfoldable pub read_line : List Token → Option (Stmt × List Token)
-read_line = read_either (begins name_at) read_assignment read_print
+unfoldable pub read_next_section : List Token → Option (Section × List Token)
+read_next_section = read_mapped second (read_both (read_one (symbol_at (codes ","))) (read_one section_at))
 
-unfoldable pub read_lines : List Token → Option (List Stmt × List Token)
-read_lines = read_many begins_line read_line
+unfoldable pub read_sections : List Token → Option (List Section × List Token)
+read_sections = read_mapped all_of (read_both (read_one section_at) (read_many begins_comma read_next_section))
+
+unfoldable pub read_dependency : List Token → Option (Clause × List Token)
+read_dependency = read_mapped dependency_of (read_both (read_one mode_at) (read_both (read_one (symbol_at (codes "("))) (read_both read_sections (read_one (symbol_at (codes ")"))))))
+
+unfoldable pub read_next_dependency : List Token → Option (Clause × List Token)
+read_next_dependency = read_either begins_comma (read_mapped second (read_both (read_one (symbol_at (codes ","))) read_dependency)) read_dependency
+
+unfoldable pub read_dependencies : List Token → Option (List Clause × List Token)
+read_dependencies = read_many begins_dependency read_next_dependency
+
+unfoldable pub read_mark : List Token → Option (TaskMark × List Token)
+read_mark = read_mapped mark_of (read_both (read_one start_at) (read_both (read_one (word_at (codes "task"))) (read_both read_dependencies (read_one end_at))))
+
+unfoldable pub read_wait : List Token → Option (Stmt × List Token)
+read_wait = read_mapped wait_of (read_both (read_one start_at) (read_both (read_one (word_at (codes "taskwait"))) (read_one end_at)))
+
+unfoldable pub read_empty : List Token → Option (Stmt × List Token)
+read_empty = read_mapped empty_of (read_one (symbol_at (codes ";")))
+
+unfoldable pub read_block : (List Token → Option (Stmt × List Token)) → List Token → Option (Stmt × List Token)
+read_block inner = read_mapped block_of (read_both (read_one (symbol_at (codes "{"))) (read_both (read_many begins_line inner) (read_one (symbol_at (codes "}")))))
+
+unfoldable pub read_task : (List Token → Option (Stmt × List Token)) → List Token → Option (Stmt × List Token)
+read_task inner = read_mapped task_of (read_both read_mark inner)
+
+-- a pragma that is a line, or has one behind it
+unfoldable pub read_pragma : (List Token → Option (Stmt × List Token)) → List Token → Option (Stmt × List Token)
+read_pragma inner = read_either heads_task (read_task inner) read_wait
+
+-- a line, in which lines are read so
+unfoldable pub read_line : (List Token → Option (Stmt × List Token)) → List Token → Option (Stmt × List Token)
+read_line inner = read_either (begins name_at) read_assignment (read_either (begins (keyword_at (codes "printf"))) read_print
+    (read_either (begins (symbol_at (codes "{"))) (read_block inner) (read_either (begins (symbol_at (codes ";"))) read_empty (read_pragma inner))))
+
+-- a line that has so many levels, its own with it
+unfoldable pub read_line_within : ℕ → List Token → Option (Stmt × List Token)
+read_line_within zero = λ ts. None
+read_line_within (suc levels) = read_line (read_line_within levels)
+
+unfoldable pub read_lines : ℕ → List Token → Option (List Stmt × List Token)
+read_lines levels = read_many begins_line (read_line_within levels)
 
 unfoldable pub read_header : List Token → Option (ℕ × List Token)
 read_header = read_mapped main_line (read_both (read_one (keyword_at (codes "int"))) (read_both (read_one main_at) (read_both (read_one (symbol_at (codes "("))) (read_both (read_one (symbol_at (codes ")"))) (read_one (symbol_at (codes "{")))))))
@@ -110,4 +176,4 @@ unfoldable pub read_declarations : List Token → Option (List (List Item) × Li
 read_declarations = read_many begins_declaration read_declaration
 
 unfoldable pub read_program : List Token → Option (Program × List Token)
-read_program = read_mapped program_of (read_both read_declarations (read_both read_header (read_both read_lines (read_one (symbol_at (codes "}"))))))
+read_program = read_mapped program_of (read_both read_declarations (read_both read_header (read_both (read_lines 64) (read_one (symbol_at (codes "}"))))))

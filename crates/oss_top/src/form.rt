@@ -1,11 +1,14 @@
-//! The reader of programs of scalars: from the bytes of a text to its tree.
+//! The reader of programs of scalars with tasks: from the bytes of a text to its tree.
 
 ghost use Rattle.std.specs.Prelude.{◌≤◌, length};
 ghost use Rattle.oss_top.specs.ScalarForm.{IsRead};
 
 pub mod cursor;
+pub mod lines;
+pub mod pragmas;
 pub mod reader;
 pub mod rules;
+pub mod sums;
 
 use crate::form::cursor::Unread;
 use crate::form::reader::read_tree;
@@ -15,7 +18,7 @@ use oss_model::Refusal;
 use oss_syntax::Program;
 use std::alloc::Global;
 
-/// Reads the text of a program of scalars. `Refused` comes exactly where the text is none.
+/// Reads the text of a program of scalars with tasks. `Refused` comes exactly where the text is none.
 pub fn read(alloc: Global, text: &[u8]) -> Result<Program, Unread>
     requires { length text.now ≤ 1048576 }
     ensures { IsRead text.now result }

@@ -11,7 +11,8 @@ use oss_io::{Shelf, Sink, write_whole};
 use std::alloc::Global;
 
 /// Reads the words behind the program's name, reads the file that they name from the shelf, runs it or refuses it, and
-/// writes the texts, the output first. The status is 0 where the program ran, 2 where the words are refused, 3 where the
+/// writes the texts, the output first. The status is 0 where the program ran to its end, 1 where it
+/// ran into a fault, 2 where the words are refused, 3 where the
 /// file is too long or its text is refused, 4 where the shelf failed, 5 where a sink failed, and 6 for want of memory:
 /// `IsReply` says of each what stands on the sinks, and when it comes.
 pub fn nest6<S: Shelf, O: Sink, E: Sink>(
@@ -30,8 +31,6 @@ pub fn nest6<S: Shelf, O: Sink, E: Sink>(
         × IsUnwritten (O.taken out.old) (O.taken out.new) (O.faults out.old) (O.faults out.new) (E.taken err.old) (E.taken err.new) (E.faults err.old) (E.faults err.new) o e }
     ensures complete { (Rises (S.faults shelf.old) (S.faults shelf.new) → ⊥) → (Rises (O.faults out.old) (O.faults out.new) → ⊥) → (Rises (E.faults err.old) (E.faults err.new) → ⊥)
         → IsComplete (map string_bytes words.now) (S.held shelf.old) result }
-    // A program of this form always runs to its end.
-    ensures no_fault { result ≢ 1 }
 {
     match reply_to(alloc, words, shelf) {
         Ok(reply) => deliver(&reply, out, err),

@@ -1,6 +1,6 @@
 //! What the top call replies, before it is written.
 
-ghost use Rattle.std.specs.Prelude.{◌≡◌, ◌≢◌, ◌≤◌, [], length, map, IfOk};
+ghost use Rattle.std.specs.Prelude.{◌≡◌, ◌≤◌, [], length, map, IfOk};
 ghost use Rattle.std.specs.String.{string_bytes};
 ghost use Rattle.oss_model.specs.Scalars.{answer_of};
 ghost use Rattle.oss_top.specs.Reply.{IsProgramReply, IsReply, IsTextReply};
@@ -50,8 +50,7 @@ pub fn reply_to<S: Shelf>(
     words: &[String],
     shelf: &mut S,
 ) -> Result<Reply, AllocError>
-    ensures reply { IfOk result (λ reply. IsReply (map string_bytes words.now) (S.held shelf.old) (S.faults shelf.old) (S.faults shelf.new) (S.last shelf.new) reply.status reply.out.items reply.err.items) }
-    ensures no_fault { IfOk result (λ reply. reply.status ≢ 1) }
+    ensures { IfOk result (λ reply. IsReply (map string_bytes words.now) (S.held shelf.old) (S.faults shelf.old) (S.faults shelf.new) (S.last shelf.new) reply.status reply.out.items reply.err.items) }
 {
     let Some(file) = file_of(words) else {
         return Ok(Reply::error(alloc, 2, texts::usage(alloc)?));
@@ -72,9 +71,7 @@ pub fn reply_to<S: Shelf>(
 /// The reply to a program text.
 fn reply_to_text(alloc: Global, text: &[u8]) -> Result<Reply, AllocError>
     requires { length text.now ≤ 1048576 }
-    ensures reply { IfOk result (λ reply. IsTextReply text.now reply.status reply.out.items reply.err.items) }
-    // A text of this size has too few statements to use its fuel up, and its form has no other fault.
-    ensures no_fault { IfOk result (λ reply. reply.status ≢ 1) }
+    ensures { IfOk result (λ reply. IsTextReply text.now reply.status reply.out.items reply.err.items) }
 {
     match read(alloc, text) {
         Ok(program) => reply_to_program(alloc, &program),

@@ -1,9 +1,11 @@
 ghost use Rattle.std.specs.Prelude.{◌≡◌, ◌↔◌, [], IsTrue, is_some, codes};
 ghost use Rattle.oss_model.specs.Readers.{read_one};
-ghost use Rattle.oss_top.specs.ScalarGrammar.{is_symbol, is_keyword, is_name, symbol_at, keyword_at, main_at, name_at, named_in, number_at, number_in, text_at, text_in, term_at, term_in, operator_at, operator_in, kind_at, kind_in};
-ghost use Rattle.oss_top.specs.ScalarReading.{Gives, Makes, begins, begins_line, begins_declaration, heads_main, is_type};
+ghost use Rattle.oss_top.specs.ScalarGrammar.{is_symbol, is_keyword, is_name, symbol_at, keyword_at, word_at, start_at, start_in, end_at, end_in, name_at, named_in, number_at, number_in, text_at, text_in, term_at, term_in, operator_at, operator_in, kind_at, kind_in, mode_at, mode_in, section_at, section_in};
+ghost use Rattle.oss_top.specs.ScalarReading.{Gives, Makes, begins, begins_line, begins_declaration, begins_dependency, heads_main, heads_task, is_line_start, is_type};
 
-use oss_syntax::{BinOp, Bytes, Expr, ExprKind, Name, NumKind, Token, TokenKind};
+use oss_syntax::{
+    BinOp, Bytes, Expr, ExprKind, Form, Mode, Name, NumKind, Section, Token, TokenKind,
+};
 use std::alloc::{AllocError, Global};
 use std::marker::Model;
 
@@ -78,14 +80,42 @@ impl<'a> Cursor<'a> {
         Ok(token.line)
     }
 
-    /// Takes the name `main`, and answers its line.
-    pub fn main_name(&mut self) -> Result<u32, Unread>
-        ensures { Gives (read_one main_at self.old) result self.new }
+    /// Takes the name with these bytes, and answers its line.
+    pub fn word(&mut self, word: &[u8]) -> Result<u32, Unread>
+        ensures { Gives (read_one (word_at word.now) self.old) result self.new }
     {
         let Some((token, rest)) = self.left.split_first() else {
             return Err(Unread::Refused);
         };
-        if !name_is_main(&token.what) {
+        if !name_is(word, &token.what) {
+            return Err(Unread::Refused);
+        }
+        self.left = rest;
+        Ok(token.line)
+    }
+
+    /// Takes the first token of a pragma, and answers its line.
+    pub fn pragma_start(&mut self) -> Result<u32, Unread>
+        ensures { Gives (read_one start_at self.old) result self.new }
+    {
+        let Some((token, rest)) = self.left.split_first() else {
+            return Err(Unread::Refused);
+        };
+        if !pragma_starts(&token.what) {
+            return Err(Unread::Refused);
+        }
+        self.left = rest;
+        Ok(token.line)
+    }
+
+    /// Takes the last token of a pragma, and answers its line.
+    pub fn pragma_end(&mut self) -> Result<u32, Unread>
+        ensures { Gives (read_one end_at self.old) result self.new }
+    {
+        let Some((token, rest)) = self.left.split_first() else {
+            return Err(Unread::Refused);
+        };
+        if !pragma_ends(&token.what) {
             return Err(Unread::Refused);
         }
         self.left = rest;
@@ -149,6 +179,35 @@ impl<'a> Cursor<'a> {
         };
         self.left = rest;
         Ok(term)
+    }
+
+    /// Takes the word that says how a dependency uses its cells.
+    pub fn mode(&mut self) -> Result<Mode, Unread>
+        ensures { Gives (read_one mode_at self.old) result self.new }
+    {
+        let Some((token, rest)) = self.left.split_first() else {
+            return Err(Unread::Refused);
+        };
+        let Some(mode) = mode(&token.what) else {
+            return Err(Unread::Refused);
+        };
+        self.left = rest;
+        Ok(mode)
+    }
+
+    /// Takes a name of a dependency.
+    pub fn section(&mut self, alloc: Global) -> Result<Section, Unread>
+        ensures { Gives (read_one section_at self.old) result self.new }
+    {
+        let Some((token, rest)) = self.left.split_first() else {
+            return Err(Unread::Refused);
+        };
+        let section = match section(alloc, &token.what, token.line) {
+            Ok(section) => section,
+            Err(unread) => return Err(unread),
+        };
+        self.left = rest;
+        Ok(section)
     }
 
     /// Takes an operator of a sum.
@@ -224,13 +283,43 @@ impl<'a> Cursor<'a> {
         }
     }
 
-    /// Whether a line of `main` begins here.
+    pub fn begins_with_keyword(&self, keyword: &[u8]) -> bool
+        ensures { result ≡ begins (keyword_at keyword.now) self.now }
+    {
+        match self.left.first() {
+            Some(token) => keyword_is(keyword, &token.what),
+            None => false,
+        }
+    }
+
+    /// Whether a line begins here.
     pub fn begins_line(&self) -> bool
         ensures { result ≡ begins_line self.now }
     {
         match self.left.first() {
-            Some(token) => is_any_name(&token.what) || keyword_is(b"printf", &token.what),
+            Some(token) => line_starts(&token.what),
             None => false,
+        }
+    }
+
+    /// Whether a dependency begins here, or the comma before one.
+    pub fn begins_dependency(&self) -> bool
+        ensures { result ≡ begins_dependency self.now }
+    {
+        match self.left.first() {
+            Some(token) => mode(&token.what).is_some() || symbol_is(b",", &token.what),
+            None => false,
+        }
+    }
+
+    /// Whether the second token is the word of a task.
+    pub fn heads_task(&self) -> bool
+        ensures { result ≡ heads_task self.now }
+    {
+        match self.left {
+            [_, word, ..] => name_is(b"task", &word.what),
+            [_] => false,
+            [] => false,
         }
     }
 
@@ -250,7 +339,7 @@ fn main_begins(tokens: &[Token]) -> bool
     ensures { result ≡ heads_main tokens.now }
 {
     match tokens {
-        [name, bracket, ..] => name_is_main(&name.what) && symbol_is(b"(", &bracket.what),
+        [name, bracket, ..] => name_is(b"main", &name.what) && symbol_is(b"(", &bracket.what),
         [_] => false,
         [] => false,
     }
@@ -292,11 +381,11 @@ fn keyword_is(keyword: &[u8], what: &TokenKind) -> bool
     }
 }
 
-fn name_is_main(what: &TokenKind) -> bool
-    ensures { result ≡ is_name (codes "main") what.now }
+fn name_is(word: &[u8], what: &TokenKind) -> bool
+    ensures { result ≡ is_name word.now what.now }
 {
     match what {
-        TokenKind::Name(name) => name.as_slice() == b"main".as_slice(),
+        TokenKind::Name(name) => name.as_slice() == word,
         TokenKind::Keyword(_) => false,
         TokenKind::Symbol(_) => false,
         TokenKind::Number(_, _) => false,
@@ -305,6 +394,47 @@ fn name_is_main(what: &TokenKind) -> bool
         TokenKind::PragmaEnd => false,
         TokenKind::Directive => false,
     }
+}
+
+fn pragma_starts(what: &TokenKind) -> bool
+    ensures { result ≡ is_some (start_in what.now 0) }
+{
+    match what {
+        TokenKind::PragmaOss => true,
+        TokenKind::Name(_) => false,
+        TokenKind::Keyword(_) => false,
+        TokenKind::Symbol(_) => false,
+        TokenKind::Number(_, _) => false,
+        TokenKind::Text(_) => false,
+        TokenKind::PragmaEnd => false,
+        TokenKind::Directive => false,
+    }
+}
+
+fn pragma_ends(what: &TokenKind) -> bool
+    ensures { result ≡ is_some (end_in what.now 0) }
+{
+    match what {
+        TokenKind::PragmaEnd => true,
+        TokenKind::Name(_) => false,
+        TokenKind::Keyword(_) => false,
+        TokenKind::Symbol(_) => false,
+        TokenKind::Number(_, _) => false,
+        TokenKind::Text(_) => false,
+        TokenKind::PragmaOss => false,
+        TokenKind::Directive => false,
+    }
+}
+
+/// Whether a line begins with a token.
+fn line_starts(what: &TokenKind) -> bool
+    ensures { result ≡ is_line_start what.now }
+{
+    is_any_name(what)
+        || keyword_is(b"printf", what)
+        || symbol_is(b"{", what)
+        || symbol_is(b";", what)
+        || pragma_starts(what)
 }
 
 fn is_any_name(what: &TokenKind) -> bool
@@ -418,5 +548,39 @@ fn kind(what: &TokenKind) -> Option<NumKind>
         Some(NumKind::Long)
     } else {
         None
+    }
+}
+
+fn mode(what: &TokenKind) -> Option<Mode>
+    ensures { result ≡ mode_in what.now }
+{
+    if name_is(b"in", what) {
+        Some(Mode::Read)
+    } else if name_is(b"out", what) || name_is(b"inout", what) {
+        Some(Mode::Write)
+    } else {
+        None
+    }
+}
+
+fn section(alloc: Global, what: &TokenKind, line: u32) -> Result<Section, Unread>
+    ensures { Makes (section_in what.now line) result }
+{
+    match what {
+        TokenKind::Name(name) => match Name::from_slice(alloc, name.as_slice()) {
+            Ok(base) => Ok(Section {
+                base,
+                form: Form::Whole,
+                line,
+            }),
+            Err(e) => Err(Unread::Memory(e)),
+        },
+        TokenKind::Keyword(_) => Err(Unread::Refused),
+        TokenKind::Symbol(_) => Err(Unread::Refused),
+        TokenKind::Number(_, _) => Err(Unread::Refused),
+        TokenKind::Text(_) => Err(Unread::Refused),
+        TokenKind::PragmaOss => Err(Unread::Refused),
+        TokenKind::PragmaEnd => Err(Unread::Refused),
+        TokenKind::Directive => Err(Unread::Refused),
     }
 }

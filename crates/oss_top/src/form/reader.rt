@@ -1,14 +1,15 @@
-ghost use Rattle.std.specs.Prelude.{◌≡◌, ◌≤◌, ◌∷◌, ◌++◌, [], length, map, IfOk, OnOk};
-ghost use Rattle.oss_top.specs.ScalarGrammar.{global_of, joined_by, main_of, one_after_another, operator_at};
-ghost use Rattle.oss_model.specs.Readers.{behind, read_chain, read_many};
-ghost use Rattle.oss_top.specs.ScalarReading.{Gives, IsTree, begins, begins_comma, read_type, read_signed, read_first, read_declarator, read_next_declarator, read_declarators, read_declaration, read_declarations, read_operation, read_sum, read_assignment, read_argument, read_arguments, read_print, read_line, read_lines, read_header, read_program};
+ghost use Rattle.std.specs.Prelude.{◌≡◌, ◌∷◌, ◌++◌, [], map, IfOk, OnOk};
+ghost use Rattle.oss_top.specs.ScalarGrammar.{global_of, main_of, one_after_another};
+ghost use Rattle.oss_model.specs.Readers.{behind, read_many};
+ghost use Rattle.oss_top.specs.ScalarReading.{Gives, IsTree, begins_comma, read_type, read_signed, read_first, read_declarator, read_next_declarator, read_declarators, read_declaration, read_declarations, read_header, read_program};
 
 use crate::form::cursor::{Cursor, Named, Unread};
-use oss_syntax::{
-    BinOp, Boxed, Expr, ExprKind, Function, GlobalDef, Item, Kind, List, Name, NumKind, Program,
-    Stmt, StmtKind, Token,
-};
+use crate::form::lines::lines;
+use oss_syntax::{Function, GlobalDef, Item, Kind, List, Name, NumKind, Program, Stmt, Token};
 use std::alloc::{AllocError, Global};
+
+/// The most levels of lines within lines.
+const MOST_LEVELS: u32 = 64;
 
 /// A declared name, its line, and its initial value.
 #[derive(Debug, Drop)]
@@ -199,195 +200,6 @@ fn declarations(alloc: Global, tokens: &mut Cursor<'_>) -> Result<List<List<Item
     Ok(found)
 }
 
-/// ( "+" | "-" ) term
-#[tactic(auto, unfolding(crate::specs::ScalarReading::read_operation))]
-fn operation(alloc: Global, tokens: &mut Cursor<'_>) -> Result<(BinOp, Expr), Unread>
-    ensures { Gives (read_operation tokens.old) result tokens.new }
-{
-    let operator = match tokens.operator() {
-        Ok(operator) => operator,
-        Err(unread) => return Err(unread),
-    };
-    match tokens.term(alloc) {
-        Ok(term) => Ok((operator, term)),
-        Err(unread) => Err(unread),
-    }
-}
-
-/// term { ( "+" | "-" ) term }, with at most 256 operators
-#[tactic(auto, unfolding(crate::specs::ScalarReading::read_sum))]
-fn sum(alloc: Global, tokens: &mut Cursor<'_>) -> Result<Expr, Unread>
-    ensures { Gives (read_sum tokens.old) result tokens.new }
-{
-    match tokens.term(alloc) {
-        Ok(first) => more_terms(alloc, first, tokens),
-        Err(unread) => Err(unread),
-    }
-}
-
-/// At most 256 operators with their terms, behind the sum so far.
-fn more_terms(alloc: Global, first: Expr, tokens: &mut Cursor<'_>) -> Result<Expr, Unread>
-    ensures { Gives (read_chain (begins operator_at) read_operation joined_by 256 first tokens.old) result tokens.new }
-{
-    let mut value = first;
-    let mut left = 256u32;
-    'operators: while tokens.begins_with_operator() {
-        if left == 0 {
-            return Err(Unread::Refused);
-        }
-        left -= 1;
-        let (operator, term) = match operation(alloc, tokens) {
-            Ok(operation) => operation,
-            Err(unread) => return Err(unread),
-        };
-        value = match join(alloc, value, operator, term) {
-            Ok(joined) => joined,
-            Err(e) => return Err(Unread::Memory(e)),
-        };
-    }
-    Ok(value)
-}
-
-fn join(alloc: Global, left: Expr, operator: BinOp, right: Expr) -> Result<Expr, AllocError>
-    ensures { IfOk result (λ sum. sum ≡ joined_by left (operator, right)) }
-{
-    let line = left.line;
-    Ok(Expr {
-        what: ExprKind::Binary(
-            operator,
-            Boxed::new(alloc, left)?,
-            Boxed::new(alloc, right)?,
-        ),
-        line,
-    })
-}
-
-/// name "=" sum ";"
-#[tactic(auto, unfolding(crate::specs::ScalarReading::read_assignment))]
-fn assignment(alloc: Global, tokens: &mut Cursor<'_>) -> Result<Stmt, Unread>
-    ensures { Gives (read_assignment tokens.old) result tokens.new }
-{
-    let Named { name, line } = match tokens.name(alloc) {
-        Ok(named) => named,
-        Err(unread) => return Err(unread),
-    };
-    match tokens.symbol(b"=") {
-        Ok(_) => {}
-        Err(unread) => return Err(unread),
-    }
-    let value = match sum(alloc, tokens) {
-        Ok(value) => value,
-        Err(unread) => return Err(unread),
-    };
-    match tokens.symbol(b";") {
-        Ok(_) => {}
-        Err(unread) => return Err(unread),
-    }
-    let target = Expr {
-        what: ExprKind::Name(name),
-        line,
-    };
-    Ok(Stmt {
-        what: StmtKind::Assign(target, None, value),
-        line,
-    })
-}
-
-/// "," sum
-#[tactic(auto, unfolding(crate::specs::ScalarReading::read_argument))]
-fn argument(alloc: Global, tokens: &mut Cursor<'_>) -> Result<Expr, Unread>
-    ensures { Gives (read_argument tokens.old) result tokens.new }
-{
-    match tokens.symbol(b",") {
-        Ok(_) => sum(alloc, tokens),
-        Err(unread) => Err(unread),
-    }
-}
-
-/// { "," sum }
-#[tactic(auto, unfolding(crate::specs::ScalarReading::read_arguments))]
-fn arguments(alloc: Global, tokens: &mut Cursor<'_>) -> Result<List<Expr>, Unread>
-    ensures { Gives (read_arguments tokens.old) result tokens.new }
-{
-    let mut found = List::new(alloc);
-    'arguments: while tokens.begins_with_symbol(b",") {
-        let next = match argument(alloc, tokens) {
-            Ok(next) => next,
-            Err(unread) => return Err(unread),
-        };
-        match found.push(next) {
-            Ok(()) => {}
-            Err(e) => return Err(Unread::Memory(e)),
-        }
-    }
-    Ok(found)
-}
-
-/// "printf" "(" string { "," sum } ")" ";"
-#[tactic(auto, unfolding(crate::specs::ScalarReading::read_print))]
-fn print(alloc: Global, tokens: &mut Cursor<'_>) -> Result<Stmt, Unread>
-    ensures { Gives (read_print tokens.old) result tokens.new }
-{
-    let line = match tokens.keyword(b"printf") {
-        Ok(line) => line,
-        Err(unread) => return Err(unread),
-    };
-    match tokens.symbol(b"(") {
-        Ok(_) => {}
-        Err(unread) => return Err(unread),
-    }
-    let format = match tokens.text(alloc) {
-        Ok(format) => format,
-        Err(unread) => return Err(unread),
-    };
-    let values = match arguments(alloc, tokens) {
-        Ok(values) => values,
-        Err(unread) => return Err(unread),
-    };
-    match tokens.symbol(b")") {
-        Ok(_) => {}
-        Err(unread) => return Err(unread),
-    }
-    match tokens.symbol(b";") {
-        Ok(_) => {}
-        Err(unread) => return Err(unread),
-    }
-    Ok(Stmt {
-        what: StmtKind::Print(format, values),
-        line,
-    })
-}
-
-/// assignment | print
-#[tactic(auto, unfolding(crate::specs::ScalarReading::read_line))]
-fn line(alloc: Global, tokens: &mut Cursor<'_>) -> Result<Stmt, Unread>
-    ensures { Gives (read_line tokens.old) result tokens.new }
-{
-    if tokens.begins_with_name() {
-        return assignment(alloc, tokens);
-    }
-    print(alloc, tokens)
-}
-
-/// { line }
-#[tactic(auto, unfolding(crate::specs::ScalarReading::read_lines))]
-fn lines(alloc: Global, tokens: &mut Cursor<'_>) -> Result<List<Stmt>, Unread>
-    ensures { Gives (read_lines tokens.old) result tokens.new }
-{
-    let mut found = List::new(alloc);
-    'lines: while tokens.begins_line() {
-        let next = match line(alloc, tokens) {
-            Ok(next) => next,
-            Err(unread) => return Err(unread),
-        };
-        match found.push(next) {
-            Ok(()) => {}
-            Err(e) => return Err(Unread::Memory(e)),
-        }
-    }
-    Ok(found)
-}
-
 /// "int" "main" "(" ")" "{", with the line of the name
 #[tactic(auto, unfolding(crate::specs::ScalarReading::read_header))]
 fn header(tokens: &mut Cursor<'_>) -> Result<u32, Unread>
@@ -397,7 +209,7 @@ fn header(tokens: &mut Cursor<'_>) -> Result<u32, Unread>
         Ok(_) => {}
         Err(unread) => return Err(unread),
     }
-    let line = match tokens.main_name() {
+    let line = match tokens.word(b"main") {
         Ok(line) => line,
         Err(unread) => return Err(unread),
     };
@@ -428,7 +240,7 @@ fn program(alloc: Global, tokens: &mut Cursor<'_>) -> Result<Program, Unread>
         Ok(line) => line,
         Err(unread) => return Err(unread),
     };
-    let body = match lines(alloc, tokens) {
+    let body = match lines(alloc, MOST_LEVELS, tokens) {
         Ok(body) => body,
         Err(unread) => return Err(unread),
     };
@@ -483,7 +295,7 @@ fn add_items(all: &mut List<Item>, list: List<Item>) -> Result<(), AllocError>
     Ok(())
 }
 
-/// Reads the tokens of a program of scalars to their end.
+/// Reads the tokens of a program of scalars with tasks to their end.
 pub fn read_tree(alloc: Global, tokens: &[Token]) -> Result<Program, Unread>
     ensures { IsTree tokens.now result }
 {

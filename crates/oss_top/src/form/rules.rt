@@ -1,15 +1,18 @@
-//! The static rules of programs of scalars.
-ghost use Rattle.std.specs.Prelude.{◌≡◌, ◌∷◌, ◌++◌, ◌↔◌, [], if◌then◌else◌, length, All, Contains, IsTrue, IfOk, MatchOption};
+//! The static rules of programs of scalars with tasks.
+ghost use Rattle.std.specs.Prelude.{◌≡◌, ◌≤◌, ◌∷◌, ◌++◌, ◌↔◌, [], if◌then◌else◌, length, map, All, Contains, IsTrue, IfOk, MatchOption};
 ghost use Rattle.oss_model.specs.Scalars.{names_of};
 ghost use Rattle.oss_model.specs.Texts.{pieces_of};
-ghost use Rattle.oss_top.specs.ScalarRules.{AreDistinct, Fits, FormatFits, Obeys, names_in, names_in_all, names_used};
+ghost use Rattle.oss_top.specs.ScalarRules.{AreDistinct, Fits, Meets, Obeys, mark_needs, names_by, names_by_all, names_in, names_in_all, names_needed, needs_of, needs_of_all, print_needs};
 
 use indexmap::IndexSet;
 use oss_model::{arguments, pieces};
 use oss_serial::main_statements;
-use oss_syntax::{Expr, ExprKind, Item, Program, Stmt, StmtKind};
+use oss_syntax::{Clause, Expr, ExprKind, Item, Program, Section, Stmt, StmtKind};
 use std::alloc::{AllocError, Global};
 use std::marker::Model;
+
+/// The most names of a pragma.
+const MOST_NAMES: usize = 64;
 
 /// Whether a program obeys the static rules. Want of memory is the one error.
 pub fn obeys(alloc: Global, program: &Program) -> Result<bool, AllocError>
@@ -45,44 +48,41 @@ fn globals(alloc: Global, items: &[Item]) -> Result<Option<Declared<'_>>, AllocE
     Ok(Some(declared))
 }
 
-/// Whether these statements use declared names alone, and each `printf` has as many arguments as its string takes.
+/// Whether these statements use declared names alone, each `printf` has as many arguments as its string takes, and each
+/// pragma has few names.
+#[cycle(statements)]
 fn lines_obey(
     alloc: Global,
     declared: &Declared<'_>,
     statements: &[Stmt],
 ) -> Result<bool, AllocError>
-    ensures { IfOk result (λ ok. IsTrue ok ↔ (All (λ s. All (Contains declared.now) (names_used s.what)) statements.now × All (λ s. FormatFits s.what) statements.now)) }
+    ensures { IfOk result (λ ok. IsTrue ok ↔ All (Meets declared.now) (needs_of_all statements.now)) }
 {
     for statement in statements {
-        if !line_obeys(alloc, declared, &statement.what)? {
+        if !line_obeys(alloc, declared, statement)? {
             return Ok(false);
         }
     }
     Ok(true)
 }
 
-/// The same of one statement.
-fn line_obeys(
-    alloc: Global,
-    declared: &Declared<'_>,
-    statement: &StmtKind,
-) -> Result<bool, AllocError>
-    ensures { IfOk result (λ ok. IsTrue ok ↔ (All (Contains declared.now) (names_used statement.now) × FormatFits statement.now)) }
+/// The same of one statement, and of those inside it.
+#[cycle(statements)]
+fn line_obeys(alloc: Global, declared: &Declared<'_>, statement: &Stmt) -> Result<bool, AllocError>
+    ensures { IfOk result (λ ok. IsTrue ok ↔ All (Meets declared.now) (needs_of statement.now)) }
 {
-    if !declared.has_used(statement) {
-        return Ok(false);
-    }
-    format_fits(alloc, statement)
-}
-
-/// Whether the conversions of a string of `printf` are those of the language and as many as its arguments.
-fn format_fits(alloc: Global, statement: &StmtKind) -> Result<bool, AllocError>
-    ensures { IfOk result (λ ok. IsTrue ok ↔ FormatFits statement.now) }
-{
-    match statement {
-        StmtKind::Print(format, values) => fits(alloc, format.as_slice(), values.len()),
-        StmtKind::Assign(_, _, _) => Ok(true),
-        StmtKind::Block(_) => Ok(true),
+    match &statement.what {
+        StmtKind::Assign(target, _, value) => Ok(declared.has_both(target, value)),
+        StmtKind::Print(format, values) => {
+            print_obeys(alloc, declared, format.as_slice(), values.as_slice())
+        }
+        StmtKind::Block(inner) => lines_obey(alloc, declared, inner.as_slice()),
+        StmtKind::Task(mark, inner) => {
+            if !mark_obeys(declared, mark.clauses.as_slice()) {
+                return Ok(false);
+            }
+            line_obeys(alloc, declared, inner.get())
+        }
         StmtKind::Empty => Ok(true),
         StmtKind::Declare(_) => Ok(true),
         StmtKind::Call(_, _) => Ok(true),
@@ -92,9 +92,59 @@ fn format_fits(alloc: Global, statement: &StmtKind) -> Result<bool, AllocError>
         StmtKind::Return(_) => Ok(true),
         StmtKind::Break => Ok(true),
         StmtKind::Continue => Ok(true),
-        StmtKind::Task(_, _) => Ok(true),
         StmtKind::TaskWait(_) => Ok(true),
         StmtKind::Release(_) => Ok(true),
+    }
+}
+
+/// Whether a `printf` uses declared names alone, and has as many arguments as its string takes.
+fn print_obeys(
+    alloc: Global,
+    declared: &Declared<'_>,
+    format: &[u8],
+    values: &[Expr],
+) -> Result<bool, AllocError>
+    ensures { IfOk result (λ ok. IsTrue ok ↔ All (Meets declared.now) (print_needs format.now values.now)) }
+{
+    if !declared.has_each(values) {
+        return Ok(false);
+    }
+    fits(alloc, format, values.len())
+}
+
+/// Whether the clauses of a task name declared names alone, and few of them.
+fn mark_obeys(declared: &Declared<'_>, clauses: &[Clause]) -> bool
+    ensures { IsTrue result ↔ All (Meets declared.now) (mark_needs clauses.now) }
+{
+    names_are_few(clauses) && declared.has_clauses(clauses)
+}
+
+/// Whether clauses have at most 64 names.
+fn names_are_few(clauses: &[Clause]) -> bool
+    ensures { IsTrue result ↔ (length (names_by_all clauses.now) ≤ 64) }
+{
+    let mut left = MOST_NAMES;
+    for clause in clauses {
+        let count = names_count(clause);
+        if left < count {
+            return false;
+        }
+        left -= count;
+    }
+    true
+}
+
+/// The number of names of a clause.
+fn names_count(clause: &Clause) -> usize
+    ensures { result ≡ length (names_by clause.now) }
+{
+    match clause {
+        Clause::Depend(_, _, sections) => sections.len(),
+        Clause::If(_) => 0,
+        Clause::Final(_) => 0,
+        Clause::Wait => 0,
+        Clause::Label(_) => 0,
+        Clause::Priority(_) => 0,
     }
 }
 
@@ -148,27 +198,49 @@ impl<'p> Declared<'p> {
         self.names.contains(name)
     }
 
-    /// Whether each name that a statement uses is declared.
-    fn has_used(&self, statement: &StmtKind) -> bool
-        ensures { IsTrue result ↔ All (Contains self.now) (names_used statement.now) }
+    /// Whether each name that one of two expressions uses is declared.
+    fn has_both(&self, one: &Expr, other: &Expr) -> bool
+        ensures { IsTrue result ↔ All (Meets self.now) (names_needed (names_in one.now ++ names_in other.now)) }
     {
-        match statement {
-            StmtKind::Assign(target, _, value) => self.has_all(target) && self.has_all(value),
-            StmtKind::Print(_, values) => self.has_each(values.as_slice()),
-            StmtKind::Block(_) => true,
-            StmtKind::Empty => true,
-            StmtKind::Declare(_) => true,
-            StmtKind::Call(_, _) => true,
-            StmtKind::If(_, _, _) => true,
-            StmtKind::While(_, _) => true,
-            StmtKind::For(_, _, _, _) => true,
-            StmtKind::Return(_) => true,
-            StmtKind::Break => true,
-            StmtKind::Continue => true,
-            StmtKind::Task(_, _) => true,
-            StmtKind::TaskWait(_) => true,
-            StmtKind::Release(_) => true,
+        self.has_all(one) && self.has_all(other)
+    }
+
+    /// Whether each name of these clauses is declared.
+    fn has_clauses(&self, clauses: &[Clause]) -> bool
+        ensures { IsTrue result ↔ All (Contains self.now) (names_by_all clauses.now) }
+    {
+        for clause in clauses {
+            if !self.has_clause(clause) {
+                return false;
+            }
         }
+        true
+    }
+
+    /// Whether each name of a clause is declared.
+    fn has_clause(&self, clause: &Clause) -> bool
+        ensures { IsTrue result ↔ All (Contains self.now) (names_by clause.now) }
+    {
+        match clause {
+            Clause::Depend(_, _, sections) => self.has_sections(sections.as_slice()),
+            Clause::If(_) => true,
+            Clause::Final(_) => true,
+            Clause::Wait => true,
+            Clause::Label(_) => true,
+            Clause::Priority(_) => true,
+        }
+    }
+
+    /// Whether each name of these sections is declared.
+    fn has_sections(&self, sections: &[Section]) -> bool
+        ensures { IsTrue result ↔ All (Contains self.now) (map (λ s. s.base) sections.now) }
+    {
+        for section in sections {
+            if !self.has(section.base.as_slice()) {
+                return false;
+            }
+        }
+        true
     }
 
     /// Whether each name that some of these expressions use is declared.

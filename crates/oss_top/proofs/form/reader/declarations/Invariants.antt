@@ -1,4 +1,4 @@
-use Rattle.std.proofs.Common.{◌≡◌, [], length}
+use Rattle.std.proofs.Common.{◌≡◌, length}
 use Rattle.oss_model.specs.Readers.{behind, read_many}
 use Rattle.oss_top.specs.ScalarReading.{begins_declaration, read_declaration}
 use Rattle.oss_top.proofs.form.reader.declarations.Given as goal

@@ -1,4 +1,4 @@
-use Rattle.std.proofs.Common.{◌≡◌, [], length}
+use Rattle.std.proofs.Common.{◌≡◌, length}
 use Rattle.oss_model.specs.Readers.{behind, read_many}
 use Rattle.oss_top.specs.ScalarReading.{begins_comma, read_next_declarator}
 use Rattle.oss_top.proofs.form.reader.more_declarators.Given as goal

@@ -1,4 +1,4 @@
-use Rattle.std.proofs.Common.{◌≡◌, List, [], Err, subst, refl, true, false}
+use Rattle.std.proofs.Common.{◌≡◌, List, Err, subst, refl, true, false}
 use Rattle.oss_syntax.specs.declared.token.Token.{Token}
 use Rattle.oss_top.specs.ScalarReading.{Gives, read_program}
 use Rattle.oss_top.proofs.ScalarLemmas.{read_is, left_is_none}

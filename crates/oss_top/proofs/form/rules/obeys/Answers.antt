@@ -1,7 +1,7 @@
-use Rattle.std.proofs.Common.{◌↔◌, ◌∙◌, All, Contains, IsTrue, ap, subst}
+use Rattle.std.proofs.Common.{◌↔◌, ◌∙◌, All, IsTrue, ap, subst}
 use Rattle.std.proofs.lemmas.Result.{IfOk-weaker}
 use Rattle.oss_model.specs.Scalars.{main_body, names_of}
-use Rattle.oss_top.specs.ScalarRules.{AreDistinct, FormatFits, Obeys, names_used}
+use Rattle.oss_top.specs.ScalarRules.{AreDistinct, Meets, Obeys, needs_of_all}
 use Rattle.oss_top.proofs.RuleLemmas.{obeyed}
 use Rattle.oss_top.proofs.form.rules.obeys.Goals as goal
 
@@ -13,7 +13,7 @@ returns-else-has c =
     let told = rw c.in-Some.is at c.in_ok-declared.ensures in
     let items = c.as_slice-items.ensures in
     IfOk-weaker c.lines_obey.result
-    (λ ok. IsTrue ok ↔ (All (λ s. All (Contains declared) (names_used s.what)) statements × All (λ s. FormatFits s.what) statements))
+    (λ ok. IsTrue ok ↔ All (Meets declared) (needs_of_all statements))
     (λ ok. IsTrue ok ↔ Obeys p)
     (λ ok lines. obeyed p declared statements c.has.result ok (c.main_statements.ensures ∙ ap main_body items) (told.1 ∙ ap names_of items) (subst (λ xs. AreDistinct (names_of xs)) items told.0) c.has.ensures c.if-has.false lines)
     c.lines_obey.ensures

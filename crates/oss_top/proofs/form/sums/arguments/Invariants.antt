@@ -1,7 +1,7 @@
-use Rattle.std.proofs.Common.{◌≡◌, [], length}
+use Rattle.std.proofs.Common.{◌≡◌, length}
 use Rattle.oss_model.specs.Readers.{behind, read_many}
 use Rattle.oss_top.specs.ScalarReading.{begins_comma, read_argument}
-use Rattle.oss_top.proofs.form.reader.arguments.Given as goal
+use Rattle.oss_top.proofs.form.sums.arguments.Given as goal
 
 -- what is read behind the parts so far is what is read of the whole
 abbrev pub invariant-arguments : goal.invariant-arguments

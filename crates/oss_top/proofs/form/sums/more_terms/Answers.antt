@@ -3,7 +3,7 @@ use Rattle.oss_top.specs.ScalarGrammar.{operator_at}
 use Rattle.oss_top.specs.ScalarReading.{begins}
 use Rattle.oss_top.proofs.ScalarLemmas.{sum_stop, sum_full, sum_fail, sum_go}
 use Rattle.oss_top.proofs.UnreadLemmas.{gives_err}
-use Rattle.oss_top.proofs.form.reader.more_terms.Goals as goal
+use Rattle.oss_top.proofs.form.sums.more_terms.Goals as goal
 
 pub returns-then-left-eq0 : goal.returns-then-left-eq0
 returns-then-left-eq0 c =

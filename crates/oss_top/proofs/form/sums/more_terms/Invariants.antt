@@ -1,8 +1,8 @@
-use Rattle.std.proofs.Common.{◌≡◌, length}
+use Rattle.std.proofs.Common.{◌≡◌}
 use Rattle.oss_model.specs.Readers.{read_chain}
 use Rattle.oss_top.specs.ScalarGrammar.{joined_by, operator_at}
 use Rattle.oss_top.specs.ScalarReading.{begins, read_operation}
-use Rattle.oss_top.proofs.form.reader.more_terms.Given as goal
+use Rattle.oss_top.proofs.form.sums.more_terms.Given as goal
 
 -- what is read behind the sum so far is what is read of the whole
 abbrev pub invariant-operators : goal.invariant-operators

@@ -3,7 +3,7 @@ use Rattle.oss_model.proofs.ReadingLemmas.{behind_none}
 use Rattle.oss_top.specs.ScalarReading.{begins_comma, read_arguments}
 use Rattle.oss_top.proofs.ScalarLemmas.{repeats_arguments}
 use Rattle.oss_top.proofs.UnreadLemmas.{gives_err}
-use Rattle.oss_top.proofs.form.reader.arguments.Goals as goal
+use Rattle.oss_top.proofs.form.sums.arguments.Goals as goal
 
 pub arguments-init : goal.arguments-init
 arguments-init c = rw c.new-found.ensures (behind_none _)
