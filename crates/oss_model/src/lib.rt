@@ -2,7 +2,9 @@
 #![tactic(auto)]
 
 mod answer;
+mod line_part;
 mod refusal;
 
 pub use answer::{Answer, FaultKind};
+pub use line_part::LinePart;
 pub use refusal::{Refusal, Refused, RefusedKind};
