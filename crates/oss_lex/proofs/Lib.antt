@@ -1,11 +1,14 @@
 pub mod Answers
+pub mod Comments
 pub mod Digits
+pub mod Fronts
+pub mod GapRuns
 pub mod Gaps
+pub mod HashLines
 pub mod NameWords
 pub mod NumberWords
 pub mod OneReading
 pub mod Runs
-pub mod Steps
 pub mod StringWords
 pub mod SymbolWords
 pub mod TokenWords

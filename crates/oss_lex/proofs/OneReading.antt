@@ -1,56 +1,75 @@
 -- A text has one reading.
-use Rattle.std.proofs.Common.{◌≡◌, ℕ, ◌+◌, List, [], ◌∷◌, refl, ap, sym}
+use Rattle.std.proofs.Common.{◌≡◌, ◌≢◌, ℕ, ◌+◌, List, [], ◌∷◌, ◌++◌, refl, ap, sym, ◌∙◌, subst}
+use Rattle.std.specs.Prelude.{Ok, Err, codes}
 use Rattle.oss_syntax.specs.declared.token.Token.{Token}
+use Rattle.oss_model.specs.declared.line_part.LinePart.{LinePart}
 use Rattle.oss_model.specs.declared.refusal.RefusedKind.{RefusedKind}
-use Rattle.oss_model.specs.Tokens.{Tokens, Stops, IsReadOnce}
-use Rattle.oss_model.specs.Tokens.Tokens.{done, gap, token}
-use Rattle.oss_model.specs.Tokens.Stops.{here, past_gap, past_token}
-use Rattle.oss_lex.proofs.Steps.{Step, end, pass, give, stop, step_at, step_gap, step_token, step_faulty}
+use Rattle.oss_model.specs.declared.refusal.RefusedKind.TheVariants.{Lexical}
+use Rattle.oss_model.specs.Tokens.{Front, IsFront, IsFaulty, Tokens, Stops, found_before, IsReadOnce}
+use Rattle.oss_model.specs.Tokens.IsFaulty.{bad, long, unclosed}
+use Rattle.oss_model.specs.Tokens.Tokens.{done, step}
+use Rattle.oss_model.specs.Tokens.Stops.{here, past}
+use Rattle.oss_model.specs.Words.{IsIdentifier}
+use Rattle.oss_lex.specs.Reading.{at_front, front_at}
+use Rattle.oss_lex.proofs.Fronts.{fault_kind, fault_lines, front_again, faulty_again}
 
--- the tokens of a text, by its first step
-abbrev Follows : Step → ℕ → List Token → Type 0
-Follows end line tokens = tokens ≡ []
-Follows (pass lines rest) line tokens = Tokens (line + lines) rest tokens
-Follows (give what rest) line tokens = (more : List Token) × (tokens ≡ record { what = what; line = line } ∷ more) × Tokens line rest more
-Follows (stop kind) line tokens = ⊥
+-- a text has one front, and none where it is empty or refused
+one_front : (part : LinePart) (text : List ℕ) (front other : Front) → IsFront part text front → IsFront part text other → front ≡ other
+one_front part text front other is also =
+    let read = sym (front_again part text front is) ∙ front_again part text other also in cc
 
--- the refusal of a text, by its first step
-abbrev Halts : Step → ℕ → RefusedKind → ℕ → Type 0
-Halts end line kind at = ⊥
-Halts (pass lines rest) line kind at = Stops (line + lines) rest kind at
-Halts (give what rest) line kind at = Stops line rest kind at
-Halts (stop reason) line kind at = (kind ≡ reason) × (at ≡ line)
+no_front : (part : LinePart) (front : Front) → IsFront part [] front → ⊥
+unfolding front_at
+no_front part front is = let read : Err (at_front Lexical) ≡ Ok front = front_again part [] front is in cc
 
-follows : {line : ℕ} {text : List ℕ} {tokens : List Token} → Tokens line text tokens → Follows (step_at text) line tokens
-unfolding step_at
-follows (done is_end) = rw is_end refl
-follows (gap word rest split is more) = rw (split, step_gap word rest is) more
-follows {text = text} (token {tokens = tokens} what rest begins more) = rw (step_token text what rest begins) (tokens, refl, more)
+no_identifier : (word rest : List ℕ) → IsIdentifier word → [] ≡ word ++ rest → ⊥
+no_identifier [] rest is e = is
+no_identifier (b ∷ word) rest is e = cc
 
-halts : {line at : ℕ} {text : List ℕ} {kind : RefusedKind} → Stops line text kind at → Halts (step_at text) line kind at
-halts {text = text} {kind = kind} (here faulty) = rw (step_faulty text kind faulty) (refl, refl)
-halts (past_gap word rest split is more) = rw (split, step_gap word rest is) more
-halts {text = text} (past_token what rest begins more) = rw (step_token text what rest begins) more
+no_fault : (part : LinePart) (text : List ℕ) (kind : RefusedKind) (lines : ℕ) → IsFaulty part text kind lines → text ≢ []
+no_fault part text kind lines (bad more no_front_there not_long closed) over = more over
+no_fault part text kind lines (long is) over = no_identifier is.word is.rest is.is_word (sym over ∙ is.split)
+no_fault part text kind lines (unclosed gaps is) over = let none : [] ≡ 35 ∷ (codes "pragma" ++ (gaps ++ is.next)) = sym over ∙ is.has_word.split in cc
 
-one_list : {line : ℕ} {text : List ℕ} {tokens : List Token} → Tokens line text tokens → (others : List Token) → Tokens line text others → tokens ≡ others
-unfolding step_at
-one_list (done is_end) others is = sym (rw is_end at (follows is))
-one_list (gap word rest split is_gap more) others is = one_list more others (rw (split, step_gap word rest is_gap) at (follows is))
-one_list {line = line} {text = text} (token what rest begins more) others is =
-    let next : (left : List Token) × (others ≡ record { what = what; line = line } ∷ left) × Tokens line rest left = rw (step_token text what rest begins) at (follows is) in
-    rw next.1 (ap (λ (t : List Token). record { what = what; line = line } ∷ t) (one_list more next.0 next.2))
+one_list : {part : LinePart} {line : ℕ} {text : List ℕ} {tokens : List Token} → Tokens part line text tokens → (others : List Token) → Tokens part line text others → tokens ≡ others
+one_list (done over) others (done also) = refl
+one_list {part = part} (done over) others (step front more is_front rest found) = absurd (no_front part front (rw over at is_front))
+one_list {part = part} (step front more is_front rest found) others (done over) = absurd (no_front part front (rw over at is_front))
+one_list {part = part} {line = line} {text = text} (step front more is_front rest found) others (step other other_more is_other other_rest other_found) =
+    let same : front ≡ other = one_front part text front other is_front is_other in
+    let rest_there : Tokens front.part (line + front.lines) front.rest other_more = subst (λ f. Tokens f.part (line + f.lines) f.rest other_more) (sym same) other_rest in
+    let same_more : more ≡ other_more = one_list rest other_more rest_there in
+    found ∙ ap (λ f. found_before f.what line more) same ∙ ap (λ t. found_before other.what line t) same_more ∙ sym other_found
 
-no_both : {line at : ℕ} {text : List ℕ} {tokens : List Token} {kind : RefusedKind} → Tokens line text tokens → Stops line text kind at → ⊥
-unfolding step_at
-no_both (done is_end) is = rw is_end at (halts is)
-no_both (gap word rest split is_gap more) is = no_both more (rw (split, step_gap word rest is_gap) at (halts is))
-no_both {text = text} (token what rest begins more) is = no_both more (rw (step_token text what rest begins) at (halts is))
+front_no_fault : (part : LinePart) (text : List ℕ) (front : Front) (kind : RefusedKind) (lines : ℕ) → IsFront part text front → IsFaulty part text kind lines → ⊥
+front_no_fault part text front kind lines is faulty =
+    let fault = faulty_again part text kind lines faulty in
+    let read : Ok front ≡ Err fault.0 = sym (front_again part text front is) ∙ fault.1 in cc
 
-one_refusal : {line at other_at : ℕ} {text : List ℕ} {kind other : RefusedKind} → Stops line text kind at → Stops line text other other_at → (kind ≡ other) × (at ≡ other_at)
-one_refusal {text = text} {kind = kind} (here faulty) is =
-    let same = rw (step_faulty text kind faulty) at (halts is) in (sym same.0, sym same.1)
-one_refusal (past_gap word rest split is_gap more) is = one_refusal more (rw (split, step_gap word rest is_gap) at (halts is))
-one_refusal {text = text} (past_token what rest begins more) is = one_refusal more (rw (step_token text what rest begins) at (halts is))
+one_fault : (part : LinePart) (text : List ℕ) (kind other_kind : RefusedKind) (lines other_lines : ℕ) → IsFaulty part text kind lines → IsFaulty part text other_kind other_lines → (kind ≡ other_kind) × (lines ≡ other_lines)
+one_fault part text kind other_kind lines other_lines is also =
+    let fault = faulty_again part text kind lines is in
+    let other = faulty_again part text other_kind other_lines also in
+    let read : Err fault.0 ≡ Err other.0 = sym fault.1 ∙ other.1 in
+    let same : fault.0 ≡ other.0 = cc in
+    (fault.2 ∙ ap fault_kind same ∙ sym other.2, fault.3 ∙ ap fault_lines same ∙ sym other.3)
+
+no_both : {part : LinePart} {line at : ℕ} {text : List ℕ} {tokens : List Token} {kind : RefusedKind} → Tokens part line text tokens → Stops part line text kind at → ⊥
+no_both {part = part} {text = text} {kind = kind} (done over) (here lines is) = no_fault part text kind lines is over
+no_both {part = part} (done over) (past front is_front rest) = no_front part front (rw over at is_front)
+no_both {part = part} {text = text} {kind = kind} (step front more is_front rest found) (here lines is) = front_no_fault part text front kind lines is_front is
+no_both {part = part} {line = line} {at = at} {text = text} {kind = kind} (step front more is_front rest found) (past other is_other other_rest) =
+    let same : front ≡ other = one_front part text front other is_front is_other in
+    no_both rest (subst (λ f. Stops f.part (line + f.lines) f.rest kind at) (sym same) other_rest)
+
+one_refusal : {part : LinePart} {line at other_at : ℕ} {text : List ℕ} {kind other_kind : RefusedKind} → Stops part line text kind at → Stops part line text other_kind other_at → (kind ≡ other_kind) × (at ≡ other_at)
+one_refusal {part = part} {line = line} {text = text} {kind = kind} {other_kind = other_kind} (here lines is) (here other_lines also) =
+    let same = one_fault part text kind other_kind lines other_lines is also in (same.0, ap (λ n. line + n) same.1)
+one_refusal {part = part} {text = text} {kind = kind} (here lines is) (past front is_front rest) = absurd (front_no_fault part text front kind lines is_front is)
+one_refusal {part = part} {text = text} {other_kind = other_kind} (past front is_front rest) (here lines is) = absurd (front_no_fault part text front other_kind lines is_front is)
+one_refusal {part = part} {line = line} {other_at = other_at} {text = text} {other_kind = other_kind} (past front is_front rest) (past other is_other other_rest) =
+    let same : front ≡ other = one_front part text front other is_front is_other in
+    one_refusal rest (subst (λ f. Stops f.part (line + f.lines) f.rest other_kind other_at) (sym same) other_rest)
 
 pub read_once : (text : List ℕ) → IsReadOnce text
 read_once text = record {

@@ -1,13 +1,12 @@
 -- The symbols at the front of a text.
-use Rattle.std.proofs.Common.{◌≡◌, ℕ, ◌≤◌, Bool, true, false, List, [], ◌∷◌, ◌++◌, length, take, drop, refl, ap, ◌∙◌, suc, inl, inr, arith}
+use Rattle.std.proofs.Common.{◌≡◌, ℕ, ◌≤◌, Bool, true, false, List, [], ◌∷◌, ◌++◌, length, refl, ap, ◌∙◌, suc, inl, inr, arith}
 use Rattle.std.proofs.lemmas.Bool.{cases_Bool, false_from_ne_true}
 use Rattle.std.proofs.lemmas.Bool.Decides.{nat_tests}
-use Rattle.std.specs.Prelude.{slice_index, ◌==◌, if◌then◌else◌, Ok, Err}
+use Rattle.std.specs.Prelude.{slice_index, ◌==◌, if◌then◌else◌, Ok}
 use Rattle.oss_syntax.specs.declared.token.TokenKind.TheVariants.{Symbol}
-use Rattle.oss_model.specs.declared.refusal.RefusedKind.TheVariants.{Lexical}
-use Rattle.oss_model.specs.Words.{is_letter, is_digit, is_one, is_two, is_three, is_symbol, Ends}
+use Rattle.oss_model.specs.Words.{is_letter, is_digit, is_one, is_two, is_three, is_symbol, opens_comment, Ends}
 use Rattle.oss_model.specs.Tokens.{is_blank}
-use Rattle.oss_lex.specs.Reading.{symbol_len, symbol_at}
+use Rattle.oss_lex.specs.Reading.{symbol_len, symbol_told, symbol_at}
 use Rattle.oss_lex.proofs.Answers.{Fits}
 use Rattle.oss_lex.proofs.Runs.{take_word, drop_word}
 
@@ -102,60 +101,62 @@ unfolding is_symbol
 symbol_of_three a b c = refl
 
 -- what is answered for a length
-SymbolFits : List ℕ → ℕ → Type 0
-SymbolFits text n = Fits text (if n == 0 then Err Lexical else Ok (Symbol (take n text), drop n text))
-
-fits_one : (a : ℕ) (rest : List ℕ) → is_two a (slice_index rest 0) ≡ false → is_three a (slice_index rest 0) (slice_index rest 1) ≡ false → SymbolFits (a ∷ rest) (if is_one a then 1 else 0)
-unfolding SymbolFits
-fits_one a rest two three =
+fits_one : (a : ℕ) (rest : List ℕ) → opens_comment (a ∷ rest) ≡ false → is_two a (slice_index rest 0) ≡ false → is_three a (slice_index rest 0) (slice_index rest 1) ≡ false → Fits (a ∷ rest) (symbol_told (if is_one a then 1 else 0) (a ∷ rest))
+unfolding symbol_told
+fits_one a rest no_comment two three =
     elim (cases_Bool (is_one a)) [
-      | inl one ↦ rw one (record { word = a ∷ []; split = refl; is_word = (refl, symbol_of_one a ∙ one); ends = one_ends a rest two three })
+      | inl one ↦ rw one (record { word = a ∷ []; split = refl; is_word = (refl, symbol_of_one a ∙ one); ends = (one_ends a rest two three, no_comment) })
       | inr none ↦ rw none tt
     ]
 
-fits_two : (a b : ℕ) (rest : List ℕ) → is_three a b (slice_index rest 0) ≡ false → SymbolFits (a ∷ b ∷ rest) (if is_two a b then 2 else (if is_one a then 1 else 0))
-unfolding SymbolFits
-fits_two a b rest three =
+fits_two : (a b : ℕ) (rest : List ℕ) → opens_comment (a ∷ b ∷ rest) ≡ false → is_three a b (slice_index rest 0) ≡ false → Fits (a ∷ b ∷ rest) (symbol_told (if is_two a b then 2 else (if is_one a then 1 else 0)) (a ∷ b ∷ rest))
+unfolding symbol_told
+fits_two a b rest no_comment three =
     elim (cases_Bool (is_two a b)) [
-      | inl two ↦ rw two (record { word = a ∷ b ∷ []; split = refl; is_word = (refl, symbol_of_two a b ∙ two); ends = two_ends a b rest three })
-      | inr none ↦ rw none (fits_one a (b ∷ rest) none three)
+      | inl two ↦ rw two (record { word = a ∷ b ∷ []; split = refl; is_word = (refl, symbol_of_two a b ∙ two); ends = (two_ends a b rest three, no_comment) })
+      | inr none ↦ rw none (fits_one a (b ∷ rest) no_comment none three)
     ]
 
-fits_three : (a b c : ℕ) (rest : List ℕ) → SymbolFits (a ∷ b ∷ c ∷ rest) (if is_three a b c then 3 else (if is_two a b then 2 else (if is_one a then 1 else 0)))
-unfolding SymbolFits
-fits_three a b c rest =
+fits_three : (a b c : ℕ) (rest : List ℕ) → opens_comment (a ∷ b ∷ c ∷ rest) ≡ false → Fits (a ∷ b ∷ c ∷ rest) (symbol_told (if is_three a b c then 3 else (if is_two a b then 2 else (if is_one a then 1 else 0))) (a ∷ b ∷ c ∷ rest))
+unfolding symbol_told
+fits_three a b c rest no_comment =
     elim (cases_Bool (is_three a b c)) [
-      | inl three ↦ rw three (record { word = a ∷ b ∷ c ∷ []; split = refl; is_word = (refl, symbol_of_three a b c ∙ three); ends = λ d more left e. three_ends a b c d more })
-      | inr none ↦ rw none (fits_two a b (c ∷ rest) none)
+      | inl three ↦ rw three (record { word = a ∷ b ∷ c ∷ []; split = refl; is_word = (refl, symbol_of_three a b c ∙ three); ends = (λ d more left e. three_ends a b c d more, no_comment) })
+      | inr none ↦ rw none (fits_two a b (c ∷ rest) no_comment none)
     ]
 
-fits_len : (text : List ℕ) → SymbolFits text (symbol_len text)
-unfolding SymbolFits
-fits_len [] = rw no_symbol tt
-fits_len (a ∷ []) = rw (symbol_len_is, no_three, no_two) (fits_one a [] (no_two a) (no_three a 0))
-fits_len (a ∷ b ∷ []) = rw (symbol_len_is, no_three) (fits_two a b [] (no_three a b))
-fits_len (a ∷ b ∷ c ∷ more) = rw symbol_len_is (fits_three a b c more)
+fits_len : (text : List ℕ) → opens_comment text ≡ false → Fits text (symbol_told (symbol_len text) text)
+unfolding symbol_told
+fits_len [] no_comment = rw no_symbol tt
+fits_len (a ∷ []) no_comment = rw (symbol_len_is, no_three, no_two) (fits_one a [] no_comment (no_two a) (no_three a 0))
+fits_len (a ∷ b ∷ []) no_comment = rw (symbol_len_is, no_three) (fits_two a b [] no_comment (no_three a b))
+fits_len (a ∷ b ∷ c ∷ more) no_comment = rw symbol_len_is (fits_three a b c more no_comment)
 
 -- the symbol that is answered begins the text
 pub symbol_fits : (text : List ℕ) → Fits text (symbol_at text)
-unfolding symbol_at SymbolFits
-symbol_fits text = fits_len text
+unfolding symbol_at
+symbol_fits text =
+    elim (cases_Bool (opens_comment text)) [
+      | inl opens ↦ rw opens tt
+      | inr no_comment ↦ rw no_comment (fits_len text no_comment)
+    ]
 
 -- the length of the symbol that begins a text
 symbol_len_again : (word rest : List ℕ) → is_symbol word ≡ true → Ends (Symbol word) word rest → symbol_len (word ++ rest) ≡ length word
 unfolding is_symbol
 symbol_len_again [] rest is ends = cc
 symbol_len_again (a ∷ []) [] is ends = rw (symbol_len_is, no_three, no_two, is) refl
-symbol_len_again (a ∷ []) (b ∷ []) is ends = rw (symbol_len_is, no_three, ends b [] [] refl, is) refl
-symbol_len_again (a ∷ []) (b ∷ c ∷ rest) is ends = rw (symbol_len_is, ends b (c ∷ []) rest refl, ends b [] (c ∷ rest) refl, is) refl
+symbol_len_again (a ∷ []) (b ∷ []) is ends = rw (symbol_len_is, no_three, ends.0 b [] [] refl, is) refl
+symbol_len_again (a ∷ []) (b ∷ c ∷ rest) is ends = rw (symbol_len_is, ends.0 b (c ∷ []) rest refl, ends.0 b [] (c ∷ rest) refl, is) refl
 symbol_len_again (a ∷ b ∷ []) [] is ends = rw (symbol_len_is, no_three, is) refl
-symbol_len_again (a ∷ b ∷ []) (c ∷ rest) is ends = rw (symbol_len_is, ends c [] rest refl, is) refl
+symbol_len_again (a ∷ b ∷ []) (c ∷ rest) is ends = rw (symbol_len_is, ends.0 c [] rest refl, is) refl
 symbol_len_again (a ∷ b ∷ c ∷ []) rest is ends = rw (symbol_len_is, is) refl
 symbol_len_again (a ∷ b ∷ c ∷ d ∷ more) rest is ends = cc
 
 pub symbol_again : (word rest : List ℕ) → is_symbol word ≡ true → Ends (Symbol word) word rest → symbol_at (word ++ rest) ≡ Ok (Symbol word, rest)
-unfolding symbol_at is_symbol
+unfolding symbol_at symbol_told is_symbol
 symbol_again [] rest is ends = cc
 symbol_again (a ∷ more) rest is ends =
     let apart : (suc (length more) == 0) ≡ false = grind (arith, nat_tests) in
-    rw (symbol_len_again (a ∷ more) rest is ends, apart, take_word more rest, drop_word more rest) refl
+    let no_comment : opens_comment (a ∷ (more ++ rest)) ≡ false = ends.1 in
+    rw (no_comment, symbol_len_again (a ∷ more) rest is ends, apart, take_word more rest, drop_word more rest) refl

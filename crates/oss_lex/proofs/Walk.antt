@@ -1,31 +1,92 @@
 -- The walk over a text: what is found so far, and what is left of it.
-use Rattle.std.proofs.Common.{◌≡◌, ◌≢◌, ℕ, ◌+◌, ◌≤◌, ◌<◌, List, [], ◌∷◌, ◌++◌, length, take, drop, refl, ap, sym, ◌∙◌, arith, append_assoc, append-nil, length-take, length-append, suc}
-use Rattle.std.proofs.lemmas.List.{take-append-drop}
-use Rattle.std.proofs.lemmas.List.Sums.{count_by-le-length}
+use Rattle.std.proofs.Common.{◌≡◌, ◌≢◌, ℕ, ◌+◌, ◌≤◌, ◌<◌, true, false, List, [], ◌∷◌, ◌++◌, length, refl, ap, ◌∙◌, arith, suc, append_assoc, append-nil, length-append, add-zero}
 use Rattle.std.proofs.lemmas.Bool.{eqb-true, eqb-false}
-use Rattle.std.specs.Prelude.{◌==◌, true, false, Ok, Err}
+use Rattle.std.proofs.lemmas.List.Sums.{count_by-le-length}
+use Rattle.std.specs.Prelude.{◌==◌, Option, Some, None, Result, Ok, Err, codes}
 use Rattle.oss_syntax.specs.declared.token.TokenKind.{TokenKind}
 use Rattle.oss_syntax.specs.declared.token.Token.{Token}
+use Rattle.oss_model.specs.declared.line_part.LinePart.{LinePart}
+use Rattle.oss_model.specs.declared.line_part.LinePart.TheVariants.{Beginning}
 use Rattle.oss_model.specs.declared.refusal.RefusedKind.{RefusedKind}
-use Rattle.oss_model.specs.Tokens.{newlines, IsGap, Begins, Tokens, Stops}
-use Rattle.oss_model.specs.Tokens.Tokens.{done, gap, token}
-use Rattle.oss_model.specs.Tokens.Stops.{here, past_gap, past_token}
+use Rattle.oss_model.specs.declared.refusal.Refused.{Refused as RefusedAt}
 use Rattle.oss_model.specs.declared.refusal.Refusal.{Refusal}
 use Rattle.oss_model.specs.declared.refusal.Refusal.TheVariants.{Refused, Memory}
-use Rattle.oss_model.specs.Tokens.{IsReading}
-use Rattle.oss_lex.specs.Reading.{Gives, token_at, gap_len}
-use Rattle.oss_lex.proofs.Gaps.{gap_taken}
-use Rattle.oss_lex.proofs.Steps.{faulty}
-use Rattle.oss_lex.proofs.TokenWords.{token_fits, word_some}
+use Rattle.oss_model.specs.Tokens.{newlines, Front, IsFront, Tokens, Stops, IsReading, found_before}
+use Rattle.oss_model.specs.Tokens.IsFront.{newline, pragma_end, gap, token, include, pragma_oss, other_pragma, directive}
+use Rattle.oss_model.specs.Tokens.Tokens.{done, step}
+use Rattle.oss_model.specs.Tokens.Stops.{here, past}
+use Rattle.oss_lex.specs.Reading.{Fault, at_front, in_head, front, front_at, Refuses, Steps}
+use Rattle.oss_lex.proofs.Fronts.{front_fits, faulty}
+use Rattle.oss_lex.proofs.Gaps.{gap_first}
+use Rattle.oss_lex.proofs.TokenWords.{word_some}
 
--- The tokens found so far are those of the text up to the rest, which begins on this line.
-pub record IsLeft (text : List ℕ) (found : List Token) (line : ℕ) (rest : List ℕ) : Type 0 where
-  pub goes_on : (tokens : List Token) → Tokens line rest tokens → Tokens 1 text (found ++ tokens)
-  pub stops : (kind : RefusedKind) (at : ℕ) → Stops line rest kind at → Stops 1 text kind at
+-- The tokens found so far are those of the text up to the rest, which begins at this place of this line.
+pub record IsLeft (text : List ℕ) (found : List Token) (part : LinePart) (line : ℕ) (rest : List ℕ) : Type 0 where
+  pub goes_on : (tokens : List Token) → Tokens part line rest tokens → Tokens Beginning 1 text (found ++ tokens)
+  pub stops : (kind : RefusedKind) (at : ℕ) → Stops part line rest kind at → Stops Beginning 1 text kind at
   pub room : line + length rest ≤ 1 + length text
 
-pub left_start : (text : List ℕ) → IsLeft text [] 1 text
+pub left_start : (text : List ℕ) → IsLeft text [] Beginning 1 text
 left_start text = record { goes_on = λ tokens is. is; stops = λ kind at is. is; room = omega arith }
+
+-- The lines of a front are among its bytes, of which there is at least one.
+front_room : (part : LinePart) (text : List ℕ) (told : Front) → IsFront part text told → (told.lines + length told.rest ≤ length text) × (length told.rest < length text)
+front_room part text told (newline rest other e) = let size : length text ≡ suc (length rest) = ap length e in (omega arith, omega arith)
+front_room part text told (pragma_end rest e) = let size : length text ≡ suc (length rest) = ap length e in (omega arith, omega arith)
+front_room part text told (gap word rest split is) =
+    let (b, more, whole, no_newline, no_hash) = gap_first word rest is in
+    let some : length word ≡ suc (length more) = ap length whole in
+    let few : newlines word ≤ length word = count_by-le-length (λ b. b == 10) word in
+    let size : length text ≡ length word + length rest = ap length split ∙ length-append word rest in
+    (omega (arith, few, size), omega (arith, some, size))
+front_room part text told (token what rest begins) =
+    let some : 0 < length begins.word = word_some what begins.word begins.is_word in
+    let size : length text ≡ length begins.word + length rest = ap length begins.split ∙ length-append begins.word rest in
+    (omega (arith, size), omega (arith, some, size))
+front_room part text told (include line rest has is) =
+    let size : length text ≡ length (codes "#include" ++ (line ++ rest)) = ap length has.split in
+    let behind : length (line ++ rest) ≡ length line + length rest = length-append line rest in
+    (omega (arith, size, behind), omega (arith, size, behind))
+front_room part text told (pragma_oss gaps next rest has are oss) =
+    let size : length text ≡ length (codes "#pragma" ++ (gaps ++ next)) = ap length has.split in
+    let few : newlines gaps ≤ length gaps = count_by-le-length (λ b. b == 10) gaps in
+    let behind : length (gaps ++ next) ≡ length gaps + length next = length-append gaps next in
+    let word : length next ≡ length (codes "oss" ++ rest) = ap length oss.split in
+    (omega (arith, size, few, behind, word), omega (arith, size, behind, word))
+front_room part text told (other_pragma gaps line rest has are no_comment none is) =
+    let size : length text ≡ length (codes "#pragma" ++ (gaps ++ (line ++ rest))) = ap length has.split in
+    let few : newlines gaps ≤ length gaps = count_by-le-length (λ b. b == 10) gaps in
+    let behind : length (gaps ++ (line ++ rest)) ≡ length gaps + length (line ++ rest) = length-append gaps (line ++ rest) in
+    let word : length (line ++ rest) ≡ length line + length rest = length-append line rest in
+    (omega (arith, size, few, behind, word), omega (arith, size, behind, word))
+front_room part text told (directive line rest split no_include no_pragma is) =
+    let size : length text ≡ suc (length (line ++ rest)) = ap length split in
+    let behind : length (line ++ rest) ≡ length line + length rest = length-append line rest in
+    (omega (arith, size, behind), omega (arith, size, behind))
+
+is_front : (part : LinePart) (text : List ℕ) (told : Front) → front_at part text ≡ Ok told → IsFront part text told
+is_front part text told read = rw read at (front_fits part text)
+
+pub step_room : (part : LinePart) (text : List ℕ) (what : Option TokenKind) (next : LinePart) (lines : ℕ) (rest : List ℕ) → front_at part text ≡ Ok (front what next lines rest) → lines + length rest ≤ length text
+step_room part text what next lines rest read = (front_room part text (front what next lines rest) (is_front part text (front what next lines rest) read)).0
+
+pub step_shorter : (part : LinePart) (text : List ℕ) (what : Option TokenKind) (next : LinePart) (lines : ℕ) (rest : List ℕ) → front_at part text ≡ Ok (front what next lines rest) → length rest < length text
+step_shorter part text what next lines rest read = (front_room part text (front what next lines rest) (is_front part text (front what next lines rest) read)).1
+
+found_then : (what : Option TokenKind) (line : ℕ) (found tokens : List Token) → (found ++ found_before what line []) ++ tokens ≡ found ++ found_before what line tokens
+found_then None line found tokens = ap (λ f. f ++ tokens) (append-nil found)
+found_then (Some what) line found tokens = append_assoc found (record { what = what; line = line } ∷ []) tokens
+
+-- A front is passed.
+pub left_step : (text : List ℕ) (found : List Token) (part : LinePart) (line : ℕ) (rest : List ℕ) (what : Option TokenKind) (next : LinePart) (lines : ℕ) (after : List ℕ) → IsLeft text found part line rest → front_at part rest ≡ Ok (front what next lines after) → IsLeft text (found ++ found_before what line []) next (line + lines) after
+left_step text found part line rest what next lines after left read =
+    let told : Front = front what next lines after in
+    let is : IsFront part rest told = is_front part rest told read in
+    record {
+      goes_on = λ tokens more. (rw found_then (left.goes_on (found_before what line tokens) (step told tokens is more refl)));
+      stops = λ kind at more. left.stops kind at (past told is more);
+      room = omega (arith, left.room, step_room part rest what next lines after read);
+    }
 
 empty_from_length : (list : List ℕ) → (length list == 0) ≡ true → list ≡ []
 empty_from_length [] is = refl
@@ -34,52 +95,22 @@ empty_from_length (b ∷ list) is = let none : suc (length list) ≡ 0 = eqb-tru
 some_from_length : (list : List ℕ) → (length list == 0) ≡ false → list ≢ []
 some_from_length list isnt e = eqb-false (length list) 0 isnt (ap length e)
 
--- A blank is passed.
-pub left_gap : (text : List ℕ) (found : List Token) (line : ℕ) (rest word after : List ℕ) (n : ℕ) → IsLeft text found line rest → n ≡ gap_len rest → word ≡ take n rest → after ≡ drop n rest → (length word == 0) ≡ false → IsLeft text found (line + newlines word) after
-left_gap text found line rest word after n left is_len front back some =
-    let split : rest ≡ word ++ after = rw (front, back) (sym (take-append-drop n rest)) in
-    let is_front : take (gap_len rest) rest ≡ word = rw (← is_len) (sym front) in
-    let is_gap : IsGap word = rw is_front at (gap_taken rest (rw is_front (some_from_length word some))) in
-    let few : newlines word ≤ length word = count_by-le-length (λ b. b == 10) word in
-    let size : length rest ≡ length word + length after = ap length split ∙ length-append word after in
-    record {
-      goes_on = λ tokens is. left.goes_on tokens (gap word after split is_gap is);
-      stops = λ kind at is. left.stops kind at (past_gap word after split is_gap is);
-      room = omega (arith, left.room, few, size);
-    }
-
-token_begins : (rest : List ℕ) (what : TokenKind) (after : List ℕ) → token_at rest ≡ Ok (what, after) → Begins rest what after
-token_begins rest what after read = rw read at (token_fits rest)
-
--- A token is found.
-pub left_token : (text : List ℕ) (found : List Token) (line : ℕ) (rest : List ℕ) (what : TokenKind) (after : List ℕ) → IsLeft text found line rest → token_at rest ≡ Ok (what, after) → IsLeft text (found ++ record { what = what; line = line } ∷ []) line after
-left_token text found line rest what after left read =
-    let begins : Begins rest what after = token_begins rest what after read in
-    let one : Token = record { what = what; line = line } in
-    let size : length rest ≡ length begins.word + length after = ap length begins.split ∙ length-append begins.word after in
-    record {
-      goes_on = λ tokens is. (rw append_assoc (left.goes_on (one ∷ tokens) (token what after begins is)));
-      stops = λ kind at is. left.stops kind at (past_token what after begins is);
-      room = omega (arith, left.room, size);
-    }
-
-pub token_shorter : (rest : List ℕ) (what : TokenKind) (after : List ℕ) → token_at rest ≡ Ok (what, after) → length after < length rest
-token_shorter rest what after read =
-    let begins : Begins rest what after = token_begins rest what after read in
-    let size : length rest ≡ length begins.word + length after = ap length begins.split ∙ length-append begins.word after in
-    let some : 0 < length begins.word = word_some what begins.word begins.is_word in
-    omega (arith, size, some)
-
 -- The text is at its end.
-pub left_end : (text : List ℕ) (found : List Token) (line : ℕ) (rest : List ℕ) → IsLeft text found line rest → (length rest == 0) ≡ true → Tokens 1 text found
-left_end text found line rest left end = rw append-nil at (left.goes_on [] (done (empty_from_length rest end)))
+pub left_end : (text : List ℕ) (found : List Token) (part : LinePart) (line : ℕ) (rest : List ℕ) → IsLeft text found part line rest → (length rest == 0) ≡ true → Tokens Beginning 1 text found
+left_end text found part line rest left over = rw append-nil at (left.goes_on [] (done (empty_from_length rest over)))
+
+-- what a refusal says of the text at which it is answered
+refused_at : (part : LinePart) (text : List ℕ) (line : ℕ) (refused : RefusedAt) (answer : Result Front Fault) → text ≢ [] → front_at part text ≡ answer → Refuses answer line refused → Stops part line text refused.kind refused.line × (refused.token ≡ 0)
+refused_at part text line refused (Ok told) more read refuses = absurd refuses
+refused_at part text line refused (Err (at_front kind)) more read refuses =
+    let is : Stops part line text kind (line + 0) = here 0 (faulty part text (at_front kind) more read) in
+    (rw (refuses.0, refuses.1) (rw add-zero at is), refuses.2)
+refused_at part text line refused (Err (in_head lines)) more read refuses =
+    (rw (refuses.0, refuses.1) (here lines (faulty part text (in_head lines) more read)), refuses.2)
 
 -- The text is refused here.
-pub left_fault : (text : List ℕ) (found : List Token) (line : ℕ) (rest word : List ℕ) (n : ℕ) (refusal : Refusal) → IsLeft text found line rest → (length rest == 0) ≡ false → n ≡ gap_len rest → n ≤ length rest → word ≡ take n rest → (length word == 0) ≡ true → Gives (token_at rest) line (Err refusal) → IsReading text (Err refusal)
-left_fault text found line rest word n (Refused refused) left more is_len within front none gives =
-    let empty : take n rest ≡ [] = sym front ∙ empty_from_length word none in
-    let size : length (take n rest) ≡ 0 = ap length empty in
-    let no_gap : gap_len rest ≡ 0 = omega (arith, length-take n rest, size, is_len, within) in
-    let stopped : Stops 1 text refused.kind line = left.stops refused.kind line (here (faulty rest refused.kind (some_from_length rest more) no_gap gives.0)) in
-    (rw gives.1 stopped, gives.2)
-left_fault text found line rest word n (Memory error) left more is_len within front none gives = tt
+pub left_fault : (text : List ℕ) (found : List Token) (part : LinePart) (line : ℕ) (rest : List ℕ) (refusal : Refusal) → IsLeft text found part line rest → (length rest == 0) ≡ false → Steps (front_at part rest) line (Err refusal) → IsReading text (Err refusal)
+left_fault text found part line rest (Refused refused) left more gives =
+    let refused_there = refused_at part rest line refused (front_at part rest) (some_from_length rest more) refl gives in
+    (left.stops refused.kind refused.line refused_there.0, refused_there.1)
+left_fault text found part line rest (Memory error) left more gives = tt

@@ -3,6 +3,7 @@
 
 mod blanks;
 mod bytes;
+mod directives;
 mod keywords;
 mod laws;
 mod names;

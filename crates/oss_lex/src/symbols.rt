@@ -2,6 +2,7 @@ ghost use Rattle.std.specs.Prelude.{◌≡◌, ◌≤◌, length};
 ghost use Rattle.oss_model.specs.Words.{is_one, is_three, is_two};
 ghost use Rattle.oss_lex.specs.Reading.{Gives, symbol_at, symbol_len};
 
+use crate::blanks::begins_comment;
 use crate::bytes::byte_at;
 use crate::taken::{Taken, no_token};
 use oss_model::Refusal;
@@ -88,11 +89,15 @@ fn longest_symbol(text: &[u8]) -> usize
     }
 }
 
-/// The longest symbol at the front of a text.
-#[tactic(auto, using(crate::proofs::SymbolWords::symbol_len_within), unfolding(crate::specs::Reading::symbol_at))]
+/// The longest symbol at the front of a text. A comment that ends is no matter of this function, and one that does not
+/// is no symbol.
+#[tactic(auto, using(crate::proofs::SymbolWords::symbol_len_within), unfolding(crate::specs::Reading::symbol_at, crate::specs::Reading::symbol_told))]
 pub fn read_symbol(alloc: Global, text: &[u8], line: u32) -> Result<Taken<'_>, Refusal>
     ensures { Gives (symbol_at text.now) line result }
 {
+    if begins_comment(text) {
+        return Err(no_token(line));
+    }
     let len = longest_symbol(text);
     if len == 0 {
         return Err(no_token(line));

@@ -1,12 +1,22 @@
 ghost use Rattle.std.specs.Prelude.{◌≡◌};
 
-use oss_model::{Refusal, Refused, RefusedKind};
+use oss_model::{LinePart, Refusal, Refused, RefusedKind};
 use oss_syntax::TokenKind;
 
 /// A token, and the text behind it.
 #[derive(Debug, Drop)]
 pub struct Taken<'a> {
     pub what: TokenKind,
+    pub rest: &'a [u8],
+}
+
+/// What stands at the front of a text: a token, or nothing that is one, with the place on its line and the number of
+/// lines on where the rest begins.
+#[derive(Debug, Drop)]
+pub struct Step<'a> {
+    pub what: Option<TokenKind>,
+    pub part: LinePart,
+    pub lines: usize,
     pub rest: &'a [u8],
 }
 

@@ -251,3 +251,146 @@ fn lines(rt: HostRuntime) -> Result<(), Fail> {
     }
     Ok(())
 }
+
+#[test]
+fn comments(rt: HostRuntime) -> Result<(), Fail> {
+    let cases = [
+        ("1/**/2", "1@1 2@1 "),
+        ("a/* b\n\n c */d", "a@1 d@3 "),
+        ("a/***/b/*/ * /*/c", "a@1 b@1 c@1 "),
+        ("a/* // */b // */ c\nd", "a@1 b@1 d@2 "),
+        ("a//\nb", "a@1 b@2 "),
+        ("a// b\\\nc\nd", "a@1 d@3 "),
+        ("a// b\\c\nd//", "a@1 d@2 "),
+        ("a / b /= c", "a@1 /@1 b@1 /=@1 c@1 "),
+        ("a\n/* b\n", "Lexical@2 token 0"),
+        ("a\n/*/\n@", "Lexical@2 token 0"),
+        ("/* \" ' ` @ */ \"/*\"", "\"/*\"@1 "),
+        ("/* a\n */ @", "Lexical@2 token 0"),
+    ];
+    for (text, want) in cases {
+        expect(&rt, rt.alloc(), text.as_bytes(), want.as_bytes())?;
+    }
+    expect(
+        &rt,
+        rt.alloc(),
+        b"a/*\xff\0*/b//\x80\xff\0\nc".as_slice(),
+        b"a@1 b@1 c@2 ".as_slice(),
+    )?;
+    Ok(())
+}
+
+#[test]
+fn skipped_lines(rt: HostRuntime) -> Result<(), Fail> {
+    let cases = [
+        ("#include <a.h> \" ' @\nx", "x@2 "),
+        ("#include", ""),
+        ("#include\\\nx", "x@2 "),
+        ("#pragma omp parallel\nx", "x@2 "),
+        ("#pragma\nx", "x@2 "),
+        ("#pragma", ""),
+        ("#pragma ossx\nx", "x@2 "),
+        ("#pragma 1 @ /*\nx", "x@2 "),
+        ("#pragma \\\n omp @\nx", "x@3 "),
+        ("#pragma /* a\n */ omp @\nx", "x@3 "),
+        ("#pragma // oss\nx", "x@2 "),
+        ("#pragma /* oss\nx", "Lexical@1 token 0"),
+        ("\n#pragma \\\n /* oss\nx", "Lexical@3 token 0"),
+        ("#define X 1 @\nx", "Directive@1 x@2 "),
+        (" \t#define X", "Directive@1 "),
+        ("#define X \\\nx", "Directive@1 x@2 "),
+        ("#", "Directive@1 "),
+        ("# pragma oss\nx", "Directive@1 x@2 "),
+        ("#includes\nx", "Directive@1 x@2 "),
+        ("#pragmas\nx", "Directive@1 x@2 "),
+        ("/**/ #if 0\nx", "Directive@1 x@2 "),
+        ("/* a\n */ #if 0\n#endif", "Directive@2 Directive@3 "),
+        ("\\\n#if 0", "Directive@2 "),
+        ("x #if", "Lexical@1 token 0"),
+        ("x \\\n#if", "Lexical@2 token 0"),
+        ("x /* a\n */ #if", "Lexical@2 token 0"),
+    ];
+    for (text, want) in cases {
+        expect(&rt, rt.alloc(), text.as_bytes(), want.as_bytes())?;
+    }
+    expect(
+        &rt,
+        rt.alloc(),
+        b"#define \xff\0\nx".as_slice(),
+        b"Directive@1 x@2 ".as_slice(),
+    )?;
+    Ok(())
+}
+
+#[test]
+fn pragmas(rt: HostRuntime) -> Result<(), Fail> {
+    let cases = [
+        ("#pragma oss task\nx", "PragmaOss@1 task@1 PragmaEnd@1 x@2 "),
+        ("#pragma oss\n", "PragmaOss@1 PragmaEnd@1 "),
+        ("#pragma oss", "PragmaOss@1 "),
+        ("#pragma oss task", "PragmaOss@1 task@1 "),
+        ("#pragma oss(\n", "PragmaOss@1 (@1 PragmaEnd@1 "),
+        (" #pragma\toss x\n", "PragmaOss@1 x@1 PragmaEnd@1 "),
+        (
+            "\n#pragma oss task \\\n in(x)\ny",
+            "PragmaOss@2 task@2 in@3 (@3 x@3 )@3 PragmaEnd@3 y@4 ",
+        ),
+        (
+            "#pragma oss task /* a\n b */ in(x)\ny",
+            "PragmaOss@1 task@1 in@2 (@2 x@2 )@2 PragmaEnd@2 y@3 ",
+        ),
+        ("#pragma oss // a\ny", "PragmaOss@1 PragmaEnd@1 y@2 "),
+        ("#pragma oss // a\\\nb\ny", "PragmaOss@1 PragmaEnd@2 y@3 "),
+        ("#pragma/**/oss x\n", "PragmaOss@1 x@1 PragmaEnd@1 "),
+        (
+            "#pragma \\\n /* a\n */ oss x\n",
+            "PragmaOss@1 x@3 PragmaEnd@3 ",
+        ),
+        ("#pragma oss # \n", "Lexical@1 token 0"),
+        ("#pragma oss \\\n#\n", "Lexical@2 token 0"),
+        (
+            "#pragma oss a\n#pragma oss b\n",
+            "PragmaOss@1 a@1 PragmaEnd@1 PragmaOss@2 b@2 PragmaEnd@2 ",
+        ),
+        ("#pragma oss \"a\n", "Lexical@1 token 0"),
+        ("#pragma oss /* a\n", "Lexical@1 token 0"),
+    ];
+    for (text, want) in cases {
+        expect(&rt, rt.alloc(), text.as_bytes(), want.as_bytes())?;
+    }
+    Ok(())
+}
+
+/// A text of 1,048,560 bytes: this piece, of at most 16 bytes, again and again.
+fn repeated(rt: &impl Abort, alloc: Global, piece: &[u8]) -> Result<Vec<u8>, AllocError> {
+    let mut text = Vec::new(alloc);
+    assert!(rt; piece.len() > 0 && piece.len() <= 16);
+    for _ in 0..1048560 / piece.len() {
+        text.extend_from_slice(piece)?;
+    }
+    Ok(text)
+}
+
+// Each text is read in well under a second; a reader that goes over a part again and again would pass a test's minute.
+#[test]
+fn large_texts(rt: HostRuntime) -> Result<(), Fail> {
+    let cases: [(&str, usize); 6] = [
+        (" ", 0),
+        (";", 1048560),
+        ("/* */ ", 0),
+        ("#pragma /**/\n", 0),
+        ("#pragma oss x\n", 224691),
+        ("x \\\n", 262140),
+    ];
+    for (piece, want) in cases {
+        let text = repeated(&rt, rt.alloc(), piece.as_bytes())?;
+        assert!(rt; text.len() <= 1048576);
+        match tokens(rt.alloc(), text.as_slice()) {
+            Ok(found) => assert_eq!(rt; found.len(), want, "of {piece:?}"),
+            Err(_) => assert!(rt; false, "{piece:?} is refused"),
+        }
+    }
+    let open = repeated(&rt, rt.alloc(), b"#pragma /*\n".as_slice())?;
+    expect(&rt, rt.alloc(), open.as_slice(), LEXICAL.as_bytes())?;
+    Ok(())
+}

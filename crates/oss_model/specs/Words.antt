@@ -1,5 +1,7 @@
 -- The words of each kind of token, each by itself. How words make up a text stands in `Tokens`.
-use Rattle.std.specs.Prelude.{◌≡◌, ◌≢◌, ℕ, ◌+◌, ◌-◌, ◌*◌, ◌^◌, ◌<◌, ◌≤◌, Bool, true, false, ◌&&◌, ◌||◌, not, ◌⊎◌, ◌==◌, nat_le, nat_lt, if◌then◌else◌, IsTrue, List, [], ◌∷◌, ◌++◌, length, codes}
+-- Bytes are told by their ASCII codes, among them 9 the tab, 10 the newline, 13 the carriage return, 32 the space,
+-- 34 `"`, 35 `#`, 42 `*`, 47 `/`, 48 to 57 the digits, 65 to 90 and 97 to 122 the letters, 92 `\`, 95 `_`.
+use Rattle.std.specs.Prelude.{◌≡◌, ◌≢◌, ℕ, ◌+◌, ◌-◌, ◌*◌, ◌^◌, ◌<◌, ◌≤◌, Bool, true, false, ◌&&◌, ◌||◌, not, ◌⊎◌, ◌==◌, nat_le, nat_lt, if◌then◌else◌, List, [], ◌∷◌, ◌++◌, length, codes, slice_index}
 use Rattle.std.specs.List.{fold, list_all}
 use Rattle.std.specs.Str.{bytes_eq}
 use Rattle.oss_syntax.specs.declared.token.TokenKind.{TokenKind}
@@ -14,17 +16,21 @@ NotFirst test (b ∷ rest) = test b ≡ false
 unfoldable pub is_letter : ℕ → Bool
 is_letter b = (nat_le 97 b && nat_le b 122) || (nat_le 65 b && nat_le b 90) || b == 95
 
+-- the digits of base 10
 unfoldable pub is_digit : ℕ → Bool
 is_digit b = nat_le 48 b && nat_le b 57
 
+-- what a name goes on with
 unfoldable pub is_name_byte : ℕ → Bool
 is_name_byte b = is_letter b || is_digit b
 
+-- A name or a keyword, of whatever length: `x`, `_`, `int`, `a9`.
 abbrev pub IsIdentifier : List ℕ → Type 0
 IsIdentifier [] = ⊥
 IsIdentifier (b ∷ more) = (is_letter b ≡ true) × (list_all is_name_byte more ≡ true)
 
--- The words that are no names (C11 6.4.1): those of this language, and those of C that it leaves out.
+-- The words that are no names (C11 6.4.1): those of this language. `printf` is one of them here. `ints` and `Int` are
+-- names.
 unfoldable pub is_used_keyword : List ℕ → Bool
 is_used_keyword w =
     bytes_eq w (codes "int") || bytes_eq w (codes "long") || bytes_eq w (codes "unsigned")
@@ -32,6 +38,7 @@ is_used_keyword w =
     || bytes_eq w (codes "while") || bytes_eq w (codes "for") || bytes_eq w (codes "return")
     || bytes_eq w (codes "break") || bytes_eq w (codes "continue") || bytes_eq w (codes "printf")
 
+-- Those that it leaves out: they are words of C all the same, and so no names.
 unfoldable pub is_left_out_keyword : List ℕ → Bool
 is_left_out_keyword w =
     bytes_eq w (codes "auto") || bytes_eq w (codes "case") || bytes_eq w (codes "char")
@@ -43,6 +50,7 @@ is_left_out_keyword w =
     || bytes_eq w (codes "struct") || bytes_eq w (codes "switch") || bytes_eq w (codes "typedef")
     || bytes_eq w (codes "union") || bytes_eq w (codes "volatile")
 
+-- A keyword, of either kind.
 unfoldable pub is_keyword : List ℕ → Bool
 is_keyword w = is_used_keyword w || is_left_out_keyword w
 
@@ -53,6 +61,7 @@ digit_of b =
     else (if nat_le 97 b && nat_le b 102 then b - 87
     else (if nat_le 65 b && nat_le b 70 then b - 55 else 16))
 
+-- the digits of a base
 unfoldable pub is_digit_in : ℕ → ℕ → Bool
 is_digit_in base b = nat_lt (digit_of b) base
 
@@ -68,11 +77,13 @@ pub data Written : ℕ → List ℕ → List ℕ → Type 0 where
   hexadecimal : {digits word : List ℕ} (x d : ℕ) (more : List ℕ) → digits ≡ d ∷ more → (x == 120 || x == 88) ≡ true → word ≡ 48 ∷ x ∷ digits → Written 16 digits word
 
 -- The suffixes (C11 6.4.4.1p1): `u` or `U` at most once, and one of `l`, `L`, `ll`, `LL` at most once, in either order.
+-- Those without `u` and `U`, no suffix among them:
 unfoldable pub is_signed_suffix : List ℕ → Bool
 is_signed_suffix w =
     bytes_eq w [] || bytes_eq w (codes "l") || bytes_eq w (codes "L") || bytes_eq w (codes "ll")
     || bytes_eq w (codes "LL")
 
+-- those with `u` or `U`
 unfoldable pub is_unsigned_suffix : List ℕ → Bool
 is_unsigned_suffix w =
     bytes_eq w (codes "u") || bytes_eq w (codes "ul") || bytes_eq w (codes "uL")
@@ -113,10 +124,12 @@ is_plain b = (nat_le 32 b || b == 9) && (not (b == 34) && not (b == 92))
 unfoldable pub is_escape : ℕ → Bool
 is_escape b = b == 110 || b == 116 || b == 92 || b == 34
 
+-- what the byte behind the backslash stands for
 unfoldable pub escaped : ℕ → ℕ
 escaped b = if b == 110 then 10 else (if b == 116 then 9 else b)
 
--- The bytes between the quotes of a string, and those that it stands for.
+-- The bytes between the quotes of a string, and those that it stands for: `a\tb` for `a`, a tab, `b`. No `"` stands
+-- there alone, so the first one ends the string; `\q` is no part of one.
 pub data Spells : List ℕ → List ℕ → Type 0 where
   nothing : Spells [] []
   plain : (b : ℕ) {word bytes : List ℕ} → is_plain b ≡ true → Spells word bytes → Spells (b ∷ word) (b ∷ bytes)
@@ -141,6 +154,7 @@ is_two a b =
 unfoldable pub is_three : ℕ → ℕ → ℕ → Bool
 is_three a b c = c == 61 && ((a == 60 && b == 60) || (a == 62 && b == 62))
 
+-- A symbol, by how many bytes it has.
 unfoldable pub is_symbol : List ℕ → Bool
 is_symbol [] = false
 is_symbol (a ∷ []) = is_one a
@@ -148,7 +162,12 @@ is_symbol (a ∷ b ∷ []) = is_two a b
 is_symbol (a ∷ b ∷ c ∷ []) = is_three a b c
 is_symbol (a ∷ b ∷ c ∷ d ∷ more) = false
 
--- The words of a kind of token. A name has at most 63 bytes.
+-- The text begins with `/*` or `//`, which opens a comment (C11 6.4.9): no symbol begins there.
+unfoldable pub opens_comment : List ℕ → Bool
+opens_comment text = slice_index text 0 == 47 && (slice_index text 1 == 42 || slice_index text 1 == 47)
+
+-- The words of a kind of token. A name has at most 63 bytes. Directive and the tokens of a pragma line are no words: see
+-- `Tokens`.
 abbrev pub IsWord : TokenKind → List ℕ → Type 0
 IsWord (Name name) word = (name ≡ word) × IsIdentifier word × (is_keyword word ≡ false) × (length word ≤ 63)
 IsWord (Keyword name) word = (name ≡ word) × IsIdentifier word × (is_keyword word ≡ true)
@@ -160,13 +179,15 @@ IsWord PragmaEnd word = ⊥
 IsWord Directive word = ⊥
 
 -- A word ends where it cannot go on (the longest match, C11 6.4p4): `<<=` is one symbol, and `x+++y` is read `x ++ + y`.
--- A letter, digit or `_` never stands directly behind a name or a number.
+-- A letter, digit or `_` never stands directly behind a name or a number. `1/2` has a symbol, `1//2` a comment.
 abbrev pub Ends : TokenKind → List ℕ → List ℕ → Type 0
 Ends (Name name) word rest = NotFirst is_name_byte rest
 Ends (Keyword name) word rest = NotFirst is_name_byte rest
 Ends (Number value unsigned) word rest = NotFirst is_name_byte rest
 Ends (Text bytes) word rest = Unit {0}
-Ends (Symbol symbol) word rest = (b : ℕ) (more left : List ℕ) → rest ≡ b ∷ (more ++ left) → is_symbol (word ++ b ∷ more) ≡ false
+Ends (Symbol symbol) word rest =
+    ((b : ℕ) (more left : List ℕ) → rest ≡ b ∷ (more ++ left) → is_symbol (word ++ b ∷ more) ≡ false)
+    × (opens_comment (word ++ rest) ≡ false)
 Ends PragmaOss word rest = Unit {0}
 Ends PragmaEnd word rest = Unit {0}
 Ends Directive word rest = Unit {0}

@@ -5,9 +5,11 @@ mod answer;
 mod cell;
 mod format;
 pub mod laws;
+mod line_part;
 mod refusal;
 
 pub use answer::{Answer, FaultKind};
 pub use cell::range_of;
 pub use format::{Piece, arguments, pieces, write_pieces};
+pub use line_part::LinePart;
 pub use refusal::{Refusal, Refused, RefusedKind};

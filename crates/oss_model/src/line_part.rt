@@ -1,0 +1,10 @@
+/// Where on its line the rest of a text begins, which decides what a `#` and a newline mean there.
+#[derive(Clone, Copy, Debug, PartialEq, Eq)]
+pub enum LinePart {
+    /// Only blanks and comments stand before it.
+    Beginning,
+    /// A token of the line stands before it.
+    Later,
+    /// It stands in a line `#pragma oss`.
+    Pragma,
+}
