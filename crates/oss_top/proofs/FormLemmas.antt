@@ -5,6 +5,7 @@ use Rattle.oss_syntax.specs.declared.tree.program.Program.{Program}
 use Rattle.oss_model.specs.declared.answer.Answer.{Answer}
 use Rattle.oss_model.specs.declared.answer.Answer.TheVariants.{Done, Fault}
 use Rattle.oss_model.specs.Scalars.{answer_of}
+use Rattle.oss_model.specs.declared.line_part.LinePart.TheVariants.{Beginning}
 use Rattle.oss_model.specs.Tokens.{Tokens, IsReadOnce}
 use Rattle.oss_model.proofs.ReadingLemmas.{value_is, whole_read}
 use Rattle.oss_top.specs.declared.form.cursor.Unread.{Unread}
@@ -23,7 +24,7 @@ use Rattle.oss_top.proofs.ScalarLemmas.{reads_program}
 one_program : (ts : List Token) (p q : Program) → IsProgram ts p → IsProgram ts q → p ≡ q
 one_program ts p q v w = value_is p q [] [] (sym (whole_read reads_program tt ts p v) ∙ whole_read reads_program tt ts q w)
 
-module _ (text : List ℕ) (ts : List Token) (once : IsReadOnce text) (lexed : Tokens 1 text ts) where
+module _ (text : List ℕ) (ts : List Token) (once : IsReadOnce text) (lexed : Tokens Beginning 1 text ts) where
   tokens_are : (p : Program) (a : Accepts text p) → IsProgram ts p
   tokens_are p a = let P : List Token → Type 0 = λ xs. IsProgram xs p in subst P (once.one_list a.tokens ts a.lexed lexed) a.tree
 

@@ -3,6 +3,7 @@
 use Rattle.std.specs.Prelude.{ℕ, List, Result, Ok, Err}
 use Rattle.oss_syntax.specs.declared.token.Token.{Token}
 use Rattle.oss_syntax.specs.declared.tree.program.Program.{Program}
+use Rattle.oss_model.specs.declared.line_part.LinePart.TheVariants.{Beginning}
 use Rattle.oss_model.specs.Tokens.{Tokens}
 use Rattle.oss_top.specs.declared.form.cursor.Unread.{Unread}
 use Rattle.oss_top.specs.declared.form.cursor.Unread.TheVariants as unread
@@ -12,7 +13,7 @@ use Rattle.oss_top.specs.ScalarRules.{Obeys}
 -- the text is this program
 pub record Accepts (text : List ℕ) (program : Program) : Type 0 where
   pub tokens : List Token
-  pub lexed : Tokens 1 text tokens
+  pub lexed : Tokens Beginning 1 text tokens
   pub tree : IsProgram tokens program
   pub obeys : Obeys program
 

@@ -1,0 +1,4 @@
+pub mod FaultLemmas
+pub mod JoinedLemmas
+pub mod TableLemmas
+pub mod TestLemmas

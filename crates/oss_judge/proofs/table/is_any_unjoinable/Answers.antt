@@ -1,0 +1,12 @@
+use Rattle.std.proofs.Common.{ℕ, sym, ap, ◌∙◌, get_or}
+use Rattle.oss_model.specs.Rights.{is_unjoinable}
+use Rattle.oss_model.specs.Context.{no_entry}
+use Rattle.oss_judge.proofs.TestLemmas.{any_from-later}
+use Rattle.oss_judge.proofs.table.is_any_unjoinable.Goals as goal
+
+pub loop-cell-preserved : goal.loop-cell-preserved
+loop-cell-preserved c =
+    let test = λ (k : ℕ). is_unjoinable c.args.clause.now.mode (get_or c.args.table.now k no_entry).right in
+    any_from-later test c.loop-cell.cell c.args.clause.now.range.hi c.loop-cell-test.true
+    (sym (ap (λ e. is_unjoinable c.args.clause.now.mode e.right) c.entry_at.ensures) ∙ sym c.is_unjoinable.ensures ∙ c.if-is_unjoinable.false)
+    ∙ c.loop-cell.invariant
