@@ -5,7 +5,7 @@ use Rattle.oss_syntax.specs.declared.access.Mode.{Mode}
 use Rattle.oss_model.specs.declared.answer.FaultKind.{FaultKind}
 use Rattle.oss_model.specs.declared.answer.FaultKind.TheVariants as fault
 use Rattle.oss_model.specs.Rights.{Right, Holds, Lending, Free, Writing, any_cell, is_released, holds_uncovered}
-use Rattle.oss_model.specs.Context.{Entry, no_entry}
+use Rattle.oss_model.specs.Context.{Entry, lacks_right, no_entry}
 
 -- The mode of a right, and whether it is strong.
 abbrev pub held_part : Right → Option (Mode × Bool)
@@ -27,4 +27,11 @@ abbrev pub cover_fault : List Entry → List Entry → List Access → Option Fa
 cover_fault entries given clauses =
     if any_cell (λ c. is_released (slice_index_or entries c no_entry).right) clauses then Some fault.Released
     else if any_cell (λ c. holds_uncovered (slice_index_or entries c no_entry).right (slice_index_or given c no_entry).right) clauses then Some fault.NotCovered
+    else None
+
+-- The fault of a wait for the children's accesses to these cells.
+abbrev pub wait_fault : List Entry → List Access → Option FaultKind
+wait_fault entries named =
+    if any_cell (λ c. is_released (slice_index_or entries c no_entry).right) named then Some fault.Released
+    else if any_cell (λ c. lacks_right (slice_index_or entries c no_entry).right) named then Some fault.NotCovered
     else None

@@ -1,6 +1,8 @@
 -- Tables of entries, one for each cell.
-use Rattle.std.specs.Prelude.{◌≡◌, ℕ, nat_le, nat_lt, max, ◌&&◌, Bool, if◌then◌else◌, List, [], ◌∷◌, slice_index_or}
+use Rattle.std.specs.Prelude.{◌≡◌, ℕ, nat_le, nat_lt, max, ◌&&◌, Bool, true, if◌then◌else◌, List, [], ◌∷◌, slice_index_or}
 use Rattle.oss_syntax.specs.declared.access.Access.{Access}
+use Rattle.oss_syntax.specs.declared.access.Mode.TheVariants.{Read}
+use Rattle.oss_syntax.specs.declared.access.Range.{Range}
 use Rattle.oss_model.specs.Rights.{Free, Released, right_from}
 use Rattle.oss_model.specs.Context.{Entry, no_entry, in_clauses}
 
@@ -24,3 +26,11 @@ widest cells (a ∷ rest) = widest (max cells a.range.hi) rest
 -- an entry, after the task released the cells of clauses
 abbrev pub ended : List Access → ℕ → Entry → Entry
 ended clauses c e = record e { right = if in_clauses clauses c then Released else e.right }
+
+-- an entry, after a wait for the cells of clauses
+abbrev pub taken_back : List Access → ℕ → Entry → Entry
+taken_back clauses c e = record e { lent = if in_clauses clauses c then Free else e.lent }
+
+-- the access to a range of which a wait speaks
+abbrev pub reading : Range → Access
+reading range = record { range = range; mode = Read; strong = true }

@@ -1,17 +1,18 @@
-ghost use Rattle.std.specs.Prelude.{◌≡◌, ℕ, ◌+◌, ◌<◌, ◌≤◌, ◌||◌, false, length, IfErr, IfOk, OnErr, OnOk};
+ghost use Rattle.std.specs.Prelude.{◌≡◌, ℕ, ◌+◌, ◌<◌, ◌≤◌, ◌||◌, false, length, map, IfErr, IfOk, OnErr, OnOk};
 ghost use Rattle.std.specs.Result.{result_err};
 ghost use Rattle.oss_model.specs.Rights.{Folds, Free, Reads, Writes, right_from, touch_fault};
-ghost use Rattle.oss_model.specs.Context.{child_context, clause_fault, create_fault, lend, lent_of, main_context, release, release_fault, right_of, table_from, tick_fault, waited};
+ghost use Rattle.oss_model.specs.Context.{child_context, clause_fault, create_fault, lend, lent_of, main_context, release, release_fault, right_of, table_from, tick_fault, wait_on_fault, waited, waited_on};
 ghost use Rattle.oss_judge.specs.Joined.{IsRising, held_right};
 ghost use Rattle.oss_judge.specs.Refusal.{IsRefusal};
+ghost use Rattle.oss_judge.specs.Table.{reading};
 
-use crate::checks::check_covered;
+use crate::checks::{check_covered, check_waited_on};
 use crate::entry::Entry;
 use crate::joined::accesses_of;
 use crate::refused::JudgeRefused;
-use crate::table::{Given, end_all, entry_at, filled, lend_all, take_all_back};
+use crate::table::{Given, end_all, entry_at, filled, lend_all, take_all_back, take_back};
 use oss_model::FaultKind;
-use oss_syntax::{Access, List, Op};
+use oss_syntax::{Access, List, Op, Range};
 use std::alloc::{AllocError, Global};
 use std::marker::Model;
 
@@ -212,6 +213,21 @@ impl Context {
         ensures { self.new ≡ waited self.old }
     {
         take_all_back(self.entries.as_mut_slice());
+    }
+
+    /// Takes back what is lent of the cells of these ranges, after a wait for the children's accesses to them. Where the wait
+    /// has a fault the context stays.
+    pub fn waited_on(&mut self, named: &List<Range>) -> Result<(), FaultKind>
+        ensures fault { result_err result ≡ wait_on_fault self.old (map reading named.now) }
+        ensures ok { OnOk result (self.new ≡ waited_on (map reading named.now) self.old) }
+        ensures err { OnErr result (self.new ≡ self.old) }
+    {
+        match check_waited_on(self.entries.as_slice(), named.as_slice()) {
+            Ok(()) => {}
+            Err(kind) => return Err(kind),
+        }
+        take_back(self.entries.as_mut_slice(), named.as_slice());
+        Ok(())
     }
 
     /// The accesses of the task: they give the rights that it holds, each cell once, in rising order and as few as can be.

@@ -2,7 +2,7 @@ ghost use Rattle.std.specs.Prelude.{◌≡◌, true};
 ghost use Rattle.std.specs.Result.{result_err};
 ghost use Rattle.oss_model.specs.Rights.{Released, Holds, Free, Reads, Writes, Folds, touch_fault, is_released, holds_uncovered, right_covers, is_unjoinable, joined_right};
 ghost use Rattle.oss_judge.specs.Parts.{held_part, lent_fault, written_fault};
-ghost use Rattle.oss_model.specs.Context.{no_entry, lend_cell};
+ghost use Rattle.oss_model.specs.Context.{lacks_right, lend_cell, no_entry};
 ghost use Rattle.oss_syntax.specs.declared.access.Mode.TheVariants as Mode;
 
 use crate::modes::{is_covered, is_same_op, join_modes};
@@ -155,6 +155,17 @@ impl Entry {
         match self.right {
             Right::Released => true,
             Right::Nothing => false,
+            Right::Holds(_, _) => false,
+        }
+    }
+
+    /// The task never had a right to the cell.
+    pub(crate) fn lacks_right(self) -> bool
+        ensures { result ≡ lacks_right self.right }
+    {
+        match self.right {
+            Right::Nothing => true,
+            Right::Released => false,
             Right::Holds(_, _) => false,
         }
     }

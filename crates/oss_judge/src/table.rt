@@ -1,11 +1,11 @@
-ghost use Rattle.std.specs.Prelude.{◌≡◌, ◌≤◌, ◌-◌, ◌||◌, if◌then◌else◌, [], min, length, slice_index_or, IfOk};
+ghost use Rattle.std.specs.Prelude.{◌≡◌, ◌≤◌, ◌-◌, ◌||◌, if◌then◌else◌, [], min, length, map, slice_index_or, IfOk};
 ghost use Rattle.oss_model.specs.Rights.{any_cell, any_from, is_mixed, is_unjoinable, joined_right};
 ghost use Rattle.oss_model.specs.Context.{in_clauses, lend_cell, no_entry, table_from};
 ghost use Rattle.oss_model.specs.Rights.{Free, Released};
-ghost use Rattle.oss_judge.specs.Table.{Changes, Gives, widest};
+ghost use Rattle.oss_judge.specs.Table.{Changes, Gives, reading, widest};
 
 use crate::entry::Entry;
-use oss_syntax::Access;
+use oss_syntax::{Access, Mode, Range};
 use std::alloc::{AllocError, Global};
 
 /// The entry of a cell; past the last cell there is no right.
@@ -144,6 +144,37 @@ pub(crate) fn take_all_back(table: &mut [Entry])
     ensures { table.new ≡ table_from (λ c. record { right = (slice_index_or table.old c no_entry).right; lent = Free }) 0 (length table.old) }
 {
     for cell in 0..table.len() {
+        let entry = entry_at(table, cell);
+        table[cell] = entry.taken_back();
+    }
+}
+
+/// The access to a range of which a wait speaks. Every mode will do here.
+pub(crate) fn reading_of(range: Range) -> Access
+    ensures { result ≡ reading range }
+{
+    Access {
+        range,
+        mode: Mode::Read,
+        strong: true,
+    }
+}
+
+/// Takes back what is lent of each cell of the table that is in a range.
+pub(crate) fn take_back(table: &mut [Entry], named: &[Range])
+    ensures { table.new ≡ table_from (λ c. record { right = (slice_index_or table.old c no_entry).right; lent = if in_clauses (map reading named.now) c then Free else (slice_index_or table.old c no_entry).lent }) 0 (length table.old) }
+{
+    for range in named {
+        take_back_in(table, &reading_of(*range));
+    }
+}
+
+/// Takes back what is lent of each cell of the table that an access names.
+fn take_back_in(table: &mut [Entry], access: &Access)
+    ensures { Changes (λ c e. record e { lent = Free }) access.now.range.lo (min access.now.range.hi (length table.old)) table.old table.new }
+{
+    let end = (access.range.hi as usize).min(table.len());
+    for cell in access.range.lo as usize..end {
         let entry = entry_at(table, cell);
         table[cell] = entry.taken_back();
     }

@@ -1,7 +1,7 @@
 ghost use Rattle.std.specs.Prelude.{◌≡◌, ◌<◌, ◌≤◌};
 
 use super::*;
-use oss_syntax::{Mode, Range};
+use oss_syntax::Mode;
 use std::test::Fail;
 
 fn access(lo: u32, hi: u32, mode: Mode, strong: bool) -> Access
@@ -108,6 +108,21 @@ fn a_wait_clears_what_is_lent(rt: HostRuntime) -> Result<(), Fail> {
     main.waited();
     assert_eq!(rt; main.may_write(0), Ok(()));
     assert_eq!(rt; main.may_write(1), Ok(()));
+    Ok(())
+}
+
+#[test]
+fn a_wait_on_cells_clears_them_alone(rt: HostRuntime) -> Result<(), Fail> {
+    let mut main = Context::main(rt.alloc(), 3, 1)?;
+    let lent = list(rt.alloc(), &[access(0, 3, Mode::Write, true)])?;
+    main.lend(&lent)?;
+    let mut named = List::new(rt.alloc());
+    named.push(Range { lo: 1, hi: 2 })?;
+    assert_eq!(rt; main.waited_on(&named), Ok(()));
+    assert_eq!(rt; main.may_write(0), Err(FaultKind::Lent));
+    assert_eq!(rt; main.may_write(1), Ok(()));
+    named.push(Range { lo: 3, hi: 4 })?;
+    assert_eq!(rt; main.waited_on(&named), Err(FaultKind::NotCovered));
     Ok(())
 }
 

@@ -1,0 +1,10 @@
+use Rattle.std.proofs.Common.{◌≡◌, drop, get_or}
+use Rattle.std.specs.Prelude.{map}
+use Rattle.oss_model.specs.Rights.{any_cell, is_released}
+use Rattle.oss_model.specs.Context.{no_entry}
+use Rattle.oss_judge.specs.Table.{reading}
+use Rattle.oss_judge.proofs.checks.is_any_named_released.Given as goal
+
+-- no range so far has such a cell
+abbrev pub invariant-loop-range : goal.invariant-loop-range
+invariant-loop-range l = any_cell (λ c. is_released (get_or l.table c no_entry).right) (map reading (drop l.range-index l.named)) ≡ any_cell (λ c. is_released (get_or l.table c no_entry).right) (map reading l.named)
