@@ -1,10 +1,10 @@
 -- A text has one reading: what its tokens are not, it is not.
-use Rattle.std.proofs.Common.{◌≡◌, ℕ, List, [], Result, Ok, Err, sym, subst, refl, ◌∙◌, inl, inr}
+use Rattle.std.proofs.Common.{◌≡◌, ◌≤◌, ℕ, List, [], length, Result, Ok, Err, sym, subst, refl, ◌∙◌, inl, inr}
 use Rattle.oss_syntax.specs.declared.token.Token.{Token}
 use Rattle.oss_syntax.specs.declared.tree.program.Program.{Program}
 use Rattle.oss_model.specs.declared.answer.Answer.{Answer}
 use Rattle.oss_model.specs.declared.answer.Answer.TheVariants.{Done, Fault}
-use Rattle.oss_model.specs.Scalars.{answer_of}
+use Rattle.oss_model.specs.Scalars.{answer_of, names_of}
 use Rattle.oss_model.specs.declared.line_part.LinePart.TheVariants.{Beginning}
 use Rattle.oss_model.specs.Tokens.{Tokens, IsReadOnce}
 use Rattle.oss_model.proofs.ReadingLemmas.{value_is, whole_read}
@@ -31,6 +31,9 @@ module _ (text : List ℕ) (ts : List Token) (once : IsReadOnce text) (lexed : T
   pub no_tree : (u : Unread) → IsTree ts (Err u) → IsRead text (Err u)
   no_tree unread.Refused none = λ p a. none p (tokens_are p a)
   no_tree (unread.Memory e) none = tt
+
+  pub too_many : (p : Program) → IsProgram ts p → (length (names_of p.items) ≤ 1048576 → ⊥) → Refuses text
+  too_many p tree many q a = many (subst (λ (r : Program). length (names_of r.items) ≤ 1048576) (one_program ts q p (tokens_are q a) tree) a.few)
 
   pub no_rules : (p : Program) → IsProgram ts p → (Obeys p → ⊥) → Refuses text
   no_rules p tree broken q a = broken (subst (λ (r : Program). Obeys r) (one_program ts q p (tokens_are q a) tree) a.obeys)

@@ -2,7 +2,7 @@
 
 ghost use Rattle.std.specs.Prelude.{◌≡◌, ◌≤◌, [], length, map, IfOk};
 ghost use Rattle.std.specs.String.{string_bytes};
-ghost use Rattle.oss_model.specs.Scalars.{answer_of};
+ghost use Rattle.oss_model.specs.Scalars.{answer_of, names_of};
 ghost use Rattle.oss_top.specs.Reply.{IsProgramReply, IsReply, IsTextReply};
 
 use crate::form::cursor::Unread;
@@ -86,6 +86,7 @@ fn reply_to_text(alloc: Global, text: &[u8]) -> Result<Reply, AllocError>
 
 /// The reply to a program.
 fn reply_to_program(alloc: Global, program: &Program) -> Result<Reply, AllocError>
+    requires { length (names_of program.now.items) ≤ 1048576 }
     ensures { IfOk result (λ reply. IsProgramReply (answer_of program.now 1000000) reply.status reply.out.items reply.err.items) }
 {
     match serial_tree(alloc, program, FUEL)?.answer {
