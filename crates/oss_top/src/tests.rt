@@ -129,6 +129,11 @@ fn programs_write_their_output(rt: HostRuntime) -> Result<(), Fail> {
             "-3",
         ),
         ("int main(\\\n) { printf(\"//\"); }\r\n\t", "//"),
+        ("int main() { { } ; { ; { } } }", ""),
+        (
+            "#include <stdio.h>\n#pragma omp task\nint main() { /* a\nb */ printf(\"a\"); } // c",
+            "a",
+        ),
         (
             "long mainly; int main() { mainly = 7; printf(\"%ld\", mainly); }",
             "7",
@@ -172,7 +177,6 @@ fn texts_outside_the_form_are_refused(rt: HostRuntime) -> Result<(), Fail> {
         "void main() { }",
         "int main(void) { }",
         "int main() { return 0; }",
-        "int main() { { } }",
         "int f() { } int main() { }",
         "int main() { printf(\"a\" \"b\"); }",
         "int main() { printf(\"\\q\"); }",
@@ -184,6 +188,18 @@ fn texts_outside_the_form_are_refused(rt: HostRuntime) -> Result<(), Fail> {
         "long a; int main() { a = 1lL; }",
         "long a; int main() { a = 1a; }",
         "long a@; int main() { }",
+        "#define A\nint main() { }",
+        "int main() { }\n#pragma oss taskwait",
+        "int main() {\n#pragma oss taskwait",
+        "int main() {\n#pragma oss taskwait }\n}",
+        "int main() {\n#pragma oss task\n}",
+        "int main() {\n#pragma oss task in()\n;\n}",
+        "int main() {\n#pragma oss task in(x)\n;\n}",
+        "long x; int main() {\n#pragma oss task in(x\n;\n}",
+        "long x; int main() {\n#pragma oss task in x\n;\n}",
+        "int main() {\n#pragma oss wait\n}",
+        "#pragma oss taskwait\nint main() { }",
+        "int main() { /* }",
     ] {
         assert!(rt;
             run(alloc, text.as_bytes())?.is(3, "", UNSUPPORTED),
@@ -333,6 +349,109 @@ fn a_run_out_of_fuel_names_the_line(rt: HostRuntime) -> Result<(), Fail> {
             assert!(rt; is_fault(&ran.answer, FaultKind::OutOfFuel, 7));
             assert_eq!(rt; ran.tasks, 1);
         }
+        Err(_) => assert!(rt; false, "the program is read"),
+    }
+    Ok(())
+}
+
+#[test]
+fn tasks_run_where_they_stand(rt: HostRuntime) -> Result<(), Fail> {
+    let alloc = rt.alloc();
+    for (text, output) in [
+        (
+            "long x, y;\nint main() {\n#pragma oss task out(x)\n  x = 5;\n#pragma oss task in(x) out(y)\n  y = x + 1;\n#pragma oss taskwait\n  printf(\"%ld\\n\", y);\n}\n",
+            "6\n",
+        ),
+        (
+            "long x;\nint main() {\n#pragma oss task inout(x)\n{\n#pragma oss task out(x)\nx = 1;\n#pragma oss taskwait\nx = x + 1;\n}\n#pragma oss taskwait\nprintf(\"%ld\", x);\n}",
+            "2",
+        ),
+        (
+            "long x;\nint main() {\n#pragma oss task in(x)\n;\nprintf(\"%ld\", x);\n}",
+            "0",
+        ),
+    ] {
+        assert!(rt; run(alloc, text.as_bytes())?.is(0, output, ""), "{text}");
+    }
+    Ok(())
+}
+
+#[test]
+fn wrong_annotations_are_faults_with_their_line(rt: HostRuntime) -> Result<(), Fail> {
+    let alloc = rt.alloc();
+    for (text, output, fault) in [
+        (
+            "long x, y;\nint main() {\n#pragma oss task out(x)\n  x = 5;\n#pragma oss task in(x) out(y)\n  y = x + 1;\n  printf(\"%ld\\n\", y);\n}\n",
+            "",
+            "fault: Lent at line 7\n",
+        ),
+        (
+            "long x, y;\nint main() {\n#pragma oss task inout(x)\n{\n#pragma oss task in(y)\n;\n}\n}\n",
+            "",
+            "fault: NotCovered at line 5\n",
+        ),
+        (
+            "long x;\nint main() {\nprintf(\"a\");\n#pragma oss task in(x)\nx = 1;\nprintf(\"b\");\n}\n",
+            "a",
+            "fault: NoRight at line 5\n",
+        ),
+        (
+            "long x, y;\nint main() {\n#pragma oss task out(y)\ny = x;\n}",
+            "",
+            "fault: NoRight at line 4\n",
+        ),
+        (
+            "long x;\nint main() {\n#pragma oss task out(x)\nx = 5;\n#pragma oss task\nprintf(\"%ld\", x);\n}",
+            "",
+            "fault: NoRight at line 6\n",
+        ),
+        (
+            "long x;\nint main() {\n#pragma oss task inout(x)\n{\n#pragma oss task out(x)\nx = 1;\nx = x + 1;\n}\n}",
+            "",
+            "fault: Lent at line 7\n",
+        ),
+        (
+            "long x;\nint main() {\n#pragma oss task in(x)\n;\nx = 1;\n}",
+            "",
+            "fault: Lent at line 5\n",
+        ),
+    ] {
+        assert!(rt; run(alloc, text.as_bytes())?.is(1, output, fault), "{text}");
+    }
+    Ok(())
+}
+
+#[test]
+fn blocks_nest_at_most_64_deep(rt: HostRuntime) -> Result<(), Fail> {
+    let alloc = rt.alloc();
+    let mut most = repeated(alloc, "int main() {", "{", 64, "")?;
+    most.extend_from_slice(repeated(alloc, "", "}", 64, "}")?.as_slice())?;
+    assert!(rt; run(alloc, most.as_slice())?.is(0, "", ""));
+    let mut more = repeated(alloc, "int main() {", "{", 65, "")?;
+    more.extend_from_slice(repeated(alloc, "", "}", 65, "}")?.as_slice())?;
+    assert!(rt; run(alloc, more.as_slice())?.is(3, "", UNSUPPORTED));
+    Ok(())
+}
+
+#[test]
+fn a_pragma_names_at_most_64_variables(rt: HostRuntime) -> Result<(), Fail> {
+    let alloc = rt.alloc();
+    let before = "long x; int main() {\n#pragma oss task in(x";
+    let most = repeated(alloc, before, ", x", 63, ")\n;\n}")?;
+    assert!(rt; run(alloc, most.as_slice())?.is(0, "", ""));
+    let more = repeated(alloc, before, ", x", 64, ")\n;\n}")?;
+    assert!(rt; run(alloc, more.as_slice())?.is(3, "", UNSUPPORTED));
+    Ok(())
+}
+
+#[test]
+fn main_and_each_created_task_are_counted(rt: HostRuntime) -> Result<(), Fail> {
+    let alloc = rt.alloc();
+    let text =
+        "long x;\nint main() {\n#pragma oss task inout(x)\n{\n#pragma oss task\n;\n#pragma oss task in(x)\n;\n}\n}";
+    assert!(rt; text.len() <= 1_048_576);
+    match form::read(alloc, text.as_bytes()) {
+        Ok(program) => assert_eq!(rt; serial_tree(alloc, &program, 5)?.tasks, 4),
         Err(_) => assert!(rt; false, "the program is read"),
     }
     Ok(())
