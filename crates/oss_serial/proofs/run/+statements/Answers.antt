@@ -1,12 +1,10 @@
 use Rattle.std.proofs.Common.{◌≡◌, ◌∙◌, ap, sym, subst, List, Err}
 use Rattle.oss_syntax.specs.declared.tree.stmt.Stmt.{Stmt}
-use Rattle.oss_model.specs.Scalars.{State, Ending, Goes, Stops, printed_values, task_run, mark_accesses, run_of, runs_of, in_order, ticked}
-use Rattle.oss_serial.specs.Endings.{Ends}
+use Rattle.oss_model.specs.Scalars.{State, Ending, Goes, Stops, entered, printed_values, task_run, mark_accesses, run_of, runs_of, in_order, ticked}
+use Rattle.oss_serial.specs.Endings.{Ends, stop_for}
 use Rattle.std.specs.Prelude.{None}
 use Rattle.oss_syntax.specs.declared.access.Access.{Access}
 use Rattle.oss_model.specs.Context.{create_fault}
-use Rattle.oss_model.specs.Scalars.{State, Goes, entered}
-use Rattle.oss_serial.specs.Endings.{stop_for}
 use Rattle.oss_serial.specs.declared.stop.Stop.{Stop}
 use Rattle.oss_serial.proofs.RunLemmas.{task-enters, task-stops, task-goes, ends_along, ends_goes, ends_stop, stop_along, runs-stop, run-print, run-task, run-empty, run-declare, run-call, run-if, run-while, run-for, run-return, run-break, run-continue, run-release}
 use Rattle.oss_serial.proofs.run.+statements.Goals as goal
