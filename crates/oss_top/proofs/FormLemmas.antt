@@ -38,21 +38,24 @@ module _ (text : List ℕ) (ts : List Token) (once : IsReadOnce text) (lexed : T
   pub no_rules : (p : Program) → IsProgram ts p → (Obeys p → ⊥) → Refuses text
   no_rules p tree broken q a = broken (subst (λ (r : Program). Obeys r) (one_program ts q p (tokens_are q a) tree) a.obeys)
 
-pub text_reply : (text : List ℕ) (p : Program) (a : Answer) (status : ℕ) (out err : List ℕ) → Accepts text p → answer_of p run_fuel ≡ a → IsProgramReply a status out err → IsTextReply text status out err
-text_reply text p (Done output cells) status out err accepts e r = record {
+one_accepted : (text : List ℕ) → IsReadOnce text → (p q : Program) → Accepts text p → Accepts text q → q ≡ p
+one_accepted text once p q a b = one_program a.tokens q p (tokens_are text a.tokens once a.lexed q b) a.tree
+
+pub text_reply : (text : List ℕ) → IsReadOnce text → (p : Program) (a : Answer) (status : ℕ) (out err : List ℕ) → Accepts text p → answer_of p run_fuel ≡ a → IsProgramReply a status out err → IsTextReply text status out err
+text_reply text once p (Done output cells) status out err accepts e r = record {
   known = inl r.0;
-  done = λ is. (r.2, record { program = p; accepts = accepts; answer = rw e r.1 });
+  done = λ is. (r.2, record { program = p; accepts = accepts; only = λ q b. one_accepted text once p q accepts b; answer = rw e r.1 });
   fault = λ is. absurd (cc (r.0, is));
   unsupported = λ is. absurd (cc (r.0, is));
 }
-text_reply text p (Fault kind line output) status out err accepts e r = record {
+text_reply text once p (Fault kind line output) status out err accepts e r = record {
   known = inr (inl r.0);
   done = λ is. absurd (cc (r.0, is));
-  fault = λ is. record { program = p; accepts = accepts; answer = rw e (r.1, r.2) };
+  fault = λ is. record { program = p; accepts = accepts; only = λ q b. one_accepted text once p q accepts b; answer = rw e (r.1, r.2) };
   unsupported = λ is. absurd (cc (r.0, is));
 }
 
-pub text_replies : (text : List ℕ) (p : Program) (r : Result Reply AllocError) → Accepts text p → IfOk r (λ reply. IsProgramReply (answer_of p run_fuel) reply.status reply.out.items reply.err.items)
+pub text_replies : (text : List ℕ) → IsReadOnce text → (p : Program) (r : Result Reply AllocError) → Accepts text p → IfOk r (λ reply. IsProgramReply (answer_of p run_fuel) reply.status reply.out.items reply.err.items)
     → IfOk r (λ reply. IsTextReply text reply.status reply.out.items reply.err.items)
-text_replies text p (Ok reply) accepts r = text_reply text p (answer_of p run_fuel) reply.status reply.out.items reply.err.items accepts refl r
-text_replies text p (Err e) accepts r = r
+text_replies text once p (Ok reply) accepts r = text_reply text once p (answer_of p run_fuel) reply.status reply.out.items reply.err.items accepts refl r
+text_replies text once p (Err e) accepts r = r

@@ -4,7 +4,10 @@ use Rattle.std.specs.Prelude.{IfSome}
 use Rattle.oss_io.specs.Faults.{Rises}
 use Rattle.oss_syntax.specs.declared.tree.program.Program.{Program}
 use Rattle.oss_top.specs.CommandWords.{file_in}
-use Rattle.oss_top.specs.Reply.{IsReply, IsFileReply, IsUnwritten, IsComplete, OfText, most_bytes}
+use Rattle.oss_model.specs.declared.answer.Answer.{Answer}
+use Rattle.oss_model.specs.declared.answer.Answer.TheVariants.{Done, Fault}
+use Rattle.oss_model.specs.Scalars.{answer_of}
+use Rattle.oss_top.specs.Reply.{IsReply, IsFileReply, IsUnwritten, IsComplete, IsDone, IsFault, OfText, Ran, most_bytes, run_fuel, status_of}
 use Rattle.oss_top.specs.Reply.IsFileReply.{too_large, fits}
 use Rattle.oss_top.specs.Reply.IsUnwritten.{no_output, no_errors}
 use Rattle.oss_top.specs.ScalarForm.{Accepts, Refuses}
@@ -37,10 +40,21 @@ module _ (words : List (List ℕ)) (held : List ℕ → Option (List ℕ)) (befo
       (λ is. let none : None ≡ Some file = sym (r.usage is).0 ∙ named in absurd (cc))
       (λ is. still (r.unread is).0)
 
-  runs_of : (status : ℕ) (out err text : List ℕ) (p : Program) → length text ≤ most_bytes → Accepts text p → Told status → IsFileReply text status out err → (status ≡ 0) ⊎ ((status ≡ 1) ⊎ (status ≡ 6))
-  runs_of status out err text p small accepts (inl is) f = inl is
-  runs_of status out err text p small accepts (inr (inl is)) f = inr (inl is)
-  runs_of status out err text p small accepts (inr (inr is)) (too_large long e f g) = absurd (omega arith)
+  done_status : (a : Answer) (out : List ℕ) → IsDone a out → status_of a ≡ 0
+  done_status (Done text cells) out is = refl
+  done_status (Fault kind line text) out is = absurd (is)
+
+  fault_status : (a : Answer) (out err : List ℕ) → IsFault a out err → status_of a ≡ 1
+  fault_status (Done text cells) out err is = absurd (is)
+  fault_status (Fault kind line text) out err is = refl
+
+  ran_status : (text : List ℕ) (p : Program) (Is : Answer → Type 0) (n : ℕ) → ((a : Answer) → Is a → status_of a ≡ n) → Accepts text p → Ran text Is → status_of (answer_of p run_fuel) ≡ n
+  ran_status text p Is n has accepts ran = rw (ran.only p accepts) (has (answer_of ran.program run_fuel) ran.answer)
+
+  runs_of : (status : ℕ) (out err text : List ℕ) (p : Program) → length text ≤ most_bytes → Accepts text p → Told status → IsFileReply text status out err → (status ≡ status_of (answer_of p run_fuel)) ⊎ (status ≡ 6)
+  runs_of status out err text p small accepts told (too_large long e f g) = absurd (omega arith)
+  runs_of status out err text p small accepts (inl is) (fits s r) = inl (is ∙ sym (ran_status text p (λ a. IsDone a out) 0 (λ a d. done_status a out d) accepts (r.done is).1))
+  runs_of status out err text p small accepts (inr (inl is)) (fits s r) = inl (is ∙ sym (ran_status text p (λ a. IsFault a out err) 1 (λ a f. fault_status a out err f) accepts (r.fault is)))
   runs_of status out err text p small accepts (inr (inr is)) (fits s r) = absurd ((r.unsupported is).2 p accepts)
 
   refuses_of : (status : ℕ) (out err text : List ℕ) → Refuses text → Told status → IsFileReply text status out err → (status ≡ 3) ⊎ (status ≡ 6)
@@ -60,7 +74,7 @@ module _ (words : List (List ℕ)) (held : List ℕ → Option (List ℕ)) (befo
   pub complete : (status : ℕ) (out err : List ℕ) → IsReply words held before now last status out err → IsComplete words held status
   complete status out err r = record {
     runs = λ file text p named given small accepts. or_memory status (by_status status out err file r named)
-        (λ is. runs_of status out err text p small accepts is (text_of status out err file text r named given is)) (λ is. inr (inr is));
+        (λ is. runs_of status out err text p small accepts is (text_of status out err file text r named given is)) inr;
     refuses = λ file text named given small refuses. or_memory status (by_status status out err file r named)
         (λ is. refuses_of status out err text refuses is (text_of status out err file text r named given is)) inr;
     too_large = λ file text named given long. or_memory status (by_status status out err file r named)

@@ -48,10 +48,16 @@ abbrev pub IsProgramReply : Answer → ℕ → List ℕ → List ℕ → Type 0
 IsProgramReply (Done text cells) status out err = (status ≡ 0) × (text ≡ out) × (err ≡ [])
 IsProgramReply (Fault kind line text) status out err = (status ≡ 1) × (text ≡ out) × (err ≡ fault_line kind line)
 
--- the program of the text has an answer
+-- the status of a program that has this answer: 1 exactly where it is a fault
+abbrev pub status_of : Answer → ℕ
+status_of (Done text cells) = 0
+status_of (Fault kind line text) = 1
+
+-- the text is one program, and that has an answer
 pub record Ran (text : List ℕ) (Is : Answer → Type 0) : Type 0 where
   pub program : Program
   pub accepts : Accepts text program
+  pub only : (other : Program) → Accepts text other → other ≡ program
   pub answer : Is (answer_of program run_fuel)
 
 -- the reply to a text of at most 1,048,576 bytes
@@ -93,8 +99,9 @@ pub data IsUnwritten (out_old out_new : Option (List ℕ)) (out_before out_now :
   no_output : Rises out_before out_now → IsCut out_old out_new out → err_new ≡ err_old → err_now ≡ err_before → IsUnwritten out_old out_new out_before out_now err_old err_new err_before err_now out err
   no_errors : out_now ≡ out_before → out_new ≡ append_known out_old out → Rises err_before err_now → IsCut err_old err_new err → IsUnwritten out_old out_new out_before out_now err_old err_new err_before err_now out err
 
--- Completeness: where no count of faults rises, a file that is given has the status of its text, or memory is wanting.
+-- Completeness: where no count of faults rises, a file that is given has the status of its text, and of its answer where it is a
+-- program; or memory is wanting.
 pub record IsComplete (words : List (List ℕ)) (held : List ℕ → Option (List ℕ)) (status : ℕ) : Type 0 where
-  pub runs : (file text : List ℕ) (program : Program) → file_in words ≡ Some file → held file ≡ Some text → length text ≤ most_bytes → Accepts text program → (status ≡ 0) ⊎ ((status ≡ 1) ⊎ (status ≡ 6))
+  pub runs : (file text : List ℕ) (program : Program) → file_in words ≡ Some file → held file ≡ Some text → length text ≤ most_bytes → Accepts text program → (status ≡ status_of (answer_of program run_fuel)) ⊎ (status ≡ 6)
   pub refuses : (file text : List ℕ) → file_in words ≡ Some file → held file ≡ Some text → length text ≤ most_bytes → Refuses text → (status ≡ 3) ⊎ (status ≡ 6)
   pub too_large : (file text : List ℕ) → file_in words ≡ Some file → held file ≡ Some text → most_bytes < length text → (status ≡ 3) ⊎ (status ≡ 6)

@@ -10,6 +10,7 @@ use crate::form::read;
 use crate::texts;
 use crate::words::file_of;
 use oss_io::{Shelf, ShelfFault};
+use oss_lex::a_text_has_one_reading;
 use oss_model::{Answer, RefusedKind};
 use oss_serial::serial_tree;
 use oss_syntax::Program;
@@ -73,6 +74,7 @@ fn reply_to_text(alloc: Global, text: &[u8]) -> Result<Reply, AllocError>
     requires { length text.now ≤ 1048576 }
     ensures { IfOk result (λ reply. IsTextReply text.now reply.status reply.out.items reply.err.items) }
 {
+    a_text_has_one_reading(text);
     match read(alloc, text) {
         Ok(program) => reply_to_program(alloc, &program),
         Err(Unread::Refused) => Ok(Reply::error(
