@@ -1,5 +1,6 @@
 #!/bin/sh
-# Runs the built program on the files of examples/ and on bad input, and compares what it writes and its status.
+# Runs the built program on the files of examples/ and of tests/programs/ and on bad input, and compares what it writes and its
+# status.
 # NAME.c is run; NAME.out is its output, NAME.err its error output (empty where there is none), NAME.status its status (0
 # where there is none). The last line counts.
 top=$(CDPATH='' cd -- "$(dirname -- "$0")/.." && pwd) || exit 1
@@ -28,14 +29,16 @@ expect() {
 [ $? = 2 ] || cat "$work/build"
 : >"$work/nothing"
 
-cd "$top/examples" || exit 1
-for file in *.c; do
-  name=${file%.c}
-  err=$work/nothing
-  [ -f "$name.err" ] && err=$name.err
-  status=0
-  [ -f "$name.status" ] && status=$(cat "$name.status")
-  expect "$file" "$status" "$name.out" "$err" run "$file"
+for folder in examples tests/programs; do
+  cd "$top/$folder" || exit 1
+  for file in *.c; do
+    name=${file%.c}
+    err=$work/nothing
+    [ -f "$name.err" ] && err=$name.err
+    status=0
+    [ -f "$name.status" ] && status=$(cat "$name.status")
+    expect "$folder/$file" "$status" "$name.out" "$err" run "$file"
+  done
 done
 
 cd "$work" || exit 1

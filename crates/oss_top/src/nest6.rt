@@ -11,10 +11,10 @@ use oss_io::{Shelf, Sink, write_whole};
 use std::alloc::Global;
 
 /// Reads the words behind the program's name, reads the file that they name from the shelf, runs it or refuses it, and
-/// writes the texts, the output first. The status is 0 where the program ran to its end, 1 where it
-/// ran into a fault, 2 where the words are refused, 3 where the
-/// file is too long or its text is refused, 4 where the shelf failed, 5 where a sink failed, and 6 for want of memory:
-/// `IsReply` says of each what stands on the sinks, and when it comes.
+/// writes the texts, the output first. The status is 0 where the program ran to its end, 1 where it ran into a fault, 2
+/// where the words are refused, 3 where the file is too long or its text is refused, 4 where the shelf failed, 5 where a
+/// sink failed, and 6 for want of memory: `IsReply` says of each what stands on the sinks, and when it comes. Where
+/// nothing failed and the text is a program, the status is 0 or 1 by its answer, or 6: `IsComplete`.
 pub fn nest6<S: Shelf, O: Sink, E: Sink>(
     alloc: Global,
     words: &[String],

@@ -196,6 +196,7 @@ fn texts_outside_the_form_are_refused(rt: HostRuntime) -> Result<(), Fail> {
         "int main() {\n#pragma oss task in()\n;\n}",
         "int main() {\n#pragma oss task in(x)\n;\n}",
         "long x; int main() {\n#pragma oss task in(x\n;\n}",
+        "long x; int main() {\n#pragma oss task in(x),\n;\n}",
         "long x; int main() {\n#pragma oss task in x\n;\n}",
         "int main() {\n#pragma oss wait\n}",
         "#pragma oss taskwait\nint main() { }",
@@ -370,6 +371,10 @@ fn tasks_run_where_they_stand(rt: HostRuntime) -> Result<(), Fail> {
             "long x;\nint main() {\n#pragma oss task in(x)\n;\nprintf(\"%ld\", x);\n}",
             "0",
         ),
+        (
+            "long in, task;\nint main() {\n#pragma oss task ,in(in), out(task) inout(in, in)\ntask = in;\n}",
+            "",
+        ),
     ] {
         assert!(rt; run(alloc, text.as_bytes())?.is(0, output, ""), "{text}");
     }
@@ -454,5 +459,36 @@ fn main_and_each_created_task_are_counted(rt: HostRuntime) -> Result<(), Fail> {
         Ok(program) => assert_eq!(rt; serial_tree(alloc, &program, 5)?.tasks, 4),
         Err(_) => assert!(rt; false, "the program is read"),
     }
+    Ok(())
+}
+
+#[test]
+fn tasks_nest_as_blocks_do(rt: HostRuntime) -> Result<(), Fail> {
+    let alloc = rt.alloc();
+    let most = repeated(alloc, "int main() {", "\n#pragma oss task\n", 63, ";}")?;
+    assert!(rt; run(alloc, most.as_slice())?.is(0, "", ""));
+    let more = repeated(alloc, "int main() {", "\n#pragma oss task\n", 64, ";}")?;
+    assert!(rt; run(alloc, more.as_slice())?.is(3, "", UNSUPPORTED));
+    Ok(())
+}
+
+#[test]
+fn a_task_has_1000000_ticks(rt: HostRuntime) -> Result<(), Fail> {
+    let alloc = rt.alloc();
+    let most = repeated(alloc, "int main() {{}", ";", 1_000_000, "}")?;
+    assert!(rt; run(alloc, most.as_slice())?.is(0, "", ""));
+    let more = repeated(alloc, "int main() {\n", ";", 1_000_001, "}")?;
+    assert!(rt; run(alloc, more.as_slice())?.is(1, "", "fault: OutOfFuel at line 2\n"));
+    Ok(())
+}
+
+#[test]
+fn a_creation_is_a_tick_of_its_creator(rt: HostRuntime) -> Result<(), Fail> {
+    let alloc = rt.alloc();
+    let behind = "\n#pragma oss task\n{;;}\nprintf(\"a\");}";
+    let most = repeated(alloc, "int main() {", ";", 999_998, behind)?;
+    assert!(rt; run(alloc, most.as_slice())?.is(0, "a", ""));
+    let more = repeated(alloc, "int main() {", ";", 999_999, behind)?;
+    assert!(rt; run(alloc, more.as_slice())?.is(1, "", "fault: OutOfFuel at line 4\n"));
     Ok(())
 }

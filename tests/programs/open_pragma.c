@@ -1,0 +1,2 @@
+int main() { }
+#pragma oss taskwait

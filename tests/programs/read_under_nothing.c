@@ -1,0 +1,5 @@
+long x, y;
+int main() {
+#pragma oss task out(y)
+  y = x;
+}
