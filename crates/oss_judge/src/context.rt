@@ -215,16 +215,19 @@ impl Context {
         take_all_back(self.entries.as_mut_slice());
     }
 
-    /// Takes back what is lent of the cells of these ranges, after a wait for the children's accesses to them. Where the wait
-    /// has a fault the context stays.
-    pub fn waited_on(&mut self, named: &List<Range>) -> Result<(), FaultKind>
-        ensures fault { result_err result ≡ wait_on_fault self.old (map reading named.now) }
+    /// Takes back what is lent of the cells of these ranges, after a wait for the children's accesses to them. `Ok` means that
+    /// the wait has no fault and that this is done. Otherwise the context stays as it was: the fault is `Released` where the
+    /// task has released one of the cells, and else `NotCovered` where it never had a right to one of them. Want of memory may
+    /// come in place of each of these answers.
+    pub fn waited_on(&mut self, named: &List<Range>) -> Result<(), JudgeRefused>
         ensures ok { OnOk result (self.new ≡ waited_on (map reading named.now) self.old) }
+        ensures allowed { OnOk result (wait_on_fault self.old (map reading named.now) ≡ None) }
+        ensures refused { IfErr result (IsRefusal (wait_on_fault self.old (map reading named.now))) }
         ensures err { OnErr result (self.new ≡ self.old) }
     {
         match check_waited_on(self.entries.as_slice(), named.as_slice()) {
             Ok(()) => {}
-            Err(kind) => return Err(kind),
+            Err(kind) => return Err(JudgeRefused::Fault(kind)),
         }
         take_back(self.entries.as_mut_slice(), named.as_slice());
         Ok(())

@@ -3,8 +3,9 @@
 -- those it names (taskwait directive), release ends a right (release directive, and the early release of Perez,
 -- Beltran, Labarta and Ayguadé, IPDPS 2017). The limits and the order of the tests are rules of this language.
 -- Read against: a task with inout(a) over two cells that releases a[0] and then creates a task with in(a),
--- where the creation is the fault Released; and a main that creates 65,535 tasks, and one more in a function
--- that a clause of a further creation calls, where that further creation is the fault TooManyTasks.
+-- where the creation is the fault Released; and a main that creates 65,534 tasks, where the beginning of a
+-- further creation passes, a function that a clause of it calls creates the 65,535th, and that further creation
+-- itself is then the fault TooManyTasks.
 use Rattle.std.specs.Prelude.{ℕ, zero, suc, ◌+◌, nat_lt, nat_le, Bool, true, false, ◌||◌, if◌then◌else◌, List, [], ◌∷◌, length, slice_index_or, Option, Some, None}
 use Rattle.oss_syntax.specs.declared.access.Access.{Access}
 use Rattle.oss_syntax.specs.declared.access.Mode.TheVariants.{Read, Write}

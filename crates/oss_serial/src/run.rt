@@ -17,8 +17,9 @@ pub struct Ran {
     pub tasks: u64,
 }
 
-/// Runs a program one statement after the other, where a task may do `fuel` ticks. Condition: it has at most 1,048,576
-/// globals. Want of memory is the one error.
+/// Runs a program one statement after the other, where a task may do `fuel` ticks. Its meaning is that of programs of
+/// scalars with tasks: what else a tree may have (branches, loops, calls, returns, other clauses) means no more than its
+/// tick. Condition: it has at most 1,048,576 globals. Want of memory is the one error.
 pub fn serial_tree(alloc: Global, program: &Program, fuel: u32) -> Result<Ran, AllocError>
     requires { length (names_of program.now.items) ≤ 1048576 }
     ensures answer { IfOk result (λ ran. ran.answer ≡ answer_of program.now fuel) }

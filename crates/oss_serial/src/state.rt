@@ -150,8 +150,8 @@ impl State {
         Ok(mem::replace(&mut self.context, child))
     }
 
-    /// Goes on with the creator of a task that has ended, which has lent it these accesses. After want of memory the run is
-    /// given up.
+    /// Goes on with the creator of a task whose body has run: counts the task among those that the creator has created, and
+    /// lends it these accesses. After want of memory the run is given up.
     pub fn leave(&mut self, mut creator: Context, accesses: &List<Access>) -> Result<(), AllocError>
         requires { creator.created < 65535 }
         ensures { OnOk result (self.new ≡ record self.old { context = lend (right_from false accesses.now) (record creator { created = creator.created + 1 }) }) }

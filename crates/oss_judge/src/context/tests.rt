@@ -118,11 +118,17 @@ fn a_wait_on_cells_clears_them_alone(rt: HostRuntime) -> Result<(), Fail> {
     main.lend(&lent)?;
     let mut named = List::new(rt.alloc());
     named.push(Range { lo: 1, hi: 2 })?;
-    assert_eq!(rt; main.waited_on(&named), Ok(()));
+    main.waited_on(&named)?;
     assert_eq!(rt; main.may_write(0), Err(FaultKind::Lent));
     assert_eq!(rt; main.may_write(1), Ok(()));
     named.push(Range { lo: 3, hi: 4 })?;
-    assert_eq!(rt; main.waited_on(&named), Err(FaultKind::NotCovered));
+    assert!(rt;
+        matches!(
+            main.waited_on(&named),
+            Err(JudgeRefused::Fault(FaultKind::NotCovered))
+        )
+    );
+    assert_eq!(rt; main.may_write(0), Err(FaultKind::Lent));
     Ok(())
 }
 
