@@ -1,7 +1,8 @@
 ghost use Rattle.std.specs.Prelude.{◌≡◌};
 ghost use Rattle.oss_model.specs.Words.{is_keyword, is_left_out_keyword, is_used_keyword};
 
-/// Whether a word is a keyword (C11 6.4.1), one that is left out too.
+/// Whether a word is a keyword, one that is left out too: a keyword of C (C11 6.4.1), or `printf`, which is a keyword of
+/// this language and not of C.
 #[tactic(auto, unfolding(oss_model::specs::Words::is_keyword))]
 pub fn is_reserved(word: &[u8]) -> bool
     ensures { result ≡ is_keyword word.now }

@@ -128,7 +128,8 @@ fn keep(found: &mut List<Token>, what: Option<TokenKind>, line: u32) -> Result<(
 }
 
 /// The tokens of a text, each with its line; or why and on which line the text is first refused: `Lexical` where what
-/// stands there is no token, `TooLarge` where it is a name of more than 63 bytes. `Memory` says nothing of the text.
+/// stands there is no token, `TooLarge` where it is a name of more than 63 bytes. `Memory` says nothing of the text. The
+/// text has at most 1,048,576 bytes.
 pub fn tokens(alloc: Global, text: &[u8]) -> Result<List<Token>, Refusal>
     requires { length text.now ≤ 1048576 }
     ensures reading { IsReading text.now result }

@@ -6,7 +6,9 @@ use oss_syntax::TokenKind;
 /// A token, and the text behind it.
 #[derive(Debug, Drop)]
 pub struct Taken<'a> {
+    /// The token at the front of the text.
     pub what: TokenKind,
+    /// What stands behind the token.
     pub rest: &'a [u8],
 }
 
@@ -14,9 +16,13 @@ pub struct Taken<'a> {
 /// lines on where the rest begins.
 #[derive(Debug, Drop)]
 pub struct Step<'a> {
+    /// The token, or `None` where what stands there gives none.
     pub what: Option<TokenKind>,
+    /// Where on its line the rest begins.
     pub part: LinePart,
+    /// How many newlines were taken before the rest.
     pub lines: usize,
+    /// The text behind it, still to be read.
     pub rest: &'a [u8],
 }
 

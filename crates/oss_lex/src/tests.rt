@@ -127,13 +127,17 @@ fn numbers(rt: HostRuntime) -> Result<(), Fail> {
         ("9223372036854775808", "9223372036854775808u@1 "),
         ("0x8000000000000000", "9223372036854775808u@1 "),
         ("18446744073709551615", "18446744073709551615u@1 "),
+        ("0xffffffffffffffff", "18446744073709551615u@1 "),
         ("1777777777777777777777", LEXICAL),
         ("01777777777777777777777", "18446744073709551615u@1 "),
         ("18446744073709551616", LEXICAL),
+        ("0x10000000000000000", LEXICAL),
+        ("02000000000000000000000", LEXICAL),
         ("99999999999999999999999999999999999999999", LEXICAL),
         ("1lul", LEXICAL),
         ("1lL", LEXICAL),
         ("1Ll", LEXICAL),
+        ("1llL", LEXICAL),
         ("1uu", LEXICAL),
         ("1lll", LEXICAL),
         ("08", LEXICAL),
@@ -392,5 +396,33 @@ fn large_texts(rt: HostRuntime) -> Result<(), Fail> {
     }
     let open = repeated(&rt, rt.alloc(), b"#pragma /*\n".as_slice())?;
     expect(&rt, rt.alloc(), open.as_slice(), LEXICAL.as_bytes())?;
+    Ok(())
+}
+
+/// A text of exactly 1,048,576 bytes: these at its front and at its end, of at most 16 each, and this one between them.
+fn filled(
+    rt: &impl Abort,
+    alloc: Global,
+    front: &[u8],
+    byte: u8,
+    end: &[u8],
+) -> Result<Vec<u8>, AllocError> {
+    assert!(rt; front.len() <= 16 && end.len() <= 16);
+    let mut text = Vec::from_slice(alloc, front)?;
+    for _ in 0..1048576 - front.len() - end.len() {
+        text.push(byte)?;
+    }
+    text.extend_from_slice(end)?;
+    assert!(rt; text.len() == 1048576);
+    Ok(text)
+}
+
+#[test]
+fn largest_texts(rt: HostRuntime) -> Result<(), Fail> {
+    let none = b"".as_slice();
+    let blanks = filled(&rt, rt.alloc(), none, b' ', none)?;
+    expect(&rt, rt.alloc(), blanks.as_slice(), none)?;
+    let comment = filled(&rt, rt.alloc(), b"/*".as_slice(), b'x', b"*/".as_slice())?;
+    expect(&rt, rt.alloc(), comment.as_slice(), none)?;
     Ok(())
 }

@@ -23,7 +23,8 @@ pub data Closes : List ℕ → Type 0 where
   close : Closes (42 ∷ 47 ∷ [])
   inside : (b : ℕ) (more : List ℕ) → (b == 42 && slice_index more 0 == 47) ≡ false → Closes more → Closes (b ∷ more)
 
--- A newline ends its line where no backslash stands directly before it (C11 5.1.1.2p1, second phase).
+-- For `//` comments alone: a newline ends such a comment's line where no backslash stands directly before it (C11
+-- 5.1.1.2p1, second phase). Skipped lines and those of a Directive end at their first newline byte: see `IsLine`.
 unfoldable pub ends_line : Bool → ℕ → Bool
 ends_line backslash b = b == 10 && not backslash
 

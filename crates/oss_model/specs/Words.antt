@@ -166,8 +166,8 @@ is_symbol (a ∷ b ∷ c ∷ d ∷ more) = false
 unfoldable pub opens_comment : List ℕ → Bool
 opens_comment text = slice_index text 0 == 47 && (slice_index text 1 == 42 || slice_index text 1 == 47)
 
--- The words of a kind of token. A name has at most 63 bytes. Directive and the tokens of a pragma line are no words: see
--- `Tokens`.
+-- The words of a kind of token. A name has at most 63 bytes. Only PragmaOss, PragmaEnd and Directive are no words: see
+-- `Tokens`. The other tokens of a pragma line are words as anywhere else.
 abbrev pub IsWord : TokenKind → List ℕ → Type 0
 IsWord (Name name) word = (name ≡ word) × IsIdentifier word × (is_keyword word ≡ false) × (length word ≤ 63)
 IsWord (Keyword name) word = (name ≡ word) × IsIdentifier word × (is_keyword word ≡ true)

@@ -3,7 +3,7 @@
 pub enum LinePart {
     /// Only blanks and comments stand before it.
     Beginning,
-    /// A token of the line stands before it.
+    /// A token of the line stands before it, or a skipped line that gives no token (its newline still stands there).
     Later,
     /// It stands in a line `#pragma oss`.
     Pragma,

@@ -35,7 +35,9 @@ pub enum RefusedKind {
 /// one for a refusal of the grammar, and 0 for every other.
 #[derive(Clone, Copy, Debug, PartialEq, Eq)]
 pub struct Refused {
+    /// Why it is refused.
     pub kind: RefusedKind,
+    /// The line of the place that is refused, counted from 1.
     pub line: u32,
     pub token: u32,
 }

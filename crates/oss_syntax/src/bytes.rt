@@ -43,6 +43,7 @@ impl Bytes {
         Ok(Bytes { bytes })
     }
 
+    /// The bytes in their order, lent as a slice.
     pub fn as_slice(&self) -> &[u8]
         ensures { result.now ≡ self.now }
     {
@@ -89,6 +90,7 @@ impl Name {
         Ok(Name { bytes })
     }
 
+    /// The bytes of the name, lent as a slice.
     pub fn as_slice(&self) -> &[u8]
         ensures { result.now ≡ self.now }
     {
@@ -118,12 +120,14 @@ impl Cells {
         Cells { cells }
     }
 
+    /// The numbers of all cells, lent as a slice in their order.
     pub fn as_slice(&self) -> &[u64]
         ensures { result.now ≡ self.now }
     {
         self.cells.as_slice()
     }
 
+    /// How many cells there are.
     pub fn len(&self) -> usize
         ensures { result ≡ length self.now }
     {

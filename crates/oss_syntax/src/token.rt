@@ -5,7 +5,8 @@ use crate::{Bytes, Name};
 pub enum TokenKind {
     /// An identifier that is no keyword (C11 6.4.2).
     Name(Name),
-    /// A word of the language, also one that is left out of this subset (C11 6.4.1).
+    /// A word of the language, also one that is left out of this subset: those of C (C11 6.4.1), and `printf`, which is a
+    /// keyword of this language and not of C.
     Keyword(Name),
     /// The value of an integer constant, and whether it is unsigned (C11 6.4.4.1).
     Number(u64, bool),
@@ -24,6 +25,8 @@ pub enum TokenKind {
 /// A token, and the line on which it begins, counted from 1.
 #[derive(Debug, Drop)]
 pub struct Token {
+    /// Which token it is, with what it stands for.
     pub what: TokenKind,
+    /// The line of its first byte.
     pub line: u32,
 }

@@ -39,6 +39,7 @@ impl<'a> Model for Cursor<'a> {
 }
 
 impl<'a> Cursor<'a> {
+    /// The place before the first of these tokens, where all are left.
     pub fn new(tokens: &'a [Token]) -> Cursor<'a>
         ensures { result ≡ tokens.now }
     {
@@ -238,6 +239,7 @@ impl<'a> Cursor<'a> {
         Ok(kind)
     }
 
+    /// Whether the next token is this symbol; it stays.
     pub fn begins_with_symbol(&self, symbol: &[u8]) -> bool
         ensures { result ≡ begins (symbol_at symbol.now) self.now }
     {
@@ -247,6 +249,7 @@ impl<'a> Cursor<'a> {
         }
     }
 
+    /// Whether the next token is a name; it stays.
     pub fn begins_with_name(&self) -> bool
         ensures { result ≡ begins name_at self.now }
     {
@@ -256,6 +259,7 @@ impl<'a> Cursor<'a> {
         }
     }
 
+    /// Whether the next token is a number; it stays.
     pub fn begins_with_number(&self) -> bool
         ensures { result ≡ begins number_at self.now }
     {
@@ -265,6 +269,7 @@ impl<'a> Cursor<'a> {
         }
     }
 
+    /// Whether the next token is an operator of a sum, `+` or `-`; it stays.
     pub fn begins_with_operator(&self) -> bool
         ensures { result ≡ begins operator_at self.now }
     {
@@ -274,6 +279,7 @@ impl<'a> Cursor<'a> {
         }
     }
 
+    /// Whether the next token is a type of one word, `int` or `long`; it stays.
     pub fn begins_with_kind(&self) -> bool
         ensures { result ≡ begins kind_at self.now }
     {
@@ -283,6 +289,7 @@ impl<'a> Cursor<'a> {
         }
     }
 
+    /// Whether the next token is this keyword; it stays.
     pub fn begins_with_keyword(&self, keyword: &[u8]) -> bool
         ensures { result ≡ begins (keyword_at keyword.now) self.now }
     {
