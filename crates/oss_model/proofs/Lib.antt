@@ -4,6 +4,7 @@ pub mod AnswerTheorem
 pub mod BodyLemmas
 pub mod ConflictTheorem
 pub mod ContextLemmas
+pub mod ExactLemmas
 pub mod Exclusive
 pub mod ForestLemmas
 pub mod GrowLemmas
@@ -23,12 +24,14 @@ pub mod Places
 pub mod ProgressTheorem
 pub mod ReadingLemmas
 pub mod RecallLemmas
+pub mod RefusalLemmas
 pub mod ResultTheorem
 pub mod RunLemmas
 pub mod SequenceLemmas
 pub mod SortLemmas
 pub mod StageLemmas
 pub mod StayLemmas
+pub mod StoppingLemmas
 pub mod TerminationTheorem
 pub mod TreeLemmas
 pub mod WeightLemmas

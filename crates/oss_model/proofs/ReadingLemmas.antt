@@ -1,5 +1,5 @@
 -- A reader reads a grammar: what it takes is in the grammar, and what is in the grammar is taken, whatever may follow it.
-use Rattle.std.proofs.Common.{◌≡◌, ◌≢◌, ℕ, zero, suc, ◌+◌, ◌-◌, ◌<◌, ◌≤◌, Bool, true, false, List, [], ◌∷◌, ◌++◌, length, refl, sym, ap, ◌∙◌, subst, append_assoc, arith, length-append, Option, Some, None, ◌⊎◌, inl, inr}
+use Rattle.std.proofs.Common.{◌≡◌, ℕ, zero, suc, ◌+◌, ◌-◌, ◌<◌, ◌≤◌, Bool, true, false, List, [], ◌∷◌, ◌++◌, length, refl, sym, ap, ◌∙◌, subst, append_assoc, arith, length-append, Option, Some, None, ◌⊎◌, inl, inr}
 use Rattle.oss_syntax.specs.declared.token.Token.{Token}
 use Rattle.std.proofs.lemmas.List.{append-nil}
 use Rattle.oss_model.specs.Grammar.{One, Both, Mapped, Either, Maybe, Many, Chain, ChainWithin}

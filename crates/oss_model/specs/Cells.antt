@@ -1,5 +1,5 @@
 -- The range of one cell.
-use Rattle.std.specs.Prelude.{ℕ, ◌+◌, ◌<◌, ◌≤◌, min}
+use Rattle.std.specs.Prelude.{ℕ, ◌+◌, min}
 use Rattle.std.proofs.Common.{lit<}
 use Rattle.std.proofs.Math.Nat.{min-le_right, lt_of_le_of_lt}
 use Rattle.std.proofs.Math.Numerals.{lt-add-one, add-one-le}

@@ -1,6 +1,6 @@
 -- Readers: functions from a list of tokens to the value that its front stands for and the tokens behind it, or none.
 -- They recur as a program reads, from left to right; that they read a grammar is proved of each.
-use Rattle.std.specs.Prelude.{◌≡◌, ℕ, zero, suc, Bool, if◌then◌else◌, List, [], ◌∷◌, ◌++◌, length, Option, Some, None}
+use Rattle.std.specs.Prelude.{ℕ, zero, suc, Bool, if◌then◌else◌, List, [], ◌∷◌, ◌++◌, length, Option, Some, None}
 use Rattle.oss_syntax.specs.declared.token.Token.{Token}
 
 -- reading goes on behind what was read

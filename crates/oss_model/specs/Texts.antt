@@ -1,6 +1,6 @@
 -- Texts: what `printf` writes (C11 7.21.6.1), and the lines that tell of a fault or a refusal.
 -- Read against: %d and %ld of 18446744073709551611 write -5, %lu writes 18446744073709551611; "100%%" writes 100%.
-use Rattle.std.specs.Prelude.{ℕ, ◌+◌, ◌-◌, ◌^◌, ◌==◌, Bool, if◌then◌else◌, List, [], ◌∷◌, ◌++◌, length, Option, Some, None, option_map, codes}
+use Rattle.std.specs.Prelude.{ℕ, ◌+◌, ◌-◌, ◌^◌, ◌==◌, if◌then◌else◌, List, [], ◌∷◌, ◌++◌, Option, Some, None, option_map, codes}
 use Rattle.std.specs.Fmt.{decimal}
 use Rattle.oss_model.specs.Values.{is_negative}
 use Rattle.oss_model.specs.declared.answer.FaultKind.{FaultKind}
