@@ -4,6 +4,8 @@ pub mod AnswerTheorem
 pub mod BodyLemmas
 pub mod ConflictTheorem
 pub mod ContextLemmas
+pub mod DepthLemmas
+pub mod DepthListLemmas
 pub mod ExactLemmas
 pub mod Exclusive
 pub mod ForestLemmas
@@ -13,10 +15,12 @@ pub mod JudgeLemmas
 pub mod KeyLemmas
 pub mod KeyOrder
 pub mod LendLemmas
+pub mod LimitLemmas
 pub mod LoadTheorem
 pub mod MatchingLemmas
 pub mod MemoryLemmas
 pub mod MoveLemmas
+pub mod NestingExample
 pub mod OrderLemmas
 pub mod OrderTheorem
 pub mod OutputLemmas

@@ -4,6 +4,7 @@ pub mod Bodies
 pub mod Cells
 pub mod Claims
 pub mod Context
+pub mod Depths
 pub mod Expressions
 pub mod Forest
 pub mod Grammar
