@@ -18,6 +18,7 @@ pub mod OneToken
 pub mod Order
 pub mod Pragmas
 pub mod Readers
+pub mod Reading
 pub mod Refusals
 pub mod Rights
 pub mod Scalars

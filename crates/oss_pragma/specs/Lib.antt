@@ -1,0 +1,4 @@
+pub mod ExpressionReading
+pub mod PragmaReading
+pub mod Told
+pub mod TokenValues

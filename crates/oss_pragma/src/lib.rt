@@ -1,0 +1,6 @@
+//! Expressions and pragmas, read from tokens.
+#![tactic(auto)]
+
+mod cursor;
+
+pub use cursor::{Named, Unread};
