@@ -4,9 +4,6 @@ pub mod AnswerTheorem
 pub mod BodyLemmas
 pub mod ConflictTheorem
 pub mod ContextLemmas
-pub mod DepthLemmas
-pub mod DepthListLemmas
-pub mod ExactLemmas
 pub mod Exclusive
 pub mod ForestLemmas
 pub mod GrowLemmas
@@ -15,12 +12,10 @@ pub mod JudgeLemmas
 pub mod KeyLemmas
 pub mod KeyOrder
 pub mod LendLemmas
-pub mod LimitLemmas
 pub mod LoadTheorem
 pub mod MatchingLemmas
 pub mod MemoryLemmas
 pub mod MoveLemmas
-pub mod NestingExample
 pub mod OrderLemmas
 pub mod OrderTheorem
 pub mod OutputLemmas
@@ -35,7 +30,11 @@ pub mod SequenceLemmas
 pub mod SortLemmas
 pub mod StageLemmas
 pub mod StayLemmas
-pub mod StoppingLemmas
 pub mod TerminationTheorem
 pub mod TreeLemmas
 pub mod WeightLemmas
+pub mod Parts
+pub mod PartLemmas
+pub mod StepLemmas
+pub mod AnswerLemmas
+pub mod CountedLemmas

@@ -7,7 +7,7 @@ use Rattle.oss_model.specs.declared.refusal.Refused.{Refused as RefusedData}
 use Rattle.oss_model.specs.declared.refusal.Refusal.TheVariants.{Refused}
 use Rattle.oss_model.specs.declared.refusal.RefusedKind.{RefusedKind}
 use Rattle.oss_model.specs.Refusals.{Language, Reaches, IsExcess, IsWithin, IsRead, Refuses, IsAnswer, HasOneValue, IsAnsweredOnce, kind_of, is_in_pragma}
-use Rattle.oss_model.specs.Stopping.{Viable}
+use Rattle.oss_model.specs.Fronts.{Viable}
 use Rattle.oss_model.specs.Refusals.Refuses.{too_large, at_token, at_end}
 
 first_is : (x y : Token) (xs ys : List Token) → x ∷ xs ≡ y ∷ ys → x ≡ y
@@ -48,7 +48,7 @@ reaches_once G ts f r g s a b = from_cuts (cuts f r g s (sym a.split ∙ b.split
   from_cuts (behind t m p q) = absurd (b.ends t (m ++ r) q (viable_first G g t m (subst (λ xs. Viable G xs) p a.begins)))
 
 excess_viable : {A : Type 0} (L : Language A) (f : List Token) (t : Token) → IsExcess L f t → Viable L.Has (f ++ (t ∷ []))
-excess_viable L f t x = viable_first L.Has f t x.more (record { more = []; value = x.value; member = subst (λ xs. L.Has xs x.value) (sym (append-nil (f ++ (t ∷ x.more)))) x.member })
+excess_viable L f t x = x.begun
 
 no_excess : {A : Type 0} (L : Language A) (ts f : List Token) (t : Token) (m g s : List Token) → ts ≡ f ++ (t ∷ m) → IsExcess L f t → Reaches L.Has ts g s → IsWithin L g → ⊥
 no_excess L ts f t m g s split x b within = from_cuts (cuts f (t ∷ m) g s (sym split ∙ b.split)) where

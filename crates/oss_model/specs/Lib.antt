@@ -4,9 +4,9 @@ pub mod Bodies
 pub mod Cells
 pub mod Claims
 pub mod Context
-pub mod Depths
 pub mod Expressions
 pub mod Forest
+pub mod Fronts
 pub mod Grammar
 pub mod History
 pub mod Levels
@@ -23,7 +23,6 @@ pub mod Refusals
 pub mod Rights
 pub mod Scalars
 pub mod Sequence
-pub mod Stopping
 pub mod Termination
 pub mod Texts
 pub mod Tokens

@@ -16,23 +16,24 @@ use Rattle.oss_model.specs.declared.refusal.RefusedKind.{RefusedKind}
 use Rattle.oss_model.specs.declared.refusal.RefusedKind.TheVariants.{Syntax, BadPragma, Unsupported, TooLarge}
 use Rattle.oss_model.specs.Expressions.{IsWhole}
 use Rattle.oss_model.specs.Pragmas.{IsPragma}
-use Rattle.oss_model.specs.Levels.{Mark, passes_at, marks_of, marks_of_pragma}
-use Rattle.oss_model.specs.Stopping.{Viable}
+use Rattle.oss_model.specs.Levels.{IsExpressionExcess, IsPragmaExcess}
+use Rattle.oss_model.specs.Fronts.{Viable}
 use Rattle.oss_model.specs.OneToken.{is_symbol, is_word}
 use Rattle.oss_model.specs.Words.{is_left_out_keyword}
 
--- A grammar: which whole lists of tokens it has, what each stands for, and what counts against the limits in it.
+-- A grammar: which whole lists of tokens it has, what each stands for, and where a limit is passed: at which token behind which
+-- beginning of a text.
 pub record Language (A : Type 0) : Type 1 where
   pub Has : List Token → A → Type 0
-  pub marks : (ts : List Token) (value : A) → Has ts value → List Mark
+  pub Exceeds : List Token → Token → Type 0
 
--- The expressions as such a grammar (C11 6.5): it has `1 + 2`, with the marks of level 1 at place 0 and of one operator at 1.
+-- The expressions as such a grammar (C11 6.5): it has `1 + 2`; behind 64 times `-` each token passes a limit that goes on.
 unfoldable pub expressions : Language Expr
-expressions = record { Has = IsWhole; marks = λ ts e is. marks_of is 0 }
+expressions = record { Has = IsWhole; Exceeds = IsExpressionExcess }
 
--- The pragmas as such a grammar (OmpSs-2): it has `taskwait` between the first and the last token of a pragma, with no marks.
+-- The pragmas as such a grammar (OmpSs-2): it has `taskwait` between the first and the last token of a pragma.
 unfoldable pub pragmas : Language Directive
-pragmas = record { Has = IsPragma; marks = λ ts d is. marks_of_pragma is 0 }
+pragmas = record { Has = IsPragma; Exceeds = IsPragmaExcess }
 
 -- The front of the tokens reaches as far as a text of the grammar can be begun: it begins one, and with the token behind it, where
 -- there is one, no longer does. So that token is the offending one, or the end of the tokens is. Checked on `1 + ;`: the front is
@@ -42,13 +43,11 @@ pub record Reaches {A : Type 0} (G : List Token → A → Type 0) (ts front rest
   pub begins : Viable G front
   pub ends : (t : Token) (more : List Token) → rest ≡ t ∷ more → Viable G (front ++ (t ∷ [])) → ⊥
 
--- A text of the grammar that begins with the front and this token passes a limit at this token. Checked on 64 times `-` and then
+-- A text of the grammar begins with the front and this token, and passes a limit at this token. Checked on 64 times `-` and then
 -- `1`: `1` begins level 65, since the whole expression has 1 and each `-` adds one. And on `1` and 257 times `+ 1`, at the last `+`.
 pub record IsExcess {A : Type 0} (L : Language A) (front : List Token) (t : Token) : Type 0 where
-  pub more : List Token
-  pub value : A
-  pub member : L.Has (front ++ (t ∷ more)) value
-  pub passes : list_any (passes_at (length front)) (L.marks (front ++ (t ∷ more)) value member) ≡ true
+  pub begun : Viable L.Has (front ++ (t ∷ []))
+  pub exceeds : L.Exceeds front t
 
 -- No token of the front passes a limit: none of 64 times `-` does.
 abbrev pub IsWithin : {A : Type 0} → Language A → List Token → Type 0
