@@ -580,8 +580,11 @@ begun_counted {A} counts most {f} {starts} first = record { accepts = λ t rest 
   accepted t rest s (Err (Syntax place)) e told = not_deep t rest place (passed counts most (t ∷ rest) place) refl s e told
   accepted t rest s (Err (Deep place)) e told = absurd (cc)
 
+  at_none : (b : Bool) (deep stop : Result (A × List Token) Stop) → b ≡ false → (if b then deep else stop) ≡ stop
+  at_none b deep stop e = rw e refl
+
   refused : (ts : List Token) → begins starts ts ≡ false → read_counted counts most f ts ≡ Err (Syntax ts)
-  refused [] s = ap (counted_told counts most []) (first.refuses [] refl)
+  refused [] s = ap (counted_told counts most []) (first.refuses [] refl) ∙ at_none (0 == suc most) (Err (Deep [])) (Err (Syntax [])) (grind (arith, nat_tests))
   refused (t ∷ rest) s =
       ap (counted_told counts most (t ∷ rest)) (first.refuses (t ∷ shown counts (if counts t then most else suc most) rest) s)
       ∙ ap (λ ys. Err (Syntax ys)) (sym (shown_all counts (suc most) (t ∷ rest)))

@@ -129,14 +129,15 @@ pub data OpensPragma (xs : List Token) : Type 0 where
       → IsDepend front c → IsMoreDepends between more → AfterComma OpensDepend back
       → OpensPragma xs
 
--- A limit is passed in a whole expression that begins behind tokens of which `Opens` tells that one does.
-pub record IsExcessBehind (Opens : List Token → Type 0) (xs : List Token) (t : Token) : Type 0 where
+-- A limit is passed in a whole expression that begins behind tokens of which `Opens` tells that one does; `Excess` tells where one
+-- is passed in a whole expression.
+pub record IsExcessBehind (Opens : List Token → Type 0) (Excess : List Token → Token → Type 0) (xs : List Token) (t : Token) : Type 0 where
   pub front : List Token
   pub inner : List Token
   pub split : xs ≡ front ++ inner
   pub opens : Opens front
-  pub excess : IsExpressionExcess inner t
+  pub excess : Excess inner t
 
 -- Behind these tokens of a pragma the next token passes a limit, in one of its whole expressions.
 abbrev pub IsPragmaExcess : List Token → Token → Type 0
-IsPragmaExcess = IsExcessBehind OpensPragma
+IsPragmaExcess = IsExcessBehind OpensPragma IsExpressionExcess

@@ -6,7 +6,7 @@ use Rattle.oss_syntax.specs.declared.tree.expr.BinOp.{BinOp}
 use Rattle.oss_syntax.specs.declared.tree.expr.Expr.{Expr}
 use Rattle.oss_syntax.specs.declared.tree.expr.ExprKind.TheVariants as exprs
 use Rattle.oss_syntax.specs.declared.tree.expr.UnOp.{UnOp}
-use Rattle.oss_model.specs.Expressions.{prefix_of, operator_of}
+use Rattle.oss_model.specs.Levels.{is_operator}
 use Rattle.oss_model.specs.Reading.{Reader, has, read_one, read_then, read_nothing, read_mapped, read_both, read_either, read_steps, read_too_deep, read_counted}
 use Rattle.oss_pragma.specs.TokenValues.{symbol_at, name_at, number_at, prefix_at, operator_at, begins_expression}
 use Rattle.oss_pragma.specs.declared.cursor.Named.{Named}
@@ -113,10 +113,6 @@ abbrev mutual
   pub read_whole : ℕ → Reader Expr
   read_whole zero ts = read_too_deep begins_expression ts
   read_whole (suc n) ts = read_levels binary_levels (read_prefixed (read_unary n) (read_whole n)) ts
-
--- Whether a token is an operator, as a prefix or between two operands.
-abbrev pub is_operator : Token → Bool
-is_operator t = is_some (prefix_of t.what) || is_some (operator_of t.what)
 
 -- expr, with at most 64 levels and 256 operators
 unfoldable pub read_expression : Reader Expr

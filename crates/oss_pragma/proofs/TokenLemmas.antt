@@ -1,0 +1,77 @@
+-- What is so of single tokens: a token that is one thing is no other.
+use Rattle.std.proofs.Common.{◌≡◌, ℕ, Bool, true, false, ◌||◌, if◌then◌else◌, List, refl, sym, ap, ◌∙◌, subst, ◌⊎◌, inl, inr, Option, Some, None, is_some}
+use Rattle.std.specs.Prelude.{codes}
+use Rattle.std.specs.Str.{bytes_eq}
+use Rattle.std.proofs.lemmas.Slice.Eq.{bytes_eq-Decides}
+use Rattle.oss_syntax.specs.declared.token.Token.{Token}
+use Rattle.oss_syntax.specs.declared.token.TokenKind.{TokenKind}
+use Rattle.oss_syntax.specs.declared.token.TokenKind.TheVariants as kinds
+use Rattle.oss_model.specs.Expressions.{operator_of}
+use Rattle.oss_model.specs.OneToken.{is_symbol, is_keyword, is_word}
+use Rattle.oss_model.specs.Reading.{has}
+use Rattle.oss_pragma.specs.TokenValues.{symbol_at, word_at, keyword_at, begins_expression}
+
+-- with these tokens an expression may go on: with the bracket of a call or of an index, and with a binary operator
+abbrev pub goes_on : Token → Bool
+goes_on t = is_symbol (codes "(") t.what || (is_symbol (codes "[") t.what || is_some (operator_of t.what))
+
+bytes_are : (w s : List ℕ) → bytes_eq w s ≡ true → w ≡ s
+bytes_are w s e = (bytes_eq-Decides w s).0 e
+
+pub symbol_what : (s : List ℕ) (k : TokenKind) → is_symbol s k ≡ true → k ≡ kinds.Symbol s
+symbol_what s (kinds.Symbol w) e = ap kinds.Symbol (bytes_are w s e)
+symbol_what s (kinds.Name w) e = absurd (cc)
+symbol_what s (kinds.Keyword w) e = absurd (cc)
+symbol_what s (kinds.Number v u) e = absurd (cc)
+symbol_what s (kinds.Text w) e = absurd (cc)
+symbol_what s kinds.PragmaOss e = absurd (cc)
+symbol_what s kinds.PragmaEnd e = absurd (cc)
+symbol_what s kinds.Directive e = absurd (cc)
+
+pub word_what : (s : List ℕ) (k : TokenKind) → is_word s k ≡ true → k ≡ kinds.Name s
+word_what s (kinds.Name w) e = ap kinds.Name (bytes_are w s e)
+word_what s (kinds.Symbol w) e = absurd (cc)
+word_what s (kinds.Keyword w) e = absurd (cc)
+word_what s (kinds.Number v u) e = absurd (cc)
+word_what s (kinds.Text w) e = absurd (cc)
+word_what s kinds.PragmaOss e = absurd (cc)
+word_what s kinds.PragmaEnd e = absurd (cc)
+word_what s kinds.Directive e = absurd (cc)
+
+pub keyword_what : (s : List ℕ) (k : TokenKind) → is_keyword s k ≡ true → k ≡ kinds.Keyword s
+keyword_what s (kinds.Keyword w) e = ap kinds.Keyword (bytes_are w s e)
+keyword_what s (kinds.Name w) e = absurd (cc)
+keyword_what s (kinds.Symbol w) e = absurd (cc)
+keyword_what s (kinds.Number v u) e = absurd (cc)
+keyword_what s (kinds.Text w) e = absurd (cc)
+keyword_what s kinds.PragmaOss e = absurd (cc)
+keyword_what s kinds.PragmaEnd e = absurd (cc)
+keyword_what s kinds.Directive e = absurd (cc)
+
+-- a test of a token that is this symbol, word or keyword is computed on it
+pub on_symbol : (test : Token → Bool) (s : List ℕ) (b : Bool) → ((line : ℕ) → test (record { what = kinds.Symbol s; line = line }) ≡ b) → (t : Token) → is_symbol s t.what ≡ true → test t ≡ b
+on_symbol test s b told t e = subst (λ k. test (record { what = k; line = t.line }) ≡ b) (sym (symbol_what s t.what e)) (told t.line)
+
+pub on_word : (test : Token → Bool) (s : List ℕ) (b : Bool) → ((line : ℕ) → test (record { what = kinds.Name s; line = line }) ≡ b) → (t : Token) → is_word s t.what ≡ true → test t ≡ b
+on_word test s b told t e = subst (λ k. test (record { what = k; line = t.line }) ≡ b) (sym (word_what s t.what e)) (told t.line)
+
+pub on_keyword : (test : Token → Bool) (s : List ℕ) (b : Bool) → ((line : ℕ) → test (record { what = kinds.Keyword s; line = line }) ≡ b) → (t : Token) → is_keyword s t.what ≡ true → test t ≡ b
+on_keyword test s b told t e = subst (λ k. test (record { what = k; line = t.line }) ≡ b) (sym (keyword_what s t.what e)) (told t.line)
+
+-- what has the line of a symbol is that symbol
+chosen : {A : Type 0} (b : Bool) (x : A) → is_some (if b then Some x else None) ≡ true → b ≡ true
+chosen true x e = refl
+chosen false x e = absurd (cc)
+
+pub has_symbol : (s : List ℕ) (t : Token) → has (symbol_at s) t ≡ true → is_symbol s t.what ≡ true
+has_symbol s t e = chosen (is_symbol s t.what) t.line e
+
+pub has_word : (s : List ℕ) (t : Token) → has (word_at s) t ≡ true → is_word s t.what ≡ true
+has_word s t e = chosen (is_word s t.what) t.line e
+
+-- what passes no test of a token that this symbol passes is no such symbol
+pub not_symbol : (test : Token → Bool) (s : List ℕ) → ((line : ℕ) → test (record { what = kinds.Symbol s; line = line }) ≡ false) → (t : Token) → test t ≡ true → has (symbol_at s) t ≡ false
+not_symbol test s told t e = on (is_symbol s t.what) refl where
+  on : (b : Bool) → is_symbol s t.what ≡ b → has (symbol_at s) t ≡ false
+  on true is = let no_way : test t ≡ false = on_symbol test s false told t is in absurd (cc)
+  on false is = rw is refl
