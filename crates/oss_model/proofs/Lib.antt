@@ -38,3 +38,4 @@ pub mod PartLemmas
 pub mod StepLemmas
 pub mod AnswerLemmas
 pub mod CountedLemmas
+pub mod PairLemmas
