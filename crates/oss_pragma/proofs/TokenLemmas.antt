@@ -75,3 +75,10 @@ not_symbol test s told t e = on (is_symbol s t.what) refl where
   on : (b : Bool) → is_symbol s t.what ≡ b → has (symbol_at s) t ≡ false
   on true is = let no_way : test t ≡ false = on_symbol test s false told t is in absurd (cc)
   on false is = rw is refl
+
+-- the line of a symbol is had of that symbol
+pub symbol_value : (s : List ℕ) (t : Token) → is_symbol s t.what ≡ true → symbol_at s t ≡ Some t.line
+symbol_value s t e = rw e refl
+
+pub symbol_token : (s : List ℕ) (t : Token) (line : ℕ) → symbol_at s t ≡ Some line → is_symbol s t.what ≡ true
+symbol_token s t line e = has_symbol s t (ap is_some e)
