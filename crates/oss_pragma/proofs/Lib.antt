@@ -1,2 +1,3 @@
 pub mod ListLemmas
+pub mod PrimaryLemmas
 pub mod TokenLemmas

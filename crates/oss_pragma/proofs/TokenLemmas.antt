@@ -1,5 +1,5 @@
 -- What is so of single tokens: a token that is one thing is no other.
-use Rattle.std.proofs.Common.{◌≡◌, ℕ, Bool, true, false, ◌||◌, if◌then◌else◌, List, refl, sym, ap, ◌∙◌, subst, ◌⊎◌, inl, inr, Option, Some, None, is_some}
+use Rattle.std.proofs.Common.{◌≡◌, ℕ, Bool, true, false, ◌||◌, if◌then◌else◌, List, [], ◌∷◌, refl, sym, ap, ◌∙◌, subst, ◌⊎◌, inl, inr, Option, Some, None, is_some, Result}
 use Rattle.std.specs.Prelude.{codes}
 use Rattle.std.specs.Str.{bytes_eq}
 use Rattle.std.proofs.lemmas.Slice.Eq.{bytes_eq-Decides}
@@ -8,7 +8,10 @@ use Rattle.oss_syntax.specs.declared.token.TokenKind.{TokenKind}
 use Rattle.oss_syntax.specs.declared.token.TokenKind.TheVariants as kinds
 use Rattle.oss_model.specs.Expressions.{operator_of}
 use Rattle.oss_model.specs.OneToken.{is_symbol, is_keyword, is_word}
-use Rattle.oss_model.specs.Reading.{has}
+use Rattle.oss_model.specs.Grammar.{One}
+use Rattle.oss_model.specs.Reading.{Stop, begins, has, never, read_one}
+use Rattle.oss_model.proofs.Parts.{Exact, exact_before}
+use Rattle.oss_model.proofs.PartLemmas.{Nowhere, exact_one}
 use Rattle.oss_pragma.specs.TokenValues.{symbol_at, word_at, keyword_at, begins_expression}
 
 -- with these tokens an expression may go on: with the bracket of a call or of an index, and with a binary operator
@@ -82,3 +85,38 @@ symbol_value s t e = rw e refl
 
 pub symbol_token : (s : List ℕ) (t : Token) (line : ℕ) → symbol_at s t ≡ Some line → is_symbol s t.what ≡ true
 symbol_token s t line e = has_symbol s t (ap is_some e)
+
+-- the brackets and separators
+abbrev pub opening : Token → Bool
+opening = has (symbol_at (codes "("))
+
+abbrev pub closing : Token → Bool
+closing = has (symbol_at (codes ")"))
+
+abbrev pub index_opening : Token → Bool
+index_opening = has (symbol_at (codes "["))
+
+abbrev pub index_closing : Token → Bool
+index_closing = has (symbol_at (codes "]"))
+
+-- a token with this symbol
+abbrev pub some_symbol : List ℕ → Token
+some_symbol s = record { what = kinds.Symbol s; line = 1 }
+
+pub exact_symbol : (s : List ℕ) → symbol_at s (some_symbol s) ≡ Some 1 → (goes : Token → Bool) → Exact (read_one (symbol_at s)) (One (symbol_at s)) Nowhere goes
+exact_symbol s e goes = exact_one (symbol_at s) (some_symbol s) 1 e goes
+
+pub begins_never : (ts : List Token) → begins never ts ≡ false
+begins_never [] = refl
+begins_never (t ∷ ts) = refl
+
+-- where anything may follow, less may
+pub exact_closed : {A : Type 0} {f : List Token → Result (A × List Token) Stop} {U : List Token → A → Type 0} {B : List Token → Token → Type 0} (goes : Token → Bool) → Exact f U B never → Exact f U B goes
+exact_closed goes part = exact_before never goes (λ rest free. begins_never rest) part
+
+-- one symbol, and back
+pub one_symbol : (s : List ℕ) (xs : List Token) (line : ℕ) → (w : One (symbol_at s) xs line) → is_symbol s w.token.what ≡ true
+one_symbol s xs line w = symbol_token s w.token line w.passes
+
+pub symbol_one : (s : List ℕ) (t : Token) → is_symbol s t.what ≡ true → One (symbol_at s) (t ∷ []) t.line
+symbol_one s t e = record { token = t; only = refl; passes = symbol_value s t e }
