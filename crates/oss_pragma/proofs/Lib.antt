@@ -1,3 +1,4 @@
+pub mod LevelLemmas
 pub mod ListLemmas
 pub mod OperandLemmas
 pub mod PrimaryLemmas
