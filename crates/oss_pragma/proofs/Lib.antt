@@ -1,3 +1,4 @@
+pub mod ExpressionLemmas
 pub mod LevelLemmas
 pub mod ListLemmas
 pub mod OperandLemmas
