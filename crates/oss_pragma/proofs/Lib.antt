@@ -1,4 +1,4 @@
-pub mod ExpressionLemmas
+pub mod ExactExpressions
 pub mod LevelLemmas
 pub mod ListLemmas
 pub mod OperandLemmas
