@@ -1,0 +1,2 @@
+pub mod SightLemmas
+pub mod StepLemmas

@@ -1,4 +1,6 @@
 pub mod ExpressionReading
 pub mod PragmaReading
-pub mod Told
+pub mod Sights
+pub mod Singles
 pub mod TokenValues
+pub mod Told

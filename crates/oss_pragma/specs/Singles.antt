@@ -1,0 +1,19 @@
+-- The clauses that a task has once at most, as the code names them.
+use Rattle.std.specs.Prelude.{ℕ, Bool, ◌&&◌, not, if◌then◌else◌, Option, Some, None}
+use Rattle.oss_syntax.specs.declared.token.Token.{Token}
+use Rattle.oss_model.specs.Pragmas.{Single}
+use Rattle.oss_model.specs.Pragmas.Single.{once_if, once_final, once_wait, once_label, once_priority}
+use Rattle.oss_pragma.specs.TokenValues.{is_single_word}
+use Rattle.oss_pragma.specs.declared.kinds.Once.{Once}
+use Rattle.oss_pragma.specs.declared.kinds.Once.TheVariants as once
+
+abbrev pub single_of : Once → Single
+single_of once.If = once_if
+single_of once.Final = once_final
+single_of once.Wait = once_wait
+single_of once.Label = once_label
+single_of once.Priority = once_priority
+
+-- The line of the word of such a clause, where the clause does not stand already.
+abbrev pub single_unless : Bool → Single → Token → Option ℕ
+single_unless already s t = if is_single_word s t.what && not already then Some t.line else None
