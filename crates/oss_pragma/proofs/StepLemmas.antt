@@ -124,7 +124,7 @@ too_deep {A} deepens false ts value rest e r = let none : halted A (Stop.Syntax 
 -- steps, none of which gives tokens back
 steps_most : {S : Type 0} (starts : S → Token → Bool) (step : S → Reader S) → ((s : S) → Keeps (step s)) → (n : ℕ) (s : S) (b : Bool) (ts : List Token) (value : S) (rest : List Token) → begins (starts s) ts ≡ b
     → read_steps_within starts step n s ts ≡ told value rest → length rest ≤ length ts
-steps_most starts step each zero s true ts value rest e r = absurd (let none : halted S (Stop.Syntax ts) ≡ told value rest = rw e at r in cc)
+steps_most {S = S} starts step each zero s true ts value rest e r = absurd (let none : halted S (Stop.Syntax ts) ≡ told value rest = rw e at r in cc)
 steps_most starts step each zero s false ts value rest e r =
     let read : told s ts ≡ told value rest = rw e at r in let same : ts ≡ rest = ok_rest s value ts rest read in rw same (omega arith)
 steps_most starts step each (suc n) s false ts value rest e r =

@@ -1,4 +1,5 @@
 pub mod ExpressionReading
+pub mod Operands
 pub mod PragmaReading
 pub mod Sights
 pub mod Singles

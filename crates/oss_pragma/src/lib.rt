@@ -3,6 +3,7 @@
 
 mod counted;
 mod cursor;
+mod expressions;
 mod kinds;
 
 pub use cursor::{Named, Unread};
