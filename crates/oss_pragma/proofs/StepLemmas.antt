@@ -117,7 +117,7 @@ either_most starts one other false ts value rest e r = other.most ts value rest 
 pub keeps_either : {A : Type 0} (starts : Token → Bool) {f g : Reader A} → Keeps f → Keeps g → Keeps (read_either starts f g)
 keeps_either starts one other = record { most = λ ts value rest r. either_most starts one other (begins starts ts) ts value rest refl r }
 
-too_deep : {A : Type 0} (deepens : Token → Bool) (b : Bool) (ts : List Token) (value : A) (rest : List Token) → begins deepens ts ≡ b → read_too_deep deepens ts ≡ Ok (value, rest) → length rest < length ts
+pub too_deep : {A : Type 0} (deepens : Token → Bool) (b : Bool) (ts : List Token) (value : A) (rest : List Token) → begins deepens ts ≡ b → read_too_deep deepens ts ≡ Ok (value, rest) → length rest < length ts
 too_deep {A} deepens true ts value rest e r = let none : halted A (Stop.Deep ts) ≡ Ok (value, rest) = rw e at r in absurd (cc)
 too_deep {A} deepens false ts value rest e r = let none : halted A (Stop.Syntax ts) ≡ Ok (value, rest) = rw e at r in absurd (cc)
 
