@@ -1,3 +1,4 @@
 pub mod ExpressionLemmas
+pub mod PragmaLemmas
 pub mod SightLemmas
 pub mod StepLemmas

@@ -31,7 +31,7 @@ told a rest = Ok (a, rest)
 abbrev pub halted : (A : Type 0) → Stop → Result (A × List Token) Stop
 halted A stop = Err stop
 
-ok_rest : {A : Type 0} (a b : A) (xs ys : List Token) → told a xs ≡ told b ys → xs ≡ ys
+pub ok_rest : {A : Type 0} (a b : A) (xs ys : List Token) → told a xs ≡ told b ys → xs ≡ ys
 ok_rest {A} a b xs ys e = let p : A × List Token = (a, xs) in let q : A × List Token = (b, ys) in let s : p ≡ q = cc in ap (λ (r : A × List Token). r.1) s
 
 ok_value : {A : Type 0} (a b : A) (xs ys : List Token) → told a xs ≡ told b ys → a ≡ b
