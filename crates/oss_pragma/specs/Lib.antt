@@ -5,3 +5,4 @@ pub mod Sights
 pub mod Singles
 pub mod TokenValues
 pub mod Told
+pub mod ToldAt

@@ -1,6 +1,7 @@
 //! Expressions and pragmas, read from tokens.
 #![tactic(auto)]
 
+mod calls;
 mod clauses;
 mod counted;
 mod cursor;
@@ -9,6 +10,7 @@ mod found;
 mod kinds;
 mod limits;
 mod pragmas;
+mod refusals;
 mod sections;
 
-pub use cursor::{Named, Unread};
+pub use calls::{expression, pragma};
