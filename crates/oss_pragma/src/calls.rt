@@ -13,11 +13,7 @@ use oss_syntax::{Directive, Expr, List, Token};
 use std::alloc::Global;
 
 /// Reads the expression that begins at a place of the tokens, as far as it goes, and answers it with the place behind it.
-pub fn expression(
-    alloc: Global,
-    tokens: &List<Token>,
-    at: u32,
-) -> Result<(Expr, u32), Refusal>
+pub fn expression(alloc: Global, tokens: &List<Token>, at: u32) -> Result<(Expr, u32), Refusal>
     requires within { at ≤ length tokens.now }
     requires counted { length tokens.now ≤ 4294967295 }
     ensures { IsToldAt read_expression tokens.now at result }
@@ -31,11 +27,7 @@ pub fn expression(
 }
 
 /// Reads the pragma that begins at a place of the tokens, and answers it with the place behind it.
-pub fn pragma(
-    alloc: Global,
-    tokens: &List<Token>,
-    at: u32,
-) -> Result<(Directive, u32), Refusal>
+pub fn pragma(alloc: Global, tokens: &List<Token>, at: u32) -> Result<(Directive, u32), Refusal>
     requires within { at ≤ length tokens.now }
     requires counted { length tokens.now ≤ 4294967295 }
     ensures { IsToldAt (read_pragma read_expression) tokens.now at result }

@@ -11,7 +11,7 @@ ghost use Rattle.oss_pragma.specs.Told.{Gives};
 
 use crate::cursor::{Cursor, Unread};
 use crate::found::Found;
-use crate::kinds::{access, reduction, symbol_is, Once};
+use crate::kinds::{Once, access, reduction, symbol_is};
 use crate::sections::{bracketed_expression, bracketed_sections, sections};
 use oss_syntax::{Clause, Expr, List, Mode, Op, Section, Token};
 use std::alloc::Global;

@@ -222,13 +222,7 @@ fn operator_of_level(level: u32, token: &Token) -> Option<BinOp>
     ensures { result ≡ operator_at level token.now }
 {
     match operator(&token.what) {
-        Some((found, operator)) => {
-            if found == level {
-                Some(operator)
-            } else {
-                None
-            }
-        }
+        Some((found, operator)) => { if found == level { Some(operator) } else { None } }
         None => None,
     }
 }

@@ -5,8 +5,8 @@ ghost use Rattle.oss_pragma.specs.TokenValues.{access_at, begins_expression, end
 ghost use Rattle.oss_pragma.specs.Told.{Gives};
 
 use crate::kinds::{
-    access, expression_begins, fold, is_end, is_start, label, named, once_is, reduction, symbol_is,
-    word_is, Once,
+    Once, access, expression_begins, fold, is_end, is_start, label, named, once_is, reduction,
+    symbol_is, word_is,
 };
 use oss_syntax::{Bytes, Mode, Name, Op, Token};
 use std::alloc::{AllocError, Global};

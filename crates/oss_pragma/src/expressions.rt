@@ -16,11 +16,7 @@ const BINARY_LEVELS: u32 = 10;
 /// [ expr { "," expr } ] ")", where the expressions have so many levels
 #[cycle(expression)]
 #[tactic(auto, unfolding(crate::specs::ExpressionReading::read_arguments))]
-fn arguments(
-    alloc: Global,
-    levels: u32,
-    tokens: &mut Counted<'_>,
-) -> Result<List<Expr>, Unread>
+fn arguments(alloc: Global, levels: u32, tokens: &mut Counted<'_>) -> Result<List<Expr>, Unread>
     ensures value { Gives (read_arguments (read_whole levels) tokens.old.seen) result tokens.new.seen }
     ensures behind { tokens.new.behind ≡ tokens.old.behind }
 {
@@ -96,12 +92,7 @@ fn next_value(alloc: Global, levels: u32, tokens: &mut Counted<'_>) -> Result<Ex
 /// "(" arguments, behind the name of a function
 #[cycle(expression)]
 #[tactic(auto, unfolding(crate::specs::ExpressionReading::read_call))]
-fn call(
-    alloc: Global,
-    levels: u32,
-    name: Named,
-    tokens: &mut Counted<'_>,
-) -> Result<Expr, Unread>
+fn call(alloc: Global, levels: u32, name: Named, tokens: &mut Counted<'_>) -> Result<Expr, Unread>
     ensures value { Gives (read_call (read_whole levels) name tokens.old.seen) result tokens.new.seen }
     ensures behind { tokens.new.behind ≡ tokens.old.behind }
 {

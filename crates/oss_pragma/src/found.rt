@@ -6,7 +6,7 @@ ghost use Rattle.oss_model.specs.Reading.{has};
 ghost use Rattle.oss_pragma.specs.Singles.{single_of};
 ghost use Rattle.oss_pragma.specs.TokenValues.{single_at, stands};
 
-use crate::kinds::{once_is, Once};
+use crate::kinds::{Once, once_is};
 use oss_syntax::{Clause, List, Token};
 use std::alloc::{AllocError, Global};
 use std::marker::Model;

@@ -12,5 +12,7 @@ mod limits;
 mod pragmas;
 mod refusals;
 mod sections;
+#[cfg(test)]
+mod tests;
 
 pub use calls::{expression, pragma};

@@ -5,7 +5,7 @@ ghost use Rattle.oss_model.specs.Reading.{from_count, passed, read_counted};
 ghost use Rattle.oss_pragma.specs.ExpressionReading.{is_operator, read_expression, read_whole};
 ghost use Rattle.oss_pragma.specs.Told.{Gives};
 
-use crate::counted::{counts, Counted};
+use crate::counted::{Counted, counts};
 use crate::cursor::{Cursor, Unread};
 use crate::expressions::whole;
 use oss_syntax::{Expr, Token};

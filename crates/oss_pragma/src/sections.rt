@@ -26,11 +26,7 @@ fn upper(alloc: Global, tokens: &mut Cursor<'_>) -> Result<Option<Expr>, Unread>
 
 /// ":" [ expr ], behind a lower end
 #[tactic(auto, unfolding(crate::specs::PragmaReading::read_span))]
-fn span(
-    alloc: Global,
-    first: Option<Expr>,
-    tokens: &mut Cursor<'_>,
-) -> Result<Form, Unread>
+fn span(alloc: Global, first: Option<Expr>, tokens: &mut Cursor<'_>) -> Result<Form, Unread>
     ensures { Gives (read_span read_expression first tokens.old) result tokens.new }
 {
     match tokens.symbol(b":") {

@@ -10,8 +10,7 @@ returns-then-is_empty c =
 
 pub returns : goal.returns
 returns c =
-    let end : c.args.seen.now.seen ≡ [] = c.is_at_end.ensures.0 c.if-not-is_at_end.false in
-    (
+    let end : c.args.seen.now.seen ≡ [] = c.is_at_end.ensures.0 c.if-not-is_at_end.false in (
       rw end (over_some is_operator c.args.operators c.args.all.now c.excess-place.result.now (sym c.excess-place.ensures) (sym c.is_empty.ensures ∙ c.if-is_empty.false)),
       c.excess-place.ensures,
     )
