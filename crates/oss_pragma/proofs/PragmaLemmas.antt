@@ -1,20 +1,18 @@
 -- Readers of the parts of pragmas take a token at least, and how their loops go on.
-use Rattle.std.proofs.Common.{◌≡◌, ℕ, ◌+◌, ◌<◌, Bool, true, false, List, [], ◌∷◌, ◌++◌, length, codes, refl, sym, ap, ◌∙◌, subst, arith, Option, Some, None, Result, Ok, Err}
-use Rattle.oss_syntax.specs.declared.token.Token.{Token}
+use Rattle.std.proofs.Common.{List, codes, Option, Some, None}
 use Rattle.oss_syntax.specs.declared.tree.expr.Expr.{Expr}
 use Rattle.oss_syntax.specs.declared.tree.pragma.Clause.{Clause}
 use Rattle.oss_syntax.specs.declared.tree.pragma.Clause.TheVariants as clause
-use Rattle.oss_syntax.specs.declared.tree.pragma.Form.{Form}
 use Rattle.oss_syntax.specs.declared.tree.pragma.Form.TheVariants as form
 use Rattle.oss_syntax.specs.declared.tree.pragma.Section.{Section}
 use Rattle.oss_model.specs.Pragmas.{Single}
 use Rattle.oss_model.specs.Pragmas.Single.{once_if, once_final, once_wait, once_label, once_priority}
-use Rattle.oss_model.specs.Reading.{Reader, has, read_one, read_then, read_nothing, read_mapped, read_both, read_either}
-use Rattle.oss_pragma.specs.TokenValues.{symbol_at, word_at, name_at, access_at, reduction_at, fold_at, label_at, single_at, begins_expression}
-use Rattle.oss_pragma.specs.ExpressionReading.{latter, middle, and_then, is_operator, read_next, read_expression, read_whole}
+use Rattle.oss_model.specs.Reading.{Reader, has, read_nothing, read_either}
+use Rattle.oss_pragma.specs.TokenValues.{symbol_at, name_at, access_at, reduction_at, fold_at, label_at, single_at, begins_expression}
+use Rattle.oss_pragma.specs.ExpressionReading.{latter, middle, and_then, is_operator, read_next, read_expression}
 use Rattle.oss_pragma.specs.PragmaReading.{read_upper, read_span, read_length, read_inner_from, read_inner, whole_section, pointed_section, shape_section, part_section, read_pointed, read_shape, read_part, read_based, read_section, read_sections, read_bracketed_sections, read_bracketed_expression, dependency_of, read_depend, read_folded, reduction_of_parts, read_reduction, read_single, read_label, read_waiting, read_clause, read_after_comma, goes_on_with_clause, goes_on_with_depend}
 use Rattle.oss_pragma.specs.declared.cursor.Named.{Named}
-use Rattle.oss_pragma.proofs.StepLemmas.{Takes, Keeps, keeps, takes_one, keeps_nothing, takes_mapped, keeps_mapped, takes_then, takes_both, takes_either, keeps_either, Repeats, repeats}
+use Rattle.oss_pragma.proofs.StepLemmas.{Takes, Keeps, keeps, takes_one, keeps_nothing, takes_mapped, takes_then, takes_both, takes_either, keeps_either, Repeats, repeats}
 use Rattle.oss_pragma.proofs.ExpressionLemmas.{takes_whole, takes_next, takes_list, repeats_more}
 use Rattle.oss_pragma.proofs.SightLemmas.{takes_counted}
 

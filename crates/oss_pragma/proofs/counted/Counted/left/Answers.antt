@@ -1,4 +1,4 @@
-use Rattle.std.proofs.Common.{◌≡◌, ◌++◌, ◌∙◌, ap, sym}
+use Rattle.std.proofs.Common.{◌++◌, ◌∙◌, ap}
 use Rattle.oss_pragma.specs.ExpressionReading.{is_operator}
 use Rattle.oss_pragma.specs.Sights.{Sight}
 use Rattle.oss_pragma.proofs.SightLemmas.{all_shown}

@@ -1,6 +1,6 @@
-use Rattle.std.proofs.Common.{◌≡◌, ◌++◌, ◌∙◌, ap, sym, arith}
+use Rattle.std.proofs.Common.{◌≡◌, ◌∙◌, ap, sym, arith}
 use Rattle.oss_pragma.specs.ExpressionReading.{is_operator}
-use Rattle.oss_pragma.specs.Sights.{Sight, sight_of}
+use Rattle.oss_pragma.specs.Sights.{Sight}
 use Rattle.oss_pragma.proofs.SightLemmas.{shown_none}
 use Rattle.oss_pragma.proofs.counted.Counted.split.Goals as goal
 
