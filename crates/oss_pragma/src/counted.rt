@@ -1,4 +1,4 @@
-ghost use Rattle.std.specs.Prelude.{◌≡◌, ◌↔◌, ◌∷◌, ◌++◌, [], IsTrue, MatchOption, is_some, codes};
+ghost use Rattle.std.specs.Prelude.{◌≡◌, ◌↔◌, ◌∷◌, ◌++◌, [], IsTrue, MatchOption};
 ghost use Rattle.oss_model.specs.Reading.{begins, has, read_one};
 ghost use Rattle.oss_pragma.specs.ExpressionReading.{is_operator};
 ghost use Rattle.oss_pragma.specs.Sights.{Sight, sight_of};

@@ -1,4 +1,4 @@
-ghost use Rattle.std.specs.Prelude.{◌≡◌, codes};
+ghost use Rattle.std.specs.Prelude.{◌≡◌};
 ghost use Rattle.oss_model.specs.Reading.{begins, has, read_one};
 ghost use Rattle.oss_pragma.specs.Singles.{single_of, single_unless};
 ghost use Rattle.oss_pragma.specs.TokenValues.{access_at, begins_expression, end_at, fold_at, label_at, name_at, reduction_at, start_at, symbol_at, word_at};

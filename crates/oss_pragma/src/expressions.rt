@@ -1,7 +1,7 @@
 //! The reader of expressions.
 
 ghost use Rattle.std.specs.Prelude.{◌≡◌, ◌≤◌, IfOk};
-ghost use Rattle.oss_pragma.specs.ExpressionReading.{call_of, indexed, joined_to, prefixed_by, read_arguments, read_brackets, read_call, read_index, read_list, read_more, read_named, read_next, read_operation, read_operations, read_postfix, read_primary, read_unary, read_whole};
+ghost use Rattle.oss_pragma.specs.ExpressionReading.{indexed, joined_to, prefixed_by, read_arguments, read_brackets, read_call, read_index, read_list, read_more, read_named, read_next, read_operation, read_operations, read_postfix, read_primary, read_unary, read_whole};
 ghost use Rattle.oss_pragma.specs.Operands.{read_above, read_operand};
 ghost use Rattle.oss_pragma.specs.Told.{Gives};
 

@@ -1,6 +1,6 @@
 //! Why tokens are refused, and where.
 
-ghost use Rattle.std.specs.Prelude.{◌≡◌, ◌≤◌, ◌^◌, ◌-◌, false, length};
+ghost use Rattle.std.specs.Prelude.{◌≡◌, ◌≤◌, false, length};
 ghost use Rattle.oss_model.specs.Reading.Stop.{Deep, Syntax};
 ghost use Rattle.oss_model.specs.Refusals.{is_in_pragma, is_left_out, is_left_out_word, is_open_behind, is_pragma_edge, kind_of, opened_by};
 ghost use Rattle.oss_model.specs.Words.{is_left_out_keyword};

@@ -1,6 +1,5 @@
 //! The reader of sections.
 
-ghost use Rattle.std.specs.Prelude.{◌≡◌, Option};
 ghost use Rattle.oss_pragma.specs.ExpressionReading.{read_expression, read_more, read_next};
 ghost use Rattle.oss_pragma.specs.PragmaReading.{read_based, read_bracketed_expression, read_bracketed_sections, read_inner, read_inner_from, read_length, read_part, read_pointed, read_section, read_sections, read_shape, read_span, read_upper};
 ghost use Rattle.oss_pragma.specs.Told.{Gives};

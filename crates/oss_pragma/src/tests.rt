@@ -1,7 +1,5 @@
 //! What no clause says: that calls succeed, and answers taken from outside.
 
-ghost use Rattle.std.specs.Prelude.{◌≤◌, length};
-
 use crate::{expression, pragma};
 use oss_model::{Refusal, Refused, RefusedKind};
 use oss_syntax::{
