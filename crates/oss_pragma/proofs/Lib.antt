@@ -1,6 +1,10 @@
 pub mod ExactExpressions
+pub mod ExpressionLemmas
 pub mod LevelLemmas
 pub mod ListLemmas
 pub mod OperandLemmas
+pub mod PragmaLemmas
 pub mod PrimaryLemmas
+pub mod SightLemmas
+pub mod StepLemmas
 pub mod TokenLemmas

@@ -1,4 +1,8 @@
 pub mod ExpressionReading
+pub mod Operands
 pub mod PragmaReading
-pub mod Told
+pub mod Sights
+pub mod Singles
 pub mod TokenValues
+pub mod Told
+pub mod ToldAt

@@ -1,6 +1,6 @@
 -- How a pragma is read from its tokens, from left to right, by a reader of expressions. Each reader stands
 -- for the part of the grammar of the same name.
-use Rattle.std.specs.Prelude.{ℕ, Bool, ◌||◌, List, [], ◌∷◌, ◌++◌, codes, Option, Some, None, is_some}
+use Rattle.std.specs.Prelude.{ℕ, Bool, ◌||◌, List, [], ◌∷◌, codes, Option, Some, None}
 use Rattle.oss_syntax.specs.declared.access.Mode.{Mode}
 use Rattle.oss_syntax.specs.declared.access.Mode.TheVariants.{Fold}
 use Rattle.oss_syntax.specs.declared.access.Op.{Op}
@@ -17,7 +17,7 @@ use Rattle.oss_model.specs.Pragmas.{Single}
 use Rattle.oss_model.specs.Pragmas.Single.{once_if, once_final, once_wait, once_label, once_priority}
 use Rattle.oss_model.specs.Reading.{Reader, has, read_one, read_then, read_nothing, read_mapped, read_both, read_either, read_steps}
 use Rattle.oss_pragma.specs.TokenValues.{symbol_at, word_at, start_at, end_at, name_at, access_at, reduction_at, fold_at, label_at, single_at, begins_expression}
-use Rattle.oss_pragma.specs.ExpressionReading.{latter, former, middle, and_then, read_next, read_list}
+use Rattle.oss_pragma.specs.ExpressionReading.{latter, middle, and_then, read_next, read_list}
 use Rattle.oss_pragma.specs.declared.cursor.Named.{Named}
 
 -- [ expr ] behind `:`

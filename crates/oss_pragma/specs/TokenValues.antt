@@ -1,6 +1,6 @@
 -- What single tokens stand for in an expression and in a pragma. Read against: in `in(x)` the first token is the word of an access
 -- that reads, strongly; the second is a symbol, with its line.
-use Rattle.std.specs.Prelude.{◌≡◌, ◌==◌, ℕ, Bool, true, false, ◌&&◌, ◌||◌, not, if◌then◌else◌, List, codes, Option, Some, None, is_some}
+use Rattle.std.specs.Prelude.{◌==◌, ℕ, Bool, ◌&&◌, ◌||◌, not, if◌then◌else◌, List, codes, Option, Some, None, is_some}
 use Rattle.std.specs.List.{list_any}
 use Rattle.oss_syntax.specs.declared.access.Mode.{Mode}
 use Rattle.oss_syntax.specs.declared.access.Op.{Op}

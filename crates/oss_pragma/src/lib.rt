@@ -1,6 +1,18 @@
 //! Expressions and pragmas, read from tokens.
 #![tactic(auto)]
 
+mod calls;
+mod clauses;
+mod counted;
 mod cursor;
+mod expressions;
+mod found;
+mod kinds;
+mod limits;
+mod pragmas;
+mod refusals;
+mod sections;
+#[cfg(test)]
+mod tests;
 
-pub use cursor::{Named, Unread};
+pub use calls::{expression, pragma};

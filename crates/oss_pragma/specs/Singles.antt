@@ -1,0 +1,28 @@
+-- The clauses that a task has once at most, as the code names them.
+use Rattle.std.specs.Prelude.{◌≡◌, ℕ, Bool, ◌&&◌, not, if◌then◌else◌, List, Option, Some, None}
+use Rattle.oss_syntax.specs.declared.token.Token.{Token}
+use Rattle.oss_syntax.specs.declared.tree.pragma.Clause.{Clause}
+use Rattle.oss_model.specs.Pragmas.{Single}
+use Rattle.oss_model.specs.Pragmas.Single.{once_if, once_final, once_wait, once_label, once_priority}
+use Rattle.oss_pragma.specs.TokenValues.{is_single_word, stands}
+use Rattle.oss_pragma.specs.declared.kinds.Once.{Once}
+use Rattle.oss_pragma.specs.declared.kinds.Once.TheVariants as once
+
+abbrev pub single_of : Once → Single
+single_of once.If = once_if
+single_of once.Final = once_final
+single_of once.Wait = once_wait
+single_of once.Label = once_label
+single_of once.Priority = once_priority
+
+-- The line of the word of such a clause, where the clause does not stand already.
+abbrev pub single_unless : Bool → Single → Token → Option ℕ
+single_unless already s t = if is_single_word s t.what && not already then Some t.line else None
+
+-- Which of these clauses stand among those that were found.
+pub record AreKnown (found : List Clause) (condition final wait label priority : Bool) : Type 0 where
+  pub condition_is : condition ≡ stands once_if found
+  pub final_is : final ≡ stands once_final found
+  pub wait_is : wait ≡ stands once_wait found
+  pub label_is : label ≡ stands once_label found
+  pub priority_is : priority ≡ stands once_priority found

@@ -1,0 +1,237 @@
+//! The reader of clauses.
+
+ghost use Rattle.std.specs.Prelude.{◌≡◌, []};
+ghost use Rattle.oss_syntax.specs.declared.tree.pragma.Clause.TheVariants as clauses;
+ghost use Rattle.oss_model.specs.Pragmas.Single.{once_final, once_if, once_priority};
+ghost use Rattle.oss_model.specs.Reading.{begins, read_both, read_mapped, read_one};
+ghost use Rattle.oss_pragma.specs.ExpressionReading.{latter, read_expression};
+ghost use Rattle.oss_pragma.specs.PragmaReading.{goes_on_with_clause, read_after_comma, read_bracketed_expression, read_clause, read_clauses, read_depend, read_folded, read_label, read_reduction, read_single, read_waiting};
+ghost use Rattle.oss_pragma.specs.Singles.{single_of, single_unless};
+ghost use Rattle.oss_pragma.specs.Told.{Gives};
+
+use crate::cursor::{Cursor, Unread};
+use crate::found::Found;
+use crate::kinds::{Once, access, reduction, symbol_is};
+use crate::sections::{bracketed_expression, bracketed_sections, sections};
+use oss_syntax::{Clause, Expr, List, Mode, Op, Section, Token};
+use std::alloc::Global;
+
+/// The word of an access, and its sections.
+#[tactic(auto, unfolding(crate::specs::PragmaReading::read_depend))]
+pub fn depend(alloc: Global, tokens: &mut Cursor<'_>) -> Result<Clause, Unread>
+    ensures { Gives (read_depend read_expression tokens.old) result tokens.new }
+{
+    let (mode, strong) = match tokens.access() {
+        Ok(access) => access,
+        Err(unread) => return Err(unread),
+    };
+    match bracketed_sections(alloc, tokens) {
+        Ok(sections) => Ok(Clause::Depend(mode, strong, sections)),
+        Err(unread) => Err(unread),
+    }
+}
+
+/// op ":" sections ")"
+#[tactic(auto, unfolding(crate::specs::PragmaReading::read_folded))]
+fn folded(alloc: Global, tokens: &mut Cursor<'_>) -> Result<(Op, List<Section>), Unread>
+    ensures { Gives (read_folded read_expression tokens.old) result tokens.new }
+{
+    let operator = match tokens.fold() {
+        Ok(operator) => operator,
+        Err(unread) => return Err(unread),
+    };
+    match tokens.symbol(b":") {
+        Ok(_) => {}
+        Err(unread) => return Err(unread),
+    }
+    let sections = match sections(alloc, tokens) {
+        Ok(sections) => sections,
+        Err(unread) => return Err(unread),
+    };
+    match tokens.symbol(b")") {
+        Ok(_) => Ok((operator, sections)),
+        Err(unread) => Err(unread),
+    }
+}
+
+/// The word of a reduction, and "(" op ":" sections ")"
+#[tactic(auto, unfolding(crate::specs::PragmaReading::read_reduction))]
+fn fold_clause(alloc: Global, tokens: &mut Cursor<'_>) -> Result<Clause, Unread>
+    ensures { Gives (read_reduction read_expression tokens.old) result tokens.new }
+{
+    let strong = match tokens.reduction() {
+        Ok(strong) => strong,
+        Err(unread) => return Err(unread),
+    };
+    match tokens.symbol(b"(") {
+        Ok(_) => {}
+        Err(unread) => return Err(unread),
+    }
+    match folded(alloc, tokens) {
+        Ok((operator, sections)) => Ok(Clause::Depend(Mode::Fold(operator), strong, sections)),
+        Err(unread) => Err(unread),
+    }
+}
+
+/// The word of a clause that stands once at most, where it does not stand already, and "(" expr ")"
+fn once_expression(
+    alloc: Global,
+    once: Once,
+    already: bool,
+    tokens: &mut Cursor<'_>,
+) -> Result<Expr, Unread>
+    ensures { Gives (read_mapped latter (read_both (read_one (single_unless already (single_of once))) (read_bracketed_expression read_expression)) tokens.old) result tokens.new }
+{
+    match tokens.once(once, already) {
+        Ok(_) => bracketed_expression(alloc, tokens),
+        Err(unread) => Err(unread),
+    }
+}
+
+/// "if" "(" expr ")"
+#[tactic(auto, unfolding(crate::specs::PragmaReading::read_single))]
+fn condition(alloc: Global, found: &Found, tokens: &mut Cursor<'_>) -> Result<Clause, Unread>
+    ensures { Gives (read_single read_expression once_if found.now clauses.If tokens.old) result tokens.new }
+{
+    match once_expression(alloc, Once::If, found.has(Once::If), tokens) {
+        Ok(condition) => Ok(Clause::If(condition)),
+        Err(unread) => Err(unread),
+    }
+}
+
+/// "final" "(" expr ")"
+#[tactic(auto, unfolding(crate::specs::PragmaReading::read_single))]
+fn final_clause(alloc: Global, found: &Found, tokens: &mut Cursor<'_>) -> Result<Clause, Unread>
+    ensures { Gives (read_single read_expression once_final found.now clauses.Final tokens.old) result tokens.new }
+{
+    match once_expression(alloc, Once::Final, found.has(Once::Final), tokens) {
+        Ok(condition) => Ok(Clause::Final(condition)),
+        Err(unread) => Err(unread),
+    }
+}
+
+/// "priority" "(" expr ")"
+#[tactic(auto, unfolding(crate::specs::PragmaReading::read_single))]
+fn priority(alloc: Global, found: &Found, tokens: &mut Cursor<'_>) -> Result<Clause, Unread>
+    ensures { Gives (read_single read_expression once_priority found.now clauses.Priority tokens.old) result tokens.new }
+{
+    match once_expression(alloc, Once::Priority, found.has(Once::Priority), tokens) {
+        Ok(priority) => Ok(Clause::Priority(priority)),
+        Err(unread) => Err(unread),
+    }
+}
+
+/// "wait"
+#[tactic(auto, unfolding(crate::specs::PragmaReading::read_waiting))]
+fn waiting(found: &Found, tokens: &mut Cursor<'_>) -> Result<Clause, Unread>
+    ensures { Gives (read_waiting found.now tokens.old) result tokens.new }
+{
+    match tokens.once(Once::Wait, found.has(Once::Wait)) {
+        Ok(_) => Ok(Clause::Wait),
+        Err(unread) => Err(unread),
+    }
+}
+
+/// "label" "(" ( name | string ) ")"
+#[tactic(auto, unfolding(crate::specs::PragmaReading::read_label))]
+fn label(alloc: Global, found: &Found, tokens: &mut Cursor<'_>) -> Result<Clause, Unread>
+    ensures { Gives (read_label found.now tokens.old) result tokens.new }
+{
+    match tokens.once(Once::Label, found.has(Once::Label)) {
+        Ok(_) => {}
+        Err(unread) => return Err(unread),
+    }
+    match tokens.symbol(b"(") {
+        Ok(_) => {}
+        Err(unread) => return Err(unread),
+    }
+    let label = match tokens.label(alloc) {
+        Ok(label) => label,
+        Err(unread) => return Err(unread),
+    };
+    match tokens.symbol(b")") {
+        Ok(_) => Ok(Clause::Label(label)),
+        Err(unread) => Err(unread),
+    }
+}
+
+/// A clause of a task, behind those that were found.
+#[tactic(auto, unfolding(crate::specs::PragmaReading::read_clause))]
+fn clause(alloc: Global, found: &Found, tokens: &mut Cursor<'_>) -> Result<Clause, Unread>
+    ensures { Gives (read_clause read_expression found.now tokens.old) result tokens.new }
+{
+    if tokens.begins_with_access() {
+        return depend(alloc, tokens);
+    }
+    if tokens.begins_with_reduction() {
+        return fold_clause(alloc, tokens);
+    }
+    if tokens.begins_with_once(Once::If, found.has(Once::If)) {
+        return condition(alloc, found, tokens);
+    }
+    if tokens.begins_with_once(Once::Final, found.has(Once::Final)) {
+        return final_clause(alloc, found, tokens);
+    }
+    if tokens.begins_with_once(Once::Wait, found.has(Once::Wait)) {
+        return waiting(found, tokens);
+    }
+    if tokens.begins_with_once(Once::Label, found.has(Once::Label)) {
+        return label(alloc, found, tokens);
+    }
+    priority(alloc, found, tokens)
+}
+
+/// [ "," ] clause
+fn next_clause(alloc: Global, found: &Found, tokens: &mut Cursor<'_>) -> Result<Clause, Unread>
+    ensures { Gives (read_after_comma (read_clause read_expression found.now) tokens.old) result tokens.new }
+{
+    if tokens.begins_with_symbol(b",") {
+        return match tokens.symbol(b",") {
+            Ok(_) => clause(alloc, found, tokens),
+            Err(unread) => Err(unread),
+        };
+    }
+    clause(alloc, found, tokens)
+}
+
+/// Whether a token begins a clause behind those that were found, or is a comma.
+fn begins_clause(found: &Found, token: &Token) -> bool
+    ensures { result ≡ goes_on_with_clause found.now token.now }
+{
+    symbol_is(b",", &token.what)
+        || access(&token.what).is_some()
+        || reduction(&token.what).is_some()
+        || found.awaits(Once::If, token)
+        || found.awaits(Once::Final, token)
+        || found.awaits(Once::Wait, token)
+        || found.awaits(Once::Label, token)
+        || found.awaits(Once::Priority, token)
+}
+
+/// Whether the next token begins a clause behind those that were found, or is a comma.
+fn goes_on(found: &Found, tokens: &Cursor<'_>) -> bool
+    ensures { result ≡ begins (goes_on_with_clause found.now) tokens.now }
+{
+    match tokens.left().first() {
+        Some(token) => begins_clause(found, token),
+        None => false,
+    }
+}
+
+/// { [ "," ] clause }
+pub fn clauses(alloc: Global, tokens: &mut Cursor<'_>) -> Result<List<Clause>, Unread>
+    ensures { Gives (read_clauses read_expression [] tokens.old) result tokens.new }
+{
+    let mut found = Found::new(alloc);
+    'clauses: while goes_on(&found, tokens) {
+        let next = match next_clause(alloc, &found, tokens) {
+            Ok(next) => next,
+            Err(unread) => return Err(unread),
+        };
+        match found.push(next) {
+            Ok(()) => {}
+            Err(e) => return Err(Unread::Memory(e)),
+        }
+    }
+    Ok(found.into_list())
+}

@@ -1,0 +1,374 @@
+//! The reader of expressions.
+
+ghost use Rattle.std.specs.Prelude.{◌≡◌, ◌≤◌, IfOk};
+ghost use Rattle.oss_pragma.specs.ExpressionReading.{indexed, joined_to, prefixed_by, read_arguments, read_brackets, read_call, read_index, read_list, read_more, read_named, read_next, read_operation, read_operations, read_postfix, read_primary, read_unary, read_whole};
+ghost use Rattle.oss_pragma.specs.Operands.{read_above, read_operand};
+ghost use Rattle.oss_pragma.specs.Told.{Gives};
+
+use crate::counted::Counted;
+use crate::cursor::{Named, Unread};
+use oss_syntax::{BinOp, Boxed, Expr, ExprKind, List, UnOp};
+use std::alloc::{AllocError, Global};
+
+/// How many levels of binary operators there are.
+const BINARY_LEVELS: u32 = 10;
+
+/// [ expr { "," expr } ] ")", where the expressions have so many levels
+#[cycle(expression)]
+#[tactic(auto, unfolding(crate::specs::ExpressionReading::read_arguments))]
+fn arguments(alloc: Global, levels: u32, tokens: &mut Counted<'_>) -> Result<List<Expr>, Unread>
+    ensures value { Gives (read_arguments (read_whole levels) tokens.old.seen) result tokens.new.seen }
+    ensures behind { tokens.new.behind ≡ tokens.old.behind }
+{
+    if tokens.begins_with_symbol(b")") {
+        return match tokens.symbol(b")") {
+            Ok(_) => Ok(List::new(alloc)),
+            Err(unread) => Err(unread),
+        };
+    }
+    let values = match values(alloc, levels, tokens) {
+        Ok(values) => values,
+        Err(unread) => return Err(unread),
+    };
+    match tokens.symbol(b")") {
+        Ok(_) => Ok(values),
+        Err(unread) => Err(unread),
+    }
+}
+
+/// expr { "," expr }
+#[cycle(expression)]
+fn values(alloc: Global, levels: u32, tokens: &mut Counted<'_>) -> Result<List<Expr>, Unread>
+    ensures value { Gives (read_list (read_whole levels) tokens.old.seen) result tokens.new.seen }
+    ensures behind { tokens.new.behind ≡ tokens.old.behind }
+{
+    let first = match whole(alloc, levels, tokens) {
+        Ok(first) => first,
+        Err(unread) => return Err(unread),
+    };
+    let mut found = List::new(alloc);
+    match found.push(first) {
+        Ok(()) => more_values(alloc, levels, found, tokens),
+        Err(e) => Err(Unread::Memory(e)),
+    }
+}
+
+/// { "," expr }, behind the expressions that were found
+#[cycle(expression)]
+fn more_values(
+    alloc: Global,
+    levels: u32,
+    mut found: List<Expr>,
+    tokens: &mut Counted<'_>,
+) -> Result<List<Expr>, Unread>
+    ensures value { Gives (read_more (read_whole levels) found tokens.old.seen) result tokens.new.seen }
+    ensures behind { tokens.new.behind ≡ tokens.old.behind }
+{
+    'values: while tokens.begins_with_symbol(b",") {
+        let next = match next_value(alloc, levels, tokens) {
+            Ok(next) => next,
+            Err(unread) => return Err(unread),
+        };
+        match found.push(next) {
+            Ok(()) => {}
+            Err(e) => return Err(Unread::Memory(e)),
+        }
+    }
+    Ok(found)
+}
+
+/// "," expr
+#[cycle(expression)]
+fn next_value(alloc: Global, levels: u32, tokens: &mut Counted<'_>) -> Result<Expr, Unread>
+    ensures value { Gives (read_next (read_whole levels) tokens.old.seen) result tokens.new.seen }
+    ensures behind { tokens.new.behind ≡ tokens.old.behind }
+{
+    match tokens.symbol(b",") {
+        Ok(_) => whole(alloc, levels, tokens),
+        Err(unread) => Err(unread),
+    }
+}
+
+/// "(" arguments, behind the name of a function
+#[cycle(expression)]
+#[tactic(auto, unfolding(crate::specs::ExpressionReading::read_call))]
+fn call(alloc: Global, levels: u32, name: Named, tokens: &mut Counted<'_>) -> Result<Expr, Unread>
+    ensures value { Gives (read_call (read_whole levels) name tokens.old.seen) result tokens.new.seen }
+    ensures behind { tokens.new.behind ≡ tokens.old.behind }
+{
+    match tokens.symbol(b"(") {
+        Ok(_) => {}
+        Err(unread) => return Err(unread),
+    }
+    match arguments(alloc, levels, tokens) {
+        Ok(values) => Ok(Expr {
+            what: ExprKind::Call(name.name, values),
+            line: name.line,
+        }),
+        Err(unread) => Err(unread),
+    }
+}
+
+/// name [ call ]
+#[cycle(expression)]
+#[tactic(auto, unfolding(crate::specs::ExpressionReading::read_named))]
+fn named(alloc: Global, levels: u32, tokens: &mut Counted<'_>) -> Result<Expr, Unread>
+    ensures value { Gives (read_named (read_whole levels) tokens.old.seen) result tokens.new.seen }
+    ensures behind { tokens.new.behind ≡ tokens.old.behind }
+{
+    let name = match tokens.name(alloc) {
+        Ok(name) => name,
+        Err(unread) => return Err(unread),
+    };
+    if tokens.begins_with_symbol(b"(") {
+        return call(alloc, levels, name, tokens);
+    }
+    Ok(Expr {
+        what: ExprKind::Name(name.name),
+        line: name.line,
+    })
+}
+
+/// "(" expr ")"
+#[cycle(expression)]
+#[tactic(auto, unfolding(crate::specs::ExpressionReading::read_brackets))]
+fn brackets(alloc: Global, levels: u32, tokens: &mut Counted<'_>) -> Result<Expr, Unread>
+    ensures value { Gives (read_brackets (read_whole levels) tokens.old.seen) result tokens.new.seen }
+    ensures behind { tokens.new.behind ≡ tokens.old.behind }
+{
+    match tokens.symbol(b"(") {
+        Ok(_) => {}
+        Err(unread) => return Err(unread),
+    }
+    let inner = match whole(alloc, levels, tokens) {
+        Ok(inner) => inner,
+        Err(unread) => return Err(unread),
+    };
+    match tokens.symbol(b")") {
+        Ok(_) => Ok(inner),
+        Err(unread) => Err(unread),
+    }
+}
+
+/// number | name [ call ] | "(" expr ")"
+#[cycle(expression)]
+#[tactic(auto, unfolding(crate::specs::ExpressionReading::read_primary))]
+fn primary(alloc: Global, levels: u32, tokens: &mut Counted<'_>) -> Result<Expr, Unread>
+    ensures value { Gives (read_primary (read_whole levels) tokens.old.seen) result tokens.new.seen }
+    ensures behind { tokens.new.behind ≡ tokens.old.behind }
+{
+    if tokens.begins_with_number() {
+        return tokens.number();
+    }
+    if tokens.begins_with_name() {
+        return named(alloc, levels, tokens);
+    }
+    brackets(alloc, levels, tokens)
+}
+
+/// "[" expr "]"
+#[cycle(expression)]
+#[tactic(auto, unfolding(crate::specs::ExpressionReading::read_index))]
+fn index(alloc: Global, levels: u32, tokens: &mut Counted<'_>) -> Result<Expr, Unread>
+    ensures value { Gives (read_index (read_whole levels) tokens.old.seen) result tokens.new.seen }
+    ensures behind { tokens.new.behind ≡ tokens.old.behind }
+{
+    match tokens.symbol(b"[") {
+        Ok(_) => {}
+        Err(unread) => return Err(unread),
+    }
+    let inner = match whole(alloc, levels, tokens) {
+        Ok(inner) => inner,
+        Err(unread) => return Err(unread),
+    };
+    match tokens.symbol(b"]") {
+        Ok(_) => Ok(inner),
+        Err(unread) => Err(unread),
+    }
+}
+
+/// primary [ "[" expr "]" ]
+#[cycle(expression)]
+#[tactic(auto, unfolding(crate::specs::ExpressionReading::read_postfix))]
+fn postfix(alloc: Global, levels: u32, tokens: &mut Counted<'_>) -> Result<Expr, Unread>
+    ensures value { Gives (read_postfix (read_whole levels) tokens.old.seen) result tokens.new.seen }
+    ensures behind { tokens.new.behind ≡ tokens.old.behind }
+{
+    let base = match primary(alloc, levels, tokens) {
+        Ok(base) => base,
+        Err(unread) => return Err(unread),
+    };
+    if !tokens.begins_with_symbol(b"[") {
+        return Ok(base);
+    }
+    let at = match index(alloc, levels, tokens) {
+        Ok(at) => at,
+        Err(unread) => return Err(unread),
+    };
+    match element(alloc, base, at) {
+        Ok(element) => Ok(element),
+        Err(e) => Err(Unread::Memory(e)),
+    }
+}
+
+/// The element of an array at a place.
+fn element(alloc: Global, base: Expr, at: Expr) -> Result<Expr, AllocError>
+    ensures { IfOk result (λ element. element ≡ indexed base at) }
+{
+    let line = base.line;
+    Ok(Expr {
+        what: ExprKind::Index(Boxed::new(alloc, base)?, Boxed::new(alloc, at)?),
+        line,
+    })
+}
+
+/// prefix unary | postfix
+#[cycle(expression)]
+#[tactic(auto, unfolding(crate::specs::ExpressionReading::read_prefixed))]
+fn operand(alloc: Global, levels: u32, tokens: &mut Counted<'_>) -> Result<Expr, Unread>
+    ensures value { Gives (read_operand levels tokens.old.seen) result tokens.new.seen }
+    ensures behind { tokens.new.behind ≡ tokens.old.behind }
+{
+    if !tokens.begins_with_prefix() {
+        return postfix(alloc, levels, tokens);
+    }
+    let sign = match tokens.prefix() {
+        Ok(sign) => sign,
+        Err(unread) => return Err(unread),
+    };
+    let behind = match unary(alloc, levels, tokens) {
+        Ok(behind) => behind,
+        Err(unread) => return Err(unread),
+    };
+    match signed(alloc, sign, behind) {
+        Ok(signed) => Ok(signed),
+        Err(e) => Err(Unread::Memory(e)),
+    }
+}
+
+/// An operand with a prefix, which stands on a line.
+fn signed(alloc: Global, sign: (UnOp, u32), operand: Expr) -> Result<Expr, AllocError>
+    ensures { IfOk result (λ signed. signed ≡ prefixed_by (sign, operand)) }
+{
+    let (sign, line) = sign;
+    Ok(Expr {
+        what: ExprKind::Unary(sign, Boxed::new(alloc, operand)?),
+        line,
+    })
+}
+
+/// An operator of a level, and its right side, which has so many levels of binary operators.
+#[cycle(expression)]
+#[tactic(auto, unfolding(crate::specs::ExpressionReading::read_operation))]
+fn operation(
+    alloc: Global,
+    levels: u32,
+    more: u32,
+    level: u32,
+    tokens: &mut Counted<'_>,
+) -> Result<(BinOp, Expr), Unread>
+    requires { more ≤ 9 }
+    ensures value { Gives (read_operation level (read_above more levels) tokens.old.seen) result tokens.new.seen }
+    ensures behind { tokens.new.behind ≡ tokens.old.behind }
+{
+    let operator = match tokens.operator(level) {
+        Ok(operator) => operator,
+        Err(unread) => return Err(unread),
+    };
+    match above(alloc, levels, more, tokens) {
+        Ok(right) => Ok((operator, right)),
+        Err(unread) => Err(unread),
+    }
+}
+
+/// Operations of a level behind a left side, from left to right.
+#[cycle(expression)]
+fn operations(
+    alloc: Global,
+    levels: u32,
+    more: u32,
+    level: u32,
+    left: Expr,
+    tokens: &mut Counted<'_>,
+) -> Result<Expr, Unread>
+    requires { more ≤ 9 }
+    ensures value { Gives (read_operations level (read_above more levels) left tokens.old.seen) result tokens.new.seen }
+    ensures behind { tokens.new.behind ≡ tokens.old.behind }
+{
+    let mut value = left;
+    'operations: while tokens.begins_with_operator(level) {
+        let (operator, right) = match operation(alloc, levels, more, level, tokens) {
+            Ok(operation) => operation,
+            Err(unread) => return Err(unread),
+        };
+        value = match joined(alloc, value, operator, right) {
+            Ok(joined) => joined,
+            Err(e) => return Err(Unread::Memory(e)),
+        };
+    }
+    Ok(value)
+}
+
+/// Two sides that an operator joins.
+fn joined(alloc: Global, left: Expr, operator: BinOp, right: Expr) -> Result<Expr, AllocError>
+    ensures { IfOk result (λ joined. joined ≡ joined_to left (operator, right)) }
+{
+    let line = left.line;
+    Ok(Expr {
+        what: ExprKind::Binary(
+            operator,
+            Boxed::new(alloc, left)?,
+            Boxed::new(alloc, right)?,
+        ),
+        line,
+    })
+}
+
+/// The binary operators of so many levels, from the tightest on.
+#[cycle(expression)]
+fn above(alloc: Global, levels: u32, more: u32, tokens: &mut Counted<'_>) -> Result<Expr, Unread>
+    requires { more ≤ 10 }
+    ensures value { Gives (read_above more levels tokens.old.seen) result tokens.new.seen }
+    ensures behind { tokens.new.behind ≡ tokens.old.behind }
+{
+    if more == 0 {
+        return operand(alloc, levels, tokens);
+    }
+    let left = match above(alloc, levels, more - 1, tokens) {
+        Ok(left) => left,
+        Err(unread) => return Err(unread),
+    };
+    operations(alloc, levels, more - 1, more + 2, left, tokens)
+}
+
+/// What stands behind a prefix, with so many levels.
+#[cycle(expression)]
+fn unary(alloc: Global, levels: u32, tokens: &mut Counted<'_>) -> Result<Expr, Unread>
+    ensures value { Gives (read_unary levels tokens.old.seen) result tokens.new.seen }
+    ensures behind { tokens.new.behind ≡ tokens.old.behind }
+{
+    if levels == 0 {
+        return if tokens.begins_with_expression() {
+            Err(Unread::Deep)
+        } else {
+            Err(Unread::Syntax)
+        };
+    }
+    operand(alloc, levels - 1, tokens)
+}
+
+/// A whole expression, with so many levels.
+#[cycle(expression)]
+pub fn whole(alloc: Global, levels: u32, tokens: &mut Counted<'_>) -> Result<Expr, Unread>
+    ensures value { Gives (read_whole levels tokens.old.seen) result tokens.new.seen }
+    ensures behind { tokens.new.behind ≡ tokens.old.behind }
+{
+    if levels == 0 {
+        return if tokens.begins_with_expression() {
+            Err(Unread::Deep)
+        } else {
+            Err(Unread::Syntax)
+        };
+    }
+    above(alloc, levels - 1, BINARY_LEVELS, tokens)
+}

@@ -1,0 +1,170 @@
+//! The reader of pragmas.
+
+ghost use Rattle.std.specs.Prelude.{◌≡◌};
+ghost use Rattle.oss_model.specs.Reading.{begins};
+ghost use Rattle.oss_pragma.specs.ExpressionReading.{read_expression};
+ghost use Rattle.oss_pragma.specs.PragmaReading.{goes_on_with_depend, read_after_comma, read_depend, read_depends, read_more_depends, read_on, read_pragma, read_release, read_task, read_taskwait};
+ghost use Rattle.oss_pragma.specs.Told.{Gives};
+
+use crate::clauses::{clauses, depend};
+use crate::cursor::{Cursor, Unread};
+use crate::kinds::{access, symbol_is};
+use crate::sections::bracketed_sections;
+use oss_syntax::{Clause, Directive, List, Section, TaskMark, Token};
+use std::alloc::Global;
+
+/// "task" { [ "," ] clause } end, behind the first token of a pragma with this line
+#[tactic(auto, unfolding(crate::specs::PragmaReading::read_task))]
+fn task(alloc: Global, line: u32, tokens: &mut Cursor<'_>) -> Result<Directive, Unread>
+    ensures { Gives (read_task read_expression line tokens.old) result tokens.new }
+{
+    match tokens.word(b"task") {
+        Ok(_) => {}
+        Err(unread) => return Err(unread),
+    }
+    let clauses = match clauses(alloc, tokens) {
+        Ok(clauses) => clauses,
+        Err(unread) => return Err(unread),
+    };
+    match tokens.pragma_end() {
+        Ok(_) => Ok(Directive::Task(TaskMark { clauses, line })),
+        Err(unread) => Err(unread),
+    }
+}
+
+/// "on" "(" sections ")" end
+#[tactic(auto, unfolding(crate::specs::PragmaReading::read_on))]
+fn on(alloc: Global, tokens: &mut Cursor<'_>) -> Result<List<Section>, Unread>
+    ensures { Gives (read_on read_expression tokens.old) result tokens.new }
+{
+    match tokens.word(b"on") {
+        Ok(_) => {}
+        Err(unread) => return Err(unread),
+    }
+    let sections = match bracketed_sections(alloc, tokens) {
+        Ok(sections) => sections,
+        Err(unread) => return Err(unread),
+    };
+    match tokens.pragma_end() {
+        Ok(_) => Ok(sections),
+        Err(unread) => Err(unread),
+    }
+}
+
+/// "taskwait" [ "on" "(" sections ")" ] end
+#[tactic(auto, unfolding(crate::specs::PragmaReading::read_taskwait))]
+fn task_wait(alloc: Global, tokens: &mut Cursor<'_>) -> Result<Directive, Unread>
+    ensures { Gives (read_taskwait read_expression tokens.old) result tokens.new }
+{
+    match tokens.word(b"taskwait") {
+        Ok(_) => {}
+        Err(unread) => return Err(unread),
+    }
+    if tokens.begins_with_word(b"on") {
+        return match on(alloc, tokens) {
+            Ok(sections) => Ok(Directive::TaskWait(Some(sections))),
+            Err(unread) => Err(unread),
+        };
+    }
+    match tokens.pragma_end() {
+        Ok(_) => Ok(Directive::TaskWait(None)),
+        Err(unread) => Err(unread),
+    }
+}
+
+/// [ "," ] depend
+fn next_depend(alloc: Global, tokens: &mut Cursor<'_>) -> Result<Clause, Unread>
+    ensures { Gives (read_after_comma (read_depend read_expression) tokens.old) result tokens.new }
+{
+    if tokens.begins_with_symbol(b",") {
+        return match tokens.symbol(b",") {
+            Ok(_) => depend(alloc, tokens),
+            Err(unread) => Err(unread),
+        };
+    }
+    depend(alloc, tokens)
+}
+
+/// Whether a dependency begins here, or the comma before one.
+fn goes_on(found: &List<Clause>, tokens: &Cursor<'_>) -> bool
+    ensures { result ≡ begins (goes_on_with_depend found.now) tokens.now }
+{
+    match tokens.left().first() {
+        Some(token) => symbol_is(b",", &token.what) || access(&token.what).is_some(),
+        None => false,
+    }
+}
+
+/// { [ "," ] depend }, behind the dependencies that were found
+fn more_depends(
+    alloc: Global,
+    mut found: List<Clause>,
+    tokens: &mut Cursor<'_>,
+) -> Result<List<Clause>, Unread>
+    ensures { Gives (read_more_depends read_expression found tokens.old) result tokens.new }
+{
+    'depends: while goes_on(&found, tokens) {
+        let next = match next_depend(alloc, tokens) {
+            Ok(next) => next,
+            Err(unread) => return Err(unread),
+        };
+        match found.push(next) {
+            Ok(()) => {}
+            Err(e) => return Err(Unread::Memory(e)),
+        }
+    }
+    Ok(found)
+}
+
+/// depend { [ "," ] depend }
+#[tactic(auto, unfolding(crate::specs::PragmaReading::read_depends))]
+fn depends(alloc: Global, tokens: &mut Cursor<'_>) -> Result<List<Clause>, Unread>
+    ensures { Gives (read_depends read_expression tokens.old) result tokens.new }
+{
+    let first = match depend(alloc, tokens) {
+        Ok(first) => first,
+        Err(unread) => return Err(unread),
+    };
+    let mut found = List::new(alloc);
+    match found.push(first) {
+        Ok(()) => more_depends(alloc, found, tokens),
+        Err(e) => Err(Unread::Memory(e)),
+    }
+}
+
+/// "release" depend { [ "," ] depend } end
+#[tactic(auto, unfolding(crate::specs::PragmaReading::read_release))]
+fn release(alloc: Global, tokens: &mut Cursor<'_>) -> Result<Directive, Unread>
+    ensures { Gives (read_release read_expression tokens.old) result tokens.new }
+{
+    match tokens.word(b"release") {
+        Ok(_) => {}
+        Err(unread) => return Err(unread),
+    }
+    let depends = match depends(alloc, tokens) {
+        Ok(depends) => depends,
+        Err(unread) => return Err(unread),
+    };
+    match tokens.pragma_end() {
+        Ok(_) => Ok(Directive::Release(depends)),
+        Err(unread) => Err(unread),
+    }
+}
+
+/// start ( task | taskwait | release )
+#[tactic(auto, unfolding(crate::specs::PragmaReading::read_pragma))]
+pub fn pragma(alloc: Global, tokens: &mut Cursor<'_>) -> Result<Directive, Unread>
+    ensures { Gives (read_pragma read_expression tokens.old) result tokens.new }
+{
+    let line = match tokens.pragma_start() {
+        Ok(line) => line,
+        Err(unread) => return Err(unread),
+    };
+    if tokens.begins_with_word(b"task") {
+        return task(alloc, line, tokens);
+    }
+    if tokens.begins_with_word(b"taskwait") {
+        return task_wait(alloc, tokens);
+    }
+    release(alloc, tokens)
+}
