@@ -1,8 +1,10 @@
+pub mod ExactAnswers
 pub mod ExactExpressions
 pub mod ExpressionLemmas
 pub mod LevelLemmas
 pub mod ListLemmas
 pub mod OperandLemmas
+pub mod PlaceLemmas
 pub mod PragmaLemmas
 pub mod PrimaryLemmas
 pub mod SightLemmas
