@@ -1,4 +1,4 @@
-ghost use Rattle.std.specs.Prelude.{◌≡◌, ◌↔◌, ◌∷◌, ◌++◌, [], IsTrue, MatchOption};
+ghost use Rattle.std.specs.Prelude.{◌≡◌, ◌↔◌, ◌∷◌, ◌++◌, [], IsTrue, MatchOption, drop};
 ghost use Rattle.oss_model.specs.Reading.{begins, has, read_one};
 ghost use Rattle.oss_model.specs.Levels.{is_operator};
 ghost use Rattle.oss_pragma.specs.Sights.{Sight, sight_of};
@@ -52,7 +52,7 @@ impl<'t> Counted<'t> {
     pub fn is_at_end(&self) -> bool
         ensures { IsTrue result ↔ (self.now.seen ≡ []) }
     {
-        self.split().is_none()
+        self.first().is_none()
     }
 
     /// The next token, and the place behind it.
@@ -71,6 +71,16 @@ impl<'t> Counted<'t> {
             self.operators
         };
         Some((token, Counted { left, operators }))
+    }
+
+    /// The next token; it stays.
+    fn first(&self) -> Option<&'t Token>
+        ensures { MatchOption result (self.now.seen ≡ []) (λ t. self.now.seen ≡ t.now ∷ drop 1 self.now.seen) }
+    {
+        if self.operators == 0 {
+            return None;
+        }
+        self.left.first()
     }
 
     /// Takes this symbol, and answers its line.
@@ -153,8 +163,8 @@ impl<'t> Counted<'t> {
     pub fn begins_with_symbol(&self, symbol: &[u8]) -> bool
         ensures { result ≡ begins (has (symbol_at symbol.now)) self.now.seen }
     {
-        match self.split() {
-            Some((token, _)) => symbol_is(symbol, &token.what),
+        match self.first() {
+            Some(token) => symbol_is(symbol, &token.what),
             None => false,
         }
     }
@@ -163,8 +173,8 @@ impl<'t> Counted<'t> {
     pub fn begins_with_name(&self) -> bool
         ensures { result ≡ begins (has name_at) self.now.seen }
     {
-        match self.split() {
-            Some((token, _)) => is_name(&token.what),
+        match self.first() {
+            Some(token) => is_name(&token.what),
             None => false,
         }
     }
@@ -173,8 +183,8 @@ impl<'t> Counted<'t> {
     pub fn begins_with_number(&self) -> bool
         ensures { result ≡ begins (has number_at) self.now.seen }
     {
-        match self.split() {
-            Some((token, _)) => is_number(&token.what),
+        match self.first() {
+            Some(token) => is_number(&token.what),
             None => false,
         }
     }
@@ -183,8 +193,8 @@ impl<'t> Counted<'t> {
     pub fn begins_with_prefix(&self) -> bool
         ensures { result ≡ begins (has prefix_at) self.now.seen }
     {
-        match self.split() {
-            Some((token, _)) => prefix(&token.what).is_some(),
+        match self.first() {
+            Some(token) => prefix(&token.what).is_some(),
             None => false,
         }
     }
@@ -193,8 +203,8 @@ impl<'t> Counted<'t> {
     pub fn begins_with_operator(&self, level: u32) -> bool
         ensures { result ≡ begins (has (operator_at level)) self.now.seen }
     {
-        match self.split() {
-            Some((token, _)) => operator_of_level(level, token).is_some(),
+        match self.first() {
+            Some(token) => operator_of_level(level, token).is_some(),
             None => false,
         }
     }
@@ -203,8 +213,8 @@ impl<'t> Counted<'t> {
     pub fn begins_with_expression(&self) -> bool
         ensures { result ≡ begins begins_expression self.now.seen }
     {
-        match self.split() {
-            Some((token, _)) => expression_begins(token),
+        match self.first() {
+            Some(token) => expression_begins(token),
             None => false,
         }
     }
