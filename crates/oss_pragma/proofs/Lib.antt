@@ -1,12 +1,12 @@
 pub mod ExactAnswers
 pub mod ExactExpressions
-pub mod ExpressionLemmas
+pub mod ExpressionLoops
 pub mod LevelLemmas
 pub mod ListLemmas
 pub mod OperandLemmas
 pub mod PlaceLemmas
-pub mod PragmaLemmas
+pub mod PragmaLoops
 pub mod PrimaryLemmas
 pub mod SightLemmas
-pub mod StepLemmas
+pub mod StepLoops
 pub mod TokenLemmas

@@ -6,7 +6,7 @@ use Rattle.std.specs.List.{count_by}
 use Rattle.oss_syntax.specs.declared.token.Token.{Token}
 use Rattle.oss_model.specs.Reading.{Reader, Stop, begins, shown, unshown, from_count, passed, counted_told, read_counted}
 use Rattle.oss_model.specs.Reading.Stop.{Syntax, Deep}
-use Rattle.oss_pragma.proofs.StepLemmas.{Takes, told, halted, ok_rest}
+use Rattle.oss_pragma.proofs.StepLoops.{Takes, told, halted, ok_rest}
 
 pub shown_none : (counts : Token → Bool) (ts : List Token) → shown counts 0 ts ≡ []
 shown_none counts [] = refl

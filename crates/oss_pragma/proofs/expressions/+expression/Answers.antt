@@ -3,7 +3,7 @@ use Rattle.oss_model.specs.Reading.{begins, has}
 use Rattle.oss_pragma.specs.ExpressionReading.{read_more, read_operations}
 use Rattle.oss_pragma.specs.TokenValues.{operator_at, symbol_at}
 use Rattle.oss_pragma.specs.Told.{Gives}
-use Rattle.oss_pragma.proofs.ExpressionLemmas.{above_fail, above_go, above_none, gives_err, repeats_operations, repeats_values, unary_some, whole_some}
+use Rattle.oss_pragma.proofs.ExpressionLoops.{above_fail, above_go, above_none, gives_err, repeats_operations, repeats_values, unary_some, whole_some}
 use Rattle.oss_pragma.proofs.expressions.+expression.Goals as goal
 
 pub more_values-returns-in-Err-clause-value : goal.more_values-returns-in-Err-clause-value

@@ -1,8 +1,8 @@
 use Rattle.std.proofs.Common.{◌≡◌, ◌∙◌, sym, true, false}
 use Rattle.oss_model.specs.Reading.{begins}
 use Rattle.oss_pragma.specs.PragmaReading.{goes_on_with_depend, read_more_depends}
-use Rattle.oss_pragma.proofs.ExpressionLemmas.{gives_err}
-use Rattle.oss_pragma.proofs.PragmaLemmas.{repeats_depends}
+use Rattle.oss_pragma.proofs.ExpressionLoops.{gives_err}
+use Rattle.oss_pragma.proofs.PragmaLoops.{repeats_depends}
 use Rattle.oss_pragma.proofs.pragmas.more_depends.Goals as goal
 
 pub returns-in-Err : goal.returns-in-Err

@@ -2,8 +2,8 @@ use Rattle.std.proofs.Common.{◌≡◌, ◌∙◌, codes, sym, true, false}
 use Rattle.oss_model.specs.Reading.{begins, has}
 use Rattle.oss_pragma.specs.ExpressionReading.{read_more}
 use Rattle.oss_pragma.specs.TokenValues.{symbol_at}
-use Rattle.oss_pragma.proofs.ExpressionLemmas.{gives_err}
-use Rattle.oss_pragma.proofs.PragmaLemmas.{repeats_sections}
+use Rattle.oss_pragma.proofs.ExpressionLoops.{gives_err}
+use Rattle.oss_pragma.proofs.PragmaLoops.{repeats_sections}
 use Rattle.oss_pragma.proofs.sections.more_sections.Goals as goal
 
 pub returns-in-Err : goal.returns-in-Err

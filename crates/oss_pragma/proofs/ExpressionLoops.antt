@@ -10,7 +10,7 @@ use Rattle.oss_pragma.specs.declared.cursor.Named.{Named}
 use Rattle.oss_pragma.specs.declared.cursor.Unread.{Unread}
 use Rattle.oss_pragma.specs.declared.cursor.Unread.TheVariants as unread
 use Rattle.oss_pragma.specs.Told.{Gives}
-use Rattle.oss_pragma.proofs.StepLemmas.{Takes, Keeps, keeps, takes_one, keeps_nothing, takes_mapped, takes_then, takes_both, takes_either, keeps_either, keeps_steps, too_deep, Repeats, repeats}
+use Rattle.oss_pragma.proofs.StepLoops.{Takes, Keeps, keeps, takes_one, keeps_nothing, takes_mapped, takes_then, takes_both, takes_either, keeps_either, keeps_steps, too_deep, Repeats, repeats}
 
 -- a part that stops reading stops the whole at the same place
 pub gives_err : {A B : Type 0} (part : Result (A × List Token) Stop) (whole : Result (B × List Token) Stop) (u : Unread) (rest : List Token)

@@ -13,8 +13,8 @@ use Rattle.oss_model.specs.Levels.{is_operator}
 use Rattle.oss_pragma.specs.ExpressionReading.{latter, middle, and_then, read_next, read_expression}
 use Rattle.oss_pragma.specs.PragmaReading.{read_upper, read_span, read_length, read_inner_from, read_inner, whole_section, pointed_section, shape_section, part_section, read_pointed, read_shape, read_part, read_based, read_section, read_sections, read_bracketed_sections, read_bracketed_expression, dependency_of, read_depend, read_folded, reduction_of_parts, read_reduction, read_single, read_label, read_waiting, read_clause, read_after_comma, goes_on_with_clause, goes_on_with_depend}
 use Rattle.oss_pragma.specs.declared.cursor.Named.{Named}
-use Rattle.oss_pragma.proofs.StepLemmas.{Takes, Keeps, keeps, takes_one, keeps_nothing, takes_mapped, takes_then, takes_both, takes_either, keeps_either, Repeats, repeats}
-use Rattle.oss_pragma.proofs.ExpressionLemmas.{takes_whole, takes_next, takes_list, repeats_more}
+use Rattle.oss_pragma.proofs.StepLoops.{Takes, Keeps, keeps, takes_one, keeps_nothing, takes_mapped, takes_then, takes_both, takes_either, keeps_either, Repeats, repeats}
+use Rattle.oss_pragma.proofs.ExpressionLoops.{takes_whole, takes_next, takes_list, repeats_more}
 use Rattle.oss_pragma.proofs.SightLemmas.{takes_counted}
 
 takes_after_comma : {A : Type 0} {f : Reader A} → Takes f → Takes (read_after_comma f)
