@@ -17,12 +17,15 @@ pub mod Moves
 pub mod OneToken
 pub mod Order
 pub mod Pragmas
+pub mod Programs
 pub mod Readers
 pub mod Reading
 pub mod Refusals
 pub mod Rights
 pub mod Scalars
 pub mod Sequence
+pub mod SimpleStatements
+pub mod Statements
 pub mod Termination
 pub mod Texts
 pub mod Tokens
