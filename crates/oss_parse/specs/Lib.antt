@@ -1,0 +1,3 @@
+pub mod ProgramReading
+pub mod SimpleReading
+pub mod StatementReading

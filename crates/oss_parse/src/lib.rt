@@ -1,0 +1,2 @@
+//! Programs, read from their texts.
+#![tactic(auto)]
