@@ -1,7 +1,13 @@
+pub mod ExactClauses
 pub mod ExactExpressions
+pub mod ExactPairs
+pub mod ExactPragmas
+pub mod ExactRows
+pub mod ExactSections
 pub mod ExpressionLemmas
 pub mod LevelLemmas
 pub mod ListLemmas
+pub mod OnceLemmas
 pub mod OperandLemmas
 pub mod PragmaLemmas
 pub mod PrimaryLemmas
