@@ -10,7 +10,7 @@ use Rattle.oss_model.specs.Grammar.Either.{one_way, other_way}
 use Rattle.oss_model.specs.OneToken.{is_symbol, IsSymbol}
 use Rattle.oss_model.specs.Reading.{Stop, Reader, begins, has, one_of, never, go_on, read_one, read_then, read_mapped, read_both, read_either}
 use Rattle.oss_model.specs.Reading.Stop.{Syntax}
-use Rattle.oss_model.proofs.Parts.{Stopped, Exact, Begun, exact_as, exact_same, exact_before, member_begins, deep_begins, stopped}
+use Rattle.oss_model.proofs.Parts.{Stopped, Exact, Begun, exact_as, exact_same, member_begins, deep_begins, stopped}
 use Rattle.oss_model.proofs.PartLemmas.{Nowhere, nowhere, exact_one, exact_mapped, begun_mapped, Then, ThenDeep, exact_then, EitherDeep, exact_either}
 use Rattle.oss_model.proofs.StepLemmas.{none_goes}
 use Rattle.oss_pragma.specs.ExpressionReading.{middle, latter}

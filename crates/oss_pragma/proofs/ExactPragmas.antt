@@ -14,7 +14,7 @@ use Rattle.oss_model.specs.Expressions.{IsWhole}
 use Rattle.oss_model.specs.Fronts.{Viable}
 use Rattle.oss_model.specs.Grammar.{One, Mapped, Either}
 use Rattle.oss_model.specs.Grammar.Either.{one_way, other_way}
-use Rattle.oss_model.specs.Levels.{IsExcessBehind, OpensSections, OpensDepend, OpensClause, AfterComma, OpensPragma}
+use Rattle.oss_model.specs.Levels.{IsExcessBehind, IsPragmaExcess, OpensSections, OpensDepend, OpensClause, AfterComma, OpensPragma}
 use Rattle.oss_model.specs.Levels.AfterComma.{with_comma, without_comma}
 use Rattle.oss_model.specs.Levels.OpensPragma.{in_task, in_wait, in_release, in_more_release}
 use Rattle.oss_model.specs.OneToken.{is_word, IsWord}
@@ -26,10 +26,11 @@ use Rattle.oss_model.specs.Reading.{Stop, Reader, has, one_of, never, read_one, 
 use Rattle.oss_model.proofs.Parts.{Exact, Begun, exact_as}
 use Rattle.oss_model.proofs.PartLemmas.{Nowhere, nowhere, exact_one, begun_one, exact_mapped, begun_mapped, Then, ThenDeep, exact_then, begun_then, EitherDeep, begun_either}
 use Rattle.oss_model.proofs.PartLemmas.EitherDeep.{one_deep, other_deep}
-use Rattle.oss_pragma.specs.ExpressionReading.{middle, and_then}
+use Rattle.oss_pragma.specs.ExpressionReading.{read_expression, middle, and_then}
 use Rattle.oss_pragma.specs.PragmaReading.{read_clause, read_after_comma, goes_on_with_clause, read_clauses, goes_on_with_depend, read_depend, read_more_depends, read_depends, task_of, read_task, read_on, read_taskwait, read_release, read_pragma}
 use Rattle.oss_pragma.specs.TokenValues.{symbol_at, word_at, start_in, start_at, end_in, end_at, access_at, begins_expression}
 use Rattle.oss_pragma.proofs.ExactPairs.{HeadedDeep, Enclosed, exact_enclosed, begun_enclosed, Bracketed, BracketedDeep, bracketed_viable, Behind, exact_behind, begun_behind, exact_or, or_apart}
+use Rattle.oss_pragma.proofs.ExactExpressions.{exact_expression, begun_expression}
 use Rattle.oss_pragma.proofs.ExactRows.{Rows, RowsEnd, RowsDeep, exact_rows}
 use Rattle.oss_pragma.proofs.ExactRows.Rows.{no_row, next_row}
 use Rattle.oss_pragma.proofs.ExactSections.{sections_viable}
@@ -594,3 +595,7 @@ module _ {expression : Reader Expr} {X : List Token → Token → Type 0} (part_
   unfolding read_pragma
   begun_pragma =
       begun_then (exact_one start_at (record { what = kinds.PragmaOss; line = 0 }) 0 refl never) exact_directed (λ line ys b rest w free. begins_never (ys ++ rest)) (λ line ys t rest d. begins_never (ys ++ (t ∷ rest))) directed_viable (begun_one start_at)
+
+-- pragmas with the limits of the language are read exactly
+pub exact_limited_pragma : Exact (read_pragma read_expression) IsPragma IsPragmaExcess never
+exact_limited_pragma = exact_pragma exact_expression begun_expression

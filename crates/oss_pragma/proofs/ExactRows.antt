@@ -1,20 +1,15 @@
 -- Readers of any number of parts, each of which may depend on those before it, are exact, if those of the parts are.
-use Rattle.std.proofs.Common.{◌≡◌, Bool, true, false, ◌||◌, List, [], ◌∷◌, ◌++◌, refl, sym, ap, ◌∙◌, subst, append_assoc, Result}
-use Rattle.std.specs.Prelude.{codes}
+use Rattle.std.proofs.Common.{◌≡◌, Bool, true, false, List, [], ◌∷◌, ◌++◌, refl, sym, ap, ◌∙◌, subst, append_assoc, Result}
 use Rattle.std.proofs.lemmas.List.{append-nil}
 use Rattle.oss_syntax.specs.declared.token.Token.{Token}
-use Rattle.oss_model.specs.Fronts.{Viable}
 use Rattle.oss_model.specs.Grammar.{Mapped}
-use Rattle.oss_model.specs.OneToken.{IsComma}
-use Rattle.oss_model.specs.Reading.{Stop, begins, has, one_of, read_mapped, read_steps}
+use Rattle.oss_model.specs.Reading.{Stop, read_mapped, read_steps}
 use Rattle.oss_model.proofs.Parts.{Exact, Begun, exact_as}
-use Rattle.oss_model.proofs.PartLemmas.{exact_mapped, begun_mapped, Then, ThenDeep, exact_then, begun_then}
-use Rattle.oss_model.proofs.StepLemmas.{Steps, StepsDeep, exact_steps, steps_apart, steps_apart_deep}
+use Rattle.oss_model.proofs.PartLemmas.{exact_mapped, begun_mapped}
+use Rattle.oss_model.proofs.StepLemmas.{Steps, StepsDeep, exact_steps}
 use Rattle.oss_model.proofs.StepLemmas.Steps.{over, once_more}
 use Rattle.oss_model.proofs.StepLemmas.StepsDeep.{in_this, in_later}
-use Rattle.oss_pragma.specs.ExpressionReading.{and_then, read_next, read_more, read_list}
-use Rattle.oss_pragma.specs.TokenValues.{symbol_at}
-use Rattle.oss_pragma.proofs.ExactPairs.{Behind, BracketedDeep, exact_behind, begun_behind}
+use Rattle.oss_pragma.specs.ExpressionReading.{and_then}
 
 -- any number of parts, each behind those that were found before it
 pub data Rows {A : Type 0} (G : List A → List Token → A → Type 0) : List A → List Token → List A → Type 0 where

@@ -3,7 +3,6 @@ use Rattle.std.proofs.Common.{◌≡◌, ℕ, Bool, true, false, ◌||◌, List,
 use Rattle.std.specs.Prelude.{codes}
 use Rattle.std.proofs.lemmas.List.{append-nil}
 use Rattle.oss_syntax.specs.declared.token.Token.{Token}
-use Rattle.oss_syntax.specs.declared.token.TokenKind.{TokenKind}
 use Rattle.oss_syntax.specs.declared.token.TokenKind.TheVariants as kinds
 use Rattle.oss_syntax.specs.declared.tree.expr.Expr.{Expr}
 use Rattle.oss_syntax.specs.declared.tree.expr.ExprKind.TheVariants as exprs
@@ -30,7 +29,7 @@ use Rattle.oss_model.proofs.PartLemmas.{Nowhere, nowhere, exact_one, begun_one, 
 use Rattle.oss_model.proofs.PartLemmas.EitherDeep.{one_deep, other_deep}
 use Rattle.oss_model.proofs.StepLemmas.{none_goes, fewer_go}
 use Rattle.oss_pragma.specs.PragmaReading.{read_upper, read_span, read_length, read_inner_from, read_inner, read_pointed, read_shape, read_part, read_based, read_section, read_sections, pointed_section, shape_section, part_section, whole_section}
-use Rattle.oss_pragma.specs.TokenValues.{symbol_at, named_in, name_at, begins_expression}
+use Rattle.oss_pragma.specs.TokenValues.{symbol_at, name_at, begins_expression}
 use Rattle.oss_pragma.specs.declared.cursor.Named.{Named}
 use Rattle.oss_pragma.proofs.ExactPairs.{BothDeep, exact_both, Headed, HeadedDeep, exact_headed, begun_headed, Bracketed, BracketedDeep, exact_bracketed, begun_bracketed, Behind, exact_behind, begun_behind, exact_or, symbol_line}
 use Rattle.oss_pragma.proofs.ListLemmas.{comma, Listed, ListedDeep, exact_list, begun_list}
