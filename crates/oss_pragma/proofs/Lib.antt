@@ -1,8 +1,14 @@
 pub mod ExactAnswers
+pub mod ExactClauses
 pub mod ExactExpressions
+pub mod ExactPairs
+pub mod ExactPragmas
+pub mod ExactRows
+pub mod ExactSections
 pub mod ExpressionLoops
 pub mod LevelLemmas
 pub mod ListLemmas
+pub mod OnceLemmas
 pub mod OperandLemmas
 pub mod PlaceLemmas
 pub mod PragmaLoops
