@@ -25,6 +25,7 @@ pub mod Rights
 pub mod Scalars
 pub mod Sequence
 pub mod SimpleStatements
+pub mod StatementLimits
 pub mod Statements
 pub mod Termination
 pub mod Texts

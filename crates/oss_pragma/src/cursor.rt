@@ -1,4 +1,4 @@
-ghost use Rattle.std.specs.Prelude.{◌≡◌};
+ghost use Rattle.std.specs.Prelude.{◌≡◌, ◌∷◌, [], MatchOption};
 ghost use Rattle.oss_model.specs.Reading.{begins, has, read_one};
 ghost use Rattle.oss_pragma.specs.Singles.{single_of, single_unless};
 ghost use Rattle.oss_pragma.specs.TokenValues.{access_at, begins_expression, end_at, fold_at, label_at, name_at, reduction_at, start_at, symbol_at, word_at};
@@ -63,6 +63,14 @@ impl<'t> Cursor<'t> {
         ensures { self.new ≡ left.now }
     {
         self.left = left;
+    }
+
+    /// The next token, and the place behind it; `None` at the end.
+    pub fn split(&self) -> Option<(&'t Token, Cursor<'t>)>
+        ensures { MatchOption result (self.now ≡ []) (λ p. self.now ≡ p.0.now ∷ p.1) }
+    {
+        let (token, left) = self.left.split_first()?;
+        Some((token, Cursor { left }))
     }
 
     /// Takes this symbol, and answers its line.

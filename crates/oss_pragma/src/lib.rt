@@ -10,6 +10,7 @@ mod found;
 mod kinds;
 mod limits;
 mod pragmas;
+pub mod reading;
 mod refusals;
 mod sections;
 #[cfg(test)]

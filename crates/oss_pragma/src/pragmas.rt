@@ -1,9 +1,10 @@
 //! The reader of pragmas.
 
 ghost use Rattle.std.specs.Prelude.{◌≡◌};
-ghost use Rattle.oss_model.specs.Reading.{begins};
+ghost use Rattle.oss_model.specs.Reading.{begins, read_one, read_then};
 ghost use Rattle.oss_pragma.specs.ExpressionReading.{read_expression};
 ghost use Rattle.oss_pragma.specs.PragmaReading.{goes_on_with_depend, read_after_comma, read_depend, read_depends, read_more_depends, read_on, read_pragma, read_release, read_task, read_taskwait};
+ghost use Rattle.oss_pragma.specs.TokenValues.{start_at};
 ghost use Rattle.oss_pragma.specs.Told.{Gives};
 
 use crate::clauses::{clauses, depend};
@@ -167,4 +168,14 @@ pub fn pragma(alloc: Global, tokens: &mut Cursor<'_>) -> Result<Directive, Unrea
         return task_wait(alloc, tokens);
     }
     release(alloc, tokens)
+}
+
+/// start "task" { [ "," ] clause } end
+pub fn task_pragma(alloc: Global, tokens: &mut Cursor<'_>) -> Result<Directive, Unread>
+    ensures { Gives (read_then (read_one start_at) (read_task read_expression) tokens.old) result tokens.new }
+{
+    match tokens.pragma_start() {
+        Ok(line) => task(alloc, line, tokens),
+        Err(unread) => Err(unread),
+    }
 }
