@@ -300,7 +300,7 @@ pub begun_whole_at : (n : ℕ) → Begun (read_whole n) begins_expression
 begun_whole_at n = (at_level n).begun_whole
 
 -- a part that is so many levels in has at least so many tokens before it
-deep_long : (k n : ℕ) (xs : List Token) (t : Token) → Begins k n xs t → n ≤ length xs
+pub deep_long : (k n : ℕ) (xs : List Token) (t : Token) → Begins k n xs t → n ≤ length xs
 deep_long k n xs t (at_once none v) = omega arith
 deep_long k n xs t (in_brackets {n = m} opened front e opens d) = let more : m ≤ length front = deep_long loosest_level m front t d in let size : length xs ≡ suc (length front) = ap length e in omega arith
 deep_long k n xs t (in_first_argument {n = m} named opened word front e what opens d) =

@@ -8,6 +8,7 @@ mod cursor;
 mod expressions;
 mod found;
 mod kinds;
+mod laws;
 mod limits;
 mod pragmas;
 pub mod reading;
@@ -17,3 +18,4 @@ mod sections;
 mod tests;
 
 pub use calls::{expression, pragma};
+pub use laws::{a_pragma_has_one_answer, an_expression_has_one_answer};
