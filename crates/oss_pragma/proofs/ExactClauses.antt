@@ -173,7 +173,8 @@ module _ {expression : Reader Expr} {X : List Token → Token → Type 0} (part_
 
   depend_deeper : (xs : List Token) (t : Token) → DependingDeep xs t → IsExcessBehind OpensDepend X xs t
   depend_deeper xs t d = let b = d.deep in let x = b.deep in record {
-    front = d.token ∷ b.opened ∷ x.front; inner = x.inner;
+    front = d.token ∷ b.opened ∷ x.front;
+    inner = x.inner;
     split = d.split ∙ ap (λ ys. d.token ∷ ys) (b.split ∙ ap (λ ys. b.opened ∷ ys) x.split);
     opens = depend_sections d.token b.opened d.value.0 d.value.1 x.front refl d.passes b.opens x.opens;
     excess = x.excess;
@@ -181,7 +182,11 @@ module _ {expression : Reader Expr} {X : List Token → Token → Type 0} (part_
 
   depend_upper_by : (xs before inner : List Token) (t : Token) → xs ≡ before ++ inner → X inner t → OpensDepend before → DependingDeep xs t
   depend_upper_by xs before inner t e x (depend_sections p opened mode strong front s a o i) = record {
-    token = p; back = opened ∷ (front ++ inner); value = (mode, strong); split = e ∙ ap (λ ys. ys ++ inner) s; passes = a;
+    token = p;
+    back = opened ∷ (front ++ inner);
+    value = (mode, strong);
+    split = e ∙ ap (λ ys. ys ++ inner) s;
+    passes = a;
     deep = record { opened = opened; inner = front ++ inner; split = refl; opens = o; deep = record { front = front; inner = inner; split = refl; opens = i; excess = x } };
   }
 
@@ -215,7 +220,8 @@ module _ {expression : Reader Expr} {X : List Token → Token → Type 0} (part_
   folded_viable : Viable Folding []
   unfolding fold_of
   folded_viable = let v = bracketed_viable (codes ":") (codes ")") refl refl sections_viable in record {
-    more = record { what = kinds.Symbol (codes "+"); line = 0 } ∷ v.more; value = (fold.Add, v.value);
+    more = record { what = kinds.Symbol (codes "+"); line = 0 } ∷ v.more;
+    value = (fold.Add, v.value);
     member = record { token = record { what = kinds.Symbol (codes "+"); line = 0 }; back = v.more; split = refl; passes = refl; behind = v.member };
   }
 
@@ -230,7 +236,8 @@ module _ {expression : Reader Expr} {X : List Token → Token → Type 0} (part_
 
   opened_viable : Viable (Behind (codes "(") Folding) []
   opened_viable = record {
-    more = record { what = kinds.Symbol (codes "("); line = 0 } ∷ folded_viable.more; value = folded_viable.value;
+    more = record { what = kinds.Symbol (codes "("); line = 0 } ∷ folded_viable.more;
+    value = folded_viable.value;
     member = record { mark = record { what = kinds.Symbol (codes "("); line = 0 }; back = folded_viable.more; split = refl; marks = refl; behind = folded_viable.member };
   }
 
@@ -479,11 +486,16 @@ module _ {expression : Reader Expr} {X : List Token → Token → Type 0} (part_
   lone_back : (s : Single) (found : List Clause) (make : Expr → Clause) (xs : List Token) (t opened : Token) (inner : List Token) (closed : Token) (v : Expr) → xs ≡ t ∷ opened ∷ (inner ++ (closed ∷ []))
       → is_single_word s t.what ≡ true → IsOpen opened → IsClose closed → IsWhole inner v → stands s found ≡ false → Lone s found make xs (make v)
   lone_back s found make xs t opened inner closed v e k o m w free = record {
-    part = v; made = refl;
+    part = v;
+    made = refl;
     whole = record {
-      part = (t.line, v); made = refl;
+      part = (t.line, v);
+      made = refl;
       whole = record {
-        token = t; back = opened ∷ (inner ++ (closed ∷ [])); split = e; passes = tells_single s found t k free;
+        token = t;
+        back = opened ∷ (inner ++ (closed ∷ []));
+        split = e;
+        passes = tells_single s found t k free;
         behind = record { opened = opened; inner = inner; closed = closed; split = refl; opens = o; closes = m; inside = w };
       };
     };
@@ -492,13 +504,23 @@ module _ {expression : Reader Expr} {X : List Token → Token → Type 0} (part_
   clause_back_by : (found : List Clause) (xs : List Token) (c : Clause) → IsClause xs c → IsNew found c → Claused found xs c
   clause_back_by found xs c (dependency w) new = one_way w
   clause_back_by found xs c (reduction {sections = sections} t opened o colon inner closed strong operator e r p f k m w) new = other_way (one_way (record {
-    part = (strong, (operator, sections)); made = refl;
+    part = (strong, (operator, sections));
+    made = refl;
     whole = record {
-      token = t; back = opened ∷ o ∷ colon ∷ (inner ++ (closed ∷ [])); split = e; passes = r;
+      token = t;
+      back = opened ∷ o ∷ colon ∷ (inner ++ (closed ∷ []));
+      split = e;
+      passes = r;
       behind = record {
-        mark = opened; back = o ∷ colon ∷ (inner ++ (closed ∷ [])); split = refl; marks = p;
+        mark = opened;
+        back = o ∷ colon ∷ (inner ++ (closed ∷ []));
+        split = refl;
+        marks = p;
         behind = record {
-          token = o; back = colon ∷ (inner ++ (closed ∷ [])); split = refl; passes = f;
+          token = o;
+          back = colon ∷ (inner ++ (closed ∷ []));
+          split = refl;
+          passes = f;
           behind = record { opened = colon; inner = inner; closed = closed; split = refl; opens = k; closes = m; inside = w };
         };
       };
@@ -510,11 +532,16 @@ module _ {expression : Reader Expr} {X : List Token → Token → Type 0} (part_
   clause_back_by found xs c (waiting t e k) new =
       other_way (other_way (other_way (other_way (one_way (record { part = t.line; made = refl; whole = record { token = t; only = e; passes = tells_single once_wait found t k (new once_wait refl) } })))))
   clause_back_by found xs c (labelled t opened inner closed bytes e k o m l) new = other_way (other_way (other_way (other_way (other_way (one_way (record {
-    part = bytes; made = refl;
+    part = bytes;
+    made = refl;
     whole = record {
-      part = (t.line, bytes); made = refl;
+      part = (t.line, bytes);
+      made = refl;
       whole = record {
-        token = t; back = opened ∷ inner ∷ closed ∷ []; split = e; passes = tells_single once_label found t k (new once_label refl);
+        token = t;
+        back = opened ∷ inner ∷ closed ∷ [];
+        split = e;
+        passes = tells_single once_label found t k (new once_label refl);
         behind = record { opened = opened; inner = inner ∷ []; closed = closed; split = refl; opens = o; closes = m; inside = record { token = inner; only = refl; passes = tells_label inner bytes l } };
       };
     };
@@ -534,7 +561,8 @@ module _ {expression : Reader Expr} {X : List Token → Token → Type 0} (part_
   clause_deeper : (found : List Clause) (xs : List Token) (t : Token) → ClausedDeep found xs t → IsExcessBehind (OpensClause found) X xs t
   clause_deeper found xs t (one_deep d) = record { front = d.front; inner = d.inner; split = d.split; opens = clause_dependency d.opens; excess = d.excess }
   clause_deeper found xs t (other_deep (one_deep d)) = let o = d.deep in let f = o.deep in let k = f.deep in let x = k.deep in record {
-    front = d.token ∷ o.opened ∷ f.token ∷ k.opened ∷ x.front; inner = x.inner;
+    front = d.token ∷ o.opened ∷ f.token ∷ k.opened ∷ x.front;
+    inner = x.inner;
     split = d.split ∙ ap (λ ys. d.token ∷ ys) (o.split ∙ ap (λ ys. o.opened ∷ ys) (f.split ∙ ap (λ ys. f.token ∷ ys) (k.split ∙ ap (λ ys. k.opened ∷ ys) x.split)));
     opens = clause_reduction d.token o.opened f.token k.opened d.value f.value x.front refl d.passes o.opens f.passes k.opens x.opens;
     excess = x.excess;
@@ -551,18 +579,33 @@ module _ {expression : Reader Expr} {X : List Token → Token → Type 0} (part_
   lone_deep : (s : Single) (found : List Clause) (xs before inner : List Token) (t p opened : Token) → xs ≡ before ++ inner → before ≡ p ∷ opened ∷ [] → is_single_word s p.what ≡ true → IsOpen opened
       → count_by (is_single s) found ≡ 0 → X inner t → LoneDeep s found xs t
   lone_deep s found xs before inner t p opened e b k o none x = record {
-    token = p; back = opened ∷ inner; value = p.line; split = e ∙ ap (λ ys. ys ++ inner) b; passes = tells_single s found p k (none_counts (is_single s) found none);
+    token = p;
+    back = opened ∷ inner;
+    value = p.line;
+    split = e ∙ ap (λ ys. ys ++ inner) b;
+    passes = tells_single s found p k (none_counts (is_single s) found none);
     deep = record { opened = opened; inner = inner; split = refl; opens = o; deep = x };
   }
 
   clause_upper_by : (found : List Clause) (xs before inner : List Token) (t : Token) → xs ≡ before ++ inner → X inner t → OpensClause found before → ClausedDeep found xs t
   clause_upper_by found xs before inner t e x (clause_dependency o) = one_deep (record { front = before; inner = inner; split = e; opens = o; excess = x })
   clause_upper_by found xs before inner t e x (clause_reduction p opened o colon strong operator front b r q f k i) = other_deep (one_deep (record {
-    token = p; back = opened ∷ o ∷ colon ∷ (front ++ inner); value = strong; split = e ∙ ap (λ ys. ys ++ inner) b; passes = r;
+    token = p;
+    back = opened ∷ o ∷ colon ∷ (front ++ inner);
+    value = strong;
+    split = e ∙ ap (λ ys. ys ++ inner) b;
+    passes = r;
     deep = record {
-      opened = opened; inner = o ∷ colon ∷ (front ++ inner); split = refl; opens = q;
+      opened = opened;
+      inner = o ∷ colon ∷ (front ++ inner);
+      split = refl;
+      opens = q;
       deep = record {
-        token = o; back = colon ∷ (front ++ inner); value = operator; split = refl; passes = f;
+        token = o;
+        back = colon ∷ (front ++ inner);
+        value = operator;
+        split = refl;
+        passes = f;
         deep = record { opened = colon; inner = front ++ inner; split = refl; opens = k; deep = record { front = front; inner = inner; split = refl; opens = i; excess = x } };
       };
     };

@@ -27,7 +27,9 @@ module _ {A B : Type 0} {f : List Token → Result (A × List Token) Stop} {g : 
     (apart_deep : (ys : List Token) (t : Token) (rest : List Token) → E ys t → begins first (ys ++ (t ∷ rest)) ≡ false) (some : Viable V []) where
   both_into : (xs : List Token) (p : A × B) → Then U (λ a. Mapped (λ b. (a, b)) V) xs p → Both U V xs p
   both_into xs p w = record {
-    front = w.front; back = w.back; split = w.split;
+    front = w.front;
+    back = w.back;
+    split = w.split;
     before = subst (λ a. U w.front a) (ap (λ q. q.0) w.behind.made) w.before;
     behind = subst (λ b. V w.back b) (ap (λ q. q.1) w.behind.made) w.behind.whole;
   }
@@ -143,13 +145,21 @@ module _ {A B C : Type 0} (test : Token → Option A) (last : Token → Option C
     (viable : Viable U []) (apart : (t : Token) → has last t ≡ true → goes t ≡ false) (other : Token) (end : C) (closes : last other ≡ Some end) where
   enclosed_into : (xs : List Token) (p : A × (B × C)) → Headed test (Trailed last U) xs p → Enclosed test last U xs p
   enclosed_into xs p w = record {
-    opened = w.token; inner = w.behind.inner; closed = w.behind.closed;
-    split = w.split ∙ ap (λ ys. w.token ∷ ys) w.behind.split; opens = w.passes; closes = w.behind.passes; inside = w.behind.inside;
+    opened = w.token;
+    inner = w.behind.inner;
+    closed = w.behind.closed;
+    split = w.split ∙ ap (λ ys. w.token ∷ ys) w.behind.split;
+    opens = w.passes;
+    closes = w.behind.passes;
+    inside = w.behind.inside;
   }
 
   enclosed_back : (xs : List Token) (p : A × (B × C)) → Enclosed test last U xs p → Headed test (Trailed last U) xs p
   enclosed_back xs p w = record {
-    token = w.opened; back = w.inner ++ (w.closed ∷ []); split = w.split; passes = w.opens;
+    token = w.opened;
+    back = w.inner ++ (w.closed ∷ []);
+    split = w.split;
+    passes = w.opens;
     behind = record { inner = w.inner; closed = w.closed; split = refl; passes = w.closes; inside = w.inside };
   }
 
@@ -199,8 +209,13 @@ module _ {B : Type 0} (s e : List ℕ) {f : List Token → Result (B × List Tok
     (viable : Viable U []) (apart : (t : Token) → has (symbol_at e) t ≡ true → goes t ≡ false) (same_s : bytes_eq s s ≡ true) (same_e : bytes_eq e e ≡ true) where
   bracketed_into : (xs : List Token) (b : B) → Mapped middle (Enclosed (symbol_at s) (symbol_at e) U) xs b → Bracketed s e U xs b
   bracketed_into xs b w = record {
-    opened = w.whole.opened; inner = w.whole.inner; closed = w.whole.closed; split = w.whole.split;
-    opens = symbol_token s w.whole.opened w.part.0 w.whole.opens; closes = symbol_token e w.whole.closed w.part.1.1 w.whole.closes; inside = subst (λ b. U w.whole.inner b) w.made w.whole.inside;
+    opened = w.whole.opened;
+    inner = w.whole.inner;
+    closed = w.whole.closed;
+    split = w.whole.split;
+    opens = symbol_token s w.whole.opened w.part.0 w.whole.opens;
+    closes = symbol_token e w.whole.closed w.part.1.1 w.whole.closes;
+    inside = subst (λ b. U w.whole.inner b) w.made w.whole.inside;
   }
 
   bracketed_back : (xs : List Token) (b : B) → Bracketed s e U xs b → Mapped middle (Enclosed (symbol_at s) (symbol_at e) U) xs b
@@ -225,7 +240,8 @@ module _ {B : Type 0} (s e : List ℕ) {f : List Token → Result (B × List Tok
 
 pub bracketed_viable : {B : Type 0} (s e : List ℕ) {U : List Token → B → Type 0} → bytes_eq s s ≡ true → bytes_eq e e ≡ true → Viable U [] → Viable (Bracketed s e U) []
 bracketed_viable s e same_s same_e v = record {
-  more = record { what = kinds.Symbol s; line = 0 } ∷ (v.more ++ (record { what = kinds.Symbol e; line = 0 } ∷ [])); value = v.value;
+  more = record { what = kinds.Symbol s; line = 0 } ∷ (v.more ++ (record { what = kinds.Symbol e; line = 0 } ∷ []));
+  value = v.value;
   member = record { opened = record { what = kinds.Symbol s; line = 0 }; inner = v.more; closed = record { what = kinds.Symbol e; line = 0 }; split = refl; opens = same_s; closes = same_e; inside = v.member };
 }
 
@@ -244,7 +260,10 @@ module _ {B : Type 0} (s : List ℕ) {f : List Token → Result (B × List Token
     (viable : Viable U []) (same_s : bytes_eq s s ≡ true) where
   behind_into : (xs : List Token) (b : B) → Mapped latter (Headed (symbol_at s) U) xs b → Behind s U xs b
   behind_into xs b w = record {
-    mark = w.whole.token; back = w.whole.back; split = w.whole.split; marks = symbol_token s w.whole.token w.part.0 w.whole.passes;
+    mark = w.whole.token;
+    back = w.whole.back;
+    split = w.whole.split;
+    marks = symbol_token s w.whole.token w.part.0 w.whole.passes;
     behind = subst (λ b. U w.whole.back b) w.made w.whole.behind;
   }
 

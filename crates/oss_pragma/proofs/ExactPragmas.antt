@@ -184,15 +184,21 @@ module _ {expression : Reader Expr} {X : List Token → Token → Type 0} (part_
 
   clauses_deeper : (xs : List Token) (t : Token) → RowsDeep NewOrComma ClauseDeep [] xs t → IsExcessBehind OpensClauses X xs t
   clauses_deeper xs t w = let x = after_deeper w.back t w.deep in record {
-    front = w.front ++ x.front; inner = x.inner; split = w.split ∙ (ap (λ ys. w.front ++ ys) x.split ∙ sym (append_assoc w.front x.front x.inner));
+    front = w.front ++ x.front;
+    inner = x.inner;
+    split = w.split ∙ (ap (λ ys. w.front ++ ys) x.split ∙ sym (append_assoc w.front x.front x.inner));
     opens = behind_clauses w.front x.front refl (rows_clauses [] w.front w.more w.rows) (rows_once [] w.front w.more once_none w.rows) x.opens;
     excess = x.excess;
   }
 
   clauses_upper_by : (xs before inner : List Token) (t : Token) → xs ≡ before ++ inner → X inner t → OpensClauses before → RowsDeep NewOrComma ClauseDeep [] xs t
   clauses_upper_by xs before inner t e x (behind_clauses {found = found} front back s w once o) = record {
-    front = front; back = back ++ inner; more = found; split = e ∙ (ap (λ ys. ys ++ inner) s ∙ append_assoc front back inner);
-    rows = clauses_rows [] front found once w; deep = after_upper back inner t x o;
+    front = front;
+    back = back ++ inner;
+    more = found;
+    split = e ∙ (ap (λ ys. ys ++ inner) s ∙ append_assoc front back inner);
+    rows = clauses_rows [] front found once w;
+    deep = after_upper back inner t x o;
   }
 
   clauses_upper : (xs : List Token) (t : Token) → IsExcessBehind OpensClauses X xs t → RowsDeep NewOrComma ClauseDeep [] xs t
@@ -268,18 +274,31 @@ module _ {expression : Reader Expr} {X : List Token → Token → Type 0} (part_
 
   depends_into : (xs : List Token) (cs : List Clause) → Depends xs cs → IsDepends xs cs
   depends_into xs cs w = record {
-    front = w.front; back = w.back; one = w.value; more = w.behind.more; split = w.split; all = w.behind.ends; before = w.before; behind = rows_depends (w.value ∷ []) w.back w.behind.more w.behind.rows;
+    front = w.front;
+    back = w.back;
+    one = w.value;
+    more = w.behind.more;
+    split = w.split;
+    all = w.behind.ends;
+    before = w.before;
+    behind = rows_depends (w.value ∷ []) w.back w.behind.more w.behind.rows;
   }
 
   depends_back : (xs : List Token) (cs : List Clause) → IsDepends xs cs → Depends xs cs
   depends_back xs cs w = record {
-    front = w.front; back = w.back; value = w.one; split = w.split; before = w.before; behind = record { more = w.more; ends = w.all; rows = depends_rows (w.one ∷ []) w.back w.more w.behind };
+    front = w.front;
+    back = w.back;
+    value = w.one;
+    split = w.split;
+    before = w.before;
+    behind = record { more = w.more; ends = w.all; rows = depends_rows (w.one ∷ []) w.back w.more w.behind };
   }
 
   depends_deeper : (xs : List Token) (t : Token) → DependsDeep xs t → IsExcessBehind OpensDepends X xs t
   depends_deeper xs t (ThenDeep.in_first x) = record { front = x.front; inner = x.inner; split = x.split; opens = in_one_depend x.opens; excess = x.excess }
   depends_deeper xs t (ThenDeep.in_second front back c e w d) = let x = after_deeper d.back t d.deep in record {
-    front = front ++ (d.front ++ x.front); inner = x.inner;
+    front = front ++ (d.front ++ x.front);
+    inner = x.inner;
     split = e ∙ (ap (λ ys. front ++ ys) (d.split ∙ (ap (λ ys. d.front ++ ys) x.split ∙ sym (append_assoc d.front x.front x.inner))) ∙ sym (append_assoc front (d.front ++ x.front) x.inner));
     opens = in_more_depends front d.front x.front refl w (rows_depends (c ∷ []) d.front d.more d.rows) x.opens;
     excess = x.excess;
@@ -302,7 +321,8 @@ module _ {expression : Reader Expr} {X : List Token → Token → Type 0} (part_
 
   depends_viable : Viable IsDepends []
   depends_viable = let v = depend_viable in record {
-    more = v.more; value = v.value ∷ [];
+    more = v.more;
+    value = v.value ∷ [];
     member = record { front = v.more; back = []; one = v.value; more = []; split = sym (append-nil v.more); all = refl; before = v.member; behind = no_depend refl };
   }
 
@@ -330,7 +350,8 @@ module _ {expression : Reader Expr} {X : List Token → Token → Type 0} (part_
     more = record { what = kinds.Name (codes "task"); line = 0 } ∷ record { what = kinds.PragmaEnd; line = 0 } ∷ [];
     value = task_of line (0, ([], 0));
     member = record {
-      part = (0, ([], 0)); made = refl;
+      part = (0, ([], 0));
+      made = refl;
       whole = record { opened = record { what = kinds.Name (codes "task"); line = 0 }; inner = []; closed = record { what = kinds.PragmaEnd; line = 0 }; split = refl; opens = refl; closes = refl; inside = record { clauses = no_clause refl; once = once_none } };
     };
   }
@@ -368,7 +389,8 @@ module _ {expression : Reader Expr} {X : List Token → Token → Type 0} (part_
 
   waiting_viable : (line : ℕ) → Viable (WaitingFor line) []
   waiting_viable line = record {
-    more = record { what = kinds.PragmaEnd; line = 0 } ∷ []; value = directive.TaskWait None;
+    more = record { what = kinds.PragmaEnd; line = 0 } ∷ [];
+    value = directive.TaskWait None;
     member = other_way (record { part = 0; made = refl; whole = record { token = record { what = kinds.PragmaEnd; line = 0 }; only = refl; passes = refl } });
   }
 
@@ -479,30 +501,57 @@ module _ {expression : Reader Expr} {X : List Token → Token → Type 0} (part_
 
   pragma_back : (xs : List Token) (d : Directive) → IsPragma xs d → Started xs d
   pragma_back xs d (task {clauses = cs} start word inner end e s k n w once) = record {
-    front = start ∷ []; back = word ∷ (inner ++ (end ∷ [])); value = start.line; split = e; before = one_start start s;
+    front = start ∷ [];
+    back = word ∷ (inner ++ (end ∷ []));
+    value = start.line;
+    split = e;
+    before = one_start start s;
     behind = one_way (record {
-      part = (word.line, (cs, end.line)); made = refl;
+      part = (word.line, (cs, end.line));
+      made = refl;
       whole = record { opened = word; inner = inner; closed = end; split = refl; opens = tells_word (codes "task") word k; closes = tells_end end n; inside = record { clauses = w; once = once } };
     });
   }
   pragma_back xs d (wait_all start word end e s k n) = record {
-    front = start ∷ []; back = word ∷ end ∷ []; value = start.line; split = e; before = one_start start s;
+    front = start ∷ [];
+    back = word ∷ end ∷ [];
+    value = start.line;
+    split = e;
+    before = one_start start s;
     behind = other_way (one_way (record {
-      front = word ∷ []; back = end ∷ []; value = word.line; split = refl; before = one_wait word k;
+      front = word ∷ [];
+      back = end ∷ [];
+      value = word.line;
+      split = refl;
+      before = one_wait word k;
       behind = other_way (record { part = end.line; made = refl; whole = record { token = end; only = refl; passes = tells_end end n } });
     }));
   }
   pragma_back xs d (wait_on {sections = sections} start word on opened inner closed end e s k o p q n w) = record {
-    front = start ∷ []; back = word ∷ on ∷ opened ∷ (inner ++ (closed ∷ end ∷ [])); value = start.line; split = e; before = one_start start s;
+    front = start ∷ [];
+    back = word ∷ on ∷ opened ∷ (inner ++ (closed ∷ end ∷ []));
+    value = start.line;
+    split = e;
+    before = one_start start s;
     behind = other_way (one_way (record {
-      front = word ∷ []; back = on ∷ opened ∷ (inner ++ (closed ∷ end ∷ [])); value = word.line; split = refl; before = one_wait word k;
+      front = word ∷ [];
+      back = on ∷ opened ∷ (inner ++ (closed ∷ end ∷ []));
+      value = word.line;
+      split = refl;
+      before = one_wait word k;
       behind = one_way (record {
-        part = sections; made = refl;
+        part = sections;
+        made = refl;
         whole = record {
-          part = (on.line, (sections, end.line)); made = refl;
+          part = (on.line, (sections, end.line));
+          made = refl;
           whole = record {
-            opened = on; inner = opened ∷ (inner ++ (closed ∷ [])); closed = end; split = ap (λ ys. on ∷ opened ∷ ys) (sym (append_assoc inner (closed ∷ []) (end ∷ [])));
-            opens = tells_word (codes "on") on o; closes = tells_end end n;
+            opened = on;
+            inner = opened ∷ (inner ++ (closed ∷ []));
+            closed = end;
+            split = ap (λ ys. on ∷ opened ∷ ys) (sym (append_assoc inner (closed ∷ []) (end ∷ [])));
+            opens = tells_word (codes "on") on o;
+            closes = tells_end end n;
             inside = record { opened = opened; inner = inner; closed = closed; split = refl; opens = p; closes = q; inside = w };
           };
         };
@@ -510,12 +559,21 @@ module _ {expression : Reader Expr} {X : List Token → Token → Type 0} (part_
     }));
   }
   pragma_back xs d (release {c = c} {more = more} start word front back end e s k n w r) = record {
-    front = start ∷ []; back = word ∷ (front ++ (back ++ (end ∷ []))); value = start.line; split = e; before = one_start start s;
+    front = start ∷ [];
+    back = word ∷ (front ++ (back ++ (end ∷ [])));
+    value = start.line;
+    split = e;
+    before = one_start start s;
     behind = other_way (other_way (record {
-      part = (word.line, (c ∷ more, end.line)); made = refl;
+      part = (word.line, (c ∷ more, end.line));
+      made = refl;
       whole = record {
-        opened = word; inner = front ++ back; closed = end; split = ap (λ ys. word ∷ ys) (sym (append_assoc front back (end ∷ [])));
-        opens = tells_word (codes "release") word k; closes = tells_end end n;
+        opened = word;
+        inner = front ++ back;
+        closed = end;
+        split = ap (λ ys. word ∷ ys) (sym (append_assoc front back (end ∷ [])));
+        opens = tells_word (codes "release") word k;
+        closes = tells_end end n;
         inside = record { front = front; back = back; one = c; more = more; split = refl; all = refl; before = w; behind = r };
       };
     }));
@@ -524,18 +582,28 @@ module _ {expression : Reader Expr} {X : List Token → Token → Type 0} (part_
   task_place : (xs back : List Token) (start word : Token) (t : Token) → xs ≡ start ∷ word ∷ back → start.what ≡ kinds.PragmaOss → IsWord (codes "task") word → (x : IsExcessBehind OpensClauses X back t) → OpensClauses x.front
       → IsExcessBehind OpensPragma X xs t
   task_place xs back start word t e s k x (behind_clauses front left b w once o) = record {
-    front = start ∷ word ∷ x.front; inner = x.inner; split = e ∙ ap (λ ys. start ∷ word ∷ ys) x.split;
-    opens = in_task start word front left (ap (λ ys. start ∷ word ∷ ys) b) s k w once o; excess = x.excess;
+    front = start ∷ word ∷ x.front;
+    inner = x.inner;
+    split = e ∙ ap (λ ys. start ∷ word ∷ ys) x.split;
+    opens = in_task start word front left (ap (λ ys. start ∷ word ∷ ys) b) s k w once o;
+    excess = x.excess;
   }
 
   release_place : (xs back : List Token) (start word : Token) (t : Token) → xs ≡ start ∷ word ∷ back → start.what ≡ kinds.PragmaOss → IsWord (codes "release") word → (x : IsExcessBehind OpensDepends X back t) → OpensDepends x.front
       → IsExcessBehind OpensPragma X xs t
   release_place xs back start word t e s k x (in_one_depend o) = record {
-    front = start ∷ word ∷ x.front; inner = x.inner; split = e ∙ ap (λ ys. start ∷ word ∷ ys) x.split; opens = in_release start word x.front refl s k o; excess = x.excess;
+    front = start ∷ word ∷ x.front;
+    inner = x.inner;
+    split = e ∙ ap (λ ys. start ∷ word ∷ ys) x.split;
+    opens = in_release start word x.front refl s k o;
+    excess = x.excess;
   }
   release_place xs back start word t e s k x (in_more_depends front between left b w m o) = record {
-    front = start ∷ word ∷ x.front; inner = x.inner; split = e ∙ ap (λ ys. start ∷ word ∷ ys) x.split;
-    opens = in_more_release start word front between left (ap (λ ys. start ∷ word ∷ ys) b) s k w m o; excess = x.excess;
+    front = start ∷ word ∷ x.front;
+    inner = x.inner;
+    split = e ∙ ap (λ ys. start ∷ word ∷ ys) x.split;
+    opens = in_more_release start word front between left (ap (λ ys. start ∷ word ∷ ys) b) s k w m o;
+    excess = x.excess;
   }
 
   directed_deeper : (xs front back : List Token) (line : ℕ) (t : Token) → xs ≡ front ++ back → One start_at front line → DirectedDeep line back t → IsExcessBehind OpensPragma X xs t
@@ -543,7 +611,8 @@ module _ {expression : Reader Expr} {X : List Token → Token → Type 0} (part_
       task_place xs d.back s.token d.token t (e ∙ (ap (λ ys. ys ++ back) s.only ∙ ap (λ ys. s.token ∷ ys) d.split)) (start_what s.token.what s.token.line line s.passes) (word_told (codes "task") d.token d.value d.passes) d.deep d.deep.opens
   directed_deeper xs front back line t e s (other_deep (one_deep (ThenDeep.in_first d))) = nowhere back t d
   directed_deeper xs front back line t e s (other_deep (one_deep (ThenDeep.in_second one left n b w (one_deep d)))) = let k = d.deep in let x = k.deep in record {
-    front = s.token ∷ w.token ∷ d.token ∷ k.opened ∷ x.front; inner = x.inner;
+    front = s.token ∷ w.token ∷ d.token ∷ k.opened ∷ x.front;
+    inner = x.inner;
     split = e ∙ (ap (λ ys. ys ++ back) s.only ∙ ap (λ ys. s.token ∷ ys) (b ∙ (ap (λ ys. ys ++ left) w.only ∙ ap (λ ys. w.token ∷ ys) (d.split ∙ ap (λ ys. d.token ∷ ys) (k.split ∙ ap (λ ys. k.opened ∷ ys) x.split)))));
     opens = in_wait s.token w.token d.token k.opened x.front refl (start_what s.token.what s.token.line line s.passes) (word_told (codes "taskwait") w.token n w.passes) (word_told (codes "on") d.token d.value d.passes) k.opens x.opens;
     excess = x.excess;
@@ -562,23 +631,39 @@ module _ {expression : Reader Expr} {X : List Token → Token → Type 0} (part_
   pragma_upper_by : (xs before inner : List Token) (t : Token) → xs ≡ before ++ inner → X inner t → OpensPragma before → StartedDeep xs t
   pragma_upper_by xs before inner t e x (in_task start word front back b s k w once o) =
       started xs before inner (word ∷ ((front ++ back) ++ inner)) start t e (ap (λ ys. ys ++ inner) b) s (one_deep (record {
-        token = word; back = (front ++ back) ++ inner; value = word.line; split = refl; passes = tells_word (codes "task") word k;
+        token = word;
+        back = (front ++ back) ++ inner;
+        value = word.line;
+        split = refl;
+        passes = tells_word (codes "task") word k;
         deep = record { front = front ++ back; inner = inner; split = refl; opens = behind_clauses front back refl w once o; excess = x };
       }))
   pragma_upper_by xs before inner t e x (in_wait start word on opened front b s k o p i) =
       started xs before inner (word ∷ on ∷ opened ∷ (front ++ inner)) start t e (ap (λ ys. ys ++ inner) b) s (other_deep (one_deep (ThenDeep.in_second (word ∷ []) (on ∷ opened ∷ (front ++ inner)) word.line refl (one_wait word k)
       (one_deep (record {
-        token = on; back = opened ∷ (front ++ inner); value = on.line; split = refl; passes = tells_word (codes "on") on o;
+        token = on;
+        back = opened ∷ (front ++ inner);
+        value = on.line;
+        split = refl;
+        passes = tells_word (codes "on") on o;
         deep = record { opened = opened; inner = front ++ inner; split = refl; opens = p; deep = record { front = front; inner = inner; split = refl; opens = i; excess = x } };
       })))))
   pragma_upper_by xs before inner t e x (in_release start word front b s k o) =
       started xs before inner (word ∷ (front ++ inner)) start t e (ap (λ ys. ys ++ inner) b) s (other_deep (other_deep (record {
-        token = word; back = front ++ inner; value = word.line; split = refl; passes = tells_word (codes "release") word k;
+        token = word;
+        back = front ++ inner;
+        value = word.line;
+        split = refl;
+        passes = tells_word (codes "release") word k;
         deep = record { front = front; inner = inner; split = refl; opens = in_one_depend o; excess = x };
       })))
   pragma_upper_by xs before inner t e x (in_more_release start word front between back b s k w m o) =
       started xs before inner (word ∷ ((front ++ (between ++ back)) ++ inner)) start t e (ap (λ ys. ys ++ inner) b) s (other_deep (other_deep (record {
-        token = word; back = (front ++ (between ++ back)) ++ inner; value = word.line; split = refl; passes = tells_word (codes "release") word k;
+        token = word;
+        back = (front ++ (between ++ back)) ++ inner;
+        value = word.line;
+        split = refl;
+        passes = tells_word (codes "release") word k;
         deep = record { front = front ++ (between ++ back); inner = inner; split = refl; opens = in_more_depends front between back refl w m o; excess = x };
       })))
 

@@ -59,7 +59,9 @@ module _ {A : Type 0} {starts : List A → Token → Bool} {f : List A → List 
   rows_deeper found xs t (in_this d) = record { front = []; back = xs; more = []; split = refl; rows = no_row refl; deep = subst (λ z. D z xs t) (sym (append-nil found)) d }
   rows_deeper found xs t (in_later {next = next} front back e w d) =
       let r : RowsDeep G D next back t = rows_deeper next back t d in record {
-        front = front ++ r.front; back = r.back; more = w.part ∷ r.more;
+        front = front ++ r.front;
+        back = r.back;
+        more = w.part ∷ r.more;
         split = e ∙ (ap (λ ys. front ++ ys) r.split ∙ sym (append_assoc front r.front r.back));
         rows = next_row front r.front refl w.whole (subst (λ z. Rows G z r.front r.more) (sym w.made) r.rows);
         deep = subst (λ z. D z r.back t) (sym (one_more found r.more (next ++ r.more) w.part next w.made refl)) r.deep;

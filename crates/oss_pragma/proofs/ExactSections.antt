@@ -201,14 +201,24 @@ module _ {expression : Reader Expr} {X : List Token → Token → Type 0} (part_
   inner_back : (xs : List Token) (c : Form) → IsInner xs c → Inner xs c
   inner_back xs c (element {e = v} w) = other_way (record { front = xs; back = []; value = v; split = sym (append-nil xs); before = w; behind = other_way (other_way (record { nothing = refl; same = refl })) })
   inner_back xs c (counted {first = a} {count = b} front mark back e s v w) = other_way (record {
-    front = front; back = mark ∷ back; value = a; split = e; before = v;
+    front = front;
+    back = mark ∷ back;
+    value = a;
+    split = e;
+    before = v;
     behind = one_way (record { part = b; made = refl; whole = record { mark = mark; back = back; split = refl; marks = s; behind = w } });
   })
   inner_back xs c (ranged {last = b} front mark back e s (left_out none) w) = one_way (record {
-    part = b; made = refl; whole = record { mark = mark; back = back; split = e ∙ ap (λ ys. ys ++ (mark ∷ back)) none; marks = s; behind = w };
+    part = b;
+    made = refl;
+    whole = record { mark = mark; back = back; split = e ∙ ap (λ ys. ys ++ (mark ∷ back)) none; marks = s; behind = w };
   })
   inner_back xs c (ranged {last = b} front mark back e s (given {e = a} v) w) = other_way (record {
-    front = front; back = mark ∷ back; value = a; split = e; before = v;
+    front = front;
+    back = mark ∷ back;
+    value = a;
+    split = e;
+    before = v;
     behind = other_way (one_way (record { part = b; made = refl; whole = record { mark = mark; back = back; split = refl; marks = s; behind = w } }));
   })
 
@@ -282,7 +292,8 @@ module _ {expression : Reader Expr} {X : List Token → Token → Type 0} (part_
 
   named_viable : Viable (Headed (symbol_at (codes "]")) (One name_at)) []
   named_viable = record {
-    more = record { what = kinds.Symbol (codes "]"); line = 0 } ∷ name_viable.more; value = (0, name_viable.value);
+    more = record { what = kinds.Symbol (codes "]"); line = 0 } ∷ name_viable.more;
+    value = (0, name_viable.value);
     member = record { token = record { what = kinds.Symbol (codes "]"); line = 0 }; back = name_viable.more; split = refl; passes = refl; behind = name_viable.member };
   }
 
@@ -299,8 +310,11 @@ module _ {expression : Reader Expr} {X : List Token → Token → Type 0} (part_
   exact_shape : Exact (read_shape expression) Shaped ShapedDeep never
   unfolding read_shape
   exact_shape = exact_mapped shape_section (exact_headed (symbol_at (codes "[")) exact_counted (record { what = kinds.Symbol (codes "["); line = 0 }) 0 refl
-      (record { more = whole_viable.more ++ named_viable.more; value = (whole_viable.value, named_viable.value);
-      member = record { front = whole_viable.more; back = named_viable.more; split = refl; before = whole_viable.member; behind = named_viable.member } }))
+      (record {
+        more = whole_viable.more ++ named_viable.more;
+        value = (whole_viable.value, named_viable.value);
+        member = record { front = whole_viable.more; back = named_viable.more; split = refl; before = whole_viable.member; behind = named_viable.member };
+      }))
 
   begun_shape : Begun (read_shape expression) (has (symbol_at (codes "[")))
   unfolding read_shape
@@ -376,7 +390,12 @@ module _ {expression : Reader Expr} {X : List Token → Token → Type 0} (part_
 
   section_back : (xs : List Token) (s : Section) → IsSection xs s → Sectioned xs s
   section_back xs s (whole t base e n) = other_way (other_way (record {
-    front = t ∷ []; back = []; value = record { name = base; line = t.line }; split = e; before = one_name t base n; behind = other_way (record { nothing = refl; same = refl });
+    front = t ∷ [];
+    back = [];
+    value = record { name = base; line = t.line };
+    split = e;
+    before = one_name t base n;
+    behind = other_way (record { nothing = refl; same = refl });
   }))
   section_back xs s (pointed star t base e m n) = one_way (record {
     part = (star.line, record { name = base; line = t.line });
@@ -387,15 +406,25 @@ module _ {expression : Reader Expr} {X : List Token → Token → Type 0} (part_
     part = (opened.line, (c, (closed.line, record { name = base; line = t.line })));
     made = refl;
     whole = record {
-      token = opened; back = inner ++ (closed ∷ t ∷ []); split = e; passes = symbol_value (codes "[") opened o;
+      token = opened;
+      back = inner ++ (closed ∷ t ∷ []);
+      split = e;
+      passes = symbol_value (codes "[") opened o;
       behind = record {
-        front = inner; back = closed ∷ t ∷ []; split = refl; before = w;
+        front = inner;
+        back = closed ∷ t ∷ [];
+        split = refl;
+        before = w;
         behind = record { token = closed; back = t ∷ []; split = refl; passes = symbol_value (codes "]") closed m; behind = one_name t base n };
       };
     };
   }))
   section_back xs s (part {cells = c} t base opened inner closed e n o m w) = other_way (other_way (record {
-    front = t ∷ []; back = opened ∷ (inner ++ (closed ∷ [])); value = record { name = base; line = t.line }; split = e; before = one_name t base n;
+    front = t ∷ [];
+    back = opened ∷ (inner ++ (closed ∷ []));
+    value = record { name = base; line = t.line };
+    split = e;
+    before = one_name t base n;
     behind = one_way (record { part = c; made = refl; whole = record { opened = opened; inner = inner; closed = closed; split = refl; opens = o; closes = m; inside = w } });
   }))
 
@@ -407,7 +436,8 @@ module _ {expression : Reader Expr} {X : List Token → Token → Type 0} (part_
     shape_deeper back (ThenDeep.in_second front left a s w h) e = nowhere h.back t h.deep
   section_deeper xs t (other_deep (other_deep (ThenDeep.in_first d))) = nowhere xs t d
   section_deeper xs t (other_deep (other_deep (ThenDeep.in_second front back base e n (one_deep d)))) = let x = d.deep in record {
-    front = n.token ∷ d.opened ∷ x.front; inner = x.inner;
+    front = n.token ∷ d.opened ∷ x.front;
+    inner = x.inner;
     split = e ∙ (ap (λ ys. ys ++ back) n.only ∙ ap (λ ys. n.token ∷ ys) (d.split ∙ ap (λ ys. d.opened ∷ ys) x.split));
     opens = section_part n.token base.name d.opened x.front refl ((name_is n.token.what n.token.line base n.passes).what) d.opens x.opens;
     excess = x.excess;
@@ -464,7 +494,8 @@ module _ {expression : Reader Expr} {X : List Token → Token → Type 0} (part_
   sections_deeper : (xs : List Token) (t : Token) → ListedDeep IsSection (IsExcessBehind OpensSection X) xs t → IsExcessBehind OpensSections X xs t
   sections_deeper xs t (deep_first d) = record { front = d.front; inner = d.inner; split = d.split; opens = sections_first d.opens; excess = d.excess }
   sections_deeper xs t (deep_later a front comma back e w c d) = let x = sections_deeper back t d in record {
-    front = front ++ (comma ∷ x.front); inner = x.inner;
+    front = front ++ (comma ∷ x.front);
+    inner = x.inner;
     split = e ∙ (ap (λ ys. front ++ (comma ∷ ys)) x.split ∙ sym (append_assoc front (comma ∷ x.front) x.inner));
     opens = sections_later front comma x.front refl w c x.opens;
     excess = x.excess;
@@ -488,6 +519,7 @@ module _ {expression : Reader Expr} {X : List Token → Token → Type 0} (part_
 
 pub sections_viable : Viable IsSections []
 sections_viable = record {
-  more = record { what = kinds.Name []; line = 0 } ∷ []; value = record { base = []; form = form.Whole; line = 0 } ∷ [];
+  more = record { what = kinds.Name []; line = 0 } ∷ [];
+  value = record { base = []; form = form.Whole; line = 0 } ∷ [];
   member = last_section (whole (record { what = kinds.Name []; line = 0 }) [] refl refl);
 }

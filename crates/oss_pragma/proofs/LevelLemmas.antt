@@ -129,7 +129,8 @@ module _ (m n : ℕ) {f : Reader Expr} {goes : Token → Bool} (part : Exact f (
 
   step_of : (t : Token) (operator : BinOp) (back : List Token) (left right : Expr) → operator_of t.what ≡ Some (level, operator) → IsExpr tight back right → Step left (t ∷ back) (joined_to left (operator, right))
   step_of t operator back left right is w = record {
-    part = (operator, right); made = refl;
+    part = (operator, right);
+    made = refl;
     whole = record { front = t ∷ []; back = back; split = refl; before = record { token = t; only = refl; passes = operator_value level t operator is }; behind = w };
   }
 
@@ -138,7 +139,10 @@ module _ (m n : ℕ) {f : Reader Expr} {goes : Token → Bool} (part : Exact f (
   out_of_level xs e (joined {a = left} {b = right} front t operator back split is w v) = from (out_of_level front left w) where
     from : Parts front left → Parts xs e
     from u = record {
-      front = u.front; back = u.back ++ (t ∷ back); value = u.value; before = u.before;
+      front = u.front;
+      back = u.back ++ (t ∷ back);
+      value = u.value;
+      before = u.before;
       split = split ∙ (ap (λ ys. ys ++ (t ∷ back)) u.split ∙ append_assoc u.front u.back (t ∷ back));
       behind = steps_more u.value left e u.back (t ∷ back) u.behind (once_more (t ∷ back) [] (sym (append-nil (t ∷ back))) (step_of t operator back left right is v) (over refl));
     }

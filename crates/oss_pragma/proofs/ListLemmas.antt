@@ -147,7 +147,13 @@ module _ {A : Type 0} {f : List Token → Result (A × List Token) Stop} {U : Li
   split_of xs (a ∷ more) (next_part front mark back e c w v) = from (split_of back more v) where
     from : Split back more → Split xs (a ∷ more)
     from u = record {
-      front = front; back = mark ∷ back; value = a; more = more; split = e; all = refl; before = w;
+      front = front;
+      back = mark ∷ back;
+      value = a;
+      more = more;
+      split = e;
+      all = refl;
+      before = w;
       behind = subst (λ ys. Follow U (mark ∷ back) ys) u.all (some mark u.front u.back (ap (λ ys. mark ∷ ys) u.split) c u.before u.behind);
     }
 

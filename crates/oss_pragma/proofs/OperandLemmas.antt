@@ -165,13 +165,24 @@ module _ {inner : Reader Expr} {n : ℕ} (part : Exact inner IsWhole (Begins loo
 
   out_of_postfix : (xs : List Token) (e : Expr) → IsExpr postfix_level xs e → PostfixParts xs e
   out_of_postfix xs e (index {a = a} {e = at} front opened closed inner split opens closes base v) = record {
-    front = front; back = opened ∷ (inner ++ (closed ∷ [])); value = a; split = split; before = base;
+    front = front;
+    back = opened ∷ (inner ++ (closed ∷ []));
+    value = a;
+    split = split;
+    before = base;
     behind = one_way (record {
-      part = at; made = refl;
+      part = at;
+      made = refl;
       whole = record {
-        part = (opened.line, (at, closed.line)); made = refl;
-        whole = record { front = opened ∷ []; back = inner ++ (closed ∷ []); split = refl; before = symbol_one (codes "[") opened opens;
-          behind = record { front = inner; back = closed ∷ []; split = refl; before = v; behind = symbol_one (codes "]") closed closes } };
+        part = (opened.line, (at, closed.line));
+        made = refl;
+        whole = record {
+          front = opened ∷ [];
+          back = inner ++ (closed ∷ []);
+          split = refl;
+          before = symbol_one (codes "[") opened opens;
+          behind = record { front = inner; back = closed ∷ []; split = refl; before = v; behind = symbol_one (codes "]") closed closes };
+        };
       };
     });
   }
@@ -247,8 +258,8 @@ module _ {inner : Reader Expr} {n : ℕ} (part : Exact inner IsWhole (Begins loo
     signed_is line None sign at e = absurd (cc)
     signed_is line (Some s) sign at e = let p : UnOp × ℕ = (s, line) in let q : UnOp × ℕ = (sign, at) in let same : p ≡ q = some_is p q e in
         (ap (λ (r : UnOp × ℕ). Some r.0) same, ap (λ (r : UnOp × ℕ). r.1) (sym same)) where
-      some_is : (a b : UnOp × ℕ) → Some a ≡ Some b → a ≡ b
-      some_is a b e = cc
+          some_is : (a b : UnOp × ℕ) → Some a ≡ Some b → a ≡ b
+          some_is a b e = cc
 
     signed_value : (t : Token) (sign : UnOp) → prefix_of t.what ≡ Some sign → prefix_at t ≡ Some (sign, t.line)
     signed_value t sign e = ap (signed_in t.line) e
@@ -263,7 +274,8 @@ module _ {inner : Reader Expr} {n : ℕ} (part : Exact inner IsWhole (Begins loo
 
     out_of_unary : (xs : List Token) (e : Expr) → IsExpr prefix_level xs e → UnaryParts xs e
     out_of_unary xs e (prefixed {e = under} t sign operand split is w) = one_way (record {
-      part = ((sign, t.line), under); made = refl;
+      part = ((sign, t.line), under);
+      made = refl;
       whole = record { front = t ∷ []; back = operand; split = split; before = record { token = t; only = refl; passes = signed_value t sign is }; behind = w };
     })
     out_of_unary xs e (joined front t operator back split is a b) = absurd (no_level_two t.what operator is)

@@ -88,11 +88,16 @@ module _ {inner : Reader Expr} {B : List Token → Token → Type 0} (part : Exa
 
   into_closed : (xs : List Token) (values : List Expr) → Either (Mapped (λ line. []) (One (symbol_at (codes ")")))) ListThenClose xs values → Closed xs values
   into_closed xs values (one_way w) = record {
-    inner = []; closed = w.whole.token; split = w.whole.only; closes = one_symbol (codes ")") xs w.part w.whole;
+    inner = [];
+    closed = w.whole.token;
+    split = w.whole.only;
+    closes = one_symbol (codes ")") xs w.part w.whole;
     arguments = subst (λ vs. IsArguments [] vs) w.made (no_arguments refl);
   }
   into_closed xs values (other_way w) = record {
-    inner = w.whole.front; closed = w.whole.behind.token; split = w.whole.split ∙ ap (λ ys. w.whole.front ++ ys) w.whole.behind.only;
+    inner = w.whole.front;
+    closed = w.whole.behind.token;
+    split = w.whole.split ∙ ap (λ ys. w.whole.front ++ ys) w.whole.behind.only;
     closes = one_symbol (codes ")") w.whole.back w.part.1 w.whole.behind;
     arguments = subst (λ vs. IsArguments w.whole.front vs) w.made (arguments (listed_arguments w.whole.front w.part.0 w.whole.before));
   }
@@ -160,13 +165,19 @@ module _ {inner : Reader Expr} {B : List Token → Token → Type 0} (part : Exa
 
   into_called : (named : Named) (xs : List Token) (e : Expr) → CallParts named xs e → Called named xs e
   into_called named xs e w = let both = w.whole.whole in record {
-    opened = both.before.token; rest = both.back; values = w.part; split = both.split ∙ ap (λ ys. ys ++ both.back) both.before.only;
-    opens = one_symbol (codes "(") both.front w.whole.part.0 both.before; made = w.made; inside = subst (λ vs. Closed both.back vs) w.whole.made both.behind;
+    opened = both.before.token;
+    rest = both.back;
+    values = w.part;
+    split = both.split ∙ ap (λ ys. ys ++ both.back) both.before.only;
+    opens = one_symbol (codes "(") both.front w.whole.part.0 both.before;
+    made = w.made;
+    inside = subst (λ vs. Closed both.back vs) w.whole.made both.behind;
   }
 
   out_of_called : (named : Named) (xs : List Token) (e : Expr) → Called named xs e → CallParts named xs e
   out_of_called named xs e w = record {
-    part = w.values; made = w.made;
+    part = w.values;
+    made = w.made;
     whole = record { part = (w.opened.line, w.values); made = refl; whole = record { front = w.opened ∷ []; back = w.rest; split = w.split; before = symbol_one (codes "(") w.opened w.opens; behind = w.inside } };
   }
 
@@ -310,8 +321,8 @@ pub record NameIs (k : TokenKind) (line : ℕ) (named : Named) : Type 0 where
 pub name_is : (k : TokenKind) (line : ℕ) (named : Named) → named_in k line ≡ Some named → NameIs k line named
 name_is (kinds.Name w) line named told = let same : record { name = w; line = line } ≡ named = some_is (record { name = w; line = line }) named told in
     record { what = ap (λ (m : Named). kinds.Name m.name) same; at = ap (λ (m : Named). m.line) (sym same) } where
-  some_is : (a b : Named) → Some a ≡ Some b → a ≡ b
-  some_is a b e = cc
+      some_is : (a b : Named) → Some a ≡ Some b → a ≡ b
+      some_is a b e = cc
 name_is (kinds.Number v u) line named told = absurd (cc)
 name_is (kinds.Symbol w) line named told = absurd (cc)
 name_is (kinds.Keyword w) line named told = absurd (cc)
@@ -355,17 +366,29 @@ module _ {inner : Reader Expr} {n : ℕ} (part : Exact inner IsWhole (Begins loo
   out_of_primary : (xs : List Token) (e : Expr) → IsExpr primary_level xs e → Either (One number_at) (OtherParts part first) xs e
   out_of_primary xs e (number t value unsigned split what) = one_way (subst (λ ys. One number_at ys (record { what = exprs.Number value unsigned; line = t.line })) (sym split) (number_one t value unsigned what))
   out_of_primary xs e (name t word split what) = other_way (one_way (record {
-    front = t ∷ []; back = []; value = record { name = word; line = t.line }; split = split; before = name_one t word what; behind = other_way (record { nothing = refl; same = refl });
+    front = t ∷ [];
+    back = [];
+    value = record { name = word; line = t.line };
+    split = split;
+    before = name_one t word what;
+    behind = other_way (record { nothing = refl; same = refl });
   }))
   out_of_primary xs e (call {values = values} t opened closed word inner split what opens closes more) = other_way (one_way (record {
-    front = t ∷ []; back = opened ∷ (inner ++ (closed ∷ [])); value = record { name = word; line = t.line }; split = split; before = name_one t word what;
+    front = t ∷ [];
+    back = opened ∷ (inner ++ (closed ∷ []));
+    value = record { name = word; line = t.line };
+    split = split;
+    before = name_one t word what;
     behind = one_way (record { opened = opened; rest = inner ++ (closed ∷ []); values = values; split = refl; opens = opens; made = refl; inside = record { inner = inner; closed = closed; split = refl; closes = closes; arguments = more } });
   }))
   out_of_primary xs e (brackets opened closed inner split opens closes w) = other_way (other_way (record {
     part = (opened.line, (e, closed.line));
     made = refl;
     whole = record {
-      front = opened ∷ []; back = inner ++ (closed ∷ []); split = split; before = symbol_one (codes "(") opened opens;
+      front = opened ∷ [];
+      back = inner ++ (closed ∷ []);
+      split = split;
+      before = symbol_one (codes "(") opened opens;
       behind = record { front = inner; back = closed ∷ []; split = refl; before = w; behind = symbol_one (codes ")") closed closes };
     };
   }))
