@@ -79,42 +79,42 @@ pub data IsOneItem (ts : List Token) (s : Stmt) : Type 0 where
   stated_item : IsAnyStmt ts s → IsOneItem ts s
 
 -- Behind these tokens of a statement in which so many levels may begin, its own with them, the next token passes a limit: no level
--- is left and it begins a statement; or an expression passes one there; or a statement inside does, in which one level less may begin.
+-- is left and it begins a statement; or an expression passes one there, as `Excess` tells; or a statement inside does, in which one level less may begin.
 -- Checked on `{ { ;` with two levels: behind `{ {` the token `;` passes the limit, since it would begin a third.
 mutual
-  pub data IsStatementExcess : ℕ → List Token → Token → Type 0 where
-    no_level : {xs : List Token} {t : Token} → xs ≡ [] → Viable IsAnyStmt (t ∷ []) → IsStatementExcess 0 xs t
-    in_expression : {n : ℕ} {xs : List Token} {t : Token} → IsExcessBehind OpensStatement IsExpressionExcess xs t → IsStatementExcess (suc n) xs t
+  pub data IsStatementExcess (Excess : List Token → Token → Type 0) : ℕ → List Token → Token → Type 0 where
+    no_level : {xs : List Token} {t : Token} → xs ≡ [] → Viable IsAnyStmt (t ∷ []) → IsStatementExcess Excess 0 xs t
+    in_expression : {n : ℕ} {xs : List Token} {t : Token} → IsExcessBehind OpensStatement Excess xs t → IsStatementExcess Excess (suc n) xs t
     in_block : {n : ℕ} {xs : List Token} {t : Token} (opened : Token) (front : List Token)
-        → xs ≡ opened ∷ front → IsSymbol (codes "{") opened → IsItemsExcess n front t → IsStatementExcess (suc n) xs t
+        → xs ≡ opened ∷ front → IsSymbol (codes "{") opened → IsItemsExcess Excess n front t → IsStatementExcess Excess (suc n) xs t
     under_if : {n : ℕ} {xs : List Token} {t : Token} {test : Expr} (word opened : Token) (inner : List Token) (closed : Token) (front : List Token)
         → xs ≡ word ∷ opened ∷ (inner ++ (closed ∷ front)) → IsKeyword (codes "if") word → IsOpen opened → IsWhole inner test → IsClose closed
-        → IsStatementExcess n front t → IsStatementExcess (suc n) xs t
+        → IsStatementExcess Excess n front t → IsStatementExcess Excess (suc n) xs t
     under_else : {n : ℕ} {xs : List Token} {t : Token} {test : Expr} {s : Stmt} (word opened : Token) (inner : List Token) (closed : Token) (middle : List Token) (other : Token) (front : List Token)
         → xs ≡ word ∷ opened ∷ (inner ++ (closed ∷ (middle ++ (other ∷ front)))) → IsKeyword (codes "if") word → IsOpen opened → IsWhole inner test → IsClose closed
-        → IsStmt false middle s → IsKeyword (codes "else") other → IsStatementExcess n front t → IsStatementExcess (suc n) xs t
+        → IsStmt false middle s → IsKeyword (codes "else") other → IsStatementExcess Excess n front t → IsStatementExcess Excess (suc n) xs t
     under_while : {n : ℕ} {xs : List Token} {t : Token} {test : Expr} (word opened : Token) (inner : List Token) (closed : Token) (front : List Token)
         → xs ≡ word ∷ opened ∷ (inner ++ (closed ∷ front)) → IsKeyword (codes "while") word → IsOpen opened → IsWhole inner test → IsClose closed
-        → IsStatementExcess n front t → IsStatementExcess (suc n) xs t
+        → IsStatementExcess Excess n front t → IsStatementExcess Excess (suc n) xs t
     under_for : {n : ℕ} {xs : List Token} {t : Token} {first : Option Stmt} {test : Option Expr} {last : Option Stmt} (word opened : Token) (start : List Token) (mark : Token) (middle : List Token) (other : Token)
         (end : List Token) (closed : Token) (front : List Token)
         → xs ≡ word ∷ opened ∷ (start ++ (mark ∷ (middle ++ (other ∷ (end ++ (closed ∷ front)))))) → IsKeyword (codes "for") word → IsOpen opened
         → IsForFirst start first → IsSymbol (codes ";") mark → IsMaybeWhole middle test → IsSymbol (codes ";") other → IsMaybeSimple end last → IsClose closed
-        → IsStatementExcess n front t → IsStatementExcess (suc n) xs t
+        → IsStatementExcess Excess n front t → IsStatementExcess Excess (suc n) xs t
     under_task : {n : ℕ} {xs : List Token} {t : Token} {mark : TaskMark} (front back : List Token)
-        → xs ≡ front ++ back → IsPragma front (directive.Task mark) → IsStatementExcess n back t → IsStatementExcess (suc n) xs t
+        → xs ≡ front ++ back → IsPragma front (directive.Task mark) → IsStatementExcess Excess n back t → IsStatementExcess Excess (suc n) xs t
 
   -- the same of one thing in a block
-  pub data IsItemExcess : ℕ → List Token → Token → Type 0 where
-    no_item_level : {xs : List Token} {t : Token} → xs ≡ [] → Viable IsOneItem (t ∷ []) → IsItemExcess 0 xs t
-    in_declaration : {n : ℕ} {xs : List Token} {t : Token} → IsExcessBehind OpensDeclaration IsExpressionExcess xs t → IsItemExcess (suc n) xs t
-    in_statement : {n : ℕ} {xs : List Token} {t : Token} → IsStatementExcess (suc n) xs t → IsItemExcess (suc n) xs t
+  pub data IsItemExcess (Excess : List Token → Token → Type 0) : ℕ → List Token → Token → Type 0 where
+    no_item_level : {xs : List Token} {t : Token} → xs ≡ [] → Viable IsOneItem (t ∷ []) → IsItemExcess Excess 0 xs t
+    in_declaration : {n : ℕ} {xs : List Token} {t : Token} → IsExcessBehind OpensDeclaration Excess xs t → IsItemExcess Excess (suc n) xs t
+    in_statement : {n : ℕ} {xs : List Token} {t : Token} → IsStatementExcess Excess (suc n) xs t → IsItemExcess Excess (suc n) xs t
 
   -- the same of what stands in a block: of its first thing, or of one behind others
-  pub data IsItemsExcess : ℕ → List Token → Token → Type 0 where
-    first_item : {n : ℕ} {xs : List Token} {t : Token} → IsItemExcess n xs t → IsItemsExcess n xs t
+  pub data IsItemsExcess (Excess : List Token → Token → Type 0) : ℕ → List Token → Token → Type 0 where
+    first_item : {n : ℕ} {xs : List Token} {t : Token} → IsItemExcess Excess n xs t → IsItemsExcess Excess n xs t
     later_item : {n : ℕ} {xs : List Token} {t : Token} {s : Stmt} (front back : List Token)
-        → xs ≡ front ++ back → IsOneItem front s → IsItemsExcess n back t → IsItemsExcess n xs t
+        → xs ≡ front ++ back → IsOneItem front s → IsItemsExcess Excess n back t → IsItemsExcess Excess n xs t
 
 -- Behind these tokens of the pragma of a task a whole expression begins.
 pub data OpensMark (xs : List Token) : Type 0 where
@@ -131,6 +131,6 @@ pub data IsProgramExcess : List Token → Token → Type 0 where
       (marked front : List Token) (name : Token) (word : List ℕ) (opened : Token) (inner : List Token) (closed begins : Token) (within : List Token)
       → xs ≡ marked ++ (front ++ (name ∷ opened ∷ (inner ++ (closed ∷ begins ∷ within))))
       → IsMark marked mark → IsResult front result → name.what ≡ kinds.Name word → IsOpen opened → IsParameters inner params → IsClose closed
-      → IsSymbol (codes "{") begins → IsItemsExcess most_levels within t → IsProgramExcess xs t
+      → IsSymbol (codes "{") begins → IsItemsExcess IsExpressionExcess most_levels within t → IsProgramExcess xs t
   in_later_item : {xs : List Token} {t : Token} {found : List Item} (front back : List Token)
       → xs ≡ front ++ back → IsItem front found → IsProgramExcess back t → IsProgramExcess xs t

@@ -32,11 +32,11 @@ pub data ListedDeep {A : Type 0} (U : List Token → A → Type 0) (B : List Tok
   deep_later : {xs : List Token} {t : Token} (a : A) (front : List Token) (mark : Token) (back : List Token) → xs ≡ front ++ (mark ∷ back) → U front a → IsComma mark → ListedDeep U B back t → ListedDeep U B xs t
 
 -- parts, each behind a comma
-data Follow {A : Type 0} (U : List Token → A → Type 0) : List Token → List A → Type 0 where
+pub data Follow {A : Type 0} (U : List Token → A → Type 0) : List Token → List A → Type 0 where
   none : {xs : List Token} → xs ≡ [] → Follow U xs []
   some : {xs : List Token} {a : A} {more : List A} (mark : Token) (front back : List Token) → xs ≡ mark ∷ (front ++ back) → IsComma mark → U front a → Follow U back more → Follow U xs (a ∷ more)
 
-data FollowDeep {A : Type 0} (U : List Token → A → Type 0) (B : List Token → Token → Type 0) : List Token → Token → Type 0 where
+pub data FollowDeep {A : Type 0} (U : List Token → A → Type 0) (B : List Token → Token → Type 0) : List Token → Token → Type 0 where
   here : {xs : List Token} {t : Token} (mark : Token) (front : List Token) → xs ≡ mark ∷ front → IsComma mark → B front t → FollowDeep U B xs t
   there : {xs : List Token} {t : Token} (a : A) (mark : Token) (front back : List Token) → xs ≡ mark ∷ (front ++ back) → IsComma mark → U front a → FollowDeep U B back t → FollowDeep U B xs t
 
@@ -125,6 +125,12 @@ module _ {A : Type 0} {f : List Token → Result (A × List Token) Stop} {U : Li
     made = refl;
     whole = record { part = (mark.line, a); made = refl; whole = record { front = mark ∷ []; back = front; split = refl; before = record { token = mark; only = refl; passes = symbol_value (codes ",") mark c }; behind = w } };
   }) (steps_deep_of (found ++ a ∷ []) back t v)
+
+  into_follow : (xs : List Token) (end : List A) → Steps Step [] xs end → Follow U xs end
+  into_follow xs end w = let v = followed [] xs end w in subst (λ ys. Follow U xs ys) (sym v.all) v.follow
+
+  pub exact_follow : Exact (read_more f []) (Follow U) (FollowDeep U B) (one_of comma goes)
+  exact_follow = exact_as into_follow (λ xs more w. steps_of [] xs more w) (followed_deep []) (steps_deep_of []) (exact_more [])
 
   -- a first part and those that follow are the list
   list_of : (xs front back : List Token) (a : A) (more : List A) → xs ≡ front ++ back → U front a → Follow U back more → Listed U xs (a ∷ more)

@@ -79,6 +79,29 @@ not_symbol test s told t e = on (is_symbol s t.what) refl where
   on true is = let no_way : test t ≡ false = on_symbol test s false told t is in absurd (cc)
   on false is = rw is refl
 
+pub not_keyword : (test : Token → Bool) (s : List ℕ) → ((line : ℕ) → test (record { what = kinds.Keyword s; line = line }) ≡ false) → (t : Token) → test t ≡ true → has (keyword_at s) t ≡ false
+not_keyword test s told t e = on (is_keyword s t.what) refl where
+  on : (b : Bool) → is_keyword s t.what ≡ b → has (keyword_at s) t ≡ false
+  on true is = let no_way : test t ≡ false = on_keyword test s false told t is in absurd (cc)
+  on false is = rw is refl
+
+pub has_keyword : (s : List ℕ) (t : Token) → has (keyword_at s) t ≡ true → is_keyword s t.what ≡ true
+has_keyword s t e = chosen (is_keyword s t.what) t.line e
+
+pub keyword_value : (s : List ℕ) (t : Token) → is_keyword s t.what ≡ true → keyword_at s t ≡ Some t.line
+keyword_value s t e = rw e refl
+
+pub keyword_token : (s : List ℕ) (t : Token) (line : ℕ) → keyword_at s t ≡ Some line → is_keyword s t.what ≡ true
+keyword_token s t line e = has_keyword s t (ap is_some e)
+
+-- the line of a keyword is that of its token
+line_is : (b : Bool) (line n : ℕ) → (if b then Some line else None) ≡ Some n → line ≡ n
+line_is true line n e = cc
+line_is false line n e = absurd (cc)
+
+pub keyword_line : (s : List ℕ) (t : Token) (n : ℕ) → keyword_at s t ≡ Some n → t.line ≡ n
+keyword_line s t n e = line_is (is_keyword s t.what) t.line n e
+
 -- the line of a symbol is had of that symbol
 pub symbol_value : (s : List ℕ) (t : Token) → is_symbol s t.what ≡ true → symbol_at s t ≡ Some t.line
 symbol_value s t e = rw e refl
