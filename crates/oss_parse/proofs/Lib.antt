@@ -1,2 +1,3 @@
-pub mod EndingLemmas
 pub mod BranchLemmas
+pub mod EndingLemmas
+pub mod FormLemmas
