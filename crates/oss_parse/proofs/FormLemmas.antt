@@ -122,3 +122,248 @@ module _ {A : Type 0} {f : Reader A} {U : List Token → A → Type 0} {B : List
     accepts = λ t rest s told. lined_accepts t rest (f (t ∷ rest)) refl (first.accepts t rest s) told;
     refuses = λ ts s. ap (λ o. lined ts o) (first.refuses ts s);
   }
+
+none_or : (b c : Bool) → b ≡ false → c ≡ false → (b || c) ≡ false
+none_or false c e e' = e'
+none_or true c e e' = e
+
+-- the parts of statements that hold no statements
+module _ {expression : Reader Expr} {X : List Token → Token → Type 0} (part : Exact expression IsWhole X goes_on) (first : Begun expression begins_expression) {goes_declaration : Token → Bool}
+    (simple : Exact (read_simple expression) IsSimple (IsExcessBehind OpensSimple X) goes_on) (first_simple : Begun (read_simple expression) begins_simple)
+    (declared : Exact (read_declaration expression) IsDeclaration (IsExcessBehind OpensDeclaration X) goes_declaration) (first_declared : Begun (read_declaration expression) begins_kind)
+    (declaration_ends : (t : Token) → has (symbol_at (codes ";")) t ≡ true → goes_declaration t ≡ false) where
+  abbrev SimpleX : List Token → Token → Type 0
+  SimpleX = IsExcessBehind OpensSimple X
+
+  abbrev DeclarationX : List Token → Token → Type 0
+  DeclarationX = IsExcessBehind OpensDeclaration X
+
+  close_ends : (t : Token) → has (symbol_at (codes ")")) t ≡ true → goes_on t ≡ false
+  unfolding operator_of
+  close_ends t e = on_symbol goes_on (codes ")") false (λ line. refl) t (has_symbol (codes ")") t e)
+
+  close_ends_simple : (t : Token) → has (symbol_at (codes ")")) t ≡ true → one_of begins_simple goes_on t ≡ false
+  unfolding operator_of step_of
+  close_ends_simple t e = on_symbol (one_of begins_simple goes_on) (codes ")") false (λ line. refl) t (has_symbol (codes ")") t e)
+
+  mark_ends : (t : Token) → has (symbol_at (codes ";")) t ≡ true → goes_on t ≡ false
+  unfolding operator_of
+  mark_ends t e = on_symbol goes_on (codes ";") false (λ line. refl) t (has_symbol (codes ";") t e)
+
+  mark_ends_maybe : (t : Token) → has (symbol_at (codes ";")) t ≡ true → one_of begins_expression goes_on t ≡ false
+  unfolding operator_of prefix_of
+  mark_ends_maybe t e = on_symbol (one_of begins_expression goes_on) (codes ";") false (λ line. refl) t (has_symbol (codes ";") t e)
+
+  mark_ends_simple : (t : Token) → has (symbol_at (codes ";")) t ≡ true → one_of begins_simple goes_on t ≡ false
+  unfolding operator_of step_of
+  mark_ends_simple t e = on_symbol (one_of begins_simple goes_on) (codes ";") false (λ line. refl) t (has_symbol (codes ";") t e)
+
+  mark_no_kind : (t : Token) → has (symbol_at (codes ";")) t ≡ true → begins_kind t ≡ false
+  mark_no_kind t e = on_symbol begins_kind (codes ";") false (λ line. refl) t (has_symbol (codes ";") t e)
+
+  -- a keyword and a test in brackets
+  abbrev Test : List Token → Expr → Type 0
+  Test = Bracketed (codes "(") (codes ")") IsWhole
+
+  exact_test : Exact (read_mapped middle (read_both (read_one (symbol_at (codes "("))) (read_both expression (read_one (symbol_at (codes ")")))))) Test (BracketedDeep (codes "(") X) never
+  exact_test = exact_bracketed (codes "(") (codes ")") part (pairs.some_text part first) close_ends refl refl
+
+  pub exact_head : (word : List ℕ) → keyword_at word (some_keyword word) ≡ Some 0 → Exact {A = ℕ × Expr} (read_head word expression) (Headed (keyword_at word) Test) (HeadedDeep (keyword_at word) (BracketedDeep (codes "(") X)) never
+  unfolding read_head
+  exact_head word e = exact_headed (keyword_at word) exact_test (some_keyword word) 0 e (bracketed_viable (codes "(") (codes ")") refl refl (pairs.some_text part first))
+
+  pub begun_head : (word : List ℕ) → Begun {A = ℕ × Expr} (read_head word expression) (has (keyword_at word))
+  unfolding read_head
+  begun_head word = begun_headed (keyword_at word) exact_test
+
+  -- an expression, or none; a simple statement, or none
+  abbrev MaybeE : List Token → Option Expr → Type 0
+  MaybeE = Either (Mapped Some IsWhole) (Nothing None)
+
+  pub exact_maybe_expression : Exact (read_maybe_expression expression) MaybeE (EitherDeep X Nowhere) (one_of begins_expression goes_on)
+  unfolding read_maybe_expression
+  exact_maybe_expression = exact_maybe part first
+
+  abbrev MaybeS : List Token → Option Stmt → Type 0
+  MaybeS = Either (Mapped Some IsSimple) (Nothing None)
+
+  exact_maybe_simple : Exact (read_maybe_simple expression) MaybeS (EitherDeep SimpleX Nowhere) (one_of begins_simple goes_on)
+  unfolding read_maybe_simple
+  exact_maybe_simple = exact_maybe simple first_simple
+
+  -- the first part of a `for`
+  abbrev First : List Token → Option Stmt → Type 0
+  First = Either (Mapped Some IsDeclaration) MaybeS
+
+  abbrev goes_first : Token → Bool
+  goes_first = one_of begins_kind (one_of goes_declaration (one_of begins_simple goes_on))
+
+  not_kind : (t : Token) → begins_simple t ≡ true → begins_kind t ≡ false
+  unfolding step_of
+  not_kind t e = on t.what e where
+    on : (k : TokenKind) → begins_simple (record { what = k; line = t.line }) ≡ true → begins_kind (record { what = k; line = t.line }) ≡ false
+    on (kinds.Name w) e = refl
+    on (kinds.Symbol w) e = refl
+    on (kinds.Keyword w) e = absurd (cc)
+    on (kinds.Number v u) e = refl
+    on (kinds.Text w) e = refl
+    on kinds.PragmaOss e = refl
+    on kinds.PragmaEnd e = refl
+    on kinds.Directive e = refl
+
+  or_first : (a b c : Bool) → (a || (b || c)) ≡ false → a ≡ false
+  or_first false b c e = refl
+  or_first true b c e = absurd (cc)
+
+  or_second : (a b c : Bool) → (a || (b || c)) ≡ false → b ≡ false
+  or_second true b c e = absurd (cc)
+  or_second false false c e = refl
+  or_second false true c e = absurd (cc)
+
+  or_third : (a b c : Bool) → (a || (b || c)) ≡ false → c ≡ false
+  or_third true b c e = absurd (cc)
+  or_third false true c e = absurd (cc)
+  or_third false false c e = e
+
+  free_kind : (rest : List Token) → begins goes_first rest ≡ false → begins begins_kind rest ≡ false
+  free_kind rest free = fewer_go goes_first begins_kind (λ t e. or_first (begins_kind t) (goes_declaration t) (one_of begins_simple goes_on t) e) rest free
+
+  kind_apart : (ys : List Token) (s : Option Stmt) (rest : List Token) → MaybeS ys s → begins goes_first rest ≡ false → begins begins_kind (ys ++ rest) ≡ false
+  kind_apart ys s rest (one_way w) free = none_goes begins_simple begins_kind not_kind (ys ++ rest) (member_begins simple first_simple ys w.part rest w.whole)
+  kind_apart ys s rest (other_way w) free = ap (λ zs. begins begins_kind (zs ++ rest)) w.nothing ∙ free_kind rest free
+
+  kind_apart_deep : (ys : List Token) (t : Token) (rest : List Token) → EitherDeep SimpleX Nowhere ys t → begins begins_kind (ys ++ (t ∷ rest)) ≡ false
+  kind_apart_deep ys t rest (EitherDeep.one_deep w) = none_goes begins_simple begins_kind not_kind (ys ++ (t ∷ rest)) (deep_begins simple first_simple ys t rest w)
+  kind_apart_deep ys t rest (EitherDeep.other_deep w) = nowhere ys t w
+
+  exact_for_first : Exact (read_for_first expression) First (EitherDeep DeclarationX (EitherDeep SimpleX Nowhere)) goes_first
+  unfolding read_for_first
+  exact_for_first = exact_either begins_kind
+      (exact_before goes_declaration goes_first (λ rest free. fewer_go goes_first goes_declaration (λ t e. or_second (begins_kind t) (goes_declaration t) (one_of begins_simple goes_on t) e) rest free) (exact_mapped Some declared))
+      (begun_mapped Some first_declared)
+      (exact_before (one_of begins_simple goes_on) goes_first (λ rest free. fewer_go goes_first (one_of begins_simple goes_on) (λ t e. or_third (begins_kind t) (goes_declaration t) (one_of begins_simple goes_on t) e) rest free) exact_maybe_simple)
+      kind_apart kind_apart_deep
+
+  mark_ends_first : (t : Token) → has (symbol_at (codes ";")) t ≡ true → goes_first t ≡ false
+  mark_ends_first t e = none_or (begins_kind t) (one_of goes_declaration (one_of begins_simple goes_on) t) (mark_no_kind t e) (none_or (goes_declaration t) (one_of begins_simple goes_on t) (declaration_ends t e) (mark_ends_simple t e))
+
+  -- the parts of a `for`
+  abbrev End : List Token → Option Stmt × ℕ → Type 0
+  End = Trailed (symbol_at (codes ")")) MaybeS
+
+  exact_end : Exact {A = Option Stmt × ℕ} (read_both (read_maybe_simple expression) (read_one (symbol_at (codes ")")))) End (EitherDeep SimpleX Nowhere) never
+  exact_end = exact_trailed (symbol_at (codes ")")) exact_maybe_simple close_ends_simple (some_mark (codes ")")) 0 refl
+
+  none_simple : Viable MaybeS []
+  none_simple = record { more = []; value = None; member = other_way (record { nothing = refl; same = refl }) }
+
+  none_expression : Viable MaybeE []
+  none_expression = record { more = []; value = None; member = other_way (record { nothing = refl; same = refl }) }
+
+  some_end : Viable End []
+  some_end = viable_trailed (symbol_at (codes ")")) (some_mark (codes ")")) 0 refl none_simple
+
+  abbrev Last : List Token → ℕ × (Option Stmt × ℕ) → Type 0
+  Last = Headed (symbol_at (codes ";")) End
+
+  abbrev LastDeep : List Token → Token → Type 0
+  LastDeep = HeadedDeep (symbol_at (codes ";")) (EitherDeep SimpleX Nowhere)
+
+  exact_last : Exact {A = ℕ × (Option Stmt × ℕ)} (read_both (read_one (symbol_at (codes ";"))) (read_both (read_maybe_simple expression) (read_one (symbol_at (codes ")"))))) Last LastDeep never
+  exact_last = exact_headed (symbol_at (codes ";")) exact_end (some_mark (codes ";")) 0 refl some_end
+
+  begun_last : Begun {A = ℕ × (Option Stmt × ℕ)} (read_both (read_one (symbol_at (codes ";"))) (read_both (read_maybe_simple expression) (read_one (symbol_at (codes ")"))))) (has (symbol_at (codes ";")))
+  begun_last = begun_headed (symbol_at (codes ";")) exact_end
+
+  some_last : Viable Last []
+  some_last = viable_headed (symbol_at (codes ";")) (some_mark (codes ";")) 0 refl some_end
+
+  abbrev Middle : List Token → Option Expr × (ℕ × (Option Stmt × ℕ)) → Type 0
+  Middle = Both MaybeE Last
+
+  abbrev MiddleDeep : List Token → Token → Type 0
+  MiddleDeep = ThenDeep (EitherDeep X Nowhere) MaybeE (λ e. LastDeep)
+
+  exact_middle : Exact {A = Option Expr × (ℕ × (Option Stmt × ℕ))}
+      (read_both (read_maybe_expression expression) (read_both (read_one (symbol_at (codes ";"))) (read_both (read_maybe_simple expression) (read_one (symbol_at (codes ")")))))) Middle MiddleDeep never
+  exact_middle = pairs.exact_both exact_maybe_expression exact_last begun_last mark_ends_maybe
+
+  abbrev Rest : List Token → ℕ × (Option Expr × (ℕ × (Option Stmt × ℕ))) → Type 0
+  Rest = Headed (symbol_at (codes ";")) Middle
+
+  abbrev RestDeep : List Token → Token → Type 0
+  RestDeep = HeadedDeep (symbol_at (codes ";")) MiddleDeep
+
+  exact_rest : Exact {A = ℕ × (Option Expr × (ℕ × (Option Stmt × ℕ)))} (read_both (read_one (symbol_at (codes ";"))) (read_both (read_maybe_expression expression) (read_both (read_one (symbol_at (codes ";")))
+      (read_both (read_maybe_simple expression) (read_one (symbol_at (codes ")"))))))) Rest RestDeep never
+  exact_rest = exact_headed (symbol_at (codes ";")) exact_middle (some_mark (codes ";")) 0 refl (viable_both none_expression some_last)
+
+  begun_rest : Begun {A = ℕ × (Option Expr × (ℕ × (Option Stmt × ℕ)))} (read_both (read_one (symbol_at (codes ";"))) (read_both (read_maybe_expression expression) (read_both (read_one (symbol_at (codes ";")))
+      (read_both (read_maybe_simple expression) (read_one (symbol_at (codes ")"))))))) (has (symbol_at (codes ";")))
+  begun_rest = begun_headed (symbol_at (codes ";")) exact_middle
+
+  some_rest : Viable Rest []
+  some_rest = viable_headed (symbol_at (codes ";")) (some_mark (codes ";")) 0 refl (viable_both none_expression some_last)
+
+  pub abbrev ForParts : List Token → Option Stmt × (Option Expr × Option Stmt) → Type 0
+  ForParts = Mapped for_parts (Both First Rest)
+
+  pub abbrev ForPartsDeep : List Token → Token → Type 0
+  ForPartsDeep = ThenDeep (EitherDeep DeclarationX (EitherDeep SimpleX Nowhere)) First (λ s. RestDeep)
+
+  exact_for_parts : Exact (read_for_parts expression) ForParts ForPartsDeep never
+  unfolding read_for_parts
+  exact_for_parts = exact_mapped for_parts (pairs.exact_both exact_for_first exact_rest begun_rest mark_ends_first)
+
+  some_for_parts : Viable ForParts []
+  some_for_parts = let v : Viable (Both First Rest) [] = viable_both (record { more = []; value = None; member = other_way (other_way (record { nothing = refl; same = refl })) }) some_rest in
+      record { more = v.more; value = for_parts v.value; member = record { part = v.value; made = refl; whole = v.member } }
+
+  pub abbrev ForHead : List Token → ℕ × (Option Stmt × (Option Expr × Option Stmt)) → Type 0
+  ForHead = Headed (keyword_at (codes "for")) (Behind (codes "(") ForParts)
+
+  pub abbrev ForHeadDeep : List Token → Token → Type 0
+  ForHeadDeep = HeadedDeep (keyword_at (codes "for")) (BracketedDeep (codes "(") ForPartsDeep)
+
+  behind_parts : Exact (read_mapped latter (read_both (read_one (symbol_at (codes "("))) (read_for_parts expression))) (Behind (codes "(") ForParts) (BracketedDeep (codes "(") ForPartsDeep) never
+  behind_parts = exact_behind (codes "(") exact_for_parts some_for_parts refl
+
+  some_behind : Viable (Behind (codes "(") ForParts) []
+  some_behind = let v = some_for_parts in record { more = some_mark (codes "(") ∷ v.more; value = v.value; member = record { mark = some_mark (codes "("); back = v.more; split = refl; marks = refl; behind = v.member } }
+
+  pub exact_for_head : Exact {A = ℕ × (Option Stmt × (Option Expr × Option Stmt))} (read_for_head expression) ForHead ForHeadDeep never
+  unfolding read_for_head
+  exact_for_head = exact_headed (keyword_at (codes "for")) behind_parts (some_keyword (codes "for")) 0 refl some_behind
+
+  pub begun_for_head : Begun {A = ℕ × (Option Stmt × (Option Expr × Option Stmt))} (read_for_head expression) (has (keyword_at (codes "for")))
+  unfolding read_for_head
+  begun_for_head = begun_headed (keyword_at (codes "for")) behind_parts
+
+  -- what a `printf` prints
+  comma_ends : (t : Token) → comma t ≡ true → goes_on t ≡ false
+  unfolding operator_of
+  comma_ends t e = on_symbol goes_on (codes ",") false (λ line. refl) t (has_symbol (codes ",") t e)
+
+  close_ends_list : (t : Token) → has (symbol_at (codes ")")) t ≡ true → one_of comma goes_on t ≡ false
+  unfolding operator_of
+  close_ends_list t e = on_symbol (one_of comma goes_on) (codes ")") false (λ line. refl) t (has_symbol (codes ")") t e)
+
+  pub abbrev Closing : List Token → ℕ × ℕ → Type 0
+  Closing = Headed (symbol_at (codes ")")) (One (symbol_at (codes ";")))
+
+  closing : Exact {A = ℕ × ℕ} (read_both (read_one (symbol_at (codes ")"))) (read_one (symbol_at (codes ";")))) Closing (HeadedDeep (symbol_at (codes ")")) Nowhere) never
+  closing = exact_headed (symbol_at (codes ")")) (exact_one (symbol_at (codes ";")) (some_mark (codes ";")) 0 refl never) (some_mark (codes ")")) 0 refl
+      (record { more = some_mark (codes ";") ∷ []; value = 0; member = record { token = some_mark (codes ";"); only = refl; passes = refl } })
+
+  begun_closing : Begun {A = ℕ × ℕ} (read_both (read_one (symbol_at (codes ")"))) (read_one (symbol_at (codes ";")))) (has (symbol_at (codes ")")))
+  begun_closing = begun_headed (symbol_at (codes ")")) (exact_one (symbol_at (codes ";")) (some_mark (codes ";")) 0 refl never)
+
+  pub abbrev Printed : List Token → List Expr → Type 0
+  Printed = Mapped former (Both (Follow IsWhole) Closing)
+
+  pub abbrev PrintedDeep : List Token → Token → Type 0
+  PrintedDeep = ThenDeep (FollowDeep IsWhole X) (Follow IsWhole) (λ values. HeadedDeep (symbol_at (codes ")")) Nowhere)
+
+  pub exact_printed : Exact (read_printed expression) Printed PrintedDeep never
+  unfolding read_printed
+  exact_printed = exact_mapped former (pairs.exact_both (exact_follow part first comma_ends) closing begun_closing close_ends_list)
