@@ -1,0 +1,277 @@
+-- The reader of simple statements is exact for each exact reader of expressions.
+use Rattle.std.proofs.Common.{◌≡◌, ℕ, Bool, true, false, ◌||◌, if◌then◌else◌, List, [], ◌∷◌, ◌++◌, refl, sym, ap, ◌∙◌, subst, append_assoc, Option, Some, None, is_some}
+use Rattle.std.specs.Prelude.{codes}
+use Rattle.std.proofs.lemmas.List.{append-nil}
+use Rattle.oss_syntax.specs.declared.token.Token.{Token}
+use Rattle.oss_syntax.specs.declared.token.TokenKind.{TokenKind}
+use Rattle.oss_syntax.specs.declared.token.TokenKind.TheVariants as kinds
+use Rattle.oss_syntax.specs.declared.tree.expr.BinOp.{BinOp}
+use Rattle.oss_syntax.specs.declared.tree.expr.BinOp.TheVariants as op
+use Rattle.oss_syntax.specs.declared.tree.expr.Expr.{Expr}
+use Rattle.oss_syntax.specs.declared.tree.expr.ExprKind.TheVariants as exprs
+use Rattle.oss_syntax.specs.declared.tree.expr.UnOp.TheVariants as prefix
+use Rattle.oss_syntax.specs.declared.tree.stmt.Stmt.{Stmt}
+use Rattle.oss_syntax.specs.declared.tree.stmt.StmtKind.TheVariants as stmts
+use Rattle.oss_model.specs.Expressions.{IsWhole, IsArguments, operator_of}
+use Rattle.oss_model.specs.Fronts.{Viable}
+use Rattle.oss_model.specs.Grammar.{One, Both, Mapped, Either}
+use Rattle.oss_model.specs.Grammar.Either.{one_way, other_way}
+use Rattle.oss_model.specs.Levels.{IsExcessBehind}
+use Rattle.oss_model.specs.OneToken.{is_symbol}
+use Rattle.oss_model.specs.Reading.{Reader, begins, has, one_of, never, read_one, read_then, read_nothing, read_mapped, read_both, read_either}
+use Rattle.oss_model.specs.SimpleStatements.{IsTarget, IsSimple, assignment_of, step_of, one_at}
+use Rattle.oss_model.specs.SimpleStatements.IsTarget.{name_target, element_target, pointer_target, pointed_target}
+use Rattle.oss_model.specs.SimpleStatements.IsSimple.{assigned, stepped, step_first, called}
+use Rattle.oss_model.specs.StatementLimits.{OpensTarget, OpensSimple}
+use Rattle.oss_model.specs.StatementLimits.OpensTarget.{element_place, pointed_place}
+use Rattle.oss_model.specs.StatementLimits.OpensSimple.{simple_target, simple_value, stepped_target, first_value, later_value}
+use Rattle.oss_model.proofs.Parts.{Exact, Begun, exact_as, exact_before, member_begins, deep_begins}
+use Rattle.oss_model.proofs.PartLemmas.{Nowhere, nowhere, exact_one, begun_one, Nothing, exact_nothing, exact_mapped, begun_mapped, Then, ThenDeep, exact_then, begun_then, EitherDeep, exact_either, begun_either}
+use Rattle.oss_model.proofs.PartLemmas.ThenDeep.{in_first, in_second}
+use Rattle.oss_model.proofs.PartLemmas.EitherDeep.{one_deep, other_deep}
+use Rattle.oss_model.proofs.PairLemmas.{some_text, exact_next, begun_next}
+use Rattle.oss_model.proofs.StepLemmas.{none_goes, fewer_go}
+use Rattle.oss_parse.specs.SimpleReading.{assignment_at, stepped_in, step_at, star, deref_at, assigned_to, stepped_by, step_before, call_statement, read_target_from, read_pointed_at, read_starred, read_target, read_assigned, read_step_first, read_called, read_simple_from, read_simple, begins_simple}
+use Rattle.oss_pragma.specs.ExpressionReading.{named_expression, indexed, read_arguments}
+use Rattle.oss_pragma.specs.TokenValues.{symbol_at, name_at, begins_expression}
+use Rattle.oss_pragma.specs.declared.cursor.Named.{Named}
+use Rattle.oss_pragma.proofs.ExactPairs.{Headed, HeadedDeep, exact_headed, begun_headed, Bracketed, BracketedDeep, exact_bracketed, begun_bracketed, Behind, exact_behind, begun_behind, exact_or, symbol_line, read_bracketed}
+use Rattle.oss_pragma.proofs.PrimaryLemmas.{Closed, ClosedDeep, exact_arguments, begun_arguments, name_is, name_value, name_one}
+use Rattle.oss_pragma.proofs.PrimaryLemmas.ClosedDeep.{first_argument, later_argument}
+use Rattle.oss_pragma.proofs.TokenLemmas.{begins_never, exact_closed, exact_symbol, symbol_token, symbol_value, symbol_one, goes_on, on_symbol, not_symbol, has_symbol}
+
+-- a bracket that closes, or one that opens an index
+abbrev index_opening : Token → Bool
+index_opening = has (symbol_at (codes "["))
+
+abbrev opening : Token → Bool
+opening = has (symbol_at (codes "("))
+
+index_closed : (t : Token) → has (symbol_at (codes "]")) t ≡ true → goes_on t ≡ false
+unfolding operator_of
+index_closed t e = on_symbol goes_on (codes "]") false (λ line. refl) t (has_symbol (codes "]") t e)
+
+-- no expression goes on with the bracket that closes it
+pub closed_ends : (t : Token) → has (symbol_at (codes ")")) t ≡ true → goes_on t ≡ false
+unfolding operator_of
+closed_ends t e = on_symbol goes_on (codes ")") false (λ line. refl) t (has_symbol (codes ")") t e)
+
+goes_index : (t : Token) → goes_on t ≡ false → index_opening t ≡ false
+goes_index t e = on (is_symbol (codes "[") t.what) refl where
+  on : (b : Bool) → is_symbol (codes "[") t.what ≡ b → index_opening t ≡ false
+  on true is = let no_way : goes_on t ≡ true = on_symbol goes_on (codes "[") true (λ line. refl) t is in absurd (cc)
+  on false is = rw is refl
+
+-- what no step passes is none
+no_step : (k : TokenKind) (line : ℕ) (b c : Bool) → is_symbol (codes "++") k ≡ b → is_symbol (codes "--") k ≡ c → b ≡ false → c ≡ false → is_some (stepped_in line (step_of k)) ≡ false
+unfolding step_of
+no_step k line false false e d p q = rw e (rw d refl)
+no_step k line true c e d p q = absurd (cc)
+no_step k line false true e d p q = absurd (cc)
+
+not_step : (test : Token → Bool) → ((line : ℕ) → test (record { what = kinds.Symbol (codes "++"); line = line }) ≡ false) → ((line : ℕ) → test (record { what = kinds.Symbol (codes "--"); line = line }) ≡ false)
+    → (t : Token) → test t ≡ true → has step_at t ≡ false
+not_step test one two t e = no_step t.what t.line (is_symbol (codes "++") t.what) (is_symbol (codes "--") t.what) refl refl (symbol_fails (codes "++") one) (symbol_fails (codes "--") two) where
+  symbol_fails : (s : List ℕ) → ((line : ℕ) → test (record { what = kinds.Symbol s; line = line }) ≡ false) → is_symbol s t.what ≡ false
+  symbol_fails s told = on (is_symbol s t.what) refl where
+    on : (b : Bool) → is_symbol s t.what ≡ b → b ≡ false
+    on true is = let no_way : test t ≡ false = on_symbol test s false told t is in absurd (cc)
+    on false is = refl
+
+assignment_no_step : (t : Token) → has assignment_at t ≡ true → has step_at t ≡ false
+unfolding assignment_of
+assignment_no_step t e = not_step (has assignment_at) (λ line. refl) (λ line. refl) t e
+
+-- behind a target stands a step or an assignment
+abbrev marks : Token → Bool
+marks = one_of (has step_at) (has assignment_at)
+
+mark_no_index : (t : Token) → marks t ≡ true → index_opening t ≡ false
+unfolding assignment_of step_of
+mark_no_index t e = not_symbol marks (codes "[") (λ line. refl) t e
+
+mark_no_opening : (t : Token) → marks t ≡ true → opening t ≡ false
+unfolding assignment_of step_of
+mark_no_opening t e = not_symbol marks (codes "(") (λ line. refl) t e
+
+-- what a step is
+record StepIs (t : Token) (p : BinOp × ℕ) : Type 0 where
+  what : step_of t.what ≡ Some p.0
+  at : t.line ≡ p.1
+
+step_is : (t : Token) (p : BinOp × ℕ) → step_at t ≡ Some p → StepIs t p
+step_is t p e = on (step_of t.what) refl e where
+  some_is : (a b : BinOp × ℕ) → Some a ≡ Some b → a ≡ b
+  some_is a b e = cc
+
+  on : (o : Option BinOp) → step_of t.what ≡ o → stepped_in t.line o ≡ Some p → StepIs t p
+  on None is told = absurd (cc)
+  on (Some operator) is told = let same = some_is (operator, t.line) p told in record { what = is ∙ ap (λ (q : BinOp × ℕ). Some q.0) same; at = ap (λ (q : BinOp × ℕ). q.1) same }
+
+step_value : (t : Token) (operator : BinOp) → step_of t.what ≡ Some operator → step_at t ≡ Some (operator, t.line)
+step_value t operator e = ap (stepped_in t.line) e
+
+module _ {expression : Reader Expr} {X : List Token → Token → Type 0} (part : Exact expression IsWhole X goes_on) (first : Begun expression begins_expression) where
+  -- the targets
+  abbrev Indexed : List Token → Expr → Type 0
+  Indexed = Bracketed (codes "[") (codes "]") IsWhole
+
+  abbrev IndexedDeep : List Token → Token → Type 0
+  IndexedDeep = BracketedDeep (codes "[") X
+
+  exact_indexed : (name : Named) → Exact (read_mapped (indexed (named_expression name)) (read_bracketed (codes "[") (codes "]") expression)) (Mapped (indexed (named_expression name)) Indexed) IndexedDeep never
+  exact_indexed name = exact_mapped (indexed (named_expression name)) (exact_bracketed (codes "[") (codes "]") part (some_text part first) index_closed refl refl)
+
+  begun_indexed : (name : Named) → Begun (read_mapped (indexed (named_expression name)) (read_bracketed (codes "[") (codes "]") expression)) index_opening
+  begun_indexed name = begun_mapped (indexed (named_expression name)) (begun_bracketed (codes "[") (codes "]") part (some_text part first) index_closed refl refl)
+
+  abbrev TargetFrom : Named → List Token → Expr → Type 0
+  TargetFrom name = Either (Mapped (indexed (named_expression name)) Indexed) (Nothing (named_expression name))
+
+  abbrev TargetFromDeep : List Token → Token → Type 0
+  TargetFromDeep = EitherDeep IndexedDeep Nowhere
+
+  exact_target_from : (name : Named) → Exact (read_target_from expression name) (TargetFrom name) TargetFromDeep index_opening
+  unfolding read_target_from
+  exact_target_from name = exact_either index_opening (exact_closed index_opening (exact_indexed name)) (begun_indexed name) (exact_nothing (named_expression name) index_opening)
+      (λ ys b rest w free. ap (λ zs. begins index_opening (zs ++ rest)) w.nothing ∙ free)
+      (λ ys t rest d. nowhere ys t d)
+
+  target_from_viable : (name : Named) → Viable (TargetFrom name) []
+  target_from_viable name = record { more = []; value = named_expression name; member = other_way (record { nothing = refl; same = refl }) }
+
+  exact_name : Exact (read_one name_at) (One name_at) Nowhere never
+  exact_name = exact_one name_at (record { what = kinds.Name []; line = 0 }) (record { name = []; line = 0 }) refl never
+
+  abbrev PointedAt : ℕ → List Token → Expr → Type 0
+  PointedAt line = Either (Mapped (λ name. deref_at line (named_expression name)) (One name_at)) (Mapped (deref_at line) (Bracketed (codes "(") (codes ")") IsWhole))
+
+  abbrev PointedAtDeep : List Token → Token → Type 0
+  PointedAtDeep = EitherDeep Nowhere (BracketedDeep (codes "(") X)
+
+  opening_no_name : (t : Token) → opening t ≡ true → has name_at t ≡ false
+  opening_no_name t e = on_symbol (has name_at) (codes "(") false (λ line. refl) t (has_symbol (codes "(") t e)
+
+  exact_pointed_at : (line : ℕ) → Exact (read_pointed_at expression line) (PointedAt line) PointedAtDeep never
+  unfolding read_pointed_at
+  exact_pointed_at line = exact_or (has name_at) opening (exact_mapped (λ name. deref_at line (named_expression name)) exact_name) (begun_mapped (λ name. deref_at line (named_expression name)) (begun_one name_at))
+      (exact_mapped (deref_at line) (exact_bracketed (codes "(") (codes ")") part (some_text part first) closed_ends refl refl))
+      (begun_mapped (deref_at line) (begun_bracketed (codes "(") (codes ")") part (some_text part first) closed_ends refl refl)) opening_no_name
+
+  begun_pointed_at : (line : ℕ) → Begun (read_pointed_at expression line) (one_of (has name_at) opening)
+  unfolding read_pointed_at
+  begun_pointed_at line = begun_either (has name_at) (begun_mapped (λ name. deref_at line (named_expression name)) (begun_one name_at))
+      (begun_mapped (deref_at line) (begun_bracketed (codes "(") (codes ")") part (some_text part first) closed_ends refl refl))
+
+  abbrev Starred : List Token → Expr → Type 0
+  Starred = Then (One (symbol_at (codes "*"))) PointedAt
+
+  abbrev StarredDeep : List Token → Token → Type 0
+  StarredDeep = ThenDeep Nowhere (One (symbol_at (codes "*"))) (λ line. PointedAtDeep)
+
+  exact_starred : Exact (read_starred expression) Starred StarredDeep never
+  unfolding read_starred
+  exact_starred = exact_next (exact_symbol (codes "*") refl never) exact_pointed_at begun_pointed_at (λ line t e. refl)
+
+  begun_starred : Begun (read_starred expression) star
+  unfolding read_starred
+  begun_starred = begun_next (exact_symbol (codes "*") refl never) exact_pointed_at begun_pointed_at (λ line t e. refl) (begun_one (symbol_at (codes "*")))
+
+  abbrev NamedTarget : List Token → Expr → Type 0
+  NamedTarget = Then (One name_at) TargetFrom
+
+  abbrev NamedTargetDeep : List Token → Token → Type 0
+  NamedTargetDeep = ThenDeep Nowhere (One name_at) (λ name. TargetFromDeep)
+
+  exact_named_target : Exact (read_then (read_one name_at) (read_target_from expression)) NamedTarget NamedTargetDeep index_opening
+  exact_named_target = exact_then exact_name exact_target_from (λ name ys b rest w free. begins_never (ys ++ rest)) (λ name ys t rest d. begins_never (ys ++ (t ∷ rest))) target_from_viable
+
+  begun_named_target : Begun (read_then (read_one name_at) (read_target_from expression)) (has name_at)
+  begun_named_target = begun_then exact_name exact_target_from (λ name ys b rest w free. begins_never (ys ++ rest)) (λ name ys t rest d. begins_never (ys ++ (t ∷ rest))) target_from_viable (begun_one name_at)
+
+  name_no_star : (t : Token) → has name_at t ≡ true → star t ≡ false
+  name_no_star t e = not_symbol (has name_at) (codes "*") (λ line. refl) t e
+
+  starred_into_by : (xs front back : List Token) (line : ℕ) (e : Expr) → xs ≡ front ++ back → One (symbol_at (codes "*")) front line → PointedAt line back e → IsTarget xs e
+  starred_into_by xs front back line e s w (one_way m) =
+      let n = m.whole in let is = name_is n.token.what n.token.line m.part n.passes in
+      subst (λ e. IsTarget xs e)
+      (ap (λ k. deref_at w.token.line (record { what = exprs.Name m.part.name; line = k })) (sym is.at) ∙ (ap (λ k. deref_at k (named_expression m.part)) (symbol_line (codes "*") w.token line w.passes) ∙ m.made))
+      (pointer_target w.token n.token m.part.name (s ∙ (ap (λ ys. ys ++ back) w.only ∙ ap (λ ys. w.token ∷ ys) n.only)) (symbol_token (codes "*") w.token line w.passes) is.what)
+  starred_into_by xs front back line e s w (other_way m) = let b = m.whole in
+      subst (λ e. IsTarget xs e) (ap (λ k. deref_at k m.part) (symbol_line (codes "*") w.token line w.passes) ∙ m.made)
+      (pointed_target w.token b.opened b.inner b.closed (s ∙ (ap (λ ys. ys ++ back) w.only ∙ ap (λ ys. w.token ∷ ys) b.split)) (symbol_token (codes "*") w.token line w.passes) b.opens b.closes b.inside)
+
+  starred_into : (xs : List Token) (e : Expr) → Starred xs e → IsTarget xs e
+  starred_into xs e w = starred_into_by xs w.front w.back w.value e w.split w.before w.behind
+
+  named_into_by : (xs front back : List Token) (name : Named) (e : Expr) → xs ≡ front ++ back → One name_at front name → TargetFrom name back e → IsTarget xs e
+  named_into_by xs front back name e s n (one_way m) =
+      let is = name_is n.token.what n.token.line name n.passes in let b = m.whole in
+      subst (λ e. IsTarget xs e) (ap (λ k. indexed (record { what = exprs.Name name.name; line = k }) m.part) (sym is.at) ∙ m.made)
+      (element_target n.token name.name b.opened b.inner b.closed (s ∙ (ap (λ ys. ys ++ back) n.only ∙ ap (λ ys. n.token ∷ ys) b.split)) is.what b.opens b.closes b.inside)
+  named_into_by xs front back name e s n (other_way m) =
+      let is = name_is n.token.what n.token.line name n.passes in
+      subst (λ e. IsTarget xs e) (ap (λ k. record { what = exprs.Name name.name; line = k }) (sym is.at) ∙ m.same)
+      (name_target n.token name.name (s ∙ (ap (λ ys. ys ++ back) n.only ∙ ap (λ ys. n.token ∷ ys) m.nothing)) is.what)
+
+  named_into : (xs : List Token) (e : Expr) → NamedTarget xs e → IsTarget xs e
+  named_into xs e w = named_into_by xs w.front w.back w.value e w.split w.before w.behind
+
+  target_into : (xs : List Token) (e : Expr) → Either Starred NamedTarget xs e → IsTarget xs e
+  target_into xs e (one_way w) = starred_into xs e w
+  target_into xs e (other_way w) = named_into xs e w
+
+  target_back : (xs : List Token) (e : Expr) → IsTarget xs e → Either Starred NamedTarget xs e
+  target_back xs e (name_target t word s n) = other_way (record {
+    front = t ∷ []; back = []; value = record { name = word; line = t.line }; split = s; before = name_one t word n; behind = other_way (record { nothing = refl; same = refl });
+  })
+  target_back xs e (element_target {at = at} t word opened inner closed s n o c w) = other_way (record {
+    front = t ∷ []; back = opened ∷ (inner ++ (closed ∷ [])); value = record { name = word; line = t.line }; split = s; before = name_one t word n;
+    behind = one_way (record { part = at; made = refl; whole = record { opened = opened; inner = inner; closed = closed; split = refl; opens = o; closes = c; inside = w } });
+  })
+  target_back xs e (pointer_target mark t word s m n) = one_way (record {
+    front = mark ∷ []; back = t ∷ []; value = mark.line; split = s; before = symbol_one (codes "*") mark m;
+    behind = one_way (record { part = record { name = word; line = t.line }; made = refl; whole = name_one t word n });
+  })
+  target_back xs e (pointed_target {e = v} mark opened inner closed s m o c w) = one_way (record {
+    front = mark ∷ []; back = opened ∷ (inner ++ (closed ∷ [])); value = mark.line; split = s; before = symbol_one (codes "*") mark m;
+    behind = other_way (record { part = v; made = refl; whole = record { opened = opened; inner = inner; closed = closed; split = refl; opens = o; closes = c; inside = w } });
+  })
+
+  starred_deeper : (xs : List Token) (t : Token) → StarredDeep xs t → IsExcessBehind OpensTarget X xs t
+  starred_deeper xs t (in_first d) = nowhere xs t d
+  starred_deeper xs t (in_second front back line e w (one_deep d)) = nowhere back t d
+  starred_deeper xs t (in_second front back line e w (other_deep d)) = record {
+    front = w.token ∷ d.opened ∷ []; inner = d.inner; split = e ∙ (ap (λ ys. ys ++ back) w.only ∙ ap (λ ys. w.token ∷ ys) d.split);
+    opens = pointed_place w.token d.opened refl (symbol_token (codes "*") w.token line w.passes) d.opens; excess = d.deep;
+  }
+
+  named_deeper : (xs : List Token) (t : Token) → NamedTargetDeep xs t → IsExcessBehind OpensTarget X xs t
+  named_deeper xs t (in_first d) = nowhere xs t d
+  named_deeper xs t (in_second front back name e w (other_deep d)) = nowhere back t d
+  named_deeper xs t (in_second front back name e w (one_deep d)) = record {
+    front = w.token ∷ d.opened ∷ []; inner = d.inner; split = e ∙ (ap (λ ys. ys ++ back) w.only ∙ ap (λ ys. w.token ∷ ys) d.split);
+    opens = element_place w.token name.name d.opened refl ((name_is w.token.what w.token.line name w.passes).what) d.opens; excess = d.deep;
+  }
+
+  target_deeper : (xs : List Token) (t : Token) → EitherDeep StarredDeep NamedTargetDeep xs t → IsExcessBehind OpensTarget X xs t
+  target_deeper xs t (one_deep d) = starred_deeper xs t d
+  target_deeper xs t (other_deep d) = named_deeper xs t d
+
+  target_upper_by : (xs before inner : List Token) (t : Token) → xs ≡ before ++ inner → X inner t → OpensTarget before → EitherDeep StarredDeep NamedTargetDeep xs t
+  target_upper_by xs before inner t e x (element_place n word opened s what o) = other_deep (in_second (n ∷ []) (opened ∷ inner) (record { name = word; line = n.line }) (e ∙ ap (λ ys. ys ++ inner) s) (name_one n word what)
+      (one_deep (record { opened = opened; inner = inner; split = refl; opens = o; deep = x })))
+  target_upper_by xs before inner t e x (pointed_place mark opened s m o) = one_deep (in_second (mark ∷ []) (opened ∷ inner) mark.line (e ∙ ap (λ ys. ys ++ inner) s) (symbol_one (codes "*") mark m)
+      (other_deep (record { opened = opened; inner = inner; split = refl; opens = o; deep = x })))
+
+  target_upper : (xs : List Token) (t : Token) → IsExcessBehind OpensTarget X xs t → EitherDeep StarredDeep NamedTargetDeep xs t
+  target_upper xs t w = target_upper_by xs w.front w.inner t w.split w.excess w.opens
+
+  exact_target : Exact (read_target expression) IsTarget (IsExcessBehind OpensTarget X) index_opening
+  unfolding read_target
+  exact_target = exact_as target_into target_back target_deeper target_upper (exact_or star (has name_at) (exact_closed index_opening exact_starred) begun_starred exact_named_target begun_named_target name_no_star)
+
+  begun_target : Begun (read_target expression) (one_of star (has name_at))
+  unfolding read_target
+  begun_target = begun_either star begun_starred begun_named_target
