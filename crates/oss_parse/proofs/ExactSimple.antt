@@ -275,3 +275,127 @@ module _ {expression : Reader Expr} {X : List Token → Token → Type 0} (part 
   begun_target : Begun (read_target expression) (one_of star (has name_at))
   unfolding read_target
   begun_target = begun_either star begun_starred begun_named_target
+
+  -- an assignment or a step behind a target
+  exact_step_mark : Exact (read_one step_at) (One step_at) Nowhere never
+  unfolding step_of
+  exact_step_mark = exact_one step_at (record { what = kinds.Symbol (codes "++"); line = 0 }) (op.Add, 0) refl never
+
+  abbrev Assigned : Expr → List Token → Stmt → Type 0
+  Assigned target = Either (Mapped (stepped_by target) (One step_at)) (Mapped (assigned_to target) (Headed assignment_at IsWhole))
+
+  abbrev AssignedDeep : List Token → Token → Type 0
+  AssignedDeep = EitherDeep Nowhere (HeadedDeep assignment_at X)
+
+  exact_value : (target : Expr) → Exact (read_mapped (assigned_to target) (read_both (read_one assignment_at) expression)) (Mapped (assigned_to target) (Headed assignment_at IsWhole)) (HeadedDeep assignment_at X) goes_on
+  unfolding assignment_of
+  exact_value target = exact_mapped (assigned_to target) (exact_headed assignment_at part (record { what = kinds.Symbol (codes "="); line = 0 }) None refl (some_text part first))
+
+  begun_value : (target : Expr) → Begun (read_mapped (assigned_to target) (read_both (read_one assignment_at) expression)) (has assignment_at)
+  begun_value target = begun_mapped (assigned_to target) (begun_headed assignment_at part)
+
+  exact_assigned : (target : Expr) → Exact (read_assigned expression target) (Assigned target) AssignedDeep goes_on
+  unfolding read_assigned
+  exact_assigned target = exact_or (has step_at) (has assignment_at) (exact_closed goes_on (exact_mapped (stepped_by target) exact_step_mark)) (begun_mapped (stepped_by target) (begun_one step_at))
+      (exact_value target) (begun_value target) assignment_no_step
+
+  begun_assigned : (target : Expr) → Begun (read_assigned expression target) marks
+  unfolding read_assigned
+  begun_assigned target = begun_either (has step_at) (begun_mapped (stepped_by target) (begun_one step_at)) (begun_value target)
+
+  -- a step before its target
+  abbrev StepFirst : List Token → Stmt → Type 0
+  StepFirst = Mapped step_before (Headed step_at IsTarget)
+
+  abbrev StepFirstDeep : List Token → Token → Type 0
+  StepFirstDeep = HeadedDeep step_at (IsExcessBehind OpensTarget X)
+
+  exact_step_first : Exact (read_step_first expression) StepFirst StepFirstDeep goes_on
+  unfolding read_step_first step_of
+  exact_step_first = exact_mapped step_before (exact_headed step_at (exact_before index_opening goes_on (λ rest free. fewer_go goes_on index_opening goes_index rest free) exact_target)
+      (record { what = kinds.Symbol (codes "++"); line = 0 }) (op.Add, 0) refl (some_text exact_target begun_target))
+
+  begun_step_first : Begun (read_step_first expression) (has step_at)
+  unfolding read_step_first
+  begun_step_first = begun_mapped step_before (begun_headed step_at exact_target)
+
+  -- a call
+  abbrev CallOf : Named → List Token → Stmt → Type 0
+  CallOf name = Mapped (call_statement name) (Behind (codes "(") Closed)
+
+  abbrev CallDeep : List Token → Token → Type 0
+  CallDeep = BracketedDeep (codes "(") (ClosedDeep X)
+
+  exact_called : (name : Named) → Exact (read_called expression name) (CallOf name) CallDeep never
+  unfolding read_called
+  exact_called name = exact_mapped (call_statement name) (exact_behind (codes "(") (exact_arguments part first) (some_text (exact_arguments part first) (begun_arguments part first)) refl)
+
+  begun_called : (name : Named) → Begun (read_called expression name) opening
+  unfolding read_called
+  begun_called name = begun_mapped (call_statement name) (begun_behind (codes "(") (exact_arguments part first) (some_text (exact_arguments part first) (begun_arguments part first)) refl)
+
+  -- what stands behind a name
+  abbrev TargetAssigned : Named → List Token → Stmt → Type 0
+  TargetAssigned name = Then (TargetFrom name) Assigned
+
+  abbrev TargetAssignedDeep : Named → List Token → Token → Type 0
+  TargetAssignedDeep name = ThenDeep TargetFromDeep (TargetFrom name) (λ target. AssignedDeep)
+
+  exact_target_assigned : (name : Named) → Exact (read_then (read_target_from expression name) (read_assigned expression)) (TargetAssigned name) (TargetAssignedDeep name) goes_on
+  exact_target_assigned name = exact_next (exact_target_from name) exact_assigned begun_assigned (λ target. mark_no_index)
+
+  index_no_opening : (t : Token) → index_opening t ≡ true → opening t ≡ false
+  index_no_opening t e = not_symbol index_opening (codes "(") (λ line. refl) t e
+
+  from_apart : (name : Named) (xs front back rest : List Token) (target : Expr) → xs ≡ front ++ back → TargetFrom name front target → begins opening (back ++ rest) ≡ false → begins opening (xs ++ rest) ≡ false
+  from_apart name xs front back rest target e (one_way m) none =
+      ap (begins opening) (ap (λ ys. ys ++ rest) e ∙ append_assoc front back rest)
+      ∙ none_goes index_opening opening index_no_opening (front ++ (back ++ rest)) (member_begins (exact_indexed name) (begun_indexed name) front target (back ++ rest) m)
+  from_apart name xs front back rest target e (other_way m) none = ap (λ ys. begins opening (ys ++ rest)) (e ∙ ap (λ ys. ys ++ back) m.nothing) ∙ none
+
+  assigned_apart : (name : Named) (ys : List Token) (s : Stmt) (rest : List Token) → TargetAssigned name ys s → begins goes_on rest ≡ false → begins opening (ys ++ rest) ≡ false
+  assigned_apart name ys s rest w free = from_apart name ys w.front w.back rest w.value w.split w.before
+      (none_goes marks opening mark_no_opening (w.back ++ rest) (member_begins (exact_assigned w.value) (begun_assigned w.value) w.back s rest w.behind))
+
+  assigned_apart_deep : (name : Named) (ys : List Token) (t : Token) (rest : List Token) → TargetAssignedDeep name ys t → begins opening (ys ++ (t ∷ rest)) ≡ false
+  assigned_apart_deep name ys t rest (in_first (one_deep d)) = none_goes index_opening opening index_no_opening (ys ++ (t ∷ rest)) (deep_begins (exact_indexed name) (begun_indexed name) ys t rest d)
+  assigned_apart_deep name ys t rest (in_first (other_deep d)) = nowhere ys t d
+  assigned_apart_deep name ys t rest (in_second front back target e w d) = from_apart name ys front back (t ∷ rest) target e w
+      (none_goes marks opening mark_no_opening (back ++ (t ∷ rest)) (deep_begins (exact_assigned target) (begun_assigned target) back t rest d))
+
+  abbrev SimpleFrom : Named → List Token → Stmt → Type 0
+  SimpleFrom name = Either (CallOf name) (TargetAssigned name)
+
+  abbrev SimpleFromDeep : Named → List Token → Token → Type 0
+  SimpleFromDeep name = EitherDeep CallDeep (TargetAssignedDeep name)
+
+  exact_simple_from : (name : Named) → Exact (read_simple_from expression name) (SimpleFrom name) (SimpleFromDeep name) goes_on
+  unfolding read_simple_from
+  exact_simple_from name = exact_either opening (exact_closed goes_on (exact_called name)) (begun_called name) (exact_target_assigned name) (assigned_apart name) (assigned_apart_deep name)
+
+  from_viable : (name : Named) → Viable (SimpleFrom name) []
+  from_viable name = let v = some_text (exact_called name) (begun_called name) in record { more = v.more; value = v.value; member = one_way v.member }
+
+  abbrev NamedSimple : List Token → Stmt → Type 0
+  NamedSimple = Then (One name_at) SimpleFrom
+
+  abbrev NamedSimpleDeep : List Token → Token → Type 0
+  NamedSimpleDeep = ThenDeep Nowhere (One name_at) SimpleFromDeep
+
+  exact_named_simple : Exact (read_then (read_one name_at) (read_simple_from expression)) NamedSimple NamedSimpleDeep goes_on
+  exact_named_simple = exact_then exact_name exact_simple_from (λ name ys b rest w free. begins_never (ys ++ rest)) (λ name ys t rest d. begins_never (ys ++ (t ∷ rest))) from_viable
+
+  begun_named_simple : Begun (read_then (read_one name_at) (read_simple_from expression)) (has name_at)
+  begun_named_simple = begun_then exact_name exact_simple_from (λ name ys b rest w free. begins_never (ys ++ rest)) (λ name ys t rest d. begins_never (ys ++ (t ∷ rest))) from_viable (begun_one name_at)
+
+  abbrev StarredSimple : List Token → Stmt → Type 0
+  StarredSimple = Then Starred Assigned
+
+  abbrev StarredSimpleDeep : List Token → Token → Type 0
+  StarredSimpleDeep = ThenDeep StarredDeep Starred (λ target. AssignedDeep)
+
+  exact_starred_simple : Exact (read_then (read_starred expression) (read_assigned expression)) StarredSimple StarredSimpleDeep goes_on
+  exact_starred_simple = exact_next exact_starred exact_assigned begun_assigned (λ target t e. refl)
+
+  begun_starred_simple : Begun (read_then (read_starred expression) (read_assigned expression)) star
+  begun_starred_simple = begun_next exact_starred exact_assigned begun_assigned (λ target t e. refl) begun_starred
