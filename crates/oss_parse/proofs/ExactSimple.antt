@@ -399,3 +399,143 @@ module _ {expression : Reader Expr} {X : List Token → Token → Type 0} (part 
 
   begun_starred_simple : Begun (read_then (read_starred expression) (read_assigned expression)) star
   begun_starred_simple = begun_next exact_starred exact_assigned begun_assigned (λ target t e. refl) begun_starred
+
+  abbrev Simple : List Token → Stmt → Type 0
+  Simple = Either StepFirst (Either StarredSimple NamedSimple)
+
+  abbrev SimpleDeep : List Token → Token → Type 0
+  SimpleDeep = EitherDeep StepFirstDeep (EitherDeep StarredSimpleDeep NamedSimpleDeep)
+
+  assigned_into : (xs front back : List Token) (target : Expr) (s : Stmt) → xs ≡ front ++ back → IsTarget front target → Assigned target back s → IsSimple xs s
+  assigned_into xs front back target s e w (one_way m) = let is = step_is m.whole.token m.part m.whole.passes in
+      subst (λ s. IsSimple xs s) (ap (λ k. stepped_by target (m.part.0, k)) is.at ∙ m.made)
+      (stepped front m.whole.token m.part.0 (e ∙ ap (λ ys. front ++ ys) m.whole.only) is.what w)
+  assigned_into xs front back target s e w (other_way m) =
+      subst (λ s. IsSimple xs s) m.made (assigned front m.whole.token m.part.0 m.whole.back (e ∙ ap (λ ys. front ++ ys) m.whole.split) m.whole.passes w m.whole.behind)
+
+  named_simple_into : (xs front back : List Token) (name : Named) (s : Stmt) → xs ≡ front ++ back → One name_at front name → SimpleFrom name back s → IsSimple xs s
+  named_simple_into xs front back name s e n (one_way m) =
+      let is = name_is n.token.what n.token.line name n.passes in let b = m.whole in let c = b.behind in
+      subst (λ s. IsSimple xs s) (ap (λ k. record { what = stmts.Call name.name m.part; line = k }) (sym is.at) ∙ m.made)
+      (called n.token b.mark name.name c.inner c.closed (e ∙ (ap (λ ys. ys ++ back) n.only ∙ ap (λ ys. n.token ∷ ys) (b.split ∙ ap (λ ys. b.mark ∷ ys) c.split))) is.what b.marks c.closes c.arguments)
+  named_simple_into xs front back name s e n (other_way m) =
+      assigned_into xs (front ++ m.front) m.back m.value s (e ∙ (ap (λ ys. front ++ ys) m.split ∙ sym (append_assoc front m.front m.back)))
+      (named_into_by (front ++ m.front) front m.front name m.value refl n m.before) m.behind
+
+  simple_into : (xs : List Token) (s : Stmt) → Simple xs s → IsSimple xs s
+  simple_into xs s (one_way m) = let is = step_is m.whole.token m.part.0 m.whole.passes in
+      subst (λ s. IsSimple xs s) (ap (λ k. step_before ((m.part.0.0, k), m.part.1)) is.at ∙ m.made)
+      (step_first m.whole.token m.part.0.0 m.whole.back m.whole.split is.what m.whole.behind)
+  simple_into xs s (other_way (one_way w)) = assigned_into xs w.front w.back w.value s w.split (starred_into w.front w.value w.before) w.behind
+  simple_into xs s (other_way (other_way w)) = named_simple_into xs w.front w.back w.value s w.split w.before w.behind
+
+  behind_target : (xs front back : List Token) (target : Expr) (s : Stmt) → xs ≡ front ++ back → Assigned target back s → Either Starred NamedTarget front target → Simple xs s
+  behind_target xs front back target s e a (one_way w) = other_way (one_way (record { front = front; back = back; value = target; split = e; before = w; behind = a }))
+  behind_target xs front back target s e a (other_way w) = other_way (other_way (record {
+    front = w.front; back = w.back ++ back; value = w.value; split = e ∙ (ap (λ ys. ys ++ back) w.split ∙ append_assoc w.front w.back back); before = w.before;
+    behind = other_way (record { front = w.back; back = back; value = target; split = refl; before = w.behind; behind = a });
+  }))
+
+  simple_back : (xs : List Token) (s : Stmt) → IsSimple xs s → Simple xs s
+  simple_back xs s (assigned {target = target} {value = value} front mark operator back e a w v) =
+      behind_target xs front (mark ∷ back) target s e
+      (other_way (record { part = (operator, value); made = refl; whole = record { token = mark; back = back; split = refl; passes = a; behind = v } })) (target_back front target w)
+  simple_back xs s (stepped {target = target} front mark operator e a w) =
+      behind_target xs front (mark ∷ []) target s e
+      (one_way (record { part = (operator, mark.line); made = refl; whole = record { token = mark; only = refl; passes = step_value mark operator a } })) (target_back front target w)
+  simple_back xs s (step_first {target = target} mark operator back e a w) =
+      one_way (record { part = ((operator, mark.line), target); made = refl; whole = record { token = mark; back = back; split = e; passes = step_value mark operator a; behind = w } })
+  simple_back xs s (called {values = values} t opened word inner closed e n o c w) = other_way (other_way (record {
+    front = t ∷ []; back = opened ∷ (inner ++ (closed ∷ [])); value = record { name = word; line = t.line }; split = e; before = name_one t word n;
+    behind = one_way (record {
+      part = values; made = refl;
+      whole = record { mark = opened; back = inner ++ (closed ∷ []); split = refl; marks = o; behind = record { inner = inner; closed = closed; split = refl; closes = c; arguments = w } };
+    });
+  }))
+
+  -- the places
+  in_target : (xs : List Token) (t : Token) → IsExcessBehind OpensTarget X xs t → IsExcessBehind OpensSimple X xs t
+  in_target xs t d = record { front = d.front; inner = d.inner; split = d.split; opens = simple_target d.opens; excess = d.excess }
+
+  value_deeper : (xs front back : List Token) (target : Expr) (t : Token) → xs ≡ front ++ back → IsTarget front target → HeadedDeep assignment_at X back t → IsExcessBehind OpensSimple X xs t
+  value_deeper xs front back target t e w d = record {
+    front = front ++ (d.token ∷ []); inner = d.back; split = e ∙ (ap (λ ys. front ++ ys) d.split ∙ sym (append_assoc front (d.token ∷ []) d.back));
+    opens = simple_value front d.token d.value refl w d.passes; excess = d.deep;
+  }
+
+  called_deeper : (xs front back : List Token) (name : Named) (t : Token) → xs ≡ front ++ back → One name_at front name → CallDeep back t → IsExcessBehind OpensSimple X xs t
+  called_deeper xs front back name t e n d = on d.deep where
+    what : n.token.what ≡ kinds.Name name.name
+    what = (name_is n.token.what n.token.line name n.passes).what
+
+    all : xs ≡ n.token ∷ d.opened ∷ d.inner
+    all = e ∙ (ap (λ ys. ys ++ back) n.only ∙ ap (λ ys. n.token ∷ ys) d.split)
+
+    on : ClosedDeep X d.inner t → IsExcessBehind OpensSimple X xs t
+    on (first_argument x) = record { front = n.token ∷ d.opened ∷ []; inner = d.inner; split = all; opens = first_value n.token d.opened name.name refl what d.opens; excess = x }
+    on (later_argument values before mark inner s w c x) = record {
+      front = n.token ∷ d.opened ∷ (before ++ (mark ∷ [])); inner = inner; split = all ∙ ap (λ ys. n.token ∷ d.opened ∷ ys) (s ∙ sym (append_assoc before (mark ∷ []) inner));
+      opens = later_value n.token d.opened name.name before mark refl what d.opens w c; excess = x;
+    }
+
+  named_simple_deeper : (xs front back : List Token) (name : Named) (t : Token) → xs ≡ front ++ back → One name_at front name → SimpleFromDeep name back t → IsExcessBehind OpensSimple X xs t
+  named_simple_deeper xs front back name t e n (one_deep d) = called_deeper xs front back name t e n d
+  named_simple_deeper xs front back name t e n (other_deep (in_first d)) = in_target xs t (named_deeper xs t (in_second front back name e n d))
+  named_simple_deeper xs front back name t e n (other_deep (in_second middle rest target s w (one_deep d))) = nowhere rest t d
+  named_simple_deeper xs front back name t e n (other_deep (in_second middle rest target s w (other_deep d))) =
+      value_deeper xs (front ++ middle) rest target t (e ∙ (ap (λ ys. front ++ ys) s ∙ sym (append_assoc front middle rest))) (named_into_by (front ++ middle) front middle name target refl n w) d
+
+  simple_deeper : (xs : List Token) (t : Token) → SimpleDeep xs t → IsExcessBehind OpensSimple X xs t
+  simple_deeper xs t (one_deep d) = let x = d.deep in let is = step_is d.token d.value d.passes in record {
+    front = d.token ∷ x.front; inner = x.inner; split = d.split ∙ ap (λ ys. d.token ∷ ys) x.split; opens = stepped_target d.token d.value.0 x.front refl is.what x.opens; excess = x.excess;
+  }
+  simple_deeper xs t (other_deep (one_deep (in_first d))) = in_target xs t (starred_deeper xs t d)
+  simple_deeper xs t (other_deep (one_deep (in_second front back target e w (one_deep d)))) = nowhere back t d
+  simple_deeper xs t (other_deep (one_deep (in_second front back target e w (other_deep d)))) = value_deeper xs front back target t e (starred_into front target w) d
+  simple_deeper xs t (other_deep (other_deep (in_first d))) = nowhere xs t d
+  simple_deeper xs t (other_deep (other_deep (in_second front back name e n d))) = named_simple_deeper xs front back name t e n d
+
+  target_in : (xs : List Token) (t : Token) → EitherDeep StarredDeep NamedTargetDeep xs t → SimpleDeep xs t
+  target_in xs t (one_deep d) = other_deep (one_deep (in_first d))
+  target_in xs t (other_deep (in_first d)) = nowhere xs t d
+  target_in xs t (other_deep (in_second front back name e n d)) = other_deep (other_deep (in_second front back name e n (other_deep (in_first d))))
+
+  value_in : (xs front back : List Token) (target : Expr) (t : Token) → xs ≡ front ++ back → HeadedDeep assignment_at X back t → Either Starred NamedTarget front target → SimpleDeep xs t
+  value_in xs front back target t e d (one_way w) = other_deep (one_deep (in_second front back target e w (other_deep d)))
+  value_in xs front back target t e d (other_way w) =
+      other_deep (other_deep (in_second w.front (w.back ++ back) w.value (e ∙ (ap (λ ys. ys ++ back) w.split ∙ append_assoc w.front w.back back)) w.before
+      (other_deep (in_second w.back back target refl w.behind (other_deep d)))))
+
+  simple_upper_by : (xs before inner : List Token) (t : Token) → xs ≡ before ++ inner → X inner t → OpensSimple before → SimpleDeep xs t
+  simple_upper_by xs before inner t e x (simple_target o) = target_in xs t (target_upper_by xs before inner t e x o)
+  simple_upper_by xs before inner t e x (simple_value {target = target} front mark operator s w a) =
+      value_in xs front (mark ∷ inner) target t (e ∙ (ap (λ ys. ys ++ inner) s ∙ append_assoc front (mark ∷ []) inner))
+      (record { token = mark; back = inner; value = operator; split = refl; passes = a; deep = x }) (target_back front target w)
+  simple_upper_by xs before inner t e x (stepped_target mark operator front s a o) = one_deep (record {
+    token = mark; back = front ++ inner; value = (operator, mark.line); split = e ∙ ap (λ ys. ys ++ inner) s; passes = step_value mark operator a;
+    deep = record { front = front; inner = inner; split = refl; opens = o; excess = x };
+  })
+  simple_upper_by xs before inner t e x (first_value n opened word s what o) =
+      other_deep (other_deep (in_second (n ∷ []) (opened ∷ inner) (record { name = word; line = n.line }) (e ∙ ap (λ ys. ys ++ inner) s) (name_one n word what)
+      (one_deep (record { opened = opened; inner = inner; split = refl; opens = o; deep = first_argument x }))))
+  simple_upper_by xs before inner t e x (later_value {values = values} n opened word front mark s what o w c) =
+      other_deep (other_deep (in_second (n ∷ []) (opened ∷ (front ++ (mark ∷ inner))) (record { name = word; line = n.line })
+      (e ∙ (ap (λ ys. ys ++ inner) s ∙ ap (λ ys. n ∷ opened ∷ ys) (append_assoc front (mark ∷ []) inner))) (name_one n word what)
+      (one_deep (record { opened = opened; inner = front ++ (mark ∷ inner); split = refl; opens = o; deep = later_argument values front mark inner refl w c x }))))
+
+  simple_upper : (xs : List Token) (t : Token) → IsExcessBehind OpensSimple X xs t → SimpleDeep xs t
+  simple_upper xs t w = simple_upper_by xs w.front w.inner t w.split w.excess w.opens
+
+  others_no_step : (t : Token) → one_of star (has name_at) t ≡ true → has step_at t ≡ false
+  others_no_step t e = not_step (one_of star (has name_at)) (λ line. refl) (λ line. refl) t e
+
+  pub exact_simple : Exact (read_simple expression) IsSimple (IsExcessBehind OpensSimple X) goes_on
+  unfolding read_simple
+  exact_simple = exact_as simple_into simple_back simple_deeper simple_upper
+      (exact_or (has step_at) (one_of star (has name_at)) exact_step_first begun_step_first
+      (exact_or star (has name_at) exact_starred_simple begun_starred_simple exact_named_simple begun_named_simple name_no_star)
+      (begun_either star begun_starred_simple begun_named_simple) others_no_step)
+
+  pub begun_simple : Begun (read_simple expression) begins_simple
+  unfolding read_simple
+  begun_simple = begun_either (has step_at) begun_step_first (begun_either star begun_starred_simple begun_named_simple)
