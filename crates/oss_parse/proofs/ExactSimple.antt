@@ -40,7 +40,7 @@ use Rattle.oss_pragma.proofs.PrimaryLemmas.{Closed, ClosedDeep, exact_arguments,
 use Rattle.oss_pragma.proofs.PrimaryLemmas.ClosedDeep.{first_argument, later_argument}
 use Rattle.oss_pragma.proofs.TokenLemmas.{begins_never, exact_closed, exact_symbol, symbol_token, symbol_value, symbol_one, goes_on, on_symbol, not_symbol, has_symbol}
 
--- a bracket that closes, or one that opens an index
+-- the brackets that open an index, and a call
 abbrev index_opening : Token → Bool
 index_opening = has (symbol_at (codes "["))
 
@@ -51,10 +51,15 @@ index_closed : (t : Token) → has (symbol_at (codes "]")) t ≡ true → goes_o
 unfolding operator_of
 index_closed t e = on_symbol goes_on (codes "]") false (λ line. refl) t (has_symbol (codes "]") t e)
 
--- no expression goes on with the bracket that closes it
+-- no expression goes on with a bracket that closes,
 pub closed_ends : (t : Token) → has (symbol_at (codes ")")) t ≡ true → goes_on t ≡ false
 unfolding operator_of
 closed_ends t e = on_symbol goes_on (codes ")") false (λ line. refl) t (has_symbol (codes ")") t e)
+
+-- nor with the semicolon behind it
+pub semicolon_ends : (t : Token) → has (symbol_at (codes ";")) t ≡ true → goes_on t ≡ false
+unfolding operator_of
+semicolon_ends t e = on_symbol goes_on (codes ";") false (λ line. refl) t (has_symbol (codes ";") t e)
 
 goes_index : (t : Token) → goes_on t ≡ false → index_opening t ≡ false
 goes_index t e = on (is_symbol (codes "[") t.what) refl where
@@ -62,7 +67,7 @@ goes_index t e = on (is_symbol (codes "[") t.what) refl where
   on true is = let no_way : goes_on t ≡ true = on_symbol goes_on (codes "[") true (λ line. refl) t is in absurd (cc)
   on false is = rw is refl
 
--- what no step passes is none
+-- a token that is neither `++` nor `--` is no step
 no_step : (k : TokenKind) (line : ℕ) (b c : Bool) → is_symbol (codes "++") k ≡ b → is_symbol (codes "--") k ≡ c → b ≡ false → c ≡ false → is_some (stepped_in line (step_of k)) ≡ false
 unfolding step_of
 no_step k line false false e d p q = rw e (rw d refl)

@@ -1,1 +1,2 @@
+pub mod ExactDeclarations
 pub mod ExactSimple
