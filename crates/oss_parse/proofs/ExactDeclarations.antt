@@ -3,22 +3,20 @@ use Rattle.std.proofs.Common.{◌≡◌, ℕ, Bool, true, false, ◌||◌, if◌
 use Rattle.std.specs.Prelude.{codes}
 use Rattle.std.proofs.lemmas.List.{append-nil}
 use Rattle.oss_syntax.specs.declared.token.Token.{Token}
-use Rattle.oss_syntax.specs.declared.token.TokenKind.{TokenKind}
 use Rattle.oss_syntax.specs.declared.token.TokenKind.TheVariants as kinds
 use Rattle.oss_syntax.specs.declared.tree.expr.Expr.{Expr}
 use Rattle.oss_syntax.specs.declared.tree.program.Kind.{Kind}
-use Rattle.oss_syntax.specs.declared.tree.program.Kind.TheVariants as kind
 use Rattle.oss_syntax.specs.declared.tree.program.Local.{Local}
 use Rattle.oss_syntax.specs.declared.tree.program.NumKind.{NumKind}
 use Rattle.oss_syntax.specs.declared.tree.program.NumKind.TheVariants as num
 use Rattle.oss_syntax.specs.declared.tree.stmt.Stmt.{Stmt}
 use Rattle.oss_model.specs.Expressions.{IsWhole, operator_of}
 use Rattle.oss_model.specs.Fronts.{Viable}
-use Rattle.oss_model.specs.Grammar.{One, Both, Mapped, Either}
+use Rattle.oss_model.specs.Grammar.{One, Mapped, Either}
 use Rattle.oss_model.specs.Grammar.Either.{one_way, other_way}
 use Rattle.oss_model.specs.Levels.{IsExcessBehind}
-use Rattle.oss_model.specs.OneToken.{is_symbol, is_keyword, IsKeyword}
-use Rattle.oss_model.specs.Reading.{Reader, begins, has, one_of, never, read_one, read_then, read_nothing, read_mapped, read_both, read_either}
+use Rattle.oss_model.specs.OneToken.{is_symbol, is_keyword}
+use Rattle.oss_model.specs.Reading.{Reader, begins, has, one_of, never, read_one, read_nothing, read_mapped, read_both, read_either}
 use Rattle.oss_model.specs.SimpleStatements.{IsNumKind, IsDeclared, IsLocal, IsLocals, IsDeclaration, first_line}
 use Rattle.oss_model.specs.SimpleStatements.IsNumKind.{int_kind, long_kind, unsigned_kind}
 use Rattle.oss_model.specs.SimpleStatements.IsDeclared.{number_declared, pointer_declared}
@@ -27,22 +25,22 @@ use Rattle.oss_model.specs.SimpleStatements.IsLocals.{last_local, next_local}
 use Rattle.oss_model.specs.SimpleStatements.IsDeclaration.{declaration}
 use Rattle.oss_model.specs.StatementLimits.{OpensLocals, OpensDeclaration}
 use Rattle.oss_model.specs.StatementLimits.OpensLocals.{local_value, later_local}
-use Rattle.oss_model.proofs.Parts.{Exact, Begun, exact_as, exact_before, member_begins, deep_begins}
+use Rattle.oss_model.proofs.Parts.{Exact, Begun, exact_as, exact_before}
 use Rattle.oss_model.proofs.PartLemmas.{Nowhere, nowhere, exact_one, begun_one, Nothing, exact_nothing, exact_mapped, begun_mapped, Then, ThenDeep, exact_then, begun_then, EitherDeep, exact_either, begun_either}
 use Rattle.oss_model.proofs.PartLemmas.ThenDeep.{in_first, in_second}
 use Rattle.oss_model.proofs.PartLemmas.EitherDeep.{one_deep, other_deep}
 use Rattle.oss_model.proofs.PairLemmas.{some_text, exact_next, begun_next}
-use Rattle.oss_model.proofs.StepLemmas.{none_goes, fewer_go}
+use Rattle.oss_model.proofs.StepLemmas.{fewer_go}
 use Rattle.oss_parse.specs.SimpleReading.{single_kind_at, ulong_of, read_num_kind, begins_kind, star, pointer_to, number_of, read_declared, local_of, read_local, declared_at, read_declaration}
-use Rattle.oss_pragma.specs.ExpressionReading.{latter, read_list}
+use Rattle.oss_pragma.specs.ExpressionReading.{read_list}
 use Rattle.oss_pragma.specs.TokenValues.{symbol_at, keyword_at, name_at, begins_expression}
 use Rattle.oss_pragma.specs.declared.cursor.Named.{Named}
-use Rattle.oss_pragma.proofs.ExactPairs.{Headed, HeadedDeep, exact_headed, begun_headed, BracketedDeep, Behind, read_behind, exact_behind, begun_behind, exact_or, symbol_line}
+use Rattle.oss_pragma.proofs.ExactPairs.{Headed, HeadedDeep, exact_headed, begun_headed, BracketedDeep, Behind, read_behind, exact_behind, begun_behind, exact_or}
 use Rattle.oss_pragma.proofs.ListLemmas.{comma, Listed, ListedDeep, exact_list, begun_list}
 use Rattle.oss_pragma.proofs.ListLemmas.Listed.{last_part, next_part}
 use Rattle.oss_pragma.proofs.ListLemmas.ListedDeep.{deep_first, deep_later}
 use Rattle.oss_pragma.proofs.PrimaryLemmas.{name_is, name_value, name_one}
-use Rattle.oss_pragma.proofs.TokenLemmas.{begins_never, exact_closed, symbol_token, symbol_value, symbol_one, goes_on, on_symbol, on_keyword, not_symbol, has_symbol}
+use Rattle.oss_pragma.proofs.TokenLemmas.{begins_never, symbol_token, symbol_value, goes_on, on_symbol, on_keyword, not_symbol, has_symbol}
 
 -- what has the line of a keyword is that keyword, and it has its line
 record KeywordIs (k : List ℕ) (t : Token) (line : ℕ) : Type 0 where

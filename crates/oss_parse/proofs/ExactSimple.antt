@@ -1,7 +1,6 @@
 -- The reader of simple statements is exact for each exact reader of expressions.
-use Rattle.std.proofs.Common.{◌≡◌, ℕ, Bool, true, false, ◌||◌, if◌then◌else◌, List, [], ◌∷◌, ◌++◌, refl, sym, ap, ◌∙◌, subst, append_assoc, Option, Some, None, is_some}
+use Rattle.std.proofs.Common.{◌≡◌, ℕ, Bool, true, false, List, [], ◌∷◌, ◌++◌, refl, sym, ap, ◌∙◌, subst, append_assoc, Option, Some, None, is_some}
 use Rattle.std.specs.Prelude.{codes}
-use Rattle.std.proofs.lemmas.List.{append-nil}
 use Rattle.oss_syntax.specs.declared.token.Token.{Token}
 use Rattle.oss_syntax.specs.declared.token.TokenKind.{TokenKind}
 use Rattle.oss_syntax.specs.declared.token.TokenKind.TheVariants as kinds
@@ -9,17 +8,16 @@ use Rattle.oss_syntax.specs.declared.tree.expr.BinOp.{BinOp}
 use Rattle.oss_syntax.specs.declared.tree.expr.BinOp.TheVariants as op
 use Rattle.oss_syntax.specs.declared.tree.expr.Expr.{Expr}
 use Rattle.oss_syntax.specs.declared.tree.expr.ExprKind.TheVariants as exprs
-use Rattle.oss_syntax.specs.declared.tree.expr.UnOp.TheVariants as prefix
 use Rattle.oss_syntax.specs.declared.tree.stmt.Stmt.{Stmt}
 use Rattle.oss_syntax.specs.declared.tree.stmt.StmtKind.TheVariants as stmts
-use Rattle.oss_model.specs.Expressions.{IsWhole, IsArguments, operator_of}
+use Rattle.oss_model.specs.Expressions.{IsWhole, operator_of}
 use Rattle.oss_model.specs.Fronts.{Viable}
-use Rattle.oss_model.specs.Grammar.{One, Both, Mapped, Either}
+use Rattle.oss_model.specs.Grammar.{One, Mapped, Either}
 use Rattle.oss_model.specs.Grammar.Either.{one_way, other_way}
 use Rattle.oss_model.specs.Levels.{IsExcessBehind}
 use Rattle.oss_model.specs.OneToken.{is_symbol}
-use Rattle.oss_model.specs.Reading.{Reader, begins, has, one_of, never, read_one, read_then, read_nothing, read_mapped, read_both, read_either}
-use Rattle.oss_model.specs.SimpleStatements.{IsTarget, IsSimple, assignment_of, step_of, one_at}
+use Rattle.oss_model.specs.Reading.{Reader, begins, has, one_of, never, read_one, read_then, read_mapped, read_both}
+use Rattle.oss_model.specs.SimpleStatements.{IsTarget, IsSimple, assignment_of, step_of}
 use Rattle.oss_model.specs.SimpleStatements.IsTarget.{name_target, element_target, pointer_target, pointed_target}
 use Rattle.oss_model.specs.SimpleStatements.IsSimple.{assigned, stepped, step_first, called}
 use Rattle.oss_model.specs.StatementLimits.{OpensTarget, OpensSimple}
@@ -32,13 +30,13 @@ use Rattle.oss_model.proofs.PartLemmas.EitherDeep.{one_deep, other_deep}
 use Rattle.oss_model.proofs.PairLemmas.{some_text, exact_next, begun_next}
 use Rattle.oss_model.proofs.StepLemmas.{none_goes, fewer_go}
 use Rattle.oss_parse.specs.SimpleReading.{assignment_at, stepped_in, step_at, star, deref_at, assigned_to, stepped_by, step_before, call_statement, read_target_from, read_pointed_at, read_starred, read_target, read_assigned, read_step_first, read_called, read_simple_from, read_simple, begins_simple}
-use Rattle.oss_pragma.specs.ExpressionReading.{named_expression, indexed, read_arguments}
+use Rattle.oss_pragma.specs.ExpressionReading.{named_expression, indexed}
 use Rattle.oss_pragma.specs.TokenValues.{symbol_at, name_at, begins_expression}
 use Rattle.oss_pragma.specs.declared.cursor.Named.{Named}
 use Rattle.oss_pragma.proofs.ExactPairs.{Headed, HeadedDeep, exact_headed, begun_headed, Bracketed, BracketedDeep, exact_bracketed, begun_bracketed, Behind, exact_behind, begun_behind, exact_or, symbol_line, read_bracketed}
-use Rattle.oss_pragma.proofs.PrimaryLemmas.{Closed, ClosedDeep, exact_arguments, begun_arguments, name_is, name_value, name_one}
+use Rattle.oss_pragma.proofs.PrimaryLemmas.{Closed, ClosedDeep, exact_arguments, begun_arguments, name_is, name_one}
 use Rattle.oss_pragma.proofs.PrimaryLemmas.ClosedDeep.{first_argument, later_argument}
-use Rattle.oss_pragma.proofs.TokenLemmas.{begins_never, exact_closed, exact_symbol, symbol_token, symbol_value, symbol_one, goes_on, on_symbol, not_symbol, has_symbol}
+use Rattle.oss_pragma.proofs.TokenLemmas.{begins_never, exact_closed, exact_symbol, symbol_token, symbol_one, goes_on, on_symbol, not_symbol, has_symbol}
 
 -- the brackets that open an index, and a call
 abbrev index_opening : Token → Bool
