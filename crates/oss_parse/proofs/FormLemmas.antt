@@ -305,10 +305,10 @@ module _ {expression : Reader Expr} {X : List Token → Token → Type 0} (part 
   some_rest : Viable Rest []
   some_rest = viable_headed (symbol_at (codes ";")) (some_mark (codes ";")) 0 refl (viable_both none_expression some_last)
 
-  pub abbrev ForParts : List Token → Option Stmt × (Option Expr × Option Stmt) → Type 0
+  abbrev pub ForParts : List Token → Option Stmt × (Option Expr × Option Stmt) → Type 0
   ForParts = Mapped for_parts (Both First Rest)
 
-  pub abbrev ForPartsDeep : List Token → Token → Type 0
+  abbrev pub ForPartsDeep : List Token → Token → Type 0
   ForPartsDeep = ThenDeep (EitherDeep DeclarationX (EitherDeep SimpleX Nowhere)) First (λ s. RestDeep)
 
   exact_for_parts : Exact (read_for_parts expression) ForParts ForPartsDeep never
@@ -319,10 +319,10 @@ module _ {expression : Reader Expr} {X : List Token → Token → Type 0} (part 
   some_for_parts = let v : Viable (Both First Rest) [] = viable_both (record { more = []; value = None; member = other_way (other_way (record { nothing = refl; same = refl })) }) some_rest in
       record { more = v.more; value = for_parts v.value; member = record { part = v.value; made = refl; whole = v.member } }
 
-  pub abbrev ForHead : List Token → ℕ × (Option Stmt × (Option Expr × Option Stmt)) → Type 0
+  abbrev pub ForHead : List Token → ℕ × (Option Stmt × (Option Expr × Option Stmt)) → Type 0
   ForHead = Headed (keyword_at (codes "for")) (Behind (codes "(") ForParts)
 
-  pub abbrev ForHeadDeep : List Token → Token → Type 0
+  abbrev pub ForHeadDeep : List Token → Token → Type 0
   ForHeadDeep = HeadedDeep (keyword_at (codes "for")) (BracketedDeep (codes "(") ForPartsDeep)
 
   behind_parts : Exact (read_mapped latter (read_both (read_one (symbol_at (codes "("))) (read_for_parts expression))) (Behind (codes "(") ForParts) (BracketedDeep (codes "(") ForPartsDeep) never
@@ -348,7 +348,7 @@ module _ {expression : Reader Expr} {X : List Token → Token → Type 0} (part 
   unfolding operator_of
   close_ends_list t e = on_symbol (one_of comma goes_on) (codes ")") false (λ line. refl) t (has_symbol (codes ")") t e)
 
-  pub abbrev Closing : List Token → ℕ × ℕ → Type 0
+  abbrev pub Closing : List Token → ℕ × ℕ → Type 0
   Closing = Headed (symbol_at (codes ")")) (One (symbol_at (codes ";")))
 
   closing : Exact {A = ℕ × ℕ} (read_both (read_one (symbol_at (codes ")"))) (read_one (symbol_at (codes ";")))) Closing (HeadedDeep (symbol_at (codes ")")) Nowhere) never
@@ -358,10 +358,10 @@ module _ {expression : Reader Expr} {X : List Token → Token → Type 0} (part 
   begun_closing : Begun {A = ℕ × ℕ} (read_both (read_one (symbol_at (codes ")"))) (read_one (symbol_at (codes ";")))) (has (symbol_at (codes ")")))
   begun_closing = begun_headed (symbol_at (codes ")")) (exact_one (symbol_at (codes ";")) (some_mark (codes ";")) 0 refl never)
 
-  pub abbrev Printed : List Token → List Expr → Type 0
+  abbrev pub Printed : List Token → List Expr → Type 0
   Printed = Mapped former (Both (Follow IsWhole) Closing)
 
-  pub abbrev PrintedDeep : List Token → Token → Type 0
+  abbrev pub PrintedDeep : List Token → Token → Type 0
   PrintedDeep = ThenDeep (FollowDeep IsWhole X) (Follow IsWhole) (λ values. HeadedDeep (symbol_at (codes ")")) Nowhere)
 
   pub exact_printed : Exact (read_printed expression) Printed PrintedDeep never

@@ -1,3 +1,5 @@
 pub mod BranchLemmas
 pub mod EndingLemmas
+pub mod ExactDeclarations
+pub mod ExactSimple
 pub mod FormLemmas

@@ -33,14 +33,14 @@ use Rattle.oss_pragma.proofs.ListLemmas.ListedDeep.{deep_first, deep_later}
 use Rattle.oss_pragma.proofs.TokenLemmas.{goes_on, opening, closing, exact_symbol, exact_closed, begins_never, one_symbol, symbol_one, has_symbol, on_symbol, not_symbol}
 
 -- arguments before the bracket that closes them
-record Closed (xs : List Token) (values : List Expr) : Type 0 where
-  inner : List Token
-  closed : Token
-  split : xs ≡ inner ++ (closed ∷ [])
-  closes : IsClose closed
-  arguments : IsArguments inner values
+pub record Closed (xs : List Token) (values : List Expr) : Type 0 where
+  pub inner : List Token
+  pub closed : Token
+  pub split : xs ≡ inner ++ (closed ∷ [])
+  pub closes : IsClose closed
+  pub arguments : IsArguments inner values
 
-data ClosedDeep (B : List Token → Token → Type 0) (xs : List Token) (t : Token) : Type 0 where
+pub data ClosedDeep (B : List Token → Token → Type 0) (xs : List Token) (t : Token) : Type 0 where
   first_argument : B xs t → ClosedDeep B xs t
   later_argument : (values : List Expr) (before : List Token) (mark : Token) (front : List Token) → xs ≡ before ++ (mark ∷ front) → IsArgumentList before values → IsComma mark → B front t → ClosedDeep B xs t
 
@@ -132,14 +132,14 @@ module _ {inner : Reader Expr} {B : List Token → Token → Type 0} (part : Exa
   out_of_closed_deep xs t (first_argument d) = other_deep (in_first (deep_first d))
   out_of_closed_deep xs t (later_argument values before mark front e w c d) = other_deep (in_first (listed_deep values before mark front xs t e w c d))
 
-  exact_arguments : Exact (read_arguments inner) Closed (ClosedDeep B) never
+  pub exact_arguments : Exact (read_arguments inner) Closed (ClosedDeep B) never
   unfolding read_arguments
   exact_arguments = exact_as into_closed (λ xs values w. closed_of xs w.inner w.closed values w.split w.closes w.arguments) into_closed_deep out_of_closed_deep
       (exact_either closing (exact_mapped (λ line. []) exact_close) (begun_mapped (λ line. []) (begun_one (symbol_at (codes ")")))) exact_some
       (λ ys values rest w free. none_goes begins_expression closing not_close (ys ++ rest) (member_begins exact_some begun_some ys values rest w))
       (λ ys t rest w. none_goes begins_expression closing not_close (ys ++ (t ∷ rest)) (deep_begins exact_some begun_some ys t rest w)))
 
-  begun_arguments : Begun (read_arguments inner) (one_of closing begins_expression)
+  pub begun_arguments : Begun (read_arguments inner) (one_of closing begins_expression)
   unfolding read_arguments
   begun_arguments = begun_either closing (begun_mapped (λ line. []) (begun_one (symbol_at (codes ")")))) begun_some
 
