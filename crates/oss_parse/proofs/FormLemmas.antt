@@ -29,6 +29,7 @@ use Rattle.oss_pragma.specs.ExpressionReading.{former, latter, middle, read_more
 use Rattle.oss_pragma.specs.TokenValues.{symbol_at, keyword_at, start_at, name_at, begins_expression}
 use Rattle.oss_pragma.proofs.ExactPairs.{Headed, HeadedDeep, exact_headed, begun_headed, Trailed, exact_trailed, Enclosed, exact_enclosed, begun_enclosed, Bracketed, BracketedDeep, exact_bracketed, begun_bracketed, bracketed_viable, Behind, exact_behind, begun_behind}
 use Rattle.oss_pragma.proofs.ListLemmas.{comma, Follow, FollowDeep, exact_follow}
+use Rattle.oss_pragma.proofs.ListLemmas.Follow.{none}
 use Rattle.oss_pragma.proofs.TokenLemmas.{goes_on, on_symbol, on_keyword, not_symbol, not_keyword, has_symbol, has_keyword, exact_closed, begins_never}
 use Rattle.oss_parse.specs.SimpleReading.{read_simple, begins_simple, read_declaration, begins_kind, star, step_at}
 use Rattle.oss_parse.specs.StatementReading.{text_at, read_maybe_expression, read_maybe_simple, read_for_first, for_parts, read_for_parts, read_for_head, read_head, read_printed, read_lined}
@@ -162,7 +163,7 @@ module _ {expression : Reader Expr} {X : List Token → Token → Type 0} (part 
   mark_no_kind t e = on_symbol begins_kind (codes ";") false (λ line. refl) t (has_symbol (codes ";") t e)
 
   -- a keyword and a test in brackets
-  abbrev Test : List Token → Expr → Type 0
+  abbrev pub Test : List Token → Expr → Type 0
   Test = Bracketed (codes "(") (codes ")") IsWhole
 
   exact_test : Exact (read_mapped middle (read_both (read_one (symbol_at (codes "("))) (read_both expression (read_one (symbol_at (codes ")")))))) Test (BracketedDeep (codes "(") X) never
@@ -367,3 +368,17 @@ module _ {expression : Reader Expr} {X : List Token → Token → Type 0} (part 
   pub exact_printed : Exact (read_printed expression) Printed PrintedDeep never
   unfolding read_printed
   exact_printed = exact_mapped former (pairs.exact_both (exact_follow part first comma_ends) closing begun_closing close_ends_list)
+
+  pub some_printed : Viable Printed []
+  some_printed = record {
+    more = some_mark (codes ")") ∷ some_mark (codes ";") ∷ [];
+    value = [];
+    member = record {
+      part = ([], (0, 0));
+      made = refl;
+      whole = record {
+        front = []; back = some_mark (codes ")") ∷ some_mark (codes ";") ∷ []; split = refl; before = none refl;
+        behind = record { token = some_mark (codes ")"); back = some_mark (codes ";") ∷ []; split = refl; passes = refl; behind = record { token = some_mark (codes ";"); only = refl; passes = refl } };
+      };
+    };
+  }

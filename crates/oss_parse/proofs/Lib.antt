@@ -3,3 +3,4 @@ pub mod EndingLemmas
 pub mod ExactDeclarations
 pub mod ExactSimple
 pub mod FormLemmas
+pub mod StatementForms
