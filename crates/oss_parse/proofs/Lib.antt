@@ -1,1 +1,2 @@
+pub mod ExactGlobals
 pub mod ExactKinds
