@@ -1,2 +1,3 @@
+pub mod ExactFunctions
 pub mod ExactGlobals
 pub mod ExactKinds
