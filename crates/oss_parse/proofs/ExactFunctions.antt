@@ -35,6 +35,7 @@ use Rattle.oss_model.specs.SimpleStatements.{first_line}
 use Rattle.oss_model.specs.StatementLimits.{OpensMark}
 use Rattle.oss_model.specs.StatementLimits.OpensMark.{in_mark}
 use Rattle.oss_model.specs.Statements.{IsItems}
+use Rattle.oss_model.specs.Statements.IsItems.{no_item}
 use Rattle.oss_model.proofs.Parts.{Exact, Begun, exact_as}
 use Rattle.oss_model.proofs.PartLemmas.{Nowhere, nowhere, exact_one, begun_one, exact_mapped, begun_mapped, Then, ThenDeep, exact_then, begun_then, EitherDeep, begun_either}
 use Rattle.oss_model.proofs.PartLemmas.EitherDeep.{one_deep, other_deep}
@@ -43,7 +44,7 @@ use Rattle.oss_pragma.specs.ExpressionReading.{former, read_list}
 use Rattle.oss_pragma.specs.PragmaReading.{task_of, read_task}
 use Rattle.oss_pragma.specs.TokenValues.{symbol_at, keyword_at, word_at, start_in, start_at, end_in, end_at, begins_expression}
 use Rattle.oss_pragma.specs.declared.cursor.Named.{Named}
-use Rattle.oss_pragma.proofs.ExactPairs.{BothDeep, exact_both, Headed, HeadedDeep, exact_headed, begun_headed, Trailed, exact_trailed, Enclosed, Bracketed, BracketedDeep, exact_bracketed, bracketed_viable, Behind, exact_behind, begun_behind, exact_or}
+use Rattle.oss_pragma.proofs.ExactPairs.{BothDeep, exact_both, Headed, HeadedDeep, exact_headed, begun_headed, Trailed, exact_trailed, Enclosed, read_bracketed, Bracketed, BracketedDeep, exact_bracketed, bracketed_viable, Behind, exact_behind, begun_behind, exact_or}
 use Rattle.oss_pragma.proofs.ExactPragmas.{IsTaskClauses, OpensClauses, exact_task}
 use Rattle.oss_pragma.proofs.ExactPragmas.OpensClauses.{behind_clauses}
 use Rattle.oss_pragma.proofs.ListLemmas.{comma, Listed, ListedDeep, exact_list, begun_list}
@@ -227,3 +228,243 @@ exact_result = exact_as result_into result_back result_deeper (λ xs t d. one_de
 pub begun_result : Begun read_result (one_of (has void_at) begins_kind)
 unfolding read_result
 begun_result = begun_either (has void_at) (begun_mapped (λ line. kind.Nothing) (begun_one void_at)) (begun_mapped (λ k. kind.Num (former k)) begun_num_kind)
+
+-- the words of a pragma, and its first and last tokens
+line_of : (b : Bool) (line n : ℕ) → (if b then Some line else None) ≡ Some n → b ≡ true
+line_of true line n e = refl
+line_of false line n e = absurd (cc)
+
+word_told : (w : List ℕ) (t : Token) (n : ℕ) → word_at w t ≡ Some n → IsWord w t
+word_told w t n e = line_of (is_word w t.what) t.line n e
+
+tells_word : (w : List ℕ) (t : Token) → IsWord w t → word_at w t ≡ Some t.line
+tells_word w t e = rw e refl
+
+record StartIs (k : TokenKind) (line n : ℕ) : Type 0 where
+  what : k ≡ kinds.PragmaOss
+  same : line ≡ n
+
+start_is : (k : TokenKind) (line n : ℕ) → start_in k line ≡ Some n → StartIs k line n
+start_is kinds.PragmaOss line n e = record { what = refl; same = cc }
+start_is kinds.PragmaEnd line n e = absurd (cc)
+start_is kinds.Directive line n e = absurd (cc)
+start_is (kinds.Name w) line n e = absurd (cc)
+start_is (kinds.Symbol w) line n e = absurd (cc)
+start_is (kinds.Keyword w) line n e = absurd (cc)
+start_is (kinds.Number v u) line n e = absurd (cc)
+start_is (kinds.Text w) line n e = absurd (cc)
+
+end_is : (k : TokenKind) (line : ℕ) → is_some (end_in k line) ≡ true → k ≡ kinds.PragmaEnd
+end_is kinds.PragmaEnd line e = refl
+end_is kinds.PragmaOss line e = absurd (cc)
+end_is kinds.Directive line e = absurd (cc)
+end_is (kinds.Name w) line e = absurd (cc)
+end_is (kinds.Symbol w) line e = absurd (cc)
+end_is (kinds.Keyword w) line e = absurd (cc)
+end_is (kinds.Number v u) line e = absurd (cc)
+end_is (kinds.Text w) line e = absurd (cc)
+
+one_start : (t : Token) → t.what ≡ kinds.PragmaOss → One start_at (t ∷ []) t.line
+one_start t e = record { token = t; only = refl; passes = ap (λ k. start_in k t.line) e }
+
+-- the pragma of a task before a function
+pub record Marked (xs : List Token) (m : Option TaskMark) : Type 0 where
+  pub mark : TaskMark
+  pub some : Some mark ≡ m
+  pub pragma : IsPragma xs (directive.Task mark)
+
+abbrev Tasked : ℕ → List Token → Directive → Type 0
+Tasked line = Mapped (task_of line) (Enclosed (word_at (codes "task")) end_at IsTaskClauses)
+
+abbrev MarkRead : List Token → Option TaskMark → Type 0
+MarkRead = Mapped mark_in (Then (One start_at) Tasked)
+
+mark_into : (xs : List Token) (m : Option TaskMark) → MarkRead xs m → Marked xs m
+mark_into xs m w = let s = w.whole.before in let k = w.whole.behind in let c = k.whole in
+    let is : StartIs s.token.what s.token.line w.whole.value = start_is s.token.what s.token.line w.whole.value s.passes in record {
+      mark = record { clauses = k.part.1.0; line = s.token.line };
+      some = ap (λ line. Some (record { clauses = k.part.1.0; line = line })) is.same ∙ (ap mark_in k.made ∙ w.made);
+      pragma = task s.token c.opened c.inner c.closed (w.whole.split ∙ (ap (λ ys. ys ++ w.whole.back) s.only ∙ ap (λ ys. s.token ∷ ys) c.split)) is.what
+          (word_told (codes "task") c.opened k.part.0 c.opens) (end_is c.closed.what c.closed.line (ap is_some c.closes)) c.inside.clauses c.inside.once;
+    }
+
+mark_back_by : (xs : List Token) (mark : TaskMark) → IsPragma xs (directive.Task mark) → MarkRead xs (Some mark)
+mark_back_by xs mark (task {clauses = cs} start word inner end e s k n w once) = record {
+  part = directive.Task (record { clauses = cs; line = start.line }); made = refl;
+  whole = record {
+    front = start ∷ []; back = word ∷ (inner ++ (end ∷ [])); value = start.line; split = e; before = one_start start s;
+    behind = record {
+      part = (word.line, (cs, end.line)); made = refl;
+      whole = record { opened = word; inner = inner; closed = end; split = refl; opens = tells_word (codes "task") word k; closes = ap (λ k. end_in k end.line) n; inside = record { clauses = w; once = once } };
+    };
+  };
+}
+
+mark_back : (xs : List Token) (m : Option TaskMark) → Marked xs m → MarkRead xs m
+mark_back xs m w = subst (λ m. MarkRead xs m) w.some (mark_back_by xs w.mark w.pragma)
+
+task_viable : (line : ℕ) → Viable (Tasked line) []
+task_viable line = record {
+  more = record { what = kinds.Name (codes "task"); line = 0 } ∷ record { what = kinds.PragmaEnd; line = 0 } ∷ []; value = task_of line (0, ([], 0));
+  member = record {
+    part = (0, ([], 0)); made = refl;
+    whole = record { opened = record { what = kinds.Name (codes "task"); line = 0 }; inner = []; closed = record { what = kinds.PragmaEnd; line = 0 }; split = refl; opens = refl; closes = refl; inside = record { clauses = no_clause refl; once = once_none } };
+  };
+}
+
+module _ {expression : Reader Expr} {X : List Token → Token → Type 0} (part : Exact expression IsWhole X goes_on) (first : Begun expression begins_expression) where
+  abbrev TaskedDeep : List Token → Token → Type 0
+  TaskedDeep = HeadedDeep (word_at (codes "task")) (IsExcessBehind OpensClauses X)
+
+  abbrev MarkDeep : List Token → Token → Type 0
+  MarkDeep = ThenDeep Nowhere (One start_at) (λ line. TaskedDeep)
+
+  mark_place : (xs back : List Token) (start word : Token) (t : Token) → xs ≡ start ∷ word ∷ back → start.what ≡ kinds.PragmaOss → IsWord (codes "task") word → (x : IsExcessBehind OpensClauses X back t) → OpensClauses x.front
+      → IsExcessBehind OpensMark X xs t
+  mark_place xs back start word t e s k x (behind_clauses front left b w once o) = record {
+    front = start ∷ word ∷ x.front; inner = x.inner; split = e ∙ ap (λ ys. start ∷ word ∷ ys) x.split; opens = in_mark start word front left (ap (λ ys. start ∷ word ∷ ys) b) s k w once o; excess = x.excess;
+  }
+
+  mark_deeper : (xs : List Token) (t : Token) → MarkDeep xs t → IsExcessBehind OpensMark X xs t
+  mark_deeper xs t (ThenDeep.in_first d) = nowhere xs t d
+  mark_deeper xs t (ThenDeep.in_second front back line e s d) =
+      mark_place xs d.back s.token d.token t (e ∙ (ap (λ ys. ys ++ back) s.only ∙ ap (λ ys. s.token ∷ ys) d.split)) (start_is s.token.what s.token.line line s.passes).what (word_told (codes "task") d.token d.value d.passes) d.deep d.deep.opens
+
+  mark_upper_by : (xs before inner : List Token) (t : Token) → xs ≡ before ++ inner → X inner t → OpensMark before → MarkDeep xs t
+  mark_upper_by xs before inner t e x (in_mark start word front back b s k w once o) =
+      ThenDeep.in_second (start ∷ []) (word ∷ ((front ++ back) ++ inner)) start.line (e ∙ ap (λ ys. ys ++ inner) b) (one_start start s) (record {
+        token = word; back = (front ++ back) ++ inner; value = word.line; split = refl; passes = tells_word (codes "task") word k;
+        deep = record { front = front ++ back; inner = inner; split = refl; opens = behind_clauses front back refl w once o; excess = x };
+      })
+
+  mark_upper : (xs : List Token) (t : Token) → IsExcessBehind OpensMark X xs t → MarkDeep xs t
+  mark_upper xs t w = mark_upper_by xs w.front w.inner t w.split w.excess w.opens
+
+  exact_start : Exact (read_one start_at) (One start_at) Nowhere never
+  exact_start = exact_one start_at (record { what = kinds.PragmaOss; line = 0 }) 0 refl never
+
+  -- the pragma before a function is read
+  pub exact_mark : Exact (read_mark expression) Marked (IsExcessBehind OpensMark X) never
+  unfolding read_mark
+  exact_mark = exact_as mark_into mark_back mark_deeper mark_upper
+      (exact_mapped mark_in (exact_then exact_start (exact_task part first) (λ line ys b rest w free. begins_never (ys ++ rest)) (λ line ys t rest d. begins_never (ys ++ (t ∷ rest))) task_viable))
+
+  pub begun_mark : Begun (read_mark expression) (has start_at)
+  unfolding read_mark
+  begun_mark =
+      begun_mapped mark_in (begun_then exact_start (exact_task part first) (λ line ys b rest w free. begins_never (ys ++ rest)) (λ line ys t rest d. begins_never (ys ++ (t ∷ rest))) task_viable (begun_one start_at))
+
+-- what stands behind the name of a function
+pub record FunctionTail (mark : Option TaskMark) (result : Kind) (name : Named) (xs : List Token) (found : List Item) : Type 0 where
+  pub opened : Token
+  pub inner : List Token
+  pub closed : Token
+  pub begins : Token
+  pub within : List Token
+  pub ends : Token
+  pub params : List Local
+  pub body : List Stmt
+  pub split : xs ≡ opened ∷ (inner ++ (closed ∷ begins ∷ (within ++ (ends ∷ []))))
+  pub opens : IsOpen opened
+  pub are : IsParameters inner params
+  pub closes : IsClose closed
+  pub starts : IsSymbol (codes "{") begins
+  pub holds : IsItems within body
+  pub stops : IsSymbol (codes "}") ends
+  pub made : just (function_of mark result name (params, body)) ≡ found
+
+-- a limit is passed in the block of a function, behind its name
+pub record FunctionDeep (Z : List Token → Token → Type 0) (xs : List Token) (t : Token) : Type 0 where
+  pub opened : Token
+  pub inner : List Token
+  pub closed : Token
+  pub begins : Token
+  pub within : List Token
+  pub params : List Local
+  pub split : xs ≡ opened ∷ (inner ++ (closed ∷ begins ∷ within))
+  pub opens : IsOpen opened
+  pub are : IsParameters inner params
+  pub closes : IsClose closed
+  pub starts : IsSymbol (codes "{") begins
+  pub deep : Z within t
+
+module _ {body : Reader (List Stmt)} {Z : List Token → Token → Type 0} {goes_inside : Token → Bool} (inside : Exact body IsItems Z goes_inside)
+    (ends_it : (t : Token) → has (symbol_at (codes "}")) t ≡ true → goes_inside t ≡ false) (mark : Option TaskMark) (result : Kind) (name : Named) where
+  abbrev Block : List Token → List Stmt → Type 0
+  Block = Bracketed (codes "{") (codes "}") IsItems
+
+  abbrev BlockDeep : List Token → Token → Type 0
+  BlockDeep = BracketedDeep (codes "{") Z
+
+  abbrev Rest : List Token → List Local × List Stmt → Type 0
+  Rest = Behind (codes "(") (Both Closing Block)
+
+  abbrev RestDeep : List Token → Token → Type 0
+  RestDeep = BracketedDeep (codes "(") (BothDeep Nowhere Closing BlockDeep)
+
+  abbrev tree_of : List Local × List Stmt → List Item
+  tree_of p = just (function_of mark result name p)
+
+  items_viable : Viable IsItems []
+  items_viable = record { more = []; value = []; member = no_item refl }
+
+  tail_into : (xs : List Token) (found : List Item) → Mapped tree_of Rest xs found → FunctionTail mark result name xs found
+  tail_into xs found w = let r = w.whole in let b = r.behind in let p = b.before in let c = b.behind in record {
+    opened = r.mark; inner = p.inner; closed = p.closed; begins = c.opened; within = c.inner; ends = c.closed; params = w.part.0; body = w.part.1;
+    split = r.split ∙ ap (λ ys. r.mark ∷ ys) (b.split ∙ (ap (λ ys. ys ++ b.back) p.split ∙ (append_assoc p.inner (p.closed ∷ []) b.back ∙ ap (λ ys. p.inner ++ (p.closed ∷ ys)) c.split)));
+    opens = r.marks; are = p.are; closes = p.closes; starts = c.opens; holds = c.inside; stops = c.closes; made = w.made;
+  }
+
+  tail_back : (xs : List Token) (found : List Item) → FunctionTail mark result name xs found → Mapped tree_of Rest xs found
+  tail_back xs found w = record {
+    part = (w.params, w.body); made = w.made;
+    whole = record {
+      mark = w.opened; back = w.inner ++ (w.closed ∷ w.begins ∷ (w.within ++ (w.ends ∷ []))); split = w.split; marks = w.opens;
+      behind = record {
+        front = w.inner ++ (w.closed ∷ []); back = w.begins ∷ (w.within ++ (w.ends ∷ [])); split = sym (append_assoc w.inner (w.closed ∷ []) (w.begins ∷ (w.within ++ (w.ends ∷ []))));
+        before = record { inner = w.inner; closed = w.closed; split = refl; closes = w.closes; are = w.are };
+        behind = record { opened = w.begins; inner = w.within; closed = w.ends; split = refl; opens = w.starts; closes = w.stops; inside = w.holds };
+      };
+    };
+  }
+
+  tail_deeper : (xs : List Token) (t : Token) → RestDeep xs t → FunctionDeep Z xs t
+  tail_deeper xs t w = on w.deep where
+    on : BothDeep Nowhere Closing BlockDeep w.inner t → FunctionDeep Z xs t
+    on (ThenDeep.in_first d) = nowhere w.inner t d
+    on (ThenDeep.in_second front back params e p d) = record {
+      opened = w.opened; inner = p.inner; closed = p.closed; begins = d.opened; within = d.inner; params = params;
+      split = w.split ∙ ap (λ ys. w.opened ∷ ys) (e ∙ (ap (λ ys. ys ++ back) p.split ∙ (append_assoc p.inner (p.closed ∷ []) back ∙ ap (λ ys. p.inner ++ (p.closed ∷ ys)) d.split)));
+      opens = w.opens; are = p.are; closes = p.closes; starts = d.opens; deep = d.deep;
+    }
+
+  tail_upper : (xs : List Token) (t : Token) → FunctionDeep Z xs t → RestDeep xs t
+  tail_upper xs t w = record {
+    opened = w.opened; inner = w.inner ++ (w.closed ∷ w.begins ∷ w.within); split = w.split; opens = w.opens;
+    deep = ThenDeep.in_second (w.inner ++ (w.closed ∷ [])) (w.begins ∷ w.within) w.params (sym (append_assoc w.inner (w.closed ∷ []) (w.begins ∷ w.within)))
+        (record { inner = w.inner; closed = w.closed; split = refl; closes = w.closes; are = w.are }) (record { opened = w.begins; inner = w.within; split = refl; opens = w.starts; deep = w.deep });
+  }
+
+  exact_block : Exact (read_bracketed (codes "{") (codes "}") body) Block BlockDeep never
+  exact_block = exact_bracketed (codes "{") (codes "}") inside items_viable ends_it refl refl
+
+  block_viable : Viable Block []
+  block_viable = bracketed_viable (codes "{") (codes "}") refl refl items_viable
+
+  exact_headed_block : Exact {A = List Local × List Stmt} (read_both read_parameters (read_bracketed (codes "{") (codes "}") body)) (Both Closing Block) (BothDeep Nowhere Closing BlockDeep) never
+  exact_headed_block = exact_both exact_parameters exact_block (λ ys b rest w free. begins_never (ys ++ rest)) (λ ys t rest d. begins_never (ys ++ (t ∷ rest))) block_viable
+
+  headed_viable : Viable (Both Closing Block) []
+  headed_viable = let v = block_viable in record {
+    more = close_token ∷ v.more; value = ([], v.value);
+    member = record { front = close_token ∷ []; back = v.more; split = refl; before = record { inner = []; closed = close_token; split = refl; closes = refl; are = no_parameters refl }; behind = v.member };
+  }
+
+  -- a function is read behind its name
+  pub exact_function_from : Exact (read_function_from body mark result name) (FunctionTail mark result name) (FunctionDeep Z) never
+  unfolding read_function_from
+  exact_function_from = exact_as tail_into tail_back tail_deeper tail_upper (exact_mapped tree_of (exact_behind (codes "(") exact_headed_block headed_viable refl))
+
+  pub begun_function_from : Begun (read_function_from body mark result name) (has (symbol_at (codes "(")))
+  unfolding read_function_from
+  begun_function_from = begun_mapped tree_of (begun_behind (codes "(") exact_headed_block headed_viable refl)

@@ -1,3 +1,4 @@
 pub mod ExactFunctions
 pub mod ExactGlobals
 pub mod ExactKinds
+pub mod ExactPrograms
