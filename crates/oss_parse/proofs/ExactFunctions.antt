@@ -1,12 +1,11 @@
 -- The parameters, the result, the pragma and the block of a function are read exactly, by exact readers of expressions and of what
 -- stands in a block.
-use Rattle.std.proofs.Common.{◌≡◌, ℕ, Bool, true, false, if◌then◌else◌, List, [], ◌∷◌, ◌++◌, refl, sym, ap, ◌∙◌, subst, append_assoc, Option, Some, None, is_some, Result}
+use Rattle.std.proofs.Common.{◌≡◌, ℕ, Bool, true, false, if◌then◌else◌, List, [], ◌∷◌, ◌++◌, refl, sym, ap, ◌∙◌, subst, append_assoc, Option, Some, None, is_some}
 use Rattle.std.specs.Prelude.{codes}
 use Rattle.oss_syntax.specs.declared.token.Token.{Token}
 use Rattle.oss_syntax.specs.declared.token.TokenKind.{TokenKind}
 use Rattle.oss_syntax.specs.declared.token.TokenKind.TheVariants as kinds
 use Rattle.oss_syntax.specs.declared.tree.expr.Expr.{Expr}
-use Rattle.oss_syntax.specs.declared.tree.pragma.Clause.{Clause}
 use Rattle.oss_syntax.specs.declared.tree.pragma.Directive.{Directive}
 use Rattle.oss_syntax.specs.declared.tree.pragma.Directive.TheVariants as directive
 use Rattle.oss_syntax.specs.declared.tree.pragma.TaskMark.{TaskMark}
@@ -21,7 +20,7 @@ use Rattle.oss_model.specs.Fronts.{Viable}
 use Rattle.oss_model.specs.Grammar.{One, Both, Mapped, Either}
 use Rattle.oss_model.specs.Grammar.Either.{one_way, other_way}
 use Rattle.oss_model.specs.Levels.{IsExcessBehind}
-use Rattle.oss_model.specs.OneToken.{is_word, is_keyword, IsSymbol, IsKeyword, IsWord, IsOpen, IsClose}
+use Rattle.oss_model.specs.OneToken.{is_word, is_keyword, IsSymbol, IsWord, IsOpen, IsClose}
 use Rattle.oss_model.specs.Pragmas.{IsPragma}
 use Rattle.oss_model.specs.Pragmas.IsPragma.{task}
 use Rattle.oss_model.specs.Pragmas.IsClauses.{no_clause}
@@ -30,7 +29,7 @@ use Rattle.oss_model.specs.Programs.IsParameter.{parameter}
 use Rattle.oss_model.specs.Programs.IsParameterList.{last_parameter, next_parameter}
 use Rattle.oss_model.specs.Programs.IsParameters.{no_parameters, void_parameters, some_parameters}
 use Rattle.oss_model.specs.Programs.IsResult.{number_result, void_result}
-use Rattle.oss_model.specs.Reading.{Reader, has, one_of, never, read_one, read_then, read_mapped, read_both, read_either}
+use Rattle.oss_model.specs.Reading.{Reader, has, one_of, never, read_one, read_both}
 use Rattle.oss_model.specs.SimpleStatements.{first_line}
 use Rattle.oss_model.specs.StatementLimits.{OpensMark}
 use Rattle.oss_model.specs.StatementLimits.OpensMark.{in_mark}
@@ -41,7 +40,7 @@ use Rattle.oss_model.proofs.PartLemmas.{Nowhere, nowhere, exact_one, begun_one, 
 use Rattle.oss_model.proofs.PartLemmas.EitherDeep.{one_deep, other_deep}
 use Rattle.oss_model.proofs.PairLemmas.{begun_both, some_text}
 use Rattle.oss_pragma.specs.ExpressionReading.{former, read_list}
-use Rattle.oss_pragma.specs.PragmaReading.{task_of, read_task}
+use Rattle.oss_pragma.specs.PragmaReading.{task_of}
 use Rattle.oss_pragma.specs.TokenValues.{symbol_at, keyword_at, word_at, start_in, start_at, end_in, end_at, begins_expression}
 use Rattle.oss_pragma.specs.declared.cursor.Named.{Named}
 use Rattle.oss_pragma.proofs.ExactPairs.{BothDeep, exact_both, Headed, HeadedDeep, exact_headed, begun_headed, Trailed, exact_trailed, Enclosed, read_bracketed, Bracketed, BracketedDeep, exact_bracketed, bracketed_viable, Behind, exact_behind, begun_behind, exact_or}
@@ -51,11 +50,10 @@ use Rattle.oss_pragma.proofs.ListLemmas.{comma, Listed, ListedDeep, exact_list, 
 use Rattle.oss_pragma.proofs.ListLemmas.Listed.{last_part, next_part}
 use Rattle.oss_pragma.proofs.ListLemmas.ListedDeep.{deep_first, deep_later}
 use Rattle.oss_pragma.proofs.OnceLemmas.{once_none}
-use Rattle.oss_pragma.proofs.TokenLemmas.{begins_never, closing, goes_on, on_symbol, on_keyword, not_symbol, has_symbol, symbol_token, symbol_value, exact_symbol, one_symbol}
+use Rattle.oss_pragma.proofs.TokenLemmas.{begins_never, closing, goes_on, on_symbol, on_keyword, not_symbol, has_symbol, symbol_token, symbol_value, one_symbol}
 use Rattle.oss_parse.specs.ProgramReading.{parameter_of, read_parameter, read_parameters, function_of, just, read_function_from, read_result, mark_in, read_mark}
 use Rattle.oss_parse.specs.SimpleReading.{begins_kind}
-use Rattle.oss_parse.specs.SimpleReading.{read_declared, read_num_kind}
-use Rattle.oss_parse.proofs.ExactKinds.{keyword_told, keyword_value, has_keyword, NumKinded, exact_num_kind, begun_num_kind, Declared, exact_declared, begun_declared}
+use Rattle.oss_parse.proofs.ExactKinds.{keyword_told, keyword_value, NumKinded, exact_num_kind, begun_num_kind, Declared, exact_declared, begun_declared}
 
 -- what passes no test of a token that this keyword passes is no such keyword
 pub not_keyword : (test : Token → Bool) (s : List ℕ) → ((line : ℕ) → test (record { what = kinds.Keyword s; line = line }) ≡ false) → (t : Token) → test t ≡ true → has (keyword_at s) t ≡ false

@@ -1,5 +1,5 @@
 -- The declarators of globals are read exactly, behind their type and the first name.
-use Rattle.std.proofs.Common.{◌≡◌, ℕ, Bool, true, false, ◌||◌, List, [], ◌∷◌, ◌++◌, map, refl, sym, ap, ◌∙◌, subst, append_assoc, Option, Some, None}
+use Rattle.std.proofs.Common.{◌≡◌, ℕ, Bool, true, false, ◌||◌, List, [], ◌∷◌, ◌++◌, map, refl, sym, ap, ◌∙◌, subst, Some, None}
 use Rattle.std.specs.Prelude.{codes}
 use Rattle.std.proofs.lemmas.List.{append-nil}
 use Rattle.oss_syntax.specs.declared.token.Token.{Token}
@@ -10,21 +10,21 @@ use Rattle.oss_syntax.specs.declared.tree.program.Item.{Item}
 use Rattle.oss_syntax.specs.declared.tree.program.Item.TheVariants as items
 use Rattle.oss_syntax.specs.declared.tree.program.NumKind.{NumKind}
 use Rattle.oss_model.specs.Fronts.{Viable}
-use Rattle.oss_model.specs.Grammar.{One, Both, Mapped, Either}
+use Rattle.oss_model.specs.Grammar.{One, Mapped, Either}
 use Rattle.oss_model.specs.Grammar.Either.{one_way, other_way}
 use Rattle.oss_model.specs.OneToken.{IsSymbol, IsIndexOpen, IsIndexClose, IsComma}
 use Rattle.oss_model.specs.Programs.{IsFirstValue, IsGlobal, IsGlobals}
 use Rattle.oss_model.specs.Programs.IsFirstValue.{plain_value, negative_value}
 use Rattle.oss_model.specs.Programs.IsGlobal.{scalar_global, first_global, array_global}
 use Rattle.oss_model.specs.Programs.IsGlobals.{last_global, next_global}
-use Rattle.oss_model.specs.Reading.{Reader, begins, has, one_of, never, read_one, read_then, read_nothing, read_mapped, read_both, read_either}
+use Rattle.oss_model.specs.Reading.{begins, has, one_of, never, read_one, read_then, read_mapped}
 use Rattle.oss_model.specs.Values.{negated}
-use Rattle.oss_model.proofs.Parts.{Exact, Begun, exact_as, exact_before, member_begins, deep_begins}
+use Rattle.oss_model.proofs.Parts.{Exact, Begun, exact_as, member_begins}
 use Rattle.oss_model.proofs.PartLemmas.{Nowhere, nowhere, exact_one, begun_one, Nothing, exact_nothing, exact_mapped, begun_mapped, Then, ThenDeep, exact_then, begun_then, EitherDeep, exact_either, begun_either}
 use Rattle.oss_model.proofs.PartLemmas.EitherDeep.{one_deep, other_deep}
 use Rattle.oss_model.proofs.PairLemmas.{some_text}
 use Rattle.oss_model.proofs.StepLemmas.{none_goes, fewer_go}
-use Rattle.oss_pragma.specs.ExpressionReading.{and_then, read_more, read_next}
+use Rattle.oss_pragma.specs.ExpressionReading.{and_then, read_more}
 use Rattle.oss_pragma.specs.TokenValues.{symbol_at, name_at}
 use Rattle.oss_pragma.specs.declared.cursor.Named.{Named}
 use Rattle.oss_pragma.proofs.ExactPairs.{Trailed, exact_trailed, read_bracketed, Bracketed, BracketedDeep, exact_bracketed, begun_bracketed, read_behind, Behind, exact_behind, begun_behind, exact_or}

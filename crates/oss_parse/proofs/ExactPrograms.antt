@@ -1,5 +1,5 @@
 -- Programs are read exactly, by exact readers of expressions and of what stands in a block.
-use Rattle.std.proofs.Common.{◌≡◌, ℕ, Bool, true, false, List, [], ◌∷◌, ◌++◌, map, refl, sym, ap, ◌∙◌, subst, append_assoc, Option, Some, None, is_some}
+use Rattle.std.proofs.Common.{◌≡◌, ℕ, Bool, true, false, List, [], ◌∷◌, ◌++◌, refl, sym, ap, ◌∙◌, subst, append_assoc, Option, Some, None, is_some}
 use Rattle.std.specs.Prelude.{codes}
 use Rattle.std.proofs.lemmas.List.{append-nil}
 use Rattle.oss_syntax.specs.declared.token.Token.{Token}
@@ -28,13 +28,13 @@ use Rattle.oss_model.specs.Programs.IsFunction.{function}
 use Rattle.oss_model.specs.Programs.IsItem.{globals, one_function}
 use Rattle.oss_model.specs.Programs.IsProgramItems.{no_items, more_items}
 use Rattle.oss_model.specs.Programs.IsProgram.{program}
-use Rattle.oss_model.specs.Reading.{Reader, begins, has, one_of, never, read_one, read_then, read_mapped, read_either}
+use Rattle.oss_model.specs.Reading.{Reader, begins, has, one_of, never, read_one, read_then, read_mapped}
 use Rattle.oss_model.specs.SimpleStatements.{IsNumKind, first_line}
 use Rattle.oss_model.specs.StatementLimits.{OpensMark, IsItemsExcess, IsProgramExcess}
 use Rattle.oss_model.specs.StatementLimits.IsProgramExcess.{in_marked, in_body, in_later_item}
 use Rattle.oss_model.specs.Statements.{IsItems}
 use Rattle.oss_model.proofs.Parts.{Exact, Begun, exact_as}
-use Rattle.oss_model.proofs.PartLemmas.{Nowhere, nowhere, exact_one, begun_one, exact_mapped, begun_mapped, Then, ThenDeep, exact_then, begun_then, EitherDeep, exact_either, begun_either}
+use Rattle.oss_model.proofs.PartLemmas.{Nowhere, nowhere, begun_one, exact_mapped, begun_mapped, Then, ThenDeep, exact_then, begun_then, EitherDeep, exact_either, begun_either}
 use Rattle.oss_model.proofs.PartLemmas.EitherDeep.{one_deep, other_deep}
 use Rattle.oss_model.proofs.PairLemmas.{some_text}
 use Rattle.oss_model.proofs.StepLemmas.{Steps, StepsDeep, exact_steps}
@@ -45,12 +45,12 @@ use Rattle.oss_pragma.specs.TokenValues.{symbol_at, keyword_at, start_in, start_
 use Rattle.oss_pragma.specs.declared.cursor.Named.{Named}
 use Rattle.oss_pragma.proofs.ExactExpressions.{exact_expression, begun_expression}
 use Rattle.oss_pragma.proofs.ExactPairs.{exact_or}
-use Rattle.oss_pragma.proofs.TokenLemmas.{begins_never, opening, goes_on, on_keyword}
+use Rattle.oss_pragma.proofs.TokenLemmas.{begins_never, opening, goes_on}
 use Rattle.oss_parse.specs.ProgramReading.{read_function_from, read_result, read_typed_from, read_typed, read_void, read_marked, read_program_item, begins_program_item, read_program_items, program_of}
 use Rattle.oss_parse.specs.SimpleReading.{begins_kind}
 use Rattle.oss_parse.proofs.ExactFunctions.{kind_no_void, exact_void_word, exact_result, begun_result, Marked, exact_mark, begun_mark, FunctionTail, FunctionDeep, exact_function_from, begun_function_from}
 use Rattle.oss_parse.proofs.ExactGlobals.{TypedGlobals, GlobalsTail, exact_globals_from, tail_globals, globals_tail, tail_apart, tail_viable}
-use Rattle.oss_parse.proofs.ExactKinds.{keyword_told, keyword_value, has_keyword, NumKinded, exact_num_kind, begun_num_kind, NameToken, exact_name, begun_name}
+use Rattle.oss_parse.proofs.ExactKinds.{keyword_told, keyword_value, NumKinded, exact_num_kind, begun_num_kind, NameToken, exact_name, begun_name}
 
 abbrev void_at : Token → Option ℕ
 void_at = keyword_at (codes "void")
