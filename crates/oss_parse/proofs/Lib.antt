@@ -1,6 +1,10 @@
 pub mod BranchLemmas
 pub mod EndingLemmas
 pub mod ExactDeclarations
+pub mod ExactFunctions
+pub mod ExactGlobals
+pub mod ExactKinds
+pub mod ExactPrograms
 pub mod ExactSimple
 pub mod FormLemmas
 pub mod StatementForms
