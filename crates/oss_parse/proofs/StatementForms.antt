@@ -331,3 +331,96 @@ module _ {expression : Reader Expr} {X : List Token → Token → Type 0} (part 
     first = begun_then lined (λ d. (directed_tail d).whole) (λ d ys s rest w free. begins_never (ys ++ rest)) (λ d ys t rest w. begins_never (ys ++ (t ∷ rest))) some_directed (form.begun_lined directed first_directed);
     inside = λ xs s w. record { front = w.front; back = w.back; value = w.value; split = w.split; before = w.before; behind = directed_inside w.value w.back s w.behind };
   }
+
+  -- the choice, from the last form to the first
+  abbrev pub KeywordText : (U : List Token → Stmt → Type 0) → (List Token → Stmt → Type 0) → List Token → Stmt → Type 0
+  KeywordText U If = Either If (Either (WhileText U) (Either (ForText U) (Either ReturnText (Either (JumpText (codes "break") break_at) (Either (JumpText (codes "continue") continue_at) (Either PrintText (PragmaText U)))))))
+
+  abbrev pub KeywordDeep : List Token → Token → Type 0
+  KeywordDeep = EitherDeep IfDeep (EitherDeep WhileDeep (EitherDeep ForDeep (EitherDeep ReturnDeep (EitherDeep (JumpDeep (codes "break")) (EitherDeep (JumpDeep (codes "continue")) (EitherDeep PrintDeep PragmaDeep))))))
+
+  abbrev has_word : List ℕ → Token → Bool
+  has_word s = has (keyword_at s)
+
+  from_print : Form (read_either (has_word (codes "printf")) (read_print expression) (read_pragma_statement pragma sub)) (Either PrintText (PragmaText IsAnyStmt)) (Either PrintText (PragmaText (IsStmt false))) (EitherDeep PrintDeep PragmaDeep)
+      (one_of (has_word (codes "printf")) (has start_at))
+  from_print = form_either (has_word (codes "printf")) print_form pragma_form (λ t e. not_keyword (has start_at) (codes "printf") (λ line. refl) t e)
+
+  from_continue : Form (read_either (has_word (codes "continue")) read_continue (read_either (has_word (codes "printf")) (read_print expression) (read_pragma_statement pragma sub)))
+      (Either (JumpText (codes "continue") continue_at) (Either PrintText (PragmaText IsAnyStmt))) (Either (JumpText (codes "continue") continue_at) (Either PrintText (PragmaText (IsStmt false))))
+      (EitherDeep (JumpDeep (codes "continue")) (EitherDeep PrintDeep PragmaDeep)) (one_of (has_word (codes "continue")) (one_of (has_word (codes "printf")) (has start_at)))
+  from_continue = form_either (has_word (codes "continue")) continue_form from_print (λ t e. not_keyword (one_of (has_word (codes "printf")) (has start_at)) (codes "continue") (λ line. refl) t e)
+
+  abbrev from_break_starts : Token → Bool
+  from_break_starts = one_of (has_word (codes "break")) (one_of (has_word (codes "continue")) (one_of (has_word (codes "printf")) (has start_at)))
+
+  abbrev BreakText : (List Token → Stmt → Type 0) → List Token → Stmt → Type 0
+  BreakText U = Either (JumpText (codes "break") break_at) (Either (JumpText (codes "continue") continue_at) (Either PrintText (PragmaText U)))
+
+  abbrev read_from_break : Reader Stmt
+  read_from_break = read_either (has_word (codes "break")) read_break (read_either (has_word (codes "continue")) read_continue (read_either (has_word (codes "printf")) (read_print expression) (read_pragma_statement pragma sub)))
+
+  from_break : Form read_from_break (BreakText IsAnyStmt) (BreakText (IsStmt false)) (EitherDeep (JumpDeep (codes "break")) (EitherDeep (JumpDeep (codes "continue")) (EitherDeep PrintDeep PragmaDeep))) from_break_starts
+  from_break = form_either (has_word (codes "break")) break_form from_continue
+      (λ t e. not_keyword (one_of (has_word (codes "continue")) (one_of (has_word (codes "printf")) (has start_at))) (codes "break") (λ line. refl) t e)
+
+  from_return : Form (read_either (has_word (codes "return")) (read_return expression) read_from_break) (Either ReturnText (BreakText IsAnyStmt)) (Either ReturnText (BreakText (IsStmt false)))
+      (EitherDeep ReturnDeep (EitherDeep (JumpDeep (codes "break")) (EitherDeep (JumpDeep (codes "continue")) (EitherDeep PrintDeep PragmaDeep)))) (one_of (has_word (codes "return")) from_break_starts)
+  from_return = form_either (has_word (codes "return")) return_form from_break (λ t e. not_keyword from_break_starts (codes "return") (λ line. refl) t e)
+
+  abbrev from_for_starts : Token → Bool
+  from_for_starts = one_of (has_word (codes "for")) (one_of (has_word (codes "return")) from_break_starts)
+
+  from_for : Form (read_either (has_word (codes "for")) (read_for expression sub) (read_either (has_word (codes "return")) (read_return expression) read_from_break))
+      (Either (ForText IsAnyStmt) (Either ReturnText (BreakText IsAnyStmt))) (Either (ForText (IsStmt false)) (Either ReturnText (BreakText (IsStmt false))))
+      (EitherDeep ForDeep (EitherDeep ReturnDeep (EitherDeep (JumpDeep (codes "break")) (EitherDeep (JumpDeep (codes "continue")) (EitherDeep PrintDeep PragmaDeep))))) from_for_starts
+  from_for = form_either (has_word (codes "for")) for_form from_return (λ t e. not_keyword (one_of (has_word (codes "return")) from_break_starts) (codes "for") (λ line. refl) t e)
+
+  abbrev from_while_starts : Token → Bool
+  from_while_starts = one_of (has_word (codes "while")) from_for_starts
+
+  from_while : Form (read_either (has_word (codes "while")) (read_while expression sub) (read_either (has_word (codes "for")) (read_for expression sub) (read_either (has_word (codes "return")) (read_return expression) read_from_break)))
+      (Either (WhileText IsAnyStmt) (Either (ForText IsAnyStmt) (Either ReturnText (BreakText IsAnyStmt)))) (Either (WhileText (IsStmt false)) (Either (ForText (IsStmt false)) (Either ReturnText (BreakText (IsStmt false)))))
+      (EitherDeep WhileDeep (EitherDeep ForDeep (EitherDeep ReturnDeep (EitherDeep (JumpDeep (codes "break")) (EitherDeep (JumpDeep (codes "continue")) (EitherDeep PrintDeep PragmaDeep)))))) from_while_starts
+  from_while = form_either (has_word (codes "while")) while_form from_for (λ t e. not_keyword from_for_starts (codes "while") (λ line. refl) t e)
+
+  keyword_form : Form (read_keyword_statement expression pragma sub) (KeywordText IsAnyStmt IfText) (KeywordText (IsStmt false) ClosedIf) KeywordDeep begins_keyword_statement
+  unfolding read_keyword_statement
+  keyword_form = form_either (has_word (codes "if")) if_form from_while (λ t e. not_keyword from_while_starts (codes "if") (λ line. refl) t e)
+
+  not_simple : (t : Token) → begins_keyword_statement t ≡ true → begins_simple t ≡ false
+  unfolding step_of
+  not_simple t e = on t.what e where
+    on : (k : TokenKind) → begins_keyword_statement (record { what = k; line = t.line }) ≡ true → begins_simple (record { what = k; line = t.line }) ≡ false
+    on (kinds.Name w) e = absurd (cc)
+    on (kinds.Symbol w) e = absurd (cc)
+    on (kinds.Keyword w) e = refl
+    on (kinds.Number v u) e = absurd (cc)
+    on (kinds.Text w) e = absurd (cc)
+    on kinds.PragmaOss e = refl
+    on kinds.PragmaEnd e = absurd (cc)
+    on kinds.Directive e = absurd (cc)
+
+  from_simple : Form (read_either begins_simple (read_simple_statement expression) (read_keyword_statement expression pragma sub)) (Either SimpleText (KeywordText IsAnyStmt IfText)) (Either SimpleText (KeywordText (IsStmt false) ClosedIf))
+      (EitherDeep (IsExcessBehind OpensSimple X) KeywordDeep) (one_of begins_simple begins_keyword_statement)
+  from_simple = form_either begins_simple simple_form keyword_form not_simple
+
+  from_empty : Form (read_either (has (symbol_at (codes ";"))) read_empty (read_either begins_simple (read_simple_statement expression) (read_keyword_statement expression pragma sub)))
+      (Either EmptyText (Either SimpleText (KeywordText IsAnyStmt IfText))) (Either EmptyText (Either SimpleText (KeywordText (IsStmt false) ClosedIf))) (EitherDeep Nowhere (EitherDeep (IsExcessBehind OpensSimple X) KeywordDeep))
+      (one_of (has (symbol_at (codes ";"))) (one_of begins_simple begins_keyword_statement))
+  unfolding step_of
+  from_empty = form_either (has (symbol_at (codes ";"))) empty_form from_simple (λ t e. not_symbol (one_of begins_simple begins_keyword_statement) (codes ";") (λ line. refl) t e)
+
+  abbrev pub AllText : List Token → Stmt → Type 0
+  AllText = Either BlockText (Either EmptyText (Either SimpleText (KeywordText IsAnyStmt IfText)))
+
+  abbrev pub ClosedText : List Token → Stmt → Type 0
+  ClosedText = Either BlockText (Either EmptyText (Either SimpleText (KeywordText (IsStmt false) ClosedIf)))
+
+  abbrev pub AllDeep : List Token → Token → Type 0
+  AllDeep = EitherDeep BlockDeep (EitherDeep Nowhere (EitherDeep (IsExcessBehind OpensSimple X) KeywordDeep))
+
+  pub all_forms : Form (read_statement expression pragma items sub) AllText ClosedText AllDeep begins_statement
+  unfolding read_statement step_of
+  all_forms = form_either (has (symbol_at (codes "{"))) block_form from_empty
+      (λ t e. not_symbol (one_of (has (symbol_at (codes ";"))) (one_of begins_simple begins_keyword_statement)) (codes "{") (λ line. refl) t e)
