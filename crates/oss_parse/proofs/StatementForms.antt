@@ -1,5 +1,6 @@
 -- Each form of statement is read exactly, and the choice among them by the first token.
-use Rattle.std.proofs.Common.{◌≡◌, ℕ, suc, Bool, true, false, ◌||◌, List, [], ◌∷◌, ◌++◌, refl, sym, ap, ◌∙◌, subst, Option, Some, None, is_some, Result, Ok, Err}
+use Rattle.std.proofs.lemmas.List.{append-nil}
+use Rattle.std.proofs.Common.{◌≡◌, ℕ, suc, Bool, true, false, ◌||◌, List, [], ◌∷◌, ◌++◌, refl, sym, ap, ◌∙◌, subst, append_assoc, Option, Some, None, is_some, Result, Ok, Err}
 use Rattle.std.specs.Prelude.{codes}
 use Rattle.oss_syntax.specs.declared.token.Token.{Token}
 use Rattle.oss_syntax.specs.declared.token.TokenKind.{TokenKind}
@@ -9,25 +10,34 @@ use Rattle.oss_syntax.specs.declared.tree.pragma.Directive.{Directive}
 use Rattle.oss_syntax.specs.declared.tree.pragma.Directive.TheVariants as directive
 use Rattle.oss_syntax.specs.declared.tree.stmt.Stmt.{Stmt}
 use Rattle.oss_syntax.specs.declared.tree.stmt.StmtKind.TheVariants as stmts
-use Rattle.oss_model.specs.Expressions.{IsWhole, operator_of, prefix_of}
+use Rattle.oss_model.specs.Expressions.{IsWhole, IsArgumentList, operator_of, prefix_of}
 use Rattle.oss_model.specs.Fronts.{Viable}
 use Rattle.oss_model.specs.Grammar.{One, Both, Mapped, Either}
 use Rattle.oss_model.specs.Grammar.Either.{one_way, other_way}
 use Rattle.oss_model.specs.Levels.{IsExcessBehind, OpensPragma}
 use Rattle.oss_model.specs.Pragmas.{IsPragma}
 use Rattle.oss_model.specs.Reading.{Stop, Reader, begins, has, never, one_of, read_one, read_then, read_nothing, read_mapped, read_both, read_either}
-use Rattle.oss_model.specs.SimpleStatements.{IsSimple, step_of}
+use Rattle.oss_model.specs.SimpleStatements.{IsSimple, IsDeclaration, step_of}
 use Rattle.oss_model.specs.StatementLimits.{OpensSimple, IsStatementExcess, IsItemsExcess}
-use Rattle.oss_model.specs.Statements.{IsStmt, IsAnyStmt, IsItems}
+use Rattle.oss_model.specs.Statements.{IsStmt, IsAnyStmt, IsItems, IsMaybeWhole, IsMaybeSimple, IsForFirst, IsPrinted}
 use Rattle.oss_model.specs.Statements.IsItems.{no_item}
+use Rattle.oss_model.specs.Statements.IsStmt.{block, empty, simple, if_alone, if_else, while_loop, for_loop, return_jump, break_jump, continue_jump, print, task, task_wait, release}
+use Rattle.oss_model.specs.Statements.IsMaybeWhole.{no_expression, some_expression}
+use Rattle.oss_model.specs.Statements.IsMaybeSimple.{no_simple, some_simple}
+use Rattle.oss_model.specs.Statements.IsForFirst.{declared_first, other_first}
+use Rattle.oss_model.specs.Statements.IsPrinted.{nothing_printed, values_printed}
+use Rattle.oss_model.specs.Expressions.IsArgumentList.{last_argument, next_argument}
+use Rattle.oss_model.specs.OneToken.{IsSymbol, IsKeyword, IsOpen, IsClose}
 use Rattle.oss_model.proofs.Parts.{Exact, Begun, exact_same}
 use Rattle.oss_model.proofs.PartLemmas.{Nowhere, Nothing, exact_one, begun_one, exact_nothing, exact_mapped, begun_mapped, Then, ThenDeep, begun_then, EitherDeep, begun_either}
 use Rattle.oss_model.proofs.PairLemmas as pairs
 use Rattle.oss_pragma.specs.TokenValues.{symbol_at, keyword_at, start_at, begins_expression}
-use Rattle.oss_pragma.proofs.ExactPairs.{Headed, HeadedDeep, exact_headed, begun_headed, Trailed, exact_trailed, Enclosed, exact_enclosed, begun_enclosed, BracketedDeep, Behind, exact_behind, begun_behind}
-use Rattle.oss_pragma.proofs.TokenLemmas.{goes_on, on_symbol, has_symbol, not_symbol, not_keyword, begins_never}
+use Rattle.oss_pragma.proofs.ExactPairs.{Headed, HeadedDeep, exact_headed, begun_headed, Trailed, exact_trailed, Enclosed, exact_enclosed, begun_enclosed, BracketedDeep, Behind, exact_behind, begun_behind, symbol_line}
+use Rattle.oss_pragma.proofs.TokenLemmas.{goes_on, on_symbol, has_symbol, has_keyword, symbol_token, symbol_value, keyword_token, keyword_value, keyword_line, not_symbol, not_keyword, begins_never}
+use Rattle.oss_pragma.proofs.ListLemmas.{Follow, FollowDeep}
+use Rattle.oss_pragma.proofs.ListLemmas.Follow.{none, some}
 use Rattle.oss_parse.specs.SimpleReading.{read_simple, begins_simple, star, step_at}
-use Rattle.oss_parse.specs.StatementReading.{text_in, text_at, block_of, empty_at, while_of, for_of, return_of, break_at, continue_at, print_of, task_of, read_block, read_empty, read_simple_statement, read_if, read_branches, read_while, read_for, read_return, read_break, read_continue, read_print, read_directed, read_lined, read_pragma_statement, read_keyword_statement, read_statement, read_printed, begins_keyword_statement, begins_statement}
+use Rattle.oss_parse.specs.StatementReading.{text_in, text_at, block_of, empty_at, if_of, if_else_of, while_of, for_of, return_of, break_at, continue_at, print_of, task_of, read_block, read_empty, read_simple_statement, read_if, read_branches, read_while, read_for, read_return, read_break, read_continue, read_print, read_directed, read_lined, read_pragma_statement, read_keyword_statement, read_statement, read_printed, begins_keyword_statement, begins_statement}
 use Rattle.oss_parse.specs.StatementReading as reading
 use Rattle.oss_pragma.specs.ExpressionReading.{former, latter}
 use Rattle.oss_parse.proofs.BranchLemmas.{otherwise, Branches, ClosedBranches, BranchesDeep, ending_branches}
@@ -69,8 +79,8 @@ module _ {expression : Reader Expr} {X : List Token → Token → Type 0} (part 
     {pragma : Reader Directive} (directed : Exact pragma IsPragma (IsExcessBehind OpensPragma X) never) (first_directed : Begun pragma (has start_at))
     {n : ℕ} {items : Reader (List Stmt)} {goes_items : Token → Bool} (inside : Exact items IsItems (IsItemsExcess X n) goes_items) (brace_ends : (t : Token) → has (symbol_at (codes "}")) t ≡ true → goes_items t ≡ false)
     {sub : Reader Stmt} (below : Ending otherwise sub IsAnyStmt (IsStmt false) (IsStatementExcess X n)) (first_below : Begun sub begins_statement) where
-  simple : Exact (read_simple expression) IsSimple (IsExcessBehind OpensSimple X) goes_on
-  simple = exact_simple part first
+  simple_read : Exact (read_simple expression) IsSimple (IsExcessBehind OpensSimple X) goes_on
+  simple_read = exact_simple part first
 
   closed_inside : (xs : List Token) (s : Stmt) → IsStmt false xs s → IsAnyStmt xs s
   closed_inside xs s w = record { ends_open = false; is = w }
@@ -115,8 +125,8 @@ module _ {expression : Reader Expr} {X : List Token → Token → Type 0} (part 
 
   simple_form : Form (read_simple_statement expression) SimpleText SimpleText (IsExcessBehind OpensSimple X) begins_simple
   unfolding read_simple_statement mark
-  simple_form = form_closed (exact_mapped former (exact_trailed (symbol_at (codes ";")) simple semicolon_ends (mark (codes ";")) 0 refl))
-      (begun_mapped former (pairs.begun_both simple semicolon (begun_one (symbol_at (codes ";"))) semicolon_ends (begun_simple part first)))
+  simple_form = form_closed (exact_mapped former (exact_trailed (symbol_at (codes ";")) simple_read semicolon_ends (mark (codes ";")) 0 refl))
+      (begun_mapped former (pairs.begun_both simple_read semicolon (begun_one (symbol_at (codes ";"))) semicolon_ends (begun_simple part first)))
 
   -- "if" "(" expr ")" stmt [ "else" stmt ]
   abbrev pub Head : List ℕ → List Token → ℕ × Expr → Type 0
@@ -424,3 +434,223 @@ module _ {expression : Reader Expr} {X : List Token → Token → Type 0} (part 
   unfolding read_statement step_of
   all_forms = form_either (has (symbol_at (codes "{"))) block_form from_empty
       (λ t e. not_symbol (one_of (has (symbol_at (codes ";"))) (one_of begins_simple begins_keyword_statement)) (codes "{") (λ line. refl) t e)
+
+  -- what is read is a statement of the grammar
+  into_block : (xs : List Token) (s : Stmt) → BlockText xs s → IsStmt false xs s
+  into_block xs s w = let e = w.whole in
+      subst (λ x. IsStmt false xs x) (ap (λ line. record { what = stmts.Block w.part.1.0; line = line }) (symbol_line (codes "{") e.opened w.part.0 e.opens) ∙ w.made)
+      (block e.opened e.inner e.closed e.split (symbol_token (codes "{") e.opened w.part.0 e.opens) (symbol_token (codes "}") e.closed w.part.1.1 e.closes) e.inside)
+
+  into_empty : (xs : List Token) (s : Stmt) → EmptyText xs s → IsStmt false xs s
+  into_empty xs s w = subst (λ x. IsStmt false xs x) (ap (λ line. record { what = stmts.Empty; line = line }) (symbol_line (codes ";") w.whole.token w.part w.whole.passes) ∙ w.made)
+      (empty w.whole.token w.whole.only (symbol_token (codes ";") w.whole.token w.part w.whole.passes))
+
+  into_simple : (xs : List Token) (s : Stmt) → SimpleText xs s → IsStmt false xs s
+  into_simple xs s w = simple w.whole.inner w.whole.closed w.whole.split (symbol_token (codes ";") w.whole.closed w.part.1 w.whole.passes) (subst (λ x. IsSimple w.whole.inner x) w.made w.whole.inside)
+
+  head_split : (word : List ℕ) (xs front back : List Token) (h : ℕ × Expr) → xs ≡ front ++ back → (w : Head word front h) → xs ≡ w.token ∷ w.behind.opened ∷ (w.behind.inner ++ (w.behind.closed ∷ back))
+  head_split word xs front back h e w =
+      e ∙ (ap (λ ys. ys ++ back) (w.split ∙ ap (λ ys. w.token ∷ ys) w.behind.split) ∙ ap (λ ys. w.token ∷ w.behind.opened ∷ ys) (append_assoc w.behind.inner (w.behind.closed ∷ []) back))
+
+  into_while : (o : Bool) (xs : List Token) (s : Stmt) → WhileText (IsStmt o) xs s → IsStmt o xs s
+  into_while o xs s w = let h = w.before in
+      subst (λ x. IsStmt o xs x) (ap (λ line. record { what = stmts.While w.value.1 w.behind.part; line = line }) (keyword_line (codes "while") h.token w.value.0 h.passes) ∙ w.behind.made)
+      (while_loop h.token h.behind.opened h.behind.inner h.behind.closed w.back (head_split (codes "while") xs w.front w.back w.value w.split h) (keyword_token (codes "while") h.token w.value.0 h.passes)
+      h.behind.opens h.behind.closes h.behind.inside w.behind.whole)
+
+  if_alone_of : (o : Bool) (xs front back : List Token) (h : ℕ × Expr) (s e : Stmt) → xs ≡ front ++ back → Head (codes "if") front h → if_of h s ≡ e → IsStmt o back s → IsStmt true xs e
+  if_alone_of o xs front back h s e split w made v =
+      subst (λ x. IsStmt true xs x) (ap (λ line. record { what = stmts.If h.1 s None; line = line }) (keyword_line (codes "if") w.token h.0 w.passes) ∙ made)
+      (if_alone w.token w.behind.opened w.behind.inner w.behind.closed back (head_split (codes "if") xs front back h split w) (keyword_token (codes "if") w.token h.0 w.passes) w.behind.opens w.behind.closes w.behind.inside v)
+
+  if_else_is : (o : Bool) (xs front back : List Token) (h : ℕ × Expr) (s other e : Stmt) (middle : List Token) (mark : Token) (rest : List Token) → xs ≡ front ++ back → Head (codes "if") front h → if_else_of h s other ≡ e
+      → back ≡ middle ++ (mark ∷ rest) → otherwise mark ≡ true → IsStmt false middle s → IsStmt o rest other → IsStmt o xs e
+  if_else_is o xs front back h s other e middle mark rest split w made b begun v u =
+      let all : xs ≡ w.token ∷ w.behind.opened ∷ (w.behind.inner ++ (w.behind.closed ∷ (middle ++ (mark ∷ rest))))
+      = head_split (codes "if") xs front back h split w ∙ ap (λ ys. w.token ∷ w.behind.opened ∷ (w.behind.inner ++ (w.behind.closed ∷ ys))) b in
+      subst (λ x. IsStmt o xs x) (ap (λ line. record { what = stmts.If h.1 s (Some other); line = line }) (keyword_line (codes "if") w.token h.0 w.passes) ∙ made)
+      (if_else w.token w.behind.opened w.behind.inner w.behind.closed middle mark rest all (keyword_token (codes "if") w.token h.0 w.passes) w.behind.opens w.behind.closes (has_keyword (codes "else") mark begun) w.behind.inside v u)
+
+  into_if : (xs : List Token) (s : Stmt) → IfText xs s → IsAnyStmt xs s
+  into_if xs s w = on w.behind where
+    on : Branches IsAnyStmt (IsStmt false) w.value w.back s → IsAnyStmt xs s
+    on (one_branch b made v) = record { ends_open = true; is = if_alone_of v.ends_open xs w.front w.back w.value b s w.split w.before made v.is }
+    on (two_branches b other front mark back made split begun v u) =
+        record { ends_open = u.ends_open; is = if_else_is u.ends_open xs w.front w.back w.value b other s front mark back w.split w.before made split begun v u.is }
+
+  into_closed_if : (xs : List Token) (s : Stmt) → ClosedIf xs s → IsStmt false xs s
+  into_closed_if xs s w = let b = w.behind in if_else_is false xs w.front w.back w.value b.first b.other s b.front b.mark b.back w.split w.before b.made b.split b.marks b.before b.behind
+
+  maybe_whole : (xs : List Token) (e : Option Expr) → MaybeE xs e → IsMaybeWhole xs e
+  maybe_whole xs e (one_way w) = subst (λ x. IsMaybeWhole xs x) w.made (some_expression w.whole)
+  maybe_whole xs e (other_way w) = subst (λ x. IsMaybeWhole xs x) w.same (no_expression w.nothing)
+
+  abbrev MaybeS : List Token → Option Stmt → Type 0
+  MaybeS = Either (Mapped Some IsSimple) (Nothing None)
+
+  maybe_simple : (xs : List Token) (s : Option Stmt) → MaybeS xs s → IsMaybeSimple xs s
+  maybe_simple xs s (one_way w) = subst (λ x. IsMaybeSimple xs x) w.made (some_simple w.whole)
+  maybe_simple xs s (other_way w) = subst (λ x. IsMaybeSimple xs x) w.same (no_simple w.nothing)
+
+  abbrev First : List Token → Option Stmt → Type 0
+  First = Either (Mapped Some IsDeclaration) MaybeS
+
+  for_first : (xs : List Token) (s : Option Stmt) → First xs s → IsForFirst xs s
+  for_first xs s (one_way w) = subst (λ x. IsForFirst xs x) w.made (declared_first w.whole)
+  for_first xs s (other_way w) = other_first (maybe_simple xs s w)
+
+  -- the tokens of the head of a `for`
+  record Parts (front : List Token) (h : ℕ × (Option Stmt × (Option Expr × Option Stmt))) : Type 0 where
+    t : Token
+    opened : Token
+    start : List Token
+    first_mark : Token
+    middle : List Token
+    second_mark : Token
+    end : List Token
+    closed : Token
+    split : front ≡ t ∷ opened ∷ (start ++ (first_mark ∷ (middle ++ (second_mark ∷ (end ++ (closed ∷ []))))))
+    is_for : IsKeyword (codes "for") t
+    at : t.line ≡ h.0
+    opens : IsOpen opened
+    marks : IsSymbol (codes ";") first_mark
+    marks_again : IsSymbol (codes ";") second_mark
+    closes : IsClose closed
+    starts : First start h.1.0
+    tests : MaybeE middle h.1.1.0
+    ends : MaybeS end h.1.1.1
+
+  parts_of : (front : List Token) (h : ℕ × (Option Stmt × (Option Expr × Option Stmt))) → ForHead front h → Parts front h
+  parts_of front h w =
+      let inner = w.behind.behind in let both = inner.whole in let rest = both.behind in let middle = rest.behind in let last = middle.behind in let end = last.behind in record {
+        t = w.token; opened = w.behind.mark; start = both.front; first_mark = rest.token; middle = middle.front; second_mark = last.token; end = end.inner; closed = end.closed;
+        split = w.split ∙ ap (λ ys. w.token ∷ ys) (w.behind.split ∙ ap (λ ys. w.behind.mark ∷ ys) (both.split ∙ ap (λ ys. both.front ++ ys) (rest.split
+            ∙ ap (λ ys. rest.token ∷ ys) (middle.split ∙ ap (λ ys. middle.front ++ ys) (last.split ∙ ap (λ ys. last.token ∷ ys) end.split)))));
+        is_for = keyword_token (codes "for") w.token h.0 w.passes;
+        at = keyword_line (codes "for") w.token h.0 w.passes;
+        opens = w.behind.marks;
+        marks = symbol_token (codes ";") rest.token inner.part.1.0 rest.passes;
+        marks_again = symbol_token (codes ";") last.token inner.part.1.1.1.0 last.passes;
+        closes = symbol_token (codes ")") end.closed inner.part.1.1.1.1.1 end.passes;
+        starts = subst (λ (q : Option Stmt × (Option Expr × Option Stmt)). First both.front q.0) inner.made both.before;
+        tests = subst (λ (q : Option Stmt × (Option Expr × Option Stmt)). MaybeE middle.front q.1.0) inner.made middle.before;
+        ends = subst (λ (q : Option Stmt × (Option Expr × Option Stmt)). MaybeS end.inner q.1.1) inner.made end.inside;
+      }
+
+  for_split : (xs front back : List Token) (h : ℕ × (Option Stmt × (Option Expr × Option Stmt))) → xs ≡ front ++ back → (w : Parts front h)
+      → xs ≡ w.t ∷ w.opened ∷ (w.start ++ (w.first_mark ∷ (w.middle ++ (w.second_mark ∷ (w.end ++ (w.closed ∷ back))))))
+  for_split xs front back h e w =
+      e ∙ (ap (λ ys. ys ++ back) w.split
+      ∙ ap (λ ys. w.t ∷ w.opened ∷ ys) (append_assoc w.start (w.first_mark ∷ (w.middle ++ (w.second_mark ∷ (w.end ++ (w.closed ∷ []))))) back
+      ∙ ap (λ ys. w.start ++ (w.first_mark ∷ ys)) (append_assoc w.middle (w.second_mark ∷ (w.end ++ (w.closed ∷ []))) back
+      ∙ ap (λ ys. w.middle ++ (w.second_mark ∷ ys)) (append_assoc w.end (w.closed ∷ []) back))))
+
+  into_for : (o : Bool) (xs : List Token) (s : Stmt) → ForText (IsStmt o) xs s → IsStmt o xs s
+  into_for o xs s w = let p = parts_of w.front w.value w.before in
+      subst (λ x. IsStmt o xs x) (ap (λ line. record { what = stmts.For w.value.1.0 w.value.1.1.0 w.value.1.1.1 w.behind.part; line = line }) p.at ∙ w.behind.made)
+      (for_loop p.t p.opened p.start p.first_mark p.middle p.second_mark p.end p.closed w.back (for_split xs w.front w.back w.value w.split p) p.is_for p.opens p.marks p.marks_again p.closes
+      (for_first p.start w.value.1.0 p.starts) (maybe_whole p.middle w.value.1.1.0 p.tests) (maybe_simple p.end w.value.1.1.1 p.ends) w.behind.whole)
+
+  into_return : (xs : List Token) (s : Stmt) → ReturnText xs s → IsStmt false xs s
+  into_return xs s w = let e = w.whole in
+      subst (λ x. IsStmt false xs x) (ap (λ line. record { what = stmts.Return w.part.1.0; line = line }) (keyword_line (codes "return") e.opened w.part.0 e.opens) ∙ w.made)
+      (return_jump e.opened e.inner e.closed e.split (keyword_token (codes "return") e.opened w.part.0 e.opens) (symbol_token (codes ";") e.closed w.part.1.1 e.closes) (maybe_whole e.inner w.part.1.0 e.inside))
+
+  into_break : (xs : List Token) (s : Stmt) → JumpText (codes "break") break_at xs s → IsStmt false xs s
+  into_break xs s w = let e = w.whole in
+      subst (λ x. IsStmt false xs x) (ap (λ line. record { what = stmts.Break; line = line }) (keyword_line (codes "break") e.token w.part.0 e.passes) ∙ w.made)
+      (break_jump e.token e.behind.token (e.split ∙ ap (λ ys. e.token ∷ ys) e.behind.only) (keyword_token (codes "break") e.token w.part.0 e.passes) (symbol_token (codes ";") e.behind.token w.part.1 e.behind.passes))
+
+  into_continue : (xs : List Token) (s : Stmt) → JumpText (codes "continue") continue_at xs s → IsStmt false xs s
+  into_continue xs s w = let e = w.whole in
+      subst (λ x. IsStmt false xs x) (ap (λ line. record { what = stmts.Continue; line = line }) (keyword_line (codes "continue") e.token w.part.0 e.passes) ∙ w.made)
+      (continue_jump e.token e.behind.token (e.split ∙ ap (λ ys. e.token ∷ ys) e.behind.only) (keyword_token (codes "continue") e.token w.part.0 e.passes) (symbol_token (codes ";") e.behind.token w.part.1 e.behind.passes))
+
+  followed_list : (xs front back : List Token) (a : Expr) (more : List Expr) → xs ≡ front ++ back → IsWhole front a → Follow IsWhole back more → IsArgumentList xs (a ∷ more)
+  followed_list xs front back a [] e w (none z) = last_argument (subst (λ ys. IsWhole ys a) (sym (e ∙ (ap (λ ys. front ++ ys) z ∙ append-nil front))) w)
+  followed_list xs front back a (b ∷ more) e w (some comma middle rest z c v u) = next_argument front comma (middle ++ rest) (e ∙ ap (λ ys. front ++ ys) z) c w (followed_list (middle ++ rest) middle rest b more refl v u)
+
+  printed_is : (xs : List Token) (values : List Expr) → Follow IsWhole xs values → IsPrinted xs values
+  printed_is xs [] (none e) = nothing_printed e
+  printed_is xs (a ∷ more) (some comma front back e c w v) = values_printed comma (front ++ back) e c (followed_list (front ++ back) front back a more refl w v)
+
+  text_is : (k : TokenKind) (bytes : List ℕ) → text_in k ≡ Some bytes → k ≡ kinds.Text bytes
+  text_is (kinds.Text w) bytes e = ap kinds.Text (some_is w bytes e) where
+    some_is : (a b : List ℕ) → Some a ≡ Some b → a ≡ b
+    some_is a b e = cc
+  text_is (kinds.Name w) bytes e = absurd (cc)
+  text_is (kinds.Symbol w) bytes e = absurd (cc)
+  text_is (kinds.Keyword w) bytes e = absurd (cc)
+  text_is (kinds.Number v u) bytes e = absurd (cc)
+  text_is kinds.PragmaOss bytes e = absurd (cc)
+  text_is kinds.PragmaEnd bytes e = absurd (cc)
+  text_is kinds.Directive bytes e = absurd (cc)
+
+  into_print : (xs : List Token) (s : Stmt) → PrintText xs s → IsStmt false xs s
+  into_print xs s w =
+      let h = w.whole in let b = h.behind in let string = b.behind in let printed = string.behind in let both = printed.whole in let end = both.behind in
+      let all : xs ≡ h.token ∷ b.mark ∷ string.token ∷ (both.front ++ (end.token ∷ end.behind.token ∷ []))
+      = h.split ∙ ap (λ ys. h.token ∷ ys) (b.split ∙ ap (λ ys. b.mark ∷ ys) (string.split ∙ ap (λ ys. string.token ∷ ys) (both.split ∙ ap (λ ys. both.front ++ ys) (end.split ∙ ap (λ ys. end.token ∷ ys) end.behind.only)))) in
+      subst (λ x. IsStmt false xs x) (ap (λ line. record { what = stmts.Print w.part.1.0 w.part.1.1; line = line }) (keyword_line (codes "printf") h.token w.part.0 h.passes) ∙ w.made)
+      (print h.token b.mark string.token w.part.1.0 both.front end.token end.behind.token all (keyword_token (codes "printf") h.token w.part.0 h.passes) b.marks (text_is string.token.what w.part.1.0 string.passes)
+      (symbol_token (codes ")") end.token printed.part.1.0 end.passes) (symbol_token (codes ";") end.behind.token printed.part.1.1 end.behind.passes)
+      (subst (λ vs. IsPrinted both.front vs) printed.made (printed_is both.front printed.part.0 both.before)))
+
+  directed_any : (xs front back : List Token) (d : Directive) (line : ℕ) (s : Stmt) → xs ≡ front ++ back → LinedPragma front (d, line) → DirectedText IsAnyStmt (d, line) back s → IsAnyStmt xs s
+  directed_any xs front back (directive.Task mark) line s e w v = record { ends_open = v.whole.ends_open; is = subst (λ x. IsStmt v.whole.ends_open xs x) v.made (task front back e w.is v.whole.is) }
+  directed_any xs front back (directive.TaskWait sections) line s e w v = let all : xs ≡ front = e ∙ (ap (λ ys. front ++ ys) v.nothing ∙ append-nil front) in record {
+    ends_open = false;
+    is = subst (λ ys. IsStmt false ys s) (sym all) (subst (λ x. IsStmt false front x) (ap (λ line. record { what = stmts.TaskWait sections; line = line }) w.at ∙ v.same) (task_wait w.is));
+  }
+  directed_any xs front back (directive.Release clauses) line s e w v = let all : xs ≡ front = e ∙ (ap (λ ys. front ++ ys) v.nothing ∙ append-nil front) in record {
+    ends_open = false;
+    is = subst (λ ys. IsStmt false ys s) (sym all) (subst (λ x. IsStmt false front x) (ap (λ line. record { what = stmts.Release clauses; line = line }) w.at ∙ v.same) (release w.is));
+  }
+
+  directed_closed : (xs front back : List Token) (d : Directive) (line : ℕ) (s : Stmt) → xs ≡ front ++ back → LinedPragma front (d, line) → DirectedText (IsStmt false) (d, line) back s → IsStmt false xs s
+  directed_closed xs front back (directive.Task mark) line s e w v = subst (λ x. IsStmt false xs x) v.made (task front back e w.is v.whole)
+  directed_closed xs front back (directive.TaskWait sections) line s e w v = let all : xs ≡ front = e ∙ (ap (λ ys. front ++ ys) v.nothing ∙ append-nil front) in
+      subst (λ ys. IsStmt false ys s) (sym all) (subst (λ x. IsStmt false front x) (ap (λ line. record { what = stmts.TaskWait sections; line = line }) w.at ∙ v.same) (task_wait w.is))
+  directed_closed xs front back (directive.Release clauses) line s e w v = let all : xs ≡ front = e ∙ (ap (λ ys. front ++ ys) v.nothing ∙ append-nil front) in
+      subst (λ ys. IsStmt false ys s) (sym all) (subst (λ x. IsStmt false front x) (ap (λ line. record { what = stmts.Release clauses; line = line }) w.at ∙ v.same) (release w.is))
+
+  any_of : (xs : List Token) (s : Stmt) → IsStmt false xs s → IsAnyStmt xs s
+  any_of = closed_inside
+
+  while_any : (xs : List Token) (s : Stmt) → WhileText IsAnyStmt xs s → IsAnyStmt xs s
+  while_any xs s w = let v = w.behind.whole in record {
+    ends_open = v.ends_open;
+    is = into_while v.ends_open xs s (record { front = w.front; back = w.back; value = w.value; split = w.split; before = w.before; behind = record { part = w.behind.part; made = w.behind.made; whole = v.is } });
+  }
+
+  for_any : (xs : List Token) (s : Stmt) → ForText IsAnyStmt xs s → IsAnyStmt xs s
+  for_any xs s w = let v = w.behind.whole in record {
+    ends_open = v.ends_open;
+    is = into_for v.ends_open xs s (record { front = w.front; back = w.back; value = w.value; split = w.split; before = w.before; behind = record { part = w.behind.part; made = w.behind.made; whole = v.is } });
+  }
+
+  into_all : (xs : List Token) (s : Stmt) → AllText xs s → IsAnyStmt xs s
+  into_all xs s (one_way w) = any_of xs s (into_block xs s w)
+  into_all xs s (other_way (one_way w)) = any_of xs s (into_empty xs s w)
+  into_all xs s (other_way (other_way (one_way w))) = any_of xs s (into_simple xs s w)
+  into_all xs s (other_way (other_way (other_way (one_way w)))) = into_if xs s w
+  into_all xs s (other_way (other_way (other_way (other_way (one_way w))))) = while_any xs s w
+  into_all xs s (other_way (other_way (other_way (other_way (other_way (one_way w)))))) = for_any xs s w
+  into_all xs s (other_way (other_way (other_way (other_way (other_way (other_way (one_way w))))))) = any_of xs s (into_return xs s w)
+  into_all xs s (other_way (other_way (other_way (other_way (other_way (other_way (other_way (one_way w)))))))) = any_of xs s (into_break xs s w)
+  into_all xs s (other_way (other_way (other_way (other_way (other_way (other_way (other_way (other_way (one_way w))))))))) = any_of xs s (into_continue xs s w)
+  into_all xs s (other_way (other_way (other_way (other_way (other_way (other_way (other_way (other_way (other_way (one_way w)))))))))) = any_of xs s (into_print xs s w)
+  into_all xs s (other_way (other_way (other_way (other_way (other_way (other_way (other_way (other_way (other_way (other_way w)))))))))) = directed_any xs w.front w.back w.value.0 w.value.1 s w.split w.before w.behind
+
+  into_closed : (xs : List Token) (s : Stmt) → ClosedText xs s → IsStmt false xs s
+  into_closed xs s (one_way w) = into_block xs s w
+  into_closed xs s (other_way (one_way w)) = into_empty xs s w
+  into_closed xs s (other_way (other_way (one_way w))) = into_simple xs s w
+  into_closed xs s (other_way (other_way (other_way (one_way w)))) = into_closed_if xs s w
+  into_closed xs s (other_way (other_way (other_way (other_way (one_way w))))) = into_while false xs s w
+  into_closed xs s (other_way (other_way (other_way (other_way (other_way (one_way w)))))) = into_for false xs s w
+  into_closed xs s (other_way (other_way (other_way (other_way (other_way (other_way (one_way w))))))) = into_return xs s w
+  into_closed xs s (other_way (other_way (other_way (other_way (other_way (other_way (other_way (one_way w)))))))) = into_break xs s w
+  into_closed xs s (other_way (other_way (other_way (other_way (other_way (other_way (other_way (other_way (one_way w))))))))) = into_continue xs s w
+  into_closed xs s (other_way (other_way (other_way (other_way (other_way (other_way (other_way (other_way (other_way (one_way w)))))))))) = into_print xs s w
+  into_closed xs s (other_way (other_way (other_way (other_way (other_way (other_way (other_way (other_way (other_way (other_way w)))))))))) = directed_closed xs w.front w.back w.value.0 w.value.1 s w.split w.before w.behind
