@@ -7,7 +7,10 @@ use Rattle.oss_syntax.specs.declared.token.TokenKind.{TokenKind}
 use Rattle.oss_syntax.specs.declared.token.TokenKind.TheVariants as kinds
 use Rattle.oss_syntax.specs.declared.tree.expr.Expr.{Expr}
 use Rattle.oss_syntax.specs.declared.tree.pragma.Directive.{Directive}
+use Rattle.oss_syntax.specs.declared.tree.pragma.Clause.{Clause}
 use Rattle.oss_syntax.specs.declared.tree.pragma.Directive.TheVariants as directive
+use Rattle.oss_syntax.specs.declared.tree.pragma.Section.{Section}
+use Rattle.oss_syntax.specs.declared.tree.pragma.TaskMark.{TaskMark}
 use Rattle.oss_syntax.specs.declared.tree.stmt.Stmt.{Stmt}
 use Rattle.oss_syntax.specs.declared.tree.stmt.StmtKind.TheVariants as stmts
 use Rattle.oss_model.specs.Expressions.{IsWhole, IsArgumentList, operator_of, prefix_of}
@@ -17,7 +20,7 @@ use Rattle.oss_model.specs.Grammar.Either.{one_way, other_way}
 use Rattle.oss_model.specs.Levels.{IsExcessBehind, OpensPragma}
 use Rattle.oss_model.specs.Pragmas.{IsPragma}
 use Rattle.oss_model.specs.Reading.{Stop, Reader, begins, has, never, one_of, read_one, read_then, read_nothing, read_mapped, read_both, read_either}
-use Rattle.oss_model.specs.SimpleStatements.{IsSimple, IsDeclaration, step_of}
+use Rattle.oss_model.specs.SimpleStatements.{IsSimple, IsDeclaration, first_line, step_of}
 use Rattle.oss_model.specs.StatementLimits.{OpensSimple, IsStatementExcess, IsItemsExcess}
 use Rattle.oss_model.specs.Statements.{IsStmt, IsAnyStmt, IsItems, IsMaybeWhole, IsMaybeSimple, IsForFirst, IsPrinted}
 use Rattle.oss_model.specs.Statements.IsItems.{no_item}
@@ -654,3 +657,202 @@ module _ {expression : Reader Expr} {X : List Token → Token → Type 0} (part 
   into_closed xs s (other_way (other_way (other_way (other_way (other_way (other_way (other_way (other_way (one_way w))))))))) = into_continue xs s w
   into_closed xs s (other_way (other_way (other_way (other_way (other_way (other_way (other_way (other_way (other_way (one_way w)))))))))) = into_print xs s w
   into_closed xs s (other_way (other_way (other_way (other_way (other_way (other_way (other_way (other_way (other_way (other_way w)))))))))) = directed_closed xs w.front w.back w.value.0 w.value.1 s w.split w.before w.behind
+
+  -- a statement of the grammar is read
+  out_block : (xs : List Token) (body : List Stmt) (opened : Token) (inner : List Token) (closed : Token) → xs ≡ opened ∷ (inner ++ (closed ∷ [])) → IsSymbol (codes "{") opened → IsSymbol (codes "}") closed → IsItems inner body
+      → BlockText xs (record { what = stmts.Block body; line = opened.line })
+  out_block xs body opened inner closed e o c w = record {
+    part = (opened.line, (body, closed.line)); made = refl;
+    whole = record { opened = opened; inner = inner; closed = closed; split = e; opens = symbol_value (codes "{") opened o; closes = symbol_value (codes "}") closed c; inside = w };
+  }
+
+  out_simple : (xs : List Token) (s : Stmt) (front : List Token) (m : Token) → xs ≡ front ++ (m ∷ []) → IsSymbol (codes ";") m → IsSimple front s → SimpleText xs s
+  out_simple xs s front m e c w = record { part = (s, m.line); made = refl; whole = record { inner = front; closed = m; split = e; passes = symbol_value (codes ";") m c; inside = w } }
+
+  head_of : (word : List ℕ) (t opened : Token) (inner : List Token) (closed : Token) (test : Expr) → IsKeyword word t → IsOpen opened → IsClose closed → IsWhole inner test → Head word (t ∷ opened ∷ (inner ++ (closed ∷ []))) (t.line, test)
+  head_of word t opened inner closed test k o c w = record {
+    token = t; back = opened ∷ (inner ++ (closed ∷ [])); split = refl; passes = keyword_value word t k;
+    behind = record { opened = opened; inner = inner; closed = closed; split = refl; opens = o; closes = c; inside = w };
+  }
+
+  split_of_head : (xs : List Token) (t opened : Token) (inner : List Token) (closed : Token) (back : List Token) → xs ≡ t ∷ opened ∷ (inner ++ (closed ∷ back)) → xs ≡ (t ∷ opened ∷ (inner ++ (closed ∷ []))) ++ back
+  split_of_head xs t opened inner closed back e = e ∙ sym (ap (λ ys. t ∷ opened ∷ ys) (append_assoc inner (closed ∷ []) back))
+
+  out_while : (U : List Token → Stmt → Type 0) (xs : List Token) (test : Expr) (s : Stmt) (t opened : Token) (inner : List Token) (closed : Token) (back : List Token) → xs ≡ t ∷ opened ∷ (inner ++ (closed ∷ back))
+      → IsKeyword (codes "while") t → IsOpen opened → IsClose closed → IsWhole inner test → U back s → WhileText U xs (record { what = stmts.While test s; line = t.line })
+  out_while U xs test s t opened inner closed back e k o c w v = record {
+    front = t ∷ opened ∷ (inner ++ (closed ∷ [])); back = back; value = (t.line, test); split = split_of_head xs t opened inner closed back e;
+    before = head_of (codes "while") t opened inner closed test k o c w; behind = record { part = s; made = refl; whole = v };
+  }
+
+  out_if : (xs : List Token) (test : Expr) (s : Stmt) (t opened : Token) (inner : List Token) (closed : Token) (back : List Token) → xs ≡ t ∷ opened ∷ (inner ++ (closed ∷ back))
+      → IsKeyword (codes "if") t → IsOpen opened → IsClose closed → IsWhole inner test → IsAnyStmt back s → IfText xs (record { what = stmts.If test s None; line = t.line })
+  out_if xs test s t opened inner closed back e k o c w v = record {
+    front = t ∷ opened ∷ (inner ++ (closed ∷ [])); back = back; value = (t.line, test); split = split_of_head xs t opened inner closed back e;
+    before = head_of (codes "if") t opened inner closed test k o c w; behind = one_branch s refl v;
+  }
+
+  is_otherwise : (t : Token) → IsKeyword (codes "else") t → otherwise t ≡ true
+  is_otherwise t k = rw k refl
+
+  out_if_else : (xs : List Token) (test : Expr) (s other : Stmt) (t opened : Token) (inner : List Token) (closed : Token) (front : List Token) (m : Token) (back : List Token)
+      → xs ≡ t ∷ opened ∷ (inner ++ (closed ∷ (front ++ (m ∷ back)))) → IsKeyword (codes "if") t → IsOpen opened → IsClose closed → IsKeyword (codes "else") m → IsWhole inner test → IsStmt false front s → IsAnyStmt back other
+      → IfText xs (record { what = stmts.If test s (Some other); line = t.line })
+  out_if_else xs test s other t opened inner closed front m back e k o c l w v u = record {
+    front = t ∷ opened ∷ (inner ++ (closed ∷ [])); back = front ++ (m ∷ back); value = (t.line, test); split = split_of_head xs t opened inner closed (front ++ (m ∷ back)) e;
+    before = head_of (codes "if") t opened inner closed test k o c w; behind = two_branches s other front m back refl refl (is_otherwise m l) v u;
+  }
+
+  out_closed_if : (xs : List Token) (test : Expr) (s other : Stmt) (t opened : Token) (inner : List Token) (closed : Token) (front : List Token) (m : Token) (back : List Token)
+      → xs ≡ t ∷ opened ∷ (inner ++ (closed ∷ (front ++ (m ∷ back)))) → IsKeyword (codes "if") t → IsOpen opened → IsClose closed → IsKeyword (codes "else") m → IsWhole inner test → IsStmt false front s → IsStmt false back other
+      → ClosedIf xs (record { what = stmts.If test s (Some other); line = t.line })
+  out_closed_if xs test s other t opened inner closed front m back e k o c l w v u = record {
+    front = t ∷ opened ∷ (inner ++ (closed ∷ [])); back = front ++ (m ∷ back); value = (t.line, test); split = split_of_head xs t opened inner closed (front ++ (m ∷ back)) e;
+    before = head_of (codes "if") t opened inner closed test k o c w;
+    behind = record { first = s; other = other; front = front; mark = m; back = back; made = refl; split = refl; marks = is_otherwise m l; before = v; behind = u };
+  }
+
+  whole_maybe : (xs : List Token) (e : Option Expr) → IsMaybeWhole xs e → MaybeE xs e
+  whole_maybe xs None (no_expression z) = other_way (record { nothing = z; same = refl })
+  whole_maybe xs (Some e) (some_expression w) = one_way (record { part = e; made = refl; whole = w })
+
+  simple_maybe : (xs : List Token) (s : Option Stmt) → IsMaybeSimple xs s → MaybeS xs s
+  simple_maybe xs None (no_simple z) = other_way (record { nothing = z; same = refl })
+  simple_maybe xs (Some s) (some_simple w) = one_way (record { part = s; made = refl; whole = w })
+
+  first_for : (xs : List Token) (s : Option Stmt) → IsForFirst xs s → First xs s
+  first_for xs (Some s) (declared_first w) = one_way (record { part = s; made = refl; whole = w })
+  first_for xs s (other_first w) = other_way (simple_maybe xs s w)
+
+  for_head_of : (first : Option Stmt) (test : Option Expr) (last : Option Stmt) (t opened : Token) (start : List Token) (m : Token) (middle : List Token) (other : Token) (end : List Token) (closed : Token)
+      → IsKeyword (codes "for") t → IsOpen opened → IsSymbol (codes ";") m → IsSymbol (codes ";") other → IsClose closed → IsForFirst start first → IsMaybeWhole middle test → IsMaybeSimple end last
+      → ForHead (t ∷ opened ∷ (start ++ (m ∷ (middle ++ (other ∷ (end ++ (closed ∷ []))))))) (t.line, (first, (test, last)))
+  for_head_of first test last t opened start m middle other end closed k o c d z a b e = record {
+    token = t; back = opened ∷ (start ++ (m ∷ (middle ++ (other ∷ (end ++ (closed ∷ [])))))); split = refl; passes = keyword_value (codes "for") t k;
+    behind = record {
+      mark = opened; back = start ++ (m ∷ (middle ++ (other ∷ (end ++ (closed ∷ []))))); split = refl; marks = o;
+      behind = record {
+        part = (first, (m.line, (test, (other.line, (last, closed.line))))); made = refl;
+        whole = record {
+          front = start; back = m ∷ (middle ++ (other ∷ (end ++ (closed ∷ [])))); split = refl; before = first_for start first a;
+          behind = record {
+            token = m; back = middle ++ (other ∷ (end ++ (closed ∷ []))); split = refl; passes = symbol_value (codes ";") m c;
+            behind = record {
+              front = middle; back = other ∷ (end ++ (closed ∷ [])); split = refl; before = whole_maybe middle test b;
+              behind = record { token = other; back = end ++ (closed ∷ []); split = refl; passes = symbol_value (codes ";") other d;
+                behind = record { inner = end; closed = closed; split = refl; passes = symbol_value (codes ")") closed z; inside = simple_maybe end last e } };
+            };
+          };
+        };
+      };
+    };
+  }
+
+  split_of_for : (xs : List Token) (t opened : Token) (start : List Token) (m : Token) (middle : List Token) (other : Token) (end : List Token) (closed : Token) (back : List Token)
+      → xs ≡ t ∷ opened ∷ (start ++ (m ∷ (middle ++ (other ∷ (end ++ (closed ∷ back)))))) → xs ≡ (t ∷ opened ∷ (start ++ (m ∷ (middle ++ (other ∷ (end ++ (closed ∷ []))))))) ++ back
+  split_of_for xs t opened start m middle other end closed back e =
+      e ∙ sym (ap (λ ys. t ∷ opened ∷ ys) (append_assoc start (m ∷ (middle ++ (other ∷ (end ++ (closed ∷ []))))) back
+      ∙ ap (λ ys. start ++ (m ∷ ys)) (append_assoc middle (other ∷ (end ++ (closed ∷ []))) back ∙ ap (λ ys. middle ++ (other ∷ ys)) (append_assoc end (closed ∷ []) back))))
+
+  out_for : (U : List Token → Stmt → Type 0) (xs : List Token) (first : Option Stmt) (test : Option Expr) (last : Option Stmt) (s : Stmt) (t opened : Token) (start : List Token) (m : Token) (middle : List Token) (other : Token)
+      (end : List Token) (closed : Token) (back : List Token) → xs ≡ t ∷ opened ∷ (start ++ (m ∷ (middle ++ (other ∷ (end ++ (closed ∷ back))))))
+      → IsKeyword (codes "for") t → IsOpen opened → IsSymbol (codes ";") m → IsSymbol (codes ";") other → IsClose closed → IsForFirst start first → IsMaybeWhole middle test → IsMaybeSimple end last → U back s
+      → ForText U xs (record { what = stmts.For first test last s; line = t.line })
+  out_for U xs first test last s t opened start m middle other end closed back e k o c d z a b l v = record {
+    front = t ∷ opened ∷ (start ++ (m ∷ (middle ++ (other ∷ (end ++ (closed ∷ [])))))); back = back; value = (t.line, (first, (test, last)));
+    split = split_of_for xs t opened start m middle other end closed back e; before = for_head_of first test last t opened start m middle other end closed k o c d z a b l;
+    behind = record { part = s; made = refl; whole = v };
+  }
+
+  out_return : (xs : List Token) (value : Option Expr) (t : Token) (inner : List Token) (m : Token) → xs ≡ t ∷ (inner ++ (m ∷ [])) → IsKeyword (codes "return") t → IsSymbol (codes ";") m → IsMaybeWhole inner value
+      → ReturnText xs (record { what = stmts.Return value; line = t.line })
+  out_return xs value t inner m e k c w = record {
+    part = (t.line, (value, m.line)); made = refl;
+    whole = record { opened = t; inner = inner; closed = m; split = e; opens = keyword_value (codes "return") t k; closes = symbol_value (codes ";") m c; inside = whole_maybe inner value w };
+  }
+
+  out_jump : (word : List ℕ) (make : ℕ × ℕ → Stmt) (xs : List Token) (t m : Token) → xs ≡ t ∷ m ∷ [] → IsKeyword word t → IsSymbol (codes ";") m → JumpText word make xs (make (t.line, m.line))
+  out_jump word make xs t m e k c = record {
+    part = (t.line, m.line); made = refl;
+    whole = record { token = t; back = m ∷ []; split = e; passes = keyword_value word t k; behind = record { token = m; only = refl; passes = symbol_value (codes ";") m c } };
+  }
+
+  list_follow : (comma : Token) (xs : List Token) (values : List Expr) → IsSymbol (codes ",") comma → IsArgumentList xs values → Follow IsWhole (comma ∷ xs) values
+  list_follow comma xs [] c w = elim w [ ]
+  list_follow comma xs (a ∷ []) c (last_argument w) = some comma xs [] (ap (λ ys. comma ∷ ys) (sym (append-nil xs))) c w (none refl)
+  list_follow comma xs (a ∷ more) c (next_argument front m back e d w v) = some comma front (m ∷ back) (ap (λ ys. comma ∷ ys) e) c w (list_follow m back more d v)
+
+  follow_printed : (xs : List Token) (values : List Expr) → IsPrinted xs values → Follow IsWhole xs values
+  follow_printed xs [] (nothing_printed e) = none e
+  follow_printed xs values (values_printed comma back e c w) = subst (λ ys. Follow IsWhole ys values) (sym e) (list_follow comma back values c w)
+
+  text_value : (t : Token) (bytes : List ℕ) → t.what ≡ kinds.Text bytes → text_at t ≡ Some bytes
+  text_value t bytes e = rw e refl
+
+  out_print : (xs : List Token) (values : List Expr) (t opened string : Token) (bytes : List ℕ) (inner : List Token) (closed m : Token) → xs ≡ t ∷ opened ∷ string ∷ (inner ++ (closed ∷ m ∷ []))
+      → IsKeyword (codes "printf") t → IsOpen opened → string.what ≡ kinds.Text bytes → IsClose closed → IsSymbol (codes ";") m → IsPrinted inner values
+      → PrintText xs (record { what = stmts.Print bytes values; line = t.line })
+  out_print xs values t opened string bytes inner closed m e k o b c d w = record {
+    part = (t.line, (bytes, values)); made = refl;
+    whole = record {
+      token = t; back = opened ∷ string ∷ (inner ++ (closed ∷ m ∷ [])); split = e; passes = keyword_value (codes "printf") t k;
+      behind = record {
+        mark = opened; back = string ∷ (inner ++ (closed ∷ m ∷ [])); split = refl; marks = o;
+        behind = record {
+          token = string; back = inner ++ (closed ∷ m ∷ []); split = refl; passes = text_value string bytes b;
+          behind = record {
+            part = (values, (closed.line, m.line)); made = refl;
+            whole = record { front = inner; back = closed ∷ m ∷ []; split = refl; before = follow_printed inner values w;
+              behind = record { token = closed; back = m ∷ []; split = refl; passes = symbol_value (codes ")") closed c; behind = record { token = m; only = refl; passes = symbol_value (codes ";") m d } } };
+          };
+        };
+      };
+    };
+  }
+
+  out_task : (U : List Token → Stmt → Type 0) (xs : List Token) (m : TaskMark) (s : Stmt) (front back : List Token) → xs ≡ front ++ back → IsPragma front (directive.Task m) → U back s → PragmaText U xs (record { what = stmts.Task m s; line = m.line })
+  out_task U xs m s front back e w v = record { front = front; back = back; value = (directive.Task m, first_line front); split = e; before = record { is = w; at = refl }; behind = record { part = s; made = refl; whole = v } }
+
+  out_wait : (U : List Token → Stmt → Type 0) (xs : List Token) (sections : Option (List Section)) → IsPragma xs (directive.TaskWait sections) → PragmaText U xs (record { what = stmts.TaskWait sections; line = first_line xs })
+  out_wait U xs sections w = record { front = xs; back = []; value = (directive.TaskWait sections, first_line xs); split = sym (append-nil xs); before = record { is = w; at = refl }; behind = record { nothing = refl; same = refl } }
+
+  out_release : (U : List Token → Stmt → Type 0) (xs : List Token) (clauses : List Clause) → IsPragma xs (directive.Release clauses) → PragmaText U xs (record { what = stmts.Release clauses; line = first_line xs })
+  out_release U xs clauses w = record { front = xs; back = []; value = (directive.Release clauses, first_line xs); split = sym (append-nil xs); before = record { is = w; at = refl }; behind = record { nothing = refl; same = refl } }
+
+  out_all : (o : Bool) (xs : List Token) (s : Stmt) → IsStmt o xs s → AllText xs s
+  out_all o xs s (block {body = body} opened inner closed e a c w) = one_way (out_block xs body opened inner closed e a c w)
+  out_all o xs s (empty m e c) = other_way (one_way (record { part = m.line; made = refl; whole = record { token = m; only = e; passes = symbol_value (codes ";") m c } }))
+  out_all o xs s (simple front m e c w) = other_way (other_way (one_way (out_simple xs s front m e c w)))
+  out_all o xs s (if_alone {o = p} {test = test} {s = b} t opened inner closed back e k a c w v) = other_way (other_way (other_way (one_way (out_if xs test b t opened inner closed back e k a c w (record { ends_open = p; is = v })))))
+  out_all o xs s (if_else {test = test} {s = b} {other = other} t opened inner closed front m back e k a c l w v u) =
+      other_way (other_way (other_way (one_way (out_if_else xs test b other t opened inner closed front m back e k a c l w v (record { ends_open = o; is = u })))))
+  out_all o xs s (while_loop {test = test} {s = b} t opened inner closed back e k a c w v) =
+      other_way (other_way (other_way (other_way (one_way (out_while IsAnyStmt xs test b t opened inner closed back e k a c w (record { ends_open = o; is = v }))))))
+  out_all o xs s (for_loop {first = f} {test = test} {last = l} {s = b} t opened start m middle other end closed back e k a c d z x y u v) =
+      other_way (other_way (other_way (other_way (other_way (one_way (out_for IsAnyStmt xs f test l b t opened start m middle other end closed back e k a c d z x y u (record { ends_open = o; is = v })))))))
+  out_all o xs s (return_jump {value = value} t inner m e k c w) = other_way (other_way (other_way (other_way (other_way (other_way (one_way (out_return xs value t inner m e k c w)))))))
+  out_all o xs s (break_jump t m e k c) = other_way (other_way (other_way (other_way (other_way (other_way (other_way (one_way (out_jump (codes "break") break_at xs t m e k c))))))))
+  out_all o xs s (continue_jump t m e k c) = other_way (other_way (other_way (other_way (other_way (other_way (other_way (other_way (one_way (out_jump (codes "continue") continue_at xs t m e k c)))))))))
+  out_all o xs s (print {values = values} t opened string bytes inner closed m e k a b c d w) =
+      other_way (other_way (other_way (other_way (other_way (other_way (other_way (other_way (other_way (one_way (out_print xs values t opened string bytes inner closed m e k a b c d w))))))))))
+  out_all o xs s (task {mark = m} {s = b} front back e w v) =
+      other_way (other_way (other_way (other_way (other_way (other_way (other_way (other_way (other_way (other_way (out_task IsAnyStmt xs m b front back e w (record { ends_open = o; is = v })))))))))))
+  out_all o xs s (task_wait {sections = sections} w) = other_way (other_way (other_way (other_way (other_way (other_way (other_way (other_way (other_way (other_way (out_wait IsAnyStmt xs sections w))))))))))
+  out_all o xs s (release {clauses = clauses} w) = other_way (other_way (other_way (other_way (other_way (other_way (other_way (other_way (other_way (other_way (out_release IsAnyStmt xs clauses w))))))))))
+
+  out_closed : (xs : List Token) (s : Stmt) → IsStmt false xs s → ClosedText xs s
+  out_closed xs s (block {body = body} opened inner closed e a c w) = one_way (out_block xs body opened inner closed e a c w)
+  out_closed xs s (empty m e c) = other_way (one_way (record { part = m.line; made = refl; whole = record { token = m; only = e; passes = symbol_value (codes ";") m c } }))
+  out_closed xs s (simple front m e c w) = other_way (other_way (one_way (out_simple xs s front m e c w)))
+  out_closed xs s (if_else {test = test} {s = b} {other = other} t opened inner closed front m back e k a c l w v u) = other_way (other_way (other_way (one_way (out_closed_if xs test b other t opened inner closed front m back e k a c l w v u))))
+  out_closed xs s (while_loop {test = test} {s = b} t opened inner closed back e k a c w v) = other_way (other_way (other_way (other_way (one_way (out_while (IsStmt false) xs test b t opened inner closed back e k a c w v)))))
+  out_closed xs s (for_loop {first = f} {test = test} {last = l} {s = b} t opened start m middle other end closed back e k a c d z x y u v) =
+      other_way (other_way (other_way (other_way (other_way (one_way (out_for (IsStmt false) xs f test l b t opened start m middle other end closed back e k a c d z x y u v))))))
+  out_closed xs s (return_jump {value = value} t inner m e k c w) = other_way (other_way (other_way (other_way (other_way (other_way (one_way (out_return xs value t inner m e k c w)))))))
+  out_closed xs s (break_jump t m e k c) = other_way (other_way (other_way (other_way (other_way (other_way (other_way (one_way (out_jump (codes "break") break_at xs t m e k c))))))))
+  out_closed xs s (continue_jump t m e k c) = other_way (other_way (other_way (other_way (other_way (other_way (other_way (other_way (one_way (out_jump (codes "continue") continue_at xs t m e k c)))))))))
+  out_closed xs s (print {values = values} t opened string bytes inner closed m e k a b c d w) =
+      other_way (other_way (other_way (other_way (other_way (other_way (other_way (other_way (other_way (one_way (out_print xs values t opened string bytes inner closed m e k a b c d w))))))))))
+  out_closed xs s (task {mark = m} {s = b} front back e w v) = other_way (other_way (other_way (other_way (other_way (other_way (other_way (other_way (other_way (other_way (out_task (IsStmt false) xs m b front back e w v))))))))))
+  out_closed xs s (task_wait {sections = sections} w) = other_way (other_way (other_way (other_way (other_way (other_way (other_way (other_way (other_way (other_way (out_wait (IsStmt false) xs sections w))))))))))
+  out_closed xs s (release {clauses = clauses} w) = other_way (other_way (other_way (other_way (other_way (other_way (other_way (other_way (other_way (other_way (out_release (IsStmt false) xs clauses w))))))))))
