@@ -21,7 +21,9 @@ use Rattle.oss_model.specs.Levels.{IsExcessBehind, OpensPragma}
 use Rattle.oss_model.specs.Pragmas.{IsPragma}
 use Rattle.oss_model.specs.Reading.{Stop, Reader, begins, has, never, one_of, read_one, read_then, read_nothing, read_mapped, read_both, read_either}
 use Rattle.oss_model.specs.SimpleStatements.{IsSimple, IsDeclaration, first_line, step_of}
-use Rattle.oss_model.specs.StatementLimits.{OpensSimple, IsStatementExcess, IsItemsExcess}
+use Rattle.oss_model.specs.StatementLimits.{OpensSimple, OpensStatement, IsStatementExcess, IsItemsExcess}
+use Rattle.oss_model.specs.StatementLimits.IsStatementExcess.{in_expression, under_if, under_else, under_while, under_for, under_task}
+use Rattle.oss_model.specs.StatementLimits.OpensStatement.{in_if_test, in_while_test, in_for_declaration, in_for_first, in_for_test, in_for_last, in_return, in_print, in_pragma}
 use Rattle.oss_model.specs.Statements.{IsStmt, IsAnyStmt, IsItems, IsMaybeWhole, IsMaybeSimple, IsForFirst, IsPrinted}
 use Rattle.oss_model.specs.Statements.IsItems.{no_item}
 use Rattle.oss_model.specs.Statements.IsStmt.{block, empty, simple, if_alone, if_else, while_loop, for_loop, return_jump, break_jump, continue_jump, print, task, task_wait, release}
@@ -30,21 +32,25 @@ use Rattle.oss_model.specs.Statements.IsMaybeSimple.{no_simple, some_simple}
 use Rattle.oss_model.specs.Statements.IsForFirst.{declared_first, other_first}
 use Rattle.oss_model.specs.Statements.IsPrinted.{nothing_printed, values_printed}
 use Rattle.oss_model.specs.Expressions.IsArgumentList.{last_argument, next_argument}
-use Rattle.oss_model.specs.OneToken.{IsSymbol, IsKeyword, IsOpen, IsClose}
+use Rattle.oss_model.specs.OneToken.{IsSymbol, IsKeyword, IsOpen, IsClose, IsComma}
 use Rattle.oss_model.proofs.Parts.{Exact, Begun, exact_same}
-use Rattle.oss_model.proofs.PartLemmas.{Nowhere, Nothing, exact_one, begun_one, exact_nothing, exact_mapped, begun_mapped, Then, ThenDeep, begun_then, EitherDeep, begun_either}
+use Rattle.oss_model.proofs.PartLemmas.{Nowhere, nowhere, Nothing, exact_one, begun_one, exact_nothing, exact_mapped, begun_mapped, Then, ThenDeep, begun_then, EitherDeep, begun_either}
+use Rattle.oss_model.proofs.PartLemmas.ThenDeep.{in_first, in_second}
+use Rattle.oss_model.proofs.PartLemmas.EitherDeep.{one_deep, other_deep}
 use Rattle.oss_model.proofs.PairLemmas as pairs
 use Rattle.oss_pragma.specs.TokenValues.{symbol_at, keyword_at, start_at, begins_expression}
 use Rattle.oss_pragma.proofs.ExactPairs.{Headed, HeadedDeep, exact_headed, begun_headed, Trailed, exact_trailed, Enclosed, exact_enclosed, begun_enclosed, BracketedDeep, Behind, exact_behind, begun_behind, symbol_line}
 use Rattle.oss_pragma.proofs.TokenLemmas.{goes_on, on_symbol, has_symbol, has_keyword, symbol_token, symbol_value, keyword_token, keyword_value, keyword_line, not_symbol, not_keyword, begins_never}
 use Rattle.oss_pragma.proofs.ListLemmas.{Follow, FollowDeep}
 use Rattle.oss_pragma.proofs.ListLemmas.Follow.{none, some}
+use Rattle.oss_pragma.proofs.ListLemmas.FollowDeep.{here, there}
 use Rattle.oss_parse.specs.SimpleReading.{read_simple, begins_simple, star, step_at}
 use Rattle.oss_parse.specs.StatementReading.{text_in, text_at, block_of, empty_at, if_of, if_else_of, while_of, for_of, return_of, break_at, continue_at, print_of, task_of, read_block, read_empty, read_simple_statement, read_if, read_branches, read_while, read_for, read_return, read_break, read_continue, read_print, read_directed, read_lined, read_pragma_statement, read_keyword_statement, read_statement, read_printed, begins_keyword_statement, begins_statement}
 use Rattle.oss_parse.specs.StatementReading as reading
 use Rattle.oss_pragma.specs.ExpressionReading.{former, latter}
 use Rattle.oss_parse.proofs.BranchLemmas.{otherwise, Branches, ClosedBranches, BranchesDeep, ending_branches}
 use Rattle.oss_parse.proofs.BranchLemmas.Branches.{one_branch, two_branches}
+use Rattle.oss_parse.proofs.BranchLemmas.BranchesDeep.{in_one, in_other}
 use Rattle.oss_parse.proofs.EndingLemmas.{Ending, ending_closed, ending_mapped, ending_then, ending_either}
 use Rattle.oss_parse.proofs.ExactDeclarations.{exact_declaration, begun_declaration, simple_ends}
 use Rattle.oss_parse.proofs.ExactSimple.{exact_simple, begun_simple, semicolon_ends}
@@ -200,6 +206,9 @@ module _ {expression : Reader Expr} {X : List Token → Token → Type 0} (part 
   -- "for" "(" parts ")" stmt
   abbrev pub ForHead : List Token → ℕ × (Option Stmt × (Option Expr × Option Stmt)) → Type 0
   ForHead = form.ForHead part first (exact_simple part first) (begun_simple part first) (exact_declaration part first) (begun_declaration part first) simple_ends
+
+  abbrev pub ForPartsDeep : List Token → Token → Type 0
+  ForPartsDeep = form.ForPartsDeep part first (exact_simple part first) (begun_simple part first) (exact_declaration part first) (begun_declaration part first) simple_ends
 
   abbrev pub ForHeadDeep : List Token → Token → Type 0
   ForHeadDeep = form.ForHeadDeep part first (exact_simple part first) (begun_simple part first) (exact_declaration part first) (begun_declaration part first) simple_ends
@@ -856,3 +865,129 @@ module _ {expression : Reader Expr} {X : List Token → Token → Type 0} (part 
   out_closed xs s (task {mark = m} {s = b} front back e w v) = other_way (other_way (other_way (other_way (other_way (other_way (other_way (other_way (other_way (other_way (out_task (IsStmt false) xs m b front back e w v))))))))))
   out_closed xs s (task_wait {sections = sections} w) = other_way (other_way (other_way (other_way (other_way (other_way (other_way (other_way (other_way (other_way (out_wait (IsStmt false) xs sections w))))))))))
   out_closed xs s (release {clauses = clauses} w) = other_way (other_way (other_way (other_way (other_way (other_way (other_way (other_way (other_way (other_way (out_release (IsStmt false) xs clauses w))))))))))
+
+  -- where a limit is passed
+  abbrev Excess : List Token → Token → Type 0
+  Excess = IsStatementExcess X (suc n)
+
+  simple_deeper : (xs : List Token) (t : Token) → IsExcessBehind OpensSimple X xs t → Excess xs t
+  simple_deeper xs t x = in_expression (record { front = x.front; inner = x.inner; split = x.split; opens = OpensStatement.in_simple x.opens; excess = x.excess })
+
+  if_deeper : (xs : List Token) (t : Token) → IfDeep xs t → Excess xs t
+  if_deeper xs t (in_first d) = in_expression (record {
+    front = d.token ∷ d.deep.opened ∷ []; inner = d.deep.inner; split = d.split ∙ ap (λ ys. d.token ∷ ys) d.deep.split;
+    opens = in_if_test d.token d.deep.opened refl (keyword_token (codes "if") d.token d.value d.passes) d.deep.opens; excess = d.deep.deep;
+  })
+  if_deeper xs t (in_second front back h e w (in_one d)) =
+      under_if w.token w.behind.opened w.behind.inner w.behind.closed back (head_split (codes "if") xs front back h e w) (keyword_token (codes "if") w.token h.0 w.passes) w.behind.opens w.behind.inside w.behind.closes d
+  if_deeper xs t (in_second front back h e w (in_other s middle m rest z v begun d)) =
+      under_else w.token w.behind.opened w.behind.inner w.behind.closed middle m rest
+      (head_split (codes "if") xs front back h e w ∙ ap (λ ys. w.token ∷ w.behind.opened ∷ (w.behind.inner ++ (w.behind.closed ∷ ys))) z)
+      (keyword_token (codes "if") w.token h.0 w.passes) w.behind.opens w.behind.inside w.behind.closes v (has_keyword (codes "else") m begun) d
+
+  while_deeper : (xs : List Token) (t : Token) → WhileDeep xs t → Excess xs t
+  while_deeper xs t (in_first d) = in_expression (record {
+    front = d.token ∷ d.deep.opened ∷ []; inner = d.deep.inner; split = d.split ∙ ap (λ ys. d.token ∷ ys) d.deep.split;
+    opens = in_while_test d.token d.deep.opened refl (keyword_token (codes "while") d.token d.value d.passes) d.deep.opens; excess = d.deep.deep;
+  })
+  while_deeper xs t (in_second front back h e w d) =
+      under_while w.token w.behind.opened w.behind.inner w.behind.closed back (head_split (codes "while") xs front back h e w) (keyword_token (codes "while") w.token h.0 w.passes) w.behind.opens w.behind.inside w.behind.closes d
+
+  for_parts_deeper : (xs rest : List Token) (word opened : Token) (t : Token) → xs ≡ word ∷ opened ∷ rest → IsKeyword (codes "for") word → IsOpen opened → ForPartsDeep rest t → Excess xs t
+  for_parts_deeper xs rest word opened t e k o (in_first (one_deep x)) = in_expression (record {
+    front = word ∷ opened ∷ x.front; inner = x.inner; split = e ∙ ap (λ ys. word ∷ opened ∷ ys) x.split; opens = in_for_declaration word opened x.front refl k o x.opens; excess = x.excess;
+  })
+  for_parts_deeper xs rest word opened t e k o (in_first (other_deep (one_deep x))) = in_expression (record {
+    front = word ∷ opened ∷ x.front; inner = x.inner; split = e ∙ ap (λ ys. word ∷ opened ∷ ys) x.split; opens = in_for_first word opened x.front refl k o x.opens; excess = x.excess;
+  })
+  for_parts_deeper xs rest word opened t e k o (in_first (other_deep (other_deep x))) = nowhere rest t x
+  for_parts_deeper xs rest word opened t e k o (in_second start back s b w d) = on d.deep where
+    m : IsSymbol (codes ";") d.token
+    m = symbol_token (codes ";") d.token d.value d.passes
+
+    on : ThenDeep (EitherDeep X Nowhere) MaybeE (λ v. HeadedDeep (symbol_at (codes ";")) (EitherDeep (IsExcessBehind OpensSimple X) Nowhere)) d.back t → Excess xs t
+    on (in_first (one_deep x)) = in_expression (record {
+      front = word ∷ opened ∷ (start ++ (d.token ∷ [])); inner = d.back;
+      split = e ∙ ap (λ ys. word ∷ opened ∷ ys) (b ∙ (ap (λ ys. start ++ ys) d.split ∙ sym (append_assoc start (d.token ∷ []) d.back)));
+      opens = in_for_test word opened start d.token refl k o (for_first start s w) m; excess = x;
+    })
+    on (in_first (other_deep x)) = nowhere d.back t x
+    on (in_second middle left test z v u) = last u.deep where
+      last : EitherDeep (IsExcessBehind OpensSimple X) Nowhere u.back t → Excess xs t
+      last (other_deep x) = nowhere u.back t x
+      last (one_deep x) = in_expression (record {
+        front = word ∷ opened ∷ (start ++ (d.token ∷ (middle ++ (u.token ∷ x.front)))); inner = x.inner;
+        split = e ∙ ap (λ ys. word ∷ opened ∷ ys) (b ∙ (ap (λ ys. start ++ ys) (d.split ∙ ap (λ ys. d.token ∷ ys) (z ∙ (ap (λ ys. middle ++ ys) (u.split ∙ ap (λ ys. u.token ∷ ys) x.split)
+            ∙ sym (append_assoc middle (u.token ∷ x.front) x.inner)))) ∙ sym (append_assoc start (d.token ∷ (middle ++ (u.token ∷ x.front))) x.inner)));
+        opens = in_for_last word opened start d.token middle u.token x.front refl k o (for_first start s w) m (maybe_whole middle test v) (symbol_token (codes ";") u.token u.value u.passes) x.opens; excess = x.excess;
+      })
+
+  for_deeper : (xs : List Token) (t : Token) → ForDeep xs t → Excess xs t
+  for_deeper xs t (in_first d) = for_parts_deeper xs d.deep.inner d.token d.deep.opened t (d.split ∙ ap (λ ys. d.token ∷ ys) d.deep.split) (keyword_token (codes "for") d.token d.value d.passes) d.deep.opens d.deep.deep
+  for_deeper xs t (in_second front back h e w d) = let p = parts_of front h w in
+      under_for p.t p.opened p.start p.first_mark p.middle p.second_mark p.end p.closed back (for_split xs front back h e p) p.is_for p.opens (for_first p.start h.1.0 p.starts) p.marks (maybe_whole p.middle h.1.1.0 p.tests) p.marks_again
+      (maybe_simple p.end h.1.1.1 p.ends) p.closes d
+
+  return_deeper : (xs : List Token) (t : Token) → ReturnDeep xs t → Excess xs t
+  return_deeper xs t d = on d.deep where
+    on : EitherDeep X Nowhere d.back t → Excess xs t
+    on (one_deep x) = in_expression (record { front = d.token ∷ []; inner = d.back; split = d.split; opens = in_return d.token refl (keyword_token (codes "return") d.token d.value d.passes); excess = x })
+    on (other_deep x) = nowhere d.back t x
+
+  arguments_more : (xs : List Token) (values : List Expr) (a : Expr) (front : List Token) (comma : Token) → IsArgumentList xs values → IsComma comma → IsWhole front a → IsArgumentList (xs ++ (comma ∷ front)) (values ++ a ∷ [])
+  arguments_more xs [] a front comma w c v = elim w [ ]
+  arguments_more xs (b ∷ []) a front comma (last_argument w) c v = next_argument xs comma front refl c w (last_argument v)
+  arguments_more xs (b ∷ more) a front comma (next_argument one m rest e d w l) c v =
+      next_argument one m (rest ++ (comma ∷ front)) (ap (λ ys. ys ++ (comma ∷ front)) e ∙ append_assoc one (m ∷ rest) (comma ∷ front)) d w (arguments_more rest more a front comma l c v)
+
+  -- a list of values is printed, and then a comma
+  printed_more : (xs ys : List Token) (values : List Expr) (a : Expr) (front : List Token) (comma : Token) → IsPrinted xs values → xs ++ (comma ∷ front) ≡ ys → IsComma comma → IsWhole front a → IsPrinted ys (values ++ a ∷ [])
+  printed_more xs ys [] a front comma (nothing_printed z) e c w = values_printed comma front (sym e ∙ ap (λ zs. zs ++ (comma ∷ front)) z) c (last_argument w)
+  printed_more xs ys values a front comma (values_printed m back z d l) e c w =
+      values_printed m (back ++ (comma ∷ front)) (sym e ∙ ap (λ zs. zs ++ (comma ∷ front)) z) d (arguments_more back values a front comma l c w)
+
+  printed_place : (xs before rest : List Token) (values : List Expr) (word opened string : Token) (bytes : List ℕ) (t : Token) → xs ≡ word ∷ opened ∷ string ∷ (before ++ rest) → IsKeyword (codes "printf") word → IsOpen opened
+      → string.what ≡ kinds.Text bytes → IsPrinted before values → FollowDeep IsWhole X rest t → Excess xs t
+  printed_place xs before rest values word opened string bytes t e k o b w (here m front z c x) = in_expression (record {
+    front = word ∷ opened ∷ string ∷ (before ++ (m ∷ [])); inner = front;
+    split = e ∙ ap (λ ys. word ∷ opened ∷ string ∷ ys) (ap (λ ys. before ++ ys) z ∙ sym (append_assoc before (m ∷ []) front));
+    opens = in_print word opened string bytes before m refl k o b w c; excess = x;
+  })
+  printed_place xs before rest values word opened string bytes t e k o b w (there a m front back z c v d) =
+      printed_place xs (before ++ (m ∷ front)) back (values ++ a ∷ []) word opened string bytes t
+      (e ∙ ap (λ ys. word ∷ opened ∷ string ∷ ys) (ap (λ ys. before ++ ys) z ∙ sym (append_assoc before (m ∷ front) back))) k o b (printed_more before (before ++ (m ∷ front)) values a front m w refl c v) d
+
+  print_deeper : (xs : List Token) (t : Token) → PrintDeep xs t → Excess xs t
+  print_deeper xs t d = on d.deep.deep.deep where
+    string : HeadedDeep text_at PrintedDeep d.deep.inner t
+    string = d.deep.deep
+
+    on : PrintedDeep string.back t → Excess xs t
+    on (in_first f) = printed_place xs [] string.back [] d.token d.deep.opened string.token string.value t (d.split ∙ ap (λ ys. d.token ∷ ys) (d.deep.split ∙ ap (λ ys. d.deep.opened ∷ ys) string.split))
+        (keyword_token (codes "printf") d.token d.value d.passes) d.deep.opens (text_is string.token.what string.value string.passes) (nothing_printed refl) f
+    on (in_second front back values e w h) = nowhere h.back t h.deep
+
+  jump_deeper : (word : List ℕ) (xs : List Token) (t : Token) → JumpDeep word xs t → Excess xs t
+  jump_deeper word xs t d = nowhere d.back t d.deep
+
+  directed_deeper : (xs front back : List Token) (d : Directive) (line : ℕ) (t : Token) → xs ≡ front ++ back → LinedPragma front (d, line) → DirectedDeep (d, line) back t → Excess xs t
+  directed_deeper xs front back (directive.Task m) line t e w x = under_task front back e w.is x
+  directed_deeper xs front back (directive.TaskWait sections) line t e w x = nowhere back t x
+  directed_deeper xs front back (directive.Release clauses) line t e w x = nowhere back t x
+
+  pragma_deeper : (xs : List Token) (t : Token) → PragmaDeep xs t → Excess xs t
+  pragma_deeper xs t (in_first x) = in_expression (record { front = x.front; inner = x.inner; split = x.split; opens = in_pragma x.opens; excess = x.excess })
+  pragma_deeper xs t (in_second front back d e w x) = directed_deeper xs front back d.0 d.1 t e w x
+
+  all_deeper : (xs : List Token) (t : Token) → AllDeep xs t → Excess xs t
+  all_deeper xs t (one_deep d) = IsStatementExcess.in_block d.token d.back d.split (symbol_token (codes "{") d.token d.value d.passes) d.deep
+  all_deeper xs t (other_deep (one_deep d)) = nowhere xs t d
+  all_deeper xs t (other_deep (other_deep (one_deep d))) = simple_deeper xs t d
+  all_deeper xs t (other_deep (other_deep (other_deep (one_deep d)))) = if_deeper xs t d
+  all_deeper xs t (other_deep (other_deep (other_deep (other_deep (one_deep d))))) = while_deeper xs t d
+  all_deeper xs t (other_deep (other_deep (other_deep (other_deep (other_deep (one_deep d)))))) = for_deeper xs t d
+  all_deeper xs t (other_deep (other_deep (other_deep (other_deep (other_deep (other_deep (one_deep d))))))) = return_deeper xs t d
+  all_deeper xs t (other_deep (other_deep (other_deep (other_deep (other_deep (other_deep (other_deep (one_deep d)))))))) = jump_deeper (codes "break") xs t d
+  all_deeper xs t (other_deep (other_deep (other_deep (other_deep (other_deep (other_deep (other_deep (other_deep (one_deep d))))))))) = jump_deeper (codes "continue") xs t d
+  all_deeper xs t (other_deep (other_deep (other_deep (other_deep (other_deep (other_deep (other_deep (other_deep (other_deep (one_deep d)))))))))) = print_deeper xs t d
+  all_deeper xs t (other_deep (other_deep (other_deep (other_deep (other_deep (other_deep (other_deep (other_deep (other_deep (other_deep d)))))))))) = pragma_deeper xs t d
