@@ -51,7 +51,7 @@ use Rattle.oss_pragma.specs.ExpressionReading.{former, latter}
 use Rattle.oss_parse.proofs.BranchLemmas.{otherwise, Branches, ClosedBranches, BranchesDeep, ending_branches}
 use Rattle.oss_parse.proofs.BranchLemmas.Branches.{one_branch, two_branches}
 use Rattle.oss_parse.proofs.BranchLemmas.BranchesDeep.{in_one, in_other}
-use Rattle.oss_parse.proofs.EndingLemmas.{Ending, ending_closed, ending_mapped, ending_then, ending_either}
+use Rattle.oss_parse.proofs.EndingLemmas.{Ending, ending_as, ending_closed, ending_mapped, ending_then, ending_either}
 use Rattle.oss_parse.proofs.ExactDeclarations.{exact_declaration, begun_declaration, simple_ends}
 use Rattle.oss_parse.proofs.ExactSimple.{exact_simple, begun_simple, semicolon_ends}
 use Rattle.oss_parse.proofs.FormLemmas as form
@@ -991,3 +991,87 @@ module _ {expression : Reader Expr} {X : List Token → Token → Type 0} (part 
   all_deeper xs t (other_deep (other_deep (other_deep (other_deep (other_deep (other_deep (other_deep (other_deep (one_deep d))))))))) = jump_deeper (codes "continue") xs t d
   all_deeper xs t (other_deep (other_deep (other_deep (other_deep (other_deep (other_deep (other_deep (other_deep (other_deep (one_deep d)))))))))) = print_deeper xs t d
   all_deeper xs t (other_deep (other_deep (other_deep (other_deep (other_deep (other_deep (other_deep (other_deep (other_deep (other_deep d)))))))))) = pragma_deeper xs t d
+
+  -- a limit of the grammar is one at which reading stops
+  in_head : (s : List ℕ) (xs before inner : List Token) (w opened : Token) (t : Token) → xs ≡ before ++ inner → before ≡ w ∷ opened ∷ [] → IsKeyword s w → IsOpen opened → X inner t → HeadDeep s xs t
+  in_head s xs before inner w opened t e b k o x = record {
+    token = w; back = opened ∷ inner; value = w.line; split = e ∙ ap (λ ys. ys ++ inner) b; passes = keyword_value s w k;
+    deep = record { opened = opened; inner = inner; split = refl; opens = o; deep = x };
+  }
+
+  in_for_parts : (xs before inner rest : List Token) (w opened : Token) (t : Token) → xs ≡ before ++ inner → before ≡ w ∷ opened ∷ rest → IsKeyword (codes "for") w → IsOpen opened → ForPartsDeep (rest ++ inner) t → AllDeep xs t
+  in_for_parts xs before inner rest w opened t e b k o d = other_deep (other_deep (other_deep (other_deep (other_deep (one_deep (in_first (record {
+    token = w; back = opened ∷ (rest ++ inner); value = w.line; split = e ∙ ap (λ ys. ys ++ inner) b; passes = keyword_value (codes "for") w k;
+    deep = record { opened = opened; inner = rest ++ inner; split = refl; opens = o; deep = d };
+  })))))))
+
+  list_place : (m : Token) (xs : List Token) (values : List Expr) (comma : Token) (inner : List Token) (t : Token) → IsComma m → IsArgumentList xs values → IsComma comma → X inner t → FollowDeep IsWhole X (m ∷ (xs ++ (comma ∷ inner))) t
+  list_place m xs [] comma inner t d w c x = elim w [ ]
+  list_place m xs (a ∷ []) comma inner t d (last_argument w) c x = there a m xs (comma ∷ inner) refl d w (here comma inner refl c x)
+  list_place m xs (a ∷ more) comma inner t d (next_argument one k rest e l w v) c x =
+      there a m one (k ∷ (rest ++ (comma ∷ inner))) (ap (λ ys. m ∷ (ys ++ (comma ∷ inner))) e ∙ ap (λ ys. m ∷ ys) (append_assoc one (k ∷ rest) (comma ∷ inner))) d w (list_place k rest more comma inner t l v c x)
+
+  printed_at : (xs : List Token) (values : List Expr) (comma : Token) (inner : List Token) (t : Token) → IsPrinted xs values → IsComma comma → X inner t → FollowDeep IsWhole X (xs ++ (comma ∷ inner)) t
+  printed_at xs [] comma inner t (nothing_printed z) c x = here comma inner (ap (λ ys. ys ++ (comma ∷ inner)) z) c x
+  printed_at xs values comma inner t (values_printed m back z d w) c x = subst (λ ys. FollowDeep IsWhole X (ys ++ (comma ∷ inner)) t) (sym z) (list_place m back values comma inner t d w c x)
+
+  opens_upper : (xs before inner : List Token) (t : Token) → xs ≡ before ++ inner → X inner t → OpensStatement before → AllDeep xs t
+  opens_upper xs before inner t e x (OpensStatement.in_simple o) = other_deep (other_deep (one_deep (record { front = before; inner = inner; split = e; opens = o; excess = x })))
+  opens_upper xs before inner t e x (in_if_test w opened b k o) = other_deep (other_deep (other_deep (one_deep (in_first (in_head (codes "if") xs before inner w opened t e b k o x)))))
+  opens_upper xs before inner t e x (in_while_test w opened b k o) = other_deep (other_deep (other_deep (other_deep (one_deep (in_first (in_head (codes "while") xs before inner w opened t e b k o x))))))
+  opens_upper xs before inner t e x (in_for_declaration w opened front b k o d) =
+      in_for_parts xs before inner front w opened t e b k o (in_first (one_deep (record { front = front; inner = inner; split = refl; opens = d; excess = x })))
+  opens_upper xs before inner t e x (in_for_first w opened front b k o d) =
+      in_for_parts xs before inner front w opened t e b k o (in_first (other_deep (one_deep (record { front = front; inner = inner; split = refl; opens = d; excess = x }))))
+  opens_upper xs before inner t e x (in_for_test {first = f} w opened start m b k o a c) =
+      in_for_parts xs before inner (start ++ (m ∷ [])) w opened t e b k o
+      (in_second start (m ∷ inner) f (append_assoc start (m ∷ []) inner) (first_for start f a) (record { token = m; back = inner; value = m.line; split = refl; passes = symbol_value (codes ";") m c; deep = in_first (one_deep x) }))
+  opens_upper xs before inner t e x (in_for_last {first = f} {test = test} w opened start m middle other front b k o a c v d l) =
+      in_for_parts xs before inner (start ++ (m ∷ (middle ++ (other ∷ front)))) w opened t e b k o
+      (in_second start (m ∷ (middle ++ (other ∷ (front ++ inner)))) f
+      (append_assoc start (m ∷ (middle ++ (other ∷ front))) inner ∙ ap (λ ys. start ++ (m ∷ ys)) (append_assoc middle (other ∷ front) inner)) (first_for start f a)
+      (record {
+        token = m; back = middle ++ (other ∷ (front ++ inner)); value = m.line; split = refl; passes = symbol_value (codes ";") m c;
+        deep = in_second middle (other ∷ (front ++ inner)) test refl (whole_maybe middle test v) (record {
+          token = other; back = front ++ inner; value = other.line; split = refl; passes = symbol_value (codes ";") other d;
+          deep = one_deep (record { front = front; inner = inner; split = refl; opens = l; excess = x });
+        });
+      }))
+  opens_upper xs before inner t e x (in_return w b k) =
+      other_deep (other_deep (other_deep (other_deep (other_deep (other_deep (one_deep (record { token = w; back = inner; value = w.line; split = e ∙ ap (λ ys. ys ++ inner) b; passes = keyword_value (codes "return") w k; deep = one_deep x })))))))
+  opens_upper xs before inner t e x (in_print {values = values} w opened string bytes printed comma b k o s p c) =
+      other_deep (other_deep (other_deep (other_deep (other_deep (other_deep (other_deep (other_deep (other_deep (one_deep (record {
+        token = w; back = opened ∷ string ∷ ((printed ++ (comma ∷ [])) ++ inner); value = w.line; split = e ∙ ap (λ ys. ys ++ inner) b; passes = keyword_value (codes "printf") w k;
+        deep = record {
+          opened = opened; inner = string ∷ ((printed ++ (comma ∷ [])) ++ inner); split = refl; opens = o;
+          deep = record {
+            token = string; back = (printed ++ (comma ∷ [])) ++ inner; value = bytes; split = refl; passes = text_value string bytes s;
+            deep = in_first (subst (λ ys. FollowDeep IsWhole X ys t) (sym (append_assoc printed (comma ∷ []) inner)) (printed_at printed values comma inner t p c x));
+          };
+        };
+      }))))))))))
+  opens_upper xs before inner t e x (in_pragma o) =
+      other_deep (other_deep (other_deep (other_deep (other_deep (other_deep (other_deep (other_deep (other_deep (other_deep (in_first (record { front = before; inner = inner; split = e; opens = o; excess = x })))))))))))
+
+  all_upper : (xs : List Token) (t : Token) → Excess xs t → AllDeep xs t
+  all_upper xs t (in_expression x) = opens_upper xs x.front x.inner t x.split x.excess x.opens
+  all_upper xs t (IsStatementExcess.in_block opened front e b d) = one_deep (record { token = opened; back = front; value = opened.line; split = e; passes = symbol_value (codes "{") opened b; deep = d })
+  all_upper xs t (under_if {test = test} w opened inner closed front e k o v c d) =
+      other_deep (other_deep (other_deep (one_deep (in_second (w ∷ opened ∷ (inner ++ (closed ∷ []))) front (w.line, test) (split_of_head xs w opened inner closed front e) (head_of (codes "if") w opened inner closed test k o c v) (in_one d)))))
+  all_upper xs t (under_else {test = test} {s = s} w opened inner closed middle other front e k o v c u l d) =
+      other_deep (other_deep (other_deep (one_deep (in_second (w ∷ opened ∷ (inner ++ (closed ∷ []))) (middle ++ (other ∷ front)) (w.line, test) (split_of_head xs w opened inner closed (middle ++ (other ∷ front)) e)
+      (head_of (codes "if") w opened inner closed test k o c v) (in_other s middle other front refl u (is_otherwise other l) d)))))
+  all_upper xs t (under_while {test = test} w opened inner closed front e k o v c d) =
+      other_deep (other_deep (other_deep (other_deep (one_deep (in_second (w ∷ opened ∷ (inner ++ (closed ∷ []))) front (w.line, test) (split_of_head xs w opened inner closed front e) (head_of (codes "while") w opened inner closed test k o c v) d)))))
+  all_upper xs t (under_for {first = f} {test = test} {last = l} w opened start m middle other end closed front e k o a c v z u b d) =
+      other_deep (other_deep (other_deep (other_deep (other_deep (one_deep (in_second (w ∷ opened ∷ (start ++ (m ∷ (middle ++ (other ∷ (end ++ (closed ∷ []))))))) front (w.line, (f, (test, l)))
+      (split_of_for xs w opened start m middle other end closed front e) (for_head_of f test l w opened start m middle other end closed k o c z b a v u) d))))))
+  all_upper xs t (under_task {mark = m} front back e p d) =
+      other_deep (other_deep (other_deep (other_deep (other_deep (other_deep (other_deep (other_deep (other_deep (other_deep (in_second front back (directive.Task m, first_line front) e (record { is = p; at = refl }) d))))))))))
+
+  -- a statement is read exactly
+  pub statement_ending : Ending otherwise (read_statement expression pragma items sub) IsAnyStmt (IsStmt false) (IsStatementExcess X (suc n))
+  statement_ending = ending_as otherwise into_all (λ xs s w. out_all w.ends_open xs s w.is) into_closed out_closed all_deeper all_upper all_forms.ending
+
+  pub begun_statement : Begun (read_statement expression pragma items sub) begins_statement
+  begun_statement = all_forms.first
