@@ -8,3 +8,5 @@ pub mod ExactPrograms
 pub mod ExactSimple
 pub mod FormLemmas
 pub mod StatementForms
+pub mod BeginningLemmas
+pub mod ExactStatements
