@@ -39,13 +39,13 @@ module _ {A : Type 0} (L : Language A) {f : List Token → Result (A × List Tok
       let all : ts ≡ before ++ (t ∷ (more ++ rest)) = split ∙ (ap (λ ys. ys ++ rest) e ∙ append_assoc before (t ∷ more) rest) in
       let deep : f ts ≡ Err (Deep (s.token ∷ (s.more ++ (more ++ rest)))) = ap f all ∙ excess_read before t (more ++ rest) x.exceeds s in absurd (cc)
 
-  within_stopped : (ts front rest place : List Token) → ts ≡ front ++ rest → f ts ≡ Err (Syntax place) → IsWithin L front
+  pub within_stopped : (ts front rest place : List Token) → ts ≡ front ++ rest → f ts ≡ Err (Syntax place) → IsWithin L front
   within_stopped ts front rest place split told before t more e x =
       let s = part.sinks before t x.exceeds in
       let all : ts ≡ before ++ (t ∷ (more ++ rest)) = split ∙ (ap (λ ys. ys ++ rest) e ∙ append_assoc before (t ∷ more) rest) in
       let deep : f ts ≡ Err (Deep (s.token ∷ (s.more ++ (more ++ rest)))) = ap f all ∙ excess_read before t (more ++ rest) x.exceeds s in absurd (cc)
 
-  within_deep : (ts front place : List Token) → ts ≡ front ++ place → f ts ≡ Err (Deep place) → IsWithin L front
+  pub within_deep : (ts front place : List Token) → ts ≡ front ++ place → f ts ≡ Err (Deep place) → IsWithin L front
   within_deep ts front place split told before t more e x =
       let s = part.sinks before t x.exceeds in
       let all : ts ≡ before ++ (t ∷ (more ++ place)) = split ∙ (ap (λ ys. ys ++ place) e ∙ append_assoc before (t ∷ more) place) in
@@ -81,7 +81,7 @@ module _ {A : Type 0} (L : Language A) {f : List Token → Result (A × List Tok
         let told : f (front ++ (t ∷ v.more)) ≡ Err (Syntax (t ∷ v.more)) = steady v.more in absurd (cc)
 
   -- what stops for syntax is no text by itself
-  stop_none : (front : List Token) → f front ≡ Err (Syntax []) → IsNone L.Has front
+  pub stop_none : (front : List Token) → f front ≡ Err (Syntax []) → IsNone L.Has front
   stop_none front told value w = from (whole_read front value w) where
     from : (f front ≡ Ok (value, [])) ⊎ Sinks f L.Exceeds front → ⊥
     from (inl e) = absurd (cc)
@@ -100,7 +100,7 @@ module _ {A : Type 0} (L : Language A) {f : List Token → Result (A × List Tok
     within = within_read ts w.front rest value rest w.split told;
   }
 
-  reaches_stop : (ts place : List Token) → (w : Stopped f L.Has ts place) → Reaches L.Has ts w.front place
+  pub reaches_stop : (ts place : List Token) → (w : Stopped f L.Has ts place) → Reaches L.Has ts w.front place
   reaches_stop ts place w = record {
     split = w.split;
     begins = w.viable;

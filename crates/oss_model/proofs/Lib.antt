@@ -39,3 +39,4 @@ pub mod StepLemmas
 pub mod AnswerLemmas
 pub mod CountedLemmas
 pub mod PairLemmas
+pub mod TextLemmas

@@ -10,7 +10,7 @@ use Rattle.oss_model.specs.Refusals.{Language, Reaches, IsExcess, IsWithin, IsRe
 use Rattle.oss_model.specs.Fronts.{Viable}
 use Rattle.oss_model.specs.Refusals.Refuses.{too_large, at_token, at_end}
 
-first_is : (x y : Token) (xs ys : List Token) → x ∷ xs ≡ y ∷ ys → x ≡ y
+pub first_is : (x y : Token) (xs ys : List Token) → x ∷ xs ≡ y ∷ ys → x ≡ y
 first_is x y xs ys e = cc
 
 rest_is : (x y : Token) (xs ys : List Token) → x ∷ xs ≡ y ∷ ys → xs ≡ ys
@@ -40,7 +40,7 @@ viable_cut G f m v = record { more = m ++ v.more; value = v.value; member = subs
 viable_first : {A : Type 0} (G : List Token → A → Type 0) (f : List Token) (t : Token) (m : List Token) → Viable G (f ++ (t ∷ m)) → Viable G (f ++ (t ∷ []))
 viable_first G f t m v = viable_cut G (f ++ (t ∷ [])) m (subst (λ xs. Viable G xs) (sym (append_assoc f (t ∷ []) m)) v)
 
-reaches_once : {A : Type 0} (G : List Token → A → Type 0) (ts f r g s : List Token) → Reaches G ts f r → Reaches G ts g s → (f ≡ g) × (r ≡ s)
+pub reaches_once : {A : Type 0} (G : List Token → A → Type 0) (ts f r g s : List Token) → Reaches G ts f r → Reaches G ts g s → (f ≡ g) × (r ≡ s)
 reaches_once G ts f r g s a b = from_cuts (cuts f r g s (sym a.split ∙ b.split)) where
   from_cuts : Cuts f r g s → (f ≡ g) × (r ≡ s)
   from_cuts (same p q) = (p, q)
@@ -50,7 +50,7 @@ reaches_once G ts f r g s a b = from_cuts (cuts f r g s (sym a.split ∙ b.split
 excess_viable : {A : Type 0} (L : Language A) (f : List Token) (t : Token) → IsExcess L f t → Viable L.Has (f ++ (t ∷ []))
 excess_viable L f t x = x.begun
 
-no_excess : {A : Type 0} (L : Language A) (ts f : List Token) (t : Token) (m g s : List Token) → ts ≡ f ++ (t ∷ m) → IsExcess L f t → Reaches L.Has ts g s → IsWithin L g → ⊥
+pub no_excess : {A : Type 0} (L : Language A) (ts f : List Token) (t : Token) (m g s : List Token) → ts ≡ f ++ (t ∷ m) → IsExcess L f t → Reaches L.Has ts g s → IsWithin L g → ⊥
 no_excess L ts f t m g s split x b within = from_cuts (cuts f (t ∷ m) g s (sym split ∙ b.split)) where
   from_cuts : Cuts f (t ∷ m) g s → ⊥
   from_cuts (same p q) = b.ends t m (sym q) (subst (λ xs. Viable L.Has (xs ++ (t ∷ []))) p (excess_viable L f t x))
@@ -58,7 +58,7 @@ no_excess L ts f t m g s split x b within = from_cuts (cuts f (t ∷ m) g s (sym
   from_cuts (behind u n p q) = b.ends u (n ++ t ∷ m) q
       (viable_first L.Has g u n (viable_cut L.Has (g ++ (u ∷ n)) (t ∷ []) (subst (λ xs. Viable L.Has (xs ++ (t ∷ []))) p (excess_viable L f t x))))
 
-excess_once : {A : Type 0} (L : Language A) (ts f : List Token) (t : Token) (m g : List Token) (u : Token) (n : List Token)
+pub excess_once : {A : Type 0} (L : Language A) (ts f : List Token) (t : Token) (m g : List Token) (u : Token) (n : List Token)
     → ts ≡ f ++ (t ∷ m) → IsExcess L f t → IsWithin L f → ts ≡ g ++ (u ∷ n) → IsExcess L g u → IsWithin L g → t ≡ u
 excess_once L ts f t m g u n a x within b y other = from_cuts (cuts f (t ∷ m) g (u ∷ n) (sym a ∙ b)) where
   from_cuts : Cuts f (t ∷ m) g (u ∷ n) → t ≡ u
@@ -103,7 +103,7 @@ same_place ts n m a b e =
 same_pair : {A : Type 0} (p q : A × ℕ) → p.0 ≡ q.0 → p.1 ≡ q.1 → p ≡ q
 same_pair p q a b = λ i. (a i, b i)
 
-same_refused : (r s : RefusedData) → r.kind ≡ s.kind → r.line ≡ s.line → r.token ≡ s.token → r ≡ s
+pub same_refused : (r s : RefusedData) → r.kind ≡ s.kind → r.line ≡ s.line → r.token ≡ s.token → r ≡ s
 same_refused r s a b c = λ i. record { kind = a i; line = b i; token = c i }
 
 -- a grammar whose lists have one value at most gives one answer at most

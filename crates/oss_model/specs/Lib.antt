@@ -16,6 +16,7 @@ pub mod Memory
 pub mod Moves
 pub mod OneToken
 pub mod Order
+pub mod Parsing
 pub mod Pragmas
 pub mod Programs
 pub mod Readers
