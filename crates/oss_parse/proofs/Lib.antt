@@ -10,3 +10,4 @@ pub mod FormLemmas
 pub mod StatementForms
 pub mod BeginningLemmas
 pub mod ExactStatements
+pub mod ExactTexts
