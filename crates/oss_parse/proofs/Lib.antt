@@ -11,3 +11,4 @@ pub mod StatementForms
 pub mod BeginningLemmas
 pub mod ExactStatements
 pub mod ExactTexts
+pub mod OneProgram
