@@ -12,3 +12,4 @@ pub mod BeginningLemmas
 pub mod ExactStatements
 pub mod ExactTexts
 pub mod OneProgram
+pub mod StatementTexts

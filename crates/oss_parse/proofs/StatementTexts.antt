@@ -1,0 +1,782 @@
+-- What is read of the forms of statements are the statements of the grammar, and where reading passes a limit they pass one.
+use Rattle.std.proofs.lemmas.List.{append-nil}
+use Rattle.std.proofs.Common.{◌≡◌, ℕ, suc, Bool, true, false, ◌||◌, List, [], ◌∷◌, ◌++◌, refl, sym, ap, ◌∙◌, subst, append_assoc, Option, Some, None, is_some, Result, Ok, Err}
+use Rattle.std.specs.Prelude.{codes}
+use Rattle.oss_syntax.specs.declared.token.Token.{Token}
+use Rattle.oss_syntax.specs.declared.token.TokenKind.{TokenKind}
+use Rattle.oss_syntax.specs.declared.token.TokenKind.TheVariants as kinds
+use Rattle.oss_syntax.specs.declared.tree.expr.Expr.{Expr}
+use Rattle.oss_syntax.specs.declared.tree.pragma.Directive.{Directive}
+use Rattle.oss_syntax.specs.declared.tree.pragma.Clause.{Clause}
+use Rattle.oss_syntax.specs.declared.tree.pragma.Directive.TheVariants as directive
+use Rattle.oss_syntax.specs.declared.tree.pragma.Section.{Section}
+use Rattle.oss_syntax.specs.declared.tree.pragma.TaskMark.{TaskMark}
+use Rattle.oss_syntax.specs.declared.tree.stmt.Stmt.{Stmt}
+use Rattle.oss_syntax.specs.declared.tree.stmt.StmtKind.TheVariants as stmts
+use Rattle.oss_model.specs.Expressions.{IsWhole, IsArgumentList, operator_of, prefix_of}
+use Rattle.oss_model.specs.Fronts.{Viable}
+use Rattle.oss_model.specs.Grammar.{One, Both, Mapped, Either}
+use Rattle.oss_model.specs.Grammar.Either.{one_way, other_way}
+use Rattle.oss_model.specs.Levels.{IsExcessBehind, OpensPragma}
+use Rattle.oss_model.specs.Pragmas.{IsPragma}
+use Rattle.oss_model.specs.Reading.{Stop, Reader, begins, has, never, one_of, read_one, read_then, read_nothing, read_mapped, read_both, read_either}
+use Rattle.oss_model.specs.SimpleStatements.{IsSimple, IsDeclaration, first_line, step_of}
+use Rattle.oss_model.specs.StatementLimits.{OpensSimple, OpensStatement, IsStatementExcess, IsItemsExcess}
+use Rattle.oss_model.specs.StatementLimits.IsStatementExcess.{in_expression, under_if, under_else, under_while, under_for, under_task}
+use Rattle.oss_model.specs.StatementLimits.OpensStatement.{in_if_test, in_while_test, in_for_declaration, in_for_first, in_for_test, in_for_last, in_return, in_print, in_pragma}
+use Rattle.oss_model.specs.Statements.{IsStmt, IsAnyStmt, IsItems, IsMaybeWhole, IsMaybeSimple, IsForFirst, IsPrinted}
+use Rattle.oss_model.specs.Statements.IsItems.{no_item}
+use Rattle.oss_model.specs.Statements.IsStmt.{block, empty, simple, if_alone, if_else, while_loop, for_loop, return_jump, break_jump, continue_jump, print, task, task_wait, release}
+use Rattle.oss_model.specs.Statements.IsMaybeWhole.{no_expression, some_expression}
+use Rattle.oss_model.specs.Statements.IsMaybeSimple.{no_simple, some_simple}
+use Rattle.oss_model.specs.Statements.IsForFirst.{declared_first, other_first}
+use Rattle.oss_model.specs.Statements.IsPrinted.{nothing_printed, values_printed}
+use Rattle.oss_model.specs.Expressions.IsArgumentList.{last_argument, next_argument}
+use Rattle.oss_model.specs.OneToken.{IsSymbol, IsKeyword, IsOpen, IsClose, IsComma}
+use Rattle.oss_model.proofs.Parts.{Exact, Begun, exact_same}
+use Rattle.oss_model.proofs.PartLemmas.{Nowhere, nowhere, Nothing, exact_one, begun_one, exact_nothing, exact_mapped, begun_mapped, Then, ThenDeep, begun_then, EitherDeep, begun_either}
+use Rattle.oss_model.proofs.PartLemmas.ThenDeep.{in_first, in_second}
+use Rattle.oss_model.proofs.PartLemmas.EitherDeep.{one_deep, other_deep}
+use Rattle.oss_model.proofs.PairLemmas as pairs
+use Rattle.oss_pragma.specs.TokenValues.{symbol_at, keyword_at, start_at, begins_expression}
+use Rattle.oss_pragma.proofs.ExactPairs.{Headed, HeadedDeep, exact_headed, begun_headed, Trailed, exact_trailed, Enclosed, exact_enclosed, begun_enclosed, BracketedDeep, Behind, exact_behind, begun_behind, symbol_line}
+use Rattle.oss_pragma.proofs.TokenLemmas.{goes_on, on_symbol, has_symbol, has_keyword, symbol_token, symbol_value, keyword_token, keyword_value, keyword_line, not_symbol, not_keyword, begins_never}
+use Rattle.oss_pragma.proofs.ListLemmas.{Follow, FollowDeep}
+use Rattle.oss_pragma.proofs.ListLemmas.Follow.{none, some}
+use Rattle.oss_pragma.proofs.ListLemmas.FollowDeep.{here, there}
+use Rattle.oss_parse.specs.SimpleReading.{read_simple, begins_simple, star, step_at}
+use Rattle.oss_parse.specs.StatementReading.{text_in, text_at, block_of, empty_at, if_of, if_else_of, while_of, for_of, return_of, break_at, continue_at, print_of, task_of, read_block, read_empty, read_simple_statement, read_if, read_branches, read_while, read_for, read_return, read_break, read_continue, read_print, read_directed, read_lined, read_pragma_statement, read_keyword_statement, read_statement, read_printed, begins_keyword_statement, begins_statement}
+use Rattle.oss_parse.specs.StatementReading as reading
+use Rattle.oss_pragma.specs.ExpressionReading.{former, latter}
+use Rattle.oss_parse.proofs.BranchLemmas.{otherwise, Branches, ClosedBranches, BranchesDeep, ending_branches}
+use Rattle.oss_parse.proofs.BranchLemmas.Branches.{one_branch, two_branches}
+use Rattle.oss_parse.proofs.BranchLemmas.BranchesDeep.{in_one, in_other}
+use Rattle.oss_parse.proofs.EndingLemmas.{Ending, ending_as, ending_closed, ending_mapped, ending_then, ending_either}
+use Rattle.oss_parse.proofs.ExactDeclarations.{exact_declaration, begun_declaration, simple_ends}
+use Rattle.oss_parse.proofs.ExactSimple.{exact_simple, begun_simple, semicolon_ends}
+use Rattle.oss_parse.proofs.FormLemmas as form
+
+use Rattle.oss_parse.proofs.StatementForms as forms
+
+module _ {expression : Reader Expr} {X : List Token → Token → Type 0} (part : Exact expression IsWhole X goes_on) (first : Begun expression begins_expression)
+    {pragma : Reader Directive} (directed : Exact pragma IsPragma (IsExcessBehind OpensPragma X) never) (first_directed : Begun pragma (has start_at))
+    {n : ℕ} {items : Reader (List Stmt)} {goes_items : Token → Bool} (inside : Exact items IsItems (IsItemsExcess X n) goes_items) (brace_ends : (t : Token) → has (symbol_at (codes "}")) t ≡ true → goes_items t ≡ false)
+    {sub : Reader Stmt} (below : Ending otherwise sub IsAnyStmt (IsStmt false) (IsStatementExcess X n)) (first_below : Begun sub begins_statement) where
+  abbrev BlockText : List Token → Stmt → Type 0
+  BlockText = forms.BlockText part first directed first_directed inside brace_ends below first_below
+
+  abbrev EmptyText : List Token → Stmt → Type 0
+  EmptyText = forms.EmptyText part first directed first_directed inside brace_ends below first_below
+
+  abbrev SimpleText : List Token → Stmt → Type 0
+  SimpleText = forms.SimpleText part first directed first_directed inside brace_ends below first_below
+
+  abbrev Head : List ℕ → List Token → ℕ × Expr → Type 0
+  Head = forms.Head part first directed first_directed inside brace_ends below first_below
+
+  abbrev HeadDeep : List ℕ → List Token → Token → Type 0
+  HeadDeep = forms.HeadDeep part first directed first_directed inside brace_ends below first_below
+
+  abbrev IfText : List Token → Stmt → Type 0
+  IfText = forms.IfText part first directed first_directed inside brace_ends below first_below
+
+  abbrev ClosedIf : List Token → Stmt → Type 0
+  ClosedIf = forms.ClosedIf part first directed first_directed inside brace_ends below first_below
+
+  abbrev IfDeep : List Token → Token → Type 0
+  IfDeep = forms.IfDeep part first directed first_directed inside brace_ends below first_below
+
+  abbrev WhileText : (List Token → Stmt → Type 0) → List Token → Stmt → Type 0
+  WhileText = forms.WhileText part first directed first_directed inside brace_ends below first_below
+
+  abbrev WhileDeep : List Token → Token → Type 0
+  WhileDeep = forms.WhileDeep part first directed first_directed inside brace_ends below first_below
+
+  abbrev ForHead : List Token → ℕ × (Option Stmt × (Option Expr × Option Stmt)) → Type 0
+  ForHead = forms.ForHead part first directed first_directed inside brace_ends below first_below
+
+  abbrev ForPartsDeep : List Token → Token → Type 0
+  ForPartsDeep = forms.ForPartsDeep part first directed first_directed inside brace_ends below first_below
+
+  abbrev ForText : (List Token → Stmt → Type 0) → List Token → Stmt → Type 0
+  ForText = forms.ForText part first directed first_directed inside brace_ends below first_below
+
+  abbrev ForDeep : List Token → Token → Type 0
+  ForDeep = forms.ForDeep part first directed first_directed inside brace_ends below first_below
+
+  abbrev MaybeE : List Token → Option Expr → Type 0
+  MaybeE = forms.MaybeE part first directed first_directed inside brace_ends below first_below
+
+  abbrev ReturnText : List Token → Stmt → Type 0
+  ReturnText = forms.ReturnText part first directed first_directed inside brace_ends below first_below
+
+  abbrev ReturnDeep : List Token → Token → Type 0
+  ReturnDeep = forms.ReturnDeep part first directed first_directed inside brace_ends below first_below
+
+  abbrev JumpText : List ℕ → (ℕ × ℕ → Stmt) → List Token → Stmt → Type 0
+  JumpText = forms.JumpText part first directed first_directed inside brace_ends below first_below
+
+  abbrev JumpDeep : List ℕ → List Token → Token → Type 0
+  JumpDeep = forms.JumpDeep part first directed first_directed inside brace_ends below first_below
+
+  abbrev PrintedDeep : List Token → Token → Type 0
+  PrintedDeep = forms.PrintedDeep part first directed first_directed inside brace_ends below first_below
+
+  abbrev PrintText : List Token → Stmt → Type 0
+  PrintText = forms.PrintText part first directed first_directed inside brace_ends below first_below
+
+  abbrev PrintDeep : List Token → Token → Type 0
+  PrintDeep = forms.PrintDeep part first directed first_directed inside brace_ends below first_below
+
+  abbrev LinedPragma : List Token → Directive × ℕ → Type 0
+  LinedPragma = forms.LinedPragma part first directed first_directed inside brace_ends below first_below
+
+  abbrev DirectedText : (List Token → Stmt → Type 0) → Directive × ℕ → List Token → Stmt → Type 0
+  DirectedText = forms.DirectedText part first directed first_directed inside brace_ends below first_below
+
+  abbrev DirectedDeep : Directive × ℕ → List Token → Token → Type 0
+  DirectedDeep = forms.DirectedDeep part first directed first_directed inside brace_ends below first_below
+
+  abbrev PragmaText : (List Token → Stmt → Type 0) → List Token → Stmt → Type 0
+  PragmaText = forms.PragmaText part first directed first_directed inside brace_ends below first_below
+
+  abbrev PragmaDeep : List Token → Token → Type 0
+  PragmaDeep = forms.PragmaDeep part first directed first_directed inside brace_ends below first_below
+
+  abbrev AllText : List Token → Stmt → Type 0
+  AllText = forms.AllText part first directed first_directed inside brace_ends below first_below
+
+  abbrev ClosedText : List Token → Stmt → Type 0
+  ClosedText = forms.ClosedText part first directed first_directed inside brace_ends below first_below
+
+  abbrev AllDeep : List Token → Token → Type 0
+  AllDeep = forms.AllDeep part first directed first_directed inside brace_ends below first_below
+
+  -- what is read is a statement of the grammar
+  into_block : (xs : List Token) (s : Stmt) → BlockText xs s → IsStmt false xs s
+  into_block xs s w = let e = w.whole in
+      subst (λ x. IsStmt false xs x) (ap (λ line. record { what = stmts.Block w.part.1.0; line = line }) (symbol_line (codes "{") e.opened w.part.0 e.opens) ∙ w.made)
+      (block e.opened e.inner e.closed e.split (symbol_token (codes "{") e.opened w.part.0 e.opens) (symbol_token (codes "}") e.closed w.part.1.1 e.closes) e.inside)
+
+  into_empty : (xs : List Token) (s : Stmt) → EmptyText xs s → IsStmt false xs s
+  into_empty xs s w = subst (λ x. IsStmt false xs x) (ap (λ line. record { what = stmts.Empty; line = line }) (symbol_line (codes ";") w.whole.token w.part w.whole.passes) ∙ w.made)
+      (empty w.whole.token w.whole.only (symbol_token (codes ";") w.whole.token w.part w.whole.passes))
+
+  into_simple : (xs : List Token) (s : Stmt) → SimpleText xs s → IsStmt false xs s
+  into_simple xs s w = simple w.whole.inner w.whole.closed w.whole.split (symbol_token (codes ";") w.whole.closed w.part.1 w.whole.passes) (subst (λ x. IsSimple w.whole.inner x) w.made w.whole.inside)
+
+  head_split : (word : List ℕ) (xs front back : List Token) (h : ℕ × Expr) → xs ≡ front ++ back → (w : Head word front h) → xs ≡ w.token ∷ w.behind.opened ∷ (w.behind.inner ++ (w.behind.closed ∷ back))
+  head_split word xs front back h e w =
+      e ∙ (ap (λ ys. ys ++ back) (w.split ∙ ap (λ ys. w.token ∷ ys) w.behind.split) ∙ ap (λ ys. w.token ∷ w.behind.opened ∷ ys) (append_assoc w.behind.inner (w.behind.closed ∷ []) back))
+
+  into_while : (o : Bool) (xs : List Token) (s : Stmt) → WhileText (IsStmt o) xs s → IsStmt o xs s
+  into_while o xs s w = let h = w.before in
+      subst (λ x. IsStmt o xs x) (ap (λ line. record { what = stmts.While w.value.1 w.behind.part; line = line }) (keyword_line (codes "while") h.token w.value.0 h.passes) ∙ w.behind.made)
+      (while_loop h.token h.behind.opened h.behind.inner h.behind.closed w.back (head_split (codes "while") xs w.front w.back w.value w.split h) (keyword_token (codes "while") h.token w.value.0 h.passes)
+      h.behind.opens h.behind.closes h.behind.inside w.behind.whole)
+
+  if_alone_of : (o : Bool) (xs front back : List Token) (h : ℕ × Expr) (s e : Stmt) → xs ≡ front ++ back → Head (codes "if") front h → if_of h s ≡ e → IsStmt o back s → IsStmt true xs e
+  if_alone_of o xs front back h s e split w made v =
+      subst (λ x. IsStmt true xs x) (ap (λ line. record { what = stmts.If h.1 s None; line = line }) (keyword_line (codes "if") w.token h.0 w.passes) ∙ made)
+      (if_alone w.token w.behind.opened w.behind.inner w.behind.closed back (head_split (codes "if") xs front back h split w) (keyword_token (codes "if") w.token h.0 w.passes) w.behind.opens w.behind.closes w.behind.inside v)
+
+  if_else_is : (o : Bool) (xs front back : List Token) (h : ℕ × Expr) (s other e : Stmt) (middle : List Token) (mark : Token) (rest : List Token) → xs ≡ front ++ back → Head (codes "if") front h → if_else_of h s other ≡ e
+      → back ≡ middle ++ (mark ∷ rest) → otherwise mark ≡ true → IsStmt false middle s → IsStmt o rest other → IsStmt o xs e
+  if_else_is o xs front back h s other e middle mark rest split w made b begun v u =
+      let all : xs ≡ w.token ∷ w.behind.opened ∷ (w.behind.inner ++ (w.behind.closed ∷ (middle ++ (mark ∷ rest))))
+      = head_split (codes "if") xs front back h split w ∙ ap (λ ys. w.token ∷ w.behind.opened ∷ (w.behind.inner ++ (w.behind.closed ∷ ys))) b in
+      subst (λ x. IsStmt o xs x) (ap (λ line. record { what = stmts.If h.1 s (Some other); line = line }) (keyword_line (codes "if") w.token h.0 w.passes) ∙ made)
+      (if_else w.token w.behind.opened w.behind.inner w.behind.closed middle mark rest all (keyword_token (codes "if") w.token h.0 w.passes) w.behind.opens w.behind.closes (has_keyword (codes "else") mark begun) w.behind.inside v u)
+
+  into_if : (xs : List Token) (s : Stmt) → IfText xs s → IsAnyStmt xs s
+  into_if xs s w = on w.behind where
+    on : Branches IsAnyStmt (IsStmt false) w.value w.back s → IsAnyStmt xs s
+    on (one_branch b made v) = record { ends_open = true; is = if_alone_of v.ends_open xs w.front w.back w.value b s w.split w.before made v.is }
+    on (two_branches b other front mark back made split begun v u) =
+        record { ends_open = u.ends_open; is = if_else_is u.ends_open xs w.front w.back w.value b other s front mark back w.split w.before made split begun v u.is }
+
+  into_closed_if : (xs : List Token) (s : Stmt) → ClosedIf xs s → IsStmt false xs s
+  into_closed_if xs s w = let b = w.behind in if_else_is false xs w.front w.back w.value b.first b.other s b.front b.mark b.back w.split w.before b.made b.split b.marks b.before b.behind
+
+  maybe_whole : (xs : List Token) (e : Option Expr) → MaybeE xs e → IsMaybeWhole xs e
+  maybe_whole xs e (one_way w) = subst (λ x. IsMaybeWhole xs x) w.made (some_expression w.whole)
+  maybe_whole xs e (other_way w) = subst (λ x. IsMaybeWhole xs x) w.same (no_expression w.nothing)
+
+  abbrev MaybeS : List Token → Option Stmt → Type 0
+  MaybeS = Either (Mapped Some IsSimple) (Nothing None)
+
+  maybe_simple : (xs : List Token) (s : Option Stmt) → MaybeS xs s → IsMaybeSimple xs s
+  maybe_simple xs s (one_way w) = subst (λ x. IsMaybeSimple xs x) w.made (some_simple w.whole)
+  maybe_simple xs s (other_way w) = subst (λ x. IsMaybeSimple xs x) w.same (no_simple w.nothing)
+
+  abbrev First : List Token → Option Stmt → Type 0
+  First = Either (Mapped Some IsDeclaration) MaybeS
+
+  for_first : (xs : List Token) (s : Option Stmt) → First xs s → IsForFirst xs s
+  for_first xs s (one_way w) = subst (λ x. IsForFirst xs x) w.made (declared_first w.whole)
+  for_first xs s (other_way w) = other_first (maybe_simple xs s w)
+
+  -- the tokens of the head of a `for`
+  record Parts (front : List Token) (h : ℕ × (Option Stmt × (Option Expr × Option Stmt))) : Type 0 where
+    t : Token
+    opened : Token
+    start : List Token
+    first_mark : Token
+    middle : List Token
+    second_mark : Token
+    end : List Token
+    closed : Token
+    split : front ≡ t ∷ opened ∷ (start ++ (first_mark ∷ (middle ++ (second_mark ∷ (end ++ (closed ∷ []))))))
+    is_for : IsKeyword (codes "for") t
+    at : t.line ≡ h.0
+    opens : IsOpen opened
+    marks : IsSymbol (codes ";") first_mark
+    marks_again : IsSymbol (codes ";") second_mark
+    closes : IsClose closed
+    starts : First start h.1.0
+    tests : MaybeE middle h.1.1.0
+    ends : MaybeS end h.1.1.1
+
+  parts_of : (front : List Token) (h : ℕ × (Option Stmt × (Option Expr × Option Stmt))) → ForHead front h → Parts front h
+  parts_of front h w =
+      let inner = w.behind.behind in let both = inner.whole in let rest = both.behind in let middle = rest.behind in let last = middle.behind in let end = last.behind in record {
+        t = w.token; opened = w.behind.mark; start = both.front; first_mark = rest.token; middle = middle.front; second_mark = last.token; end = end.inner; closed = end.closed;
+        split = w.split ∙ ap (λ ys. w.token ∷ ys) (w.behind.split ∙ ap (λ ys. w.behind.mark ∷ ys) (both.split ∙ ap (λ ys. both.front ++ ys) (rest.split
+            ∙ ap (λ ys. rest.token ∷ ys) (middle.split ∙ ap (λ ys. middle.front ++ ys) (last.split ∙ ap (λ ys. last.token ∷ ys) end.split)))));
+        is_for = keyword_token (codes "for") w.token h.0 w.passes;
+        at = keyword_line (codes "for") w.token h.0 w.passes;
+        opens = w.behind.marks;
+        marks = symbol_token (codes ";") rest.token inner.part.1.0 rest.passes;
+        marks_again = symbol_token (codes ";") last.token inner.part.1.1.1.0 last.passes;
+        closes = symbol_token (codes ")") end.closed inner.part.1.1.1.1.1 end.passes;
+        starts = subst (λ (q : Option Stmt × (Option Expr × Option Stmt)). First both.front q.0) inner.made both.before;
+        tests = subst (λ (q : Option Stmt × (Option Expr × Option Stmt)). MaybeE middle.front q.1.0) inner.made middle.before;
+        ends = subst (λ (q : Option Stmt × (Option Expr × Option Stmt)). MaybeS end.inner q.1.1) inner.made end.inside;
+      }
+
+  for_split : (xs front back : List Token) (h : ℕ × (Option Stmt × (Option Expr × Option Stmt))) → xs ≡ front ++ back → (w : Parts front h)
+      → xs ≡ w.t ∷ w.opened ∷ (w.start ++ (w.first_mark ∷ (w.middle ++ (w.second_mark ∷ (w.end ++ (w.closed ∷ back))))))
+  for_split xs front back h e w =
+      e ∙ (ap (λ ys. ys ++ back) w.split
+      ∙ ap (λ ys. w.t ∷ w.opened ∷ ys) (append_assoc w.start (w.first_mark ∷ (w.middle ++ (w.second_mark ∷ (w.end ++ (w.closed ∷ []))))) back
+      ∙ ap (λ ys. w.start ++ (w.first_mark ∷ ys)) (append_assoc w.middle (w.second_mark ∷ (w.end ++ (w.closed ∷ []))) back
+      ∙ ap (λ ys. w.middle ++ (w.second_mark ∷ ys)) (append_assoc w.end (w.closed ∷ []) back))))
+
+  into_for : (o : Bool) (xs : List Token) (s : Stmt) → ForText (IsStmt o) xs s → IsStmt o xs s
+  into_for o xs s w = let p = parts_of w.front w.value w.before in
+      subst (λ x. IsStmt o xs x) (ap (λ line. record { what = stmts.For w.value.1.0 w.value.1.1.0 w.value.1.1.1 w.behind.part; line = line }) p.at ∙ w.behind.made)
+      (for_loop p.t p.opened p.start p.first_mark p.middle p.second_mark p.end p.closed w.back (for_split xs w.front w.back w.value w.split p) p.is_for p.opens p.marks p.marks_again p.closes
+      (for_first p.start w.value.1.0 p.starts) (maybe_whole p.middle w.value.1.1.0 p.tests) (maybe_simple p.end w.value.1.1.1 p.ends) w.behind.whole)
+
+  into_return : (xs : List Token) (s : Stmt) → ReturnText xs s → IsStmt false xs s
+  into_return xs s w = let e = w.whole in
+      subst (λ x. IsStmt false xs x) (ap (λ line. record { what = stmts.Return w.part.1.0; line = line }) (keyword_line (codes "return") e.opened w.part.0 e.opens) ∙ w.made)
+      (return_jump e.opened e.inner e.closed e.split (keyword_token (codes "return") e.opened w.part.0 e.opens) (symbol_token (codes ";") e.closed w.part.1.1 e.closes) (maybe_whole e.inner w.part.1.0 e.inside))
+
+  into_break : (xs : List Token) (s : Stmt) → JumpText (codes "break") break_at xs s → IsStmt false xs s
+  into_break xs s w = let e = w.whole in
+      subst (λ x. IsStmt false xs x) (ap (λ line. record { what = stmts.Break; line = line }) (keyword_line (codes "break") e.token w.part.0 e.passes) ∙ w.made)
+      (break_jump e.token e.behind.token (e.split ∙ ap (λ ys. e.token ∷ ys) e.behind.only) (keyword_token (codes "break") e.token w.part.0 e.passes) (symbol_token (codes ";") e.behind.token w.part.1 e.behind.passes))
+
+  into_continue : (xs : List Token) (s : Stmt) → JumpText (codes "continue") continue_at xs s → IsStmt false xs s
+  into_continue xs s w = let e = w.whole in
+      subst (λ x. IsStmt false xs x) (ap (λ line. record { what = stmts.Continue; line = line }) (keyword_line (codes "continue") e.token w.part.0 e.passes) ∙ w.made)
+      (continue_jump e.token e.behind.token (e.split ∙ ap (λ ys. e.token ∷ ys) e.behind.only) (keyword_token (codes "continue") e.token w.part.0 e.passes) (symbol_token (codes ";") e.behind.token w.part.1 e.behind.passes))
+
+  followed_list : (xs front back : List Token) (a : Expr) (more : List Expr) → xs ≡ front ++ back → IsWhole front a → Follow IsWhole back more → IsArgumentList xs (a ∷ more)
+  followed_list xs front back a [] e w (none z) = last_argument (subst (λ ys. IsWhole ys a) (sym (e ∙ (ap (λ ys. front ++ ys) z ∙ append-nil front))) w)
+  followed_list xs front back a (b ∷ more) e w (some comma middle rest z c v u) = next_argument front comma (middle ++ rest) (e ∙ ap (λ ys. front ++ ys) z) c w (followed_list (middle ++ rest) middle rest b more refl v u)
+
+  printed_is : (xs : List Token) (values : List Expr) → Follow IsWhole xs values → IsPrinted xs values
+  printed_is xs [] (none e) = nothing_printed e
+  printed_is xs (a ∷ more) (some comma front back e c w v) = values_printed comma (front ++ back) e c (followed_list (front ++ back) front back a more refl w v)
+
+  text_is : (k : TokenKind) (bytes : List ℕ) → text_in k ≡ Some bytes → k ≡ kinds.Text bytes
+  text_is (kinds.Text w) bytes e = ap kinds.Text (some_is w bytes e) where
+    some_is : (a b : List ℕ) → Some a ≡ Some b → a ≡ b
+    some_is a b e = cc
+  text_is (kinds.Name w) bytes e = absurd (cc)
+  text_is (kinds.Symbol w) bytes e = absurd (cc)
+  text_is (kinds.Keyword w) bytes e = absurd (cc)
+  text_is (kinds.Number v u) bytes e = absurd (cc)
+  text_is kinds.PragmaOss bytes e = absurd (cc)
+  text_is kinds.PragmaEnd bytes e = absurd (cc)
+  text_is kinds.Directive bytes e = absurd (cc)
+
+  into_print : (xs : List Token) (s : Stmt) → PrintText xs s → IsStmt false xs s
+  into_print xs s w =
+      let h = w.whole in let b = h.behind in let string = b.behind in let printed = string.behind in let both = printed.whole in let end = both.behind in
+      let all : xs ≡ h.token ∷ b.mark ∷ string.token ∷ (both.front ++ (end.token ∷ end.behind.token ∷ []))
+      = h.split ∙ ap (λ ys. h.token ∷ ys) (b.split ∙ ap (λ ys. b.mark ∷ ys) (string.split ∙ ap (λ ys. string.token ∷ ys) (both.split ∙ ap (λ ys. both.front ++ ys) (end.split ∙ ap (λ ys. end.token ∷ ys) end.behind.only)))) in
+      subst (λ x. IsStmt false xs x) (ap (λ line. record { what = stmts.Print w.part.1.0 w.part.1.1; line = line }) (keyword_line (codes "printf") h.token w.part.0 h.passes) ∙ w.made)
+      (print h.token b.mark string.token w.part.1.0 both.front end.token end.behind.token all (keyword_token (codes "printf") h.token w.part.0 h.passes) b.marks (text_is string.token.what w.part.1.0 string.passes)
+      (symbol_token (codes ")") end.token printed.part.1.0 end.passes) (symbol_token (codes ";") end.behind.token printed.part.1.1 end.behind.passes)
+      (subst (λ vs. IsPrinted both.front vs) printed.made (printed_is both.front printed.part.0 both.before)))
+
+  directed_any : (xs front back : List Token) (d : Directive) (line : ℕ) (s : Stmt) → xs ≡ front ++ back → LinedPragma front (d, line) → DirectedText IsAnyStmt (d, line) back s → IsAnyStmt xs s
+  directed_any xs front back (directive.Task mark) line s e w v = record { ends_open = v.whole.ends_open; is = subst (λ x. IsStmt v.whole.ends_open xs x) v.made (task front back e w.is v.whole.is) }
+  directed_any xs front back (directive.TaskWait sections) line s e w v = let all : xs ≡ front = e ∙ (ap (λ ys. front ++ ys) v.nothing ∙ append-nil front) in record {
+    ends_open = false;
+    is = subst (λ ys. IsStmt false ys s) (sym all) (subst (λ x. IsStmt false front x) (ap (λ line. record { what = stmts.TaskWait sections; line = line }) w.at ∙ v.same) (task_wait w.is));
+  }
+  directed_any xs front back (directive.Release clauses) line s e w v = let all : xs ≡ front = e ∙ (ap (λ ys. front ++ ys) v.nothing ∙ append-nil front) in record {
+    ends_open = false;
+    is = subst (λ ys. IsStmt false ys s) (sym all) (subst (λ x. IsStmt false front x) (ap (λ line. record { what = stmts.Release clauses; line = line }) w.at ∙ v.same) (release w.is));
+  }
+
+  directed_closed : (xs front back : List Token) (d : Directive) (line : ℕ) (s : Stmt) → xs ≡ front ++ back → LinedPragma front (d, line) → DirectedText (IsStmt false) (d, line) back s → IsStmt false xs s
+  directed_closed xs front back (directive.Task mark) line s e w v = subst (λ x. IsStmt false xs x) v.made (task front back e w.is v.whole)
+  directed_closed xs front back (directive.TaskWait sections) line s e w v = let all : xs ≡ front = e ∙ (ap (λ ys. front ++ ys) v.nothing ∙ append-nil front) in
+      subst (λ ys. IsStmt false ys s) (sym all) (subst (λ x. IsStmt false front x) (ap (λ line. record { what = stmts.TaskWait sections; line = line }) w.at ∙ v.same) (task_wait w.is))
+  directed_closed xs front back (directive.Release clauses) line s e w v = let all : xs ≡ front = e ∙ (ap (λ ys. front ++ ys) v.nothing ∙ append-nil front) in
+      subst (λ ys. IsStmt false ys s) (sym all) (subst (λ x. IsStmt false front x) (ap (λ line. record { what = stmts.Release clauses; line = line }) w.at ∙ v.same) (release w.is))
+
+  any_of : (xs : List Token) (s : Stmt) → IsStmt false xs s → IsAnyStmt xs s
+  any_of = forms.closed_inside part first directed first_directed inside brace_ends below first_below
+
+  while_any : (xs : List Token) (s : Stmt) → WhileText IsAnyStmt xs s → IsAnyStmt xs s
+  while_any xs s w = let v = w.behind.whole in record {
+    ends_open = v.ends_open;
+    is = into_while v.ends_open xs s (record { front = w.front; back = w.back; value = w.value; split = w.split; before = w.before; behind = record { part = w.behind.part; made = w.behind.made; whole = v.is } });
+  }
+
+  for_any : (xs : List Token) (s : Stmt) → ForText IsAnyStmt xs s → IsAnyStmt xs s
+  for_any xs s w = let v = w.behind.whole in record {
+    ends_open = v.ends_open;
+    is = into_for v.ends_open xs s (record { front = w.front; back = w.back; value = w.value; split = w.split; before = w.before; behind = record { part = w.behind.part; made = w.behind.made; whole = v.is } });
+  }
+
+  into_all : (xs : List Token) (s : Stmt) → AllText xs s → IsAnyStmt xs s
+  into_all xs s (one_way w) = any_of xs s (into_block xs s w)
+  into_all xs s (other_way (one_way w)) = any_of xs s (into_empty xs s w)
+  into_all xs s (other_way (other_way (one_way w))) = any_of xs s (into_simple xs s w)
+  into_all xs s (other_way (other_way (other_way (one_way w)))) = into_if xs s w
+  into_all xs s (other_way (other_way (other_way (other_way (one_way w))))) = while_any xs s w
+  into_all xs s (other_way (other_way (other_way (other_way (other_way (one_way w)))))) = for_any xs s w
+  into_all xs s (other_way (other_way (other_way (other_way (other_way (other_way (one_way w))))))) = any_of xs s (into_return xs s w)
+  into_all xs s (other_way (other_way (other_way (other_way (other_way (other_way (other_way (one_way w)))))))) = any_of xs s (into_break xs s w)
+  into_all xs s (other_way (other_way (other_way (other_way (other_way (other_way (other_way (other_way (one_way w))))))))) = any_of xs s (into_continue xs s w)
+  into_all xs s (other_way (other_way (other_way (other_way (other_way (other_way (other_way (other_way (other_way (one_way w)))))))))) = any_of xs s (into_print xs s w)
+  into_all xs s (other_way (other_way (other_way (other_way (other_way (other_way (other_way (other_way (other_way (other_way w)))))))))) = directed_any xs w.front w.back w.value.0 w.value.1 s w.split w.before w.behind
+
+  into_closed : (xs : List Token) (s : Stmt) → ClosedText xs s → IsStmt false xs s
+  into_closed xs s (one_way w) = into_block xs s w
+  into_closed xs s (other_way (one_way w)) = into_empty xs s w
+  into_closed xs s (other_way (other_way (one_way w))) = into_simple xs s w
+  into_closed xs s (other_way (other_way (other_way (one_way w)))) = into_closed_if xs s w
+  into_closed xs s (other_way (other_way (other_way (other_way (one_way w))))) = into_while false xs s w
+  into_closed xs s (other_way (other_way (other_way (other_way (other_way (one_way w)))))) = into_for false xs s w
+  into_closed xs s (other_way (other_way (other_way (other_way (other_way (other_way (one_way w))))))) = into_return xs s w
+  into_closed xs s (other_way (other_way (other_way (other_way (other_way (other_way (other_way (one_way w)))))))) = into_break xs s w
+  into_closed xs s (other_way (other_way (other_way (other_way (other_way (other_way (other_way (other_way (one_way w))))))))) = into_continue xs s w
+  into_closed xs s (other_way (other_way (other_way (other_way (other_way (other_way (other_way (other_way (other_way (one_way w)))))))))) = into_print xs s w
+  into_closed xs s (other_way (other_way (other_way (other_way (other_way (other_way (other_way (other_way (other_way (other_way w)))))))))) = directed_closed xs w.front w.back w.value.0 w.value.1 s w.split w.before w.behind
+
+  -- a statement of the grammar is read
+  out_block : (xs : List Token) (body : List Stmt) (opened : Token) (inner : List Token) (closed : Token) → xs ≡ opened ∷ (inner ++ (closed ∷ [])) → IsSymbol (codes "{") opened → IsSymbol (codes "}") closed → IsItems inner body
+      → BlockText xs (record { what = stmts.Block body; line = opened.line })
+  out_block xs body opened inner closed e o c w = record {
+    part = (opened.line, (body, closed.line)); made = refl;
+    whole = record { opened = opened; inner = inner; closed = closed; split = e; opens = symbol_value (codes "{") opened o; closes = symbol_value (codes "}") closed c; inside = w };
+  }
+
+  out_simple : (xs : List Token) (s : Stmt) (front : List Token) (m : Token) → xs ≡ front ++ (m ∷ []) → IsSymbol (codes ";") m → IsSimple front s → SimpleText xs s
+  out_simple xs s front m e c w = record { part = (s, m.line); made = refl; whole = record { inner = front; closed = m; split = e; passes = symbol_value (codes ";") m c; inside = w } }
+
+  head_of : (word : List ℕ) (t opened : Token) (inner : List Token) (closed : Token) (test : Expr) → IsKeyword word t → IsOpen opened → IsClose closed → IsWhole inner test → Head word (t ∷ opened ∷ (inner ++ (closed ∷ []))) (t.line, test)
+  head_of word t opened inner closed test k o c w = record {
+    token = t; back = opened ∷ (inner ++ (closed ∷ [])); split = refl; passes = keyword_value word t k;
+    behind = record { opened = opened; inner = inner; closed = closed; split = refl; opens = o; closes = c; inside = w };
+  }
+
+  split_of_head : (xs : List Token) (t opened : Token) (inner : List Token) (closed : Token) (back : List Token) → xs ≡ t ∷ opened ∷ (inner ++ (closed ∷ back)) → xs ≡ (t ∷ opened ∷ (inner ++ (closed ∷ []))) ++ back
+  split_of_head xs t opened inner closed back e = e ∙ sym (ap (λ ys. t ∷ opened ∷ ys) (append_assoc inner (closed ∷ []) back))
+
+  out_while : (U : List Token → Stmt → Type 0) (xs : List Token) (test : Expr) (s : Stmt) (t opened : Token) (inner : List Token) (closed : Token) (back : List Token) → xs ≡ t ∷ opened ∷ (inner ++ (closed ∷ back))
+      → IsKeyword (codes "while") t → IsOpen opened → IsClose closed → IsWhole inner test → U back s → WhileText U xs (record { what = stmts.While test s; line = t.line })
+  out_while U xs test s t opened inner closed back e k o c w v = record {
+    front = t ∷ opened ∷ (inner ++ (closed ∷ [])); back = back; value = (t.line, test); split = split_of_head xs t opened inner closed back e;
+    before = head_of (codes "while") t opened inner closed test k o c w; behind = record { part = s; made = refl; whole = v };
+  }
+
+  out_if : (xs : List Token) (test : Expr) (s : Stmt) (t opened : Token) (inner : List Token) (closed : Token) (back : List Token) → xs ≡ t ∷ opened ∷ (inner ++ (closed ∷ back))
+      → IsKeyword (codes "if") t → IsOpen opened → IsClose closed → IsWhole inner test → IsAnyStmt back s → IfText xs (record { what = stmts.If test s None; line = t.line })
+  out_if xs test s t opened inner closed back e k o c w v = record {
+    front = t ∷ opened ∷ (inner ++ (closed ∷ [])); back = back; value = (t.line, test); split = split_of_head xs t opened inner closed back e;
+    before = head_of (codes "if") t opened inner closed test k o c w; behind = one_branch s refl v;
+  }
+
+  is_otherwise : (t : Token) → IsKeyword (codes "else") t → otherwise t ≡ true
+  is_otherwise t k = rw k refl
+
+  out_if_else : (xs : List Token) (test : Expr) (s other : Stmt) (t opened : Token) (inner : List Token) (closed : Token) (front : List Token) (m : Token) (back : List Token)
+      → xs ≡ t ∷ opened ∷ (inner ++ (closed ∷ (front ++ (m ∷ back)))) → IsKeyword (codes "if") t → IsOpen opened → IsClose closed → IsKeyword (codes "else") m → IsWhole inner test → IsStmt false front s → IsAnyStmt back other
+      → IfText xs (record { what = stmts.If test s (Some other); line = t.line })
+  out_if_else xs test s other t opened inner closed front m back e k o c l w v u = record {
+    front = t ∷ opened ∷ (inner ++ (closed ∷ [])); back = front ++ (m ∷ back); value = (t.line, test); split = split_of_head xs t opened inner closed (front ++ (m ∷ back)) e;
+    before = head_of (codes "if") t opened inner closed test k o c w; behind = two_branches s other front m back refl refl (is_otherwise m l) v u;
+  }
+
+  out_closed_if : (xs : List Token) (test : Expr) (s other : Stmt) (t opened : Token) (inner : List Token) (closed : Token) (front : List Token) (m : Token) (back : List Token)
+      → xs ≡ t ∷ opened ∷ (inner ++ (closed ∷ (front ++ (m ∷ back)))) → IsKeyword (codes "if") t → IsOpen opened → IsClose closed → IsKeyword (codes "else") m → IsWhole inner test → IsStmt false front s → IsStmt false back other
+      → ClosedIf xs (record { what = stmts.If test s (Some other); line = t.line })
+  out_closed_if xs test s other t opened inner closed front m back e k o c l w v u = record {
+    front = t ∷ opened ∷ (inner ++ (closed ∷ [])); back = front ++ (m ∷ back); value = (t.line, test); split = split_of_head xs t opened inner closed (front ++ (m ∷ back)) e;
+    before = head_of (codes "if") t opened inner closed test k o c w;
+    behind = record { first = s; other = other; front = front; mark = m; back = back; made = refl; split = refl; marks = is_otherwise m l; before = v; behind = u };
+  }
+
+  whole_maybe : (xs : List Token) (e : Option Expr) → IsMaybeWhole xs e → MaybeE xs e
+  whole_maybe xs None (no_expression z) = other_way (record { nothing = z; same = refl })
+  whole_maybe xs (Some e) (some_expression w) = one_way (record { part = e; made = refl; whole = w })
+
+  simple_maybe : (xs : List Token) (s : Option Stmt) → IsMaybeSimple xs s → MaybeS xs s
+  simple_maybe xs None (no_simple z) = other_way (record { nothing = z; same = refl })
+  simple_maybe xs (Some s) (some_simple w) = one_way (record { part = s; made = refl; whole = w })
+
+  first_for : (xs : List Token) (s : Option Stmt) → IsForFirst xs s → First xs s
+  first_for xs (Some s) (declared_first w) = one_way (record { part = s; made = refl; whole = w })
+  first_for xs s (other_first w) = other_way (simple_maybe xs s w)
+
+  for_head_of : (first : Option Stmt) (test : Option Expr) (last : Option Stmt) (t opened : Token) (start : List Token) (m : Token) (middle : List Token) (other : Token) (end : List Token) (closed : Token)
+      → IsKeyword (codes "for") t → IsOpen opened → IsSymbol (codes ";") m → IsSymbol (codes ";") other → IsClose closed → IsForFirst start first → IsMaybeWhole middle test → IsMaybeSimple end last
+      → ForHead (t ∷ opened ∷ (start ++ (m ∷ (middle ++ (other ∷ (end ++ (closed ∷ []))))))) (t.line, (first, (test, last)))
+  for_head_of first test last t opened start m middle other end closed k o c d z a b e = record {
+    token = t; back = opened ∷ (start ++ (m ∷ (middle ++ (other ∷ (end ++ (closed ∷ [])))))); split = refl; passes = keyword_value (codes "for") t k;
+    behind = record {
+      mark = opened; back = start ++ (m ∷ (middle ++ (other ∷ (end ++ (closed ∷ []))))); split = refl; marks = o;
+      behind = record {
+        part = (first, (m.line, (test, (other.line, (last, closed.line))))); made = refl;
+        whole = record {
+          front = start; back = m ∷ (middle ++ (other ∷ (end ++ (closed ∷ [])))); split = refl; before = first_for start first a;
+          behind = record {
+            token = m; back = middle ++ (other ∷ (end ++ (closed ∷ []))); split = refl; passes = symbol_value (codes ";") m c;
+            behind = record {
+              front = middle; back = other ∷ (end ++ (closed ∷ [])); split = refl; before = whole_maybe middle test b;
+              behind = record { token = other; back = end ++ (closed ∷ []); split = refl; passes = symbol_value (codes ";") other d;
+                behind = record { inner = end; closed = closed; split = refl; passes = symbol_value (codes ")") closed z; inside = simple_maybe end last e } };
+            };
+          };
+        };
+      };
+    };
+  }
+
+  split_of_for : (xs : List Token) (t opened : Token) (start : List Token) (m : Token) (middle : List Token) (other : Token) (end : List Token) (closed : Token) (back : List Token)
+      → xs ≡ t ∷ opened ∷ (start ++ (m ∷ (middle ++ (other ∷ (end ++ (closed ∷ back)))))) → xs ≡ (t ∷ opened ∷ (start ++ (m ∷ (middle ++ (other ∷ (end ++ (closed ∷ []))))))) ++ back
+  split_of_for xs t opened start m middle other end closed back e =
+      e ∙ sym (ap (λ ys. t ∷ opened ∷ ys) (append_assoc start (m ∷ (middle ++ (other ∷ (end ++ (closed ∷ []))))) back
+      ∙ ap (λ ys. start ++ (m ∷ ys)) (append_assoc middle (other ∷ (end ++ (closed ∷ []))) back ∙ ap (λ ys. middle ++ (other ∷ ys)) (append_assoc end (closed ∷ []) back))))
+
+  out_for : (U : List Token → Stmt → Type 0) (xs : List Token) (first : Option Stmt) (test : Option Expr) (last : Option Stmt) (s : Stmt) (t opened : Token) (start : List Token) (m : Token) (middle : List Token) (other : Token)
+      (end : List Token) (closed : Token) (back : List Token) → xs ≡ t ∷ opened ∷ (start ++ (m ∷ (middle ++ (other ∷ (end ++ (closed ∷ back))))))
+      → IsKeyword (codes "for") t → IsOpen opened → IsSymbol (codes ";") m → IsSymbol (codes ";") other → IsClose closed → IsForFirst start first → IsMaybeWhole middle test → IsMaybeSimple end last → U back s
+      → ForText U xs (record { what = stmts.For first test last s; line = t.line })
+  out_for U xs first test last s t opened start m middle other end closed back e k o c d z a b l v = record {
+    front = t ∷ opened ∷ (start ++ (m ∷ (middle ++ (other ∷ (end ++ (closed ∷ [])))))); back = back; value = (t.line, (first, (test, last)));
+    split = split_of_for xs t opened start m middle other end closed back e; before = for_head_of first test last t opened start m middle other end closed k o c d z a b l;
+    behind = record { part = s; made = refl; whole = v };
+  }
+
+  out_return : (xs : List Token) (value : Option Expr) (t : Token) (inner : List Token) (m : Token) → xs ≡ t ∷ (inner ++ (m ∷ [])) → IsKeyword (codes "return") t → IsSymbol (codes ";") m → IsMaybeWhole inner value
+      → ReturnText xs (record { what = stmts.Return value; line = t.line })
+  out_return xs value t inner m e k c w = record {
+    part = (t.line, (value, m.line)); made = refl;
+    whole = record { opened = t; inner = inner; closed = m; split = e; opens = keyword_value (codes "return") t k; closes = symbol_value (codes ";") m c; inside = whole_maybe inner value w };
+  }
+
+  out_jump : (word : List ℕ) (make : ℕ × ℕ → Stmt) (xs : List Token) (t m : Token) → xs ≡ t ∷ m ∷ [] → IsKeyword word t → IsSymbol (codes ";") m → JumpText word make xs (make (t.line, m.line))
+  out_jump word make xs t m e k c = record {
+    part = (t.line, m.line); made = refl;
+    whole = record { token = t; back = m ∷ []; split = e; passes = keyword_value word t k; behind = record { token = m; only = refl; passes = symbol_value (codes ";") m c } };
+  }
+
+  list_follow : (comma : Token) (xs : List Token) (values : List Expr) → IsSymbol (codes ",") comma → IsArgumentList xs values → Follow IsWhole (comma ∷ xs) values
+  list_follow comma xs [] c w = elim w [ ]
+  list_follow comma xs (a ∷ []) c (last_argument w) = some comma xs [] (ap (λ ys. comma ∷ ys) (sym (append-nil xs))) c w (none refl)
+  list_follow comma xs (a ∷ more) c (next_argument front m back e d w v) = some comma front (m ∷ back) (ap (λ ys. comma ∷ ys) e) c w (list_follow m back more d v)
+
+  follow_printed : (xs : List Token) (values : List Expr) → IsPrinted xs values → Follow IsWhole xs values
+  follow_printed xs [] (nothing_printed e) = none e
+  follow_printed xs values (values_printed comma back e c w) = subst (λ ys. Follow IsWhole ys values) (sym e) (list_follow comma back values c w)
+
+  text_value : (t : Token) (bytes : List ℕ) → t.what ≡ kinds.Text bytes → text_at t ≡ Some bytes
+  text_value t bytes e = rw e refl
+
+  out_print : (xs : List Token) (values : List Expr) (t opened string : Token) (bytes : List ℕ) (inner : List Token) (closed m : Token) → xs ≡ t ∷ opened ∷ string ∷ (inner ++ (closed ∷ m ∷ []))
+      → IsKeyword (codes "printf") t → IsOpen opened → string.what ≡ kinds.Text bytes → IsClose closed → IsSymbol (codes ";") m → IsPrinted inner values
+      → PrintText xs (record { what = stmts.Print bytes values; line = t.line })
+  out_print xs values t opened string bytes inner closed m e k o b c d w = record {
+    part = (t.line, (bytes, values)); made = refl;
+    whole = record {
+      token = t; back = opened ∷ string ∷ (inner ++ (closed ∷ m ∷ [])); split = e; passes = keyword_value (codes "printf") t k;
+      behind = record {
+        mark = opened; back = string ∷ (inner ++ (closed ∷ m ∷ [])); split = refl; marks = o;
+        behind = record {
+          token = string; back = inner ++ (closed ∷ m ∷ []); split = refl; passes = text_value string bytes b;
+          behind = record {
+            part = (values, (closed.line, m.line)); made = refl;
+            whole = record { front = inner; back = closed ∷ m ∷ []; split = refl; before = follow_printed inner values w;
+              behind = record { token = closed; back = m ∷ []; split = refl; passes = symbol_value (codes ")") closed c; behind = record { token = m; only = refl; passes = symbol_value (codes ";") m d } } };
+          };
+        };
+      };
+    };
+  }
+
+  out_task : (U : List Token → Stmt → Type 0) (xs : List Token) (m : TaskMark) (s : Stmt) (front back : List Token) → xs ≡ front ++ back → IsPragma front (directive.Task m) → U back s → PragmaText U xs (record { what = stmts.Task m s; line = m.line })
+  out_task U xs m s front back e w v = record { front = front; back = back; value = (directive.Task m, first_line front); split = e; before = record { is = w; at = refl }; behind = record { part = s; made = refl; whole = v } }
+
+  out_wait : (U : List Token → Stmt → Type 0) (xs : List Token) (sections : Option (List Section)) → IsPragma xs (directive.TaskWait sections) → PragmaText U xs (record { what = stmts.TaskWait sections; line = first_line xs })
+  out_wait U xs sections w = record { front = xs; back = []; value = (directive.TaskWait sections, first_line xs); split = sym (append-nil xs); before = record { is = w; at = refl }; behind = record { nothing = refl; same = refl } }
+
+  out_release : (U : List Token → Stmt → Type 0) (xs : List Token) (clauses : List Clause) → IsPragma xs (directive.Release clauses) → PragmaText U xs (record { what = stmts.Release clauses; line = first_line xs })
+  out_release U xs clauses w = record { front = xs; back = []; value = (directive.Release clauses, first_line xs); split = sym (append-nil xs); before = record { is = w; at = refl }; behind = record { nothing = refl; same = refl } }
+
+  out_all : (o : Bool) (xs : List Token) (s : Stmt) → IsStmt o xs s → AllText xs s
+  out_all o xs s (block {body = body} opened inner closed e a c w) = one_way (out_block xs body opened inner closed e a c w)
+  out_all o xs s (empty m e c) = other_way (one_way (record { part = m.line; made = refl; whole = record { token = m; only = e; passes = symbol_value (codes ";") m c } }))
+  out_all o xs s (simple front m e c w) = other_way (other_way (one_way (out_simple xs s front m e c w)))
+  out_all o xs s (if_alone {o = p} {test = test} {s = b} t opened inner closed back e k a c w v) = other_way (other_way (other_way (one_way (out_if xs test b t opened inner closed back e k a c w (record { ends_open = p; is = v })))))
+  out_all o xs s (if_else {test = test} {s = b} {other = other} t opened inner closed front m back e k a c l w v u) =
+      other_way (other_way (other_way (one_way (out_if_else xs test b other t opened inner closed front m back e k a c l w v (record { ends_open = o; is = u })))))
+  out_all o xs s (while_loop {test = test} {s = b} t opened inner closed back e k a c w v) =
+      other_way (other_way (other_way (other_way (one_way (out_while IsAnyStmt xs test b t opened inner closed back e k a c w (record { ends_open = o; is = v }))))))
+  out_all o xs s (for_loop {first = f} {test = test} {last = l} {s = b} t opened start m middle other end closed back e k a c d z x y u v) =
+      other_way (other_way (other_way (other_way (other_way (one_way (out_for IsAnyStmt xs f test l b t opened start m middle other end closed back e k a c d z x y u (record { ends_open = o; is = v })))))))
+  out_all o xs s (return_jump {value = value} t inner m e k c w) = other_way (other_way (other_way (other_way (other_way (other_way (one_way (out_return xs value t inner m e k c w)))))))
+  out_all o xs s (break_jump t m e k c) = other_way (other_way (other_way (other_way (other_way (other_way (other_way (one_way (out_jump (codes "break") break_at xs t m e k c))))))))
+  out_all o xs s (continue_jump t m e k c) = other_way (other_way (other_way (other_way (other_way (other_way (other_way (other_way (one_way (out_jump (codes "continue") continue_at xs t m e k c)))))))))
+  out_all o xs s (print {values = values} t opened string bytes inner closed m e k a b c d w) =
+      other_way (other_way (other_way (other_way (other_way (other_way (other_way (other_way (other_way (one_way (out_print xs values t opened string bytes inner closed m e k a b c d w))))))))))
+  out_all o xs s (task {mark = m} {s = b} front back e w v) =
+      other_way (other_way (other_way (other_way (other_way (other_way (other_way (other_way (other_way (other_way (out_task IsAnyStmt xs m b front back e w (record { ends_open = o; is = v })))))))))))
+  out_all o xs s (task_wait {sections = sections} w) = other_way (other_way (other_way (other_way (other_way (other_way (other_way (other_way (other_way (other_way (out_wait IsAnyStmt xs sections w))))))))))
+  out_all o xs s (release {clauses = clauses} w) = other_way (other_way (other_way (other_way (other_way (other_way (other_way (other_way (other_way (other_way (out_release IsAnyStmt xs clauses w))))))))))
+
+  out_closed : (xs : List Token) (s : Stmt) → IsStmt false xs s → ClosedText xs s
+  out_closed xs s (block {body = body} opened inner closed e a c w) = one_way (out_block xs body opened inner closed e a c w)
+  out_closed xs s (empty m e c) = other_way (one_way (record { part = m.line; made = refl; whole = record { token = m; only = e; passes = symbol_value (codes ";") m c } }))
+  out_closed xs s (simple front m e c w) = other_way (other_way (one_way (out_simple xs s front m e c w)))
+  out_closed xs s (if_else {test = test} {s = b} {other = other} t opened inner closed front m back e k a c l w v u) = other_way (other_way (other_way (one_way (out_closed_if xs test b other t opened inner closed front m back e k a c l w v u))))
+  out_closed xs s (while_loop {test = test} {s = b} t opened inner closed back e k a c w v) = other_way (other_way (other_way (other_way (one_way (out_while (IsStmt false) xs test b t opened inner closed back e k a c w v)))))
+  out_closed xs s (for_loop {first = f} {test = test} {last = l} {s = b} t opened start m middle other end closed back e k a c d z x y u v) =
+      other_way (other_way (other_way (other_way (other_way (one_way (out_for (IsStmt false) xs f test l b t opened start m middle other end closed back e k a c d z x y u v))))))
+  out_closed xs s (return_jump {value = value} t inner m e k c w) = other_way (other_way (other_way (other_way (other_way (other_way (one_way (out_return xs value t inner m e k c w)))))))
+  out_closed xs s (break_jump t m e k c) = other_way (other_way (other_way (other_way (other_way (other_way (other_way (one_way (out_jump (codes "break") break_at xs t m e k c))))))))
+  out_closed xs s (continue_jump t m e k c) = other_way (other_way (other_way (other_way (other_way (other_way (other_way (other_way (one_way (out_jump (codes "continue") continue_at xs t m e k c)))))))))
+  out_closed xs s (print {values = values} t opened string bytes inner closed m e k a b c d w) =
+      other_way (other_way (other_way (other_way (other_way (other_way (other_way (other_way (other_way (one_way (out_print xs values t opened string bytes inner closed m e k a b c d w))))))))))
+  out_closed xs s (task {mark = m} {s = b} front back e w v) = other_way (other_way (other_way (other_way (other_way (other_way (other_way (other_way (other_way (other_way (out_task (IsStmt false) xs m b front back e w v))))))))))
+  out_closed xs s (task_wait {sections = sections} w) = other_way (other_way (other_way (other_way (other_way (other_way (other_way (other_way (other_way (other_way (out_wait (IsStmt false) xs sections w))))))))))
+  out_closed xs s (release {clauses = clauses} w) = other_way (other_way (other_way (other_way (other_way (other_way (other_way (other_way (other_way (other_way (out_release (IsStmt false) xs clauses w))))))))))
+
+  -- where a limit is passed
+  abbrev Excess : List Token → Token → Type 0
+  Excess = IsStatementExcess X (suc n)
+
+  simple_deeper : (xs : List Token) (t : Token) → IsExcessBehind OpensSimple X xs t → Excess xs t
+  simple_deeper xs t x = in_expression (record { front = x.front; inner = x.inner; split = x.split; opens = OpensStatement.in_simple x.opens; excess = x.excess })
+
+  if_deeper : (xs : List Token) (t : Token) → IfDeep xs t → Excess xs t
+  if_deeper xs t (in_first d) = in_expression (record {
+    front = d.token ∷ d.deep.opened ∷ []; inner = d.deep.inner; split = d.split ∙ ap (λ ys. d.token ∷ ys) d.deep.split;
+    opens = in_if_test d.token d.deep.opened refl (keyword_token (codes "if") d.token d.value d.passes) d.deep.opens; excess = d.deep.deep;
+  })
+  if_deeper xs t (in_second front back h e w (in_one d)) =
+      under_if w.token w.behind.opened w.behind.inner w.behind.closed back (head_split (codes "if") xs front back h e w) (keyword_token (codes "if") w.token h.0 w.passes) w.behind.opens w.behind.inside w.behind.closes d
+  if_deeper xs t (in_second front back h e w (in_other s middle m rest z v begun d)) =
+      under_else w.token w.behind.opened w.behind.inner w.behind.closed middle m rest
+      (head_split (codes "if") xs front back h e w ∙ ap (λ ys. w.token ∷ w.behind.opened ∷ (w.behind.inner ++ (w.behind.closed ∷ ys))) z)
+      (keyword_token (codes "if") w.token h.0 w.passes) w.behind.opens w.behind.inside w.behind.closes v (has_keyword (codes "else") m begun) d
+
+  while_deeper : (xs : List Token) (t : Token) → WhileDeep xs t → Excess xs t
+  while_deeper xs t (in_first d) = in_expression (record {
+    front = d.token ∷ d.deep.opened ∷ []; inner = d.deep.inner; split = d.split ∙ ap (λ ys. d.token ∷ ys) d.deep.split;
+    opens = in_while_test d.token d.deep.opened refl (keyword_token (codes "while") d.token d.value d.passes) d.deep.opens; excess = d.deep.deep;
+  })
+  while_deeper xs t (in_second front back h e w d) =
+      under_while w.token w.behind.opened w.behind.inner w.behind.closed back (head_split (codes "while") xs front back h e w) (keyword_token (codes "while") w.token h.0 w.passes) w.behind.opens w.behind.inside w.behind.closes d
+
+  for_parts_deeper : (xs rest : List Token) (word opened : Token) (t : Token) → xs ≡ word ∷ opened ∷ rest → IsKeyword (codes "for") word → IsOpen opened → ForPartsDeep rest t → Excess xs t
+  for_parts_deeper xs rest word opened t e k o (in_first (one_deep x)) = in_expression (record {
+    front = word ∷ opened ∷ x.front; inner = x.inner; split = e ∙ ap (λ ys. word ∷ opened ∷ ys) x.split; opens = in_for_declaration word opened x.front refl k o x.opens; excess = x.excess;
+  })
+  for_parts_deeper xs rest word opened t e k o (in_first (other_deep (one_deep x))) = in_expression (record {
+    front = word ∷ opened ∷ x.front; inner = x.inner; split = e ∙ ap (λ ys. word ∷ opened ∷ ys) x.split; opens = in_for_first word opened x.front refl k o x.opens; excess = x.excess;
+  })
+  for_parts_deeper xs rest word opened t e k o (in_first (other_deep (other_deep x))) = nowhere rest t x
+  for_parts_deeper xs rest word opened t e k o (in_second start back s b w d) = on d.deep where
+    m : IsSymbol (codes ";") d.token
+    m = symbol_token (codes ";") d.token d.value d.passes
+
+    on : ThenDeep (EitherDeep X Nowhere) MaybeE (λ v. HeadedDeep (symbol_at (codes ";")) (EitherDeep (IsExcessBehind OpensSimple X) Nowhere)) d.back t → Excess xs t
+    on (in_first (one_deep x)) = in_expression (record {
+      front = word ∷ opened ∷ (start ++ (d.token ∷ [])); inner = d.back;
+      split = e ∙ ap (λ ys. word ∷ opened ∷ ys) (b ∙ (ap (λ ys. start ++ ys) d.split ∙ sym (append_assoc start (d.token ∷ []) d.back)));
+      opens = in_for_test word opened start d.token refl k o (for_first start s w) m; excess = x;
+    })
+    on (in_first (other_deep x)) = nowhere d.back t x
+    on (in_second middle left test z v u) = last u.deep where
+      last : EitherDeep (IsExcessBehind OpensSimple X) Nowhere u.back t → Excess xs t
+      last (other_deep x) = nowhere u.back t x
+      last (one_deep x) = in_expression (record {
+        front = word ∷ opened ∷ (start ++ (d.token ∷ (middle ++ (u.token ∷ x.front)))); inner = x.inner;
+        split = e ∙ ap (λ ys. word ∷ opened ∷ ys) (b ∙ (ap (λ ys. start ++ ys) (d.split ∙ ap (λ ys. d.token ∷ ys) (z ∙ (ap (λ ys. middle ++ ys) (u.split ∙ ap (λ ys. u.token ∷ ys) x.split)
+            ∙ sym (append_assoc middle (u.token ∷ x.front) x.inner)))) ∙ sym (append_assoc start (d.token ∷ (middle ++ (u.token ∷ x.front))) x.inner)));
+        opens = in_for_last word opened start d.token middle u.token x.front refl k o (for_first start s w) m (maybe_whole middle test v) (symbol_token (codes ";") u.token u.value u.passes) x.opens; excess = x.excess;
+      })
+
+  for_deeper : (xs : List Token) (t : Token) → ForDeep xs t → Excess xs t
+  for_deeper xs t (in_first d) = for_parts_deeper xs d.deep.inner d.token d.deep.opened t (d.split ∙ ap (λ ys. d.token ∷ ys) d.deep.split) (keyword_token (codes "for") d.token d.value d.passes) d.deep.opens d.deep.deep
+  for_deeper xs t (in_second front back h e w d) = let p = parts_of front h w in
+      under_for p.t p.opened p.start p.first_mark p.middle p.second_mark p.end p.closed back (for_split xs front back h e p) p.is_for p.opens (for_first p.start h.1.0 p.starts) p.marks (maybe_whole p.middle h.1.1.0 p.tests) p.marks_again
+      (maybe_simple p.end h.1.1.1 p.ends) p.closes d
+
+  return_deeper : (xs : List Token) (t : Token) → ReturnDeep xs t → Excess xs t
+  return_deeper xs t d = on d.deep where
+    on : EitherDeep X Nowhere d.back t → Excess xs t
+    on (one_deep x) = in_expression (record { front = d.token ∷ []; inner = d.back; split = d.split; opens = in_return d.token refl (keyword_token (codes "return") d.token d.value d.passes); excess = x })
+    on (other_deep x) = nowhere d.back t x
+
+  arguments_more : (xs : List Token) (values : List Expr) (a : Expr) (front : List Token) (comma : Token) → IsArgumentList xs values → IsComma comma → IsWhole front a → IsArgumentList (xs ++ (comma ∷ front)) (values ++ a ∷ [])
+  arguments_more xs [] a front comma w c v = elim w [ ]
+  arguments_more xs (b ∷ []) a front comma (last_argument w) c v = next_argument xs comma front refl c w (last_argument v)
+  arguments_more xs (b ∷ more) a front comma (next_argument one m rest e d w l) c v =
+      next_argument one m (rest ++ (comma ∷ front)) (ap (λ ys. ys ++ (comma ∷ front)) e ∙ append_assoc one (m ∷ rest) (comma ∷ front)) d w (arguments_more rest more a front comma l c v)
+
+  -- a list of values is printed, and then a comma
+  printed_more : (xs ys : List Token) (values : List Expr) (a : Expr) (front : List Token) (comma : Token) → IsPrinted xs values → xs ++ (comma ∷ front) ≡ ys → IsComma comma → IsWhole front a → IsPrinted ys (values ++ a ∷ [])
+  printed_more xs ys [] a front comma (nothing_printed z) e c w = values_printed comma front (sym e ∙ ap (λ zs. zs ++ (comma ∷ front)) z) c (last_argument w)
+  printed_more xs ys values a front comma (values_printed m back z d l) e c w =
+      values_printed m (back ++ (comma ∷ front)) (sym e ∙ ap (λ zs. zs ++ (comma ∷ front)) z) d (arguments_more back values a front comma l c w)
+
+  printed_place : (xs before rest : List Token) (values : List Expr) (word opened string : Token) (bytes : List ℕ) (t : Token) → xs ≡ word ∷ opened ∷ string ∷ (before ++ rest) → IsKeyword (codes "printf") word → IsOpen opened
+      → string.what ≡ kinds.Text bytes → IsPrinted before values → FollowDeep IsWhole X rest t → Excess xs t
+  printed_place xs before rest values word opened string bytes t e k o b w (here m front z c x) = in_expression (record {
+    front = word ∷ opened ∷ string ∷ (before ++ (m ∷ [])); inner = front;
+    split = e ∙ ap (λ ys. word ∷ opened ∷ string ∷ ys) (ap (λ ys. before ++ ys) z ∙ sym (append_assoc before (m ∷ []) front));
+    opens = in_print word opened string bytes before m refl k o b w c; excess = x;
+  })
+  printed_place xs before rest values word opened string bytes t e k o b w (there a m front back z c v d) =
+      printed_place xs (before ++ (m ∷ front)) back (values ++ a ∷ []) word opened string bytes t
+      (e ∙ ap (λ ys. word ∷ opened ∷ string ∷ ys) (ap (λ ys. before ++ ys) z ∙ sym (append_assoc before (m ∷ front) back))) k o b (printed_more before (before ++ (m ∷ front)) values a front m w refl c v) d
+
+  print_deeper : (xs : List Token) (t : Token) → PrintDeep xs t → Excess xs t
+  print_deeper xs t d = on d.deep.deep.deep where
+    string : HeadedDeep text_at PrintedDeep d.deep.inner t
+    string = d.deep.deep
+
+    on : PrintedDeep string.back t → Excess xs t
+    on (in_first f) = printed_place xs [] string.back [] d.token d.deep.opened string.token string.value t (d.split ∙ ap (λ ys. d.token ∷ ys) (d.deep.split ∙ ap (λ ys. d.deep.opened ∷ ys) string.split))
+        (keyword_token (codes "printf") d.token d.value d.passes) d.deep.opens (text_is string.token.what string.value string.passes) (nothing_printed refl) f
+    on (in_second front back values e w h) = nowhere h.back t h.deep
+
+  jump_deeper : (word : List ℕ) (xs : List Token) (t : Token) → JumpDeep word xs t → Excess xs t
+  jump_deeper word xs t d = nowhere d.back t d.deep
+
+  directed_deeper : (xs front back : List Token) (d : Directive) (line : ℕ) (t : Token) → xs ≡ front ++ back → LinedPragma front (d, line) → DirectedDeep (d, line) back t → Excess xs t
+  directed_deeper xs front back (directive.Task m) line t e w x = under_task front back e w.is x
+  directed_deeper xs front back (directive.TaskWait sections) line t e w x = nowhere back t x
+  directed_deeper xs front back (directive.Release clauses) line t e w x = nowhere back t x
+
+  pragma_deeper : (xs : List Token) (t : Token) → PragmaDeep xs t → Excess xs t
+  pragma_deeper xs t (in_first x) = in_expression (record { front = x.front; inner = x.inner; split = x.split; opens = in_pragma x.opens; excess = x.excess })
+  pragma_deeper xs t (in_second front back d e w x) = directed_deeper xs front back d.0 d.1 t e w x
+
+  all_deeper : (xs : List Token) (t : Token) → AllDeep xs t → Excess xs t
+  all_deeper xs t (one_deep d) = IsStatementExcess.in_block d.token d.back d.split (symbol_token (codes "{") d.token d.value d.passes) d.deep
+  all_deeper xs t (other_deep (one_deep d)) = nowhere xs t d
+  all_deeper xs t (other_deep (other_deep (one_deep d))) = simple_deeper xs t d
+  all_deeper xs t (other_deep (other_deep (other_deep (one_deep d)))) = if_deeper xs t d
+  all_deeper xs t (other_deep (other_deep (other_deep (other_deep (one_deep d))))) = while_deeper xs t d
+  all_deeper xs t (other_deep (other_deep (other_deep (other_deep (other_deep (one_deep d)))))) = for_deeper xs t d
+  all_deeper xs t (other_deep (other_deep (other_deep (other_deep (other_deep (other_deep (one_deep d))))))) = return_deeper xs t d
+  all_deeper xs t (other_deep (other_deep (other_deep (other_deep (other_deep (other_deep (other_deep (one_deep d)))))))) = jump_deeper (codes "break") xs t d
+  all_deeper xs t (other_deep (other_deep (other_deep (other_deep (other_deep (other_deep (other_deep (other_deep (one_deep d))))))))) = jump_deeper (codes "continue") xs t d
+  all_deeper xs t (other_deep (other_deep (other_deep (other_deep (other_deep (other_deep (other_deep (other_deep (other_deep (one_deep d)))))))))) = print_deeper xs t d
+  all_deeper xs t (other_deep (other_deep (other_deep (other_deep (other_deep (other_deep (other_deep (other_deep (other_deep (other_deep d)))))))))) = pragma_deeper xs t d
+
+  -- a limit of the grammar is one at which reading stops
+  in_head : (s : List ℕ) (xs before inner : List Token) (w opened : Token) (t : Token) → xs ≡ before ++ inner → before ≡ w ∷ opened ∷ [] → IsKeyword s w → IsOpen opened → X inner t → HeadDeep s xs t
+  in_head s xs before inner w opened t e b k o x = record {
+    token = w; back = opened ∷ inner; value = w.line; split = e ∙ ap (λ ys. ys ++ inner) b; passes = keyword_value s w k;
+    deep = record { opened = opened; inner = inner; split = refl; opens = o; deep = x };
+  }
+
+  in_for_parts : (xs before inner rest : List Token) (w opened : Token) (t : Token) → xs ≡ before ++ inner → before ≡ w ∷ opened ∷ rest → IsKeyword (codes "for") w → IsOpen opened → ForPartsDeep (rest ++ inner) t → AllDeep xs t
+  in_for_parts xs before inner rest w opened t e b k o d = other_deep (other_deep (other_deep (other_deep (other_deep (one_deep (in_first (record {
+    token = w; back = opened ∷ (rest ++ inner); value = w.line; split = e ∙ ap (λ ys. ys ++ inner) b; passes = keyword_value (codes "for") w k;
+    deep = record { opened = opened; inner = rest ++ inner; split = refl; opens = o; deep = d };
+  })))))))
+
+  list_place : (m : Token) (xs : List Token) (values : List Expr) (comma : Token) (inner : List Token) (t : Token) → IsComma m → IsArgumentList xs values → IsComma comma → X inner t → FollowDeep IsWhole X (m ∷ (xs ++ (comma ∷ inner))) t
+  list_place m xs [] comma inner t d w c x = elim w [ ]
+  list_place m xs (a ∷ []) comma inner t d (last_argument w) c x = there a m xs (comma ∷ inner) refl d w (here comma inner refl c x)
+  list_place m xs (a ∷ more) comma inner t d (next_argument one k rest e l w v) c x =
+      there a m one (k ∷ (rest ++ (comma ∷ inner))) (ap (λ ys. m ∷ (ys ++ (comma ∷ inner))) e ∙ ap (λ ys. m ∷ ys) (append_assoc one (k ∷ rest) (comma ∷ inner))) d w (list_place k rest more comma inner t l v c x)
+
+  printed_at : (xs : List Token) (values : List Expr) (comma : Token) (inner : List Token) (t : Token) → IsPrinted xs values → IsComma comma → X inner t → FollowDeep IsWhole X (xs ++ (comma ∷ inner)) t
+  printed_at xs [] comma inner t (nothing_printed z) c x = here comma inner (ap (λ ys. ys ++ (comma ∷ inner)) z) c x
+  printed_at xs values comma inner t (values_printed m back z d w) c x = subst (λ ys. FollowDeep IsWhole X (ys ++ (comma ∷ inner)) t) (sym z) (list_place m back values comma inner t d w c x)
+
+  opens_upper : (xs before inner : List Token) (t : Token) → xs ≡ before ++ inner → X inner t → OpensStatement before → AllDeep xs t
+  opens_upper xs before inner t e x (OpensStatement.in_simple o) = other_deep (other_deep (one_deep (record { front = before; inner = inner; split = e; opens = o; excess = x })))
+  opens_upper xs before inner t e x (in_if_test w opened b k o) = other_deep (other_deep (other_deep (one_deep (in_first (in_head (codes "if") xs before inner w opened t e b k o x)))))
+  opens_upper xs before inner t e x (in_while_test w opened b k o) = other_deep (other_deep (other_deep (other_deep (one_deep (in_first (in_head (codes "while") xs before inner w opened t e b k o x))))))
+  opens_upper xs before inner t e x (in_for_declaration w opened front b k o d) =
+      in_for_parts xs before inner front w opened t e b k o (in_first (one_deep (record { front = front; inner = inner; split = refl; opens = d; excess = x })))
+  opens_upper xs before inner t e x (in_for_first w opened front b k o d) =
+      in_for_parts xs before inner front w opened t e b k o (in_first (other_deep (one_deep (record { front = front; inner = inner; split = refl; opens = d; excess = x }))))
+  opens_upper xs before inner t e x (in_for_test {first = f} w opened start m b k o a c) =
+      in_for_parts xs before inner (start ++ (m ∷ [])) w opened t e b k o
+      (in_second start (m ∷ inner) f (append_assoc start (m ∷ []) inner) (first_for start f a) (record { token = m; back = inner; value = m.line; split = refl; passes = symbol_value (codes ";") m c; deep = in_first (one_deep x) }))
+  opens_upper xs before inner t e x (in_for_last {first = f} {test = test} w opened start m middle other front b k o a c v d l) =
+      in_for_parts xs before inner (start ++ (m ∷ (middle ++ (other ∷ front)))) w opened t e b k o
+      (in_second start (m ∷ (middle ++ (other ∷ (front ++ inner)))) f
+      (append_assoc start (m ∷ (middle ++ (other ∷ front))) inner ∙ ap (λ ys. start ++ (m ∷ ys)) (append_assoc middle (other ∷ front) inner)) (first_for start f a)
+      (record {
+        token = m; back = middle ++ (other ∷ (front ++ inner)); value = m.line; split = refl; passes = symbol_value (codes ";") m c;
+        deep = in_second middle (other ∷ (front ++ inner)) test refl (whole_maybe middle test v) (record {
+          token = other; back = front ++ inner; value = other.line; split = refl; passes = symbol_value (codes ";") other d;
+          deep = one_deep (record { front = front; inner = inner; split = refl; opens = l; excess = x });
+        });
+      }))
+  opens_upper xs before inner t e x (in_return w b k) =
+      other_deep (other_deep (other_deep (other_deep (other_deep (other_deep (one_deep (record { token = w; back = inner; value = w.line; split = e ∙ ap (λ ys. ys ++ inner) b; passes = keyword_value (codes "return") w k; deep = one_deep x })))))))
+  opens_upper xs before inner t e x (in_print {values = values} w opened string bytes printed comma b k o s p c) =
+      other_deep (other_deep (other_deep (other_deep (other_deep (other_deep (other_deep (other_deep (other_deep (one_deep (record {
+        token = w; back = opened ∷ string ∷ ((printed ++ (comma ∷ [])) ++ inner); value = w.line; split = e ∙ ap (λ ys. ys ++ inner) b; passes = keyword_value (codes "printf") w k;
+        deep = record {
+          opened = opened; inner = string ∷ ((printed ++ (comma ∷ [])) ++ inner); split = refl; opens = o;
+          deep = record {
+            token = string; back = (printed ++ (comma ∷ [])) ++ inner; value = bytes; split = refl; passes = text_value string bytes s;
+            deep = in_first (subst (λ ys. FollowDeep IsWhole X ys t) (sym (append_assoc printed (comma ∷ []) inner)) (printed_at printed values comma inner t p c x));
+          };
+        };
+      }))))))))))
+  opens_upper xs before inner t e x (in_pragma o) =
+      other_deep (other_deep (other_deep (other_deep (other_deep (other_deep (other_deep (other_deep (other_deep (other_deep (in_first (record { front = before; inner = inner; split = e; opens = o; excess = x })))))))))))
+
+  all_upper : (xs : List Token) (t : Token) → Excess xs t → AllDeep xs t
+  all_upper xs t (in_expression x) = opens_upper xs x.front x.inner t x.split x.excess x.opens
+  all_upper xs t (IsStatementExcess.in_block opened front e b d) = one_deep (record { token = opened; back = front; value = opened.line; split = e; passes = symbol_value (codes "{") opened b; deep = d })
+  all_upper xs t (under_if {test = test} w opened inner closed front e k o v c d) =
+      other_deep (other_deep (other_deep (one_deep (in_second (w ∷ opened ∷ (inner ++ (closed ∷ []))) front (w.line, test) (split_of_head xs w opened inner closed front e) (head_of (codes "if") w opened inner closed test k o c v) (in_one d)))))
+  all_upper xs t (under_else {test = test} {s = s} w opened inner closed middle other front e k o v c u l d) =
+      other_deep (other_deep (other_deep (one_deep (in_second (w ∷ opened ∷ (inner ++ (closed ∷ []))) (middle ++ (other ∷ front)) (w.line, test) (split_of_head xs w opened inner closed (middle ++ (other ∷ front)) e)
+      (head_of (codes "if") w opened inner closed test k o c v) (in_other s middle other front refl u (is_otherwise other l) d)))))
+  all_upper xs t (under_while {test = test} w opened inner closed front e k o v c d) =
+      other_deep (other_deep (other_deep (other_deep (one_deep (in_second (w ∷ opened ∷ (inner ++ (closed ∷ []))) front (w.line, test) (split_of_head xs w opened inner closed front e) (head_of (codes "while") w opened inner closed test k o c v) d)))))
+  all_upper xs t (under_for {first = f} {test = test} {last = l} w opened start m middle other end closed front e k o a c v z u b d) =
+      other_deep (other_deep (other_deep (other_deep (other_deep (one_deep (in_second (w ∷ opened ∷ (start ++ (m ∷ (middle ++ (other ∷ (end ++ (closed ∷ []))))))) front (w.line, (f, (test, l)))
+      (split_of_for xs w opened start m middle other end closed front e) (for_head_of f test l w opened start m middle other end closed k o c z b a v u) d))))))
+  all_upper xs t (under_task {mark = m} front back e p d) =
+      other_deep (other_deep (other_deep (other_deep (other_deep (other_deep (other_deep (other_deep (other_deep (other_deep (in_second front back (directive.Task m, first_line front) e (record { is = p; at = refl }) d))))))))))
+
+  -- a statement is read exactly
+  pub statement_ending : Ending otherwise (read_statement expression pragma items sub) IsAnyStmt (IsStmt false) (IsStatementExcess X (suc n))
+  statement_ending = ending_as otherwise into_all (λ xs s w. out_all w.ends_open xs s w.is) into_closed out_closed all_deeper all_upper (forms.all_forms part first directed first_directed inside brace_ends below first_below).ending
+
+  pub begun_statement : Begun (read_statement expression pragma items sub) begins_statement
+  begun_statement = (forms.all_forms part first directed first_directed inside brace_ends below first_below).first
