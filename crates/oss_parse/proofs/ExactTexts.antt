@@ -123,3 +123,14 @@ pub no_deep_end : (ts : List Token) → read_text ts ≡ Err (Deep []) → ⊥
 no_deep_end ts e = let w = sunk exact_programs ts [] (deep_first ts [] (read_program ts) refl (sym (text_told ts) ∙ e)) in no_token w.token w.behind w.at where
   no_token : (t : Token) (xs : List Token) → [] ≡ t ∷ xs → ⊥
   no_token t xs e = absurd (cc)
+
+-- the tokens before those at which reading stops
+pub record StopFront (ts place : List Token) : Type 0 where
+  pub front : List Token
+  pub split : ts ≡ front ++ place
+
+pub stop_front : (ts place : List Token) → read_text ts ≡ Err (Syntax place) → StopFront ts place
+stop_front ts place e = on (stop_first ts place (read_program ts) refl (sym (text_told ts) ∙ e)) where
+  on : StopsAt ts place → StopFront ts place
+  on (left_over found t more at told) = let w = taken exact_programs ts found (t ∷ more) told in record { front = w.front; split = w.split ∙ ap (λ ys. w.front ++ ys) (sym at) }
+  on (stopped_at told) = let w = stopped exact_programs ts place told in record { front = w.front; split = w.split }

@@ -13,3 +13,4 @@ pub mod ExactStatements
 pub mod ExactTexts
 pub mod OneProgram
 pub mod StatementTexts
+pub mod ParsedLemmas

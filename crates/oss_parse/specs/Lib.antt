@@ -1,3 +1,4 @@
+pub mod Parsed
 pub mod ProgramReading
 pub mod SimpleReading
 pub mod StatementReading
