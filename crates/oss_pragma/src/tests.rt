@@ -130,6 +130,8 @@ fn expressions_have_limits(rt: HostRuntime) -> Result<(), Fail> {
     for (before, part, count, behind, want) in [
         ("", "( ", 63, "1", Some((RefusedKind::Syntax, 0, 64))),
         ("", "( ", 64, "\n1", Some((RefusedKind::TooLarge, 2, 0))),
+        ("", "( ", 64, "", Some((RefusedKind::Syntax, 0, 64))),
+        ("", "( ", 64, "\n(", Some((RefusedKind::TooLarge, 2, 0))),
         ("", "- ", 63, "1", None),
         ("", "- ", 64, "\n1", Some((RefusedKind::TooLarge, 2, 0))),
         ("", "- ", 64, "\n)", Some((RefusedKind::Syntax, 2, 64))),
@@ -156,6 +158,37 @@ fn expressions_have_limits(rt: HostRuntime) -> Result<(), Fail> {
             Err(refused) => Some((refused.kind, refused.line, refused.token)),
         };
         assert_eq!(rt; refused, want, "at {part}{count}{behind}");
+    }
+    Ok(())
+}
+
+#[test]
+fn expressions_end_where_no_more_goes_on(rt: HostRuntime) -> Result<(), Fail> {
+    let alloc = rt.alloc();
+    for (text, want) in [
+        ("f ( )", Ok(3)),
+        ("f ( a , b ) ;", Ok(6)),
+        ("f ( a , )", Err((RefusedKind::Syntax, 1, 4))),
+        ("f ( , a )", Err((RefusedKind::Syntax, 1, 2))),
+        ("a [ 1 ] [ 2 ]", Ok(4)),
+        ("a [ ]", Err((RefusedKind::Syntax, 1, 2))),
+        ("( )", Err((RefusedKind::Syntax, 1, 1))),
+        ("- + ! ~ * & a", Ok(7)),
+        (
+            "a * b / c % d + e - f << g >> h < i <= j > k >= l == m",
+            Ok(25),
+        ),
+        ("a != b & c ^ d | e && f || g", Ok(13)),
+        ("a = b", Ok(1)),
+        ("a b", Ok(1)),
+        (")", Err((RefusedKind::Syntax, 1, 0))),
+        ("", Err((RefusedKind::Syntax, 0, 0))),
+    ] {
+        let told = match expression_of(&rt, alloc, text)? {
+            Ok((_, place)) => Ok(place),
+            Err(refused) => Err((refused.kind, refused.line, refused.token)),
+        };
+        assert_eq!(rt; told, want, "at {text}");
     }
     Ok(())
 }
@@ -282,6 +315,46 @@ fn pragmas_are_refused(rt: HostRuntime) -> Result<(), Fail> {
         ("# taskwait on ( ) $", Some((RefusedKind::BadPragma, 1, 4))),
         ("# release in ( x ) , out ( y ) inout ( z ) $", None),
         ("# release $", Some((RefusedKind::BadPragma, 1, 2))),
+        (
+            "# release , in ( x ) $",
+            Some((RefusedKind::BadPragma, 1, 2)),
+        ),
+        ("# wait $", Some((RefusedKind::BadPragma, 1, 1))),
+        ("# task in ( ) $", Some((RefusedKind::BadPragma, 1, 4))),
+        (
+            "# task in ( * * q ) $",
+            Some((RefusedKind::BadPragma, 1, 5)),
+        ),
+        (
+            "# task in ( a [ 1 ] [ 2 ] ) $",
+            Some((RefusedKind::BadPragma, 1, 8)),
+        ),
+        (
+            "# task in ( [ n ] p [ 0 ] ) $",
+            Some((RefusedKind::BadPragma, 1, 8)),
+        ),
+        (
+            "# task in ( a [ ; 1 ] ) $",
+            Some((RefusedKind::BadPragma, 1, 6)),
+        ),
+        (
+            "# task reduction ( * : x ) $",
+            Some((RefusedKind::BadPragma, 1, 4)),
+        ),
+        (
+            "# task reduction ( x ) $",
+            Some((RefusedKind::BadPragma, 1, 4)),
+        ),
+        ("# task wait ( ) $", Some((RefusedKind::BadPragma, 1, 3))),
+        ("# task label ( 1 ) $", Some((RefusedKind::BadPragma, 1, 4))),
+        (
+            "# task if ( 1 ) if ( 1 ) $",
+            Some((RefusedKind::BadPragma, 1, 6)),
+        ),
+        (
+            "# task in ( x ) taskfor $",
+            Some((RefusedKind::Unsupported, 1, 6)),
+        ),
         ("task $", Some((RefusedKind::Syntax, 1, 0))),
     ] {
         let refused = match pragma_of(&rt, alloc, text)? {
