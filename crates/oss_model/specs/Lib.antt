@@ -1,6 +1,7 @@
 pub mod Agreement
 pub mod Answers
 pub mod Bodies
+pub mod Broken
 pub mod Cells
 pub mod Claims
 pub mod Context
@@ -9,6 +10,7 @@ pub mod Expressions
 pub mod Forest
 pub mod Grammar
 pub mod History
+pub mod Kinds
 pub mod Levels
 pub mod Machine
 pub mod Matching
@@ -21,6 +23,7 @@ pub mod Readers
 pub mod Refusals
 pub mod Rights
 pub mod Scalars
+pub mod Scopes
 pub mod Sequence
 pub mod Stopping
 pub mod Termination

@@ -1,0 +1,8 @@
+//! The static rules of programs, and where each global lies.
+#![tactic(auto)]
+
+mod expressions;
+mod finding;
+mod globals;
+mod locals;
+mod operators;
