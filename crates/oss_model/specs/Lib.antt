@@ -11,6 +11,7 @@ pub mod Forest
 pub mod Grammar
 pub mod History
 pub mod Kinds
+pub mod Layout
 pub mod Levels
 pub mod Machine
 pub mod Matching
@@ -19,12 +20,15 @@ pub mod Moves
 pub mod OneToken
 pub mod Order
 pub mod Pragmas
+pub mod ProgramRules
 pub mod Readers
 pub mod Refusals
 pub mod Rights
 pub mod Scalars
 pub mod Scopes
+pub mod SectionRules
 pub mod Sequence
+pub mod StaticRules
 pub mod Stopping
 pub mod Termination
 pub mod Texts

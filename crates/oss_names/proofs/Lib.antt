@@ -1,2 +1,6 @@
 pub mod Firsts
 pub mod PlaceLemmas
+pub mod Parts
+pub mod EndLemmas
+pub mod Weights
+pub mod StatementLemmas

@@ -1,5 +1,5 @@
 ghost use Rattle.std.specs.Prelude.{◌≡◌, Option};
-ghost use Rattle.oss_model.specs.Broken.{broken, first, rank, insert};
+ghost use Rattle.oss_model.specs.Broken.{broken, first, rank, insert, where_so};
 ghost use Rattle.oss_model.specs.Kinds.{Findings, all_of, allows, number_kind, value_kind, same_number, refused_here, placed, wanted_by, number_findings};
 ghost use Rattle.oss_model.specs.Scopes.{or_else};
 ghost use Rattle.oss_names.specs.Seen.{seen, earlier as earlier_of};
@@ -26,6 +26,17 @@ pub fn refused(kind: RefusedKind, line: u32) -> Refused
         kind,
         line,
         token: 0,
+    }
+}
+
+/// A rule of this kind on this line, where it is broken.
+pub fn refused_if(is_broken: bool, kind: RefusedKind, line: u32) -> Option<Refused>
+    ensures { result ≡ first (where_so is_broken kind line) }
+{
+    if is_broken {
+        Some(refused(kind, line))
+    } else {
+        None
     }
 }
 

@@ -6,3 +6,6 @@ mod finding;
 mod globals;
 mod locals;
 mod operators;
+mod sections;
+mod simple;
+mod statements;
