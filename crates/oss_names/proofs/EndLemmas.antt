@@ -32,12 +32,12 @@ prefix-same [] = refl
 prefix-same (o ∷ old) = ap (λ xs. o ∷ xs) (prefix-same old)
 
 -- a refusal that tells of a part tells of the part and of what stands behind it
-tells-before : (V U : Type 0) (xs ys : List Refused) (e : Refusal) → Tells {U = V} xs (Err e) → Tells {U = U} (xs ++ ys) (Err e)
+pub tells-before : (V U : Type 0) (xs ys : List Refused) (e : Refusal) → Tells {U = V} xs (Err e) → Tells {U = U} (xs ++ ys) (Err e)
 tells-before V U xs ys (refusal.Refused r) told = first-append xs ys ∙ ap (λ o. or_else o (first ys)) told
 tells-before V U xs ys (refusal.Memory e) told = tt
 
 module _ {U : Type 0} where
-  tells-behind : (xs ys : List Refused) (r : Result U Refusal) → first xs ≡ None → Tells ys r → Tells (xs ++ ys) r
+  pub tells-behind : (xs ys : List Refused) (r : Result U Refusal) → first xs ≡ None → Tells ys r → Tells (xs ++ ys) r
   tells-behind xs ys (Ok u) none told = first-append xs ys ∙ ap (λ o. or_else o (first ys)) none ∙ told
   tells-behind xs ys (Err (refusal.Refused r)) none told = first-append xs ys ∙ ap (λ o. or_else o (first ys)) none ∙ told
   tells-behind xs ys (Err (refusal.Memory e)) none told = tt

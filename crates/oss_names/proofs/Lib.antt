@@ -4,3 +4,5 @@ pub mod Parts
 pub mod EndLemmas
 pub mod Weights
 pub mod StatementLemmas
+pub mod ProgramLemmas
+pub mod LayoutLemmas

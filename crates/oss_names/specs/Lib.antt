@@ -1,3 +1,4 @@
 pub mod Seen
 pub mod Tables
 pub mod Ends
+pub mod Resolved

@@ -4,8 +4,12 @@
 mod expressions;
 mod finding;
 mod globals;
+mod known;
 mod locals;
 mod operators;
+mod program;
 mod sections;
 mod simple;
 mod statements;
+
+pub use known::{Known, resolve};
