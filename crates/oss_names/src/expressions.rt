@@ -49,7 +49,14 @@ pub fn expression(globals: &Globals<'_>, locals: &Locals<'_>, expr: &Expr) -> Fi
             binary(line, *op, left, right)
         }
         ExprKind::Call(word, values) => {
-            call(globals, locals, word.as_slice(), line, false, values.as_slice())
+            call(
+                globals,
+                locals,
+                word.as_slice(),
+                line,
+                false,
+                values.as_slice(),
+            )
         }
     }
 }

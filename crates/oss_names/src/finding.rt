@@ -232,7 +232,11 @@ pub fn at_place(wanted: Wanted, found: Finding) -> Finding
 pub fn number(unsigned: bool, line: u32) -> Finding
     ensures { result ≡ seen (number_findings unsigned line) }
 {
-    let kind = if unsigned { ValueKind::Unsigned } else { ValueKind::Signed };
+    let kind = if unsigned {
+        ValueKind::Unsigned
+    } else {
+        ValueKind::Signed
+    };
     Finding {
         line,
         at_first: None,

@@ -15,7 +15,6 @@ pub struct Locals<'p> {
 impl<'p> Model for Locals<'p> {
     ghost use Rattle.std.specs.Prelude.{List, map};
     ghost use Rattle.oss_syntax.specs.declared.tree.program.Local.{Local};
-
     ghost use Rattle.std.specs.Coded.{coded_list};
     ghost use Rattle.oss_syntax.specs.contracts.tree.program.Local as local;
 

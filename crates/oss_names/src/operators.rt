@@ -4,7 +4,9 @@ ghost use Rattle.oss_model.specs.Kinds.{Findings, address_kind, binary_findings,
 ghost use Rattle.oss_model.specs.Broken.{first};
 ghost use Rattle.oss_names.specs.Seen.{seen};
 
-use crate::finding::{Finding, at_place, first_of, before, kind_of, kind_of_number, refused, wrong};
+use crate::finding::{
+    Finding, at_place, before, first_of, kind_of, kind_of_number, refused, wrong,
+};
 use oss_model::{Named, Object, Refused, RefusedKind, ValueKind, Wanted};
 use oss_syntax::{BinOp, UnOp};
 

@@ -198,11 +198,7 @@ fn both_ends(
 }
 
 /// The first rule that a number breaks that may be left out.
-pub fn optional(
-    globals: &Globals<'_>,
-    locals: &Locals<'_>,
-    expr: &Option<Expr>,
-) -> Option<Refused>
+pub fn optional(globals: &Globals<'_>, locals: &Locals<'_>, expr: &Option<Expr>) -> Option<Refused>
     ensures { result ≡ first (optional_rules globals.now locals.now expr.now) }
 {
     match expr {

@@ -24,7 +24,11 @@ pub fn assignment(
 {
     let target = expression(globals, locals, target);
     let value = expression(globals, locals, value);
-    store(wanted_by_target(op, target.kind, target.object), target, value)
+    store(
+        wanted_by_target(op, target.kind, target.object),
+        target,
+        value,
+    )
 }
 
 /// The first rule that a target and what is stored in it break.

@@ -147,9 +147,7 @@ fn statement<'p>(
             locals.leave(count);
             ends
         }
-        StmtKind::Return(value) => {
-            told(return_statement(globals, locals, around, line, value))
-        }
+        StmtKind::Return(value) => { told(return_statement(globals, locals, around, line, value)) }
         StmtKind::Break => told(refused_if(!around.in_loop, RefusedKind::BadJump, line)),
         StmtKind::Continue => told(refused_if(!around.in_loop, RefusedKind::BadJump, line)),
         StmtKind::Task(mark, body) => task(globals, around, mark, body, locals),

@@ -50,9 +50,9 @@ loop-item-preserved c =
           let bounds : c.match-item.bounds.items ≡ old ++ n ∷ [] = ap (λ b. b.items) w.bounds-is ∙ w.in-Ok-note.ensures in
           record {
             same = ap (λ k. first (items_rules xs (p + 1) k rest)) more
-            ∙ part-whole whole left (first (global_rules xs p n g)) (first (items_rules xs (p + 1) (n + size) rest)) c.loop-item.invariant.same (global-left xs xs p n i item within at g w.in-Global.is) none;
+                ∙ part-whole whole left (first (global_rules xs p n g)) (first (items_rules xs (p + 1) (n + size) rest)) c.loop-item.invariant.same (global-left xs xs p n i item within at g w.in-Global.is) none;
             lie = ap (λ k. c.match-item.bounds.items ++ bounds_of k (sizes_of rest)) more
-            ∙ bounds-more old c.match-item.bounds.items n size (sizes_of rest) (bounds_of 0 (sizes_of xs)) bounds (ap (λ ss. old ++ bounds_of n ss) (sym (sizes-global xs xs p n i item within at g w.in-Global.is)) ∙ c.loop-item.invariant.lie);
+                ∙ bounds-more old c.match-item.bounds.items n size (sizes_of rest) (bounds_of 0 (sizes_of xs)) bounds (ap (λ ss. old ++ bounds_of n ss) (sym (sizes-global xs xs p n i item within at g w.in-Global.is)) ∙ c.loop-item.invariant.lie);
             counted = ap (λ k. k + 1) c.loop-item.invariant.counted;
             few = let small = (global-cells xs p n g none).1 in omega (arith, small, more);
           }
@@ -62,10 +62,10 @@ loop-item-preserved c =
           let none : first (function_rules xs p f) ≡ None = ap (λ all. first (function_rules all p f)) (sym c.in-Ok.ensures) ∙ w.in-Ok-check_function.ensures in
           record {
             same = ap (λ k. first (items_rules xs (p + 1) k rest)) w.cells-is
-            ∙ part-whole whole left (first (function_rules xs p f)) (first (items_rules xs (p + 1) n rest)) c.loop-item.invariant.same
-            (ap first (function-left xs xs p n i item within at f w.in-Function.is) ∙ first-append (function_rules xs p f) (items_rules xs (p + 1) n rest)) none;
+                ∙ part-whole whole left (first (function_rules xs p f)) (first (items_rules xs (p + 1) n rest)) c.loop-item.invariant.same
+                (ap first (function-left xs xs p n i item within at f w.in-Function.is) ∙ first-append (function_rules xs p f) (items_rules xs (p + 1) n rest)) none;
             lie = ap (λ k. c.match-item.bounds.items ++ bounds_of k (sizes_of rest)) w.cells-is ∙ ap (λ b. b.items ++ bounds_of n (sizes_of rest)) w.bounds-is
-            ∙ ap (λ ss. old ++ bounds_of n ss) (sym (sizes-function xs xs p n i item within at f w.in-Function.is)) ∙ c.loop-item.invariant.lie;
+                ∙ ap (λ ss. old ++ bounds_of n ss) (sym (sizes-function xs xs p n i item within at f w.in-Function.is)) ∙ c.loop-item.invariant.lie;
             counted = ap (λ k. k + 1) c.loop-item.invariant.counted;
             few = let small = c.loop-item.invariant.few in omega (arith, small, w.cells-is);
           }

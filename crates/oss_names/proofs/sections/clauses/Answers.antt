@@ -28,7 +28,7 @@ loop-one-preserved c =
     let size = c.sections_of-count.ensures in
     record {
       same = ap (λ k. first (clauses_rules all locals (n + k) (drop (i + 1) cs))) size
-      ∙ part-whole (first (clauses_rules all locals 0 cs)) (first (clauses_rules all locals n (drop i cs))) (first (clause_rules all locals n one)) (first (clauses_rules all locals (n + length (sections_in one)) (drop (i + 1) cs)))
-      c.loop-one.invariant.same (clauses-left all locals n cs i one c.loop-one-test.true c.one-item.is) none;
+          ∙ part-whole (first (clauses_rules all locals 0 cs)) (first (clauses_rules all locals n (drop i cs))) (first (clause_rules all locals n one)) (first (clauses_rules all locals (n + length (sections_in one)) (drop (i + 1) cs)))
+          c.loop-one.invariant.same (clauses-left all locals n cs i one c.loop-one-test.true c.one-item.is) none;
       few = let small = c.clause.ensures.few c.in-None.is in omega (arith, small, size);
     }

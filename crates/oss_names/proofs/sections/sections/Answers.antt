@@ -29,7 +29,7 @@ loop-one-preserved c =
     let none : first (section_rules all locals fold n s) ≡ None = sym c.section.ensures ∙ c.in-None.is in
     record {
       same = part-whole (first (sections_rules all locals fold c.args.before ss)) (first (sections_rules all locals fold n (drop i ss))) (first (section_rules all locals fold n s)) (first (sections_rules all locals fold (n + 1) (drop (i + 1) ss)))
-      c.loop-one.invariant.same (sections-left all locals fold n ss i s c.loop-one-test.true c.one-item.is) none;
+          c.loop-one.invariant.same (sections-left all locals fold n ss i s c.loop-one-test.true c.one-item.is) none;
       counted = omega arith;
       few = room all locals fold n s c.loop-one.invariant.few none;
     }
