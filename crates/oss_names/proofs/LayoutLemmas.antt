@@ -1,5 +1,5 @@
 -- Where globals lie: bounds are sums of sizes, they rise, and none passes the limit.
-use Rattle.std.proofs.Common.{◌≡◌, ℕ, zero, suc, ◌+◌, ◌-◌, ◌<◌, ◌≤◌, add-one, not, List, [], ◌∷◌, length, take, get_or, None, refl, sym, ap, ◌∙◌, arith}
+use Rattle.std.proofs.Common.{◌≡◌, ℕ, zero, suc, ◌+◌, ◌-◌, ◌<◌, ◌≤◌, add-one, not, List, [], ◌∷◌, length, take, get_or, None, refl, ap, ◌∙◌, arith}
 use Rattle.std.proofs.Math.Seq.{take-length}
 use Rattle.std.specs.List.{fold, sum}
 use Rattle.oss_syntax.specs.declared.tree.program.Item.{Item}

@@ -1,5 +1,5 @@
 -- The rules of each kind of statement.
-use Rattle.std.proofs.Common.{◌≡◌, ℕ, List, [], Bool, true, map, not, Option, Some, None, option_map, rules}
+use Rattle.std.proofs.Common.{◌≡◌, ℕ, List, [], true, map, not, Option, option_map, rules}
 use Rattle.oss_syntax.specs.declared.tree.expr.BinOp.{BinOp}
 use Rattle.oss_syntax.specs.declared.tree.expr.Expr.{Expr}
 use Rattle.oss_syntax.specs.declared.tree.pragma.Clause.{Clause}

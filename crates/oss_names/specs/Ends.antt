@@ -1,6 +1,6 @@
 -- How a check of a part of a text ends, whose locals before it were `old`: the part breaks no rule, and the locals behind it are in
 -- scope, the old ones first; or the first rule that it breaks is told. Want of memory says nothing.
-use Rattle.std.specs.Prelude.{◌≡◌, ℕ, List, [], ◌∷◌, length, take, Option, Some, None, Result, Ok, Err}
+use Rattle.std.specs.Prelude.{◌≡◌, List, length, take, Some, None, Result, Ok, Err}
 use Rattle.oss_syntax.specs.declared.tree.program.Local.{Local}
 use Rattle.oss_model.specs.declared.refusal.Refusal.{Refusal}
 use Rattle.oss_model.specs.declared.refusal.Refusal.TheVariants as refusal

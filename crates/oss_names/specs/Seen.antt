@@ -1,5 +1,5 @@
 -- What the checker keeps of broken rules: of each list its first.
-use Rattle.std.specs.Prelude.{◌≡◌, ℕ, nat_lt, if◌then◌else◌, List, [], ◌∷◌, Option, Some, None}
+use Rattle.std.specs.Prelude.{nat_lt, if◌then◌else◌, Option, Some, None}
 use Rattle.oss_model.specs.declared.refusal.Refused.{Refused}
 use Rattle.oss_model.specs.Broken.{first, rank}
 use Rattle.oss_model.specs.Kinds.{Findings}

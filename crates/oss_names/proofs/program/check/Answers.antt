@@ -1,7 +1,5 @@
 use Rattle.std.proofs.lemmas.Grind.{common_steps}
-use Rattle.std.proofs.Common.{◌≡◌, ◌+◌, ◌++◌, ◌∙◌, List, [], ◌∷◌, Some, None, Err, ap, arith, drop, subst, sym}
-use Rattle.oss_syntax.specs.declared.tree.program.Item.{Item}
-use Rattle.oss_syntax.specs.declared.tree.program.Program.{Program}
+use Rattle.std.proofs.Common.{◌≡◌, ◌+◌, ◌++◌, ◌∙◌, [], ◌∷◌, Some, None, Err, ap, arith, drop, subst, sym}
 use Rattle.oss_model.specs.Broken.{first}
 use Rattle.oss_model.specs.Layout.{cells_of, sizes_of}
 use Rattle.oss_model.specs.ProgramRules.{function_rules, global_rules, has_main, items_rules}

@@ -1,4 +1,4 @@
-use Rattle.std.proofs.Common.{◌≡◌, ◌+◌, ◌∙◌, None, ap, arith, drop, length, subst, sym}
+use Rattle.std.proofs.Common.{◌≡◌, ◌+◌, ◌∙◌, None, ap, arith, drop, length, sym}
 use Rattle.oss_model.specs.Broken.{first}
 use Rattle.oss_model.specs.SectionRules.{clause_rules, clauses_rules, sections_in}
 use Rattle.oss_names.proofs.Firsts.{part-broken, part-whole}

@@ -1,4 +1,4 @@
-use Rattle.std.proofs.Common.{◌≡◌, ◌+◌, ◌≤◌, drop}
+use Rattle.std.proofs.Common.{◌≡◌, ◌≤◌, drop}
 use Rattle.oss_model.specs.Broken.{first}
 use Rattle.oss_model.specs.SectionRules.{clauses_rules}
 use Rattle.oss_names.proofs.sections.clauses.Given as goal

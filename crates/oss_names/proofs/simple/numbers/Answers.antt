@@ -1,4 +1,4 @@
-use Rattle.std.proofs.Common.{◌≡◌, ◌+◌, ◌∙◌, drop, sym}
+use Rattle.std.proofs.Common.{◌+◌, ◌∙◌, drop, sym}
 use Rattle.oss_model.specs.declared.kinds.Wanted.TheVariants as wanted
 use Rattle.oss_model.specs.Broken.{first}
 use Rattle.oss_model.specs.Kinds.{value_rules}

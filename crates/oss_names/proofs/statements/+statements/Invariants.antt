@@ -1,4 +1,4 @@
-use Rattle.std.proofs.Common.{◌≡◌, ◌+◌, ◌*◌, List, drop}
+use Rattle.std.proofs.Common.{◌+◌, ◌*◌, List, drop}
 use Rattle.oss_names.proofs.Weights.{part_weight, weight, weights}
 use Rattle.std.specs.Prelude.{Result}
 use Rattle.oss_syntax.specs.declared.tree.program.Local.{Local}

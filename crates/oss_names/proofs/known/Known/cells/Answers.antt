@@ -1,4 +1,4 @@
-use Rattle.std.proofs.Common.{◌≡◌, ◌+◌, ◌-◌, ◌∙◌, ap, arith, get_or, length}
+use Rattle.std.proofs.Common.{◌≡◌, ◌-◌, ◌∙◌, ap, arith, get_or, length}
 use Rattle.oss_model.specs.Layout.{cells_in}
 use Rattle.oss_names.proofs.LayoutLemmas.{bounds-many, last-bound}
 use Rattle.oss_names.proofs.known.Known.cells.Goals as goal
