@@ -2,10 +2,12 @@ pub mod Agreement
 pub mod Answers
 pub mod Bodies
 pub mod Broken
+pub mod Built
 pub mod Cells
 pub mod Claims
 pub mod Context
 pub mod Depths
+pub mod ExpressionRules
 pub mod Expressions
 pub mod Forest
 pub mod Grammar
@@ -26,6 +28,7 @@ pub mod Refusals
 pub mod Rights
 pub mod Scalars
 pub mod Scopes
+pub mod SectionCells
 pub mod SectionRules
 pub mod Sequence
 pub mod StaticRules

@@ -23,7 +23,7 @@ use Rattle.oss_model.specs.declared.kinds.Wanted.TheVariants as wanted
 use Rattle.oss_model.specs.declared.refusal.Refused.{Refused}
 use Rattle.oss_model.specs.declared.refusal.RefusedKind.TheVariants as refused
 use Rattle.oss_model.specs.Broken.{where_so}
-use Rattle.oss_model.specs.Kinds.{value_rules}
+use Rattle.oss_model.specs.ExpressionRules.{value_rules}
 use Rattle.oss_model.specs.Scopes.{meaning}
 
 abbrev pub is_missing : Named → Bool

@@ -32,7 +32,8 @@ use Rattle.oss_model.specs.declared.kinds.Wanted.TheVariants as wanted
 use Rattle.oss_model.specs.declared.refusal.Refused.{Refused}
 use Rattle.oss_model.specs.declared.refusal.RefusedKind.TheVariants as refused
 use Rattle.oss_model.specs.Broken.{broken, first, where_so}
-use Rattle.oss_model.specs.Kinds.{Findings, all_of, call_findings, findings, placed, unless, value_rules, wanted_by}
+use Rattle.oss_model.specs.ExpressionRules.{call_findings, findings, value_rules}
+use Rattle.oss_model.specs.Kinds.{Findings, all_of, placed, unless, wanted_by}
 use Rattle.oss_model.specs.Layout.{cells_of}
 use Rattle.oss_model.specs.Scalars.{is_main}
 use Rattle.oss_model.specs.Scopes.{is_again, is_local_again}

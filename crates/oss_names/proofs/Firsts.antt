@@ -3,7 +3,8 @@ use Rattle.std.proofs.Common.{◌≡◌, ℕ, ◌+◌, ◌<◌, nat_lt, if◌the
 use Rattle.std.proofs.lemmas.List.{drop_more, take-map}
 use Rattle.oss_syntax.specs.declared.tree.expr.Expr.{Expr}
 use Rattle.oss_syntax.specs.declared.tree.program.Local.{Local}
-use Rattle.oss_model.specs.Kinds.{Findings, all_of, argument_rules, argument_wanted, parameters_behind, placed}
+use Rattle.oss_model.specs.ExpressionRules.{argument_rules, argument_wanted, parameters_behind}
+use Rattle.oss_model.specs.Kinds.{Findings, all_of, placed}
 use Rattle.oss_model.specs.declared.refusal.Refused.{Refused}
 use Rattle.oss_model.specs.Broken.{first, rank, insert}
 use Rattle.oss_model.specs.Scopes.{or_else}

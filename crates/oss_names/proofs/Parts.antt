@@ -12,7 +12,7 @@ use Rattle.oss_model.specs.declared.refusal.Refused.{Refused}
 use Rattle.oss_model.specs.declared.refusal.RefusedKind.{RefusedKind}
 use Rattle.oss_model.specs.declared.refusal.RefusedKind.TheVariants as refused
 use Rattle.oss_model.specs.Broken.{first, where_so}
-use Rattle.oss_model.specs.Kinds.{value_rules}
+use Rattle.oss_model.specs.ExpressionRules.{value_rules}
 use Rattle.oss_model.specs.Scopes.{meaning, or_else}
 use Rattle.oss_model.specs.SectionRules.{begins_with_base, clause_rules, clauses_rules, form_rules, is_missing, is_wrong_section, section_rules, sections_in, sections_rules}
 use Rattle.oss_model.specs.StaticRules.{numbers_rules}

@@ -12,7 +12,8 @@ use Rattle.oss_syntax.specs.declared.tree.stmt.StmtKind.TheFolds.{the_lemmas as 
 use Rattle.oss_model.specs.declared.kinds.Around.{Around}
 use Rattle.oss_model.specs.declared.refusal.RefusedKind.TheVariants as refused
 use Rattle.oss_model.specs.Broken.{where_so}
-use Rattle.oss_model.specs.Kinds.{all_of, call_findings, findings}
+use Rattle.oss_model.specs.ExpressionRules.{call_findings, findings}
+use Rattle.oss_model.specs.Kinds.{all_of}
 use Rattle.oss_model.specs.SectionRules.{clauses_rules}
 use Rattle.oss_model.specs.StaticRules.{assign_rules, declare_all, for_rules, inner, judged, print_rules, return_rules, rules_of, wait_rules}
 

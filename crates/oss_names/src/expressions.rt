@@ -2,7 +2,7 @@
 ghost use Rattle.std.specs.Prelude.{◌≡◌, map, length};
 ghost use Rattle.std.specs.Option.{option_copied};
 ghost use Rattle.oss_model.specs.Broken.{first};
-ghost use Rattle.oss_model.specs.Kinds.{argument_rules, argument_wanted, call_findings, call_kind, call_rules, callee_rules, findings, parameters_behind, parameters_of, value_rules};
+ghost use Rattle.oss_model.specs.ExpressionRules.{argument_rules, argument_wanted, call_findings, call_kind, call_rules, callee_rules, findings, parameters_behind, parameters_of, value_rules};
 ghost use Rattle.oss_model.specs.Scalars.{is_main};
 ghost use Rattle.oss_names.specs.Seen.{seen};
 

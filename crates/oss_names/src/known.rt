@@ -1,9 +1,11 @@
 //! Programs that break no rule.
 ghost use Rattle.std.specs.Prelude.{◌≡◌, ◌+◌, ◌<◌, [], length};
+ghost use Rattle.oss_model.specs.Built.{is_built};
 ghost use Rattle.oss_model.specs.Layout.{cells_in, sizes_of, start_of};
 ghost use Rattle.oss_model.specs.ProgramRules.{program_rules};
 ghost use Rattle.oss_names.specs.Resolved.{IsResolved};
 
+use crate::built::program_is_built;
 use crate::program::check;
 use oss_model::Refusal;
 use oss_syntax::{Program, Range};
@@ -53,6 +55,15 @@ impl Known {
         ensures accepted { program_rules result.now ≡ [] }
     {
         &self.program
+    }
+
+    /// Whether the sequential run of scalars means the program: its globals are scalars, `main` is its one function, and
+    /// its statements are assignments and prints of sums, blocks, tasks with dependencies on scalars, and waits. It takes no
+    /// memory.
+    pub fn built(&self) -> bool
+        ensures { result ≡ is_built self.now }
+    {
+        program_is_built(&self.program)
     }
 
     /// How many cells the globals have in all.

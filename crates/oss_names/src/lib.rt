@@ -1,6 +1,7 @@
 //! The static rules of programs, and where each global lies.
 #![tactic(auto)]
 
+mod built;
 mod expressions;
 mod finding;
 mod globals;

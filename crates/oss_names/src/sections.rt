@@ -1,7 +1,7 @@
 //! The rules on array sections and on the clauses of a pragma.
 ghost use Rattle.std.specs.Prelude.{◌≡◌, ◌++◌, ◌+◌, ◌≤◌, None, length};
 ghost use Rattle.oss_model.specs.Broken.{first};
-ghost use Rattle.oss_model.specs.Kinds.{value_rules};
+ghost use Rattle.oss_model.specs.ExpressionRules.{value_rules};
 ghost use Rattle.oss_model.specs.StaticRules.{wait_rules};
 ghost use Rattle.oss_model.specs.SectionRules.{begins_with_base, clause_rules, clauses_rules, fits_base, form_rules, has_elements, has_ints, is_array, is_fold, is_global, is_int, is_missing, is_wrong_section, optional_rules, section_rules, sections_in, sections_rules};
 

@@ -3,7 +3,7 @@ ghost use Rattle.std.specs.Prelude.{◌≡◌, List, length, take, map, option_m
 ghost use Rattle.oss_syntax.specs.declared.tree.program.Local.{Local as Declared};
 ghost use Rattle.oss_model.specs.declared.refusal.Refused.{Refused as Broken};
 ghost use Rattle.oss_model.specs.Broken.{first};
-ghost use Rattle.oss_model.specs.Kinds.{value_rules};
+ghost use Rattle.oss_model.specs.ExpressionRules.{value_rules};
 ghost use Rattle.oss_model.specs.SectionRules.{clauses_rules};
 ghost use Rattle.oss_model.specs.Scopes.{is_local_again};
 ghost use Rattle.oss_model.specs.StaticRules.{Judged, alone, declare_all, for_rules, in_a_loop, in_a_task, inner, inner_part, judged, local_rules, part_rules, rules_of, rules_of_all, scope_in, statements_rules, then_judge, with_local};

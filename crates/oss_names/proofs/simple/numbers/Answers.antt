@@ -1,7 +1,7 @@
 use Rattle.std.proofs.Common.{◌+◌, ◌∙◌, drop, sym}
 use Rattle.oss_model.specs.declared.kinds.Wanted.TheVariants as wanted
 use Rattle.oss_model.specs.Broken.{first}
-use Rattle.oss_model.specs.Kinds.{value_rules}
+use Rattle.oss_model.specs.ExpressionRules.{value_rules}
 use Rattle.oss_model.specs.StaticRules.{numbers_rules}
 use Rattle.oss_names.proofs.Firsts.{part-broken, part-whole}
 use Rattle.oss_names.proofs.Parts.{numbers-left}

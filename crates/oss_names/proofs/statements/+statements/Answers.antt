@@ -5,7 +5,8 @@ use Rattle.oss_model.specs.declared.kinds.Around.{Around}
 use Rattle.oss_model.specs.declared.kinds.Wanted.TheVariants as wanted
 use Rattle.oss_model.specs.declared.refusal.RefusedKind.TheVariants as refused
 use Rattle.oss_model.specs.Broken.{first, where_so}
-use Rattle.oss_model.specs.Kinds.{all_of, call_findings, findings, value_rules}
+use Rattle.oss_model.specs.ExpressionRules.{call_findings, findings, value_rules}
+use Rattle.oss_model.specs.Kinds.{all_of}
 use Rattle.oss_model.specs.SectionRules.{clauses_rules, optional_rules}
 use Rattle.oss_model.specs.StaticRules.{Judged, assign_rules, declare_all, for_rules, in_a_loop, in_a_task, inner, inner_part, judged, part_rules, print_rules, return_rules, rules_of, rules_of_all, scope_in, then_judge, wait_rules}
 use Rattle.oss_names.specs.Ends.{Ends}
