@@ -13,7 +13,7 @@ use Rattle.oss_model.specs.Scopes.{or_else}
 use Rattle.oss_model.specs.StaticRules.{Judged, alone, declare_all, declare_one, local_rules, rules_of, rules_of_all, then_judge, with_local}
 use Rattle.oss_model.specs.Scopes.{is_local_again}
 use Rattle.oss_names.specs.Ends.{Ends, Leaves, Tells}
-use Rattle.oss_names.proofs.Firsts.{first-append}
+use Rattle.oss_kinds.proofs.Firsts.{first-append}
 
 -- old locals that stand in front of those in the middle stand in front of the new ones
 pub prefix-trans : (old mid now : List Local) → take (length old) mid ≡ old → take (length mid) now ≡ mid → take (length old) now ≡ old

@@ -1,8 +1,6 @@
-pub mod Firsts
-pub mod PlaceLemmas
-pub mod Parts
 pub mod EndLemmas
-pub mod Weights
-pub mod StatementLemmas
-pub mod ProgramLemmas
 pub mod LayoutLemmas
+pub mod Parts
+pub mod ProgramLemmas
+pub mod StatementLemmas
+pub mod Weights

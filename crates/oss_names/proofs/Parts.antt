@@ -16,7 +16,7 @@ use Rattle.oss_model.specs.ExpressionRules.{value_rules}
 use Rattle.oss_model.specs.Scopes.{meaning, or_else}
 use Rattle.oss_model.specs.SectionRules.{begins_with_base, clause_rules, clauses_rules, form_rules, is_missing, is_wrong_section, section_rules, sections_in, sections_rules}
 use Rattle.oss_model.specs.StaticRules.{numbers_rules}
-use Rattle.oss_names.proofs.Firsts.{first-append}
+use Rattle.oss_kinds.proofs.Firsts.{first-append}
 
 -- what no part of a list breaks
 pub none-right : (a b : Option Refused) → or_else a b ≡ None → b ≡ None

@@ -18,7 +18,7 @@ use Rattle.oss_model.specs.Scopes.{is_again, or_else}
 use Rattle.oss_names.specs.Ends.{Tells}
 use Rattle.oss_names.specs.Resolved.{IsChecked, bounds_of}
 use Rattle.oss_names.proofs.EndLemmas.{tells-behind}
-use Rattle.oss_names.proofs.Firsts.{first-append}
+use Rattle.oss_kinds.proofs.Firsts.{first-append}
 use Rattle.oss_names.proofs.Parts.{append-right, no-rule, none-left, none-right, not-so}
 
 -- four parts, and what stands behind them

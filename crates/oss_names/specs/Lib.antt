@@ -1,4 +1,2 @@
-pub mod Seen
-pub mod Tables
 pub mod Ends
 pub mod Resolved

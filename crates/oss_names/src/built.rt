@@ -2,7 +2,7 @@
 ghost use Rattle.std.specs.Prelude.{◌≡◌, map};
 ghost use Rattle.oss_model.specs.Built.{every, is_built, is_built_clause, is_built_expr, is_built_item, is_built_stmt, is_name, is_sum, is_whole};
 
-use crate::expressions::is_named_main;
+use oss_kinds::is_named_main;
 use oss_syntax::{BinOp, Clause, Expr, ExprKind, Form, Item, Program, Section, Stmt, StmtKind};
 
 /// Whether the sequential run of scalars means this program.

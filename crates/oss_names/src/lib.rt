@@ -2,12 +2,7 @@
 #![tactic(auto)]
 
 mod built;
-mod expressions;
-mod finding;
-mod globals;
 mod known;
-mod locals;
-mod operators;
 mod program;
 mod sections;
 mod simple;

@@ -6,12 +6,9 @@ ghost use Rattle.oss_model.specs.ProgramRules.{body_around, function_rules, glob
 ghost use Rattle.oss_names.specs.Ends.{Tells};
 ghost use Rattle.oss_names.specs.Resolved.{IsChecked};
 
-use crate::expressions::is_named_main;
-use crate::finding::{before, refused, refused_if};
-use crate::globals::Globals;
-use crate::locals::Locals;
 use crate::sections::{clauses, is_of_ints};
 use crate::statements::{declare, statements};
+use oss_kinds::{Globals, Locals, before, is_named_main, refused, refused_if};
 use oss_model::{Around, Refusal, Refused, RefusedKind};
 use oss_syntax::{Function, GlobalDef, Item, Kind, Program, TaskMark};
 use std::alloc::{AllocError, Global};
@@ -69,7 +66,7 @@ fn note(bounds: &mut Vec<u32>, bound: u32) -> Result<(), AllocError>
 }
 
 /// The first rule that a global breaks behind so many cells.
-#[tactic(auto, using(crate::proofs::Firsts::firsts))]
+#[tactic(auto, using(oss_kinds::proofs::Firsts::firsts))]
 fn refusal_of_global(
     globals: &Globals<'_>,
     place: usize,

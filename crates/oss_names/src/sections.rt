@@ -5,10 +5,7 @@ ghost use Rattle.oss_model.specs.ExpressionRules.{value_rules};
 ghost use Rattle.oss_model.specs.StaticRules.{wait_rules};
 ghost use Rattle.oss_model.specs.SectionRules.{begins_with_base, clause_rules, clauses_rules, fits_base, form_rules, has_elements, has_ints, is_array, is_fold, is_global, is_int, is_missing, is_wrong_section, optional_rules, section_rules, sections_in, sections_rules};
 
-use crate::expressions::value;
-use crate::finding::{before, refused_if};
-use crate::globals::Globals;
-use crate::locals::Locals;
+use oss_kinds::{Globals, Locals, before, refused_if, value};
 use oss_model::{Named, Refused, RefusedKind, Wanted};
 use oss_syntax::{Clause, Expr, Form, Kind, List, Mode, NumKind, Section};
 
@@ -102,7 +99,7 @@ pub fn sections(
 }
 
 /// The first rule that a section breaks behind so many others of its pragma.
-#[tactic(auto, using(crate::proofs::Firsts::firsts))]
+#[tactic(auto, using(oss_kinds::proofs::Firsts::firsts))]
 fn section(
     globals: &Globals<'_>,
     locals: &Locals<'_>,
@@ -156,7 +153,7 @@ fn begins(form: &Form) -> bool
 }
 
 /// The first rule that the expressions of a section break.
-#[tactic(auto, using(crate::proofs::Firsts::firsts))]
+#[tactic(auto, using(oss_kinds::proofs::Firsts::firsts))]
 fn expressions(globals: &Globals<'_>, locals: &Locals<'_>, form: &Form) -> Option<Refused>
     ensures { result ≡ first (form_rules globals.now locals.now form.now) }
 {
@@ -171,7 +168,7 @@ fn expressions(globals: &Globals<'_>, locals: &Locals<'_>, form: &Form) -> Optio
 }
 
 /// The first rule that two numbers break.
-#[tactic(auto, using(crate::proofs::Firsts::firsts))]
+#[tactic(auto, using(oss_kinds::proofs::Firsts::firsts))]
 fn both(globals: &Globals<'_>, locals: &Locals<'_>, one: &Expr, other: &Expr) -> Option<Refused>
     ensures { result ≡ first (value_rules globals.now locals.now Wanted.Number one.now ++ value_rules globals.now locals.now Wanted.Number other.now) }
 {
@@ -182,7 +179,7 @@ fn both(globals: &Globals<'_>, locals: &Locals<'_>, one: &Expr, other: &Expr) ->
 }
 
 /// The first rule that two numbers break that may be left out.
-#[tactic(auto, using(crate::proofs::Firsts::firsts))]
+#[tactic(auto, using(oss_kinds::proofs::Firsts::firsts))]
 fn both_ends(
     globals: &Globals<'_>,
     locals: &Locals<'_>,

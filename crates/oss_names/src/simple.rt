@@ -3,12 +3,12 @@ ghost use Rattle.std.specs.Prelude.{◌≡◌, length};
 ghost use Rattle.oss_model.specs.Broken.{first};
 ghost use Rattle.oss_model.specs.Kinds.{Findings, all_of};
 ghost use Rattle.oss_model.specs.StaticRules.{assign_rules, format_rules, is_wrong_return, moved, numbers_rules, or_anything, print_rules, return_rules, returned_rules, stored_in, stored_rules, target_wanted};
-ghost use Rattle.oss_names.specs.Seen.{seen};
+ghost use Rattle.oss_kinds.specs.Seen.{seen};
 
-use crate::expressions::{expression, value};
-use crate::finding::{Finding, at_place, before, first_of, refused, refused_if, taken_by, wrong};
-use crate::globals::Globals;
-use crate::locals::Locals;
+use oss_kinds::{
+    Finding, Globals, Locals, at_place, before, expression, first_of, refused, refused_if,
+    taken_by, value, wrong,
+};
 use oss_model::{Around, Object, Refused, RefusedKind, ValueKind, Wanted, conversions};
 use oss_syntax::{BinOp, Expr, Kind, NumKind};
 
@@ -32,7 +32,7 @@ pub fn assignment(
 }
 
 /// The first rule that a target and what is stored in it break.
-#[tactic(auto, using(crate::proofs::Firsts::firsts))]
+#[tactic(auto, using(oss_kinds::proofs::Firsts::firsts))]
 fn store(wanted: Option<Wanted>, target: Finding, value: Finding) -> Option<Refused>
     ensures { (t : Findings) → (e : Findings) → target ≡ seen t → value ≡ seen e → result ≡ first (stored_rules wanted t e) }
 {
@@ -99,7 +99,7 @@ fn wanted_by_pointer(op: Option<BinOp>, number: NumKind) -> Option<Wanted>
 }
 
 /// The first rule that a `printf` breaks.
-#[tactic(auto, using(crate::proofs::Firsts::firsts))]
+#[tactic(auto, using(oss_kinds::proofs::Firsts::firsts))]
 pub fn print(
     globals: &Globals<'_>,
     locals: &Locals<'_>,
@@ -138,7 +138,7 @@ fn numbers(globals: &Globals<'_>, locals: &Locals<'_>, values: &[Expr]) -> Optio
 }
 
 /// The first rule that a `return` breaks.
-#[tactic(auto, using(crate::proofs::Firsts::firsts))]
+#[tactic(auto, using(oss_kinds::proofs::Firsts::firsts))]
 pub fn return_statement(
     globals: &Globals<'_>,
     locals: &Locals<'_>,

@@ -9,12 +9,9 @@ ghost use Rattle.oss_model.specs.Scopes.{is_local_again};
 ghost use Rattle.oss_model.specs.StaticRules.{Judged, alone, declare_all, for_rules, in_a_loop, in_a_task, inner, inner_part, judged, local_rules, part_rules, rules_of, rules_of_all, scope_in, statements_rules, then_judge, with_local};
 ghost use Rattle.oss_names.specs.Ends.{Ends};
 
-use crate::expressions::{call, value};
-use crate::finding::{before, first_of, refused_if};
-use crate::globals::Globals;
-use crate::locals::Locals;
 use crate::sections::{clauses, optional, wait};
 use crate::simple::{assignment, optional_for, print, return_statement};
+use oss_kinds::{Globals, Locals, before, call, first_of, refused_if, value};
 use oss_model::{Around, Refusal, Refused, RefusedKind, Wanted};
 use oss_syntax::{Boxed, Expr, Local, Stmt, StmtKind, TaskMark};
 use std::alloc::AllocError;
@@ -54,7 +51,7 @@ pub fn declare<'p>(
 }
 
 /// Declares one local, and tells the first rule that it breaks.
-#[tactic(auto, using(crate::proofs::Firsts::firsts))]
+#[tactic(auto, using(oss_kinds::proofs::Firsts::firsts))]
 fn declare_local<'p>(
     globals: &Globals<'_>,
     start: usize,

@@ -6,7 +6,7 @@ use Rattle.oss_model.specs.ProgramRules.{function_rules, global_rules, has_main,
 use Rattle.oss_names.specs.Ends.{Tells}
 use Rattle.oss_names.specs.Resolved.{bounds_of}
 use Rattle.oss_names.proofs.EndLemmas.{tells-before}
-use Rattle.oss_names.proofs.Firsts.{first-append, part-whole}
+use Rattle.oss_kinds.proofs.Firsts.{first-append, part-whole}
 use Rattle.oss_names.proofs.ProgramLemmas.{all-well, bounds-more, checked-err, function-left, global-cells, global-left, main-missing, sizes-function, sizes-global}
 use Rattle.oss_names.proofs.program.check.Goals as goal
 use Rattle.oss_names.proofs.program.check.Goals.{in-Global+in-None+in-Ok-note, in-Function+in-Ok-check_function}

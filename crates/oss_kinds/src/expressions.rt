@@ -4,7 +4,7 @@ ghost use Rattle.std.specs.Option.{option_copied};
 ghost use Rattle.oss_model.specs.Broken.{first};
 ghost use Rattle.oss_model.specs.ExpressionRules.{argument_rules, argument_wanted, call_findings, call_kind, call_rules, callee_rules, findings, parameters_behind, parameters_of, value_rules};
 ghost use Rattle.oss_model.specs.Scalars.{is_main};
-ghost use Rattle.oss_names.specs.Seen.{seen};
+ghost use Rattle.oss_kinds.specs.Seen.{seen};
 
 use crate::finding::{Finding, at_place, before, first_of, kind_of, number, refused, taken_by};
 use crate::globals::Globals;

@@ -1,7 +1,7 @@
 use Rattle.std.proofs.Common.{◌≡◌, drop, map}
 use Rattle.oss_model.specs.Broken.{first}
 use Rattle.oss_model.specs.ExpressionRules.{argument_rules, findings}
-use Rattle.oss_names.proofs.expressions.+expressions.Given as goal
+use Rattle.oss_kinds.proofs.expressions.+expressions.Given as goal
 
 -- the arguments so far break no rule
 abbrev pub invariant-arguments-loop-value : goal.invariant-arguments-loop-value

@@ -1,7 +1,7 @@
 use Rattle.std.proofs.Common.{◌≡◌, take, map}
 use Rattle.oss_model.specs.Scopes.{item_name}
-use Rattle.oss_names.specs.Tables.{Tells}
-use Rattle.oss_names.proofs.globals.Globals.of.Given as goal
+use Rattle.oss_kinds.specs.Tables.{Tells}
+use Rattle.oss_kinds.proofs.globals.Globals.of.Given as goal
 
 -- the names of the items so far are noted
 abbrev pub invariant-loop-item : goal.invariant-loop-item

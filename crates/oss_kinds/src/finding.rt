@@ -2,7 +2,7 @@ ghost use Rattle.std.specs.Prelude.{◌≡◌, Option};
 ghost use Rattle.oss_model.specs.Broken.{broken, first, rank, insert, where_so};
 ghost use Rattle.oss_model.specs.Kinds.{Findings, all_of, allows, number_kind, value_kind, same_number, refused_here, placed, wanted_by, number_findings};
 ghost use Rattle.oss_model.specs.Scopes.{or_else};
-ghost use Rattle.oss_names.specs.Seen.{seen, earlier as earlier_of};
+ghost use Rattle.oss_kinds.specs.Seen.{seen, earlier as earlier_of};
 
 use oss_model::{Object, Refused, RefusedKind, ValueKind, Wanted};
 use oss_syntax::{Kind, NumKind};

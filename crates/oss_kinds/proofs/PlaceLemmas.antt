@@ -9,7 +9,7 @@ use Rattle.std.specs.Borrow.{Bor}
 use Rattle.std.specs.Str.{bytes_eq}
 use Rattle.std.proofs.lemmas.Map.Text.{hash_map_updates_str}
 use Rattle.indexmap.specs.IndexMap.{IndexMap, get_by, UpdatesBy}
-use Rattle.oss_names.specs.Tables.{Tells}
+use Rattle.oss_kinds.specs.Tables.{Tells}
 
 abbrev place_in : List (List ℕ) → List ℕ → Option ℕ
 place_in names name = position (λ other. bytes_eq other name) names

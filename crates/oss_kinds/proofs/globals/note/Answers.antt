@@ -1,6 +1,6 @@
 use Rattle.std.proofs.Common.{rules}
-use Rattle.oss_names.proofs.PlaceLemmas.{noted, stays}
-use Rattle.oss_names.proofs.globals.note.Goals as goal
+use Rattle.oss_kinds.proofs.PlaceLemmas.{noted, stays}
+use Rattle.oss_kinds.proofs.globals.note.Goals as goal
 
 pub returns-in_ok-insert : goal.returns-in_ok-insert
 returns-in_ok-insert c = λ names told size. noted c.args.places.now c.insert.new.self c.args.name.now names c.args.place (search rules) c.in_ok-insert.ensures.updates size told

@@ -3,7 +3,7 @@ use Rattle.std.specs.Prelude.{nat_lt, if◌then◌else◌, Option, Some, None}
 use Rattle.oss_model.specs.declared.refusal.Refused.{Refused}
 use Rattle.oss_model.specs.Broken.{first, rank}
 use Rattle.oss_model.specs.Kinds.{Findings}
-use Rattle.oss_names.specs.declared.finding.Finding.{Finding}
+use Rattle.oss_kinds.specs.declared.finding.Finding.{Finding}
 
 abbrev pub seen : Findings → Finding
 seen f = record { line = f.line; at_first = first f.at_first; behind = first f.behind; kind = f.kind; object = f.object }

@@ -2,7 +2,7 @@
 ghost use Rattle.std.specs.Prelude.{◌≡◌};
 ghost use Rattle.oss_model.specs.Kinds.{Findings, address_kind, binary_findings, binary_kind, binary_of, element_kind, element_object, has_address, index_findings, index_of, joined_kind, left_wanted, name_findings, name_kind, name_object, name_rules, prefixed, unary_findings, unless, unless_unknown};
 ghost use Rattle.oss_model.specs.Broken.{first};
-ghost use Rattle.oss_names.specs.Seen.{seen};
+ghost use Rattle.oss_kinds.specs.Seen.{seen};
 
 use crate::finding::{
     Finding, at_place, before, first_of, kind_of, kind_of_number, refused, wrong,

@@ -8,7 +8,7 @@ use Rattle.oss_model.specs.Kinds.{Findings, all_of, placed}
 use Rattle.oss_model.specs.declared.refusal.Refused.{Refused}
 use Rattle.oss_model.specs.Broken.{first, rank, insert}
 use Rattle.oss_model.specs.Scopes.{or_else}
-use Rattle.oss_names.specs.Seen.{earlier}
+use Rattle.oss_kinds.specs.Seen.{earlier}
 
 pub first-append : (xs ys : List Refused) → first (xs ++ ys) ≡ or_else (first xs) (first ys)
 first-append [] ys = refl

@@ -2,7 +2,7 @@
 ghost use Rattle.std.specs.Prelude.{◌≡◌, ◌∷◌, ◌++◌, ℕ, List, [], length, slice_get, IfOk, OnOk};
 ghost use Rattle.std.specs.Option.{option_copied};
 ghost use Rattle.oss_model.specs.Scopes.{item_name, item_named, item_place, function_named, is_again, meaning, global_meaning};
-ghost use Rattle.oss_names.specs.Tables.{Tells};
+ghost use Rattle.oss_kinds.specs.Tables.{Tells};
 
 use crate::locals::Locals;
 use indexmap::IndexMap;
@@ -22,7 +22,7 @@ impl<'p> Model for Globals<'p> {
     ghost use Rattle.std.specs.Prelude.{List, map};
     ghost use Rattle.oss_syntax.specs.declared.tree.program.Item.{Item};
     ghost use Rattle.oss_model.specs.Scopes.{item_name};
-    ghost use Rattle.oss_names.specs.Tables.{Tells};
+    ghost use Rattle.oss_kinds.specs.Tables.{Tells};
     ghost use Rattle.std.specs.Coded.{coded_list};
     ghost use Rattle.oss_syntax.specs.contracts.tree.program.Item as item;
 

@@ -1,6 +1,6 @@
 use Rattle.std.proofs.Common.{◌≡◌, drop, map}
 use Rattle.oss_model.specs.Scopes.{local_kind, or_else}
-use Rattle.oss_names.proofs.locals.kind_among.Given as goal
+use Rattle.oss_kinds.proofs.locals.kind_among.Given as goal
 
 -- the last local of the name is one of those left, or the one found
 abbrev pub invariant-loop-local : goal.invariant-loop-local

@@ -1,7 +1,7 @@
 use Rattle.std.proofs.Common.{◌≡◌, drop, map}
 use Rattle.std.specs.List.{list_any}
 use Rattle.std.specs.Str.{bytes_eq}
-use Rattle.oss_names.proofs.locals.is_among.Given as goal
+use Rattle.oss_kinds.proofs.locals.is_among.Given as goal
 
 -- a local of the name is one of those left
 abbrev pub invariant-loop-local : goal.invariant-loop-local
