@@ -1,7 +1,7 @@
 -- The rules that expressions break (C11 6.5): names that are not in scope, values of another kind than their place allows, and
 -- calls that are not allowed.
 -- Read against: where `y` is not in scope `*(y < 1)` breaks two rules at `y`, the name before the kind, and `*(y + 1)` one; with
--- `void f(long a) {}` the call `f()` breaks WrongCount at `f`, and as an operand WrongKind at `f` comes before it.
+-- `void f(long a) {}` the operand `f(1)` breaks WrongKind at `f`, and `f()` WrongCount at `f` and nothing more.
 use Rattle.std.specs.Prelude.{ℕ, ◌==◌, Bool, true, false, not, ◌&&◌, ◌||◌, List, [], ◌∷◌, ◌++◌, length, Option, Some, None, is_some}
 use Rattle.oss_syntax.specs.declared.tree.expr.Expr.{Expr}
 use Rattle.oss_syntax.specs.declared.tree.expr.ExprKind.TheOpen.{ExprKind-F, Expr-F}

@@ -18,8 +18,11 @@ pub enum ValueKind {
 /// Which kinds of values are allowed at a place.
 #[derive(Clone, Copy, Debug, PartialEq, Eq)]
 pub enum Wanted {
+    /// A number, signed or not.
     Number,
+    /// A pointer to numbers of any type.
     Pointer,
+    /// A number or such a pointer, as on the left of `+`.
     NumberOrPointer,
     /// A pointer to numbers of this very type.
     PointerTo(NumKind),
@@ -43,8 +46,11 @@ pub enum Object {
 pub enum Named {
     /// The name is not in scope.
     Missing,
+    /// A local of this type.
     Local(Kind),
+    /// A global that is one number.
     Scalar(NumKind),
+    /// A global that is an array of such numbers.
     Array(NumKind),
     Function,
 }
