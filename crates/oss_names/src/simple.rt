@@ -1,16 +1,17 @@
 //! The rules on statements that hold no others.
-ghost use Rattle.std.specs.Prelude.{◌≡◌, length};
+ghost use Rattle.std.specs.Prelude.{◌≡◌, length, map, true};
 ghost use Rattle.oss_model.specs.Broken.{first};
+ghost use Rattle.oss_model.specs.ExpressionRules.{call_findings, findings};
 ghost use Rattle.oss_model.specs.Kinds.{Findings, all_of};
 ghost use Rattle.oss_model.specs.StaticRules.{assign_rules, format_rules, is_wrong_return, moved, numbers_rules, or_anything, print_rules, return_rules, returned_rules, stored_in, stored_rules, target_wanted};
 ghost use Rattle.oss_kinds.specs.Seen.{seen};
 
 use oss_kinds::{
-    Finding, Globals, Locals, at_place, before, expression, first_of, refused, refused_if,
+    Finding, Globals, Locals, at_place, before, call, expression, first_of, refused, refused_if,
     taken_by, value, wrong,
 };
 use oss_model::{Around, Object, Refused, RefusedKind, ValueKind, Wanted, conversions};
-use oss_syntax::{BinOp, Expr, Kind, NumKind};
+use oss_syntax::{BinOp, Bytes, Expr, Kind, List, Name, NumKind};
 
 /// The first rule that an assignment breaks.
 pub fn assignment(
@@ -98,20 +99,40 @@ fn wanted_by_pointer(op: Option<BinOp>, number: NumKind) -> Option<Wanted>
     }
 }
 
+/// The first rule that a call as a statement breaks.
+pub fn call_statement(
+    globals: &Globals<'_>,
+    locals: &Locals<'_>,
+    line: u32,
+    name: &Name,
+    values: &List<Expr>,
+) -> Option<Refused>
+    ensures { result ≡ first (all_of (call_findings globals.now locals.now name.now line true (map (findings globals.now locals.now) values.now))) }
+{
+    first_of(call(
+        globals,
+        locals,
+        name.as_slice(),
+        line,
+        true,
+        values.as_slice(),
+    ))
+}
+
 /// The first rule that a `printf` breaks.
 #[tactic(auto, using(oss_kinds::proofs::Firsts::firsts))]
 pub fn print(
     globals: &Globals<'_>,
     locals: &Locals<'_>,
     line: u32,
-    format: &[u8],
-    values: &[Expr],
+    format: &Bytes,
+    values: &List<Expr>,
 ) -> Option<Refused>
     ensures { result ≡ first (print_rules globals.now locals.now line format.now values.now) }
 {
     before(
-        refusal_of_format(conversions(format), values.len(), line),
-        numbers(globals, locals, values),
+        refusal_of_format(conversions(format.as_slice()), values.len(), line),
+        numbers(globals, locals, values.as_slice()),
     )
 }
 

@@ -10,8 +10,8 @@ ghost use Rattle.oss_model.specs.StaticRules.{Judged, alone, declare_all, for_ru
 ghost use Rattle.oss_names.specs.Ends.{Ends};
 
 use crate::sections::{clauses, optional, wait};
-use crate::simple::{assignment, optional_for, print, return_statement};
-use oss_kinds::{Globals, Locals, before, call, first_of, refused_if, value};
+use crate::simple::{assignment, call_statement, optional_for, print, return_statement};
+use oss_kinds::{Globals, Locals, before, refused_if, value};
 use oss_model::{Around, Refusal, Refused, RefusedKind, Wanted};
 use oss_syntax::{Boxed, Expr, Local, Stmt, StmtKind, TaskMark};
 use std::alloc::AllocError;
@@ -48,6 +48,21 @@ pub fn declare<'p>(
         broken = before(broken, here);
     }
     Ok(broken)
+}
+
+/// Checks a declaration, whose locals stay in scope behind it.
+fn declaration<'p>(
+    globals: &Globals<'_>,
+    start: usize,
+    declared: &'p [Local],
+    locals: &mut Locals<'p>,
+) -> Result<(), Refusal>
+    ensures { Ends locals.old (declare_all globals.now start declared.now locals.old) result locals.new }
+{
+    match declare(globals, start, declared, locals) {
+        Ok(broken) => told(broken),
+        Err(full) => Err(Refusal::Memory(full)),
+    }
 }
 
 /// Declares one local, and tells the first rule that it breaks.
@@ -107,42 +122,21 @@ fn statement<'p>(
         StmtKind::Block(list) => block(globals, around, list.as_slice(), locals),
         StmtKind::Empty => told(None),
         StmtKind::Declare(declared) => {
-            match declare(globals, around.start, declared.as_slice(), locals) {
-                Ok(broken) => told(broken),
-                Err(full) => Err(Refusal::Memory(full)),
-            }
+            declaration(globals, around.start, declared.as_slice(), locals)
         }
         StmtKind::Assign(target, op, value) => {
             told(assignment(globals, locals, *op, target, value))
         }
         StmtKind::Call(name, values) => {
-            let found = call(
-                globals,
-                locals,
-                name.as_slice(),
-                line,
-                true,
-                values.as_slice(),
-            );
-            told(first_of(found))
+            told(call_statement(globals, locals, line, name, values))
         }
-        StmtKind::Print(format, values) => told(print(
-            globals,
-            locals,
-            line,
-            format.as_slice(),
-            values.as_slice(),
-        )),
+        StmtKind::Print(format, values) => told(print(globals, locals, line, format, values)),
         StmtKind::If(test, then_part, else_part) => {
             branches(globals, around, test, then_part, else_part, locals)
         }
         StmtKind::While(test, body) => while_loop(globals, around, test, body, locals),
         StmtKind::For(start, test, step, body) => {
-            let inside = scope_of(around, locals.len());
-            let count = locals.len();
-            let ends = for_loop(globals, inside, start, test, step, body, locals);
-            locals.leave(count);
-            ends
+            for_statement(globals, around, start, test, step, body, locals)
         }
         StmtKind::Return(value) => { told(return_statement(globals, locals, around, line, value)) }
         StmtKind::Break => told(refused_if(!around.in_loop, RefusedKind::BadJump, line)),
@@ -288,6 +282,33 @@ fn while_loop<'p>(
         Ok(()) => inside(globals, looping(around), body, locals),
         Err(refusal) => Err(refusal),
     }
+}
+
+/// Checks a `for`, which is a scope of its own.
+#[cycle(statements)]
+fn for_statement<'p>(
+    globals: &Globals<'_>,
+    around: Around,
+    start: &'p Option<Boxed<Stmt>>,
+    test: &Option<Expr>,
+    step: &'p Option<Boxed<Stmt>>,
+    body: &'p Boxed<Stmt>,
+    locals: &mut Locals<'p>,
+) -> Result<(), Refusal>
+    ensures { Ends locals.old (inner (for_rules (option_map rules_of start.now) test.now (option_map rules_of step.now) (rules_of body.now)) globals.now around locals.old) result locals.new }
+{
+    let count = locals.len();
+    let ends = for_loop(
+        globals,
+        scope_of(around, count),
+        start,
+        test,
+        step,
+        body,
+        locals,
+    );
+    locals.leave(count);
+    ends
 }
 
 /// Checks the parts of a `for` in the order in which they stand.

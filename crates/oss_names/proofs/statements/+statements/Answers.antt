@@ -1,17 +1,15 @@
 use Rattle.std.proofs.lemmas.Grind.{common_steps}
 use Rattle.std.proofs.Common.{◌≡◌, ◌+◌, ◌≤◌, ◌∙◌, Ok, Err, List, [], ap, arith, drop, map, not, option_map, refl, subst, sym, true}
 use Rattle.oss_syntax.specs.declared.tree.program.Local.{Local}
-use Rattle.oss_model.specs.declared.kinds.Around.{Around}
 use Rattle.oss_model.specs.declared.kinds.Wanted.TheVariants as wanted
 use Rattle.oss_model.specs.declared.refusal.RefusedKind.TheVariants as refused
 use Rattle.oss_model.specs.Broken.{first, where_so}
 use Rattle.oss_model.specs.ExpressionRules.{call_findings, findings, value_rules}
 use Rattle.oss_model.specs.Kinds.{all_of}
 use Rattle.oss_model.specs.SectionRules.{clauses_rules, optional_rules}
-use Rattle.oss_model.specs.StaticRules.{Judged, assign_rules, declare_all, for_rules, in_a_loop, in_a_task, inner, inner_part, judged, part_rules, print_rules, return_rules, rules_of, rules_of_all, scope_in, then_judge, wait_rules}
-use Rattle.oss_names.specs.Ends.{Ends}
-use Rattle.oss_names.proofs.EndLemmas.{ends-along, ends-alone, ends-stop, ends-then, prefix-same, statements-left}
-use Rattle.oss_names.proofs.StatementLemmas.{rules-assign, rules-break, rules-call, rules-continue, rules-declare, rules-empty, rules-for, rules-print, rules-release, rules-return, rules-wait}
+use Rattle.oss_model.specs.StaticRules.{Judged, assign_rules, in_a_loop, in_a_task, inner, inner_part, judged, part_rules, print_rules, return_rules, rules_of, rules_of_all, then_judge, wait_rules}
+use Rattle.oss_names.proofs.EndLemmas.{ends-along, ends-stop, ends-then, prefix-same, statements-left}
+use Rattle.oss_names.proofs.StatementLemmas.{rules-assign, rules-break, rules-call, rules-continue, rules-empty, rules-print, rules-release, rules-return, rules-wait}
 use Rattle.oss_names.proofs.Weights.{weight, weight-one, weights}
 use Rattle.oss_names.proofs.statements.+statements.Goals as goal
 
@@ -75,16 +73,6 @@ statement-returns-in-Empty t c =
     let ls = c.args.locals.now in
     ends-along ls ls (judged [] ls) _ c.told.result (rules-empty c.args.statement.now c.args.globals.now c.args.around ls c.in-Empty.is) (c.told.ensures.simple [] ls refl)
 
-pub statement-returns-in-Ok : goal.statement-returns-in-Ok
-statement-returns-in-Ok t c =
-    let all = c.args.globals.now in
-    let a = c.args.around in
-    let ls = c.args.locals.now in
-    let now = c.declare.new.locals in
-    let j = declare_all all a.start c.as_slice-in-Declare.result.now ls in
-    ends-along ls now j _ c.told-in-Ok.result (rules-declare c.args.statement.now all a ls c.in-Declare.declared c.in-Declare.is ∙ ap (λ ds. declare_all all a.start ds ls) (sym c.as_slice-in-Declare.ensures))
-    (c.told-in-Ok.ensures.after ls j now c.in-Ok.ensures.rules c.in-Ok.ensures.after c.in-Ok.ensures.stays)
-
 pub statement-returns-in-Assign : goal.statement-returns-in-Assign
 statement-returns-in-Assign t c =
     let all = c.args.globals.now in
@@ -92,44 +80,6 @@ statement-returns-in-Assign t c =
     let w = c.in-Assign in
     let parts = assign_rules all ls w.op w.target w.value in
     ends-along ls ls (judged parts ls) _ c.told-in-Assign.result (rules-assign c.args.statement.now all c.args.around ls w.target w.op w.value w.is) (c.told-in-Assign.ensures.simple parts ls c.assignment.ensures)
-
-pub statement-returns-in-Call : goal.statement-returns-in-Call
-statement-returns-in-Call t c =
-    let all = c.args.globals.now in
-    let ls = c.args.locals.now in
-    let w = c.in-Call in
-    let line = c.args.statement.now.line in
-    let of = call_findings all ls c.as_slice-in-Call.result.now line true (map (findings all ls) c.as_slice-in-Call-2.result.now) in
-    ends-along ls ls (judged (all_of of) ls) _ c.told-in-Call.result
-    (rules-call c.args.statement.now all c.args.around ls w.name w.values w.is
-    ∙ ap (λ name. judged (all_of (call_findings all ls name line true (map (findings all ls) w.values))) ls) (sym c.as_slice-in-Call.ensures)
-    ∙ ap (λ es. judged (all_of (call_findings all ls c.as_slice-in-Call.result.now line true (map (findings all ls) es))) ls) (sym c.as_slice-in-Call-2.ensures))
-    (c.told-in-Call.ensures.simple (all_of of) ls (c.first_of.ensures of c.call-found.ensures))
-
-pub statement-returns-in-Print : goal.statement-returns-in-Print
-statement-returns-in-Print t c =
-    let all = c.args.globals.now in
-    let ls = c.args.locals.now in
-    let w = c.in-Print in
-    let line = c.args.statement.now.line in
-    let parts = print_rules all ls line c.as_slice-in-Print.result.now c.as_slice-in-Print-2.result.now in
-    ends-along ls ls (judged parts ls) _ c.told-in-Print.result
-    (rules-print c.args.statement.now all c.args.around ls w.format w.values w.is
-    ∙ ap (λ format. judged (print_rules all ls line format w.values) ls) (sym c.as_slice-in-Print.ensures)
-    ∙ ap (λ es. judged (print_rules all ls line c.as_slice-in-Print.result.now es) ls) (sym c.as_slice-in-Print-2.ensures))
-    (c.told-in-Print.ensures.simple parts ls c.print.ensures)
-
-pub statement-returns-in-For : goal.statement-returns-in-For
-statement-returns-in-For t c =
-    let all = c.args.globals.now in
-    let a = c.args.around in
-    let ls = c.args.locals.now in
-    let w = c.in-For in
-    let j : Around → Judged = λ x. for_rules (option_map rules_of w.start) w.test (option_map rules_of w.step) (rules_of w.body) all x ls in
-    let ends : Ends ls (j (scope_in a ls)) c.for_loop-ends.result c.for_loop-ends.new.locals =
-    subst (λ x. Ends ls (j x) c.for_loop-ends.result c.for_loop-ends.new.locals) (c.scope_of-inside.ensures ls c.len.ensures) c.for_loop-ends.ensures in
-    ends-along ls c.leave.new.self _ _ c.for_loop-ends.result (rules-for c.args.statement.now all a ls w.start w.test w.step w.body w.is)
-    (ends-alone ls c.for_loop-ends.new.locals c.leave.new.self (j (scope_in a ls)) c.for_loop-ends.result c.len-count.result ends c.len-count.ensures c.leave.ensures)
 
 pub statement-returns-in-Return : goal.statement-returns-in-Return
 statement-returns-in-Return t c =
@@ -210,3 +160,19 @@ statements-returns t c =
     let none : drop c.loop-one.one-index ss ≡ [] = grind (arith, common_steps) in
     c.loop-one.invariant (Ok tt) ls
     (ends-along ls ls (judged [] ls) _ (Ok tt) (ap (λ xs. rules_of_all xs all a ls) none) (record { tells = refl; leaves = (refl, prefix-same ls) }))
+
+pub statement-returns-in-Call : goal.statement-returns-in-Call
+statement-returns-in-Call t c =
+    let all = c.args.globals.now in
+    let ls = c.args.locals.now in
+    let w = c.in-Call in
+    let parts = all_of (call_findings all ls w.name c.args.statement.now.line true (map (findings all ls) w.values)) in
+    ends-along ls ls (judged parts ls) _ c.told-in-Call.result (rules-call c.args.statement.now all c.args.around ls w.name w.values w.is) (c.told-in-Call.ensures.simple parts ls c.call_statement.ensures)
+
+pub statement-returns-in-Print : goal.statement-returns-in-Print
+statement-returns-in-Print t c =
+    let all = c.args.globals.now in
+    let ls = c.args.locals.now in
+    let w = c.in-Print in
+    let parts = print_rules all ls c.args.statement.now.line w.format w.values in
+    ends-along ls ls (judged parts ls) _ c.told-in-Print.result (rules-print c.args.statement.now all c.args.around ls w.format w.values w.is) (c.told-in-Print.ensures.simple parts ls c.print.ensures)

@@ -14,31 +14,34 @@ invariant-statements-loop-one l = (result : Result (Unit {0}) Refusal) (now : Li
 
 -- each function has a smaller part of the statement than its caller, or stands below it
 abbrev pub decreases-statement : goal.decreases-statement
-decreases-statement l = 3 * weight l.statement.now
+decreases-statement l = 4 * weight l.statement.now
 
 abbrev pub decreases-statements : goal.decreases-statements
-decreases-statements l = 3 * weights l.list.now + 1
+decreases-statements l = 4 * weights l.list.now + 1
 
 abbrev pub decreases-block : goal.decreases-block
-decreases-block l = 3 * weights l.list.now + 2
+decreases-block l = 4 * weights l.list.now + 2
 
 abbrev pub decreases-inside : goal.decreases-inside
-decreases-inside l = 3 * weight l.one.now + 1
+decreases-inside l = 4 * weight l.one.now + 1
 
 abbrev pub decreases-part : goal.decreases-part
-decreases-part l = 3 * part_weight l.one.now + 1
+decreases-part l = 4 * part_weight l.one.now + 1
 
 abbrev pub decreases-inside_part : goal.decreases-inside_part
-decreases-inside_part l = 3 * part_weight l.one.now + 2
+decreases-inside_part l = 4 * part_weight l.one.now + 2
 
 abbrev pub decreases-branches : goal.decreases-branches
-decreases-branches l = 3 * (weight l.then_part.now + part_weight l.else_part.now) + 2
+decreases-branches l = 4 * (weight l.then_part.now + part_weight l.else_part.now) + 2
 
 abbrev pub decreases-while_loop : goal.decreases-while_loop
-decreases-while_loop l = 3 * weight l.body.now + 2
+decreases-while_loop l = 4 * weight l.body.now + 2
 
 abbrev pub decreases-for_loop : goal.decreases-for_loop
-decreases-for_loop l = 3 * (part_weight l.start.now + (part_weight l.step.now + weight l.body.now)) + 2
+decreases-for_loop l = 4 * (part_weight l.start.now + (part_weight l.step.now + weight l.body.now)) + 2
 
 abbrev pub decreases-task : goal.decreases-task
-decreases-task l = 3 * weight l.body.now + 2
+decreases-task l = 4 * weight l.body.now + 2
+
+abbrev pub decreases-for_statement : goal.decreases-for_statement
+decreases-for_statement l = 4 * (part_weight l.start.now + (part_weight l.step.now + weight l.body.now)) + 3
