@@ -54,6 +54,10 @@ arguments_of (piece.Plain b ∷ rest) = arguments_of rest
 arguments_of (piece.Signed ∷ rest) = arguments_of rest + 1
 arguments_of (piece.Unsigned ∷ rest) = arguments_of rest + 1
 
+-- how many arguments a string takes; none where a % begins something else
+abbrev pub conversions_of : List ℕ → Option ℕ
+conversions_of format = option_map arguments_of (pieces_of format)
+
 -- what is written for the pieces and these arguments; without an argument a conversion writes nothing
 abbrev pub written_pieces : List Piece → List ℕ → List ℕ
 written_pieces [] vs = []

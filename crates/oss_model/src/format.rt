@@ -1,6 +1,6 @@
-ghost use Rattle.std.specs.Prelude.{◌≡◌, ◌++◌, ◌<◌, ◌^◌, length, IfOk, OnOk, OnErr, All};
+ghost use Rattle.std.specs.Prelude.{◌≡◌, ◌≤◌, ◌∷◌, [], ◌++◌, ◌<◌, ◌^◌, length, IfOk, OnOk, OnErr, All};
 ghost use Rattle.std.specs.Fmt.{decimal};
-ghost use Rattle.oss_model.specs.Texts.{step_of, at_end, pieces_of, arguments_of, written_pieces, signed_text};
+ghost use Rattle.oss_model.specs.Texts.{conversions_of, step_of, at_end, pieces_of, arguments_of, written_pieces, signed_text};
 
 use oss_syntax::List;
 use std::alloc::{AllocError, Global};
@@ -113,6 +113,40 @@ pub fn arguments(pieces: &[Piece]) -> usize
         }
     }
     count
+}
+
+/// How many arguments a string of `printf` takes; `None` exactly where a `%` begins no conversion of the language.
+pub fn conversions(format: &[u8]) -> Option<usize>
+    ensures { result ≡ conversions_of format.now }
+{
+    let mut count = 0usize;
+    let mut stage = Stage::Before;
+    for byte in format {
+        match next(stage, *byte) {
+            Step::Piece(piece) => {
+                count += arguments_taken(piece);
+                stage = Stage::Before;
+            }
+            Step::Stage(behind) => stage = behind,
+            Step::Bad => return None,
+        }
+    }
+    match stage {
+        Stage::Before => Some(count),
+        Stage::Percent => None,
+        Stage::Long => None,
+    }
+}
+
+fn arguments_taken(piece: Piece) -> usize
+    ensures value { result ≡ arguments_of (piece ∷ []) }
+    ensures few { result ≤ 1 }
+{
+    match piece {
+        Piece::Plain(_) => 0,
+        Piece::Signed => 1,
+        Piece::Unsigned => 1,
+    }
 }
 
 /// Writes the pieces with these arguments behind `output`. After want of memory `output` has a part of it.

@@ -1,0 +1,14 @@
+-- What the checker keeps of broken rules: of each list its first.
+use Rattle.std.specs.Prelude.{nat_lt, if◌then◌else◌, Option, Some, None}
+use Rattle.oss_model.specs.declared.refusal.Refused.{Refused}
+use Rattle.oss_model.specs.Broken.{first, rank}
+use Rattle.oss_model.specs.Kinds.{Findings}
+use Rattle.oss_kinds.specs.declared.finding.Finding.{Finding}
+
+abbrev pub seen : Findings → Finding
+seen f = record { line = f.line; at_first = first f.at_first; behind = first f.behind; kind = f.kind; object = f.object }
+
+-- the earlier of two rules that one token breaks
+abbrev pub earlier : Refused → Option Refused → Option Refused
+earlier b None = Some b
+earlier b (Some c) = if nat_lt (rank b.kind) (rank c.kind) then Some b else Some c

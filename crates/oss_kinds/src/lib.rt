@@ -1,0 +1,13 @@
+//! What names stand for at a place of a program text, the kinds of its expressions, and the rules that these break.
+#![tactic(auto)]
+
+mod expressions;
+mod finding;
+mod globals;
+mod locals;
+mod operators;
+
+pub use expressions::{call, expression, is_named_main, value};
+pub use finding::{Finding, at_place, before, first_of, refused, refused_if, taken_by, wrong};
+pub use globals::Globals;
+pub use locals::Locals;

@@ -1,0 +1,101 @@
+//! The locals in scope.
+ghost use Rattle.std.specs.Prelude.{◌≡◌, ◌∷◌, ◌++◌, ◌≤◌, [], length, map, take, IfOk, OnOk};
+ghost use Rattle.oss_model.specs.Scopes.{local_kind, is_local_again};
+
+use oss_syntax::{Kind, Local};
+use std::alloc::{AllocError, Global};
+use std::marker::Model;
+
+/// The locals in scope: contracts see their list, the last one declared at the end.
+#[derive(Drop)]
+pub struct Locals<'p> {
+    locals: Vec<&'p Local>,
+}
+
+impl<'p> Model for Locals<'p> {
+    ghost use Rattle.std.specs.Prelude.{List, map};
+    ghost use Rattle.oss_syntax.specs.declared.tree.program.Local.{Local};
+    ghost use Rattle.std.specs.Coded.{coded_list};
+    ghost use Rattle.oss_syntax.specs.contracts.tree.program.Local as local;
+
+    ghost Value = { List Local };
+
+    ghost coded = { coded_list local.the_row.coded };
+
+    ghost view = { λ l. map (λ local. local.now) l.locals.items };
+}
+
+impl<'p> Locals<'p> {
+    /// No locals, which takes no memory.
+    pub fn none(alloc: Global) -> Locals<'p>
+        ensures { result ≡ [] }
+    {
+        Locals {
+            locals: Vec::new(alloc),
+        }
+    }
+
+    /// How many locals there are.
+    pub fn len(&self) -> usize
+        ensures { result ≡ length self.now }
+    {
+        self.locals.len()
+    }
+
+    /// The type of the local that this name stands for; `None` where no local has it.
+    pub fn kind(&self, name: &[u8]) -> Option<Kind>
+        ensures { result ≡ local_kind self.now name.now }
+    {
+        kind_among(self.locals.as_slice(), name)
+    }
+
+    /// Whether the innermost scope, whose locals begin at `start`, has a local of this name.
+    pub fn has_since(&self, start: usize, name: &[u8]) -> bool
+        ensures { result ≡ is_local_again start self.now name.now }
+    {
+        is_among(self.locals.as_slice(), start, name)
+    }
+
+    /// Adds a local. Where memory is wanting they stay.
+    pub fn add(&mut self, local: &'p Local) -> Result<(), AllocError>
+        ensures { OnOk result (self.new ≡ self.old ++ local.now ∷ []) }
+    {
+        self.locals.push(local)?;
+        Ok(())
+    }
+
+    /// Leaves a scope: the first `count` locals stay.
+    #[tactic(auto, using(crate::proofs::Firsts::cuts))]
+    pub fn leave(&mut self, count: usize)
+        ensures { self.new ≡ take count self.old }
+    {
+        self.locals.truncate(count);
+    }
+}
+
+fn kind_among(locals: &[&Local], name: &[u8]) -> Option<Kind>
+    ensures { result ≡ local_kind (map (λ local. local.now) locals.now) name.now }
+{
+    let mut found = None;
+    for local in locals {
+        if local.name.as_slice() == name {
+            found = Some(local.kind);
+        }
+    }
+    found
+}
+
+fn is_among(locals: &[&Local], start: usize, name: &[u8]) -> bool
+    ensures { result ≡ is_local_again start (map (λ local. local.now) locals.now) name.now }
+{
+    if locals.len() < start {
+        return false;
+    }
+    let (_, inner) = locals.split_at(start);
+    for local in inner {
+        if local.name.as_slice() == name {
+            return true;
+        }
+    }
+    false
+}

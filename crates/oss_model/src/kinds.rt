@@ -1,0 +1,69 @@
+use oss_syntax::{Kind, NumKind};
+
+/// The kind of an expression's value.
+#[derive(Clone, Copy, Debug, PartialEq, Eq)]
+pub enum ValueKind {
+    /// A number that operators read as signed.
+    Signed,
+    /// A number that operators read as unsigned.
+    Unsigned,
+    /// A pointer to numbers of this type.
+    Pointer(NumKind),
+    /// A function without a result was called.
+    Nothing,
+    /// It breaks a rule, or its kind comes from what breaks one. It breaks no further rule.
+    Unknown,
+}
+
+/// Which kinds of values are allowed at a place.
+#[derive(Clone, Copy, Debug, PartialEq, Eq)]
+pub enum Wanted {
+    /// A number, signed or not.
+    Number,
+    /// A pointer to numbers of any type.
+    Pointer,
+    /// A number or such a pointer, as on the left of `+`.
+    NumberOrPointer,
+    /// A pointer to numbers of this very type.
+    PointerTo(NumKind),
+    /// Nothing is asked of the value.
+    Anything,
+}
+
+/// What an expression designates.
+#[derive(Clone, Copy, Debug, PartialEq, Eq)]
+pub enum Object {
+    /// A value alone, which can be neither a target nor the operand of `&`.
+    ValueOnly,
+    /// A cell of this type: a global scalar, `a[e]`, `p[e]` or `*p`.
+    Cell(NumKind),
+    /// A local of this type.
+    Variable(Kind),
+}
+
+/// What a name stands for at a place of the text.
+#[derive(Clone, Copy, Debug, PartialEq, Eq)]
+pub enum Named {
+    /// The name is not in scope.
+    Missing,
+    /// A local of this type.
+    Local(Kind),
+    /// A global that is one number.
+    Scalar(NumKind),
+    /// A global that is an array of such numbers.
+    Array(NumKind),
+    Function,
+}
+
+/// What stands around a statement.
+#[derive(Clone, Copy, Debug)]
+pub struct Around {
+    /// How many locals were in scope where the innermost scope began: those from here on are declared in it.
+    pub start: usize,
+    /// The type of the function's result.
+    pub result: Kind,
+    /// Whether a loop stands around it inside the same task body or function.
+    pub in_loop: bool,
+    /// Whether a task statement stands around it.
+    pub in_task: bool,
+}

@@ -1,0 +1,25 @@
+-- What the check of a program tells: that it breaks no rule, and where its globals lie; or the first rule that it breaks.
+use Rattle.std.specs.Prelude.{◌≡◌, ℕ, ◌+◌, List, [], ◌∷◌, Some, Result, Ok, Err}
+use Rattle.std.specs.Global.{Vec}
+use Rattle.oss_syntax.specs.declared.tree.program.Program.{Program}
+use Rattle.oss_model.specs.declared.refusal.Refusal.{Refusal}
+use Rattle.oss_model.specs.declared.refusal.Refusal.TheVariants as refusal
+use Rattle.oss_model.specs.Layout.{sizes_of}
+use Rattle.oss_model.specs.ProgramRules.{program_rules, refusal_of}
+
+-- the first cell of each global, and at the end the number of all cells: of the sizes 1, 3 and 1 it is 0, 1, 4, 5
+abbrev pub bounds_of : ℕ → List ℕ → List ℕ
+bounds_of before [] = before ∷ []
+bounds_of before (size ∷ rest) = before ∷ bounds_of (before + size) rest
+
+-- A program is accepted exactly where it breaks no rule, and else refused for the first that it breaks. Want of memory says nothing.
+abbrev pub IsResolved : Program → Result Program Refusal → Type 0
+IsResolved p (Ok known) = (program_rules p ≡ []) × (known ≡ p)
+IsResolved p (Err (refusal.Refused r)) = refusal_of p ≡ Some r
+IsResolved p (Err (refusal.Memory e)) = Unit {0}
+
+-- the same of the bounds of its globals
+abbrev pub IsChecked : Program → Result (Vec ℕ) Refusal → Type 0
+IsChecked p (Ok bounds) = (program_rules p ≡ []) × (bounds.items ≡ bounds_of 0 (sizes_of p.items))
+IsChecked p (Err (refusal.Refused r)) = refusal_of p ≡ Some r
+IsChecked p (Err (refusal.Memory e)) = Unit {0}

@@ -1,0 +1,13 @@
+//! The static rules of programs, and where each global lies.
+#![tactic(auto)]
+
+mod built;
+mod known;
+mod program;
+mod sections;
+mod simple;
+mod statements;
+#[cfg(test)]
+mod tests;
+
+pub use known::{Known, resolve};

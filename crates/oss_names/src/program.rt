@@ -1,0 +1,211 @@
+//! The rules on whole programs.
+ghost use Rattle.std.specs.Prelude.{◌≡◌, ◌∷◌, ◌++◌, ◌+◌, ◌≤◌, [], OnOk};
+ghost use Rattle.oss_model.specs.Broken.{first};
+ghost use Rattle.oss_model.specs.Layout.{cells_of};
+ghost use Rattle.oss_model.specs.ProgramRules.{body_around, function_rules, global_rules, has_main, is_wrong_function, mark_rules, passes_cells, returns_int, returns_nothing};
+ghost use Rattle.oss_names.specs.Ends.{Tells};
+ghost use Rattle.oss_names.specs.Resolved.{IsChecked};
+
+use crate::sections::{clauses, is_of_ints};
+use crate::statements::{declare, statements};
+use oss_kinds::{Globals, Locals, before, is_named_main, refused, refused_if};
+use oss_model::{Around, Refusal, Refused, RefusedKind};
+use oss_syntax::{Function, GlobalDef, Item, Kind, Program, TaskMark};
+use std::alloc::{AllocError, Global};
+
+/// The most cells of a program.
+const MOST_CELLS: u64 = 1_048_576;
+
+/// Checks a program, and tells the first cell of each global and the number of all cells; or the first rule that it breaks.
+pub fn check(alloc: Global, program: &Program) -> Result<Vec<u32>, Refusal>
+    ensures { IsChecked program.now result }
+{
+    let items = program.items.as_slice();
+    let globals = match Globals::of(alloc, items) {
+        Ok(globals) => globals,
+        Err(full) => return Err(Refusal::Memory(full)),
+    };
+    let mut bounds = Vec::new(alloc);
+    let mut cells = 0u32;
+    let mut place = 0usize;
+    for item in items {
+        match item {
+            Item::Global(global) => {
+                match refusal_of_global(&globals, place, cells, global) {
+                    Some(broken) => return Err(Refusal::Refused(broken)),
+                    None => {}
+                }
+                match note(&mut bounds, cells) {
+                    Ok(()) => {}
+                    Err(full) => return Err(Refusal::Memory(full)),
+                }
+                cells = behind(cells, global.cells);
+            }
+            Item::Function(function) => match check_function(alloc, &globals, place, function) {
+                Ok(()) => {}
+                Err(refusal) => return Err(refusal),
+            },
+        }
+        place += 1;
+    }
+    if !has_a_main(items) {
+        return Err(Refusal::Refused(refused(RefusedKind::NoMain, 1)));
+    }
+    match note(&mut bounds, cells) {
+        Ok(()) => Ok(bounds),
+        Err(full) => Err(Refusal::Memory(full)),
+    }
+}
+
+/// Adds a bound at the end. Where memory is wanting they stay.
+fn note(bounds: &mut Vec<u32>, bound: u32) -> Result<(), AllocError>
+    ensures { OnOk result (bounds.new.items ≡ bounds.old.items ++ bound ∷ []) }
+{
+    bounds.push(bound)?;
+    Ok(())
+}
+
+/// The first rule that a global breaks behind so many cells.
+#[tactic(auto, using(oss_kinds::proofs::Firsts::firsts))]
+fn refusal_of_global(
+    globals: &Globals<'_>,
+    place: usize,
+    cells: u32,
+    global: &GlobalDef,
+) -> Option<Refused>
+    requires { cells ≤ 1048576 }
+    ensures { result ≡ first (global_rules globals.now place cells global.now) }
+{
+    let again = globals.declares_again(place, global.name.as_slice());
+    let twice = refused_if(again, RefusedKind::DuplicateName, global.line);
+    let many = passes(cells, global.cells);
+    before(twice, refused_if(many, RefusedKind::TooLarge, global.line))
+}
+
+/// How many cells a global has.
+fn size_of(cells: Option<u64>) -> u64
+    ensures { result ≡ cells_of cells }
+{
+    match cells {
+        None => 1,
+        Some(cells) => cells,
+    }
+}
+
+/// Whether a global has no cell, or there are too many cells with it.
+fn passes(before: u32, cells: Option<u64>) -> bool
+    requires { before ≤ 1048576 }
+    ensures { result ≡ passes_cells before cells }
+{
+    let size = size_of(cells);
+    let left = MOST_CELLS - before as u64;
+    size == 0 || left < size
+}
+
+/// The number of cells with one more global.
+fn behind(before: u32, cells: Option<u64>) -> u32
+    requires { before + cells_of cells ≤ 1048576 }
+    ensures { result ≡ before + cells_of cells }
+{
+    before + size_of(cells) as u32
+}
+
+/// Checks a function: its pragma, its name, its parameters and its body.
+fn check_function<'p>(
+    alloc: Global,
+    globals: &Globals<'_>,
+    place: usize,
+    function: &'p Function,
+) -> Result<(), Refusal>
+    ensures { Tells (function_rules globals.now place function.now) result }
+{
+    let mut locals = Locals::none(alloc);
+    let params = match declare(globals, 0, function.params.as_slice(), &mut locals) {
+        Ok(params) => params,
+        Err(full) => return Err(Refusal::Memory(full)),
+    };
+    let again = globals.declares_again(place, function.name.as_slice());
+    let twice = refused_if(again, RefusedKind::DuplicateName, function.line);
+    let wrong = is_wrong(function);
+    let unlike = refused_if(wrong, RefusedKind::WrongKind, function.line);
+    let mark = refusal_of_mark(globals, &locals, &function.mark);
+    match before(mark, before(twice, before(unlike, params))) {
+        Some(broken) => return Err(Refusal::Refused(broken)),
+        None => {}
+    }
+    let around = around_body(function.result);
+    statements(globals, around, function.body.as_slice(), &mut locals)
+}
+
+/// The first rule that the pragma of a function breaks.
+fn refusal_of_mark(
+    globals: &Globals<'_>,
+    locals: &Locals<'_>,
+    mark: &Option<TaskMark>,
+) -> Option<Refused>
+    ensures { result ≡ first (mark_rules globals.now locals.now mark.now) }
+{
+    match mark {
+        Some(mark) => clauses(globals, locals, mark.clauses.as_slice()),
+        None => None,
+    }
+}
+
+/// What stands around the body of a function.
+fn around_body(kind: Kind) -> Around
+    ensures { result ≡ body_around kind }
+{
+    Around {
+        start: 0,
+        result: kind,
+        in_loop: false,
+        in_task: false,
+    }
+}
+
+/// Whether a function is no `main` as it may be, or has a pragma and a result.
+fn is_wrong(function: &Function) -> bool
+    ensures { result ≡ is_wrong_function function.now }
+{
+    let main = is_named_main(function);
+    let main_is_wrong = main && (!function.params.is_empty() || !is_int(function.result));
+    let task_is_wrong = function.mark.is_some() && (main || !is_nothing(function.result));
+    main_is_wrong || task_is_wrong
+}
+
+fn is_int(kind: Kind) -> bool
+    ensures { result ≡ returns_int kind }
+{
+    match kind {
+        Kind::Num(number) => is_of_ints(number),
+        Kind::Pointer(_) => false,
+        Kind::Nothing => false,
+    }
+}
+
+fn is_nothing(kind: Kind) -> bool
+    ensures { result ≡ returns_nothing kind }
+{
+    match kind {
+        Kind::Num(_) => false,
+        Kind::Pointer(_) => false,
+        Kind::Nothing => true,
+    }
+}
+
+/// Whether one of the items is a function `main`.
+fn has_a_main(items: &[Item]) -> bool
+    ensures { result ≡ has_main items.now }
+{
+    for item in items {
+        match item {
+            Item::Function(function) => {
+                if is_named_main(function) {
+                    return true;
+                }
+            }
+            Item::Global(_) => {}
+        }
+    }
+    false
+}

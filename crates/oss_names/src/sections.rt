@@ -1,0 +1,309 @@
+//! The rules on array sections and on the clauses of a pragma.
+ghost use Rattle.std.specs.Prelude.{◌≡◌, ◌++◌, ◌+◌, ◌≤◌, None, length};
+ghost use Rattle.oss_model.specs.Broken.{first};
+ghost use Rattle.oss_model.specs.ExpressionRules.{value_rules};
+ghost use Rattle.oss_model.specs.StaticRules.{wait_rules};
+ghost use Rattle.oss_model.specs.SectionRules.{begins_with_base, clause_rules, clauses_rules, fits_base, form_rules, has_elements, has_ints, is_array, is_fold, is_global, is_int, is_missing, is_wrong_section, optional_rules, section_rules, sections_in, sections_rules};
+
+use oss_kinds::{Globals, Locals, before, refused_if, value};
+use oss_model::{Named, Refused, RefusedKind, Wanted};
+use oss_syntax::{Clause, Expr, Form, Kind, List, Mode, NumKind, Section};
+
+/// The most sections of a pragma.
+const MOST_SECTIONS: usize = 64;
+
+/// The first rule that the clauses of a pragma break.
+pub fn clauses(globals: &Globals<'_>, locals: &Locals<'_>, clauses: &[Clause]) -> Option<Refused>
+    ensures { result ≡ first (clauses_rules globals.now locals.now 0 clauses.now) }
+{
+    let mut count = 0usize;
+    for one in clauses {
+        match clause(globals, locals, count, one) {
+            Some(broken) => return Some(broken),
+            None => {}
+        }
+        count += sections_of(one);
+    }
+    None
+}
+
+/// How many sections a clause has.
+fn sections_of(clause: &Clause) -> usize
+    ensures { result ≡ length (sections_in clause.now) }
+{
+    match clause {
+        Clause::Depend(_, _, sections) => sections.len(),
+        Clause::If(_) => 0,
+        Clause::Final(_) => 0,
+        Clause::Wait => 0,
+        Clause::Label(_) => 0,
+        Clause::Priority(_) => 0,
+    }
+}
+
+/// The first rule that a clause breaks behind so many sections of its pragma.
+fn clause(
+    globals: &Globals<'_>,
+    locals: &Locals<'_>,
+    before: usize,
+    clause: &Clause,
+) -> Option<Refused>
+    requires { before ≤ 64 }
+    ensures rules { result ≡ first (clause_rules globals.now locals.now before clause.now) }
+    ensures few { result ≡ None → before + length (sections_in clause.now) ≤ 64 }
+{
+    match clause {
+        Clause::Depend(mode, _, list) => {
+            sections(globals, locals, folds(*mode), before, list.as_slice())
+        }
+        Clause::If(expr) => value(globals, locals, Wanted::Number, expr),
+        Clause::Final(expr) => value(globals, locals, Wanted::Number, expr),
+        Clause::Wait => None,
+        Clause::Label(_) => None,
+        Clause::Priority(expr) => value(globals, locals, Wanted::Number, expr),
+    }
+}
+
+fn folds(mode: Mode) -> bool
+    ensures { result ≡ is_fold mode }
+{
+    match mode {
+        Mode::Read => false,
+        Mode::Write => false,
+        Mode::Fold(_) => true,
+    }
+}
+
+/// The first rule that sections break behind so many others of their pragma; where they break none, there are at most 64
+/// with them. The sections of a reduction name numbers of 64 bits.
+pub fn sections(
+    globals: &Globals<'_>,
+    locals: &Locals<'_>,
+    fold: bool,
+    before: usize,
+    sections: &[Section],
+) -> Option<Refused>
+    requires { before ≤ 64 }
+    ensures rules { result ≡ first (sections_rules globals.now locals.now fold before sections.now) }
+    ensures few { result ≡ None → before + length sections.now ≤ 64 }
+{
+    let mut count = before;
+    for one in sections {
+        match section(globals, locals, fold, count, one) {
+            Some(broken) => return Some(broken),
+            None => {}
+        }
+        count += 1;
+    }
+    None
+}
+
+/// The first rule that a section breaks behind so many others of its pragma.
+#[tactic(auto, using(oss_kinds::proofs::Firsts::firsts))]
+fn section(
+    globals: &Globals<'_>,
+    locals: &Locals<'_>,
+    fold: bool,
+    count: usize,
+    section: &Section,
+) -> Option<Refused>
+    ensures { result ≡ first (section_rules globals.now locals.now fold count section.now) }
+{
+    let named = globals.named(locals, section.base.as_slice());
+    let line = section.line;
+    let base_first = begins(&section.form);
+    let base_last = !base_first;
+    let missing = is_unknown(named);
+    let wrong = is_wrong(fold, &section.form, named);
+    let inside = expressions(globals, locals, &section.form);
+    let last = refused_if(base_last && missing, RefusedKind::UnknownName, line);
+    let large = refused_if(count == MOST_SECTIONS, RefusedKind::TooLarge, line);
+    let from_large = before(large, before(inside, last));
+    let from_wrong = before(refused_if(wrong, RefusedKind::WrongKind, line), from_large);
+    before(
+        refused_if(base_first && missing, RefusedKind::UnknownName, line),
+        from_wrong,
+    )
+}
+
+fn is_unknown(named: Named) -> bool
+    ensures { result ≡ is_missing named }
+{
+    match named {
+        Named::Missing => true,
+        Named::Local(_) => false,
+        Named::Scalar(_) => false,
+        Named::Array(_) => false,
+        Named::Function => false,
+    }
+}
+
+/// Whether the base is the first token of a section.
+fn begins(form: &Form) -> bool
+    ensures { result ≡ begins_with_base form.now }
+{
+    match form {
+        Form::Whole => true,
+        Form::Deref => false,
+        Form::Shape(_) => false,
+        Form::Element(_) => true,
+        Form::Length(_, _) => true,
+        Form::Span(_, _) => true,
+    }
+}
+
+/// The first rule that the expressions of a section break.
+#[tactic(auto, using(oss_kinds::proofs::Firsts::firsts))]
+fn expressions(globals: &Globals<'_>, locals: &Locals<'_>, form: &Form) -> Option<Refused>
+    ensures { result ≡ first (form_rules globals.now locals.now form.now) }
+{
+    match form {
+        Form::Whole => None,
+        Form::Deref => None,
+        Form::Shape(count) => value(globals, locals, Wanted::Number, count),
+        Form::Element(place) => value(globals, locals, Wanted::Number, place),
+        Form::Length(from, count) => both(globals, locals, from, count),
+        Form::Span(lower, upper) => both_ends(globals, locals, lower, upper),
+    }
+}
+
+/// The first rule that two numbers break.
+#[tactic(auto, using(oss_kinds::proofs::Firsts::firsts))]
+fn both(globals: &Globals<'_>, locals: &Locals<'_>, one: &Expr, other: &Expr) -> Option<Refused>
+    ensures { result ≡ first (value_rules globals.now locals.now Wanted.Number one.now ++ value_rules globals.now locals.now Wanted.Number other.now) }
+{
+    before(
+        value(globals, locals, Wanted::Number, one),
+        value(globals, locals, Wanted::Number, other),
+    )
+}
+
+/// The first rule that two numbers break that may be left out.
+#[tactic(auto, using(oss_kinds::proofs::Firsts::firsts))]
+fn both_ends(
+    globals: &Globals<'_>,
+    locals: &Locals<'_>,
+    lower: &Option<Expr>,
+    upper: &Option<Expr>,
+) -> Option<Refused>
+    ensures { result ≡ first (optional_rules globals.now locals.now lower.now ++ optional_rules globals.now locals.now upper.now) }
+{
+    before(
+        optional(globals, locals, lower),
+        optional(globals, locals, upper),
+    )
+}
+
+/// The first rule that a number breaks that may be left out.
+pub fn optional(globals: &Globals<'_>, locals: &Locals<'_>, expr: &Option<Expr>) -> Option<Refused>
+    ensures { result ≡ first (optional_rules globals.now locals.now expr.now) }
+{
+    match expr {
+        Some(expr) => value(globals, locals, Wanted::Number, expr),
+        None => None,
+    }
+}
+
+/// Whether a form does not allow a base that is in scope, or a reduction its type.
+fn is_wrong(fold: bool, form: &Form, named: Named) -> bool
+    ensures { result ≡ is_wrong_section fold form.now named }
+{
+    match named {
+        Named::Missing => false,
+        Named::Local(_) => !fits(form, named) || (fold && names_ints(named)),
+        Named::Scalar(_) => !fits(form, named) || (fold && names_ints(named)),
+        Named::Array(_) => !fits(form, named) || (fold && names_ints(named)),
+        Named::Function => !fits(form, named) || (fold && names_ints(named)),
+    }
+}
+
+fn fits(form: &Form, named: Named) -> bool
+    ensures { result ≡ fits_base form.now named }
+{
+    match form {
+        Form::Whole => is_a_global(named),
+        Form::Span(_, None) => is_an_array(named),
+        Form::Span(_, Some(_)) => names_elements(named),
+        Form::Deref => names_elements(named),
+        Form::Shape(_) => names_elements(named),
+        Form::Element(_) => names_elements(named),
+        Form::Length(_, _) => names_elements(named),
+    }
+}
+
+fn is_a_global(named: Named) -> bool
+    ensures { result ≡ is_global named }
+{
+    match named {
+        Named::Missing => false,
+        Named::Local(_) => false,
+        Named::Scalar(_) => true,
+        Named::Array(_) => true,
+        Named::Function => false,
+    }
+}
+
+fn is_an_array(named: Named) -> bool
+    ensures { result ≡ is_array named }
+{
+    match named {
+        Named::Missing => false,
+        Named::Local(_) => false,
+        Named::Scalar(_) => false,
+        Named::Array(_) => true,
+        Named::Function => false,
+    }
+}
+
+fn names_elements(named: Named) -> bool
+    ensures { result ≡ has_elements named }
+{
+    match named {
+        Named::Missing => false,
+        Named::Local(Kind::Pointer(_)) => true,
+        Named::Local(Kind::Num(_)) => false,
+        Named::Local(Kind::Nothing) => false,
+        Named::Scalar(_) => false,
+        Named::Array(_) => true,
+        Named::Function => false,
+    }
+}
+
+fn names_ints(named: Named) -> bool
+    ensures { result ≡ has_ints named }
+{
+    match named {
+        Named::Missing => false,
+        Named::Local(Kind::Pointer(number)) => is_of_ints(number),
+        Named::Local(Kind::Num(_)) => false,
+        Named::Local(Kind::Nothing) => false,
+        Named::Scalar(number) => is_of_ints(number),
+        Named::Array(number) => is_of_ints(number),
+        Named::Function => false,
+    }
+}
+
+/// Whether this is the type `int`.
+pub fn is_of_ints(number: NumKind) -> bool
+    ensures { result ≡ is_int number }
+{
+    match number {
+        NumKind::Int => true,
+        NumKind::Long => false,
+        NumKind::Ulong => false,
+    }
+}
+
+/// The first rule that the sections of a wait break.
+pub fn wait(
+    globals: &Globals<'_>,
+    locals: &Locals<'_>,
+    list: &Option<List<Section>>,
+) -> Option<Refused>
+    ensures { result ≡ first (wait_rules globals.now locals.now list.now) }
+{
+    match list {
+        Some(list) => sections(globals, locals, false, 0, list.as_slice()),
+        None => None,
+    }
+}

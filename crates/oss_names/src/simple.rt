@@ -1,0 +1,206 @@
+//! The rules on statements that hold no others.
+ghost use Rattle.std.specs.Prelude.{◌≡◌, length, map, true};
+ghost use Rattle.oss_model.specs.Broken.{first};
+ghost use Rattle.oss_model.specs.ExpressionRules.{call_findings, findings};
+ghost use Rattle.oss_model.specs.Kinds.{Findings, all_of};
+ghost use Rattle.oss_model.specs.StaticRules.{assign_rules, format_rules, is_wrong_return, moved, numbers_rules, or_anything, print_rules, return_rules, returned_rules, stored_in, stored_rules, target_wanted};
+ghost use Rattle.oss_kinds.specs.Seen.{seen};
+
+use oss_kinds::{
+    Finding, Globals, Locals, at_place, before, call, expression, first_of, refused, refused_if,
+    taken_by, value, wrong,
+};
+use oss_model::{Around, Object, Refused, RefusedKind, ValueKind, Wanted, conversions};
+use oss_syntax::{BinOp, Bytes, Expr, Kind, List, Name, NumKind};
+
+/// The first rule that an assignment breaks.
+pub fn assignment(
+    globals: &Globals<'_>,
+    locals: &Locals<'_>,
+    op: Option<BinOp>,
+    target: &Expr,
+    value: &Expr,
+) -> Option<Refused>
+    ensures { result ≡ first (assign_rules globals.now locals.now op target.now value.now) }
+{
+    let target = expression(globals, locals, target);
+    let value = expression(globals, locals, value);
+    store(
+        wanted_by_target(op, target.kind, target.object),
+        target,
+        value,
+    )
+}
+
+/// The first rule that a target and what is stored in it break.
+#[tactic(auto, using(oss_kinds::proofs::Firsts::firsts))]
+fn store(wanted: Option<Wanted>, target: Finding, value: Finding) -> Option<Refused>
+    ensures { (t : Findings) → (e : Findings) → target ≡ seen t → value ≡ seen e → result ≡ first (stored_rules wanted t e) }
+{
+    match wanted {
+        Some(wanted) => before(first_of(target), first_of(at_place(wanted, value))),
+        None => before(
+            first_of(wrong(target)),
+            first_of(at_place(Wanted::Anything, value)),
+        ),
+    }
+}
+
+/// What may be stored in a target; `None` where it is none.
+fn wanted_by_target(op: Option<BinOp>, kind: ValueKind, object: Object) -> Option<Wanted>
+    ensures { result ≡ target_wanted op kind object }
+{
+    match kind {
+        ValueKind::Unknown => Some(Wanted::Anything),
+        ValueKind::Signed => wanted_by_object(op, object),
+        ValueKind::Unsigned => wanted_by_object(op, object),
+        ValueKind::Pointer(_) => wanted_by_object(op, object),
+        ValueKind::Nothing => wanted_by_object(op, object),
+    }
+}
+
+fn wanted_by_object(op: Option<BinOp>, object: Object) -> Option<Wanted>
+    ensures { result ≡ stored_in op object }
+{
+    match object {
+        Object::ValueOnly => None,
+        Object::Cell(_) => Some(Wanted::Number),
+        Object::Variable(Kind::Num(_)) => Some(Wanted::Number),
+        Object::Variable(Kind::Pointer(number)) => wanted_by_pointer(op, number),
+        Object::Variable(Kind::Nothing) => None,
+    }
+}
+
+fn wanted_by_pointer(op: Option<BinOp>, number: NumKind) -> Option<Wanted>
+    ensures { result ≡ moved op number }
+{
+    match op {
+        None => Some(Wanted::PointerTo(number)),
+        Some(op) => match op {
+            BinOp::Add => Some(Wanted::Number),
+            BinOp::Sub => Some(Wanted::Number),
+            BinOp::OrElse => None,
+            BinOp::AndAlso => None,
+            BinOp::Or => None,
+            BinOp::Xor => None,
+            BinOp::And => None,
+            BinOp::Equal => None,
+            BinOp::Differ => None,
+            BinOp::Less => None,
+            BinOp::LessEqual => None,
+            BinOp::More => None,
+            BinOp::MoreEqual => None,
+            BinOp::Left => None,
+            BinOp::Right => None,
+            BinOp::Mul => None,
+            BinOp::Div => None,
+            BinOp::Rem => None,
+        },
+    }
+}
+
+/// The first rule that a call as a statement breaks.
+pub fn call_statement(
+    globals: &Globals<'_>,
+    locals: &Locals<'_>,
+    line: u32,
+    name: &Name,
+    values: &List<Expr>,
+) -> Option<Refused>
+    ensures { result ≡ first (all_of (call_findings globals.now locals.now name.now line true (map (findings globals.now locals.now) values.now))) }
+{
+    first_of(call(
+        globals,
+        locals,
+        name.as_slice(),
+        line,
+        true,
+        values.as_slice(),
+    ))
+}
+
+/// The first rule that a `printf` breaks.
+#[tactic(auto, using(oss_kinds::proofs::Firsts::firsts))]
+pub fn print(
+    globals: &Globals<'_>,
+    locals: &Locals<'_>,
+    line: u32,
+    format: &Bytes,
+    values: &List<Expr>,
+) -> Option<Refused>
+    ensures { result ≡ first (print_rules globals.now locals.now line format.now values.now) }
+{
+    before(
+        refusal_of_format(conversions(format.as_slice()), values.len(), line),
+        numbers(globals, locals, values.as_slice()),
+    )
+}
+
+fn refusal_of_format(conversions: Option<usize>, count: usize, line: u32) -> Option<Refused>
+    ensures { result ≡ first (format_rules conversions count line) }
+{
+    match conversions {
+        None => Some(refused(RefusedKind::WrongKind, line)),
+        Some(conversions) => refused_if(conversions != count, RefusedKind::WrongCount, line),
+    }
+}
+
+/// The first rule that these numbers break.
+fn numbers(globals: &Globals<'_>, locals: &Locals<'_>, values: &[Expr]) -> Option<Refused>
+    ensures { result ≡ first (numbers_rules globals.now locals.now values.now) }
+{
+    for expr in values {
+        match value(globals, locals, Wanted::Number, expr) {
+            Some(broken) => return Some(broken),
+            None => {}
+        }
+    }
+    None
+}
+
+/// The first rule that a `return` breaks.
+#[tactic(auto, using(oss_kinds::proofs::Firsts::firsts))]
+pub fn return_statement(
+    globals: &Globals<'_>,
+    locals: &Locals<'_>,
+    around: Around,
+    line: u32,
+    value: &Option<Expr>,
+) -> Option<Refused>
+    ensures { result ≡ first (return_rules globals.now locals.now around line value.now) }
+{
+    let wrong = is_wrong_for(around.result, value);
+    let inside = optional_for(globals, locals, around.result, value);
+    before(
+        refused_if(wrong, RefusedKind::WrongKind, line),
+        before(
+            refused_if(around.in_task, RefusedKind::BadJump, line),
+            inside,
+        ),
+    )
+}
+
+fn is_wrong_for(kind: Kind, value: &Option<Expr>) -> bool
+    ensures { result ≡ is_wrong_return kind value.now }
+{
+    match kind {
+        Kind::Nothing => value.is_some(),
+        Kind::Num(_) => value.is_none(),
+        Kind::Pointer(_) => value.is_none(),
+    }
+}
+
+/// The first rule that a value breaks that a variable of this type takes, where there is one.
+pub fn optional_for(
+    globals: &Globals<'_>,
+    locals: &Locals<'_>,
+    kind: Kind,
+    expr: &Option<Expr>,
+) -> Option<Refused>
+    ensures { result ≡ first (returned_rules globals.now locals.now kind expr.now) }
+{
+    match expr {
+        Some(expr) => value(globals, locals, taken_by(kind), expr),
+        None => None,
+    }
+}

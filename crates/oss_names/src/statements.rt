@@ -1,0 +1,356 @@
+//! The rules on statements.
+ghost use Rattle.std.specs.Prelude.{◌≡◌, List, length, take, map, option_map, IfOk, OnOk};
+ghost use Rattle.oss_syntax.specs.declared.tree.program.Local.{Local as Declared};
+ghost use Rattle.oss_model.specs.declared.refusal.Refused.{Refused as Broken};
+ghost use Rattle.oss_model.specs.Broken.{first};
+ghost use Rattle.oss_model.specs.ExpressionRules.{value_rules};
+ghost use Rattle.oss_model.specs.SectionRules.{clauses_rules};
+ghost use Rattle.oss_model.specs.Scopes.{is_local_again};
+ghost use Rattle.oss_model.specs.StaticRules.{Judged, alone, declare_all, for_rules, in_a_loop, in_a_task, inner, inner_part, judged, local_rules, part_rules, rules_of, rules_of_all, scope_in, statements_rules, then_judge, with_local};
+ghost use Rattle.oss_names.specs.Ends.{Ends};
+
+use crate::sections::{clauses, optional, wait};
+use crate::simple::{assignment, call_statement, optional_for, print, return_statement};
+use oss_kinds::{Globals, Locals, before, refused_if, value};
+use oss_model::{Around, Refusal, Refused, RefusedKind, Wanted};
+use oss_syntax::{Boxed, Expr, Local, Stmt, StmtKind, TaskMark};
+use std::alloc::AllocError;
+
+/// The most locals of a function that are in scope at one place.
+const MOST_LOCALS: usize = 255;
+
+/// Ends a part of a text whose first broken rule this is.
+fn told(broken: Option<Refused>) -> Result<(), Refusal>
+    ensures simple { (rules : List Broken) → (locals : List Declared) → broken ≡ first rules → Ends locals (judged rules locals) result locals }
+    ensures after { (old : List Declared) → (j : Judged) → (now : List Declared) → broken ≡ first j.broken → now ≡ j.locals → take (length old) now ≡ old → Ends old j result now }
+{
+    match broken {
+        Some(broken) => Err(Refusal::Refused(broken)),
+        None => Ok(()),
+    }
+}
+
+/// Declares locals one after the other, and tells the first rule that they break. Of two declarations of a name the first
+/// counts. Want of memory is the one error.
+pub fn declare<'p>(
+    globals: &Globals<'_>,
+    start: usize,
+    declared: &'p [Local],
+    locals: &mut Locals<'p>,
+) -> Result<Option<Refused>, AllocError>
+    ensures rules { IfOk result (λ broken. broken ≡ first (declare_all globals.now start declared.now locals.old).broken) }
+    ensures after { OnOk result (locals.new ≡ (declare_all globals.now start declared.now locals.old).locals) }
+    ensures stays { OnOk result (take (length locals.old) locals.new ≡ locals.old) }
+{
+    let mut broken = None;
+    for local in declared {
+        let here = declare_local(globals, start, local, locals)?;
+        broken = before(broken, here);
+    }
+    Ok(broken)
+}
+
+/// Checks a declaration, whose locals stay in scope behind it.
+fn declaration<'p>(
+    globals: &Globals<'_>,
+    start: usize,
+    declared: &'p [Local],
+    locals: &mut Locals<'p>,
+) -> Result<(), Refusal>
+    ensures { Ends locals.old (declare_all globals.now start declared.now locals.old) result locals.new }
+{
+    match declare(globals, start, declared, locals) {
+        Ok(broken) => told(broken),
+        Err(full) => Err(Refusal::Memory(full)),
+    }
+}
+
+/// Declares one local, and tells the first rule that it breaks.
+#[tactic(auto, using(oss_kinds::proofs::Firsts::firsts))]
+fn declare_local<'p>(
+    globals: &Globals<'_>,
+    start: usize,
+    local: &'p Local,
+    locals: &mut Locals<'p>,
+) -> Result<Option<Refused>, AllocError>
+    ensures rules { IfOk result (λ broken. broken ≡ first (local_rules globals.now start local.now locals.old)) }
+    ensures after { OnOk result (locals.new ≡ with_local (is_local_again start locals.old local.now.name) local.now locals.old) }
+{
+    let again = locals.has_since(start, local.name.as_slice());
+    let many = MOST_LOCALS <= locals.len();
+    let inside = optional_for(globals, locals, local.kind, &local.first);
+    let large = refused_if(many, RefusedKind::TooLarge, local.line);
+    let twice = refused_if(again, RefusedKind::DuplicateName, local.line);
+    let broken = before(twice, before(large, inside));
+    if !again {
+        locals.add(local)?;
+    }
+    Ok(broken)
+}
+
+/// Checks statements in order, whose declarations stay in scope behind them.
+#[cycle(statements)]
+pub fn statements<'p>(
+    globals: &Globals<'_>,
+    around: Around,
+    list: &'p [Stmt],
+    locals: &mut Locals<'p>,
+) -> Result<(), Refusal>
+    ensures { Ends locals.old (rules_of_all list.now globals.now around locals.old) result locals.new }
+{
+    for one in list {
+        match statement(globals, around, one, locals) {
+            Ok(()) => {}
+            Err(refusal) => return Err(refusal),
+        }
+    }
+    Ok(())
+}
+
+/// Checks one statement.
+#[cycle(statements)]
+fn statement<'p>(
+    globals: &Globals<'_>,
+    around: Around,
+    statement: &'p Stmt,
+    locals: &mut Locals<'p>,
+) -> Result<(), Refusal>
+    ensures { Ends locals.old (rules_of statement.now globals.now around locals.old) result locals.new }
+{
+    let line = statement.line;
+    match &statement.what {
+        StmtKind::Block(list) => block(globals, around, list.as_slice(), locals),
+        StmtKind::Empty => told(None),
+        StmtKind::Declare(declared) => {
+            declaration(globals, around.start, declared.as_slice(), locals)
+        }
+        StmtKind::Assign(target, op, value) => {
+            told(assignment(globals, locals, *op, target, value))
+        }
+        StmtKind::Call(name, values) => {
+            told(call_statement(globals, locals, line, name, values))
+        }
+        StmtKind::Print(format, values) => told(print(globals, locals, line, format, values)),
+        StmtKind::If(test, then_part, else_part) => {
+            branches(globals, around, test, then_part, else_part, locals)
+        }
+        StmtKind::While(test, body) => while_loop(globals, around, test, body, locals),
+        StmtKind::For(start, test, step, body) => {
+            for_statement(globals, around, start, test, step, body, locals)
+        }
+        StmtKind::Return(value) => { told(return_statement(globals, locals, around, line, value)) }
+        StmtKind::Break => told(refused_if(!around.in_loop, RefusedKind::BadJump, line)),
+        StmtKind::Continue => told(refused_if(!around.in_loop, RefusedKind::BadJump, line)),
+        StmtKind::Task(mark, body) => task(globals, around, mark, body, locals),
+        StmtKind::TaskWait(sections) => told(wait(globals, locals, sections)),
+        StmtKind::Release(list) => told(clauses(globals, locals, list.as_slice())),
+    }
+}
+
+/// What stands around the statements of a new scope.
+fn scope_of(around: Around, count: usize) -> Around
+    ensures { (locals : List Declared) → count ≡ length locals → result ≡ scope_in around locals }
+{
+    Around {
+        start: count,
+        result: around.result,
+        in_loop: around.in_loop,
+        in_task: around.in_task,
+    }
+}
+
+fn looping(around: Around) -> Around
+    ensures { result ≡ in_a_loop around }
+{
+    Around {
+        start: around.start,
+        result: around.result,
+        in_loop: true,
+        in_task: around.in_task,
+    }
+}
+
+fn tasking(around: Around) -> Around
+    ensures { result ≡ in_a_task around }
+{
+    Around {
+        start: around.start,
+        result: around.result,
+        in_loop: false,
+        in_task: true,
+    }
+}
+
+/// Checks the statements of a block, which is a scope of its own.
+#[cycle(statements)]
+fn block<'p>(
+    globals: &Globals<'_>,
+    around: Around,
+    list: &'p [Stmt],
+    locals: &mut Locals<'p>,
+) -> Result<(), Refusal>
+    ensures { Ends locals.old (inner (rules_of_all list.now) globals.now around locals.old) result locals.new }
+{
+    let count = locals.len();
+    let ends = statements(globals, scope_of(around, count), list, locals);
+    locals.leave(count);
+    ends
+}
+
+/// Checks a statement in a scope of its own.
+#[cycle(statements)]
+fn inside<'p>(
+    globals: &Globals<'_>,
+    around: Around,
+    one: &'p Boxed<Stmt>,
+    locals: &mut Locals<'p>,
+) -> Result<(), Refusal>
+    ensures { Ends locals.old (inner (rules_of one.now) globals.now around locals.old) result locals.new }
+{
+    let count = locals.len();
+    let ends = statement(globals, scope_of(around, count), one.get(), locals);
+    locals.leave(count);
+    ends
+}
+
+/// Checks a statement that may be left out, in a scope of its own.
+#[cycle(statements)]
+fn inside_part<'p>(
+    globals: &Globals<'_>,
+    around: Around,
+    one: &'p Option<Boxed<Stmt>>,
+    locals: &mut Locals<'p>,
+) -> Result<(), Refusal>
+    ensures { Ends locals.old (inner_part (option_map rules_of one.now) globals.now around locals.old) result locals.new }
+{
+    match one {
+        Some(one) => inside(globals, around, one, locals),
+        None => told(None),
+    }
+}
+
+/// Checks a statement that may be left out.
+#[cycle(statements)]
+fn part<'p>(
+    globals: &Globals<'_>,
+    around: Around,
+    one: &'p Option<Boxed<Stmt>>,
+    locals: &mut Locals<'p>,
+) -> Result<(), Refusal>
+    ensures { Ends locals.old (part_rules (option_map rules_of one.now) globals.now around locals.old) result locals.new }
+{
+    match one {
+        Some(one) => statement(globals, around, one.get(), locals),
+        None => told(None),
+    }
+}
+
+/// Checks the test and the branches of an `if`.
+#[cycle(statements)]
+fn branches<'p>(
+    globals: &Globals<'_>,
+    around: Around,
+    test: &Expr,
+    then_part: &'p Boxed<Stmt>,
+    else_part: &'p Option<Boxed<Stmt>>,
+    locals: &mut Locals<'p>,
+) -> Result<(), Refusal>
+    ensures { Ends locals.old (then_judge (judged (value_rules globals.now locals.old Wanted.Number test.now) locals.old) (λ ls. then_judge (inner (rules_of then_part.now) globals.now around ls) (λ ms. inner_part (option_map rules_of else_part.now) globals.now around ms))) result locals.new }
+{
+    match told(value(globals, locals, Wanted::Number, test)) {
+        Ok(()) => {}
+        Err(refusal) => return Err(refusal),
+    }
+    match inside(globals, around, then_part, locals) {
+        Ok(()) => inside_part(globals, around, else_part, locals),
+        Err(refusal) => Err(refusal),
+    }
+}
+
+/// Checks the test and the body of a `while`.
+#[cycle(statements)]
+fn while_loop<'p>(
+    globals: &Globals<'_>,
+    around: Around,
+    test: &Expr,
+    body: &'p Boxed<Stmt>,
+    locals: &mut Locals<'p>,
+) -> Result<(), Refusal>
+    ensures { Ends locals.old (then_judge (judged (value_rules globals.now locals.old Wanted.Number test.now) locals.old) (λ ls. inner (rules_of body.now) globals.now (in_a_loop around) ls)) result locals.new }
+{
+    match told(value(globals, locals, Wanted::Number, test)) {
+        Ok(()) => inside(globals, looping(around), body, locals),
+        Err(refusal) => Err(refusal),
+    }
+}
+
+/// Checks a `for`, which is a scope of its own.
+#[cycle(statements)]
+fn for_statement<'p>(
+    globals: &Globals<'_>,
+    around: Around,
+    start: &'p Option<Boxed<Stmt>>,
+    test: &Option<Expr>,
+    step: &'p Option<Boxed<Stmt>>,
+    body: &'p Boxed<Stmt>,
+    locals: &mut Locals<'p>,
+) -> Result<(), Refusal>
+    ensures { Ends locals.old (inner (for_rules (option_map rules_of start.now) test.now (option_map rules_of step.now) (rules_of body.now)) globals.now around locals.old) result locals.new }
+{
+    let count = locals.len();
+    let ends = for_loop(
+        globals,
+        scope_of(around, count),
+        start,
+        test,
+        step,
+        body,
+        locals,
+    );
+    locals.leave(count);
+    ends
+}
+
+/// Checks the parts of a `for` in the order in which they stand.
+#[cycle(statements)]
+fn for_loop<'p>(
+    globals: &Globals<'_>,
+    around: Around,
+    start: &'p Option<Boxed<Stmt>>,
+    test: &Option<Expr>,
+    step: &'p Option<Boxed<Stmt>>,
+    body: &'p Boxed<Stmt>,
+    locals: &mut Locals<'p>,
+) -> Result<(), Refusal>
+    ensures { Ends locals.old (for_rules (option_map rules_of start.now) test.now (option_map rules_of step.now) (rules_of body.now) globals.now around locals.old) result locals.new }
+{
+    match part(globals, around, start, locals) {
+        Ok(()) => {}
+        Err(refusal) => return Err(refusal),
+    }
+    match told(optional(globals, locals, test)) {
+        Ok(()) => {}
+        Err(refusal) => return Err(refusal),
+    }
+    match inside_part(globals, around, step, locals) {
+        Ok(()) => inside(globals, looping(around), body, locals),
+        Err(refusal) => Err(refusal),
+    }
+}
+
+/// Checks the pragma of a task and its statement.
+#[cycle(statements)]
+fn task<'p>(
+    globals: &Globals<'_>,
+    around: Around,
+    mark: &TaskMark,
+    body: &'p Boxed<Stmt>,
+    locals: &mut Locals<'p>,
+) -> Result<(), Refusal>
+    ensures { Ends locals.old (then_judge (judged (clauses_rules globals.now locals.old 0 mark.now.clauses) locals.old) (λ ls. inner (rules_of body.now) globals.now (in_a_task around) ls)) result locals.new }
+{
+    match told(clauses(globals, locals, mark.clauses.as_slice())) {
+        Ok(()) => inside(globals, tasking(around), body, locals),
+        Err(refusal) => Err(refusal),
+    }
+}
