@@ -20,12 +20,15 @@ use Rattle.oss_model.specs.OneToken.{is_symbol, IsOpen, IsClose, IsIndexOpen, Is
 abbrev pub primary_level : ℕ
 primary_level = 0
 
+-- `a[i]` has this level, and so has `a`.
 abbrev pub postfix_level : ℕ
 postfix_level = 1
 
+-- `-a` has this level, and so has `a[i]`.
 abbrev pub prefix_level : ℕ
 prefix_level = 2
 
+-- Every expression has this level: `a || b` has no tighter one.
 abbrev pub loosest_level : ℕ
 loosest_level = 12
 
@@ -100,6 +103,7 @@ mutual
     no_arguments : {ts : List Token} → ts ≡ [] → IsArguments ts []
     arguments : {ts : List Token} {values : List Expr} → IsArgumentList ts values → IsArguments ts values
 
+  -- arguments with a comma between each two, one at least: `1, x`, and not `1,`
   pub data IsArgumentList : List Token → List Expr → Type 0 where
     last_argument : {ts : List Token} {e : Expr} → IsExpr loosest_level ts e → IsArgumentList ts (e ∷ [])
     next_argument : {ts : List Token} {e : Expr} {values : List Expr} (front : List Token) (comma : Token) (back : List Token)

@@ -23,6 +23,7 @@ use Rattle.oss_model.specs.Pragmas.Single.{once_if, once_final, once_priority}
 abbrev pub most_levels : ℕ
 most_levels = 64
 
+-- `1` and 256 times `+ 1` has as many operators as it may.
 abbrev pub most_operators : ℕ
 most_operators = 256
 

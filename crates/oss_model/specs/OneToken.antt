@@ -21,12 +21,15 @@ abbrev pub is_word : List ℕ → TokenKind → Bool
 is_word n (kinds.Name w) = bytes_eq w n
 is_word n _ = false
 
+-- The token is the punctuator with these bytes: `+` is the one of `codes "+"`, and `+=` is not.
 abbrev pub IsSymbol : List ℕ → Token → Type 0
 IsSymbol s t = is_symbol s t.what ≡ true
 
+-- The token is the keyword with these bytes; a name is none.
 abbrev pub IsKeyword : List ℕ → Token → Type 0
 IsKeyword k t = is_keyword k t.what ≡ true
 
+-- The token is the name with these bytes: `in` is the word of `codes "in"`, and `if` is a keyword and no word.
 abbrev pub IsWord : List ℕ → Token → Type 0
 IsWord n t = is_word n t.what ≡ true
 
@@ -34,14 +37,18 @@ IsWord n t = is_word n t.what ≡ true
 abbrev pub IsOpen : Token → Type 0
 IsOpen = IsSymbol (codes "(")
 
+-- the mark `)`, which closes what `(` opens
 abbrev pub IsClose : Token → Type 0
 IsClose = IsSymbol (codes ")")
 
+-- the mark `[`, which opens an index
 abbrev pub IsIndexOpen : Token → Type 0
 IsIndexOpen = IsSymbol (codes "[")
 
+-- the mark `]`, which closes an index
 abbrev pub IsIndexClose : Token → Type 0
 IsIndexClose = IsSymbol (codes "]")
 
+-- the mark `,`, which stands between the parts of a list
 abbrev pub IsComma : Token → Type 0
 IsComma = IsSymbol (codes ",")

@@ -139,6 +139,7 @@ pub data Single : Type 0 where
   once_label : Single
   once_priority : Single
 
+-- Whether a clause is of this kind: `label("x")` is of the kind of `label`; `in(x)` is of none.
 abbrev pub is_single : Single → Clause → Bool
 is_single once_if (clause.If e) = true
 is_single once_final (clause.Final e) = true

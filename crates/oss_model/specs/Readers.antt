@@ -8,17 +8,21 @@ abbrev pub read_then : {A B : Type 0} → Option (A × List Token) → (A → Li
 read_then None go = None
 read_then (Some read) go = go read.0 read.1
 
+-- a value and the tokens behind it, if there is a value
 abbrev pub read_value : {A : Type 0} → List Token → Option A → Option (A × List Token)
 read_value rest None = None
 read_value rest (Some value) = Some (value, rest)
 
+-- one token, of which the test makes the value; at the end of the tokens there is none
 abbrev pub read_one : {A : Type 0} → (Token → Option A) → List Token → Option (A × List Token)
 read_one test [] = None
 read_one test (t ∷ rest) = read_value rest (test t)
 
+-- a part, and then another: the value is the pair of both
 abbrev pub read_both : {A B : Type 0} → (List Token → Option (A × List Token)) → (List Token → Option (B × List Token)) → List Token → Option ((A × B) × List Token)
 read_both f g ts = read_then (f ts) (λ a rest. read_then (g rest) (λ b left. Some ((a, b), left)))
 
+-- a part, of whose value another is made
 abbrev pub read_mapped : {A B : Type 0} → (A → B) → (List Token → Option (A × List Token)) → List Token → Option (B × List Token)
 read_mapped make f ts = read_then (f ts) (λ a rest. Some (make a, rest))
 
@@ -26,6 +30,7 @@ read_mapped make f ts = read_then (f ts) (λ a rest. Some (make a, rest))
 abbrev pub read_either : {A : Type 0} → (List Token → Bool) → (List Token → Option (A × List Token)) → (List Token → Option (A × List Token)) → List Token → Option (A × List Token)
 read_either starts f g ts = if starts ts then f ts else g ts
 
+-- a part where the test of the tokens finds its beginning, and else nothing, which stands for `None`
 abbrev pub read_maybe : {A : Type 0} → (List Token → Bool) → (List Token → Option (A × List Token)) → List Token → Option (Option A × List Token)
 read_maybe starts f ts = if starts ts then read_mapped Some f ts else Some (None, ts)
 

@@ -89,16 +89,18 @@ opened_by kinds.PragmaOss open_before = true
 opened_by kinds.PragmaEnd open_before = false
 opened_by _ open_before = open_before
 
+-- The same behind several tokens, from the first on: behind the first two tokens of a pragma it is open.
 abbrev pub is_open_behind : Bool → List Token → Bool
 is_open_behind open_before [] = open_before
 is_open_behind open_before (t ∷ ts) = is_open_behind (opened_by t.what open_before) ts
 
--- Whether a token stands in a pragma, behind these tokens: it is the first or the last one of a pragma, or one is open.
+-- Whether a token is the first or the last one of a pragma.
 abbrev pub is_pragma_edge : TokenKind → Bool
 is_pragma_edge kinds.PragmaOss = true
 is_pragma_edge kinds.PragmaEnd = true
 is_pragma_edge _ = false
 
+-- Whether a token stands in a pragma, behind these tokens: it is the first or the last one of a pragma, or one is open.
 unfoldable pub is_in_pragma : List Token → TokenKind → Bool
 is_in_pragma before k = is_pragma_edge k || is_open_behind false before
 

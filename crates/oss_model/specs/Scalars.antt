@@ -43,6 +43,7 @@ names_of [] = []
 names_of (items.Global g ∷ rest) = g.name ∷ names_of rest
 names_of (items.Function f ∷ rest) = names_of rest
 
+-- the types of the globals, in the same order
 abbrev pub kinds_of : List Item → List NumKind
 kinds_of [] = []
 kinds_of (items.Global g ∷ rest) = g.kind ∷ kinds_of rest
@@ -54,6 +55,7 @@ first_cells [] = []
 first_cells (items.Global g ∷ rest) = kept g.kind g.first ∷ first_cells rest
 first_cells (items.Function f ∷ rest) = first_cells rest
 
+-- whether a name is `main`
 abbrev pub is_main : List ℕ → Bool
 is_main name = bytes_eq name (codes "main")
 
@@ -63,9 +65,11 @@ main_body [] = []
 main_body (items.Global g ∷ rest) = main_body rest
 main_body (items.Function f ∷ rest) = if is_main f.name then f.body else main_body rest
 
+-- the place of a name among the names of the globals, if it is one: `b` of `long a, b;` has the place 1
 abbrev pub place_of : List (List ℕ) → List ℕ → Option ℕ
 place_of names name = position (λ other. bytes_eq other name) names
 
+-- what the two operators of sums make of two numbers; the others make 0, since no program of this form has them
 abbrev pub summed : BinOp → ℕ → ℕ → ℕ
 summed op.Add a b = sum_of a b
 summed op.Sub a b = difference_of a b
@@ -76,6 +80,7 @@ summed _ a b = 0
 abbrev pub Meaning : Type 0
 Meaning = List (List ℕ) → List ℕ → Context → Result ℕ FaultKind
 
+-- a value, unless the judge has a fault
 abbrev pub judged_value : Option FaultKind → ℕ → Result ℕ FaultKind
 judged_value None v = Ok v
 judged_value (Some kind) v = Err kind
@@ -85,16 +90,19 @@ abbrev pub loaded : List ℕ → Context → Option ℕ → Result ℕ FaultKind
 loaded cells x None = Ok 0
 loaded cells x (Some c) = judged_value (touch_fault (right_of x c) (lent_of x c) Reads) (slice_index cells c)
 
+-- a value is needed to go on; a fault stays
 abbrev pub and_then : {A B : Type 0} → Result A FaultKind → (A → Result B FaultKind) → Result B FaultKind
 and_then (Ok a) go = go a
 and_then (Err kind) go = Err kind
 
+-- what each kind of expression means, from what its parts mean; those that no program of this form has mean 0
 abbrev pub value_step : ExprKind-F Meaning Meaning → Meaning
 value_step (open_expr.Number n unsigned) names cells x = Ok n
 value_step (open_expr.Name name) names cells x = loaded cells x (place_of names name)
 value_step (open_expr.Binary o a b) names cells x = and_then (a names cells x) (λ v. and_then (b names cells x) (λ w. Ok (summed o v w)))
 value_step _ names cells x = Ok 0
 
+-- the same of whole expressions: with 2 in `a`, `a + 1` means 3
 abbrev pub value_of : Expr → Meaning
 value_of = fold-Expr Meaning Meaning value_step (λ e. e.what)
 
@@ -116,6 +124,7 @@ pub data Ending : Type 0 where
   Goes : (state : State) → Ending
   Stops : (kind : FaultKind) (line : ℕ) (state : State) → Ending
 
+-- the run goes on from a state where it goes on, and stays stopped where a fault stopped it
 abbrev pub then_go : Ending → (State → Ending) → Ending
 then_go (Goes st) go = go st
 then_go (Stops kind line st) go = Stops kind line st
@@ -143,17 +152,21 @@ abbrev pub stored : List NumKind → ℕ → Option ℕ → ℕ → State → En
 stored kinds line None v st = Goes st
 stored kinds line (Some c) v st = unless_fault (touch_fault (right_of st.context c) (lent_of st.context c) Writes) line st (Goes (record st { cells = cells_with st.cells kinds c v }))
 
+-- the name that an expression is, if it is one
 abbrev pub named_by : ExprKind → Option (List ℕ)
 named_by (exprs.Name name) = Some name
 named_by _ = None
 
+-- the cell of the global that is assigned to, if it has that name
 abbrev pub target_place : List (List ℕ) → Option (List ℕ) → Option ℕ
 target_place names None = None
 target_place names (Some name) = place_of names name
 
+-- an assignment: the value first, and then its store
 abbrev pub assigned : List (List ℕ) → List NumKind → ℕ → Expr → Expr → State → Ending
 assigned names kinds line target e st = with_value (value_of e names st.cells st.context) line st (λ v. stored kinds line (target_place names (named_by target.what)) v st)
 
+-- a print: the values first, and then what `printf` writes for them behind the output so far
 abbrev pub printed_values : List (List ℕ) → ℕ → List ℕ → List Expr → State → Ending
 printed_values names line format es st =
     with_value (values_of es names st.cells st.context) line st (λ vs. Goes (record st { output = st.output ++ printed format vs }))
@@ -163,10 +176,12 @@ abbrev pub cell_access : Mode → Bool → Option ℕ → List Access
 cell_access mode strong None = []
 cell_access mode strong (Some c) = record { range = cell_range c; mode = mode; strong = strong } ∷ []
 
+-- the accesses to the cells of several sections, all of one mode
 abbrev pub section_accesses : List (List ℕ) → Mode → Bool → List Section → List Access
 section_accesses names mode strong [] = []
 section_accesses names mode strong (s ∷ rest) = cell_access mode strong (place_of names s.base) ++ section_accesses names mode strong rest
 
+-- the accesses that one clause declares: `in(x, y)` of two globals declares two, and a clause without sections none
 abbrev pub clause_accesses : List (List ℕ) → Clause → List Access
 clause_accesses names (clauses.Depend mode strong sections) = section_accesses names mode strong sections
 clause_accesses names _ = []
@@ -176,6 +191,7 @@ abbrev pub mark_accesses : List (List ℕ) → List Clause → List Access
 mark_accesses names [] = []
 mark_accesses names (c ∷ rest) = clause_accesses names c ++ mark_accesses names rest
 
+-- a count with one task more; it stays at the greatest number of 64 bits
 abbrev pub one_more_task : ℕ → ℕ
 one_more_task n = min (n + 1) (2 ^ 64 - 1)
 
@@ -198,6 +214,7 @@ task_run accesses line body st =
 abbrev pub Run : Type 0
 Run = List (List ℕ) → List NumKind → State → Ending
 
+-- several of them, one after the other; a fault leaves out those behind it
 abbrev pub in_order : List Run → Run
 in_order [] names kinds st = Goes st
 in_order (r ∷ rest) names kinds st = then_go (r names kinds st) (λ next. in_order rest names kinds next)
@@ -219,9 +236,11 @@ abbrev pub run_step : StmtKind-F LineRun Run → LineRun
 run_step (open_stmt.Block all) line names kinds st = in_order all names kinds st
 run_step what line names kinds st = ticked line st (λ next. act_step what line names kinds next)
 
+-- what a whole statement means, with the statements in it
 abbrev pub run_of : Stmt → Run
 run_of = fold-Stmt LineRun Run run_step (λ s. s.what s.line)
 
+-- the same of a list of statements, in their order
 abbrev pub runs_of : List Stmt → Run
 runs_of ss = in_order (map run_of ss)
 
@@ -233,10 +252,12 @@ opening all fuel = record { cells = first_cells all; context = main_context (len
 abbrev pub ending_of : Program → ℕ → Ending
 ending_of p fuel = runs_of (main_body p.items) (names_of p.items) (kinds_of p.items) (opening p.items fuel)
 
+-- the answer of a program that ends so: the output and the cells, or the fault with its line and the output before it
 abbrev pub ending_answer : Ending → Answer
 ending_answer (Goes st) = Done st.output st.cells
 ending_answer (Stops kind line st) = Fault kind line st.output
 
+-- the count of tasks where a program ends so
 abbrev pub ending_tasks : Ending → ℕ
 ending_tasks (Goes st) = st.tasks
 ending_tasks (Stops kind line st) = st.tasks
@@ -245,5 +266,6 @@ ending_tasks (Stops kind line st) = st.tasks
 abbrev pub answer_of : Program → ℕ → Answer
 answer_of p fuel = ending_answer (ending_of p fuel)
 
+-- a program without tasks has 1: main
 abbrev pub tasks_of : Program → ℕ → ℕ
 tasks_of p fuel = ending_tasks (ending_of p fuel)

@@ -34,6 +34,7 @@ abbrev pub at_end : Stage → Option (List Piece)
 at_end stage.Before = Some []
 at_end _ = None
 
+-- the pieces of a string from one byte on: its own, if there is one, and those behind it; none where it fits nowhere
 abbrev pub stepped : Step → (Stage → Option (List Piece)) → Option (List Piece)
 stepped (step.Piece p) behind = with_piece p (behind stage.Before)
 stepped (step.Stage s) behind = behind s
@@ -44,6 +45,7 @@ abbrev pub pieces_from : Stage → List ℕ → Option (List Piece)
 pieces_from s [] = at_end s
 pieces_from s (b ∷ rest) = stepped (step_of s b) (λ t. pieces_from t rest)
 
+-- the pieces of a whole string: `%d!` has two; of `%s` there are none, since it is refused
 abbrev pub pieces_of : List ℕ → Option (List Piece)
 pieces_of format = pieces_from stage.Before format
 
@@ -67,6 +69,7 @@ written_pieces (piece.Signed ∷ rest) (v ∷ vs) = signed_text v ++ written_pie
 written_pieces (piece.Unsigned ∷ rest) [] = written_pieces rest []
 written_pieces (piece.Unsigned ∷ rest) (v ∷ vs) = decimal v ++ written_pieces rest vs
 
+-- the same, if the string has pieces; a string without any writes nothing
 abbrev pub printed_pieces : Option (List Piece) → List ℕ → List ℕ
 printed_pieces None vs = []
 printed_pieces (Some pieces) vs = written_pieces pieces vs

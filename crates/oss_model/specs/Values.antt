@@ -24,9 +24,11 @@ negated v = wrapped (2 ^ 64 - v)
 abbrev pub magnitude : ℕ → ℕ
 magnitude v = if is_negative v then 2 ^ 64 - v else v
 
+-- a sum modulo 2^64: 2^64 - 1 and 1 make 0
 abbrev pub sum_of : ℕ → ℕ → ℕ
 sum_of a b = wrapped (a + b)
 
+-- a difference modulo 2^64: 0 less 1 is 2^64 - 1
 abbrev pub difference_of : ℕ → ℕ → ℕ
 difference_of a b = wrapped (a + (2 ^ 64 - b))
 
@@ -49,6 +51,7 @@ pub record Number : Type 0 where
 abbrev pub is_unsigned : Number → Number → Bool
 is_unsigned a b = a.unsigned || b.unsigned
 
+-- a number that is signed
 abbrev pub signed_number : ℕ → Number
 signed_number v = record { value = v; unsigned = false }
 
@@ -65,6 +68,7 @@ is_less false a b = nat_lt (wrapped (a + 2 ^ 63)) (wrapped (b + 2 ^ 63))
 abbrev pub with_sign : Bool → ℕ → ℕ
 with_sign negative m = if negative then negated m else wrapped m
 
+-- whether one of the two holds alone
 abbrev pub differ : Bool → Bool → Bool
 differ true b = not b
 differ false b = b
@@ -74,6 +78,7 @@ abbrev pub quotient : Bool → ℕ → ℕ → ℕ
 quotient true a b = a / b
 quotient false a b = with_sign (differ (is_negative a) (is_negative b)) (magnitude a / magnitude b)
 
+-- the remainder of a signed number: of -7 by 2 it is -1
 abbrev pub remainder : Bool → ℕ → ℕ → ℕ
 remainder true a b = a % b
 remainder false a b = with_sign (is_negative a) (magnitude a % magnitude b)
