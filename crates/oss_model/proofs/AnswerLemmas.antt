@@ -114,7 +114,7 @@ module _ {A : Type 0} (L : Language A) {f : List Token → Result (A × List Tok
       let w = stopped part ts (t ∷ more) told in
       let same : w.front ≡ front = same_front w.front front (t ∷ more) (sym w.split ∙ split) in
       subst (λ xs. Refuses L before ts (kind_of (is_in_pragma (before ++ xs) t.what) t.what) t.line (length before + length xs)) same
-      (at_token w.front t more (reaches_stop ts (t ∷ more) w) (stop_none w.front (ap f (sym (append-nil w.front)) ∙ w.steady [] (record { })))
+      (at_token w.front t more (reaches_stop ts (t ∷ more) w) (stop_none w.front (ap f (sym (append-nil w.front)) ∙ w.steady [] (record {})))
       (within_stopped ts w.front (t ∷ more) (t ∷ more) w.split told))
 
   pub end_answer : (before ts : List Token) → f ts ≡ Err (Syntax []) → Refuses L before ts SyntaxKind 0 (length before + length ts)

@@ -144,13 +144,19 @@ module _ (counts : Token → Bool) where
   last_shown zero (t ∷ ts) e = on (counts t) refl (last_shown zero ts) where
     on : (b : Bool) → counts t ≡ b → (count_by counts (shown counts 1 ts) ≡ 1 → Last 0 ts) → Last 0 (t ∷ ts)
     on true c same = record {
-      front = []; token = t; counted = c; before = refl;
+      front = [];
+      token = t;
+      counted = c;
+      before = refl;
       is = shown_yes 0 t ts c ∙ ap (λ ys. t ∷ ys) (shown_none ts);
       from = from_yes t ts c ∙ ap (λ ys. t ∷ ys) (sym (unshown_yes 0 t ts c ∙ unshown_all ts));
     }
     on false c same =
         let w = same (sym (count_no t (shown counts 1 ts) c) ∙ (ap (count_by counts) (sym (shown_no 0 t ts c)) ∙ e)) in record {
-          front = t ∷ w.front; token = w.token; counted = w.counted; before = count_no t w.front c ∙ w.before;
+          front = t ∷ w.front;
+          token = w.token;
+          counted = w.counted;
+          before = count_no t w.front c ∙ w.before;
           is = shown_no 0 t ts c ∙ ap (λ ys. t ∷ ys) w.is;
           from = from_no 0 t ts c ∙ (w.from ∙ ap (λ ys. w.token ∷ ys) (sym (unshown_no 0 t ts c)));
         }
@@ -160,13 +166,19 @@ module _ (counts : Token → Bool) where
     on true c fewer same =
         let size : suc (count_by counts (shown counts (suc most) ts)) ≡ suc (suc most) = sym (count_yes t (shown counts (suc most) ts) c) ∙ (ap (count_by counts) (sym (shown_yes (suc most) t ts c)) ∙ e) in
         let w = fewer (omega arith) in record {
-          front = t ∷ w.front; token = w.token; counted = w.counted; before = count_yes t w.front c ∙ ap suc w.before;
+          front = t ∷ w.front;
+          token = w.token;
+          counted = w.counted;
+          before = count_yes t w.front c ∙ ap suc w.before;
           is = shown_yes (suc most) t ts c ∙ ap (λ ys. t ∷ ys) w.is;
           from = from_one_more most t ts c ∙ (w.from ∙ ap (λ ys. w.token ∷ ys) (sym (unshown_yes (suc most) t ts c)));
         }
     on false c fewer same =
         let w = same (sym (count_no t (shown counts (suc (suc most)) ts) c) ∙ (ap (count_by counts) (sym (shown_no (suc most) t ts c)) ∙ e)) in record {
-          front = t ∷ w.front; token = w.token; counted = w.counted; before = count_no t w.front c ∙ w.before;
+          front = t ∷ w.front;
+          token = w.token;
+          counted = w.counted;
+          before = count_no t w.front c ∙ w.before;
           is = shown_no (suc most) t ts c ∙ ap (λ ys. t ∷ ys) w.is;
           from = from_no (suc most) t ts c ∙ (w.from ∙ ap (λ ys. w.token ∷ ys) (sym (unshown_no (suc most) t ts c)));
         }
@@ -337,7 +349,11 @@ module _ {A : Type 0} (counts : Token → Bool) (most : ℕ) {f : List Token →
 
   sinks_more : (xs more : List Token) → Sinks read Deeper xs → Sinks read Deeper (xs ++ more)
   sinks_more xs more s = record {
-    front = s.front; token = s.token; more = s.more ++ more; deep = s.deep; steady = s.steady;
+    front = s.front;
+    token = s.token;
+    more = s.more ++ more;
+    deep = s.deep;
+    steady = s.steady;
     split = ap (λ ys. ys ++ more) s.split ∙ append_assoc s.front (s.token ∷ s.more) more;
   }
 
@@ -352,8 +368,8 @@ module _ {A : Type 0} (counts : Token → Bool) (most : ℕ) {f : List Token →
       let three : count_by counts [] ≡ 0 = refl in
       let size : count_by counts (front ++ (o ∷ [])) ≡ suc most = omega arith in
       ap (λ ys. count_by counts ys == suc most) (shown_up_to counts most front o other c e) ∙ (ap (λ n. n == suc most) size ∙ same_number (suc most)) where
-    same_number : (n : ℕ) → (n == n) ≡ true
-    same_number n = grind (arith, nat_tests)
+        same_number : (n : ℕ) → (n == n) ≡ true
+        same_number n = grind (arith, nat_tests)
 
   ends_ok : (ts : List Token) (value : A) (place : List Token) → passed counts most ts [] ≡ true → from_count counts most ts ≡ place → counted_told counts most ts (Ok (value, [])) ≡ Err (Deep place)
   ends_ok ts value place e at = rw e (rw at refl)
@@ -465,9 +481,9 @@ module _ {A : Type 0} (counts : Token → Bool) (most : ℕ) {f : List Token →
           whole = w.whole;
           steady = ends small;
         } where
-      ends : Spare counts (suc most) w.front → (other : List Token) → AtSame [] other → read (w.front ++ other) ≡ Ok (value, other)
-      ends small [] same = ap read (append-nil w.front) ∙ end_ok w.front value small (ap f (sym (append-nil w.front)) ∙ w.steady [] (record { }))
-      ends small (u ∷ other) same = absurd same
+          ends : Spare counts (suc most) w.front → (other : List Token) → AtSame [] other → read (w.front ++ other) ≡ Ok (value, other)
+          ends small [] same = ap read (append-nil w.front) ∙ end_ok w.front value small (ap f (sym (append-nil w.front)) ∙ w.steady [] (record {}))
+          ends small (u ∷ other) same = absurd same
 
     on : (b : Bool) → passed counts most ts [] ≡ b → IsRead read U Deeper ts (counted_told counts most ts (Ok (value, [])))
     on true e = subst (λ r. IsRead read U Deeper ts r) (sym (ends_ok ts value (from_count counts most ts) e refl))
@@ -494,9 +510,9 @@ module _ {A : Type 0} (counts : Token → Bool) (most : ℕ) {f : List Token →
           viable = w.viable;
           steady = ends small;
         } where
-      ends : Spare counts (suc most) w.front → (other : List Token) → AtSame [] other → read (w.front ++ other) ≡ Err (Syntax other)
-      ends small [] same = ap read (append-nil w.front) ∙ end_syntax w.front small (ap f (sym (append-nil w.front)) ∙ w.steady [] (record { }))
-      ends small (u ∷ other) same = absurd same
+          ends : Spare counts (suc most) w.front → (other : List Token) → AtSame [] other → read (w.front ++ other) ≡ Err (Syntax other)
+          ends small [] same = ap read (append-nil w.front) ∙ end_syntax w.front small (ap f (sym (append-nil w.front)) ∙ w.steady [] (record {}))
+          ends small (u ∷ other) same = absurd same
 
     on : (b : Bool) → passed counts most ts [] ≡ b → IsRead read U Deeper ts (counted_told counts most ts (Err (Syntax [])))
     on true e = subst (λ r. IsRead read U Deeper ts r) (sym (ends_syntax ts (from_count counts most ts) e refl)) (sunk_at_last ts (subst (λ ys. Viable U ys) (sym all) w.viable) e)

@@ -124,7 +124,11 @@ module _ {A B : Type 0} (make : A → B) {f : List Token → Result (A × List T
 
   mapped_sinks : (xs : List Token) → Sinks f D xs → Sinks (read_mapped make f) D xs
   mapped_sinks xs s = record {
-    front = s.front; token = s.token; more = s.more; split = s.split; deep = s.deep;
+    front = s.front;
+    token = s.token;
+    more = s.more;
+    split = s.split;
+    deep = s.deep;
     steady = λ other. ap (λ o. go_on o (λ a rest. Ok (make a, rest))) (s.steady other);
   }
 
@@ -269,7 +273,11 @@ module _ {A B : Type 0} {f : List Token → Result (A × List Token) Stop} {go :
     more = v.more;
     value = v.value;
     member = record {
-      front = front; back = (back ++ (t ∷ [])) ++ v.more; value = a; before = w; behind = v.member;
+      front = front;
+      back = (back ++ (t ∷ [])) ++ v.more;
+      value = a;
+      before = w;
+      behind = v.member;
       split = ap (λ ys. ys ++ v.more) (ap (λ ys. ys ++ (t ∷ [])) e ∙ append_assoc front back (t ∷ [])) ∙ append_assoc front (back ++ (t ∷ [])) v.more;
     };
   }
@@ -369,13 +377,21 @@ module _ {A : Type 0} (starts : Token → Bool) {f g : List Token → Result (A 
 
   sinks_one : (xs : List Token) → Sinks f D xs → Sinks (read_either starts f g) (EitherDeep D E) xs
   sinks_one xs s = record {
-    front = s.front; token = s.token; more = s.more; split = s.split; deep = one_deep s.deep;
+    front = s.front;
+    token = s.token;
+    more = s.more;
+    split = s.split;
+    deep = one_deep s.deep;
     steady = λ other. take_first (s.front ++ (s.token ∷ other)) (deep_begins left begins_left s.front s.token other s.deep) ∙ s.steady other;
   }
 
   sinks_other : (xs : List Token) → Sinks g E xs → Sinks (read_either starts f g) (EitherDeep D E) xs
   sinks_other xs s = record {
-    front = s.front; token = s.token; more = s.more; split = s.split; deep = other_deep s.deep;
+    front = s.front;
+    token = s.token;
+    more = s.more;
+    split = s.split;
+    deep = other_deep s.deep;
     steady = λ other. take_second (s.front ++ (s.token ∷ other)) (apart_deep s.front s.token other s.deep) ∙ s.steady other;
   }
 
