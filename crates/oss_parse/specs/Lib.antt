@@ -1,3 +1,4 @@
+pub mod Inner
 pub mod ProgramReading
 pub mod SimpleReading
 pub mod StatementReading

@@ -1,2 +1,7 @@
 //! Programs, read from their texts.
 #![tactic(auto)]
+
+mod beginnings;
+mod forms;
+mod simple;
+mod tokens;
