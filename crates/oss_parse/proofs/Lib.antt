@@ -1,1 +1,2 @@
 pub mod SimpleLoops
+pub mod StatementLoops

@@ -1,4 +1,5 @@
 pub mod Inner
+pub mod Parsed
 pub mod ProgramReading
 pub mod SimpleReading
 pub mod StatementReading

@@ -2,6 +2,13 @@
 #![tactic(auto)]
 
 mod beginnings;
+mod calls;
 mod forms;
+mod programs;
 mod simple;
+mod statements;
+#[cfg(test)]
+mod tests;
 mod tokens;
+
+pub use calls::parse;
