@@ -1,2 +1,4 @@
+pub mod ProgramLoops
 pub mod SimpleLoops
 pub mod StatementLoops
+pub mod TextLoops

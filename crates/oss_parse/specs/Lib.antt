@@ -1,3 +1,4 @@
+pub mod Branches
 pub mod Inner
 pub mod Parsed
 pub mod ProgramReading

@@ -3,6 +3,7 @@
 ghost use Rattle.std.specs.Prelude.{◌≡◌, IfOk};
 ghost use Rattle.oss_pragma.specs.ExpressionReading.{read_brackets, read_expression};
 ghost use Rattle.oss_pragma.specs.Told.{Gives};
+ghost use Rattle.oss_parse.specs.Branches.{Built};
 ghost use Rattle.oss_parse.specs.StatementReading.{for_of, if_else_of, if_of, read_break, read_continue, read_empty, read_for_first, read_for_head, read_for_parts, read_head, read_maybe_expression, read_maybe_simple, read_print, read_printed, read_return, read_simple_statement, task_of, while_of};
 
 use crate::beginnings::{begins_with_kind, begins_with_simple};
@@ -256,18 +257,21 @@ pub fn print(alloc: Global, tokens: &mut Cursor<'_>) -> Result<Stmt, Unread>
 }
 
 /// An `if` without `else`, of its head and its statement.
-pub fn if_only(alloc: Global, head: (u32, Expr), then: Stmt) -> Result<Stmt, AllocError>
-    ensures { IfOk result (λ made. made ≡ if_of head then) }
+pub fn if_only(alloc: Global, head: (u32, Expr), then: Stmt) -> Result<Stmt, Unread>
+    ensures { Built (if_of head then) result }
 {
     let (line, test) = head;
-    Ok(Stmt {
-        what: StmtKind::If(test, Boxed::new(alloc, then)?, None),
-        line,
-    })
+    match Boxed::new(alloc, then) {
+        Ok(then) => Ok(Stmt {
+            what: StmtKind::If(test, then, None),
+            line,
+        }),
+        Err(e) => Err(Unread::Memory(e)),
+    }
 }
 
 /// An `if` with `else`, of its head and its statements.
-pub fn if_else(
+fn made_if_else(
     alloc: Global,
     head: (u32, Expr),
     then: Stmt,
@@ -285,7 +289,7 @@ pub fn if_else(
 }
 
 /// A `while`, of its head and its statement.
-pub fn while_loop(alloc: Global, head: (u32, Expr), body: Stmt) -> Result<Stmt, AllocError>
+fn made_while_loop(alloc: Global, head: (u32, Expr), body: Stmt) -> Result<Stmt, AllocError>
     ensures { IfOk result (λ made. made ≡ while_of head body) }
 {
     let (line, test) = head;
@@ -306,7 +310,7 @@ fn boxed(alloc: Global, statement: Option<Stmt>) -> Result<Option<Boxed<Stmt>>, 
 }
 
 /// A `for`, of its head and its statement.
-pub fn for_loop(alloc: Global, head: (u32, ForParts), body: Stmt) -> Result<Stmt, AllocError>
+fn made_for_loop(alloc: Global, head: (u32, ForParts), body: Stmt) -> Result<Stmt, AllocError>
     ensures { IfOk result (λ made. made ≡ for_of head body) }
 {
     let (line, (first, (test, last))) = head;
@@ -320,7 +324,7 @@ pub fn for_loop(alloc: Global, head: (u32, ForParts), body: Stmt) -> Result<Stmt
 }
 
 /// A task that runs a statement.
-pub fn task(alloc: Global, mark: TaskMark, body: Stmt) -> Result<Stmt, AllocError>
+fn made_task(alloc: Global, mark: TaskMark, body: Stmt) -> Result<Stmt, AllocError>
     ensures { IfOk result (λ made. made ≡ task_of mark body) }
 {
     let line = mark.line;
@@ -328,4 +332,44 @@ pub fn task(alloc: Global, mark: TaskMark, body: Stmt) -> Result<Stmt, AllocErro
         what: StmtKind::Task(mark, Boxed::new(alloc, body)?),
         line,
     })
+}
+
+/// An `if` with `else`, or why it was not built.
+pub fn if_else(alloc: Global, head: (u32, Expr), then: Stmt, other: Stmt) -> Result<Stmt, Unread>
+    ensures { Built (if_else_of head then other) result }
+{
+    match made_if_else(alloc, head, then, other) {
+        Ok(made) => Ok(made),
+        Err(e) => Err(Unread::Memory(e)),
+    }
+}
+
+/// A `while`, or why it was not built.
+pub fn while_loop(alloc: Global, head: (u32, Expr), body: Stmt) -> Result<Stmt, Unread>
+    ensures { Built (while_of head body) result }
+{
+    match made_while_loop(alloc, head, body) {
+        Ok(made) => Ok(made),
+        Err(e) => Err(Unread::Memory(e)),
+    }
+}
+
+/// A `for`, or why it was not built.
+pub fn for_loop(alloc: Global, head: (u32, ForParts), body: Stmt) -> Result<Stmt, Unread>
+    ensures { Built (for_of head body) result }
+{
+    match made_for_loop(alloc, head, body) {
+        Ok(made) => Ok(made),
+        Err(e) => Err(Unread::Memory(e)),
+    }
+}
+
+/// A task that runs a statement, or why it was not built.
+pub fn task(alloc: Global, mark: TaskMark, body: Stmt) -> Result<Stmt, Unread>
+    ensures { Built (task_of mark body) result }
+{
+    match made_task(alloc, mark, body) {
+        Ok(made) => Ok(made),
+        Err(e) => Err(Unread::Memory(e)),
+    }
 }

@@ -1,10 +1,12 @@
 //! The reader of statements, and of what stands in a block.
 
+ghost use Rattle.oss_model.specs.Reading.{read_mapped};
 ghost use Rattle.oss_pragma.specs.ExpressionReading.{read_expression};
 ghost use Rattle.oss_pragma.specs.PragmaReading.{read_pragma};
 ghost use Rattle.oss_pragma.specs.Told.{Gives};
+ghost use Rattle.oss_parse.specs.Branches.{read_maybe_else, read_with_else};
 ghost use Rattle.oss_parse.specs.Inner.{read_body, read_part, read_parts, read_within};
-ghost use Rattle.oss_parse.specs.StatementReading.{read_block, read_branches, read_directed, read_for, read_if, read_item, read_keyword_statement, read_pragma_statement, read_statement, read_while};
+ghost use Rattle.oss_parse.specs.StatementReading.{read_block, read_branches, read_directed, read_for, read_if, read_item, read_keyword_statement, read_pragma_statement, read_statement, read_while, task_of};
 
 use crate::beginnings::{
     begins_with_item, begins_with_kind, begins_with_simple, begins_with_statement,
@@ -16,7 +18,7 @@ use crate::forms::{
 use crate::simple::declaration;
 use crate::tokens::{begins_with_keyword, first_line, keyword};
 use oss_pragma::reading::{Cursor, Unread, pragma};
-use oss_syntax::{Directive, Expr, List, Stmt, StmtKind};
+use oss_syntax::{Directive, Expr, List, Stmt, StmtKind, TaskMark};
 use std::alloc::Global;
 
 /// How many levels of statements a function may have.
@@ -45,6 +47,44 @@ fn block(alloc: Global, levels: u32, tokens: &mut Cursor<'_>) -> Result<Stmt, Un
     }
 }
 
+/// "else" stmt, behind the head of an `if` and its first statement
+#[cycle(statement)]
+fn with_else(
+    alloc: Global,
+    levels: u32,
+    head: (u32, Expr),
+    then: Stmt,
+    tokens: &mut Cursor<'_>,
+) -> Result<Stmt, Unread>
+    ensures { Gives (read_with_else (read_within levels) head then tokens.old) result tokens.new }
+{
+    match keyword(b"else", tokens) {
+        Ok(_) => {}
+        Err(unread) => return Err(unread),
+    }
+    match within(alloc, levels, tokens) {
+        Ok(other) => if_else(alloc, head, then, other),
+        Err(unread) => Err(unread),
+    }
+}
+
+/// [ "else" stmt ], behind the head of an `if` and its first statement
+#[cycle(statement)]
+fn maybe_else(
+    alloc: Global,
+    levels: u32,
+    head: (u32, Expr),
+    then: Stmt,
+    tokens: &mut Cursor<'_>,
+) -> Result<Stmt, Unread>
+    ensures { Gives (read_maybe_else (read_within levels) head then tokens.old) result tokens.new }
+{
+    if begins_with_keyword(b"else", tokens) {
+        return with_else(alloc, levels, head, then, tokens);
+    }
+    if_only(alloc, head, then)
+}
+
 /// stmt [ "else" stmt ], behind the head of an `if`
 #[cycle(statement)]
 #[tactic(auto, unfolding(crate::specs::StatementReading::read_branches))]
@@ -56,27 +96,9 @@ fn branches(
 ) -> Result<Stmt, Unread>
     ensures { Gives (read_branches (read_within levels) head tokens.old) result tokens.new }
 {
-    let then = match within(alloc, levels, tokens) {
-        Ok(then) => then,
-        Err(unread) => return Err(unread),
-    };
-    if !begins_with_keyword(b"else", tokens) {
-        return match if_only(alloc, head, then) {
-            Ok(made) => Ok(made),
-            Err(e) => Err(Unread::Memory(e)),
-        };
-    }
-    match keyword(b"else", tokens) {
-        Ok(_) => {}
-        Err(unread) => return Err(unread),
-    }
-    let other = match within(alloc, levels, tokens) {
-        Ok(other) => other,
-        Err(unread) => return Err(unread),
-    };
-    match if_else(alloc, head, then, other) {
-        Ok(made) => Ok(made),
-        Err(e) => Err(Unread::Memory(e)),
+    match within(alloc, levels, tokens) {
+        Ok(then) => maybe_else(alloc, levels, head, then, tokens),
+        Err(unread) => Err(unread),
     }
 }
 
@@ -102,13 +124,9 @@ fn while_statement(alloc: Global, levels: u32, tokens: &mut Cursor<'_>) -> Resul
         Ok(head) => head,
         Err(unread) => return Err(unread),
     };
-    let body = match within(alloc, levels, tokens) {
-        Ok(body) => body,
-        Err(unread) => return Err(unread),
-    };
-    match while_loop(alloc, head, body) {
-        Ok(made) => Ok(made),
-        Err(e) => Err(Unread::Memory(e)),
+    match within(alloc, levels, tokens) {
+        Ok(body) => while_loop(alloc, head, body),
+        Err(unread) => Err(unread),
     }
 }
 
@@ -122,13 +140,25 @@ fn for_statement(alloc: Global, levels: u32, tokens: &mut Cursor<'_>) -> Result<
         Ok(head) => head,
         Err(unread) => return Err(unread),
     };
-    let body = match within(alloc, levels, tokens) {
-        Ok(body) => body,
-        Err(unread) => return Err(unread),
-    };
-    match for_loop(alloc, head, body) {
-        Ok(made) => Ok(made),
-        Err(e) => Err(Unread::Memory(e)),
+    match within(alloc, levels, tokens) {
+        Ok(body) => for_loop(alloc, head, body),
+        Err(unread) => Err(unread),
+    }
+}
+
+/// The statement behind the pragma of a task
+#[cycle(statement)]
+fn task_statement(
+    alloc: Global,
+    levels: u32,
+    mark: TaskMark,
+    tokens: &mut Cursor<'_>,
+) -> Result<Stmt, Unread>
+    ensures { Gives (read_mapped (task_of mark) (read_within levels) tokens.old) result tokens.new }
+{
+    match within(alloc, levels, tokens) {
+        Ok(body) => task(alloc, mark, body),
+        Err(unread) => Err(unread),
     }
 }
 
@@ -144,28 +174,16 @@ fn directed(
 ) -> Result<Stmt, Unread>
     ensures { Gives (read_directed (read_within levels) (directive, line) tokens.old) result tokens.new }
 {
-    let mark = match directive {
-        Directive::Task(mark) => mark,
-        Directive::TaskWait(sections) => {
-            return Ok(Stmt {
-                what: StmtKind::TaskWait(sections),
-                line,
-            });
-        }
-        Directive::Release(clauses) => {
-            return Ok(Stmt {
-                what: StmtKind::Release(clauses),
-                line,
-            });
-        }
-    };
-    let body = match within(alloc, levels, tokens) {
-        Ok(body) => body,
-        Err(unread) => return Err(unread),
-    };
-    match task(alloc, mark, body) {
-        Ok(made) => Ok(made),
-        Err(e) => Err(Unread::Memory(e)),
+    match directive {
+        Directive::Task(mark) => task_statement(alloc, levels, mark, tokens),
+        Directive::TaskWait(sections) => Ok(Stmt {
+            what: StmtKind::TaskWait(sections),
+            line,
+        }),
+        Directive::Release(clauses) => Ok(Stmt {
+            what: StmtKind::Release(clauses),
+            line,
+        }),
     }
 }
 

@@ -8,7 +8,7 @@ use Rattle.oss_parse.proofs.StatementLoops.{part_some, repeats_parts, within_som
 use Rattle.oss_parse.proofs.statements.+statement.Goals as goal
 
 pub parts-parts-init : goal.parts-parts-init
-unfolding read_parts_behind, read_items_by
+unfolding read_parts_behind read_items_by
 parts-parts-init t c = refl
 
 pub parts-returns-in-Err : goal.parts-returns-in-Err
