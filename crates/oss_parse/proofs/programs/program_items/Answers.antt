@@ -7,7 +7,7 @@ use Rattle.oss_parse.proofs.programs.program_items.Goals as goal
 
 pub items-init : goal.items-init
 unfolding read_items_behind read_program_items
-items-init c = refl
+items-init c = rw c.new-found.ensures refl
 
 pub returns-in-Err : goal.returns-in-Err
 unfolding read_items_behind

@@ -9,7 +9,7 @@ use Rattle.oss_parse.proofs.statements.+statement.Goals as goal
 
 pub parts-parts-init : goal.parts-parts-init
 unfolding read_parts_behind read_items_by
-parts-parts-init t c = refl
+parts-parts-init t c = rw c.new-found.ensures refl
 
 pub parts-returns-in-Err : goal.parts-returns-in-Err
 unfolding read_parts_behind
