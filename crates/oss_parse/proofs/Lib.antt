@@ -14,3 +14,7 @@ pub mod ExactTexts
 pub mod OneProgram
 pub mod StatementTexts
 pub mod ParsedLemmas
+pub mod ProgramLoops
+pub mod SimpleLoops
+pub mod StatementLoops
+pub mod TextLoops

@@ -1,3 +1,5 @@
+pub mod Branches
+pub mod Inner
 pub mod Parsed
 pub mod ProgramReading
 pub mod SimpleReading

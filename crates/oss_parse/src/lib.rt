@@ -1,2 +1,16 @@
 //! Programs, read from their texts.
 #![tactic(auto)]
+
+mod beginnings;
+mod calls;
+mod forms;
+mod laws;
+mod programs;
+mod simple;
+mod statements;
+#[cfg(test)]
+mod tests;
+mod tokens;
+
+pub use calls::parse;
+pub use laws::a_text_has_one_parse;
