@@ -114,14 +114,19 @@ module _ {sub : Reader Stmt} {U C : List Token → Stmt → Type 0} {B : List To
         ∙ (told_two (front ++ (t ∷ (u.front ++ other))) s t (u.front ++ other) (steady (u.front ++ other)) begun ∙ ap (after s) (u.steady other same));
   }
   two_read ts s front t rest split w begun steady (Err (Deep place)) u = record {
-    front = front ++ (t ∷ u.front); token = u.token; behind = u.behind; at = u.at;
+    front = front ++ (t ∷ u.front);
+    token = u.token;
+    behind = u.behind;
+    at = u.at;
     split = split ∙ (ap (λ ys. front ++ (t ∷ ys)) u.split ∙ sym (append_assoc front (t ∷ u.front) place));
     deep = in_other s front t u.front refl w begun u.deep;
   }
 
   one_read : (ts : List Token) (s : Stmt) (mid : List Token) → begins otherwise mid ≡ false → Taken sub U ts s mid → Taken branches (Branches U C head) ts (if_of head s) mid
   one_read ts s mid free w = record {
-    front = w.front; split = w.split; whole = one_branch s refl w.whole;
+    front = w.front;
+    split = w.split;
+    whole = one_branch s refl w.whole;
     steady = λ other same. told_one (w.front ++ other) s other (w.steady other same) (still_fails otherwise [] mid mid other free refl same);
   }
 
@@ -142,7 +147,10 @@ module _ {sub : Reader Stmt} {U C : List Token → Stmt → Type 0} {B : List To
 
   sinks_one : (xs more : List Token) → Sinks sub B xs → Sinks branches (BranchesDeep C B) (xs ++ more)
   sinks_one xs more s = record {
-    front = s.front; token = s.token; more = s.more ++ more; deep = in_one s.deep;
+    front = s.front;
+    token = s.token;
+    more = s.more ++ more;
+    deep = in_one s.deep;
     split = ap (λ ys. ys ++ more) s.split ∙ append_assoc s.front (s.token ∷ s.more) more;
     steady = λ other. told_stop (s.front ++ (s.token ∷ other)) (Deep (s.token ∷ other)) (s.steady other);
   }
@@ -150,7 +158,10 @@ module _ {sub : Reader Stmt} {U C : List Token → Stmt → Type 0} {B : List To
   sinks_other : (s : Stmt) (front : List Token) (t : Token) (back : List Token) → C front s → otherwise t ≡ true → ((rest : List Token) → sub (front ++ rest) ≡ Ok (s, rest)) → Sinks sub B back
       → Sinks branches (BranchesDeep C B) (front ++ (t ∷ back))
   sinks_other s front t back w begun read u = record {
-    front = front ++ (t ∷ u.front); token = u.token; more = u.more; deep = in_other s front t u.front refl w begun u.deep;
+    front = front ++ (t ∷ u.front);
+    token = u.token;
+    more = u.more;
+    deep = in_other s front t u.front refl w begun u.deep;
     split = ap (λ ys. front ++ (t ∷ ys)) u.split ∙ sym (append_assoc front (t ∷ u.front) (u.token ∷ u.more));
     steady = λ other.
         ap branches (append_assoc front (t ∷ u.front) (u.token ∷ other))
@@ -208,7 +219,8 @@ module _ {sub : Reader Stmt} {U C : List Token → Stmt → Type 0} {B : List To
   branches_begun : (xs : List Token) (t : Token) → BranchesDeep C B xs t → Viable (Branches U C head) (xs ++ (t ∷ []))
   branches_begun xs t (in_one w) = one_viable (xs ++ (t ∷ [])) (part.whole.begun xs t w)
   branches_begun xs t (in_other s front mark back split w begun d) = let v = part.whole.begun back t d in record {
-    more = v.more; value = if_else_of head s v.value;
+    more = v.more;
+    value = if_else_of head s v.value;
     member = two_branches s v.value front mark ((back ++ (t ∷ [])) ++ v.more) refl (ap (λ ys. ys ++ v.more) (ap (λ ys. ys ++ (t ∷ [])) split ∙ append_assoc front (mark ∷ back) (t ∷ [])) ∙ append_assoc front (mark ∷ (back ++ (t ∷ []))) v.more) begun w v.member;
   }
 
@@ -240,7 +252,14 @@ module _ {sub : Reader Stmt} {U C : List Token → Stmt → Type 0} {B : List To
         let whole : front ≡ w.front ++ (t ∷ u.front)
         = append_cancel_right front (w.front ++ (t ∷ u.front)) rest (sym split ∙ (w.split ∙ (ap (λ ys. w.front ++ (t ∷ ys)) u.split ∙ sym (append_assoc w.front (t ∷ u.front) rest)))) in
         record {
-          first = s; other = q.0; front = w.front; mark = t; back = u.front; made = ap (λ (x : Stmt × List Token). x.0) same; split = whole; marks = marks;
+          first = s;
+          other = q.0;
+          front = w.front;
+          mark = t;
+          back = u.front;
+          made = ap (λ (x : Stmt × List Token). x.0) same;
+          split = whole;
+          marks = marks;
           before = part.ends ts s (t ∷ mid) read marks w.front w.split;
           behind = part.ends mid q.0 rest read' begun u.front u.split;
         }

@@ -50,7 +50,11 @@ module _ (goes : Token → Bool) where
         → ((rest : List Token) → read_mapped make f (xs ++ rest) ≡ Ok (b, rest)) ⊎ Sinks (read_mapped make f) D xs
     mapped_closed xs b w (inl read) = inl (λ rest. ap (λ o. go_on o (λ a rest. Ok (make a, rest))) (read rest) ∙ ap (λ c. Ok (c, rest)) w.made)
     mapped_closed xs b w (inr s) = inr (record {
-      front = s.front; token = s.token; more = s.more; split = s.split; deep = s.deep;
+      front = s.front;
+      token = s.token;
+      more = s.more;
+      split = s.split;
+      deep = s.deep;
       steady = λ other. ap (λ o. go_on o (λ a rest. Ok (make a, rest))) (s.steady other);
     })
 
@@ -76,14 +80,20 @@ module _ (goes : Token → Bool) where
       {D : List Token → Token → Type 0} {E : A → List Token → Token → Type 0} (head : Exact f U D never) (tail : (a : A) → Ending goes (go a) (V a) (C a) (E a)) (some : (a : A) → Viable (V a) []) where
     then_first : (xs more : List Token) → Sinks f D xs → Sinks (read_then f go) (ThenDeep D U E) (xs ++ more)
     then_first xs more s = record {
-      front = s.front; token = s.token; more = s.more ++ more; deep = in_first s.deep;
+      front = s.front;
+      token = s.token;
+      more = s.more ++ more;
+      deep = in_first s.deep;
       split = ap (λ ys. ys ++ more) s.split ∙ append_assoc s.front (s.token ∷ s.more) more;
       steady = λ other. ap (λ o. go_on o go) (s.steady other);
     }
 
     then_next : (xs ys : List Token) (a : A) → U xs a → ((other : List Token) → begins never other ≡ false → f (xs ++ other) ≡ Ok (a, other)) → Sinks (go a) (E a) ys → Sinks (read_then f go) (ThenDeep D U E) (xs ++ ys)
     then_next xs ys a w read s = record {
-      front = xs ++ s.front; token = s.token; more = s.more; deep = in_second xs s.front a refl w s.deep;
+      front = xs ++ s.front;
+      token = s.token;
+      more = s.more;
+      deep = in_second xs s.front a refl w s.deep;
       split = ap (λ zs. xs ++ zs) s.split ∙ sym (append_assoc xs s.front (s.token ∷ s.more));
       steady = λ other.
           ap (read_then f go) (append_assoc xs s.front (s.token ∷ other))
@@ -132,7 +142,11 @@ module _ (goes : Token → Bool) where
         → ((rest : List Token) → read_either starts f g (xs ++ rest) ≡ Ok (a, rest)) ⊎ Sinks (read_either starts f g) (EitherDeep D F) xs
     one_closed xs a w (inl read) = inl (λ rest. take_first (xs ++ rest) (member_begins left.whole begins_left xs a rest (inside_left xs a w)) ∙ read rest)
     one_closed xs a w (inr s) = inr (record {
-      front = s.front; token = s.token; more = s.more; split = s.split; deep = one_deep s.deep;
+      front = s.front;
+      token = s.token;
+      more = s.more;
+      split = s.split;
+      deep = one_deep s.deep;
       steady = λ other. take_first (s.front ++ (s.token ∷ other)) (deep_begins left.whole begins_left s.front s.token other s.deep) ∙ s.steady other;
     })
 
@@ -140,7 +154,11 @@ module _ (goes : Token → Bool) where
         → ((rest : List Token) → read_either starts f g (xs ++ rest) ≡ Ok (a, rest)) ⊎ Sinks (read_either starts f g) (EitherDeep D F) xs
     other_closed xs a w (inl read) = inl (λ rest. take_second (xs ++ rest) (none_starts (xs ++ rest) (member_begins right.whole begins_right xs a rest (inside_right xs a w))) ∙ read rest)
     other_closed xs a w (inr s) = inr (record {
-      front = s.front; token = s.token; more = s.more; split = s.split; deep = other_deep s.deep;
+      front = s.front;
+      token = s.token;
+      more = s.more;
+      split = s.split;
+      deep = other_deep s.deep;
       steady = λ other. take_second (s.front ++ (s.token ∷ other)) (none_starts (s.front ++ (s.token ∷ other)) (deep_begins right.whole begins_right s.front s.token other s.deep)) ∙ s.steady other;
     })
 

@@ -154,10 +154,13 @@ declared_into numbers xs p (other_way m) =
 
 declared_back : (numbers : NumKind) (xs : List Token) (k : Kind) (word : List ℕ) (line : ℕ) → IsDeclared numbers xs k word line → Either (Pointer numbers) (Number numbers) xs (k, record { name = word; line = line })
 declared_back numbers xs k called line (number_declared t word e n) = other_way (record {
-  part = record { name = word; line = t.line }; made = refl; whole = record { token = t; only = e; passes = name_value t word n };
+  part = record { name = word; line = t.line };
+  made = refl;
+  whole = record { token = t; only = e; passes = name_value t word n };
 })
 declared_back numbers xs k called line (pointer_declared mark t word e m n) = one_way (record {
-  part = (mark.line, record { name = word; line = t.line }); made = refl;
+  part = (mark.line, record { name = word; line = t.line });
+  made = refl;
   whole = record { token = mark; back = t ∷ []; split = e; passes = symbol_value (codes "*") mark m; behind = name_one t word n };
 })
 
@@ -269,7 +272,11 @@ module _ {expression : Reader Expr} {X : List Token → Token → Type 0} (part 
   local_back numbers xs l (plain_local {k = k} {word = word} {line = line} w) =
       record { front = xs; back = []; value = (k, record { name = word; line = line }); split = sym (append-nil xs); before = w; behind = other_way (record { nothing = refl; same = refl }) }
   local_back numbers xs l (first_local {k = k} {word = word} {line = line} {value = value} front mark back e m w v) = record {
-    front = front; back = mark ∷ back; value = (k, record { name = word; line = line }); split = e; before = w;
+    front = front;
+    back = mark ∷ back;
+    value = (k, record { name = word; line = line });
+    split = e;
+    before = w;
     behind = one_way (record { part = value; made = refl; whole = record { mark = mark; back = back; split = refl; marks = m; behind = v } });
   }
 
@@ -277,7 +284,16 @@ module _ {expression : Reader Expr} {X : List Token → Token → Type 0} (part 
   local_deeper numbers xs t (in_first d) = nowhere xs t d
   local_deeper numbers xs t (in_second front back a e w (other_deep d)) = nowhere back t d
   local_deeper numbers xs t (in_second front back a e w (one_deep d)) = record {
-    k = a.0; word = a.1.name; line = a.1.line; front = front; mark = d.opened; inner = d.inner; split = e ∙ ap (λ ys. front ++ ys) d.split; declared = w; marks = d.opens; excess = d.deep;
+    k = a.0;
+    word = a.1.name;
+    line = a.1.line;
+    front = front;
+    mark = d.opened;
+    inner = d.inner;
+    split = e ∙ ap (λ ys. front ++ ys) d.split;
+    declared = w;
+    marks = d.opens;
+    excess = d.deep;
   }
 
   local_upper : (numbers : NumKind) (xs : List Token) (t : Token) → LocalDeep numbers xs t → ThenDeep Nowhere (IsDeclaredAs numbers) (λ d. FirstDeep) xs t
@@ -303,10 +319,15 @@ module _ {expression : Reader Expr} {X : List Token → Token → Type 0} (part 
 
   locals_deeper : (numbers : NumKind) (xs : List Token) (t : Token) → ListedDeep (IsLocal numbers) (LocalDeep numbers) xs t → IsExcessBehind (OpensLocals numbers) X xs t
   locals_deeper numbers xs t (deep_first d) = record {
-    front = d.front ++ (d.mark ∷ []); inner = d.inner; split = d.split ∙ sym (append_assoc d.front (d.mark ∷ []) d.inner); opens = local_value d.front d.mark refl d.declared d.marks; excess = d.excess;
+    front = d.front ++ (d.mark ∷ []);
+    inner = d.inner;
+    split = d.split ∙ sym (append_assoc d.front (d.mark ∷ []) d.inner);
+    opens = local_value d.front d.mark refl d.declared d.marks;
+    excess = d.excess;
   }
   locals_deeper numbers xs t (deep_later l front mark back e w c d) = let x = locals_deeper numbers back t d in record {
-    front = front ++ (mark ∷ x.front); inner = x.inner;
+    front = front ++ (mark ∷ x.front);
+    inner = x.inner;
     split = e ∙ (ap (λ ys. front ++ (mark ∷ ys)) x.split ∙ sym (append_assoc front (mark ∷ x.front) x.inner));
     opens = later_local front mark x.front refl w c x.opens;
     excess = x.excess;
@@ -314,7 +335,16 @@ module _ {expression : Reader Expr} {X : List Token → Token → Type 0} (part 
 
   locals_upper_by : (numbers : NumKind) (before inner : List Token) (t : Token) → X inner t → OpensLocals numbers before → ListedDeep (IsLocal numbers) (LocalDeep numbers) (before ++ inner) t
   locals_upper_by numbers before inner t x (local_value {k = k} {word = word} {line = line} front mark e w m) = deep_first (record {
-    k = k; word = word; line = line; front = front; mark = mark; inner = inner; split = ap (λ ys. ys ++ inner) e ∙ append_assoc front (mark ∷ []) inner; declared = w; marks = m; excess = x;
+    k = k;
+    word = word;
+    line = line;
+    front = front;
+    mark = mark;
+    inner = inner;
+    split = ap (λ ys. ys ++ inner) e ∙ append_assoc front (mark ∷ []) inner;
+    declared = w;
+    marks = m;
+    excess = x;
   })
   locals_upper_by numbers before inner t x (later_local {l = l} front mark back e w c o) =
       deep_later l front mark (back ++ inner) (ap (λ ys. ys ++ inner) e ∙ append_assoc front (mark ∷ back) inner) w c (locals_upper_by numbers back inner t x o)
@@ -347,14 +377,22 @@ module _ {expression : Reader Expr} {X : List Token → Token → Type 0} (part 
 
   declaration_back : (xs : List Token) (s : Stmt) → IsDeclaration xs s → Then IsNumKindAt Declares xs s
   declaration_back xs s (declaration {numbers = numbers} {locals = locals} front back e w v) = record {
-    front = front; back = back; value = (numbers, first_line front); split = e; before = record { typed = w; at = refl }; behind = record { part = locals; made = refl; whole = v };
+    front = front;
+    back = back;
+    value = (numbers, first_line front);
+    split = e;
+    before = record { typed = w; at = refl };
+    behind = record { part = locals; made = refl; whole = v };
   }
 
   declaration_deeper : (xs : List Token) (t : Token) → ThenDeep Nowhere IsNumKindAt DeclaresDeep xs t → IsExcessBehind OpensDeclaration X xs t
   declaration_deeper xs t (in_first d) = nowhere xs t d
   declaration_deeper xs t (in_second front back k e w d) = record {
-    front = front ++ d.front; inner = d.inner; split = e ∙ (ap (λ ys. front ++ ys) d.split ∙ sym (append_assoc front d.front d.inner));
-    opens = record { numbers = k.0; front = front; back = d.front; split = refl; typed = w.typed; opens = d.opens }; excess = d.excess;
+    front = front ++ d.front;
+    inner = d.inner;
+    split = e ∙ (ap (λ ys. front ++ ys) d.split ∙ sym (append_assoc front d.front d.inner));
+    opens = record { numbers = k.0; front = front; back = d.front; split = refl; typed = w.typed; opens = d.opens };
+    excess = d.excess;
   }
 
   declaration_upper : (xs : List Token) (t : Token) → IsExcessBehind OpensDeclaration X xs t → ThenDeep Nowhere IsNumKindAt DeclaresDeep xs t

@@ -80,7 +80,11 @@ parameter_into xs l w = subst (λ l. IsParameter xs l) w.behind.made (parameter 
 
 parameter_back : (xs : List Token) (l : Local) → IsParameter xs l → Typed xs l
 parameter_back xs l (parameter {numbers = numbers} {k = k} {word = word} {line = line} front back e n d) = record {
-  front = front; back = back; value = (numbers, first_line front); split = e; before = record { typed = n; at = refl };
+  front = front;
+  back = back;
+  value = (numbers, first_line front);
+  split = e;
+  before = record { typed = n; at = refl };
   behind = record { part = (k, record { name = word; line = line }); made = refl; whole = record { declares = d } };
 }
 
@@ -135,7 +139,10 @@ parameters_into xs params (one_way w) =
     subst (λ ls. Closing xs ls) w.made (record { inner = []; closed = w.whole.token; split = w.whole.only; closes = one_symbol (codes ")") xs w.part w.whole; are = no_parameters refl })
 parameters_into xs params (other_way (one_way w)) = let h = w.whole in
     subst (λ ls. Closing xs ls) w.made (record {
-      inner = h.token ∷ []; closed = h.behind.token; split = h.split ∙ ap (λ ys. h.token ∷ ys) h.behind.only; closes = one_symbol (codes ")") h.back w.part.1 h.behind;
+      inner = h.token ∷ [];
+      closed = h.behind.token;
+      split = h.split ∙ ap (λ ys. h.token ∷ ys) h.behind.only;
+      closes = one_symbol (codes ")") h.back w.part.1 h.behind;
       are = void_parameters h.token refl (keyword_told (codes "void") h.token w.part.0 h.passes);
     })
 parameters_into xs params (other_way (other_way w)) = let b = w.whole in
@@ -145,14 +152,20 @@ parameters_back_by : (xs inner : List Token) (closed : Token) (params : List Loc
 parameters_back_by xs inner closed params e c (no_parameters none) =
     one_way (record { part = closed.line; made = refl; whole = record { token = closed; only = e ∙ ap (λ ys. ys ++ (closed ∷ [])) none; passes = symbol_value (codes ")") closed c } })
 parameters_back_by xs inner closed params e c (void_parameters t only v) = other_way (one_way (record {
-  part = (t.line, closed.line); made = refl;
+  part = (t.line, closed.line);
+  made = refl;
   whole = record {
-    token = t; back = closed ∷ []; split = e ∙ ap (λ ys. ys ++ (closed ∷ [])) only; passes = keyword_value (codes "void") t v;
+    token = t;
+    back = closed ∷ [];
+    split = e ∙ ap (λ ys. ys ++ (closed ∷ [])) only;
+    passes = keyword_value (codes "void") t v;
     behind = record { token = closed; only = refl; passes = symbol_value (codes ")") closed c };
   };
 }))
 parameters_back_by xs inner closed params e c (some_parameters w) = other_way (other_way (record {
-  part = (params, closed.line); made = refl; whole = record { inner = inner; closed = closed; split = e; passes = symbol_value (codes ")") closed c; inside = w };
+  part = (params, closed.line);
+  made = refl;
+  whole = record { inner = inner; closed = closed; split = e; passes = symbol_value (codes ")") closed c; inside = w };
 }))
 
 parameters_back : (xs : List Token) (params : List Local) → Closing xs params → Parameters xs params
@@ -288,11 +301,17 @@ mark_into xs m w = let s = w.whole.before in let k = w.whole.behind in let c = k
 
 mark_back_by : (xs : List Token) (mark : TaskMark) → IsPragma xs (directive.Task mark) → MarkRead xs (Some mark)
 mark_back_by xs mark (task {clauses = cs} start word inner end e s k n w once) = record {
-  part = directive.Task (record { clauses = cs; line = start.line }); made = refl;
+  part = directive.Task (record { clauses = cs; line = start.line });
+  made = refl;
   whole = record {
-    front = start ∷ []; back = word ∷ (inner ++ (end ∷ [])); value = start.line; split = e; before = one_start start s;
+    front = start ∷ [];
+    back = word ∷ (inner ++ (end ∷ []));
+    value = start.line;
+    split = e;
+    before = one_start start s;
     behind = record {
-      part = (word.line, (cs, end.line)); made = refl;
+      part = (word.line, (cs, end.line));
+      made = refl;
       whole = record { opened = word; inner = inner; closed = end; split = refl; opens = tells_word (codes "task") word k; closes = ap (λ k. end_in k end.line) n; inside = record { clauses = w; once = once } };
     };
   };
@@ -303,9 +322,11 @@ mark_back xs m w = subst (λ m. MarkRead xs m) w.some (mark_back_by xs w.mark w.
 
 task_viable : (line : ℕ) → Viable (Tasked line) []
 task_viable line = record {
-  more = record { what = kinds.Name (codes "task"); line = 0 } ∷ record { what = kinds.PragmaEnd; line = 0 } ∷ []; value = task_of line (0, ([], 0));
+  more = record { what = kinds.Name (codes "task"); line = 0 } ∷ record { what = kinds.PragmaEnd; line = 0 } ∷ [];
+  value = task_of line (0, ([], 0));
   member = record {
-    part = (0, ([], 0)); made = refl;
+    part = (0, ([], 0));
+    made = refl;
     whole = record { opened = record { what = kinds.Name (codes "task"); line = 0 }; inner = []; closed = record { what = kinds.PragmaEnd; line = 0 }; split = refl; opens = refl; closes = refl; inside = record { clauses = no_clause refl; once = once_none } };
   };
 }
@@ -320,7 +341,11 @@ module _ {expression : Reader Expr} {X : List Token → Token → Type 0} (part 
   mark_place : (xs back : List Token) (start word : Token) (t : Token) → xs ≡ start ∷ word ∷ back → start.what ≡ kinds.PragmaOss → IsWord (codes "task") word → (x : IsExcessBehind OpensClauses X back t) → OpensClauses x.front
       → IsExcessBehind OpensMark X xs t
   mark_place xs back start word t e s k x (behind_clauses front left b w once o) = record {
-    front = start ∷ word ∷ x.front; inner = x.inner; split = e ∙ ap (λ ys. start ∷ word ∷ ys) x.split; opens = in_mark start word front left (ap (λ ys. start ∷ word ∷ ys) b) s k w once o; excess = x.excess;
+    front = start ∷ word ∷ x.front;
+    inner = x.inner;
+    split = e ∙ ap (λ ys. start ∷ word ∷ ys) x.split;
+    opens = in_mark start word front left (ap (λ ys. start ∷ word ∷ ys) b) s k w once o;
+    excess = x.excess;
   }
 
   mark_deeper : (xs : List Token) (t : Token) → MarkDeep xs t → IsExcessBehind OpensMark X xs t
@@ -331,7 +356,11 @@ module _ {expression : Reader Expr} {X : List Token → Token → Type 0} (part 
   mark_upper_by : (xs before inner : List Token) (t : Token) → xs ≡ before ++ inner → X inner t → OpensMark before → MarkDeep xs t
   mark_upper_by xs before inner t e x (in_mark start word front back b s k w once o) =
       ThenDeep.in_second (start ∷ []) (word ∷ ((front ++ back) ++ inner)) start.line (e ∙ ap (λ ys. ys ++ inner) b) (one_start start s) (record {
-        token = word; back = (front ++ back) ++ inner; value = word.line; split = refl; passes = tells_word (codes "task") word k;
+        token = word;
+        back = (front ++ back) ++ inner;
+        value = word.line;
+        split = refl;
+        passes = tells_word (codes "task") word k;
         deep = record { front = front ++ back; inner = inner; split = refl; opens = behind_clauses front back refl w once o; excess = x };
       })
 
@@ -408,18 +437,37 @@ module _ {body : Reader (List Stmt)} {Z : List Token → Token → Type 0} {goes
 
   tail_into : (xs : List Token) (found : List Item) → Mapped tree_of Rest xs found → FunctionTail mark result name xs found
   tail_into xs found w = let r = w.whole in let b = r.behind in let p = b.before in let c = b.behind in record {
-    opened = r.mark; inner = p.inner; closed = p.closed; begins = c.opened; within = c.inner; ends = c.closed; params = w.part.0; body = w.part.1;
+    opened = r.mark;
+    inner = p.inner;
+    closed = p.closed;
+    begins = c.opened;
+    within = c.inner;
+    ends = c.closed;
+    params = w.part.0;
+    body = w.part.1;
     split = r.split ∙ ap (λ ys. r.mark ∷ ys) (b.split ∙ (ap (λ ys. ys ++ b.back) p.split ∙ (append_assoc p.inner (p.closed ∷ []) b.back ∙ ap (λ ys. p.inner ++ (p.closed ∷ ys)) c.split)));
-    opens = r.marks; are = p.are; closes = p.closes; starts = c.opens; holds = c.inside; stops = c.closes; made = w.made;
+    opens = r.marks;
+    are = p.are;
+    closes = p.closes;
+    starts = c.opens;
+    holds = c.inside;
+    stops = c.closes;
+    made = w.made;
   }
 
   tail_back : (xs : List Token) (found : List Item) → FunctionTail mark result name xs found → Mapped tree_of Rest xs found
   tail_back xs found w = record {
-    part = (w.params, w.body); made = w.made;
+    part = (w.params, w.body);
+    made = w.made;
     whole = record {
-      mark = w.opened; back = w.inner ++ (w.closed ∷ w.begins ∷ (w.within ++ (w.ends ∷ []))); split = w.split; marks = w.opens;
+      mark = w.opened;
+      back = w.inner ++ (w.closed ∷ w.begins ∷ (w.within ++ (w.ends ∷ [])));
+      split = w.split;
+      marks = w.opens;
       behind = record {
-        front = w.inner ++ (w.closed ∷ []); back = w.begins ∷ (w.within ++ (w.ends ∷ [])); split = sym (append_assoc w.inner (w.closed ∷ []) (w.begins ∷ (w.within ++ (w.ends ∷ []))));
+        front = w.inner ++ (w.closed ∷ []);
+        back = w.begins ∷ (w.within ++ (w.ends ∷ []));
+        split = sym (append_assoc w.inner (w.closed ∷ []) (w.begins ∷ (w.within ++ (w.ends ∷ []))));
         before = record { inner = w.inner; closed = w.closed; split = refl; closes = w.closes; are = w.are };
         behind = record { opened = w.begins; inner = w.within; closed = w.ends; split = refl; opens = w.starts; closes = w.stops; inside = w.holds };
       };
@@ -431,14 +479,26 @@ module _ {body : Reader (List Stmt)} {Z : List Token → Token → Type 0} {goes
     on : BothDeep Nowhere Closing BlockDeep w.inner t → FunctionDeep Z xs t
     on (ThenDeep.in_first d) = nowhere w.inner t d
     on (ThenDeep.in_second front back params e p d) = record {
-      opened = w.opened; inner = p.inner; closed = p.closed; begins = d.opened; within = d.inner; params = params;
+      opened = w.opened;
+      inner = p.inner;
+      closed = p.closed;
+      begins = d.opened;
+      within = d.inner;
+      params = params;
       split = w.split ∙ ap (λ ys. w.opened ∷ ys) (e ∙ (ap (λ ys. ys ++ back) p.split ∙ (append_assoc p.inner (p.closed ∷ []) back ∙ ap (λ ys. p.inner ++ (p.closed ∷ ys)) d.split)));
-      opens = w.opens; are = p.are; closes = p.closes; starts = d.opens; deep = d.deep;
+      opens = w.opens;
+      are = p.are;
+      closes = p.closes;
+      starts = d.opens;
+      deep = d.deep;
     }
 
   tail_upper : (xs : List Token) (t : Token) → FunctionDeep Z xs t → RestDeep xs t
   tail_upper xs t w = record {
-    opened = w.opened; inner = w.inner ++ (w.closed ∷ w.begins ∷ w.within); split = w.split; opens = w.opens;
+    opened = w.opened;
+    inner = w.inner ++ (w.closed ∷ w.begins ∷ w.within);
+    split = w.split;
+    opens = w.opens;
     deep = ThenDeep.in_second (w.inner ++ (w.closed ∷ [])) (w.begins ∷ w.within) w.params (sym (append_assoc w.inner (w.closed ∷ []) (w.begins ∷ w.within)))
         (record { inner = w.inner; closed = w.closed; split = refl; closes = w.closes; are = w.are }) (record { opened = w.begins; inner = w.within; split = refl; opens = w.starts; deep = w.deep });
   }
@@ -454,7 +514,8 @@ module _ {body : Reader (List Stmt)} {Z : List Token → Token → Type 0} {goes
 
   headed_viable : Viable (Both Closing Block) []
   headed_viable = let v = block_viable in record {
-    more = close_token ∷ v.more; value = ([], v.value);
+    more = close_token ∷ v.more;
+    value = ([], v.value);
     member = record { front = close_token ∷ []; back = v.more; split = refl; before = record { inner = []; closed = close_token; split = refl; closes = refl; are = no_parameters refl }; behind = v.member };
   }
 

@@ -143,7 +143,8 @@ module _ (numbers : NumKind) (name : Named) where
   from_back xs g (scalar_from none) = other_way (other_way (record { nothing = none; same = refl }))
   from_back xs g (first_from {value = v} mark back e s w) = one_way (record { part = v; made = refl; whole = record { mark = mark; back = back; split = e; marks = s; behind = w } })
   from_back xs g (array_from opened number cells u closed e o n c) = other_way (one_way (record {
-    part = cells; made = refl;
+    part = cells;
+    made = refl;
     whole = record { opened = opened; inner = number ∷ []; closed = closed; split = e; opens = o; closes = c; inside = record { token = number; only = refl; passes = value_told number cells u n } };
   }))
 
@@ -218,7 +219,12 @@ module _ (numbers : NumKind) where
 
   global_back : (xs : List Token) (g : GlobalDef) → IsGlobal numbers xs g → Then NameToken (GlobalFrom numbers) xs g
   global_back xs g w = let s = global_split numbers xs g w in record {
-    front = s.t ∷ []; back = s.back; value = record { name = s.word; line = s.t.line }; split = s.split; before = record { token = s.t; only = refl; what = s.what; at = refl }; behind = s.behind;
+    front = s.t ∷ [];
+    back = s.back;
+    value = record { name = s.word; line = s.t.line };
+    split = s.split;
+    before = record { token = s.t; only = refl; what = s.what; at = refl };
+    behind = s.behind;
   }
 
   then_nowhere : (xs : List Token) (t : Token) → ThenDeep Nowhere NameToken (λ name. Nowhere) xs t → Nowhere xs t
@@ -305,7 +311,10 @@ module _ (numbers : NumKind) where
 
   pub tail_globals : (name : Named) (t : Token) (xs back : List Token) (found : List Item) → xs ≡ t ∷ back → t.what ≡ kinds.Name name.name → t.line ≡ name.line → GlobalsTail name back found → TypedGlobals xs found
   tail_globals name t xs back found e n at w = let b = w.whole in let g = b.inside in record {
-    gs = g.value ∷ g.behind.more; middle = t ∷ b.inner; mark = b.closed; split = e ∙ ap (λ ys. t ∷ ys) b.split;
+    gs = g.value ∷ g.behind.more;
+    middle = t ∷ b.inner;
+    mark = b.closed;
+    split = e ∙ ap (λ ys. t ∷ ys) b.split;
     globals = rows_globals (g.value ∷ []) (t ∷ b.inner) (t ∷ g.front) g.back g.value g.behind.more (ap (λ ys. t ∷ ys) g.split) (global_into_by numbers name t (t ∷ g.front) g.front g.value refl n at g.before) g.behind.rows;
     marks = symbol_token (codes ";") b.closed w.part.1 b.passes;
     made = ap (λ gs. map items.Global gs) g.behind.ends ∙ w.made;
@@ -313,17 +322,29 @@ module _ (numbers : NumKind) where
 
   globals_split : (xs : List Token) (gs : List GlobalDef) → IsGlobals numbers xs gs → Split (λ name ys. GlobalsFrom name ys gs) xs
   globals_split xs gs (last_global {g = g} w) = let s = global_split numbers xs g w in record {
-    t = s.t; word = s.word; back = s.back; split = s.split; what = s.what;
+    t = s.t;
+    word = s.word;
+    back = s.back;
+    split = s.split;
+    what = s.what;
     behind = record { front = s.back; back = []; value = g; split = sym (append-nil s.back); before = s.behind; behind = record { more = []; ends = refl; rows = no_row refl } };
   }
   globals_split xs gs (next_global {g = g} {more = more} front mark back e c w v) = let s = global_split numbers front g w in record {
-    t = s.t; word = s.word; back = s.back ++ (mark ∷ back); split = e ∙ ap (λ ys. ys ++ (mark ∷ back)) s.split; what = s.what;
+    t = s.t;
+    word = s.word;
+    back = s.back ++ (mark ∷ back);
+    split = e ∙ ap (λ ys. ys ++ (mark ∷ back)) s.split;
+    what = s.what;
     behind = record { front = s.back; back = mark ∷ back; value = g; split = refl; before = s.behind; behind = record { more = more; ends = refl; rows = globals_rows (g ∷ []) mark back more c v } };
   }
 
   pub globals_tail : (xs : List Token) (found : List Item) → TypedGlobals xs found → Split (λ name ys. GlobalsTail name ys found) xs
   globals_tail xs found w = let s = globals_split w.middle w.gs w.globals in record {
-    t = s.t; word = s.word; back = s.back ++ (w.mark ∷ []); split = w.split ∙ ap (λ ys. ys ++ (w.mark ∷ [])) s.split; what = s.what;
+    t = s.t;
+    word = s.word;
+    back = s.back ++ (w.mark ∷ []);
+    split = w.split ∙ ap (λ ys. ys ++ (w.mark ∷ [])) s.split;
+    what = s.what;
     behind = record { part = (w.gs, w.mark.line); made = w.made; whole = record { inner = s.back; closed = w.mark; split = refl; passes = symbol_value (codes ";") w.mark w.marks; inside = s.behind } };
   }
 
@@ -347,11 +368,16 @@ module _ (numbers : NumKind) where
 
   pub tail_viable : (name : Named) → Viable (GlobalsTail name) []
   tail_viable name = record {
-    more = record { what = kinds.Symbol (codes ";"); line = 0 } ∷ []; value = items.Global (scalar_of numbers name 0) ∷ [];
+    more = record { what = kinds.Symbol (codes ";"); line = 0 } ∷ [];
+    value = items.Global (scalar_of numbers name 0) ∷ [];
     member = record {
-      part = (scalar_of numbers name 0 ∷ [], 0); made = refl;
+      part = (scalar_of numbers name 0 ∷ [], 0);
+      made = refl;
       whole = record {
-        inner = []; closed = record { what = kinds.Symbol (codes ";"); line = 0 }; split = refl; passes = refl;
+        inner = [];
+        closed = record { what = kinds.Symbol (codes ";"); line = 0 };
+        split = refl;
+        passes = refl;
         inside = record { front = []; back = []; value = scalar_of numbers name 0; split = refl; before = scalar_from refl; behind = record { more = []; ends = refl; rows = no_row refl } };
       };
     };

@@ -87,7 +87,8 @@ kind_back_by : (xs : List Token) (numbers : NumKind) (line : ℕ) → first_line
 kind_back_by xs numbers line at (int_kind t e i) = one_way (record { token = t; only = e; passes = int_told t i ∙ ap (λ n. Some (num.Int, n)) (ap first_line (sym e) ∙ at) })
 kind_back_by xs numbers line at (long_kind t e l) = one_way (record { token = t; only = e; passes = long_told t l ∙ ap (λ n. Some (num.Long, n)) (ap first_line (sym e) ∙ at) })
 kind_back_by xs numbers line at (unsigned_kind t u e a b) = other_way (record {
-  part = (t.line, u.line); made = ap (λ n. (num.Ulong, n)) (ap first_line (sym e) ∙ at);
+  part = (t.line, u.line);
+  made = ap (λ n. (num.Ulong, n)) (ap first_line (sym e) ∙ at);
   whole = record { token = t; back = u ∷ []; split = e; passes = keyword_value (codes "unsigned") t a; behind = record { token = u; only = refl; passes = keyword_value (codes "long") u b } };
 })
 
@@ -161,7 +162,8 @@ declared_into numbers xs d (other_way w) = let n = w.whole in
 declared_back_by : (numbers : NumKind) (xs : List Token) (k : Kind) (word : List ℕ) (line : ℕ) → IsDeclared numbers xs k word line → Starred numbers xs (k, record { name = word; line = line })
 declared_back_by numbers xs k word line (number_declared t w e n) = other_way (record { part = record { name = w; line = t.line }; made = refl; whole = record { token = t; only = e; what = n; at = refl } })
 declared_back_by numbers xs k word line (pointer_declared mark t w e s n) = one_way (record {
-  part = (mark.line, record { name = w; line = t.line }); made = refl;
+  part = (mark.line, record { name = w; line = t.line });
+  made = refl;
   whole = record { token = mark; back = t ∷ []; split = e; passes = symbol_value (codes "*") mark s; behind = record { token = t; only = refl; what = n; at = refl } };
 })
 

@@ -130,29 +130,60 @@ item_into xs found (other_way (other_way w)) = typed_into xs w.front w.back w.va
 
 function_back : (xs marked front back : List Token) (mark : Option TaskMark) (result : Kind) (found : List Item) → xs ≡ marked ++ (front ++ back) → IsMark marked mark → IsResult front result → NamedFunction mark result back found → ItemRead xs found
 function_back xs marked front back mark result found e (some_mark {mark = m} p) r w = one_way (record {
-  front = marked; back = front ++ back; value = Some m; split = e; before = record { mark = m; some = refl; pragma = p };
+  front = marked;
+  back = front ++ back;
+  value = Some m;
+  split = e;
+  before = record { mark = m; some = refl; pragma = p };
   behind = record { front = front; back = back; value = result; split = refl; before = r; behind = w };
 })
 function_back xs marked front back mark result found e (no_mark none) (void_result t only v) w = other_way (one_way (record {
-  front = front; back = back; value = t.line; split = e ∙ ap (λ ys. ys ++ (front ++ back)) none; before = record { token = t; only = only; passes = keyword_value (codes "void") t v }; behind = w;
+  front = front;
+  back = back;
+  value = t.line;
+  split = e ∙ ap (λ ys. ys ++ (front ++ back)) none;
+  before = record { token = t; only = only; passes = keyword_value (codes "void") t v };
+  behind = w;
 }))
 function_back xs marked front back mark result found e (no_mark none) (number_result {numbers = numbers} n) w = other_way (other_way (record {
-  front = front; back = back; value = (numbers, first_line front); split = e ∙ ap (λ ys. ys ++ (front ++ back)) none; before = record { typed = n; at = refl };
+  front = front;
+  back = back;
+  value = (numbers, first_line front);
+  split = e ∙ ap (λ ys. ys ++ (front ++ back)) none;
+  before = record { typed = n; at = refl };
   behind = record { front = w.front; back = w.back; value = w.value; split = w.split; before = w.before; behind = one_way w.behind };
 }))
 
 item_back : (xs : List Token) (found : List Item) → IsItem xs found → ItemRead xs found
 item_back xs found (globals {numbers = numbers} {gs = gs} front middle mark e n g s) =
     let p = globals_tail numbers (middle ++ (mark ∷ [])) found (record { gs = gs; middle = middle; mark = mark; split = refl; globals = g; marks = s; made = refl }) in other_way (other_way (record {
-      front = front; back = middle ++ (mark ∷ []); value = (numbers, first_line front); split = e; before = record { typed = n; at = refl };
+      front = front;
+      back = middle ++ (mark ∷ []);
+      value = (numbers, first_line front);
+      split = e;
+      before = record { typed = n; at = refl };
       behind = record { front = p.t ∷ []; back = p.back; value = record { name = p.word; line = p.t.line }; split = p.split; before = record { token = p.t; only = refl; what = p.what; at = refl }; behind = other_way p.behind };
     }))
 item_back xs found (one_function (function {mark = mark} {result = result} {params = params} {body = body} marked front t word opened inner closed begins within ends e m r n o p c s w u)) =
     function_back xs marked front (t ∷ opened ∷ (inner ++ (closed ∷ begins ∷ (within ++ (ends ∷ []))))) mark result found e m r
     (function_named mark result (t ∷ opened ∷ (inner ++ (closed ∷ begins ∷ (within ++ (ends ∷ []))))) found t word (opened ∷ (inner ++ (closed ∷ begins ∷ (within ++ (ends ∷ []))))) refl n
     (record {
-      opened = opened; inner = inner; closed = closed; begins = begins; within = within; ends = ends; params = params; body = body;
-      split = refl; opens = o; are = p; closes = c; starts = s; holds = w; stops = u; made = refl;
+      opened = opened;
+      inner = inner;
+      closed = closed;
+      begins = begins;
+      within = within;
+      ends = ends;
+      params = params;
+      body = body;
+      split = refl;
+      opens = o;
+      are = p;
+      closes = c;
+      starts = s;
+      holds = w;
+      stops = u;
+      made = refl;
     }))
 
 module _ {expression : Reader Expr} {X : List Token → Token → Type 0} (part : Exact expression IsWhole X goes_on) (first : Begun expression begins_expression)

@@ -227,18 +227,35 @@ module _ {expression : Reader Expr} {X : List Token → Token → Type 0} (part 
 
   target_back : (xs : List Token) (e : Expr) → IsTarget xs e → Either Starred NamedTarget xs e
   target_back xs e (name_target t word s n) = other_way (record {
-    front = t ∷ []; back = []; value = record { name = word; line = t.line }; split = s; before = name_one t word n; behind = other_way (record { nothing = refl; same = refl });
+    front = t ∷ [];
+    back = [];
+    value = record { name = word; line = t.line };
+    split = s;
+    before = name_one t word n;
+    behind = other_way (record { nothing = refl; same = refl });
   })
   target_back xs e (element_target {at = at} t word opened inner closed s n o c w) = other_way (record {
-    front = t ∷ []; back = opened ∷ (inner ++ (closed ∷ [])); value = record { name = word; line = t.line }; split = s; before = name_one t word n;
+    front = t ∷ [];
+    back = opened ∷ (inner ++ (closed ∷ []));
+    value = record { name = word; line = t.line };
+    split = s;
+    before = name_one t word n;
     behind = one_way (record { part = at; made = refl; whole = record { opened = opened; inner = inner; closed = closed; split = refl; opens = o; closes = c; inside = w } });
   })
   target_back xs e (pointer_target mark t word s m n) = one_way (record {
-    front = mark ∷ []; back = t ∷ []; value = mark.line; split = s; before = symbol_one (codes "*") mark m;
+    front = mark ∷ [];
+    back = t ∷ [];
+    value = mark.line;
+    split = s;
+    before = symbol_one (codes "*") mark m;
     behind = one_way (record { part = record { name = word; line = t.line }; made = refl; whole = name_one t word n });
   })
   target_back xs e (pointed_target {e = v} mark opened inner closed s m o c w) = one_way (record {
-    front = mark ∷ []; back = opened ∷ (inner ++ (closed ∷ [])); value = mark.line; split = s; before = symbol_one (codes "*") mark m;
+    front = mark ∷ [];
+    back = opened ∷ (inner ++ (closed ∷ []));
+    value = mark.line;
+    split = s;
+    before = symbol_one (codes "*") mark m;
     behind = other_way (record { part = v; made = refl; whole = record { opened = opened; inner = inner; closed = closed; split = refl; opens = o; closes = c; inside = w } });
   })
 
@@ -246,16 +263,22 @@ module _ {expression : Reader Expr} {X : List Token → Token → Type 0} (part 
   starred_deeper xs t (in_first d) = nowhere xs t d
   starred_deeper xs t (in_second front back line e w (one_deep d)) = nowhere back t d
   starred_deeper xs t (in_second front back line e w (other_deep d)) = record {
-    front = w.token ∷ d.opened ∷ []; inner = d.inner; split = e ∙ (ap (λ ys. ys ++ back) w.only ∙ ap (λ ys. w.token ∷ ys) d.split);
-    opens = pointed_place w.token d.opened refl (symbol_token (codes "*") w.token line w.passes) d.opens; excess = d.deep;
+    front = w.token ∷ d.opened ∷ [];
+    inner = d.inner;
+    split = e ∙ (ap (λ ys. ys ++ back) w.only ∙ ap (λ ys. w.token ∷ ys) d.split);
+    opens = pointed_place w.token d.opened refl (symbol_token (codes "*") w.token line w.passes) d.opens;
+    excess = d.deep;
   }
 
   named_deeper : (xs : List Token) (t : Token) → NamedTargetDeep xs t → IsExcessBehind OpensTarget X xs t
   named_deeper xs t (in_first d) = nowhere xs t d
   named_deeper xs t (in_second front back name e w (other_deep d)) = nowhere back t d
   named_deeper xs t (in_second front back name e w (one_deep d)) = record {
-    front = w.token ∷ d.opened ∷ []; inner = d.inner; split = e ∙ (ap (λ ys. ys ++ back) w.only ∙ ap (λ ys. w.token ∷ ys) d.split);
-    opens = element_place w.token name.name d.opened refl ((name_is w.token.what w.token.line name w.passes).what) d.opens; excess = d.deep;
+    front = w.token ∷ d.opened ∷ [];
+    inner = d.inner;
+    split = e ∙ (ap (λ ys. ys ++ back) w.only ∙ ap (λ ys. w.token ∷ ys) d.split);
+    opens = element_place w.token name.name d.opened refl ((name_is w.token.what w.token.line name w.passes).what) d.opens;
+    excess = d.deep;
   }
 
   target_deeper : (xs : List Token) (t : Token) → EitherDeep StarredDeep NamedTargetDeep xs t → IsExcessBehind OpensTarget X xs t
@@ -435,7 +458,11 @@ module _ {expression : Reader Expr} {X : List Token → Token → Type 0} (part 
   behind_target : (xs front back : List Token) (target : Expr) (s : Stmt) → xs ≡ front ++ back → Assigned target back s → Either Starred NamedTarget front target → Simple xs s
   behind_target xs front back target s e a (one_way w) = other_way (one_way (record { front = front; back = back; value = target; split = e; before = w; behind = a }))
   behind_target xs front back target s e a (other_way w) = other_way (other_way (record {
-    front = w.front; back = w.back ++ back; value = w.value; split = e ∙ (ap (λ ys. ys ++ back) w.split ∙ append_assoc w.front w.back back); before = w.before;
+    front = w.front;
+    back = w.back ++ back;
+    value = w.value;
+    split = e ∙ (ap (λ ys. ys ++ back) w.split ∙ append_assoc w.front w.back back);
+    before = w.before;
     behind = other_way (record { front = w.back; back = back; value = target; split = refl; before = w.behind; behind = a });
   }))
 
@@ -449,9 +476,14 @@ module _ {expression : Reader Expr} {X : List Token → Token → Type 0} (part 
   simple_back xs s (step_first {target = target} mark operator back e a w) =
       one_way (record { part = ((operator, mark.line), target); made = refl; whole = record { token = mark; back = back; split = e; passes = step_value mark operator a; behind = w } })
   simple_back xs s (called {values = values} t opened word inner closed e n o c w) = other_way (other_way (record {
-    front = t ∷ []; back = opened ∷ (inner ++ (closed ∷ [])); value = record { name = word; line = t.line }; split = e; before = name_one t word n;
+    front = t ∷ [];
+    back = opened ∷ (inner ++ (closed ∷ []));
+    value = record { name = word; line = t.line };
+    split = e;
+    before = name_one t word n;
     behind = one_way (record {
-      part = values; made = refl;
+      part = values;
+      made = refl;
       whole = record { mark = opened; back = inner ++ (closed ∷ []); split = refl; marks = o; behind = record { inner = inner; closed = closed; split = refl; closes = c; arguments = w } };
     });
   }))
@@ -462,8 +494,11 @@ module _ {expression : Reader Expr} {X : List Token → Token → Type 0} (part 
 
   value_deeper : (xs front back : List Token) (target : Expr) (t : Token) → xs ≡ front ++ back → IsTarget front target → HeadedDeep assignment_at X back t → IsExcessBehind OpensSimple X xs t
   value_deeper xs front back target t e w d = record {
-    front = front ++ (d.token ∷ []); inner = d.back; split = e ∙ (ap (λ ys. front ++ ys) d.split ∙ sym (append_assoc front (d.token ∷ []) d.back));
-    opens = simple_value front d.token d.value refl w d.passes; excess = d.deep;
+    front = front ++ (d.token ∷ []);
+    inner = d.back;
+    split = e ∙ (ap (λ ys. front ++ ys) d.split ∙ sym (append_assoc front (d.token ∷ []) d.back));
+    opens = simple_value front d.token d.value refl w d.passes;
+    excess = d.deep;
   }
 
   called_deeper : (xs front back : List Token) (name : Named) (t : Token) → xs ≡ front ++ back → One name_at front name → CallDeep back t → IsExcessBehind OpensSimple X xs t
@@ -477,8 +512,11 @@ module _ {expression : Reader Expr} {X : List Token → Token → Type 0} (part 
     on : ClosedDeep X d.inner t → IsExcessBehind OpensSimple X xs t
     on (first_argument x) = record { front = n.token ∷ d.opened ∷ []; inner = d.inner; split = all; opens = first_value n.token d.opened name.name refl what d.opens; excess = x }
     on (later_argument values before mark inner s w c x) = record {
-      front = n.token ∷ d.opened ∷ (before ++ (mark ∷ [])); inner = inner; split = all ∙ ap (λ ys. n.token ∷ d.opened ∷ ys) (s ∙ sym (append_assoc before (mark ∷ []) inner));
-      opens = later_value n.token d.opened name.name before mark refl what d.opens w c; excess = x;
+      front = n.token ∷ d.opened ∷ (before ++ (mark ∷ []));
+      inner = inner;
+      split = all ∙ ap (λ ys. n.token ∷ d.opened ∷ ys) (s ∙ sym (append_assoc before (mark ∷ []) inner));
+      opens = later_value n.token d.opened name.name before mark refl what d.opens w c;
+      excess = x;
     }
 
   named_simple_deeper : (xs front back : List Token) (name : Named) (t : Token) → xs ≡ front ++ back → One name_at front name → SimpleFromDeep name back t → IsExcessBehind OpensSimple X xs t
@@ -490,7 +528,11 @@ module _ {expression : Reader Expr} {X : List Token → Token → Type 0} (part 
 
   simple_deeper : (xs : List Token) (t : Token) → SimpleDeep xs t → IsExcessBehind OpensSimple X xs t
   simple_deeper xs t (one_deep d) = let x = d.deep in let is = step_is d.token d.value d.passes in record {
-    front = d.token ∷ x.front; inner = x.inner; split = d.split ∙ ap (λ ys. d.token ∷ ys) x.split; opens = stepped_target d.token d.value.0 x.front refl is.what x.opens; excess = x.excess;
+    front = d.token ∷ x.front;
+    inner = x.inner;
+    split = d.split ∙ ap (λ ys. d.token ∷ ys) x.split;
+    opens = stepped_target d.token d.value.0 x.front refl is.what x.opens;
+    excess = x.excess;
   }
   simple_deeper xs t (other_deep (one_deep (in_first d))) = in_target xs t (starred_deeper xs t d)
   simple_deeper xs t (other_deep (one_deep (in_second front back target e w (one_deep d)))) = nowhere back t d
@@ -515,7 +557,11 @@ module _ {expression : Reader Expr} {X : List Token → Token → Type 0} (part 
       value_in xs front (mark ∷ inner) target t (e ∙ (ap (λ ys. ys ++ inner) s ∙ append_assoc front (mark ∷ []) inner))
       (record { token = mark; back = inner; value = operator; split = refl; passes = a; deep = x }) (target_back front target w)
   simple_upper_by xs before inner t e x (stepped_target mark operator front s a o) = one_deep (record {
-    token = mark; back = front ++ inner; value = (operator, mark.line); split = e ∙ ap (λ ys. ys ++ inner) s; passes = step_value mark operator a;
+    token = mark;
+    back = front ++ inner;
+    value = (operator, mark.line);
+    split = e ∙ ap (λ ys. ys ++ inner) s;
+    passes = step_value mark operator a;
     deep = record { front = front; inner = inner; split = refl; opens = o; excess = x };
   })
   simple_upper_by xs before inner t e x (first_value n opened word s what o) =

@@ -159,7 +159,12 @@ module _ (X : List Token → Token → Type 0) (n : ℕ) {item : Reader Stmt} (o
   rows_upper : (found : List Stmt) (xs : List Token) (t : Token) → IsItemsExcess X n xs t → RowsDeep Row RowDeep found xs t
   rows_upper found xs t (first_item d) = record { front = []; back = xs; more = []; split = refl; rows = no_row refl; deep = d }
   rows_upper found xs t (later_item {s = s} front back e w d) = let r = rows_upper (and_then found s) back t d in record {
-    front = front ++ r.front; back = r.back; more = s ∷ r.more; split = e ∙ (ap (λ ys. front ++ ys) r.split ∙ sym (append_assoc front r.front r.back)); rows = next_row front r.front refl w r.rows; deep = r.deep;
+    front = front ++ r.front;
+    back = r.back;
+    more = s ∷ r.more;
+    split = e ∙ (ap (λ ys. front ++ ys) r.split ∙ sym (append_assoc front r.front r.back));
+    rows = next_row front r.front refl w r.rows;
+    deep = r.deep;
   }
 
   pub exact_items_by : Exact (read_items_by item) IsItems (IsItemsExcess X n) goes_items
@@ -228,7 +233,9 @@ module _ {expression : Reader Expr} {X : List Token → Token → Type 0} (part 
         let begun : Begun (read_statement expression pragma (read_items_by (read_inner_item expression pragma n)) (read_inner_statement expression pragma n)) begins_statement
         = begun_statement part first directed first_directed items brace_ends w.statement w.begun_statement_at in
         record {
-          statement = statement; begun_statement_at = begun; item = exact_one_item n (read_items_by (read_inner_item expression pragma n)) (read_inner_statement expression pragma n) statement begun;
+          statement = statement;
+          begun_statement_at = begun;
+          item = exact_one_item n (read_items_by (read_inner_item expression pragma n)) (read_inner_statement expression pragma n) statement begun;
           begun_item_at = begun_item n (read_items_by (read_inner_item expression pragma n)) (read_inner_statement expression pragma n) statement begun;
         }
 

@@ -88,11 +88,15 @@ module _ {A : Type 0} {f : Reader A} {U : List Token → A → Type 0} {B : List
   lined_read ts (Ok p) e w =
       let some : w.front ≡ [] → ⊥ = takes_some part first ts p.0 p.1 e w in
       let line : first_line ts ≡ first_line w.front = ap first_line w.split ∙ line_front w.front p.1 some in record {
-        front = w.front; split = w.split; whole = record { is = w.whole; at = sym line };
+        front = w.front;
+        split = w.split;
+        whole = record { is = w.whole; at = sym line };
         steady = λ other same. ap (λ o. lined (w.front ++ other) o) (w.steady other same) ∙ ap (λ n. Ok ((p.0, n), other)) (line_front w.front other some ∙ sym line);
       }
   lined_read ts (Err (Syntax place)) e w = record {
-    front = w.front; split = w.split; viable = record { more = w.viable.more; value = (w.viable.value, first_line (w.front ++ w.viable.more)); member = record { is = w.viable.member; at = refl } };
+    front = w.front;
+    split = w.split;
+    viable = record { more = w.viable.more; value = (w.viable.value, first_line (w.front ++ w.viable.more)); member = record { is = w.viable.member; at = refl } };
     steady = λ other same. ap (λ o. lined (w.front ++ other) o) (w.steady other same);
   }
   lined_read ts (Err (Deep place)) e w = w
@@ -377,7 +381,10 @@ module _ {expression : Reader Expr} {X : List Token → Token → Type 0} (part 
       part = ([], (0, 0));
       made = refl;
       whole = record {
-        front = []; back = some_mark (codes ")") ∷ some_mark (codes ";") ∷ []; split = refl; before = none refl;
+        front = [];
+        back = some_mark (codes ")") ∷ some_mark (codes ";") ∷ [];
+        split = refl;
+        before = none refl;
         behind = record { token = some_mark (codes ")"); back = some_mark (codes ";") ∷ []; split = refl; passes = refl; behind = record { token = some_mark (codes ";"); only = refl; passes = refl } };
       };
     };

@@ -109,7 +109,7 @@ program_not_refused text found refused v tokens same w =
 
 not_both : (text : List ℕ) (found : Program) (refused : RefusedData) → IsProgramText text found → IsTextRefusal text refused → ⊥
 not_both text found refused v (by_tokens stops z) = (read_once text).no_both v.tokens refused.kind refused.line v.are_tokens stops
-not_both text found refused v (by_grammar tokens are w) = 
+not_both text found refused v (by_grammar tokens are w) =
     let same : v.tokens ≡ tokens = (read_once text).one_list v.tokens tokens v.are_tokens are in
     program_not_refused text found refused v tokens same w
 
@@ -120,7 +120,7 @@ same_refusal text refused other (by_grammar tokens are w) (by_tokens v z) = absu
 same_refusal text refused other (by_grammar tokens are v) (by_grammar others they w) =
     let same : tokens ≡ others = (read_once text).one_list tokens others are they in
     let e = text_refused_once programs (end_line text) others refused.kind other.kind refused.line other.line refused.token other.token
-        (subst (λ ts. RefusesText programs (end_line text) ts refused.kind refused.line refused.token) same v) w in same_refused refused other e.0 e.1 e.2
+    (subst (λ ts. RefusesText programs (end_line text) ts refused.kind refused.line refused.token) same v) w in same_refused refused other e.0 e.1 e.2
 
 pub parsed_once : (text : List ℕ) → IsParsedOnce text
 parsed_once text = record { one_program = same_program text; no_both = not_both text; one_refusal = same_refusal text }

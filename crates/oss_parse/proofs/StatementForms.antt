@@ -170,8 +170,14 @@ module _ {expression : Reader Expr} {X : List Token → Token → Type 0} (part 
   if_form = record {
     ending = ending_then otherwise (head (codes "if") refl) branches some_branches;
     first = begun_then (head (codes "if") refl) (λ h. (branches h).whole) (λ h ys s rest w free. begins_never (ys ++ rest)) (λ h ys t rest w. begins_never (ys ++ (t ∷ rest))) some_branches (first_head (codes "if"));
-    inside = λ xs s w. record { front = w.front; back = w.back; value = w.value; split = w.split; before = w.before;
-      behind = let b = w.behind in two_branches b.first b.other b.front b.mark b.back b.made b.split b.marks b.before (closed_inside b.back b.other b.behind) };
+    inside = λ xs s w. record {
+      front = w.front;
+      back = w.back;
+      value = w.value;
+      split = w.split;
+      before = w.before;
+      behind = let b = w.behind in two_branches b.first b.other b.front b.mark b.back b.made b.split b.marks b.before (closed_inside b.back b.other b.behind);
+    };
   }
 
   -- a head, and a statement

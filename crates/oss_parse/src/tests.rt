@@ -156,6 +156,58 @@ fn is_whole(front: &[u8]) -> bool {
         || front.ends_with(b"sum);\n}")
 }
 
+/// The line of the pragma in whose brackets a front of the long program ends.
+fn line_of_open_pragma(front: &[u8]) -> Option<u32> {
+    let mut line: u32 = 1;
+    let mut is_pragma = false;
+    let mut is_open = false;
+    for byte in front {
+        match *byte {
+            b'\n' => {
+                line = line.saturating_add(1);
+                is_pragma = false;
+                is_open = false;
+            }
+            b'#' => is_pragma = true,
+            b'(' => is_open = true,
+            b')' => is_open = false,
+            _ => {}
+        }
+    }
+    if is_pragma && is_open {
+        Some(line)
+    } else {
+        None
+    }
+}
+
+#[test]
+fn fronts_that_end_in_a_pragma_are_refused_on_its_line(rt: HostRuntime) -> Result<(), Fail> {
+    let alloc = rt.alloc();
+    let text = LONG_PROGRAM.as_bytes();
+    let mut lines = Vec::new(alloc);
+    for (end, _) in text.iter().enumerate() {
+        let front = text.get(..end).unwrap_or(&[]);
+        if let Some(line) = line_of_open_pragma(front) {
+            match parsed(&rt, alloc, front)? {
+                Ok(_) => assert!(rt; false, "accepted at {end}"),
+                Err(refused) => {
+                    assert_eq!(rt; refused.kind, RefusedKind::Syntax, "at {end}");
+                    assert_eq!(rt; refused.line, line, "at {end}");
+                }
+            }
+            if lines.last() != Some(&line) {
+                lines.push(line)?;
+            }
+        }
+    }
+    assert!(rt;
+        lines.as_slice() == [2, 9, 14].as_slice(),
+        "pragmas on the lines {lines:?}"
+    );
+    Ok(())
+}
+
 #[test]
 fn a_long_program_is_read(rt: HostRuntime) -> Result<(), Fail> {
     let alloc = rt.alloc();
