@@ -50,9 +50,9 @@ fn answer(alloc: Global, text: &str) -> Result<String, AllocError> {
     }
 }
 
-/// The body of `main` behind the frame, which begins on line 2.
+/// The body of `main` behind the frame, which begins on line 2, as the name of `main` does.
 fn body(alloc: Global, text: &str) -> Result<String, AllocError> {
-    let whole = format!(in alloc; "{FRAME}{text} fn:int:main")?;
+    let whole = format!(in alloc; "{FRAME}{text} @2 fn:int:main")?;
     answer(alloc, whole.as_str())
 }
 
@@ -256,11 +256,11 @@ fn programs(rt: HostRuntime) -> Result<(), Fail> {
 fn first_of_several(rt: HostRuntime) -> Result<(), Fail> {
     let cases = [
         (
-            "@2 array:long:a:0 @3 global:long:a @4 $y #1 = @5 break @6 fn:long:main",
+            "@2 array:long:a:0 @3 global:long:a @5 $y #1 = @6 break @4 fn:long:main",
             "TooLarge 2",
         ),
         (
-            "global:long:a @3 global:long:a @4 $y #1 = @5 break @6 fn:long:main",
+            "global:long:a @3 global:long:a @5 $y #1 = @6 break @4 fn:long:main",
             "DuplicateName 3",
         ),
         (
@@ -393,6 +393,249 @@ fn layout(rt: HostRuntime) -> Result<(), Fail> {
     match known(rt.alloc(), text)? {
         Some(Ok(known)) => assert!(rt; known.built()),
         _ => assert!(rt; false, "{text}"),
+    }
+    Ok(())
+}
+
+/// Functions with pointers to `long`, to both kinds, with a result, and of a task, before the body of `main` in the frame.
+const POINTED: &str =
+    "param:long*:p fn:void:h param:int*:p param:long*:q fn:void:k param:long*:p #0 value fn:long:m param:int*:p taskfn:void:w ";
+
+/// The same with those functions.
+fn pointed(alloc: Global, text: &str) -> Result<String, AllocError> {
+    let whole = format!(in alloc; "{POINTED}{text}")?;
+    body(alloc, whole.as_str())
+}
+
+#[test]
+fn pointer_arguments(rt: HostRuntime) -> Result<(), Fail> {
+    let cases = [
+        ("$a do:h:1", "ok"),
+        ("@3 $b @2 do:h:1", "WrongKind 3"),
+        ("@3 #0 @2 do:h:1", "WrongKind 3"),
+        ("$x addr do:h:1", "ok"),
+        ("@4 $i @3 addr @2 do:h:1", "WrongKind 3"),
+        ("$b #1 + $a do:k:2", "ok"),
+        ("$a #1 + @3 $b @2 do:k:2", "WrongKind 2"),
+        ("$b @3 $b @2 do:k:2", "WrongKind 3"),
+        ("$x $a call:m:1 =", "ok"),
+        ("$x @3 $b @2 call:m:1 =", "WrongKind 3"),
+        ("let:long*:p $p do:h:1", "ok"),
+        ("let:int*:p @3 $p @2 do:h:1", "WrongKind 3"),
+        ("$b do:w:1", "ok"),
+        ("@3 $a @2 do:w:1", "WrongKind 3"),
+    ];
+    for (text, want) in cases {
+        let told = pointed(rt.alloc(), text)?;
+        assert_eq!(rt; told.as_str(), want, "{text}");
+    }
+    Ok(())
+}
+
+#[test]
+fn moved_pointers(rt: HostRuntime) -> Result<(), Fail> {
+    let cases = [
+        ("let:long*:p $p $a =", "ok"),
+        ("let:long*:p $p @3 $b =", "WrongKind 3"),
+        ("let:int*:p $p $b =", "ok"),
+        ("let:int*:p $p @3 $a =", "WrongKind 3"),
+        ("let:long*:p let:int*:q $p @3 $q =", "WrongKind 3"),
+        ("let:long*:p let:long*:q $p $q =", "ok"),
+        ("let:long*:p $p @3 #0 =", "WrongKind 3"),
+        ("let:long*:p $p $x addr =", "ok"),
+        ("let:long*:p $p @4 $i @3 addr =", "WrongKind 3"),
+        ("$x #1 -=", "ok"),
+        ("$a init:long*:p $p #1 -=", "ok"),
+        ("$a init:long*:p $p @3 $p -=", "WrongKind 3"),
+        ("@3 $a #1 -=", "WrongKind 3"),
+        ("$a init:long*:p $p #1 [] addr init:long*:q", "ok"),
+        (
+            "$a init:long*:p @4 $p #1 [] @3 addr @2 init:int*:q",
+            "WrongKind 3",
+        ),
+        ("$a init:long*:p $p deref addr init:long*:q", "ok"),
+        (
+            "$a init:long*:p @4 $p @3 addr @2 init:long*:q",
+            "WrongKind 4",
+        ),
+    ];
+    for (text, want) in cases {
+        let told = body(rt.alloc(), text)?;
+        assert_eq!(rt; told.as_str(), want, "{text}");
+    }
+    Ok(())
+}
+
+#[test]
+fn omitted_ends(rt: HostRuntime) -> Result<(), Fail> {
+    let cases = [
+        ("..:a in ; task", "ok"),
+        ("#2 .s:a in ; task", "ok"),
+        ("..:x in ; task", "WrongKind 2"),
+        ("#2 .s:x in ; task", "WrongKind 2"),
+        ("..:f in ; task", "WrongKind 2"),
+        ("..:y in ; task", "UnknownName 2"),
+        ("#2 .s:y in ; task", "UnknownName 2"),
+        ("$a init:long*:p @3 ..:p in ; task", "WrongKind 3"),
+        ("$a init:long*:p @3 #2 .s:p in ; task", "ok"),
+        ("@4 $a @3 .s:a on", "WrongKind 4"),
+        ("@4 $y @3 .s:a on", "UnknownName 4"),
+        ("@4 $y @3 .s:x on", "WrongKind 3"),
+        ("@4 $a @5 $y @3 s..:a on", "WrongKind 4"),
+        ("..:b fold ; task", "WrongKind 2"),
+        ("..:a fold ; task", "ok"),
+        ("..:a on", "ok"),
+        ("#2 .s:b in release", "ok"),
+    ];
+    for (text, want) in cases {
+        let told = body(rt.alloc(), text)?;
+        assert_eq!(rt; told.as_str(), want, "{text}");
+    }
+    Ok(())
+}
+
+#[test]
+fn hidden_functions(rt: HostRuntime) -> Result<(), Fail> {
+    let cases = [
+        ("let:long:f @3 #1 do:f:1", "WrongKind 3"),
+        ("let:long:f {}:1 @3 #1 do:f:1", "ok"),
+        ("let:long:f {}:1 @3 do:f:0", "WrongCount 3"),
+        ("let:long:g $x @3 call:g:0 =", "WrongKind 3"),
+        ("let:long:g $x $g =", "ok"),
+        ("let:long:t @3 #1 do:t:1", "WrongKind 3"),
+        ("let:long:f @4 $y @3 do:f:1", "WrongKind 3"),
+    ];
+    for (text, want) in cases {
+        let told = body(rt.alloc(), text)?;
+        assert_eq!(rt; told.as_str(), want, "{text}");
+    }
+    Ok(())
+}
+
+#[test]
+fn function_names(rt: HostRuntime) -> Result<(), Fail> {
+    let cases = [
+        ("fn:void:h @2 fn:void:h fn:int:main", "DuplicateName 2"),
+        ("fn:int:main @2 fn:int:main", "DuplicateName 2"),
+        ("fn:void:h @2 fn:void:k fn:int:main", "ok"),
+        (
+            "do:h:0 fn:int:main fn:void:h @2 param:long:p fn:void:h",
+            "DuplicateName 2",
+        ),
+        (
+            "@2 #1 do:h:1 fn:int:main fn:void:h @3 param:long:p fn:void:h",
+            "WrongCount 2",
+        ),
+        (
+            "@2 param:long:h @3 #1 do:h:1 @2 fn:void:h @4 fn:int:main",
+            "WrongKind 3",
+        ),
+        (
+            "@2 param:long:p @3 #1 do:h:1 @2 fn:void:h @4 fn:int:main",
+            "ok",
+        ),
+    ];
+    for (text, want) in cases {
+        let told = answer(rt.alloc(), text)?;
+        assert_eq!(rt; told.as_str(), want, "{text}");
+    }
+    Ok(())
+}
+
+#[test]
+fn formats(rt: HostRuntime) -> Result<(), Fail> {
+    let cases = [
+        ("$u print:%lu:1", "ok"),
+        ("$x print:%lu:1", "ok"),
+        ("print:%lu:0", "WrongCount 2"),
+        ("$u $u print:%lu:2", "WrongCount 2"),
+        ("$u $x $i print:%lu,%ld,%d:3", "ok"),
+        ("$u $x print:%lu,%ld,%d:2", "WrongCount 2"),
+        ("@3 $a @2 print:%lu:1", "WrongKind 3"),
+        ("print:%:0", "WrongKind 2"),
+        ("$x print:%:1", "WrongKind 2"),
+        ("print:%l:0", "WrongKind 2"),
+        ("$x print:%l:1", "WrongKind 2"),
+        ("$x print:%d%:1", "WrongKind 2"),
+        ("$x print:%d%l:1", "WrongKind 2"),
+        ("print:%%%:0", "WrongKind 2"),
+        ("print:%%%%:0", "ok"),
+        ("print:%%d:0", "ok"),
+        ("$x print:%%%d:1", "ok"),
+        ("$x print:%lx:1", "WrongKind 2"),
+        ("$u print:%u:1", "WrongKind 2"),
+        ("$x print:%ldd:1", "ok"),
+        ("@3 $y @2 print:%:1", "WrongKind 2"),
+        ("@3 $y @2 print:%d%d:1", "WrongCount 2"),
+    ];
+    for (text, want) in cases {
+        let told = body(rt.alloc(), text)?;
+        assert_eq!(rt; told.as_str(), want, "{text}");
+    }
+    Ok(())
+}
+
+/// Hidden locals are in scope too, and those of a block that ended are not.
+#[test]
+fn hidden_locals(rt: HostRuntime) -> Result<(), Fail> {
+    let alloc = rt.alloc();
+    let outer = numbered(alloc, "", 128, "")?;
+    let ended = numbered(alloc, outer.as_str(), 127, "{}:127")?;
+    let cases = [
+        numbered(alloc, outer.as_str(), 127, "{}:127 fn:int:main")?,
+        numbered(alloc, ended.as_str(), 127, "{}:127 fn:int:main")?,
+        numbered(alloc, "param:long:y0 ", 254, "{}:254 fn:void:h fn:int:main")?,
+    ];
+    for text in &cases {
+        let told = answer(alloc, text.as_str())?;
+        assert_eq!(rt; told.as_str(), "ok");
+    }
+    let cases = [
+        numbered(
+            alloc,
+            outer.as_str(),
+            127,
+            "@7 let:long:y127 {}:128 @1 fn:int:main",
+        )?,
+        numbered(
+            alloc,
+            outer.as_str(),
+            127,
+            "@7 let:int:y0 {}:1 {}:128 @1 fn:int:main",
+        )?,
+        numbered(
+            alloc,
+            "param:long:y0 ",
+            254,
+            "@7 let:long:z {}:255 @1 fn:void:h @8 fn:int:main",
+        )?,
+    ];
+    for text in &cases {
+        let told = answer(alloc, text.as_str())?;
+        assert_eq!(rt; told.as_str(), "TooLarge 7");
+    }
+    Ok(())
+}
+
+/// The sections of a wait, of a release, and of the pragma of a function.
+#[test]
+fn many_sections(rt: HostRuntime) -> Result<(), Fail> {
+    let alloc = rt.alloc();
+    let cases = [
+        ("s:x ", "on @1 fn:int:main"),
+        ("s:x ", "in release @1 fn:int:main"),
+        ("s:x in ", "release @1 fn:int:main"),
+        ("s:x ", "in taskfn:void:h fn:int:main"),
+        ("s:x in ", "taskfn:void:h fn:int:main"),
+    ];
+    for (part, behind) in cases {
+        let text = repeated(alloc, "global:long:x ", part, 64, behind)?;
+        let told = answer(alloc, text.as_str())?;
+        assert_eq!(rt; told.as_str(), "ok", "{part}{behind}");
+        let more = format!(in alloc; "@7 {part}{behind}")?;
+        let text = repeated(alloc, "global:long:x ", part, 64, more.as_str())?;
+        let told = answer(alloc, text.as_str())?;
+        assert_eq!(rt; told.as_str(), "TooLarge 7", "{part}{behind}");
     }
     Ok(())
 }

@@ -1,5 +1,6 @@
 //! Programs from postfix words, since trees by hand are long. `@3` is the line from here on; `$x` and `#5` are a name and a
-//! number; an operator takes its operands from those that stand before it. A part may follow behind a colon.
+//! number; an operator takes its operands from those that stand before it. A part may follow behind a colon. Of a section
+//! `a[e:u]` is `s..:a`; without its upper end it is `s.:a`, without its lower one `.s:a`, and `a[:]` is `..:a`.
 
 use oss_syntax::{
     BinOp, Boxed, Bytes, Clause, Expr, ExprKind, Form, Function, GlobalDef, Item, Kind, List,
@@ -94,6 +95,8 @@ fn assign_of(text: &str) -> Option<Option<BinOp>> {
         Some(None)
     } else if text == "+=" {
         Some(Some(BinOp::Add))
+    } else if text == "-=" {
+        Some(Some(BinOp::Sub))
     } else if text == "*=" {
         Some(Some(BinOp::Mul))
     } else {
@@ -377,8 +380,11 @@ impl Build {
         if op == "s*" {
             return self.named(rest, Form::Deref);
         }
+        if op == ".." {
+            return self.named(rest, Form::Span(None, None));
+        }
         let many = op == "s;" || op == "s..";
-        if !many && op != "s[]" && op != "s." && op != "shape" {
+        if !many && op != "s[]" && op != "s." && op != ".s" && op != "shape" {
             return Ok(false);
         }
         let Some(last) = self.exprs.pop() else {
@@ -398,6 +404,9 @@ impl Build {
         }
         if op == "shape" {
             return self.named(rest, Form::Shape(last));
+        }
+        if op == ".s" {
+            return self.named(rest, Form::Span(None, Some(last)));
         }
         self.named(rest, Form::Span(Some(last), None))
     }
