@@ -55,7 +55,6 @@ use Rattle.oss_parse.proofs.EndingLemmas.{Ending, ending_as, ending_closed, endi
 use Rattle.oss_parse.proofs.ExactDeclarations.{exact_declaration, begun_declaration, simple_ends}
 use Rattle.oss_parse.proofs.ExactSimple.{exact_simple, begun_simple, semicolon_ends}
 use Rattle.oss_parse.proofs.FormLemmas as form
-
 use Rattle.oss_parse.proofs.StatementForms as forms
 
 module _ {expression : Reader Expr} {X : List Token → Token → Type 0} (part : Exact expression IsWhole X goes_on) (first : Begun expression begins_expression)
@@ -240,7 +239,14 @@ module _ {expression : Reader Expr} {X : List Token → Token → Type 0} (part 
   parts_of : (front : List Token) (h : ℕ × (Option Stmt × (Option Expr × Option Stmt))) → ForHead front h → Parts front h
   parts_of front h w =
       let inner = w.behind.behind in let both = inner.whole in let rest = both.behind in let middle = rest.behind in let last = middle.behind in let end = last.behind in record {
-        t = w.token; opened = w.behind.mark; start = both.front; first_mark = rest.token; middle = middle.front; second_mark = last.token; end = end.inner; closed = end.closed;
+        t = w.token;
+        opened = w.behind.mark;
+        start = both.front;
+        first_mark = rest.token;
+        middle = middle.front;
+        second_mark = last.token;
+        end = end.inner;
+        closed = end.closed;
         split = w.split ∙ ap (λ ys. w.token ∷ ys) (w.behind.split ∙ ap (λ ys. w.behind.mark ∷ ys) (both.split ∙ ap (λ ys. both.front ++ ys) (rest.split
             ∙ ap (λ ys. rest.token ∷ ys) (middle.split ∙ ap (λ ys. middle.front ++ ys) (last.split ∙ ap (λ ys. last.token ∷ ys) end.split)))));
         is_for = keyword_token (codes "for") w.token h.0 w.passes;
@@ -376,7 +382,8 @@ module _ {expression : Reader Expr} {X : List Token → Token → Type 0} (part 
   out_block : (xs : List Token) (body : List Stmt) (opened : Token) (inner : List Token) (closed : Token) → xs ≡ opened ∷ (inner ++ (closed ∷ [])) → IsSymbol (codes "{") opened → IsSymbol (codes "}") closed → IsItems inner body
       → BlockText xs (record { what = stmts.Block body; line = opened.line })
   out_block xs body opened inner closed e o c w = record {
-    part = (opened.line, (body, closed.line)); made = refl;
+    part = (opened.line, (body, closed.line));
+    made = refl;
     whole = record { opened = opened; inner = inner; closed = closed; split = e; opens = symbol_value (codes "{") opened o; closes = symbol_value (codes "}") closed c; inside = w };
   }
 
@@ -385,7 +392,10 @@ module _ {expression : Reader Expr} {X : List Token → Token → Type 0} (part 
 
   head_of : (word : List ℕ) (t opened : Token) (inner : List Token) (closed : Token) (test : Expr) → IsKeyword word t → IsOpen opened → IsClose closed → IsWhole inner test → Head word (t ∷ opened ∷ (inner ++ (closed ∷ []))) (t.line, test)
   head_of word t opened inner closed test k o c w = record {
-    token = t; back = opened ∷ (inner ++ (closed ∷ [])); split = refl; passes = keyword_value word t k;
+    token = t;
+    back = opened ∷ (inner ++ (closed ∷ []));
+    split = refl;
+    passes = keyword_value word t k;
     behind = record { opened = opened; inner = inner; closed = closed; split = refl; opens = o; closes = c; inside = w };
   }
 
@@ -395,15 +405,23 @@ module _ {expression : Reader Expr} {X : List Token → Token → Type 0} (part 
   out_while : (U : List Token → Stmt → Type 0) (xs : List Token) (test : Expr) (s : Stmt) (t opened : Token) (inner : List Token) (closed : Token) (back : List Token) → xs ≡ t ∷ opened ∷ (inner ++ (closed ∷ back))
       → IsKeyword (codes "while") t → IsOpen opened → IsClose closed → IsWhole inner test → U back s → WhileText U xs (record { what = stmts.While test s; line = t.line })
   out_while U xs test s t opened inner closed back e k o c w v = record {
-    front = t ∷ opened ∷ (inner ++ (closed ∷ [])); back = back; value = (t.line, test); split = split_of_head xs t opened inner closed back e;
-    before = head_of (codes "while") t opened inner closed test k o c w; behind = record { part = s; made = refl; whole = v };
+    front = t ∷ opened ∷ (inner ++ (closed ∷ []));
+    back = back;
+    value = (t.line, test);
+    split = split_of_head xs t opened inner closed back e;
+    before = head_of (codes "while") t opened inner closed test k o c w;
+    behind = record { part = s; made = refl; whole = v };
   }
 
   out_if : (xs : List Token) (test : Expr) (s : Stmt) (t opened : Token) (inner : List Token) (closed : Token) (back : List Token) → xs ≡ t ∷ opened ∷ (inner ++ (closed ∷ back))
       → IsKeyword (codes "if") t → IsOpen opened → IsClose closed → IsWhole inner test → IsAnyStmt back s → IfText xs (record { what = stmts.If test s None; line = t.line })
   out_if xs test s t opened inner closed back e k o c w v = record {
-    front = t ∷ opened ∷ (inner ++ (closed ∷ [])); back = back; value = (t.line, test); split = split_of_head xs t opened inner closed back e;
-    before = head_of (codes "if") t opened inner closed test k o c w; behind = one_branch s refl v;
+    front = t ∷ opened ∷ (inner ++ (closed ∷ []));
+    back = back;
+    value = (t.line, test);
+    split = split_of_head xs t opened inner closed back e;
+    before = head_of (codes "if") t opened inner closed test k o c w;
+    behind = one_branch s refl v;
   }
 
   is_otherwise : (t : Token) → IsKeyword (codes "else") t → otherwise t ≡ true
@@ -413,15 +431,22 @@ module _ {expression : Reader Expr} {X : List Token → Token → Type 0} (part 
       → xs ≡ t ∷ opened ∷ (inner ++ (closed ∷ (front ++ (m ∷ back)))) → IsKeyword (codes "if") t → IsOpen opened → IsClose closed → IsKeyword (codes "else") m → IsWhole inner test → IsStmt false front s → IsAnyStmt back other
       → IfText xs (record { what = stmts.If test s (Some other); line = t.line })
   out_if_else xs test s other t opened inner closed front m back e k o c l w v u = record {
-    front = t ∷ opened ∷ (inner ++ (closed ∷ [])); back = front ++ (m ∷ back); value = (t.line, test); split = split_of_head xs t opened inner closed (front ++ (m ∷ back)) e;
-    before = head_of (codes "if") t opened inner closed test k o c w; behind = two_branches s other front m back refl refl (is_otherwise m l) v u;
+    front = t ∷ opened ∷ (inner ++ (closed ∷ []));
+    back = front ++ (m ∷ back);
+    value = (t.line, test);
+    split = split_of_head xs t opened inner closed (front ++ (m ∷ back)) e;
+    before = head_of (codes "if") t opened inner closed test k o c w;
+    behind = two_branches s other front m back refl refl (is_otherwise m l) v u;
   }
 
   out_closed_if : (xs : List Token) (test : Expr) (s other : Stmt) (t opened : Token) (inner : List Token) (closed : Token) (front : List Token) (m : Token) (back : List Token)
       → xs ≡ t ∷ opened ∷ (inner ++ (closed ∷ (front ++ (m ∷ back)))) → IsKeyword (codes "if") t → IsOpen opened → IsClose closed → IsKeyword (codes "else") m → IsWhole inner test → IsStmt false front s → IsStmt false back other
       → ClosedIf xs (record { what = stmts.If test s (Some other); line = t.line })
   out_closed_if xs test s other t opened inner closed front m back e k o c l w v u = record {
-    front = t ∷ opened ∷ (inner ++ (closed ∷ [])); back = front ++ (m ∷ back); value = (t.line, test); split = split_of_head xs t opened inner closed (front ++ (m ∷ back)) e;
+    front = t ∷ opened ∷ (inner ++ (closed ∷ []));
+    back = front ++ (m ∷ back);
+    value = (t.line, test);
+    split = split_of_head xs t opened inner closed (front ++ (m ∷ back)) e;
     before = head_of (codes "if") t opened inner closed test k o c w;
     behind = record { first = s; other = other; front = front; mark = m; back = back; made = refl; split = refl; marks = is_otherwise m l; before = v; behind = u };
   }
@@ -442,19 +467,40 @@ module _ {expression : Reader Expr} {X : List Token → Token → Type 0} (part 
       → IsKeyword (codes "for") t → IsOpen opened → IsSymbol (codes ";") m → IsSymbol (codes ";") other → IsClose closed → IsForFirst start first → IsMaybeWhole middle test → IsMaybeSimple end last
       → ForHead (t ∷ opened ∷ (start ++ (m ∷ (middle ++ (other ∷ (end ++ (closed ∷ []))))))) (t.line, (first, (test, last)))
   for_head_of first test last t opened start m middle other end closed k o c d z a b e = record {
-    token = t; back = opened ∷ (start ++ (m ∷ (middle ++ (other ∷ (end ++ (closed ∷ [])))))); split = refl; passes = keyword_value (codes "for") t k;
+    token = t;
+    back = opened ∷ (start ++ (m ∷ (middle ++ (other ∷ (end ++ (closed ∷ []))))));
+    split = refl;
+    passes = keyword_value (codes "for") t k;
     behind = record {
-      mark = opened; back = start ++ (m ∷ (middle ++ (other ∷ (end ++ (closed ∷ []))))); split = refl; marks = o;
+      mark = opened;
+      back = start ++ (m ∷ (middle ++ (other ∷ (end ++ (closed ∷ [])))));
+      split = refl;
+      marks = o;
       behind = record {
-        part = (first, (m.line, (test, (other.line, (last, closed.line))))); made = refl;
+        part = (first, (m.line, (test, (other.line, (last, closed.line)))));
+        made = refl;
         whole = record {
-          front = start; back = m ∷ (middle ++ (other ∷ (end ++ (closed ∷ [])))); split = refl; before = first_for start first a;
+          front = start;
+          back = m ∷ (middle ++ (other ∷ (end ++ (closed ∷ []))));
+          split = refl;
+          before = first_for start first a;
           behind = record {
-            token = m; back = middle ++ (other ∷ (end ++ (closed ∷ []))); split = refl; passes = symbol_value (codes ";") m c;
+            token = m;
+            back = middle ++ (other ∷ (end ++ (closed ∷ [])));
+            split = refl;
+            passes = symbol_value (codes ";") m c;
             behind = record {
-              front = middle; back = other ∷ (end ++ (closed ∷ [])); split = refl; before = whole_maybe middle test b;
-              behind = record { token = other; back = end ++ (closed ∷ []); split = refl; passes = symbol_value (codes ";") other d;
-                behind = record { inner = end; closed = closed; split = refl; passes = symbol_value (codes ")") closed z; inside = simple_maybe end last e } };
+              front = middle;
+              back = other ∷ (end ++ (closed ∷ []));
+              split = refl;
+              before = whole_maybe middle test b;
+              behind = record {
+                token = other;
+                back = end ++ (closed ∷ []);
+                split = refl;
+                passes = symbol_value (codes ";") other d;
+                behind = record { inner = end; closed = closed; split = refl; passes = symbol_value (codes ")") closed z; inside = simple_maybe end last e };
+              };
             };
           };
         };
@@ -473,21 +519,26 @@ module _ {expression : Reader Expr} {X : List Token → Token → Type 0} (part 
       → IsKeyword (codes "for") t → IsOpen opened → IsSymbol (codes ";") m → IsSymbol (codes ";") other → IsClose closed → IsForFirst start first → IsMaybeWhole middle test → IsMaybeSimple end last → U back s
       → ForText U xs (record { what = stmts.For first test last s; line = t.line })
   out_for U xs first test last s t opened start m middle other end closed back e k o c d z a b l v = record {
-    front = t ∷ opened ∷ (start ++ (m ∷ (middle ++ (other ∷ (end ++ (closed ∷ [])))))); back = back; value = (t.line, (first, (test, last)));
-    split = split_of_for xs t opened start m middle other end closed back e; before = for_head_of first test last t opened start m middle other end closed k o c d z a b l;
+    front = t ∷ opened ∷ (start ++ (m ∷ (middle ++ (other ∷ (end ++ (closed ∷ []))))));
+    back = back;
+    value = (t.line, (first, (test, last)));
+    split = split_of_for xs t opened start m middle other end closed back e;
+    before = for_head_of first test last t opened start m middle other end closed k o c d z a b l;
     behind = record { part = s; made = refl; whole = v };
   }
 
   out_return : (xs : List Token) (value : Option Expr) (t : Token) (inner : List Token) (m : Token) → xs ≡ t ∷ (inner ++ (m ∷ [])) → IsKeyword (codes "return") t → IsSymbol (codes ";") m → IsMaybeWhole inner value
       → ReturnText xs (record { what = stmts.Return value; line = t.line })
   out_return xs value t inner m e k c w = record {
-    part = (t.line, (value, m.line)); made = refl;
+    part = (t.line, (value, m.line));
+    made = refl;
     whole = record { opened = t; inner = inner; closed = m; split = e; opens = keyword_value (codes "return") t k; closes = symbol_value (codes ";") m c; inside = whole_maybe inner value w };
   }
 
   out_jump : (word : List ℕ) (make : ℕ × ℕ → Stmt) (xs : List Token) (t m : Token) → xs ≡ t ∷ m ∷ [] → IsKeyword word t → IsSymbol (codes ";") m → JumpText word make xs (make (t.line, m.line))
   out_jump word make xs t m e k c = record {
-    part = (t.line, m.line); made = refl;
+    part = (t.line, m.line);
+    made = refl;
     whole = record { token = t; back = m ∷ []; split = e; passes = keyword_value word t k; behind = record { token = m; only = refl; passes = symbol_value (codes ";") m c } };
   }
 
@@ -507,17 +558,33 @@ module _ {expression : Reader Expr} {X : List Token → Token → Type 0} (part 
       → IsKeyword (codes "printf") t → IsOpen opened → string.what ≡ kinds.Text bytes → IsClose closed → IsSymbol (codes ";") m → IsPrinted inner values
       → PrintText xs (record { what = stmts.Print bytes values; line = t.line })
   out_print xs values t opened string bytes inner closed m e k o b c d w = record {
-    part = (t.line, (bytes, values)); made = refl;
+    part = (t.line, (bytes, values));
+    made = refl;
     whole = record {
-      token = t; back = opened ∷ string ∷ (inner ++ (closed ∷ m ∷ [])); split = e; passes = keyword_value (codes "printf") t k;
+      token = t;
+      back = opened ∷ string ∷ (inner ++ (closed ∷ m ∷ []));
+      split = e;
+      passes = keyword_value (codes "printf") t k;
       behind = record {
-        mark = opened; back = string ∷ (inner ++ (closed ∷ m ∷ [])); split = refl; marks = o;
+        mark = opened;
+        back = string ∷ (inner ++ (closed ∷ m ∷ []));
+        split = refl;
+        marks = o;
         behind = record {
-          token = string; back = inner ++ (closed ∷ m ∷ []); split = refl; passes = text_value string bytes b;
+          token = string;
+          back = inner ++ (closed ∷ m ∷ []);
+          split = refl;
+          passes = text_value string bytes b;
           behind = record {
-            part = (values, (closed.line, m.line)); made = refl;
-            whole = record { front = inner; back = closed ∷ m ∷ []; split = refl; before = follow_printed inner values w;
-              behind = record { token = closed; back = m ∷ []; split = refl; passes = symbol_value (codes ")") closed c; behind = record { token = m; only = refl; passes = symbol_value (codes ";") m d } } };
+            part = (values, (closed.line, m.line));
+            made = refl;
+            whole = record {
+              front = inner;
+              back = closed ∷ m ∷ [];
+              split = refl;
+              before = follow_printed inner values w;
+              behind = record { token = closed; back = m ∷ []; split = refl; passes = symbol_value (codes ")") closed c; behind = record { token = m; only = refl; passes = symbol_value (codes ";") m d } };
+            };
           };
         };
       };
@@ -580,8 +647,11 @@ module _ {expression : Reader Expr} {X : List Token → Token → Type 0} (part 
 
   if_deeper : (xs : List Token) (t : Token) → IfDeep xs t → Excess xs t
   if_deeper xs t (in_first d) = in_expression (record {
-    front = d.token ∷ d.deep.opened ∷ []; inner = d.deep.inner; split = d.split ∙ ap (λ ys. d.token ∷ ys) d.deep.split;
-    opens = in_if_test d.token d.deep.opened refl (keyword_token (codes "if") d.token d.value d.passes) d.deep.opens; excess = d.deep.deep;
+    front = d.token ∷ d.deep.opened ∷ [];
+    inner = d.deep.inner;
+    split = d.split ∙ ap (λ ys. d.token ∷ ys) d.deep.split;
+    opens = in_if_test d.token d.deep.opened refl (keyword_token (codes "if") d.token d.value d.passes) d.deep.opens;
+    excess = d.deep.deep;
   })
   if_deeper xs t (in_second front back h e w (in_one d)) =
       under_if w.token w.behind.opened w.behind.inner w.behind.closed back (head_split (codes "if") xs front back h e w) (keyword_token (codes "if") w.token h.0 w.passes) w.behind.opens w.behind.inside w.behind.closes d
@@ -592,18 +662,29 @@ module _ {expression : Reader Expr} {X : List Token → Token → Type 0} (part 
 
   while_deeper : (xs : List Token) (t : Token) → WhileDeep xs t → Excess xs t
   while_deeper xs t (in_first d) = in_expression (record {
-    front = d.token ∷ d.deep.opened ∷ []; inner = d.deep.inner; split = d.split ∙ ap (λ ys. d.token ∷ ys) d.deep.split;
-    opens = in_while_test d.token d.deep.opened refl (keyword_token (codes "while") d.token d.value d.passes) d.deep.opens; excess = d.deep.deep;
+    front = d.token ∷ d.deep.opened ∷ [];
+    inner = d.deep.inner;
+    split = d.split ∙ ap (λ ys. d.token ∷ ys) d.deep.split;
+    opens = in_while_test d.token d.deep.opened refl (keyword_token (codes "while") d.token d.value d.passes) d.deep.opens;
+    excess = d.deep.deep;
   })
   while_deeper xs t (in_second front back h e w d) =
       under_while w.token w.behind.opened w.behind.inner w.behind.closed back (head_split (codes "while") xs front back h e w) (keyword_token (codes "while") w.token h.0 w.passes) w.behind.opens w.behind.inside w.behind.closes d
 
   for_parts_deeper : (xs rest : List Token) (word opened : Token) (t : Token) → xs ≡ word ∷ opened ∷ rest → IsKeyword (codes "for") word → IsOpen opened → ForPartsDeep rest t → Excess xs t
   for_parts_deeper xs rest word opened t e k o (in_first (one_deep x)) = in_expression (record {
-    front = word ∷ opened ∷ x.front; inner = x.inner; split = e ∙ ap (λ ys. word ∷ opened ∷ ys) x.split; opens = in_for_declaration word opened x.front refl k o x.opens; excess = x.excess;
+    front = word ∷ opened ∷ x.front;
+    inner = x.inner;
+    split = e ∙ ap (λ ys. word ∷ opened ∷ ys) x.split;
+    opens = in_for_declaration word opened x.front refl k o x.opens;
+    excess = x.excess;
   })
   for_parts_deeper xs rest word opened t e k o (in_first (other_deep (one_deep x))) = in_expression (record {
-    front = word ∷ opened ∷ x.front; inner = x.inner; split = e ∙ ap (λ ys. word ∷ opened ∷ ys) x.split; opens = in_for_first word opened x.front refl k o x.opens; excess = x.excess;
+    front = word ∷ opened ∷ x.front;
+    inner = x.inner;
+    split = e ∙ ap (λ ys. word ∷ opened ∷ ys) x.split;
+    opens = in_for_first word opened x.front refl k o x.opens;
+    excess = x.excess;
   })
   for_parts_deeper xs rest word opened t e k o (in_first (other_deep (other_deep x))) = nowhere rest t x
   for_parts_deeper xs rest word opened t e k o (in_second start back s b w d) = on d.deep where
@@ -612,19 +693,23 @@ module _ {expression : Reader Expr} {X : List Token → Token → Type 0} (part 
 
     on : ThenDeep (EitherDeep X Nowhere) MaybeE (λ v. HeadedDeep (symbol_at (codes ";")) (EitherDeep (IsExcessBehind OpensSimple X) Nowhere)) d.back t → Excess xs t
     on (in_first (one_deep x)) = in_expression (record {
-      front = word ∷ opened ∷ (start ++ (d.token ∷ [])); inner = d.back;
+      front = word ∷ opened ∷ (start ++ (d.token ∷ []));
+      inner = d.back;
       split = e ∙ ap (λ ys. word ∷ opened ∷ ys) (b ∙ (ap (λ ys. start ++ ys) d.split ∙ sym (append_assoc start (d.token ∷ []) d.back)));
-      opens = in_for_test word opened start d.token refl k o (for_first start s w) m; excess = x;
+      opens = in_for_test word opened start d.token refl k o (for_first start s w) m;
+      excess = x;
     })
     on (in_first (other_deep x)) = nowhere d.back t x
     on (in_second middle left test z v u) = last u.deep where
       last : EitherDeep (IsExcessBehind OpensSimple X) Nowhere u.back t → Excess xs t
       last (other_deep x) = nowhere u.back t x
       last (one_deep x) = in_expression (record {
-        front = word ∷ opened ∷ (start ++ (d.token ∷ (middle ++ (u.token ∷ x.front)))); inner = x.inner;
+        front = word ∷ opened ∷ (start ++ (d.token ∷ (middle ++ (u.token ∷ x.front))));
+        inner = x.inner;
         split = e ∙ ap (λ ys. word ∷ opened ∷ ys) (b ∙ (ap (λ ys. start ++ ys) (d.split ∙ ap (λ ys. d.token ∷ ys) (z ∙ (ap (λ ys. middle ++ ys) (u.split ∙ ap (λ ys. u.token ∷ ys) x.split)
             ∙ sym (append_assoc middle (u.token ∷ x.front) x.inner)))) ∙ sym (append_assoc start (d.token ∷ (middle ++ (u.token ∷ x.front))) x.inner)));
-        opens = in_for_last word opened start d.token middle u.token x.front refl k o (for_first start s w) m (maybe_whole middle test v) (symbol_token (codes ";") u.token u.value u.passes) x.opens; excess = x.excess;
+        opens = in_for_last word opened start d.token middle u.token x.front refl k o (for_first start s w) m (maybe_whole middle test v) (symbol_token (codes ";") u.token u.value u.passes) x.opens;
+        excess = x.excess;
       })
 
   for_deeper : (xs : List Token) (t : Token) → ForDeep xs t → Excess xs t
@@ -654,9 +739,11 @@ module _ {expression : Reader Expr} {X : List Token → Token → Type 0} (part 
   printed_place : (xs before rest : List Token) (values : List Expr) (word opened string : Token) (bytes : List ℕ) (t : Token) → xs ≡ word ∷ opened ∷ string ∷ (before ++ rest) → IsKeyword (codes "printf") word → IsOpen opened
       → string.what ≡ kinds.Text bytes → IsPrinted before values → FollowDeep IsWhole X rest t → Excess xs t
   printed_place xs before rest values word opened string bytes t e k o b w (here m front z c x) = in_expression (record {
-    front = word ∷ opened ∷ string ∷ (before ++ (m ∷ [])); inner = front;
+    front = word ∷ opened ∷ string ∷ (before ++ (m ∷ []));
+    inner = front;
     split = e ∙ ap (λ ys. word ∷ opened ∷ string ∷ ys) (ap (λ ys. before ++ ys) z ∙ sym (append_assoc before (m ∷ []) front));
-    opens = in_print word opened string bytes before m refl k o b w c; excess = x;
+    opens = in_print word opened string bytes before m refl k o b w c;
+    excess = x;
   })
   printed_place xs before rest values word opened string bytes t e k o b w (there a m front back z c v d) =
       printed_place xs (before ++ (m ∷ front)) back (values ++ a ∷ []) word opened string bytes t
@@ -700,13 +787,21 @@ module _ {expression : Reader Expr} {X : List Token → Token → Type 0} (part 
   -- a limit of the grammar is one at which reading stops
   in_head : (s : List ℕ) (xs before inner : List Token) (w opened : Token) (t : Token) → xs ≡ before ++ inner → before ≡ w ∷ opened ∷ [] → IsKeyword s w → IsOpen opened → X inner t → HeadDeep s xs t
   in_head s xs before inner w opened t e b k o x = record {
-    token = w; back = opened ∷ inner; value = w.line; split = e ∙ ap (λ ys. ys ++ inner) b; passes = keyword_value s w k;
+    token = w;
+    back = opened ∷ inner;
+    value = w.line;
+    split = e ∙ ap (λ ys. ys ++ inner) b;
+    passes = keyword_value s w k;
     deep = record { opened = opened; inner = inner; split = refl; opens = o; deep = x };
   }
 
   in_for_parts : (xs before inner rest : List Token) (w opened : Token) (t : Token) → xs ≡ before ++ inner → before ≡ w ∷ opened ∷ rest → IsKeyword (codes "for") w → IsOpen opened → ForPartsDeep (rest ++ inner) t → AllDeep xs t
   in_for_parts xs before inner rest w opened t e b k o d = other_deep (other_deep (other_deep (other_deep (other_deep (one_deep (in_first (record {
-    token = w; back = opened ∷ (rest ++ inner); value = w.line; split = e ∙ ap (λ ys. ys ++ inner) b; passes = keyword_value (codes "for") w k;
+    token = w;
+    back = opened ∷ (rest ++ inner);
+    value = w.line;
+    split = e ∙ ap (λ ys. ys ++ inner) b;
+    passes = keyword_value (codes "for") w k;
     deep = record { opened = opened; inner = rest ++ inner; split = refl; opens = o; deep = d };
   })))))))
 
@@ -736,9 +831,17 @@ module _ {expression : Reader Expr} {X : List Token → Token → Type 0} (part 
       (in_second start (m ∷ (middle ++ (other ∷ (front ++ inner)))) f
       (append_assoc start (m ∷ (middle ++ (other ∷ front))) inner ∙ ap (λ ys. start ++ (m ∷ ys)) (append_assoc middle (other ∷ front) inner)) (first_for start f a)
       (record {
-        token = m; back = middle ++ (other ∷ (front ++ inner)); value = m.line; split = refl; passes = symbol_value (codes ";") m c;
+        token = m;
+        back = middle ++ (other ∷ (front ++ inner));
+        value = m.line;
+        split = refl;
+        passes = symbol_value (codes ";") m c;
         deep = in_second middle (other ∷ (front ++ inner)) test refl (whole_maybe middle test v) (record {
-          token = other; back = front ++ inner; value = other.line; split = refl; passes = symbol_value (codes ";") other d;
+          token = other;
+          back = front ++ inner;
+          value = other.line;
+          split = refl;
+          passes = symbol_value (codes ";") other d;
           deep = one_deep (record { front = front; inner = inner; split = refl; opens = l; excess = x });
         });
       }))
@@ -746,11 +849,22 @@ module _ {expression : Reader Expr} {X : List Token → Token → Type 0} (part 
       other_deep (other_deep (other_deep (other_deep (other_deep (other_deep (one_deep (record { token = w; back = inner; value = w.line; split = e ∙ ap (λ ys. ys ++ inner) b; passes = keyword_value (codes "return") w k; deep = one_deep x })))))))
   opens_upper xs before inner t e x (in_print {values = values} w opened string bytes printed comma b k o s p c) =
       other_deep (other_deep (other_deep (other_deep (other_deep (other_deep (other_deep (other_deep (other_deep (one_deep (record {
-        token = w; back = opened ∷ string ∷ ((printed ++ (comma ∷ [])) ++ inner); value = w.line; split = e ∙ ap (λ ys. ys ++ inner) b; passes = keyword_value (codes "printf") w k;
+        token = w;
+        back = opened ∷ string ∷ ((printed ++ (comma ∷ [])) ++ inner);
+        value = w.line;
+        split = e ∙ ap (λ ys. ys ++ inner) b;
+        passes = keyword_value (codes "printf") w k;
         deep = record {
-          opened = opened; inner = string ∷ ((printed ++ (comma ∷ [])) ++ inner); split = refl; opens = o;
+          opened = opened;
+          inner = string ∷ ((printed ++ (comma ∷ [])) ++ inner);
+          split = refl;
+          opens = o;
           deep = record {
-            token = string; back = (printed ++ (comma ∷ [])) ++ inner; value = bytes; split = refl; passes = text_value string bytes s;
+            token = string;
+            back = (printed ++ (comma ∷ [])) ++ inner;
+            value = bytes;
+            split = refl;
+            passes = text_value string bytes s;
             deep = in_first (subst (λ ys. FollowDeep IsWhole X ys t) (sym (append_assoc printed (comma ∷ []) inner)) (printed_at printed values comma inner t p c x));
           };
         };
