@@ -80,7 +80,7 @@ pub fn call(
         line,
         at_first,
         behind: arguments(globals, locals, parameters(named, function), values),
-        kind: kind_of_call(at_first, named, function),
+        kind: kind_of_call(named, function),
         object: Object::ValueOnly,
     }
 }
@@ -186,20 +186,17 @@ fn parameters<'p>(named: Named, function: Option<&'p Function>) -> &'p [Local]
     }
 }
 
-fn kind_of_call(broken: Option<Refused>, named: Named, function: Option<&Function>) -> ValueKind
-    ensures { result ≡ call_kind broken named (option_copied function.entry) }
+fn kind_of_call(named: Named, function: Option<&Function>) -> ValueKind
+    ensures { result ≡ call_kind named (option_copied function.entry) }
 {
-    match broken {
-        Some(_) => ValueKind::Unknown,
-        None => match named {
-            Named::Function => match function {
-                Some(function) => kind_of(function.result),
-                None => ValueKind::Unknown,
-            },
-            Named::Missing => ValueKind::Unknown,
-            Named::Local(_) => ValueKind::Unknown,
-            Named::Scalar(_) => ValueKind::Unknown,
-            Named::Array(_) => ValueKind::Unknown,
+    match named {
+        Named::Function => match function {
+            Some(function) => kind_of(function.result),
+            None => ValueKind::Unknown,
         },
+        Named::Missing => ValueKind::Unknown,
+        Named::Local(_) => ValueKind::Unknown,
+        Named::Scalar(_) => ValueKind::Unknown,
+        Named::Array(_) => ValueKind::Unknown,
     }
 }

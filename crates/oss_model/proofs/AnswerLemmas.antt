@@ -1,14 +1,14 @@
 -- What a reader tells that reads a grammar exactly is the answer of the grammar: the longest text of it, or its refusal.
-use Rattle.std.proofs.Common.{arith, ◌≡◌, ◌<◌, ◌+◌, ℕ, suc, Bool, true, false, List, [], ◌∷◌, ◌++◌, length, refl, sym, ap, ◌∙◌, subst, append_assoc, ◌⊎◌, inl, inr, Result, Ok, Err}
+use Rattle.std.proofs.Common.{arith, ◌≡◌, ◌+◌, suc, Bool, false, List, [], ◌∷◌, ◌++◌, length, refl, sym, ap, ◌∙◌, subst, append_assoc, ◌⊎◌, inl, inr, Result, Ok, Err}
 use Rattle.std.proofs.lemmas.List.{append-nil, length-append}
 use Rattle.oss_syntax.specs.declared.token.Token.{Token}
 use Rattle.oss_model.specs.declared.refusal.RefusedKind.TheVariants.{Syntax as SyntaxKind, TooLarge}
 use Rattle.oss_model.specs.Fronts.{Viable}
 use Rattle.oss_model.specs.Reading.{Stop, begins}
 use Rattle.oss_model.specs.Reading.Stop.{Syntax, Deep}
-use Rattle.oss_model.specs.Refusals.{Language, Reaches, IsExcess, IsWithin, IsRead as IsReadOf, IsNone, Refuses, HasOneValue, kind_of, is_in_pragma}
+use Rattle.oss_model.specs.Refusals.{Language, Reaches, IsWithin, IsRead as IsReadOf, IsNone, Refuses, kind_of, is_in_pragma}
 use Rattle.oss_model.specs.Refusals.Refuses.{too_large, at_token, at_end}
-use Rattle.oss_model.proofs.Parts.{AtSame, Taken, Stopped, Sunk, IsRead, Sinks, Exact, ok_is, sinks_read, taken, stopped, sunk, viable_whole}
+use Rattle.oss_model.proofs.Parts.{AtSame, Stopped, Sinks, Exact, ok_is, sinks_read, taken, stopped, sunk, viable_whole}
 
 -- two fronts of one list before the same rest
 pub same_front : (xs ys rest : List Token) → xs ++ rest ≡ ys ++ rest → xs ≡ ys

@@ -1,6 +1,6 @@
 -- A reader that sees no token behind the first that is one too many is exact, if the reader of all tokens is: it passes a limit at
 -- that token too.
-use Rattle.std.proofs.Common.{arith, ◌≡◌, ◌<◌, ◌≤◌, ◌+◌, ◌==◌, ℕ, zero, suc, Bool, true, false, if◌then◌else◌, List, [], ◌∷◌, ◌++◌, length, refl, sym, ap, ◌∙◌, subst, append_assoc, ◌⊎◌, inl, inr, Result, Ok, Err}
+use Rattle.std.proofs.Common.{arith, ◌≡◌, ◌+◌, ◌==◌, ℕ, zero, suc, Bool, true, false, if◌then◌else◌, List, [], ◌∷◌, ◌++◌, refl, sym, ap, ◌∙◌, subst, append_assoc, ◌⊎◌, inl, inr, Result, Ok, Err}
 use Rattle.std.specs.List.{count_by}
 use Rattle.std.proofs.Math.Bool.{cond}
 use Rattle.std.proofs.lemmas.Bool.Decides.{nat_tests}
@@ -10,7 +10,7 @@ use Rattle.oss_syntax.specs.declared.token.Token.{Token}
 use Rattle.oss_model.specs.Fronts.{Viable}
 use Rattle.oss_model.specs.Reading.{Stop, begins, shown, unshown, from_count, passed, counted_told, read_counted}
 use Rattle.oss_model.specs.Reading.Stop.{Syntax, Deep}
-use Rattle.oss_model.proofs.Parts.{AtSame, Taken, Stopped, Sunk, IsRead, Sinks, Exact, Begun, ok_is, sinks_read, taken, stopped, sunk}
+use Rattle.oss_model.proofs.Parts.{AtSame, Taken, Stopped, Sunk, IsRead, Sinks, Exact, Begun, ok_is}
 
 module _ (counts : Token → Bool) where
   abbrev tally : List Token → ℕ

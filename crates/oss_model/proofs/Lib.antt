@@ -21,7 +21,6 @@ pub mod OrderTheorem
 pub mod OutputLemmas
 pub mod Places
 pub mod ProgressTheorem
-pub mod ReadingLemmas
 pub mod RecallLemmas
 pub mod RefusalLemmas
 pub mod ResultTheorem

@@ -1,14 +1,12 @@
 -- A part before one whose first token is known: the forms of `exact_then` that most of a grammar needs.
-use Rattle.std.proofs.Common.{◌≡◌, Bool, true, false, List, [], ◌∷◌, ◌++◌, refl, sym, ap, ◌∙◌, subst, Result, Ok, Err}
+use Rattle.std.proofs.Common.{◌≡◌, Bool, true, false, List, [], ◌∷◌, ◌++◌, refl, sym, ◌∙◌, subst, Result}
 use Rattle.std.proofs.lemmas.List.{append-nil}
 use Rattle.oss_syntax.specs.declared.token.Token.{Token}
 use Rattle.oss_model.specs.Fronts.{Viable}
 use Rattle.oss_model.specs.Grammar.{Both, Mapped}
 use Rattle.oss_model.specs.Reading.{Stop, begins, read_then, read_mapped, read_both}
-use Rattle.oss_model.specs.Reading.Stop.{Syntax, Deep}
-use Rattle.oss_model.proofs.Parts.{Stopped, Exact, Begun, stopped, member_begins, deep_begins, exact_as}
+use Rattle.oss_model.proofs.Parts.{Exact, Begun, stopped, member_begins, deep_begins, exact_as}
 use Rattle.oss_model.proofs.PartLemmas.{Then, ThenDeep, exact_then, begun_then, exact_mapped, begun_mapped}
-use Rattle.oss_model.proofs.PartLemmas.ThenDeep.{in_first, in_second}
 use Rattle.oss_model.proofs.StepLemmas.{none_goes}
 
 -- a part has some text

@@ -1,14 +1,14 @@
 -- Readers are exact for each way in which grammars are put together, if those of the parts are.
-use Rattle.std.proofs.Common.{◌≡◌, ℕ, Bool, true, false, ◌||◌, if◌then◌else◌, List, [], ◌∷◌, ◌++◌, refl, sym, ap, ◌∙◌, subst, append_assoc, ◌⊎◌, inl, inr, Option, Some, None, is_some, Result, Ok, Err}
+use Rattle.std.proofs.Common.{◌≡◌, Bool, true, false, ◌||◌, if◌then◌else◌, List, [], ◌∷◌, ◌++◌, refl, sym, ap, ◌∙◌, subst, append_assoc, ◌⊎◌, inl, inr, Option, Some, None, is_some, Result, Ok, Err}
 use Rattle.std.proofs.Common.{arith, ◌<◌, ◌+◌, length}
 use Rattle.std.proofs.lemmas.List.{append-nil, length-append}
 use Rattle.oss_syntax.specs.declared.token.Token.{Token}
 use Rattle.oss_model.specs.Fronts.{Viable}
 use Rattle.oss_model.specs.Grammar.{One, Mapped, Either}
 use Rattle.oss_model.specs.Grammar.Either.{one_way, other_way}
-use Rattle.oss_model.specs.Reading.{Stop, Reader, begins, has, one_of, go_on, token_told, read_one, read_then, read_nothing, read_mapped, read_either, read_too_deep}
+use Rattle.oss_model.specs.Reading.{Stop, begins, has, one_of, go_on, token_told, read_one, read_then, read_nothing, read_mapped, read_either, read_too_deep}
 use Rattle.oss_model.specs.Reading.Stop.{Syntax, Deep}
-use Rattle.oss_model.proofs.Parts.{AtSame, Taken, Stopped, Sunk, IsRead, Sinks, Exact, Begun, same_behind, still_begins, still_fails, sinks_read, member_begins, deep_begins, not_empty, taken, stopped, takes_some}
+use Rattle.oss_model.proofs.Parts.{AtSame, Taken, Stopped, IsRead, Sinks, Exact, Begun, same_behind, still_begins, still_fails, member_begins, deep_begins, not_empty, taken, stopped, takes_some}
 
 -- no limit is passed
 pub data Nowhere (xs : List Token) (t : Token) : Type 0 where

@@ -1,9 +1,9 @@
 -- What is proved of a reader against a grammar without a limit and the places at which it passes one, and what follows at once.
-use Rattle.std.proofs.Common.{◌≡◌, ℕ, zero, suc, Bool, true, false, List, [], ◌∷◌, ◌++◌, refl, sym, ap, ◌∙◌, subst, append_assoc, ◌⊎◌, inl, inr, Result, Ok, Err}
+use Rattle.std.proofs.Common.{◌≡◌, Bool, true, false, List, [], ◌∷◌, ◌++◌, refl, sym, ap, ◌∙◌, subst, append_assoc, ◌⊎◌, inl, inr, Result, Ok, Err}
 use Rattle.std.proofs.lemmas.List.{append-nil}
 use Rattle.oss_syntax.specs.declared.token.Token.{Token}
 use Rattle.oss_model.specs.Fronts.{Viable}
-use Rattle.oss_model.specs.Reading.{Stop, Reader, begins}
+use Rattle.oss_model.specs.Reading.{Stop, begins}
 use Rattle.oss_model.specs.Reading.Stop.{Syntax, Deep}
 
 -- other tokens are none, or begin with the same one

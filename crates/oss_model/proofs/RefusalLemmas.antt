@@ -1,7 +1,7 @@
 -- Tokens have one answer at most: how far they begin a text is one place, and so is the first token that passes a limit.
 use Rattle.std.proofs.Common.{arith, sym, ap, subst, ◌∙◌, ◌≡◌, ◌≤◌, refl, ℕ, ◌+◌, ◌-◌, List, [], ◌∷◌, ◌++◌, length, append_assoc, Ok, Err}
 use Rattle.std.specs.Prelude.{take, drop}
-use Rattle.std.proofs.lemmas.List.{append-nil, length-drop}
+use Rattle.std.proofs.lemmas.List.{length-drop}
 use Rattle.oss_syntax.specs.declared.token.Token.{Token}
 use Rattle.oss_model.specs.declared.refusal.Refused.{Refused as RefusedData}
 use Rattle.oss_model.specs.declared.refusal.Refusal.TheVariants.{Refused}

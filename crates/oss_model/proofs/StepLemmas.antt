@@ -1,11 +1,11 @@
 -- Readers that take any number of steps are exact, if each step is.
-use Rattle.std.proofs.Common.{arith, ◌≡◌, ◌<◌, ◌≤◌, ◌+◌, ℕ, zero, suc, Bool, true, false, if◌then◌else◌, List, [], ◌∷◌, ◌++◌, length, refl, sym, ap, ◌∙◌, subst, append_assoc, ◌⊎◌, inl, inr, Result, Ok, Err}
+use Rattle.std.proofs.Common.{arith, ◌≡◌, ◌<◌, ◌≤◌, ◌+◌, ℕ, zero, suc, Bool, true, false, List, [], ◌∷◌, ◌++◌, length, refl, sym, ap, ◌∙◌, subst, append_assoc, ◌⊎◌, inl, inr, Result, Ok, Err}
 use Rattle.std.proofs.lemmas.List.{append-nil, length-append}
 use Rattle.oss_syntax.specs.declared.token.Token.{Token}
 use Rattle.oss_model.specs.Fronts.{Viable}
 use Rattle.oss_model.specs.Reading.{Stop, begins, go_on, read_steps, read_steps_within}
 use Rattle.oss_model.specs.Reading.Stop.{Syntax, Deep}
-use Rattle.oss_model.proofs.Parts.{AtSame, Taken, Stopped, Sunk, IsRead, Sinks, Exact, Begun, same_behind, still_begins, still_fails, member_begins, deep_begins, taken, stopped, takes_some}
+use Rattle.oss_model.proofs.Parts.{Taken, Stopped, IsRead, Sinks, Exact, Begun, same_behind, still_begins, still_fails, member_begins, deep_begins, taken, takes_some}
 
 -- any number of steps, one after the other
 pub data Steps {S : Type 0} (G : S → List Token → S → Type 0) : S → List Token → S → Type 0 where

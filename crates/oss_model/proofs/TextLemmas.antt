@@ -1,12 +1,10 @@
 -- The tokens of a text have one answer at most.
-use Rattle.std.proofs.Common.{arith, ◌≡◌, ◌<◌, ◌+◌, ℕ, List, [], ◌∷◌, ◌++◌, length, refl, sym, ap, ◌∙◌, subst, append_assoc}
-use Rattle.std.proofs.lemmas.List.{append-nil}
+use Rattle.std.proofs.Common.{arith, ◌≡◌, ℕ, List, [], ◌∷◌, length, refl, sym, ap, ◌∙◌, subst, append_assoc}
 use Rattle.oss_syntax.specs.declared.token.Token.{Token}
 use Rattle.oss_model.specs.declared.refusal.RefusedKind.{RefusedKind}
-use Rattle.oss_model.specs.Fronts.{Viable}
 use Rattle.oss_model.specs.Parsing.{RefusesText}
 use Rattle.oss_model.specs.Parsing.RefusesText.{text_too_large, at_token_of_text, at_end_of_text}
-use Rattle.oss_model.specs.Refusals.{Language, Reaches, IsExcess, IsWithin, IsNone, kind_of, is_in_pragma}
+use Rattle.oss_model.specs.Refusals.{Language, IsWithin, kind_of, is_in_pragma}
 use Rattle.oss_model.proofs.RefusalLemmas.{first_is, reaches_once, no_excess, excess_once}
 
 -- a whole text is not refused

@@ -2,7 +2,7 @@
 -- the first of all is told.
 -- Read against: of an unknown name on line 2 and an array of 0 cells on line 3 the first is `UnknownName at line 2`; of a call on
 -- line 5 that is not allowed and has too few arguments it is `WrongKind at line 5`.
-use Rattle.std.specs.Prelude.{ℕ, nat_lt, Bool, true, false, ◌||◌, if◌then◌else◌, List, [], ◌∷◌, Option, Some, None}
+use Rattle.std.specs.Prelude.{ℕ, nat_lt, Bool, true, false, if◌then◌else◌, List, [], ◌∷◌, Option, Some, None}
 use Rattle.oss_model.specs.declared.refusal.Refused.{Refused}
 use Rattle.oss_model.specs.declared.refusal.RefusedKind.{RefusedKind}
 use Rattle.oss_model.specs.declared.refusal.RefusedKind.TheVariants as refused

@@ -1,7 +1,9 @@
 -- Programs whose runs are built: of scalars, with one function, and statements that the sequential run of scalars means.
 -- Read against: `long x; int main() { x = x + 1; }` is built, with a task around the assignment too; with `long a[2];`, `x += 1;`,
--- `if (x) x = 1;`, `long y;` in `main`, or a second function it is not.
-use Rattle.std.specs.Prelude.{Bool, true, false, ◌&&◌, List, [], ◌∷◌, map, Option, Some, None, is_none}
+-- `if (x) x = 1;`, `long y;` in `main`, `weakin(x)` on the task, or a second function it is not.
+use Rattle.std.specs.Prelude.{Bool, true, false, ◌&&◌, List, [], ◌∷◌, map, None, is_none}
+use Rattle.oss_syntax.specs.declared.access.Mode.{Mode}
+use Rattle.oss_syntax.specs.declared.access.Mode.TheVariants as mode
 use Rattle.oss_syntax.specs.declared.tree.expr.BinOp.{BinOp}
 use Rattle.oss_syntax.specs.declared.tree.expr.BinOp.TheVariants as op
 use Rattle.oss_syntax.specs.declared.tree.expr.Expr.{Expr}
@@ -14,7 +16,6 @@ use Rattle.oss_syntax.specs.declared.tree.pragma.Clause.{Clause}
 use Rattle.oss_syntax.specs.declared.tree.pragma.Clause.TheVariants as clause
 use Rattle.oss_syntax.specs.declared.tree.pragma.Form.{Form}
 use Rattle.oss_syntax.specs.declared.tree.pragma.Form.TheVariants as form
-use Rattle.oss_syntax.specs.declared.tree.pragma.Section.{Section}
 use Rattle.oss_syntax.specs.declared.tree.program.Item.{Item}
 use Rattle.oss_syntax.specs.declared.tree.program.Item.TheVariants as items
 use Rattle.oss_syntax.specs.declared.tree.program.Program.{Program}
@@ -47,13 +48,18 @@ abbrev pub is_name : ExprKind → Bool
 is_name (exprs.Name name) = true
 is_name _ = false
 
--- a dependency on scalars
+-- a section that is a name alone
 abbrev pub is_whole : Form → Bool
 is_whole form.Whole = true
 is_whole _ = false
 
+-- reductions are no dependencies
+abbrev pub is_dependency : Mode → Bool
+is_dependency (mode.Fold o) = false
+is_dependency _ = true
+
 abbrev pub is_built_clause : Clause → Bool
-is_built_clause (clause.Depend mode strong sections) = every (map (λ s. is_whole s.form) sections)
+is_built_clause (clause.Depend m strong sections) = (strong && is_dependency m) && every (map (λ s. is_whole s.form) sections)
 is_built_clause _ = false
 
 -- assignments and prints of sums, blocks, empty statements, tasks and waits for all of them

@@ -1,8 +1,8 @@
 -- The rules that expressions break (C11 6.5): names that are not in scope, values of another kind than their place allows, and
 -- calls that are not allowed.
 -- Read against: where `y` is not in scope `*(y < 1)` breaks two rules at `y`, the name before the kind, and `*(y + 1)` one; with
--- `void f(long a) {}` the operand `f(1)` breaks WrongKind at `f`, and `f()` WrongCount at `f` and nothing more.
-use Rattle.std.specs.Prelude.{ℕ, ◌==◌, Bool, true, false, not, ◌&&◌, ◌||◌, List, [], ◌∷◌, ◌++◌, length, Option, Some, None, is_some}
+-- `void f(long a) {}` the operand `f(1)` breaks WrongKind at `f`, `f();` WrongCount, and the operand `f()` both, WrongKind first.
+use Rattle.std.specs.Prelude.{ℕ, ◌==◌, Bool, false, not, ◌&&◌, ◌||◌, List, [], ◌∷◌, ◌++◌, length, Option, Some, None, is_some}
 use Rattle.oss_syntax.specs.declared.tree.expr.Expr.{Expr}
 use Rattle.oss_syntax.specs.declared.tree.expr.ExprKind.TheOpen.{ExprKind-F, Expr-F}
 use Rattle.oss_syntax.specs.declared.tree.expr.ExprKind.TheOpen as open_expr
@@ -19,7 +19,7 @@ use Rattle.oss_model.specs.declared.kinds.Wanted.{Wanted}
 use Rattle.oss_model.specs.declared.kinds.Wanted.TheVariants as wanted
 use Rattle.oss_model.specs.declared.refusal.Refused.{Refused}
 use Rattle.oss_model.specs.declared.refusal.RefusedKind.TheVariants as refused
-use Rattle.oss_model.specs.Broken.{broken, first, where_so}
+use Rattle.oss_model.specs.Broken.{broken, where_so}
 use Rattle.oss_model.specs.Kinds.{Findings, all_of, binary_findings, index_findings, name_findings, number_findings, placed, unary_findings, value_kind, wanted_by}
 use Rattle.oss_model.specs.Scalars.{is_main}
 use Rattle.oss_model.specs.Scopes.{meaning, function_named}
@@ -41,10 +41,10 @@ abbrev pub parameters_of : Named → Option Function → List Local
 parameters_of named.Function (Some f) = f.params
 parameters_of _ _ = []
 
--- a call that breaks a rule at its name has an unknown kind
-abbrev pub call_kind : Option Refused → Named → Option Function → ValueKind
-call_kind None named.Function (Some f) = value_kind f.result
-call_kind _ _ _ = value.Unknown
+-- A call has the kind of what its function returns, also where it breaks a rule itself. A name that is no function gives it none.
+abbrev pub call_kind : Named → Option Function → ValueKind
+call_kind named.Function (Some f) = value_kind f.result
+call_kind _ _ = value.Unknown
 
 -- each argument takes the place of a parameter, and one too many has none
 abbrev pub argument_wanted : List Local → Wanted
@@ -64,7 +64,7 @@ call_of m f line as_statement arguments = record {
   line = line;
   at_first = call_rules m f line as_statement (length arguments);
   behind = argument_rules (parameters_of m f) arguments;
-  kind = call_kind (first (call_rules m f line as_statement (length arguments))) m f;
+  kind = call_kind m f;
   object = object.ValueOnly;
 }
 

@@ -1,5 +1,5 @@
--- The kinds of values (C11 6.5), which of them a place allows, and the kinds of names and operators. An expression that breaks a
--- rule, or takes its kind from one that does, has an unknown kind and breaks no further rule.
+-- The kinds of values (C11 6.5), which of them a place allows, and the kinds of names and operators. An expression whose kind its
+-- place does not allow, or which takes its kind from one, has an unknown kind and breaks no further rule.
 -- Read against: with `long x, a[2];` the expression `a * 2` breaks a rule at `a`, and `-(a * 2)` breaks no more than that; `a + x`
 -- is a pointer; `&x` is a pointer to `long`, and `&(x + 1)` breaks a rule at `x`.
 use Rattle.std.specs.Prelude.{ℕ, Bool, true, false, if◌then◌else◌, List, [], ◌∷◌, ◌++◌}

@@ -1,8 +1,7 @@
 -- Where each global lies: the cells of a global begin at the sum of the cells of the globals before it.
 -- Read against: with `long x, a[3], b;` the cell of `x` is 0, those of `a` are 1 to 3, and that of `b` is 4; there are 5.
-use Rattle.std.specs.Prelude.{ℕ, ◌+◌, List, [], ◌∷◌, map, take, Option, Some, None}
+use Rattle.std.specs.Prelude.{ℕ, List, [], ◌∷◌, take, Option, Some, None}
 use Rattle.std.specs.List.{sum}
-use Rattle.oss_syntax.specs.declared.tree.program.GlobalDef.{GlobalDef}
 use Rattle.oss_syntax.specs.declared.tree.program.Item.{Item}
 use Rattle.oss_syntax.specs.declared.tree.program.Item.TheVariants as items
 

@@ -2,7 +2,7 @@
 -- limits of its own). A whole expression has level 1; one in brackets, in an index, in an argument or under a prefix operator has
 -- one more than what holds it. What is told here is told of a beginning of a text and the token behind it.
 -- Read against: in `-(a)` the whole expression begins at `-` with level 1, `(a)` at `(` with level 2, `a` with level 3.
-use Rattle.std.specs.Prelude.{◌≡◌, ◌≤◌, ℕ, suc, Bool, true, ◌||◌, List, [], ◌∷◌, ◌++◌, codes, Option, Some, None, is_some}
+use Rattle.std.specs.Prelude.{◌≡◌, ℕ, suc, Bool, true, ◌||◌, List, [], ◌∷◌, ◌++◌, codes, Option, Some, is_some}
 use Rattle.std.specs.List.{count_by}
 use Rattle.oss_syntax.specs.declared.access.Mode.{Mode}
 use Rattle.oss_syntax.specs.declared.access.Op.{Op}
@@ -15,8 +15,8 @@ use Rattle.oss_syntax.specs.declared.tree.pragma.Clause.{Clause}
 use Rattle.oss_syntax.specs.declared.tree.pragma.Section.{Section}
 use Rattle.oss_model.specs.Expressions.{IsExpr, IsArgumentList, IsWhole, primary_level, postfix_level, prefix_level, loosest_level, prefix_of, operator_of}
 use Rattle.oss_model.specs.Fronts.{Viable}
-use Rattle.oss_model.specs.OneToken.{IsSymbol, IsKeyword, IsWord, IsOpen, IsClose, IsIndexOpen, IsIndexClose, IsComma}
-use Rattle.oss_model.specs.Pragmas.{IsBound, IsSection, IsDepend, IsClauses, IsMoreDepends, HasEachOnce, Single, is_single, access_of, reduction_of, fold_of}
+use Rattle.oss_model.specs.OneToken.{IsSymbol, IsKeyword, IsWord, IsOpen, IsIndexOpen, IsComma}
+use Rattle.oss_model.specs.Pragmas.{IsBound, IsSection, IsDepend, IsClauses, IsMoreDepends, HasEachOnce, is_single, access_of, reduction_of, fold_of}
 use Rattle.oss_model.specs.Pragmas.Single.{once_if, once_final, once_priority}
 
 -- A thing has at most 64 levels, and a whole expression at most 256 operators.

@@ -25,7 +25,6 @@ pub mod Parsing
 pub mod Pragmas
 pub mod ProgramRules
 pub mod Programs
-pub mod Readers
 pub mod Reading
 pub mod Refusals
 pub mod Rights

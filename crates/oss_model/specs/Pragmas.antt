@@ -64,22 +64,22 @@ pub data IsInner : List Token → Form → Type 0 where
       → ts ≡ front ++ (mark ∷ back) → IsSymbol (codes ":") mark
       → IsBound front first → IsBound back last → IsInner ts (form.Span first last)
 
--- The tokens are a section (OmpSs-2, array sections), with the line of its first token. `x`, `*q`, `[n]p`, `a[i]`, `a[2;0]` and
+-- The tokens are a section (OmpSs-2, array sections), with the lines of its first token and of its base. `x`, `*q`, `[n]p`, `a[i]`, `a[2;0]` and
 -- `b[:1]` are sections; `**q`, `[n]p[0]` and `a[0][1]` are none. Checked on `[n]p`, which is `shape` of the expression `n` and
 -- the base `p` alone, with the line of `[`.
 pub data IsSection : List Token → Section → Type 0 where
   whole : {ts : List Token} (t : Token) (base : List ℕ) → ts ≡ t ∷ [] → t.what ≡ kinds.Name base
-      → IsSection ts (record { base = base; form = form.Whole; line = t.line })
+      → IsSection ts (record { base = base; form = form.Whole; line = t.line; base_line = t.line })
   pointed : {ts : List Token} (star t : Token) (base : List ℕ) → ts ≡ star ∷ t ∷ [] → IsSymbol (codes "*") star → t.what ≡ kinds.Name base
-      → IsSection ts (record { base = base; form = form.Deref; line = star.line })
+      → IsSection ts (record { base = base; form = form.Deref; line = star.line; base_line = t.line })
   shape : {ts : List Token} {count : Expr} (opened : Token) (inner : List Token) (closed t : Token) (base : List ℕ)
       → ts ≡ opened ∷ (inner ++ (closed ∷ t ∷ [])) → IsIndexOpen opened → IsIndexClose closed → t.what ≡ kinds.Name base
       → IsWhole inner count
-      → IsSection ts (record { base = base; form = form.Shape count; line = opened.line })
+      → IsSection ts (record { base = base; form = form.Shape count; line = opened.line; base_line = t.line })
   part : {ts : List Token} {cells : Form} (t : Token) (base : List ℕ) (opened : Token) (inner : List Token) (closed : Token)
       → ts ≡ t ∷ opened ∷ (inner ++ closed ∷ []) → t.what ≡ kinds.Name base → IsIndexOpen opened → IsIndexClose closed
       → IsInner inner cells
-      → IsSection ts (record { base = base; form = cells; line = t.line })
+      → IsSection ts (record { base = base; form = cells; line = t.line; base_line = t.line })
 
 -- The tokens are sections with a comma between each two, one at least: `x, a[0]`, and not `x,`.
 pub data IsSections : List Token → List Section → Type 0 where

@@ -14,7 +14,7 @@ use Rattle.oss_syntax.specs.declared.tree.program.Program.{Program}
 use Rattle.oss_model.specs.declared.kinds.Around.{Around}
 use Rattle.oss_model.specs.declared.refusal.Refused.{Refused}
 use Rattle.oss_model.specs.declared.refusal.RefusedKind.TheVariants as refused
-use Rattle.oss_model.specs.Broken.{broken, first, where_so}
+use Rattle.oss_model.specs.Broken.{first, where_so}
 use Rattle.oss_model.specs.Layout.{cells_of}
 use Rattle.oss_model.specs.Scalars.{is_main}
 use Rattle.oss_model.specs.Scopes.{is_again}

@@ -2,7 +2,7 @@
 -- which reading stops. They go from left to right and look at one token at a time. That they read a grammar exactly, and stop
 -- just where no text of it goes on or where it passes a limit, is proved of each way in which they are put together.
 -- Read against: `( a + ;` stops at the `;`, since `( a +` goes on as an expression and `( a + ;` does not.
-use Rattle.std.specs.Prelude.{ℕ, zero, suc, ◌+◌, ◌-◌, ◌==◌, Bool, true, false, ◌||◌, ◌&&◌, if◌then◌else◌, List, [], ◌∷◌, ◌++◌, length, Option, Some, None, is_some, Result, Ok, Err}
+use Rattle.std.specs.Prelude.{ℕ, zero, suc, ◌==◌, Bool, false, ◌||◌, if◌then◌else◌, List, [], ◌∷◌, ◌++◌, length, Option, Some, None, is_some, Result, Ok, Err}
 use Rattle.std.specs.List.{count_by}
 use Rattle.oss_syntax.specs.declared.token.Token.{Token}
 

@@ -3,7 +3,6 @@
 -- Read against the grammar of expressions: `1 + ;` is refused as Syntax at `;`, since `1 +` can go on and `1 + ;` cannot; `1 + 2 ;`
 -- is read as `1 + 2`, and `;` is left.
 use Rattle.std.specs.Prelude.{◌≡◌, ℕ, ◌+◌, ◌≤◌, Bool, true, false, ◌||◌, if◌then◌else◌, List, [], ◌∷◌, ◌++◌, length, take, drop, codes, Result, Ok, Err}
-use Rattle.std.specs.List.{list_any}
 use Rattle.oss_syntax.specs.declared.token.Token.{Token}
 use Rattle.oss_syntax.specs.declared.token.TokenKind.{TokenKind}
 use Rattle.oss_syntax.specs.declared.token.TokenKind.TheVariants as kinds

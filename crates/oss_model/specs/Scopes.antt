@@ -2,7 +2,7 @@
 -- locals those are in scope that were declared before the place in a block around it, or are parameters; the last one declared of
 -- a name hides the others, and every global and function of that name.
 -- Read against: in `long x; int main() { long x; { int *x; x = x; } x = 1; }` the inner `x` is a pointer, and the last one a number.
-use Rattle.std.specs.Prelude.{ℕ, ◌==◌, nat_le, Bool, true, false, not, ◌||◌, if◌then◌else◌, List, [], ◌∷◌, length, map, drop, Option, Some, None, position, slice_get}
+use Rattle.std.specs.Prelude.{ℕ, ◌==◌, Bool, true, not, if◌then◌else◌, List, [], ◌∷◌, map, drop, Option, Some, None, position, slice_get}
 use Rattle.std.specs.List.{list_any}
 use Rattle.std.specs.Str.{bytes_eq}
 use Rattle.oss_syntax.specs.declared.tree.program.Function.{Function}

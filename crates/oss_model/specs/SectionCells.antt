@@ -1,8 +1,11 @@
 -- The cells that an array section names (OmpSs-2, array sections): the rising list of their numbers, or the fault OutOfRange.
 -- Read against: with `long x, a[4];` the cells of `a[1;2]` are 2 and 3, those of `a[1:]` are 2, 3 and 4, and those of `a` are 1 to
 -- 4; `a[9;0]` and `a[3:2]` name none; `a[3:1]`, `a[4]` and `a[3;-1]` are OutOfRange.
-use Rattle.std.specs.Prelude.{ℕ, ◌+◌, ◌-◌, ◌^◌, ◌&&◌, if◌then◌else◌, List, [], ℤ, pos, ◌+ℤ◌, ◌-ℤ◌, neg_ℤ, nat_abs, int_lt, int_le, Option, Some, None, Result, Ok, Err}
+use Rattle.std.specs.Prelude.{ℕ, ◌+◌, ◌-◌, ◌^◌, ◌&&◌, if◌then◌else◌, List, [], ℤ, pos, ◌+ℤ◌, ◌-ℤ◌, neg_ℤ, nat_abs, int_lt, int_le, Option, Some, None, option_map, Result, Ok, Err}
 use Rattle.std.specs.List.{range_with_len}
+use Rattle.oss_syntax.specs.declared.tree.expr.Expr.{Expr}
+use Rattle.oss_syntax.specs.declared.tree.pragma.Form.{Form}
+use Rattle.oss_syntax.specs.declared.tree.pragma.Form.TheVariants as form
 use Rattle.oss_model.specs.Values.{is_negative, sum_of}
 use Rattle.oss_model.specs.declared.answer.FaultKind.{FaultKind}
 use Rattle.oss_model.specs.declared.answer.FaultKind.TheVariants as fault
@@ -20,6 +23,16 @@ pub data Extent : Type 0 where
   whole : Extent
   elements : (from count : ℕ) → Extent
   span : (lower upper : Option ℕ) → Extent
+
+-- What a section of this form names of its base, its expressions having these values: `*p` is `p[0;1]`, `[n]p` is `p[0;n]`, and
+-- `a[e]` is `a[e;1]`.
+abbrev pub extent_of : (Expr → ℕ) → Form → Extent
+extent_of value form.Whole = Extent.whole
+extent_of value form.Deref = Extent.elements 0 1
+extent_of value (form.Shape n) = Extent.elements 0 (value n)
+extent_of value (form.Element e) = Extent.elements (value e) 1
+extent_of value (form.Length l n) = Extent.elements (value l) (value n)
+extent_of value (form.Span l u) = Extent.span (option_map value l) (option_map value u)
 
 -- a number of 64 bits, read as signed
 abbrev pub signed : ℕ → ℤ

@@ -12,7 +12,6 @@ use Rattle.oss_syntax.specs.declared.tree.pragma.Form.{Form}
 use Rattle.oss_syntax.specs.declared.tree.pragma.Form.TheVariants as form
 use Rattle.oss_syntax.specs.declared.tree.pragma.Section.{Section}
 use Rattle.oss_syntax.specs.declared.tree.program.Item.{Item}
-use Rattle.oss_syntax.specs.declared.tree.program.Kind.{Kind}
 use Rattle.oss_syntax.specs.declared.tree.program.Kind.TheVariants as kind
 use Rattle.oss_syntax.specs.declared.tree.program.Local.{Local}
 use Rattle.oss_syntax.specs.declared.tree.program.NumKind.{NumKind}
@@ -88,14 +87,14 @@ form_rules all locals (form.Length e n) = value_rules all locals wanted.Number e
 form_rules all locals (form.Span e u) = optional_rules all locals e ++ optional_rules all locals u
 
 -- The rules that a section breaks behind so many others of its pragma. Its base stands at its first token, or behind all else.
--- The tree keeps one line of a section.
+-- Checked on `[y]` and `p` on the next line, neither in scope: UnknownName with the line of `y`, then with that of `p`.
 abbrev pub section_rules : List Item → List Local → Bool → ℕ → Section → List Refused
 section_rules all locals fold before s =
     where_so (begins_with_base s.form && is_missing (meaning all locals s.base)) refused.UnknownName s.line
     ++ (where_so (is_wrong_section fold s.form (meaning all locals s.base)) refused.WrongKind s.line
     ++ (where_so (before == 64) refused.TooLarge s.line
     ++ (form_rules all locals s.form
-    ++ where_so (not (begins_with_base s.form) && is_missing (meaning all locals s.base)) refused.UnknownName s.line)))
+    ++ where_so (not (begins_with_base s.form) && is_missing (meaning all locals s.base)) refused.UnknownName s.base_line)))
 
 abbrev pub sections_rules : List Item → List Local → Bool → ℕ → List Section → List Refused
 sections_rules all locals fold before [] = []

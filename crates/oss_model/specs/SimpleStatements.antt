@@ -2,7 +2,7 @@
 -- speak of whole lists: nothing is greedy, and nothing is left over. A statement has the line of its first token, a local that of
 -- its name.
 -- Read against: `a[i] += 1`, `*(p + 1) = 2`, `++x` and `f(1, x)` are simple statements; `1 = x`, `a[1][2] = 3` and `(x) = 1` are none.
-use Rattle.std.specs.Prelude.{◌≡◌, ℕ, Bool, false, if◌then◌else◌, List, [], ◌∷◌, ◌++◌, codes, Option, Some, None}
+use Rattle.std.specs.Prelude.{◌≡◌, ℕ, false, if◌then◌else◌, List, [], ◌∷◌, ◌++◌, codes, Option, Some, None}
 use Rattle.oss_syntax.specs.declared.token.Token.{Token}
 use Rattle.oss_syntax.specs.declared.token.TokenKind.{TokenKind}
 use Rattle.oss_syntax.specs.declared.token.TokenKind.TheVariants as kinds

@@ -2,7 +2,7 @@
 -- of a function's block have level 1, and a statement inside another has one more; so has what stands in a block. What is told here
 -- is told of a beginning of a text and the token behind it.
 -- Read against: in `{ if (x) ; }` of a function's block the block has level 1, the `if` level 2, and `;` level 3.
-use Rattle.std.specs.Prelude.{◌≡◌, ℕ, suc, Bool, false, List, [], ◌∷◌, ◌++◌, codes, Option, Some}
+use Rattle.std.specs.Prelude.{◌≡◌, ℕ, suc, false, List, [], ◌∷◌, ◌++◌, codes, Option, Some}
 use Rattle.oss_syntax.specs.declared.token.Token.{Token}
 use Rattle.oss_syntax.specs.declared.token.TokenKind.TheVariants as kinds
 use Rattle.oss_syntax.specs.declared.tree.expr.BinOp.{BinOp}

@@ -2,22 +2,16 @@
 -- in text order. A text is refused for the first of them.
 -- Read against: `long a[0]; int main() { b = 1; }` on two lines breaks TooLarge on line 1 and UnknownName on line 2; `int main() {
 -- long x = x; }` breaks UnknownName, and `{ long y; } y = 1;` too; the empty text breaks NoMain on line 1.
-use Rattle.std.specs.Prelude.{ℕ, ◌+◌, ◌==◌, nat_lt, nat_le, Bool, true, false, not, ◌&&◌, ◌||◌, if◌then◌else◌, List, [], ◌∷◌, ◌++◌, length, map, Option, Some, None, is_some, option_map}
+use Rattle.std.specs.Prelude.{ℕ, ◌==◌, nat_le, Bool, true, false, not, List, [], ◌∷◌, ◌++◌, length, map, Option, Some, None, is_some}
 use Rattle.oss_syntax.specs.declared.tree.expr.BinOp.{BinOp}
 use Rattle.oss_syntax.specs.declared.tree.expr.BinOp.TheVariants as op
 use Rattle.oss_syntax.specs.declared.tree.expr.Expr.{Expr}
-use Rattle.oss_syntax.specs.declared.tree.pragma.TaskMark.{TaskMark}
 use Rattle.oss_syntax.specs.declared.tree.pragma.Section.{Section}
-use Rattle.oss_syntax.specs.declared.tree.program.Function.{Function}
-use Rattle.oss_syntax.specs.declared.tree.program.GlobalDef.{GlobalDef}
 use Rattle.oss_syntax.specs.declared.tree.program.Item.{Item}
-use Rattle.oss_syntax.specs.declared.tree.program.Item.TheVariants as items
 use Rattle.oss_syntax.specs.declared.tree.program.Kind.{Kind}
 use Rattle.oss_syntax.specs.declared.tree.program.Kind.TheVariants as kind
 use Rattle.oss_syntax.specs.declared.tree.program.Local.{Local}
 use Rattle.oss_syntax.specs.declared.tree.program.NumKind.{NumKind}
-use Rattle.oss_syntax.specs.declared.tree.program.NumKind.TheVariants as num
-use Rattle.oss_syntax.specs.declared.tree.program.Program.{Program}
 use Rattle.oss_syntax.specs.declared.tree.stmt.Stmt.{Stmt}
 use Rattle.oss_syntax.specs.declared.tree.stmt.StmtKind.TheOpen.{StmtKind-F, Stmt-F}
 use Rattle.oss_syntax.specs.declared.tree.stmt.StmtKind.TheOpen as open_stmt
@@ -31,12 +25,10 @@ use Rattle.oss_model.specs.declared.kinds.Wanted.{Wanted}
 use Rattle.oss_model.specs.declared.kinds.Wanted.TheVariants as wanted
 use Rattle.oss_model.specs.declared.refusal.Refused.{Refused}
 use Rattle.oss_model.specs.declared.refusal.RefusedKind.TheVariants as refused
-use Rattle.oss_model.specs.Broken.{broken, first, where_so}
+use Rattle.oss_model.specs.Broken.{broken, where_so}
 use Rattle.oss_model.specs.ExpressionRules.{call_findings, findings, value_rules}
 use Rattle.oss_model.specs.Kinds.{Findings, all_of, placed, unless, wanted_by}
-use Rattle.oss_model.specs.Layout.{cells_of}
-use Rattle.oss_model.specs.Scalars.{is_main}
-use Rattle.oss_model.specs.Scopes.{is_again, is_local_again}
+use Rattle.oss_model.specs.Scopes.{is_local_again}
 use Rattle.oss_model.specs.SectionRules.{clauses_rules, optional_rules, sections_rules}
 use Rattle.oss_model.specs.Texts.{conversions_of}
 

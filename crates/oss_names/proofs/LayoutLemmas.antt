@@ -8,6 +8,7 @@ use Rattle.oss_syntax.specs.declared.tree.program.Program.{Program}
 use Rattle.oss_model.specs.declared.refusal.RefusedKind.TheVariants as refused
 use Rattle.oss_model.specs.Broken.{first, where_so}
 use Rattle.oss_model.specs.Layout.{cells_in, cells_of, sizes_of, start_of}
+use Rattle.oss_model.specs.Scalars.{names_of}
 use Rattle.oss_model.specs.ProgramRules.{function_rules, global_rules, has_main, items_rules, program_rules}
 use Rattle.oss_names.specs.Resolved.{bounds_of}
 use Rattle.oss_names.proofs.Parts.{append-left, append-right}
@@ -72,6 +73,23 @@ module _ (all : List Item) where
       omega (arith, there, sum-one k (cells_of g.cells) (sizes_of rest), sum-one (suc k) (cells_of g.cells) (sizes_of rest))
   lie-rising p b (items.Function f ∷ rest) k none within =
       lie-rising (p + 1) b rest k (append-right (function_rules all p f) (items_rules all (p + 1) b rest) none) within
+
+  -- each global has a cell at least
+  names-within : (p b : ℕ) (xs : List Item) → first (items_rules all p b xs) ≡ None → b ≤ 1048576 → b + length (names_of xs) ≤ 1048576
+  names-within p b [] none few = omega arith
+  names-within p b (items.Global g ∷ rest) none few =
+      let here = global-cells all p b g (append-left (global_rules all p b g) (items_rules all (p + 1) (b + cells_of g.cells) rest) none) in
+      let some = here.0 in
+      let there = names-within (p + 1) (b + cells_of g.cells) rest (append-right (global_rules all p b g) (items_rules all (p + 1) (b + cells_of g.cells) rest) none) here.1 in
+      omega (arith, some, there)
+  names-within p b (items.Function f ∷ rest) none few =
+      names-within (p + 1) b rest (append-right (function_rules all p f) (items_rules all (p + 1) b rest) none) few
+
+pub names-few : (q : Program) → program_rules q ≡ [] → length (names_of q.items) ≤ 1048576
+names-few q well =
+    let none = append-left (items_rules q.items 0 0 q.items) (where_so (not (has_main q.items)) refused.NoMain 1) (ap first well) in
+    let within = names-within q.items 0 0 q.items none (omega arith) in
+    omega (arith, within)
 
 -- the bounds of a program that breaks no rule
 module _ (q : Program) (bounds : List ℕ) (well : program_rules q ≡ []) (lie : bounds ≡ bounds_of 0 (sizes_of q.items)) where

@@ -71,7 +71,7 @@ module _ (all : List Item) (locals : List Local) where
       let wrong = where_so (is_wrong_section fold s.form m) refused.WrongKind s.line in
       let large = where_so (n == 64) refused.TooLarge s.line in
       let inside = form_rules all locals s.form in
-      let last = where_so (not (begins_with_base s.form) && is_missing m) refused.UnknownName s.line in
+      let last = where_so (not (begins_with_base s.form) && is_missing m) refused.UnknownName s.base_line in
       not-so (n == 64) refused.TooLarge s.line (append-left large (inside ++ last) (append-right wrong (large ++ (inside ++ last)) (append-right unknown (wrong ++ (large ++ (inside ++ last))) e)))
 
   pub room : (fold : Bool) (n : ℕ) (s : Section) → n ≤ 64 → first (section_rules all locals fold n s) ≡ None → n + 1 ≤ 64

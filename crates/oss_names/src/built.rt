@@ -1,9 +1,11 @@
 //! Programs whose runs are built.
 ghost use Rattle.std.specs.Prelude.{◌≡◌, map};
-ghost use Rattle.oss_model.specs.Built.{every, is_built, is_built_clause, is_built_expr, is_built_item, is_built_stmt, is_name, is_sum, is_whole};
+ghost use Rattle.oss_model.specs.Built.{every, is_built, is_built_clause, is_built_expr, is_built_item, is_built_stmt, is_dependency, is_name, is_sum, is_whole};
 
 use oss_kinds::is_named_main;
-use oss_syntax::{BinOp, Clause, Expr, ExprKind, Form, Item, Program, Section, Stmt, StmtKind};
+use oss_syntax::{
+    BinOp, Clause, Expr, ExprKind, Form, Item, Mode, Program, Section, Stmt, StmtKind,
+};
 
 /// Whether the sequential run of scalars means this program.
 pub fn program_is_built(program: &Program) -> bool
@@ -83,12 +85,24 @@ fn clause_is_built(clause: &Clause) -> bool
     ensures { result ≡ is_built_clause clause.now }
 {
     match clause {
-        Clause::Depend(_, _, sections) => are_whole(sections.as_slice()),
+        Clause::Depend(mode, strong, sections) => {
+            *strong && is_no_reduction(*mode) && are_whole(sections.as_slice())
+        }
         Clause::If(_) => false,
         Clause::Final(_) => false,
         Clause::Wait => false,
         Clause::Label(_) => false,
         Clause::Priority(_) => false,
+    }
+}
+
+fn is_no_reduction(mode: Mode) -> bool
+    ensures { result ≡ is_dependency mode }
+{
+    match mode {
+        Mode::Read => true,
+        Mode::Write => true,
+        Mode::Fold(_) => false,
     }
 }
 

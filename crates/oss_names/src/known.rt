@@ -1,8 +1,9 @@
 //! Programs that break no rule.
-ghost use Rattle.std.specs.Prelude.{◌≡◌, ◌+◌, ◌<◌, [], length};
+ghost use Rattle.std.specs.Prelude.{◌≡◌, ◌+◌, ◌<◌, ◌≤◌, [], length};
 ghost use Rattle.oss_model.specs.Built.{is_built};
 ghost use Rattle.oss_model.specs.Layout.{cells_in, sizes_of, start_of};
 ghost use Rattle.oss_model.specs.ProgramRules.{program_rules};
+ghost use Rattle.oss_model.specs.Scalars.{names_of};
 ghost use Rattle.oss_names.specs.Resolved.{IsResolved};
 
 use crate::built::program_is_built;
@@ -49,17 +50,18 @@ pub fn resolve(alloc: Global, program: Program) -> Result<Known, Refusal>
 }
 
 impl Known {
-    /// The program, which breaks no rule.
+    /// The program, which breaks no rule. So it has at most 1,048,576 globals, since each has a cell.
     pub fn program(&self) -> &Program
         ensures same { result.now ≡ self.now }
         ensures accepted { program_rules result.now ≡ [] }
+        ensures few { length (names_of result.now.items) ≤ 1048576 }
     {
         &self.program
     }
 
     /// Whether the sequential run of scalars means the program: its globals are scalars, `main` is its one function, and
-    /// its statements are assignments and prints of sums, blocks, tasks with dependencies on scalars, and waits. It takes no
-    /// memory.
+    /// its statements are assignments and prints of sums, blocks, tasks with `in`, `out` and `inout` of scalars, and waits.
+    /// It takes no memory.
     pub fn built(&self) -> bool
         ensures { result ≡ is_built self.now }
     {

@@ -116,7 +116,11 @@ fn section(
     let missing = is_unknown(named);
     let wrong = is_wrong(fold, &section.form, named);
     let inside = expressions(globals, locals, &section.form);
-    let last = refused_if(base_last && missing, RefusedKind::UnknownName, line);
+    let last = refused_if(
+        base_last && missing,
+        RefusedKind::UnknownName,
+        section.base_line,
+    );
     let large = refused_if(count == MOST_SECTIONS, RefusedKind::TooLarge, line);
     let from_large = before(large, before(inside, last));
     let from_wrong = before(refused_if(wrong, RefusedKind::WrongKind, line), from_large);

@@ -41,7 +41,7 @@ use Rattle.oss_parse.proofs.BeginningLemmas.{statement_begins, begins_so, item_b
 use Rattle.oss_parse.proofs.BranchLemmas.{otherwise}
 use Rattle.oss_parse.proofs.EndingLemmas.{Ending}
 use Rattle.oss_parse.proofs.ExactDeclarations.{exact_declaration, begun_declaration, simple_ends}
-use Rattle.oss_parse.proofs.StatementTexts.{statement_ending, begun_statement}
+use Rattle.oss_parse.proofs.StatementDepths.{statement_ending, begun_statement}
 
 -- what may follow what stands in a block: all that begins more of it, and an `else`
 abbrev pub goes_items : Token → Bool

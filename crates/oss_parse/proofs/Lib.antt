@@ -12,6 +12,7 @@ pub mod BeginningLemmas
 pub mod ExactStatements
 pub mod ExactTexts
 pub mod OneProgram
+pub mod StatementDepths
 pub mod StatementTexts
 pub mod ParsedLemmas
 pub mod ProgramLoops

@@ -1,4 +1,4 @@
--- What is read of the forms of statements are the statements of the grammar, and where reading passes a limit they pass one.
+-- What is read of the forms of statements are the statements of the grammar, and the other way round.
 use Rattle.std.proofs.lemmas.List.{append-nil}
 use Rattle.std.proofs.Common.{◌≡◌, ℕ, suc, Bool, true, false, ◌||◌, List, [], ◌∷◌, ◌++◌, refl, sym, ap, ◌∙◌, subst, append_assoc, Option, Some, None, is_some, Result, Ok, Err}
 use Rattle.std.specs.Prelude.{codes}
@@ -164,7 +164,7 @@ module _ {expression : Reader Expr} {X : List Token → Token → Type 0} (part 
   into_simple : (xs : List Token) (s : Stmt) → SimpleText xs s → IsStmt false xs s
   into_simple xs s w = simple w.whole.inner w.whole.closed w.whole.split (symbol_token (codes ";") w.whole.closed w.part.1 w.whole.passes) (subst (λ x. IsSimple w.whole.inner x) w.made w.whole.inside)
 
-  head_split : (word : List ℕ) (xs front back : List Token) (h : ℕ × Expr) → xs ≡ front ++ back → (w : Head word front h) → xs ≡ w.token ∷ w.behind.opened ∷ (w.behind.inner ++ (w.behind.closed ∷ back))
+  pub head_split : (word : List ℕ) (xs front back : List Token) (h : ℕ × Expr) → xs ≡ front ++ back → (w : Head word front h) → xs ≡ w.token ∷ w.behind.opened ∷ (w.behind.inner ++ (w.behind.closed ∷ back))
   head_split word xs front back h e w =
       e ∙ (ap (λ ys. ys ++ back) (w.split ∙ ap (λ ys. w.token ∷ ys) w.behind.split) ∙ ap (λ ys. w.token ∷ w.behind.opened ∷ ys) (append_assoc w.behind.inner (w.behind.closed ∷ []) back))
 
@@ -197,46 +197,46 @@ module _ {expression : Reader Expr} {X : List Token → Token → Type 0} (part 
   into_closed_if : (xs : List Token) (s : Stmt) → ClosedIf xs s → IsStmt false xs s
   into_closed_if xs s w = let b = w.behind in if_else_is false xs w.front w.back w.value b.first b.other s b.front b.mark b.back w.split w.before b.made b.split b.marks b.before b.behind
 
-  maybe_whole : (xs : List Token) (e : Option Expr) → MaybeE xs e → IsMaybeWhole xs e
+  pub maybe_whole : (xs : List Token) (e : Option Expr) → MaybeE xs e → IsMaybeWhole xs e
   maybe_whole xs e (one_way w) = subst (λ x. IsMaybeWhole xs x) w.made (some_expression w.whole)
   maybe_whole xs e (other_way w) = subst (λ x. IsMaybeWhole xs x) w.same (no_expression w.nothing)
 
   abbrev MaybeS : List Token → Option Stmt → Type 0
   MaybeS = Either (Mapped Some IsSimple) (Nothing None)
 
-  maybe_simple : (xs : List Token) (s : Option Stmt) → MaybeS xs s → IsMaybeSimple xs s
+  pub maybe_simple : (xs : List Token) (s : Option Stmt) → MaybeS xs s → IsMaybeSimple xs s
   maybe_simple xs s (one_way w) = subst (λ x. IsMaybeSimple xs x) w.made (some_simple w.whole)
   maybe_simple xs s (other_way w) = subst (λ x. IsMaybeSimple xs x) w.same (no_simple w.nothing)
 
   abbrev First : List Token → Option Stmt → Type 0
   First = Either (Mapped Some IsDeclaration) MaybeS
 
-  for_first : (xs : List Token) (s : Option Stmt) → First xs s → IsForFirst xs s
+  pub for_first : (xs : List Token) (s : Option Stmt) → First xs s → IsForFirst xs s
   for_first xs s (one_way w) = subst (λ x. IsForFirst xs x) w.made (declared_first w.whole)
   for_first xs s (other_way w) = other_first (maybe_simple xs s w)
 
   -- the tokens of the head of a `for`
-  record Parts (front : List Token) (h : ℕ × (Option Stmt × (Option Expr × Option Stmt))) : Type 0 where
-    t : Token
-    opened : Token
-    start : List Token
-    first_mark : Token
-    middle : List Token
-    second_mark : Token
-    end : List Token
-    closed : Token
-    split : front ≡ t ∷ opened ∷ (start ++ (first_mark ∷ (middle ++ (second_mark ∷ (end ++ (closed ∷ []))))))
-    is_for : IsKeyword (codes "for") t
-    at : t.line ≡ h.0
-    opens : IsOpen opened
-    marks : IsSymbol (codes ";") first_mark
-    marks_again : IsSymbol (codes ";") second_mark
-    closes : IsClose closed
-    starts : First start h.1.0
-    tests : MaybeE middle h.1.1.0
-    ends : MaybeS end h.1.1.1
+  pub record Parts (front : List Token) (h : ℕ × (Option Stmt × (Option Expr × Option Stmt))) : Type 0 where
+    pub t : Token
+    pub opened : Token
+    pub start : List Token
+    pub first_mark : Token
+    pub middle : List Token
+    pub second_mark : Token
+    pub end : List Token
+    pub closed : Token
+    pub split : front ≡ t ∷ opened ∷ (start ++ (first_mark ∷ (middle ++ (second_mark ∷ (end ++ (closed ∷ []))))))
+    pub is_for : IsKeyword (codes "for") t
+    pub at : t.line ≡ h.0
+    pub opens : IsOpen opened
+    pub marks : IsSymbol (codes ";") first_mark
+    pub marks_again : IsSymbol (codes ";") second_mark
+    pub closes : IsClose closed
+    pub starts : First start h.1.0
+    pub tests : MaybeE middle h.1.1.0
+    pub ends : MaybeS end h.1.1.1
 
-  parts_of : (front : List Token) (h : ℕ × (Option Stmt × (Option Expr × Option Stmt))) → ForHead front h → Parts front h
+  pub parts_of : (front : List Token) (h : ℕ × (Option Stmt × (Option Expr × Option Stmt))) → ForHead front h → Parts front h
   parts_of front h w =
       let inner = w.behind.behind in let both = inner.whole in let rest = both.behind in let middle = rest.behind in let last = middle.behind in let end = last.behind in record {
         t = w.token;
@@ -260,7 +260,7 @@ module _ {expression : Reader Expr} {X : List Token → Token → Type 0} (part 
         ends = subst (λ (q : Option Stmt × (Option Expr × Option Stmt)). MaybeS end.inner q.1.1) inner.made end.inside;
       }
 
-  for_split : (xs front back : List Token) (h : ℕ × (Option Stmt × (Option Expr × Option Stmt))) → xs ≡ front ++ back → (w : Parts front h)
+  pub for_split : (xs front back : List Token) (h : ℕ × (Option Stmt × (Option Expr × Option Stmt))) → xs ≡ front ++ back → (w : Parts front h)
       → xs ≡ w.t ∷ w.opened ∷ (w.start ++ (w.first_mark ∷ (w.middle ++ (w.second_mark ∷ (w.end ++ (w.closed ∷ back))))))
   for_split xs front back h e w =
       e ∙ (ap (λ ys. ys ++ back) w.split
@@ -297,7 +297,7 @@ module _ {expression : Reader Expr} {X : List Token → Token → Type 0} (part 
   printed_is xs [] (none e) = nothing_printed e
   printed_is xs (a ∷ more) (some comma front back e c w v) = values_printed comma (front ++ back) e c (followed_list (front ++ back) front back a more refl w v)
 
-  text_is : (k : TokenKind) (bytes : List ℕ) → text_in k ≡ Some bytes → k ≡ kinds.Text bytes
+  pub text_is : (k : TokenKind) (bytes : List ℕ) → text_in k ≡ Some bytes → k ≡ kinds.Text bytes
   text_is (kinds.Text w) bytes e = ap kinds.Text (some_is w bytes e) where
     some_is : (a b : List ℕ) → Some a ≡ Some b → a ≡ b
     some_is a b e = cc
@@ -352,7 +352,7 @@ module _ {expression : Reader Expr} {X : List Token → Token → Type 0} (part 
     is = into_for v.ends_open xs s (record { front = w.front; back = w.back; value = w.value; split = w.split; before = w.before; behind = record { part = w.behind.part; made = w.behind.made; whole = v.is } });
   }
 
-  into_all : (xs : List Token) (s : Stmt) → AllText xs s → IsAnyStmt xs s
+  pub into_all : (xs : List Token) (s : Stmt) → AllText xs s → IsAnyStmt xs s
   into_all xs s (one_way w) = any_of xs s (into_block xs s w)
   into_all xs s (other_way (one_way w)) = any_of xs s (into_empty xs s w)
   into_all xs s (other_way (other_way (one_way w))) = any_of xs s (into_simple xs s w)
@@ -365,7 +365,7 @@ module _ {expression : Reader Expr} {X : List Token → Token → Type 0} (part 
   into_all xs s (other_way (other_way (other_way (other_way (other_way (other_way (other_way (other_way (other_way (one_way w)))))))))) = any_of xs s (into_print xs s w)
   into_all xs s (other_way (other_way (other_way (other_way (other_way (other_way (other_way (other_way (other_way (other_way w)))))))))) = directed_any xs w.front w.back w.value.0 w.value.1 s w.split w.before w.behind
 
-  into_closed : (xs : List Token) (s : Stmt) → ClosedText xs s → IsStmt false xs s
+  pub into_closed : (xs : List Token) (s : Stmt) → ClosedText xs s → IsStmt false xs s
   into_closed xs s (one_way w) = into_block xs s w
   into_closed xs s (other_way (one_way w)) = into_empty xs s w
   into_closed xs s (other_way (other_way (one_way w))) = into_simple xs s w
@@ -390,7 +390,7 @@ module _ {expression : Reader Expr} {X : List Token → Token → Type 0} (part 
   out_simple : (xs : List Token) (s : Stmt) (front : List Token) (m : Token) → xs ≡ front ++ (m ∷ []) → IsSymbol (codes ";") m → IsSimple front s → SimpleText xs s
   out_simple xs s front m e c w = record { part = (s, m.line); made = refl; whole = record { inner = front; closed = m; split = e; passes = symbol_value (codes ";") m c; inside = w } }
 
-  head_of : (word : List ℕ) (t opened : Token) (inner : List Token) (closed : Token) (test : Expr) → IsKeyword word t → IsOpen opened → IsClose closed → IsWhole inner test → Head word (t ∷ opened ∷ (inner ++ (closed ∷ []))) (t.line, test)
+  pub head_of : (word : List ℕ) (t opened : Token) (inner : List Token) (closed : Token) (test : Expr) → IsKeyword word t → IsOpen opened → IsClose closed → IsWhole inner test → Head word (t ∷ opened ∷ (inner ++ (closed ∷ []))) (t.line, test)
   head_of word t opened inner closed test k o c w = record {
     token = t;
     back = opened ∷ (inner ++ (closed ∷ []));
@@ -399,7 +399,7 @@ module _ {expression : Reader Expr} {X : List Token → Token → Type 0} (part 
     behind = record { opened = opened; inner = inner; closed = closed; split = refl; opens = o; closes = c; inside = w };
   }
 
-  split_of_head : (xs : List Token) (t opened : Token) (inner : List Token) (closed : Token) (back : List Token) → xs ≡ t ∷ opened ∷ (inner ++ (closed ∷ back)) → xs ≡ (t ∷ opened ∷ (inner ++ (closed ∷ []))) ++ back
+  pub split_of_head : (xs : List Token) (t opened : Token) (inner : List Token) (closed : Token) (back : List Token) → xs ≡ t ∷ opened ∷ (inner ++ (closed ∷ back)) → xs ≡ (t ∷ opened ∷ (inner ++ (closed ∷ []))) ++ back
   split_of_head xs t opened inner closed back e = e ∙ sym (ap (λ ys. t ∷ opened ∷ ys) (append_assoc inner (closed ∷ []) back))
 
   out_while : (U : List Token → Stmt → Type 0) (xs : List Token) (test : Expr) (s : Stmt) (t opened : Token) (inner : List Token) (closed : Token) (back : List Token) → xs ≡ t ∷ opened ∷ (inner ++ (closed ∷ back))
@@ -424,7 +424,7 @@ module _ {expression : Reader Expr} {X : List Token → Token → Type 0} (part 
     behind = one_branch s refl v;
   }
 
-  is_otherwise : (t : Token) → IsKeyword (codes "else") t → otherwise t ≡ true
+  pub is_otherwise : (t : Token) → IsKeyword (codes "else") t → otherwise t ≡ true
   is_otherwise t k = rw k refl
 
   out_if_else : (xs : List Token) (test : Expr) (s other : Stmt) (t opened : Token) (inner : List Token) (closed : Token) (front : List Token) (m : Token) (back : List Token)
@@ -451,7 +451,7 @@ module _ {expression : Reader Expr} {X : List Token → Token → Type 0} (part 
     behind = record { first = s; other = other; front = front; mark = m; back = back; made = refl; split = refl; marks = is_otherwise m l; before = v; behind = u };
   }
 
-  whole_maybe : (xs : List Token) (e : Option Expr) → IsMaybeWhole xs e → MaybeE xs e
+  pub whole_maybe : (xs : List Token) (e : Option Expr) → IsMaybeWhole xs e → MaybeE xs e
   whole_maybe xs None (no_expression z) = other_way (record { nothing = z; same = refl })
   whole_maybe xs (Some e) (some_expression w) = one_way (record { part = e; made = refl; whole = w })
 
@@ -459,11 +459,11 @@ module _ {expression : Reader Expr} {X : List Token → Token → Type 0} (part 
   simple_maybe xs None (no_simple z) = other_way (record { nothing = z; same = refl })
   simple_maybe xs (Some s) (some_simple w) = one_way (record { part = s; made = refl; whole = w })
 
-  first_for : (xs : List Token) (s : Option Stmt) → IsForFirst xs s → First xs s
+  pub first_for : (xs : List Token) (s : Option Stmt) → IsForFirst xs s → First xs s
   first_for xs (Some s) (declared_first w) = one_way (record { part = s; made = refl; whole = w })
   first_for xs s (other_first w) = other_way (simple_maybe xs s w)
 
-  for_head_of : (first : Option Stmt) (test : Option Expr) (last : Option Stmt) (t opened : Token) (start : List Token) (m : Token) (middle : List Token) (other : Token) (end : List Token) (closed : Token)
+  pub for_head_of : (first : Option Stmt) (test : Option Expr) (last : Option Stmt) (t opened : Token) (start : List Token) (m : Token) (middle : List Token) (other : Token) (end : List Token) (closed : Token)
       → IsKeyword (codes "for") t → IsOpen opened → IsSymbol (codes ";") m → IsSymbol (codes ";") other → IsClose closed → IsForFirst start first → IsMaybeWhole middle test → IsMaybeSimple end last
       → ForHead (t ∷ opened ∷ (start ++ (m ∷ (middle ++ (other ∷ (end ++ (closed ∷ []))))))) (t.line, (first, (test, last)))
   for_head_of first test last t opened start m middle other end closed k o c d z a b e = record {
@@ -508,7 +508,7 @@ module _ {expression : Reader Expr} {X : List Token → Token → Type 0} (part 
     };
   }
 
-  split_of_for : (xs : List Token) (t opened : Token) (start : List Token) (m : Token) (middle : List Token) (other : Token) (end : List Token) (closed : Token) (back : List Token)
+  pub split_of_for : (xs : List Token) (t opened : Token) (start : List Token) (m : Token) (middle : List Token) (other : Token) (end : List Token) (closed : Token) (back : List Token)
       → xs ≡ t ∷ opened ∷ (start ++ (m ∷ (middle ++ (other ∷ (end ++ (closed ∷ back)))))) → xs ≡ (t ∷ opened ∷ (start ++ (m ∷ (middle ++ (other ∷ (end ++ (closed ∷ []))))))) ++ back
   split_of_for xs t opened start m middle other end closed back e =
       e ∙ sym (ap (λ ys. t ∷ opened ∷ ys) (append_assoc start (m ∷ (middle ++ (other ∷ (end ++ (closed ∷ []))))) back
@@ -551,7 +551,7 @@ module _ {expression : Reader Expr} {X : List Token → Token → Type 0} (part 
   follow_printed xs [] (nothing_printed e) = none e
   follow_printed xs values (values_printed comma back e c w) = subst (λ ys. Follow IsWhole ys values) (sym e) (list_follow comma back values c w)
 
-  text_value : (t : Token) (bytes : List ℕ) → t.what ≡ kinds.Text bytes → text_at t ≡ Some bytes
+  pub text_value : (t : Token) (bytes : List ℕ) → t.what ≡ kinds.Text bytes → text_at t ≡ Some bytes
   text_value t bytes e = rw e refl
 
   out_print : (xs : List Token) (values : List Expr) (t opened string : Token) (bytes : List ℕ) (inner : List Token) (closed m : Token) → xs ≡ t ∷ opened ∷ string ∷ (inner ++ (closed ∷ m ∷ []))
@@ -600,7 +600,7 @@ module _ {expression : Reader Expr} {X : List Token → Token → Type 0} (part 
   out_release : (U : List Token → Stmt → Type 0) (xs : List Token) (clauses : List Clause) → IsPragma xs (directive.Release clauses) → PragmaText U xs (record { what = stmts.Release clauses; line = first_line xs })
   out_release U xs clauses w = record { front = xs; back = []; value = (directive.Release clauses, first_line xs); split = sym (append-nil xs); before = record { is = w; at = refl }; behind = record { nothing = refl; same = refl } }
 
-  out_all : (o : Bool) (xs : List Token) (s : Stmt) → IsStmt o xs s → AllText xs s
+  pub out_all : (o : Bool) (xs : List Token) (s : Stmt) → IsStmt o xs s → AllText xs s
   out_all o xs s (block {body = body} opened inner closed e a c w) = one_way (out_block xs body opened inner closed e a c w)
   out_all o xs s (empty m e c) = other_way (one_way (record { part = m.line; made = refl; whole = record { token = m; only = e; passes = symbol_value (codes ";") m c } }))
   out_all o xs s (simple front m e c w) = other_way (other_way (one_way (out_simple xs s front m e c w)))
@@ -621,7 +621,7 @@ module _ {expression : Reader Expr} {X : List Token → Token → Type 0} (part 
   out_all o xs s (task_wait {sections = sections} w) = other_way (other_way (other_way (other_way (other_way (other_way (other_way (other_way (other_way (other_way (out_wait IsAnyStmt xs sections w))))))))))
   out_all o xs s (release {clauses = clauses} w) = other_way (other_way (other_way (other_way (other_way (other_way (other_way (other_way (other_way (other_way (out_release IsAnyStmt xs clauses w))))))))))
 
-  out_closed : (xs : List Token) (s : Stmt) → IsStmt false xs s → ClosedText xs s
+  pub out_closed : (xs : List Token) (s : Stmt) → IsStmt false xs s → ClosedText xs s
   out_closed xs s (block {body = body} opened inner closed e a c w) = one_way (out_block xs body opened inner closed e a c w)
   out_closed xs s (empty m e c) = other_way (one_way (record { part = m.line; made = refl; whole = record { token = m; only = e; passes = symbol_value (codes ";") m c } }))
   out_closed xs s (simple front m e c w) = other_way (other_way (one_way (out_simple xs s front m e c w)))
@@ -637,260 +637,3 @@ module _ {expression : Reader Expr} {X : List Token → Token → Type 0} (part 
   out_closed xs s (task {mark = m} {s = b} front back e w v) = other_way (other_way (other_way (other_way (other_way (other_way (other_way (other_way (other_way (other_way (out_task (IsStmt false) xs m b front back e w v))))))))))
   out_closed xs s (task_wait {sections = sections} w) = other_way (other_way (other_way (other_way (other_way (other_way (other_way (other_way (other_way (other_way (out_wait (IsStmt false) xs sections w))))))))))
   out_closed xs s (release {clauses = clauses} w) = other_way (other_way (other_way (other_way (other_way (other_way (other_way (other_way (other_way (other_way (out_release (IsStmt false) xs clauses w))))))))))
-
-  -- where a limit is passed
-  abbrev Excess : List Token → Token → Type 0
-  Excess = IsStatementExcess X (suc n)
-
-  simple_deeper : (xs : List Token) (t : Token) → IsExcessBehind OpensSimple X xs t → Excess xs t
-  simple_deeper xs t x = in_expression (record { front = x.front; inner = x.inner; split = x.split; opens = OpensStatement.in_simple x.opens; excess = x.excess })
-
-  if_deeper : (xs : List Token) (t : Token) → IfDeep xs t → Excess xs t
-  if_deeper xs t (in_first d) = in_expression (record {
-    front = d.token ∷ d.deep.opened ∷ [];
-    inner = d.deep.inner;
-    split = d.split ∙ ap (λ ys. d.token ∷ ys) d.deep.split;
-    opens = in_if_test d.token d.deep.opened refl (keyword_token (codes "if") d.token d.value d.passes) d.deep.opens;
-    excess = d.deep.deep;
-  })
-  if_deeper xs t (in_second front back h e w (in_one d)) =
-      under_if w.token w.behind.opened w.behind.inner w.behind.closed back (head_split (codes "if") xs front back h e w) (keyword_token (codes "if") w.token h.0 w.passes) w.behind.opens w.behind.inside w.behind.closes d
-  if_deeper xs t (in_second front back h e w (in_other s middle m rest z v begun d)) =
-      under_else w.token w.behind.opened w.behind.inner w.behind.closed middle m rest
-      (head_split (codes "if") xs front back h e w ∙ ap (λ ys. w.token ∷ w.behind.opened ∷ (w.behind.inner ++ (w.behind.closed ∷ ys))) z)
-      (keyword_token (codes "if") w.token h.0 w.passes) w.behind.opens w.behind.inside w.behind.closes v (has_keyword (codes "else") m begun) d
-
-  while_deeper : (xs : List Token) (t : Token) → WhileDeep xs t → Excess xs t
-  while_deeper xs t (in_first d) = in_expression (record {
-    front = d.token ∷ d.deep.opened ∷ [];
-    inner = d.deep.inner;
-    split = d.split ∙ ap (λ ys. d.token ∷ ys) d.deep.split;
-    opens = in_while_test d.token d.deep.opened refl (keyword_token (codes "while") d.token d.value d.passes) d.deep.opens;
-    excess = d.deep.deep;
-  })
-  while_deeper xs t (in_second front back h e w d) =
-      under_while w.token w.behind.opened w.behind.inner w.behind.closed back (head_split (codes "while") xs front back h e w) (keyword_token (codes "while") w.token h.0 w.passes) w.behind.opens w.behind.inside w.behind.closes d
-
-  for_parts_deeper : (xs rest : List Token) (word opened : Token) (t : Token) → xs ≡ word ∷ opened ∷ rest → IsKeyword (codes "for") word → IsOpen opened → ForPartsDeep rest t → Excess xs t
-  for_parts_deeper xs rest word opened t e k o (in_first (one_deep x)) = in_expression (record {
-    front = word ∷ opened ∷ x.front;
-    inner = x.inner;
-    split = e ∙ ap (λ ys. word ∷ opened ∷ ys) x.split;
-    opens = in_for_declaration word opened x.front refl k o x.opens;
-    excess = x.excess;
-  })
-  for_parts_deeper xs rest word opened t e k o (in_first (other_deep (one_deep x))) = in_expression (record {
-    front = word ∷ opened ∷ x.front;
-    inner = x.inner;
-    split = e ∙ ap (λ ys. word ∷ opened ∷ ys) x.split;
-    opens = in_for_first word opened x.front refl k o x.opens;
-    excess = x.excess;
-  })
-  for_parts_deeper xs rest word opened t e k o (in_first (other_deep (other_deep x))) = nowhere rest t x
-  for_parts_deeper xs rest word opened t e k o (in_second start back s b w d) = on d.deep where
-    m : IsSymbol (codes ";") d.token
-    m = symbol_token (codes ";") d.token d.value d.passes
-
-    on : ThenDeep (EitherDeep X Nowhere) MaybeE (λ v. HeadedDeep (symbol_at (codes ";")) (EitherDeep (IsExcessBehind OpensSimple X) Nowhere)) d.back t → Excess xs t
-    on (in_first (one_deep x)) = in_expression (record {
-      front = word ∷ opened ∷ (start ++ (d.token ∷ []));
-      inner = d.back;
-      split = e ∙ ap (λ ys. word ∷ opened ∷ ys) (b ∙ (ap (λ ys. start ++ ys) d.split ∙ sym (append_assoc start (d.token ∷ []) d.back)));
-      opens = in_for_test word opened start d.token refl k o (for_first start s w) m;
-      excess = x;
-    })
-    on (in_first (other_deep x)) = nowhere d.back t x
-    on (in_second middle left test z v u) = last u.deep where
-      last : EitherDeep (IsExcessBehind OpensSimple X) Nowhere u.back t → Excess xs t
-      last (other_deep x) = nowhere u.back t x
-      last (one_deep x) = in_expression (record {
-        front = word ∷ opened ∷ (start ++ (d.token ∷ (middle ++ (u.token ∷ x.front))));
-        inner = x.inner;
-        split = e ∙ ap (λ ys. word ∷ opened ∷ ys) (b ∙ (ap (λ ys. start ++ ys) (d.split ∙ ap (λ ys. d.token ∷ ys) (z ∙ (ap (λ ys. middle ++ ys) (u.split ∙ ap (λ ys. u.token ∷ ys) x.split)
-            ∙ sym (append_assoc middle (u.token ∷ x.front) x.inner)))) ∙ sym (append_assoc start (d.token ∷ (middle ++ (u.token ∷ x.front))) x.inner)));
-        opens = in_for_last word opened start d.token middle u.token x.front refl k o (for_first start s w) m (maybe_whole middle test v) (symbol_token (codes ";") u.token u.value u.passes) x.opens;
-        excess = x.excess;
-      })
-
-  for_deeper : (xs : List Token) (t : Token) → ForDeep xs t → Excess xs t
-  for_deeper xs t (in_first d) = for_parts_deeper xs d.deep.inner d.token d.deep.opened t (d.split ∙ ap (λ ys. d.token ∷ ys) d.deep.split) (keyword_token (codes "for") d.token d.value d.passes) d.deep.opens d.deep.deep
-  for_deeper xs t (in_second front back h e w d) = let p = parts_of front h w in
-      under_for p.t p.opened p.start p.first_mark p.middle p.second_mark p.end p.closed back (for_split xs front back h e p) p.is_for p.opens (for_first p.start h.1.0 p.starts) p.marks (maybe_whole p.middle h.1.1.0 p.tests) p.marks_again
-      (maybe_simple p.end h.1.1.1 p.ends) p.closes d
-
-  return_deeper : (xs : List Token) (t : Token) → ReturnDeep xs t → Excess xs t
-  return_deeper xs t d = on d.deep where
-    on : EitherDeep X Nowhere d.back t → Excess xs t
-    on (one_deep x) = in_expression (record { front = d.token ∷ []; inner = d.back; split = d.split; opens = in_return d.token refl (keyword_token (codes "return") d.token d.value d.passes); excess = x })
-    on (other_deep x) = nowhere d.back t x
-
-  arguments_more : (xs : List Token) (values : List Expr) (a : Expr) (front : List Token) (comma : Token) → IsArgumentList xs values → IsComma comma → IsWhole front a → IsArgumentList (xs ++ (comma ∷ front)) (values ++ a ∷ [])
-  arguments_more xs [] a front comma w c v = elim w [ ]
-  arguments_more xs (b ∷ []) a front comma (last_argument w) c v = next_argument xs comma front refl c w (last_argument v)
-  arguments_more xs (b ∷ more) a front comma (next_argument one m rest e d w l) c v =
-      next_argument one m (rest ++ (comma ∷ front)) (ap (λ ys. ys ++ (comma ∷ front)) e ∙ append_assoc one (m ∷ rest) (comma ∷ front)) d w (arguments_more rest more a front comma l c v)
-
-  -- a list of values is printed, and then a comma
-  printed_more : (xs ys : List Token) (values : List Expr) (a : Expr) (front : List Token) (comma : Token) → IsPrinted xs values → xs ++ (comma ∷ front) ≡ ys → IsComma comma → IsWhole front a → IsPrinted ys (values ++ a ∷ [])
-  printed_more xs ys [] a front comma (nothing_printed z) e c w = values_printed comma front (sym e ∙ ap (λ zs. zs ++ (comma ∷ front)) z) c (last_argument w)
-  printed_more xs ys values a front comma (values_printed m back z d l) e c w =
-      values_printed m (back ++ (comma ∷ front)) (sym e ∙ ap (λ zs. zs ++ (comma ∷ front)) z) d (arguments_more back values a front comma l c w)
-
-  printed_place : (xs before rest : List Token) (values : List Expr) (word opened string : Token) (bytes : List ℕ) (t : Token) → xs ≡ word ∷ opened ∷ string ∷ (before ++ rest) → IsKeyword (codes "printf") word → IsOpen opened
-      → string.what ≡ kinds.Text bytes → IsPrinted before values → FollowDeep IsWhole X rest t → Excess xs t
-  printed_place xs before rest values word opened string bytes t e k o b w (here m front z c x) = in_expression (record {
-    front = word ∷ opened ∷ string ∷ (before ++ (m ∷ []));
-    inner = front;
-    split = e ∙ ap (λ ys. word ∷ opened ∷ string ∷ ys) (ap (λ ys. before ++ ys) z ∙ sym (append_assoc before (m ∷ []) front));
-    opens = in_print word opened string bytes before m refl k o b w c;
-    excess = x;
-  })
-  printed_place xs before rest values word opened string bytes t e k o b w (there a m front back z c v d) =
-      printed_place xs (before ++ (m ∷ front)) back (values ++ a ∷ []) word opened string bytes t
-      (e ∙ ap (λ ys. word ∷ opened ∷ string ∷ ys) (ap (λ ys. before ++ ys) z ∙ sym (append_assoc before (m ∷ front) back))) k o b (printed_more before (before ++ (m ∷ front)) values a front m w refl c v) d
-
-  print_deeper : (xs : List Token) (t : Token) → PrintDeep xs t → Excess xs t
-  print_deeper xs t d = on d.deep.deep.deep where
-    string : HeadedDeep text_at PrintedDeep d.deep.inner t
-    string = d.deep.deep
-
-    on : PrintedDeep string.back t → Excess xs t
-    on (in_first f) = printed_place xs [] string.back [] d.token d.deep.opened string.token string.value t (d.split ∙ ap (λ ys. d.token ∷ ys) (d.deep.split ∙ ap (λ ys. d.deep.opened ∷ ys) string.split))
-        (keyword_token (codes "printf") d.token d.value d.passes) d.deep.opens (text_is string.token.what string.value string.passes) (nothing_printed refl) f
-    on (in_second front back values e w h) = nowhere h.back t h.deep
-
-  jump_deeper : (word : List ℕ) (xs : List Token) (t : Token) → JumpDeep word xs t → Excess xs t
-  jump_deeper word xs t d = nowhere d.back t d.deep
-
-  directed_deeper : (xs front back : List Token) (d : Directive) (line : ℕ) (t : Token) → xs ≡ front ++ back → LinedPragma front (d, line) → DirectedDeep (d, line) back t → Excess xs t
-  directed_deeper xs front back (directive.Task m) line t e w x = under_task front back e w.is x
-  directed_deeper xs front back (directive.TaskWait sections) line t e w x = nowhere back t x
-  directed_deeper xs front back (directive.Release clauses) line t e w x = nowhere back t x
-
-  pragma_deeper : (xs : List Token) (t : Token) → PragmaDeep xs t → Excess xs t
-  pragma_deeper xs t (in_first x) = in_expression (record { front = x.front; inner = x.inner; split = x.split; opens = in_pragma x.opens; excess = x.excess })
-  pragma_deeper xs t (in_second front back d e w x) = directed_deeper xs front back d.0 d.1 t e w x
-
-  all_deeper : (xs : List Token) (t : Token) → AllDeep xs t → Excess xs t
-  all_deeper xs t (one_deep d) = IsStatementExcess.in_block d.token d.back d.split (symbol_token (codes "{") d.token d.value d.passes) d.deep
-  all_deeper xs t (other_deep (one_deep d)) = nowhere xs t d
-  all_deeper xs t (other_deep (other_deep (one_deep d))) = simple_deeper xs t d
-  all_deeper xs t (other_deep (other_deep (other_deep (one_deep d)))) = if_deeper xs t d
-  all_deeper xs t (other_deep (other_deep (other_deep (other_deep (one_deep d))))) = while_deeper xs t d
-  all_deeper xs t (other_deep (other_deep (other_deep (other_deep (other_deep (one_deep d)))))) = for_deeper xs t d
-  all_deeper xs t (other_deep (other_deep (other_deep (other_deep (other_deep (other_deep (one_deep d))))))) = return_deeper xs t d
-  all_deeper xs t (other_deep (other_deep (other_deep (other_deep (other_deep (other_deep (other_deep (one_deep d)))))))) = jump_deeper (codes "break") xs t d
-  all_deeper xs t (other_deep (other_deep (other_deep (other_deep (other_deep (other_deep (other_deep (other_deep (one_deep d))))))))) = jump_deeper (codes "continue") xs t d
-  all_deeper xs t (other_deep (other_deep (other_deep (other_deep (other_deep (other_deep (other_deep (other_deep (other_deep (one_deep d)))))))))) = print_deeper xs t d
-  all_deeper xs t (other_deep (other_deep (other_deep (other_deep (other_deep (other_deep (other_deep (other_deep (other_deep (other_deep d)))))))))) = pragma_deeper xs t d
-
-  -- a limit of the grammar is one at which reading stops
-  in_head : (s : List ℕ) (xs before inner : List Token) (w opened : Token) (t : Token) → xs ≡ before ++ inner → before ≡ w ∷ opened ∷ [] → IsKeyword s w → IsOpen opened → X inner t → HeadDeep s xs t
-  in_head s xs before inner w opened t e b k o x = record {
-    token = w;
-    back = opened ∷ inner;
-    value = w.line;
-    split = e ∙ ap (λ ys. ys ++ inner) b;
-    passes = keyword_value s w k;
-    deep = record { opened = opened; inner = inner; split = refl; opens = o; deep = x };
-  }
-
-  in_for_parts : (xs before inner rest : List Token) (w opened : Token) (t : Token) → xs ≡ before ++ inner → before ≡ w ∷ opened ∷ rest → IsKeyword (codes "for") w → IsOpen opened → ForPartsDeep (rest ++ inner) t → AllDeep xs t
-  in_for_parts xs before inner rest w opened t e b k o d = other_deep (other_deep (other_deep (other_deep (other_deep (one_deep (in_first (record {
-    token = w;
-    back = opened ∷ (rest ++ inner);
-    value = w.line;
-    split = e ∙ ap (λ ys. ys ++ inner) b;
-    passes = keyword_value (codes "for") w k;
-    deep = record { opened = opened; inner = rest ++ inner; split = refl; opens = o; deep = d };
-  })))))))
-
-  list_place : (m : Token) (xs : List Token) (values : List Expr) (comma : Token) (inner : List Token) (t : Token) → IsComma m → IsArgumentList xs values → IsComma comma → X inner t → FollowDeep IsWhole X (m ∷ (xs ++ (comma ∷ inner))) t
-  list_place m xs [] comma inner t d w c x = elim w [ ]
-  list_place m xs (a ∷ []) comma inner t d (last_argument w) c x = there a m xs (comma ∷ inner) refl d w (here comma inner refl c x)
-  list_place m xs (a ∷ more) comma inner t d (next_argument one k rest e l w v) c x =
-      there a m one (k ∷ (rest ++ (comma ∷ inner))) (ap (λ ys. m ∷ (ys ++ (comma ∷ inner))) e ∙ ap (λ ys. m ∷ ys) (append_assoc one (k ∷ rest) (comma ∷ inner))) d w (list_place k rest more comma inner t l v c x)
-
-  printed_at : (xs : List Token) (values : List Expr) (comma : Token) (inner : List Token) (t : Token) → IsPrinted xs values → IsComma comma → X inner t → FollowDeep IsWhole X (xs ++ (comma ∷ inner)) t
-  printed_at xs [] comma inner t (nothing_printed z) c x = here comma inner (ap (λ ys. ys ++ (comma ∷ inner)) z) c x
-  printed_at xs values comma inner t (values_printed m back z d w) c x = subst (λ ys. FollowDeep IsWhole X (ys ++ (comma ∷ inner)) t) (sym z) (list_place m back values comma inner t d w c x)
-
-  opens_upper : (xs before inner : List Token) (t : Token) → xs ≡ before ++ inner → X inner t → OpensStatement before → AllDeep xs t
-  opens_upper xs before inner t e x (OpensStatement.in_simple o) = other_deep (other_deep (one_deep (record { front = before; inner = inner; split = e; opens = o; excess = x })))
-  opens_upper xs before inner t e x (in_if_test w opened b k o) = other_deep (other_deep (other_deep (one_deep (in_first (in_head (codes "if") xs before inner w opened t e b k o x)))))
-  opens_upper xs before inner t e x (in_while_test w opened b k o) = other_deep (other_deep (other_deep (other_deep (one_deep (in_first (in_head (codes "while") xs before inner w opened t e b k o x))))))
-  opens_upper xs before inner t e x (in_for_declaration w opened front b k o d) =
-      in_for_parts xs before inner front w opened t e b k o (in_first (one_deep (record { front = front; inner = inner; split = refl; opens = d; excess = x })))
-  opens_upper xs before inner t e x (in_for_first w opened front b k o d) =
-      in_for_parts xs before inner front w opened t e b k o (in_first (other_deep (one_deep (record { front = front; inner = inner; split = refl; opens = d; excess = x }))))
-  opens_upper xs before inner t e x (in_for_test {first = f} w opened start m b k o a c) =
-      in_for_parts xs before inner (start ++ (m ∷ [])) w opened t e b k o
-      (in_second start (m ∷ inner) f (append_assoc start (m ∷ []) inner) (first_for start f a) (record { token = m; back = inner; value = m.line; split = refl; passes = symbol_value (codes ";") m c; deep = in_first (one_deep x) }))
-  opens_upper xs before inner t e x (in_for_last {first = f} {test = test} w opened start m middle other front b k o a c v d l) =
-      in_for_parts xs before inner (start ++ (m ∷ (middle ++ (other ∷ front)))) w opened t e b k o
-      (in_second start (m ∷ (middle ++ (other ∷ (front ++ inner)))) f
-      (append_assoc start (m ∷ (middle ++ (other ∷ front))) inner ∙ ap (λ ys. start ++ (m ∷ ys)) (append_assoc middle (other ∷ front) inner)) (first_for start f a)
-      (record {
-        token = m;
-        back = middle ++ (other ∷ (front ++ inner));
-        value = m.line;
-        split = refl;
-        passes = symbol_value (codes ";") m c;
-        deep = in_second middle (other ∷ (front ++ inner)) test refl (whole_maybe middle test v) (record {
-          token = other;
-          back = front ++ inner;
-          value = other.line;
-          split = refl;
-          passes = symbol_value (codes ";") other d;
-          deep = one_deep (record { front = front; inner = inner; split = refl; opens = l; excess = x });
-        });
-      }))
-  opens_upper xs before inner t e x (in_return w b k) =
-      other_deep (other_deep (other_deep (other_deep (other_deep (other_deep (one_deep (record { token = w; back = inner; value = w.line; split = e ∙ ap (λ ys. ys ++ inner) b; passes = keyword_value (codes "return") w k; deep = one_deep x })))))))
-  opens_upper xs before inner t e x (in_print {values = values} w opened string bytes printed comma b k o s p c) =
-      other_deep (other_deep (other_deep (other_deep (other_deep (other_deep (other_deep (other_deep (other_deep (one_deep (record {
-        token = w;
-        back = opened ∷ string ∷ ((printed ++ (comma ∷ [])) ++ inner);
-        value = w.line;
-        split = e ∙ ap (λ ys. ys ++ inner) b;
-        passes = keyword_value (codes "printf") w k;
-        deep = record {
-          opened = opened;
-          inner = string ∷ ((printed ++ (comma ∷ [])) ++ inner);
-          split = refl;
-          opens = o;
-          deep = record {
-            token = string;
-            back = (printed ++ (comma ∷ [])) ++ inner;
-            value = bytes;
-            split = refl;
-            passes = text_value string bytes s;
-            deep = in_first (subst (λ ys. FollowDeep IsWhole X ys t) (sym (append_assoc printed (comma ∷ []) inner)) (printed_at printed values comma inner t p c x));
-          };
-        };
-      }))))))))))
-  opens_upper xs before inner t e x (in_pragma o) =
-      other_deep (other_deep (other_deep (other_deep (other_deep (other_deep (other_deep (other_deep (other_deep (other_deep (in_first (record { front = before; inner = inner; split = e; opens = o; excess = x })))))))))))
-
-  all_upper : (xs : List Token) (t : Token) → Excess xs t → AllDeep xs t
-  all_upper xs t (in_expression x) = opens_upper xs x.front x.inner t x.split x.excess x.opens
-  all_upper xs t (IsStatementExcess.in_block opened front e b d) = one_deep (record { token = opened; back = front; value = opened.line; split = e; passes = symbol_value (codes "{") opened b; deep = d })
-  all_upper xs t (under_if {test = test} w opened inner closed front e k o v c d) =
-      other_deep (other_deep (other_deep (one_deep (in_second (w ∷ opened ∷ (inner ++ (closed ∷ []))) front (w.line, test) (split_of_head xs w opened inner closed front e) (head_of (codes "if") w opened inner closed test k o c v) (in_one d)))))
-  all_upper xs t (under_else {test = test} {s = s} w opened inner closed middle other front e k o v c u l d) =
-      other_deep (other_deep (other_deep (one_deep (in_second (w ∷ opened ∷ (inner ++ (closed ∷ []))) (middle ++ (other ∷ front)) (w.line, test) (split_of_head xs w opened inner closed (middle ++ (other ∷ front)) e)
-      (head_of (codes "if") w opened inner closed test k o c v) (in_other s middle other front refl u (is_otherwise other l) d)))))
-  all_upper xs t (under_while {test = test} w opened inner closed front e k o v c d) =
-      other_deep (other_deep (other_deep (other_deep (one_deep (in_second (w ∷ opened ∷ (inner ++ (closed ∷ []))) front (w.line, test) (split_of_head xs w opened inner closed front e) (head_of (codes "while") w opened inner closed test k o c v) d)))))
-  all_upper xs t (under_for {first = f} {test = test} {last = l} w opened start m middle other end closed front e k o a c v z u b d) =
-      other_deep (other_deep (other_deep (other_deep (other_deep (one_deep (in_second (w ∷ opened ∷ (start ++ (m ∷ (middle ++ (other ∷ (end ++ (closed ∷ []))))))) front (w.line, (f, (test, l)))
-      (split_of_for xs w opened start m middle other end closed front e) (for_head_of f test l w opened start m middle other end closed k o c z b a v u) d))))))
-  all_upper xs t (under_task {mark = m} front back e p d) =
-      other_deep (other_deep (other_deep (other_deep (other_deep (other_deep (other_deep (other_deep (other_deep (other_deep (in_second front back (directive.Task m, first_line front) e (record { is = p; at = refl }) d))))))))))
-
-  -- a statement is read exactly
-  pub statement_ending : Ending otherwise (read_statement expression pragma items sub) IsAnyStmt (IsStmt false) (IsStatementExcess X (suc n))
-  statement_ending = ending_as otherwise into_all (λ xs s w. out_all w.ends_open xs s w.is) into_closed out_closed all_deeper all_upper (forms.all_forms part first directed first_directed inside brace_ends below first_below).ending
-
-  pub begun_statement : Begun (read_statement expression pragma items sub) begins_statement
-  begun_statement = (forms.all_forms part first directed first_directed inside brace_ends below first_below).first

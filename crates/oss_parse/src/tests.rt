@@ -70,6 +70,10 @@ fn texts_are_refused(rt: HostRuntime) -> Result<(), Fail> {
             (RefusedKind::Syntax, 2, 9),
         ),
         ("int main() { } }", (RefusedKind::Syntax, 1, 6)),
+        (
+            "long x;\n#pragma oss task\nlong y;",
+            (RefusedKind::Syntax, 3, 8),
+        ),
     ] {
         let refused = match parsed(&rt, alloc, text.as_bytes())? {
             Ok(_) => None,

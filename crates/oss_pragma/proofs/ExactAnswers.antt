@@ -1,5 +1,5 @@
 -- What the two calls tell is the answer of the grammar.
-use Rattle.std.proofs.Common.{arith, ◌≡◌, ◌≤◌, ◌+◌, ℕ, suc, List, ◌∷◌, ◌++◌, length, ap, ◌∙◌, Result}
+use Rattle.std.proofs.Common.{arith, ◌≡◌, ◌≤◌, ◌+◌, ℕ, suc, List, ◌∷◌, length, ap, ◌∙◌, Result}
 use Rattle.std.proofs.lemmas.List.{length-append}
 use Rattle.oss_syntax.specs.declared.token.Token.{Token}
 use Rattle.oss_syntax.specs.declared.tree.expr.Expr.{Expr}

@@ -1,9 +1,9 @@
 -- Expressions are read exactly, with so many levels, and with the limits that the language has; and tokens stand for one expression
 -- at most.
-use Rattle.std.proofs.Common.{arith, ◌≡◌, ◌≤◌, ◌<◌, ◌+◌, ◌==◌, if◌then◌else◌, ℕ, zero, suc, Bool, true, false, ◌||◌, List, [], ◌∷◌, ◌++◌, length, refl, sym, ap, ◌∙◌, subst, append_assoc, Option, Some, None, is_some, Result, Ok, Err}
+use Rattle.std.proofs.Common.{arith, ◌≡◌, ◌≤◌, ◌<◌, ◌+◌, ◌==◌, if◌then◌else◌, ℕ, zero, suc, Bool, true, false, ◌||◌, List, [], ◌∷◌, ◌++◌, length, refl, sym, ap, ◌∙◌, subst, append_assoc, Option, Some, None, is_some, Err}
 use Rattle.std.specs.Prelude.{codes}
 use Rattle.std.proofs.lemmas.Bool.Decides.{nat_tests}
-use Rattle.std.proofs.lemmas.List.{append-nil, length-append}
+use Rattle.std.proofs.lemmas.List.{length-append}
 use Rattle.oss_syntax.specs.declared.token.Token.{Token}
 use Rattle.oss_syntax.specs.declared.token.TokenKind.{TokenKind}
 use Rattle.oss_syntax.specs.declared.token.TokenKind.TheVariants as kinds
@@ -12,16 +12,14 @@ use Rattle.oss_syntax.specs.declared.tree.expr.BinOp.TheVariants as op
 use Rattle.oss_syntax.specs.declared.tree.expr.Expr.{Expr}
 use Rattle.oss_syntax.specs.declared.tree.expr.ExprKind.TheVariants as exprs
 use Rattle.oss_syntax.specs.declared.tree.expr.UnOp.{UnOp}
-use Rattle.oss_model.specs.Expressions.{IsExpr, IsWhole, IsArguments, primary_level, postfix_level, prefix_level, loosest_level, prefix_of, operator_of}
+use Rattle.oss_model.specs.Expressions.{IsExpr, IsWhole, primary_level, prefix_level, loosest_level, prefix_of, operator_of}
 use Rattle.oss_model.specs.Expressions.IsExpr.{number, name, call, brackets, index, prefixed, joined, tighter}
-use Rattle.oss_model.specs.Expressions.IsArguments.{arguments}
-use Rattle.oss_model.specs.Expressions.IsArgumentList.{last_argument}
 use Rattle.oss_model.specs.Fronts.{Viable}
 use Rattle.oss_model.specs.Levels.{Begins, IsExpressionExcess, is_operator}
 use Rattle.oss_model.specs.Levels.Begins.{at_once, in_brackets, in_first_argument, in_later_argument, in_index, under_prefix, on_the_right, in_tighter}
 use Rattle.oss_model.specs.Levels.IsExpressionExcess.{too_deep, too_long}
 use Rattle.oss_model.specs.OneToken.{is_symbol, IsOpen}
-use Rattle.oss_model.specs.Reading.{Stop, Reader, begins, has, never, one_of, read_then, read_too_deep}
+use Rattle.oss_model.specs.Reading.{Reader, begins, has, one_of, read_then, read_too_deep}
 use Rattle.oss_model.specs.Reading.Stop.{Syntax}
 use Rattle.oss_model.specs.Refusals.{HasOneValue}
 use Rattle.oss_model.proofs.AnswerLemmas.{one_value}
@@ -30,11 +28,11 @@ use Rattle.oss_model.proofs.CountedLemmas.CountedDeep.{in_part, one_more}
 use Rattle.oss_model.proofs.Parts.{Exact, Begun, exact_as, exact_before, exact_same}
 use Rattle.oss_model.proofs.PartLemmas.{exact_too_deep, begun_too_deep}
 use Rattle.oss_model.proofs.StepLemmas.{fewer_go}
-use Rattle.oss_pragma.specs.ExpressionReading.{read_prefixed, read_levels, read_operations, read_unary, read_whole, read_expression, binary_levels}
+use Rattle.oss_pragma.specs.ExpressionReading.{read_prefixed, read_levels, read_operations, read_unary, read_whole, read_expression}
 use Rattle.oss_pragma.specs.TokenValues.{symbol_at, name_at, number_at, prefix_at, named_in, number_in, signed_in, operator_at, of_level, begins_expression}
 use Rattle.oss_pragma.proofs.LevelLemmas.{exact_level, begun_level}
 use Rattle.oss_pragma.proofs.OperandLemmas.{tight, exact_prefixed, begun_prefixed}
-use Rattle.oss_pragma.proofs.TokenLemmas.{goes_on, opening, index_opening, not_symbol, on_symbol}
+use Rattle.oss_pragma.proofs.TokenLemmas.{goes_on, opening, index_opening, not_symbol}
 
 -- the expressions that begin with a token that begins one
 lift : (c k : ℕ) (xs : List Token) (e : Expr) → IsExpr k xs e → IsExpr (c + k) xs e

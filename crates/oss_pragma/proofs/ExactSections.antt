@@ -368,21 +368,25 @@ module _ {expression : Reader Expr} {X : List Token → Token → Type 0} (part_
 
   section_into : (xs : List Token) (s : Section) → Sectioned xs s → IsSection xs s
   section_into xs s (one_way w) = let n = w.whole.behind in
-      subst (λ s. IsSection xs s) (ap (λ k. record { base = w.part.1.name; form = form.Deref; line = k }) (symbol_line (codes "*") w.whole.token w.part.0 w.whole.passes) ∙ w.made)
+      subst (λ s. IsSection xs s)
+      (ap (λ k. record { base = w.part.1.name; form = form.Deref; line = k; base_line = n.token.line }) (symbol_line (codes "*") w.whole.token w.part.0 w.whole.passes)
+      ∙ ap (λ k. record { base = w.part.1.name; form = form.Deref; line = w.part.0; base_line = k }) (sym (name_is n.token.what n.token.line w.part.1 n.passes).at) ∙ w.made)
       (pointed w.whole.token n.token w.part.1.name (w.whole.split ∙ ap (λ ys. w.whole.token ∷ ys) n.only) (symbol_token (codes "*") w.whole.token w.part.0 w.whole.passes) ((name_is n.token.what n.token.line w.part.1 n.passes).what))
   section_into xs s (other_way (one_way w)) = let b = w.whole.behind in let c = b.behind in let n = c.behind in
-      subst (λ s. IsSection xs s) (ap (λ k. record { base = w.part.1.1.1.name; form = form.Shape w.part.1.0; line = k }) (symbol_line (codes "[") w.whole.token w.part.0 w.whole.passes) ∙ w.made)
+      subst (λ s. IsSection xs s)
+      (ap (λ k. record { base = w.part.1.1.1.name; form = form.Shape w.part.1.0; line = k; base_line = n.token.line }) (symbol_line (codes "[") w.whole.token w.part.0 w.whole.passes)
+      ∙ ap (λ k. record { base = w.part.1.1.1.name; form = form.Shape w.part.1.0; line = w.part.0; base_line = k }) (sym (name_is n.token.what n.token.line w.part.1.1.1 n.passes).at) ∙ w.made)
       (shape w.whole.token b.front c.token n.token w.part.1.1.1.name
       (w.whole.split ∙ ap (λ ys. w.whole.token ∷ ys) (b.split ∙ ap (λ ys. b.front ++ ys) (c.split ∙ ap (λ ys. c.token ∷ ys) n.only)))
       (symbol_token (codes "[") w.whole.token w.part.0 w.whole.passes) (symbol_token (codes "]") c.token w.part.1.1.0 c.passes) ((name_is n.token.what n.token.line w.part.1.1.1 n.passes).what) b.before)
   section_into xs s (other_way (other_way w)) = based_into xs w.front w.back w.value s w.split w.before w.behind where
     based_into : (xs front back : List Token) (base : Named) (s : Section) → xs ≡ front ++ back → One name_at front base → Based base back s → IsSection xs s
     based_into xs front back base s e n (one_way w) =
-        subst (λ s. IsSection xs s) (ap (λ k. record { base = base.name; form = w.part; line = k }) (sym (name_is n.token.what n.token.line base n.passes).at) ∙ w.made)
+        subst (λ s. IsSection xs s) (ap (λ k. record { base = base.name; form = w.part; line = k; base_line = k }) (sym (name_is n.token.what n.token.line base n.passes).at) ∙ w.made)
         (part n.token base.name w.whole.opened w.whole.inner w.whole.closed (e ∙ (ap (λ ys. ys ++ back) n.only ∙ ap (λ ys. n.token ∷ ys) w.whole.split)) ((name_is n.token.what n.token.line base n.passes).what)
         w.whole.opens w.whole.closes w.whole.inside)
     based_into xs front back base s e n (other_way w) =
-        subst (λ s. IsSection xs s) (ap (λ k. record { base = base.name; form = form.Whole; line = k }) (sym (name_is n.token.what n.token.line base n.passes).at) ∙ w.same)
+        subst (λ s. IsSection xs s) (ap (λ k. record { base = base.name; form = form.Whole; line = k; base_line = k }) (sym (name_is n.token.what n.token.line base n.passes).at) ∙ w.same)
         (whole n.token base.name (e ∙ (ap (λ ys. ys ++ back) n.only ∙ ap (λ ys. n.token ∷ ys) w.nothing)) ((name_is n.token.what n.token.line base n.passes).what))
 
   one_name : (t : Token) (base : List ℕ) → t.what ≡ kinds.Name base → One name_at (t ∷ []) (record { name = base; line = t.line })
@@ -520,6 +524,6 @@ module _ {expression : Reader Expr} {X : List Token → Token → Type 0} (part_
 pub sections_viable : Viable IsSections []
 sections_viable = record {
   more = record { what = kinds.Name []; line = 0 } ∷ [];
-  value = record { base = []; form = form.Whole; line = 0 } ∷ [];
+  value = record { base = []; form = form.Whole; line = 0; base_line = 0 } ∷ [];
   member = last_section (whole (record { what = kinds.Name []; line = 0 }) [] refl refl);
 }

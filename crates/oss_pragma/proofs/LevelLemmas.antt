@@ -1,13 +1,9 @@
 -- Binary operators of one level are read exactly, if their operands are.
-use Rattle.std.proofs.Common.{arith, ◌≡◌, ◌≤◌, ◌<◌, ◌==◌, if◌then◌else◌, ℕ, zero, suc, Bool, true, false, ◌||◌, List, [], ◌∷◌, ◌++◌, refl, sym, ap, ◌∙◌, subst, append_assoc, Option, Some, None, is_some, Result, Ok, Err}
-use Rattle.std.specs.Prelude.{codes}
+use Rattle.std.proofs.Common.{arith, ◌≡◌, ◌==◌, if◌then◌else◌, ℕ, suc, Bool, true, false, ◌||◌, List, [], ◌∷◌, ◌++◌, refl, sym, ap, ◌∙◌, subst, append_assoc, Option, Some, None}
 use Rattle.std.proofs.lemmas.Bool.Decides.{nat_tests}
 use Rattle.std.proofs.lemmas.List.{append-nil}
 use Rattle.oss_syntax.specs.declared.token.Token.{Token}
-use Rattle.oss_syntax.specs.declared.token.TokenKind.{TokenKind}
-use Rattle.oss_syntax.specs.declared.token.TokenKind.TheVariants as kinds
 use Rattle.oss_syntax.specs.declared.tree.expr.BinOp.{BinOp}
-use Rattle.oss_syntax.specs.declared.tree.expr.BinOp.TheVariants as op
 use Rattle.oss_syntax.specs.declared.tree.expr.Expr.{Expr}
 use Rattle.oss_model.specs.Expressions.{IsExpr, operator_of}
 use Rattle.oss_model.specs.Expressions.IsExpr.{joined, tighter}
@@ -15,8 +11,8 @@ use Rattle.oss_model.specs.Fronts.{Viable}
 use Rattle.oss_model.specs.Grammar.{One, Both, Mapped}
 use Rattle.oss_model.specs.Levels.{Begins}
 use Rattle.oss_model.specs.Levels.Begins.{on_the_right, in_tighter}
-use Rattle.oss_model.specs.Reading.{Stop, Reader, begins, has, never, one_of, read_one, read_then, read_mapped, read_both, read_steps}
-use Rattle.oss_model.proofs.Parts.{Exact, Begun, exact_as, member_begins, deep_begins}
+use Rattle.oss_model.specs.Reading.{Reader, begins, has, never, one_of, read_one, read_then, read_mapped}
+use Rattle.oss_model.proofs.Parts.{Exact, Begun, exact_as}
 use Rattle.oss_model.proofs.PartLemmas.{Nowhere, nowhere, exact_one, begun_one, exact_mapped, begun_mapped, Then, ThenDeep, exact_then, begun_then}
 use Rattle.oss_model.proofs.PartLemmas.ThenDeep.{in_first, in_second}
 use Rattle.oss_model.proofs.PairLemmas.{exact_both, begun_both}

@@ -1,5 +1,5 @@
 -- Operands are read exactly, with an index behind them and prefixes before them, if the expressions in them are.
-use Rattle.std.proofs.Common.{◌≡◌, if◌then◌else◌, ℕ, suc, Bool, true, false, ◌||◌, List, [], ◌∷◌, ◌++◌, refl, sym, ap, ◌∙◌, subst, append_assoc, Option, Some, None, is_some, Result, Ok, Err}
+use Rattle.std.proofs.Common.{◌≡◌, if◌then◌else◌, ℕ, suc, Bool, true, false, ◌||◌, List, [], ◌∷◌, ◌++◌, refl, sym, ap, ◌∙◌, subst, Option, Some, None}
 use Rattle.std.specs.Prelude.{codes, nat_lt}
 use Rattle.std.proofs.lemmas.List.{append-nil}
 use Rattle.oss_syntax.specs.declared.token.Token.{Token}
@@ -18,17 +18,17 @@ use Rattle.oss_model.specs.Grammar.{One, Both, Mapped, Either}
 use Rattle.oss_model.specs.Grammar.Either.{one_way, other_way}
 use Rattle.oss_model.specs.Levels.{Begins}
 use Rattle.oss_model.specs.Levels.Begins.{in_index, under_prefix, on_the_right, in_tighter}
-use Rattle.oss_model.specs.OneToken.{is_symbol, IsIndexOpen, IsIndexClose}
-use Rattle.oss_model.specs.Reading.{Stop, Reader, begins, has, never, one_of, read_one, read_then, read_mapped, read_both, read_either, read_nothing}
-use Rattle.oss_model.proofs.Parts.{Exact, Begun, exact_as, exact_before, member_begins, deep_begins}
+use Rattle.oss_model.specs.OneToken.{is_symbol}
+use Rattle.oss_model.specs.Reading.{Reader, begins, has, never, one_of, read_one, read_mapped, read_both, read_either, read_nothing}
+use Rattle.oss_model.proofs.Parts.{Exact, Begun, exact_as, member_begins, deep_begins}
 use Rattle.oss_model.proofs.PartLemmas.{Nowhere, nowhere, exact_one, begun_one, exact_nothing, Nothing, exact_mapped, begun_mapped, Then, ThenDeep, exact_then, begun_then, EitherDeep, exact_either, begun_either}
 use Rattle.oss_model.proofs.PartLemmas.ThenDeep.{in_first, in_second}
 use Rattle.oss_model.proofs.PartLemmas.EitherDeep.{one_deep, other_deep}
-use Rattle.oss_model.proofs.PairLemmas.{exact_both, begun_both, some_text}
+use Rattle.oss_model.proofs.PairLemmas.{exact_both, begun_both}
 use Rattle.oss_model.proofs.StepLemmas.{none_goes, fewer_go}
-use Rattle.oss_pragma.specs.ExpressionReading.{latter, former, middle, indexed, prefixed_by, read_index, read_postfix, read_prefixed, read_primary}
+use Rattle.oss_pragma.specs.ExpressionReading.{middle, indexed, prefixed_by, read_index, read_postfix, read_prefixed}
 use Rattle.oss_pragma.specs.TokenValues.{symbol_at, name_at, number_at, prefix_at, signed_in, begins_expression}
-use Rattle.oss_pragma.proofs.TokenLemmas.{goes_on, opening, index_opening, index_closing, exact_symbol, exact_closed, begins_never, one_symbol, symbol_one, has_symbol, on_symbol, not_symbol}
+use Rattle.oss_pragma.proofs.TokenLemmas.{goes_on, opening, index_opening, index_closing, exact_symbol, exact_closed, one_symbol, symbol_one, has_symbol, on_symbol}
 use Rattle.oss_pragma.proofs.PrimaryLemmas.{exact_primary, begun_primary}
 
 -- a call may go on behind a name, and an index behind a primary expression

@@ -1,7 +1,7 @@
 -- What is told of a place in a list of tokens is the answer of the grammar there, if the reader is exact.
 use Rattle.std.proofs.Common.{arith, ◌≡◌, ◌≤◌, ◌+◌, ◌-◌, ℕ, Bool, List, [], ◌∷◌, ◌++◌, length, refl, sym, ap, ◌∙◌, subst, append_assoc, Result, Ok, Err}
 use Rattle.std.specs.Prelude.{take, drop}
-use Rattle.std.proofs.lemmas.List.{append-nil, length-append, length-drop, take-append-drop}
+use Rattle.std.proofs.lemmas.List.{length-append, length-drop, take-append-drop}
 use Rattle.std.proofs.Math.Seq.{drop-append_seam, take-append_seam}
 use Rattle.oss_syntax.specs.declared.token.Token.{Token}
 use Rattle.oss_model.specs.declared.refusal.Refusal.{Refusal}
@@ -12,7 +12,7 @@ use Rattle.oss_model.specs.Reading.{Stop}
 use Rattle.oss_model.specs.Reading.Stop.{Syntax, Deep}
 use Rattle.oss_model.specs.Refusals.{Language, IsRead, Refuses, IsAnswer, kind_of, is_in_pragma}
 use Rattle.oss_model.proofs.AnswerLemmas.{ok_answer, token_answer, end_answer, deep_answer}
-use Rattle.oss_model.proofs.Parts.{Taken, Stopped, Sunk, Exact, taken, stopped, sunk}
+use Rattle.oss_model.proofs.Parts.{Exact, taken, stopped, sunk}
 use Rattle.oss_pragma.specs.ToldAt.{IsToldAt, placed_in, refused_at, count_before, tokens_before}
 
 -- tokens that are cut in three

@@ -1,7 +1,6 @@
 -- Primary expressions are read exactly, if the expressions in them are.
-use Rattle.std.proofs.Common.{◌≡◌, ℕ, suc, Bool, true, false, ◌||◌, List, [], ◌∷◌, ◌++◌, refl, sym, ap, ◌∙◌, subst, append_assoc, ◌⊎◌, inl, inr, Option, Some, None, is_some, Result, Ok, Err}
+use Rattle.std.proofs.Common.{◌≡◌, ℕ, suc, Bool, true, false, ◌||◌, List, [], ◌∷◌, ◌++◌, refl, sym, ap, ◌∙◌, subst, append_assoc, Some, is_some}
 use Rattle.std.specs.Prelude.{codes}
-use Rattle.std.proofs.lemmas.List.{append-nil}
 use Rattle.oss_syntax.specs.declared.token.Token.{Token}
 use Rattle.oss_syntax.specs.declared.token.TokenKind.{TokenKind}
 use Rattle.oss_syntax.specs.declared.token.TokenKind.TheVariants as kinds
@@ -17,12 +16,12 @@ use Rattle.oss_model.specs.Grammar.Either.{one_way, other_way}
 use Rattle.oss_model.specs.Levels.{Begins}
 use Rattle.oss_model.specs.Levels.Begins.{in_brackets, in_first_argument, in_later_argument}
 use Rattle.oss_model.specs.OneToken.{IsOpen, IsClose, IsComma}
-use Rattle.oss_model.specs.Reading.{Stop, Reader, begins, has, never, one_of, read_one, read_then, read_mapped, read_both, read_either, read_nothing}
+use Rattle.oss_model.specs.Reading.{Reader, begins, has, never, one_of, read_one, read_mapped, read_both, read_either, read_nothing}
 use Rattle.oss_model.proofs.Parts.{Exact, Begun, exact_as, member_begins, deep_begins}
 use Rattle.oss_model.proofs.PartLemmas.{Nowhere, nowhere, exact_one, begun_one, exact_nothing, Nothing, exact_mapped, begun_mapped, Then, ThenDeep, exact_then, begun_then, EitherDeep, exact_either, begun_either}
 use Rattle.oss_model.proofs.PartLemmas.ThenDeep.{in_first, in_second}
 use Rattle.oss_model.proofs.PartLemmas.EitherDeep.{one_deep, other_deep}
-use Rattle.oss_model.proofs.PairLemmas.{exact_both, begun_both, some_text}
+use Rattle.oss_model.proofs.PairLemmas.{exact_both, begun_both}
 use Rattle.oss_model.proofs.StepLemmas.{none_goes}
 use Rattle.oss_pragma.specs.declared.cursor.Named.{Named}
 use Rattle.oss_pragma.specs.ExpressionReading.{latter, former, middle, named_expression, call_of, read_list, read_arguments, read_call, read_named, read_brackets, read_primary}

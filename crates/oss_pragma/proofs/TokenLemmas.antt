@@ -1,5 +1,5 @@
 -- What is so of single tokens: a token that is one thing is no other.
-use Rattle.std.proofs.Common.{◌≡◌, ℕ, Bool, true, false, ◌||◌, if◌then◌else◌, List, [], ◌∷◌, refl, sym, ap, ◌∙◌, subst, ◌⊎◌, inl, inr, Option, Some, None, is_some, Result}
+use Rattle.std.proofs.Common.{◌≡◌, ℕ, Bool, true, false, ◌||◌, if◌then◌else◌, List, [], ◌∷◌, refl, sym, ap, subst, Some, None, is_some, Result}
 use Rattle.std.specs.Prelude.{codes}
 use Rattle.std.specs.Str.{bytes_eq}
 use Rattle.std.proofs.lemmas.Slice.Eq.{bytes_eq-Decides}
@@ -12,7 +12,7 @@ use Rattle.oss_model.specs.Grammar.{One}
 use Rattle.oss_model.specs.Reading.{Stop, begins, has, never, read_one}
 use Rattle.oss_model.proofs.Parts.{Exact, exact_before}
 use Rattle.oss_model.proofs.PartLemmas.{Nowhere, exact_one}
-use Rattle.oss_pragma.specs.TokenValues.{symbol_at, word_at, keyword_at, begins_expression}
+use Rattle.oss_pragma.specs.TokenValues.{symbol_at, word_at, keyword_at}
 
 -- with these tokens an expression may go on: with the bracket of a call or of an index, and with a binary operator
 abbrev pub goes_on : Token → Bool

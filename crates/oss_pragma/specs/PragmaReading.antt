@@ -44,16 +44,16 @@ read_inner expression = read_either (has (symbol_at (codes ":"))) (read_span exp
 
 -- The trees of the forms of sections.
 abbrev pub whole_section : Named → Section
-whole_section base = record { base = base.name; form = form.Whole; line = base.line }
+whole_section base = record { base = base.name; form = form.Whole; line = base.line; base_line = base.line }
 
 abbrev pub pointed_section : ℕ × Named → Section
-pointed_section p = record { base = p.1.name; form = form.Deref; line = p.0 }
+pointed_section p = record { base = p.1.name; form = form.Deref; line = p.0; base_line = p.1.line }
 
 abbrev pub shape_section : ℕ × (Expr × (ℕ × Named)) → Section
-shape_section p = record { base = p.1.1.1.name; form = form.Shape p.1.0; line = p.0 }
+shape_section p = record { base = p.1.1.1.name; form = form.Shape p.1.0; line = p.0; base_line = p.1.1.1.line }
 
 abbrev pub part_section : Named → Form → Section
-part_section base cells = record { base = base.name; form = cells; line = base.line }
+part_section base cells = record { base = base.name; form = cells; line = base.line; base_line = base.line }
 
 -- "*" name
 unfoldable pub read_pointed : Reader Section

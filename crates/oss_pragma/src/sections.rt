@@ -92,9 +92,10 @@ fn pointed(alloc: Global, tokens: &mut Cursor<'_>) -> Result<Section, Unread>
     };
     match tokens.name(alloc) {
         Ok(base) => Ok(Section {
-            base: base.name,
             form: Form::Deref,
             line,
+            base_line: base.line,
+            base: base.name,
         }),
         Err(unread) => Err(unread),
     }
@@ -119,9 +120,10 @@ fn shape(alloc: Global, tokens: &mut Cursor<'_>) -> Result<Section, Unread>
     }
     match tokens.name(alloc) {
         Ok(base) => Ok(Section {
-            base: base.name,
             form: Form::Shape(count),
             line,
+            base_line: base.line,
+            base: base.name,
         }),
         Err(unread) => Err(unread),
     }
@@ -142,9 +144,10 @@ fn part(alloc: Global, base: Named, tokens: &mut Cursor<'_>) -> Result<Section, 
     };
     match tokens.symbol(b"]") {
         Ok(_) => Ok(Section {
-            base: base.name,
             form,
             line: base.line,
+            base_line: base.line,
+            base: base.name,
         }),
         Err(unread) => Err(unread),
     }
@@ -163,9 +166,10 @@ fn based(alloc: Global, tokens: &mut Cursor<'_>) -> Result<Section, Unread>
         return part(alloc, base, tokens);
     }
     Ok(Section {
-        base: base.name,
         form: Form::Whole,
         line: base.line,
+        base_line: base.line,
+        base: base.name,
     })
 }
 

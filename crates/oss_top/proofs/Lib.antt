@@ -1,5 +1,1 @@
-pub mod FormLemmas
 pub mod ReplyLemmas
-pub mod RuleLemmas
-pub mod ScalarLemmas
-pub mod UnreadLemmas

@@ -1,27 +1,89 @@
--- From the causes of each status: which one comes.
-use Rattle.std.proofs.Common.{◌≡◌, ◌≢◌, ℕ, zero, suc, ◌<◌, ◌≤◌, List, length, Option, Some, None, refl, sym, ◌∙◌, arith, ◌⊎◌, inl, inr}
+-- A text has one reply at most, and from the causes of each status which one comes.
+use Rattle.std.proofs.Common.{◌≡◌, ◌≢◌, ℕ, zero, suc, ◌<◌, ◌≤◌, Bool, true, false, List, [], length, Option, Some, None, refl, sym, ap, ◌∙◌, subst, arith, ◌⊎◌, inl, inr}
 use Rattle.std.specs.Prelude.{IfSome}
 use Rattle.oss_io.specs.Faults.{Rises}
 use Rattle.oss_syntax.specs.declared.tree.program.Program.{Program}
-use Rattle.oss_top.specs.CommandWords.{file_in}
-use Rattle.oss_model.specs.declared.answer.Answer.{Answer}
-use Rattle.oss_model.specs.declared.answer.Answer.TheVariants.{Done, Fault}
-use Rattle.oss_model.specs.Scalars.{answer_of}
-use Rattle.oss_top.specs.Reply.{IsReply, IsFileReply, IsUnwritten, IsComplete, IsDone, IsFault, OfText, Ran, most_bytes, run_fuel, status_of}
+use Rattle.oss_model.specs.declared.refusal.Refused.{Refused}
+use Rattle.oss_model.specs.Broken.{first}
+use Rattle.oss_model.specs.Built.{is_built}
+use Rattle.oss_model.specs.Parsing.{IsParsedOnce}
+use Rattle.oss_model.specs.ProgramRules.{program_rules, refusal_of}
+use Rattle.oss_model.specs.Texts.{refusal_line}
+use Rattle.oss_parse.proofs.OneProgram.{parsed_once}
+use Rattle.oss_top.specs.CommandWords.{Command, asked_of, file_of}
+use Rattle.oss_top.specs.CommandWords.Command.{run, check}
+use Rattle.oss_top.specs.Once.{IsRepliedOnce}
+use Rattle.oss_top.specs.ProgramTexts.{Accepts, Refuses}
+use Rattle.oss_top.specs.ProgramTexts.Refuses.{by_grammar, by_rules}
+use Rattle.oss_top.specs.Reply.{Is, IsReply, IsFileReply, IsTextReply, IsProgramReply, IsUnwritten, IsComplete, OfText, most_bytes}
+use Rattle.oss_top.specs.Reply.IsProgramReply.{checked, ran, not_built}
+use Rattle.oss_top.specs.Reply.IsTextReply.{accepted, refused_text}
 use Rattle.oss_top.specs.Reply.IsFileReply.{too_large, fits}
 use Rattle.oss_top.specs.Reply.IsUnwritten.{no_output, no_errors}
-use Rattle.oss_top.specs.ScalarForm.{Accepts, Refuses}
+
+-- two replies that are the same three
+same : {s t u : ℕ} {o p q e f g : List ℕ} → Is u q g s o e → Is u q g t p f → Is s o e t p f
+same (a, b, c) (x, y, z) = (x ∙ sym a, y ∙ sym b, z ∙ sym c)
+
+not_both : (b : Bool) → b ≡ true → b ≡ false → ⊥
+not_both b t f = absurd (cc)
+
+one_some : (r other : Refused) (o : Option Refused) → o ≡ Some r → o ≡ Some other → r ≡ other
+one_some r other o a b = cc
+
+program_once : (c : Command) (p : Program) (s t : ℕ) (o e q f : List ℕ) → IsProgramReply c p s o e → IsProgramReply c p t q f → Is s o e t q f
+program_once c p s t o e q f (checked x) (checked y) = same x y
+program_once c p s t o e q f (ran b x) (ran c y) = same x y
+program_once c p s t o e q f (ran b x) (not_built n y) = absurd (not_both (is_built p) b n)
+program_once c p s t o e q f (not_built n x) (ran b y) = absurd (not_both (is_built p) b n)
+program_once c p s t o e q f (not_built n x) (not_built m y) = same x y
+
+module _ (text : List ℕ) (once : IsParsedOnce text) where
+  -- a text that is accepted is not refused
+  no_refusal : (p : Program) (r : Refused) → Accepts text p → Refuses text r → ⊥
+  no_refusal p r a (by_grammar w) = once.no_both p r a.is_text w
+  no_refusal p r a (by_rules q w e) =
+      let is : refusal_of p ≡ Some r = subst (λ z. refusal_of z ≡ Some r) (once.one_program q p w a.is_text) e in
+      let none : refusal_of p ≡ None = ap first a.obeys in
+      absurd (cc)
+
+  -- and it is refused for one reason
+  refused_once : (r other : Refused) → Refuses text r → Refuses text other → r ≡ other
+  refused_once r other (by_grammar v) (by_grammar w) = once.one_refusal r other v w
+  refused_once r other (by_grammar v) (by_rules q w e) = absurd (once.no_both q r w v)
+  refused_once r other (by_rules p v d) (by_grammar w) = absurd (once.no_both p other v w)
+  refused_once r other (by_rules p v d) (by_rules q w e) =
+      one_some r other (refusal_of p) d (subst (λ z. refusal_of z ≡ Some other) (once.one_program q p w v) e)
+
+  text_once : (c : Command) (s t : ℕ) (o e q f : List ℕ) → IsTextReply c text s o e → IsTextReply c text t q f → Is s o e t q f
+  text_once c s t o e q f (accepted p a x) (accepted p' b y) =
+      program_once c p s t o e q f x (subst (λ z. IsProgramReply c z t q f) (once.one_program p' p b.is_text a.is_text) y)
+  text_once c s t o e q f (accepted p a x) (refused_text r w y) = absurd (no_refusal p r a w)
+  text_once c s t o e q f (refused_text r w x) (accepted p a y) = absurd (no_refusal p r a w)
+  text_once c s t o e q f (refused_text r v x) (refused_text r' w y) =
+      same x (subst (λ z. Is 3 [] (refusal_line_of z) t q f) (refused_once r' r w v) y) where
+        refusal_line_of : Refused → List ℕ
+        refusal_line_of z = refusal_line z.kind z.line
+
+  file_once : (c : Command) (s t : ℕ) (o e q f : List ℕ) → IsFileReply c text s o e → IsFileReply c text t q f → Is s o e t q f
+  file_once c s t o e q f (too_large m x) (too_large n y) = same x y
+  file_once c s t o e q f (too_large m x) (fits n y) = absurd (omega arith)
+  file_once c s t o e q f (fits m x) (too_large n y) = absurd (omega arith)
+  file_once c s t o e q f (fits m x) (fits n y) = text_once c s t o e q f x y
+
+pub replied_once : (text : List ℕ) → IsRepliedOnce text
+replied_once text = file_once text (parsed_once text)
 
 -- the statuses that a text has
 abbrev Told : ℕ → Type 0
 Told status = (status ≡ 0) ⊎ ((status ≡ 1) ⊎ (status ≡ 3))
 
 module _ (words : List (List ℕ)) (held : List ℕ → Option (List ℕ)) (before now : ℕ) (last : List ℕ) (still : Rises before now → ⊥) where
-  -- the text of the file, where no read failed
-  text_of : (status : ℕ) (out err file text : List ℕ) → IsReply words held before now last status out err → file_in words ≡ Some file → held file ≡ Some text → (status ≡ 0) ⊎ ((status ≡ 1) ⊎ (status ≡ 3)) → IsFileReply text status out err
-  text_of status out err file text r named given is =
-      let all : OfText held words (λ t. IsFileReply t status out err) = r.by_text is in
-      let of_file : IfSome (held file) (λ t. IsFileReply t status out err) = rw named at all in
+  -- the reply of the text of the file, where no read failed
+  text_of : (status : ℕ) (out err text : List ℕ) (c : Command) → IsReply words held before now last status out err → asked_of words ≡ Some c → held (file_of c) ≡ Some text → Told status → IsFileReply c text status out err
+  text_of status out err text c r named given is =
+      let all : OfText held words (λ c t. IsFileReply c t status out err) = r.by_text is in
+      let of_file : IfSome (held (file_of c)) (λ t. IsFileReply c t status out err) = rw named at all in
       rw given at of_file
 
   cases : (n : ℕ) → n ≤ 6 → n ≢ 5 → n ≢ 2 → n ≢ 4 → Told n ⊎ (n ≡ 6)
@@ -34,51 +96,20 @@ module _ (words : List (List ℕ)) (held : List ℕ → Option (List ℕ)) (befo
   cases (suc (suc (suc (suc (suc (suc zero)))))) small a b c = inr refl
   cases (suc (suc (suc (suc (suc (suc (suc n))))))) small a b c = absurd (omega arith)
 
-  by_status : (status : ℕ) (out err file : List ℕ) → IsReply words held before now last status out err → file_in words ≡ Some file → Told status ⊎ (status ≡ 6)
-  by_status status out err file r named =
+  by_status : (status : ℕ) (out err : List ℕ) (c : Command) → IsReply words held before now last status out err → asked_of words ≡ Some c → Told status ⊎ (status ≡ 6)
+  by_status status out err c r named =
       cases status r.known.0 r.known.1
-      (λ is. let none : None ≡ Some file = sym (r.usage is).0 ∙ named in absurd (cc))
+      (λ is. let none : None ≡ Some c = sym (r.usage is).0 ∙ named in absurd (cc))
       (λ is. still (r.unread is).0)
 
-  done_status : (a : Answer) (out : List ℕ) → IsDone a out → status_of a ≡ 0
-  done_status (Done text cells) out is = refl
-  done_status (Fault kind line text) out is = absurd (is)
-
-  fault_status : (a : Answer) (out err : List ℕ) → IsFault a out err → status_of a ≡ 1
-  fault_status (Done text cells) out err is = absurd (is)
-  fault_status (Fault kind line text) out err is = refl
-
-  ran_status : (text : List ℕ) (p : Program) (Is : Answer → Type 0) (n : ℕ) → ((a : Answer) → Is a → status_of a ≡ n) → Accepts text p → Ran text Is → status_of (answer_of p run_fuel) ≡ n
-  ran_status text p Is n has accepts ran = rw (ran.only p accepts) (has (answer_of ran.program run_fuel) ran.answer)
-
-  runs_of : (status : ℕ) (out err text : List ℕ) (p : Program) → length text ≤ most_bytes → Accepts text p → Told status → IsFileReply text status out err → (status ≡ status_of (answer_of p run_fuel)) ⊎ (status ≡ 6)
-  runs_of status out err text p small accepts told (too_large long e f g) = absurd (omega arith)
-  runs_of status out err text p small accepts (inl is) (fits s r) = inl (is ∙ sym (ran_status text p (λ a. IsDone a out) 0 (λ a d. done_status a out d) accepts (r.done is).1))
-  runs_of status out err text p small accepts (inr (inl is)) (fits s r) = inl (is ∙ sym (ran_status text p (λ a. IsFault a out err) 1 (λ a f. fault_status a out err f) accepts (r.fault is)))
-  runs_of status out err text p small accepts (inr (inr is)) (fits s r) = absurd ((r.unsupported is).2 p accepts)
-
-  refuses_of : (status : ℕ) (out err text : List ℕ) → Refuses text → Told status → IsFileReply text status out err → (status ≡ 3) ⊎ (status ≡ 6)
-  refuses_of status out err text refuses told (too_large long e f g) = inl e
-  refuses_of status out err text refuses (inl is) (fits s r) = let ran = (r.done is).1 in absurd (refuses ran.program ran.accepts)
-  refuses_of status out err text refuses (inr (inl is)) (fits s r) = let ran = r.fault is in absurd (refuses ran.program ran.accepts)
-  refuses_of status out err text refuses (inr (inr is)) (fits s r) = inl is
-
-  long_of : (status : ℕ) (out err text : List ℕ) → most_bytes < length text → IsFileReply text status out err → (status ≡ 3) ⊎ (status ≡ 6)
-  long_of status out err text long (too_large more e f g) = inl e
-  long_of status out err text long (fits s r) = absurd (omega arith)
-
-  or_memory : {A : Type 0} (status : ℕ) → Told status ⊎ (status ≡ 6) → (Told status → A) → (status ≡ 6 → A) → A
-  or_memory status (inl is) go full = go is
-  or_memory status (inr is) go full = full is
+  replies_of : (status s : ℕ) (out err o e text : List ℕ) (c : Command) → IsReply words held before now last status out err → asked_of words ≡ Some c → held (file_of c) ≡ Some text
+      → IsFileReply c text s o e → Told status ⊎ (status ≡ 6) → (status ≡ s) ⊎ (status ≡ 6)
+  replies_of status s out err o e text c r named given is (inl told) = inl ((replied_once text c s status o e out err is (text_of status out err text c r named given told)).0)
+  replies_of status s out err o e text c r named given is (inr full) = inr full
 
   pub complete : (status : ℕ) (out err : List ℕ) → IsReply words held before now last status out err → IsComplete words held status
   complete status out err r = record {
-    runs = λ file text p named given small accepts. or_memory status (by_status status out err file r named)
-        (λ is. runs_of status out err text p small accepts is (text_of status out err file text r named given is)) inr;
-    refuses = λ file text named given small refuses. or_memory status (by_status status out err file r named)
-        (λ is. refuses_of status out err text refuses is (text_of status out err file text r named given is)) inr;
-    too_large = λ file text named given long. or_memory status (by_status status out err file r named)
-        (λ is. long_of status out err text long (text_of status out err file text r named given is)) inr;
+    replies = λ c text named given s o e is. replies_of status s out err o e text c r named given is (by_status status out err c r named);
   }
 
 -- what could not be written shows in a count

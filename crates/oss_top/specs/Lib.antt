@@ -1,6 +1,4 @@
 pub mod CommandWords
+pub mod Once
+pub mod ProgramTexts
 pub mod Reply
-pub mod ScalarForm
-pub mod ScalarGrammar
-pub mod ScalarReading
-pub mod ScalarRules

@@ -1,7 +1,7 @@
 //! What no clause says: the texts and statuses of whole programs, and calls that can fail.
 
-use crate::form;
-use crate::nest6::nest6;
+use crate::known::known;
+use crate::nest6;
 use oss_io::{MemoryShelf, MemorySink};
 use oss_model::{Answer, FaultKind};
 use oss_serial::serial_tree;
@@ -14,6 +14,8 @@ const PROGRAM: &str =
 const OUTPUT: &str = "-2147483648 18446744073709551615 -2147483653\n";
 
 const UNSUPPORTED: &str = "refused: Unsupported at line 1\n";
+
+const TOO_LARGE: &str = "refused: TooLarge at line 1\n";
 
 const USAGE: &str =
     "usage: nest6 run FILE | check FILE | trace FILE | replay FILE SCHEDULE | soak NUMBER SIZE\n";
@@ -144,69 +146,66 @@ fn programs_write_their_output(rt: HostRuntime) -> Result<(), Fail> {
     Ok(())
 }
 
+fn check(alloc: Global, text: &[u8]) -> Result<Told, AllocError> {
+    call(
+        alloc,
+        &["check", "p.c"],
+        shelf_with(alloc, text)?,
+        sink(alloc)?,
+        sink(alloc)?,
+    )
+}
+
+/// Whether both commands refuse a text with this line.
+fn is_refused(alloc: Global, text: &[u8], line: &str) -> Result<bool, AllocError> {
+    Ok(check(alloc, text)?.is(3, "", line) && run(alloc, text)?.is(3, "", line))
+}
+
 #[test]
-fn texts_outside_the_form_are_refused(rt: HostRuntime) -> Result<(), Fail> {
+fn refused_texts_are_told_with_kind_and_line(rt: HostRuntime) -> Result<(), Fail> {
+    let alloc = rt.alloc();
+    for (text, line) in [
+        ("", "refused: NoMain at line 1\n"),
+        ("int main() { x = 1; }", "refused: UnknownName at line 1\n"),
+        ("int main() {\nprintf(\"%d\"); }", "refused: WrongCount at line 2\n"),
+        ("int main() { printf(\"%x\", 1); }", "refused: WrongKind at line 1\n"),
+        ("long a;\nint a;\nint main() { }", "refused: DuplicateName at line 2\n"),
+        ("int main() {\nbreak;\n}", "refused: BadJump at line 2\n"),
+        ("long a[0]; int main() { }", "refused: TooLarge at line 1\n"),
+        ("long a; int main() { a = 1 }", "refused: Syntax at line 1\n"),
+        ("long a;\nint main() {\na = 1;\n", "refused: Syntax at line 4\n"),
+        ("long a@; int main() { }", "refused: Lexical at line 1\n"),
+        ("\nint main() { /* }\n", "refused: Lexical at line 2\n"),
+        ("#define A\nint main() { }", "refused: Unsupported at line 1\n"),
+        ("int main() {\n#pragma oss task commutative(x)\n;\n}", "refused: Unsupported at line 2\n"),
+        ("int main() {\n#pragma oss task on(x)\n;\n}", "refused: BadPragma at line 2\n"),
+        ("int main() {\n#pragma oss task in(", "refused: Syntax at line 2\n"),
+        ("int main() {\n#pragma oss task\n}", "refused: Syntax at line 3\n"),
+    ] {
+        assert!(rt; is_refused(alloc, text.as_bytes(), line)?, "{text}");
+    }
+    Ok(())
+}
+
+#[test]
+fn accepted_texts_that_are_not_built_are_not_run(rt: HostRuntime) -> Result<(), Fail> {
     let alloc = rt.alloc();
     for text in [
-        "",
-        "int main() { x = 1; }",
-        "int main() { printf(x); }",
-        "int main() { printf(\"%d\"); }",
-        "int main() { printf(\"x\", 1); }",
-        "int main() { printf(\"%x\", 1); }",
-        "int main() { printf(\"%\"); }",
-        "int main() { printf(\"%l\", 1); }",
-        "long a, a; int main() { }",
-        "long a; int a; int main() { }",
-        "long main; int main() { }",
-        "long a; int main() { a = 1 }",
-        "long a; int main() { a = 1; ",
-        "long a; int main() { a = 1; } long b;",
-        "long a; int main() { a = ; }",
-        "long a; int main() { a = 1 + ; }",
-        "long a; int main() { 1 = a; }",
-        "long a; int main() { a = (1); }",
-        "long a; int main() { a = -1; }",
-        "long a; int main() { a += 1; }",
-        "long a = 1 + 1; int main() { }",
-        "long a[2]; int main() { }",
-        "long a int main() { }",
-        "long; int main() { }",
-        "unsigned a; int main() { }",
-        "unsigned int a; int main() { }",
-        "void main() { }",
-        "int main(void) { }",
         "int main() { return 0; }",
-        "int f() { } int main() { }",
-        "int main() { printf(\"a\" \"b\"); }",
-        "int main() { printf(\"\\q\"); }",
-        "int main() { printf(\"a\n\"); }",
-        "long a; int main() { a = 18446744073709551616; }",
-        "long a; int main() { a = 08; }",
-        "long a; int main() { a = 0x; }",
-        "long a; int main() { a = 1lul; }",
-        "long a; int main() { a = 1lL; }",
-        "long a; int main() { a = 1a; }",
-        "long a@; int main() { }",
-        "#define A\nint main() { }",
-        "int main() { }\n#pragma oss taskwait",
-        "int main() {\n#pragma oss taskwait",
-        "int main() {\n#pragma oss taskwait }\n}",
-        "int main() {\n#pragma oss task\n}",
-        "int main() {\n#pragma oss task in()\n;\n}",
-        "int main() {\n#pragma oss task in(x)\n;\n}",
-        "long x; int main() {\n#pragma oss task in(x\n;\n}",
-        "long x; int main() {\n#pragma oss task in(x),\n;\n}",
-        "long x; int main() {\n#pragma oss task in x\n;\n}",
-        "int main() {\n#pragma oss wait\n}",
-        "#pragma oss taskwait\nint main() { }",
-        "int main() { /* }",
+        "long a[2]; int main() { }",
+        "long a; int main() { a += 1; }",
+        "long a; int main() { a = -1; }",
+        "int main() { long a; }",
+        "void f() { } int main() { }",
+        "long a; int main() {\n#pragma oss task weakin(a)\n;\n}",
+        "long a; int main() {\n#pragma oss task reduction(+: a)\n;\n}",
+        "long a; int main() {\n#pragma oss task in(a) wait\n;\n}",
+        "long a; int main() {\n#pragma oss taskwait on(a)\n}",
     ] {
-        assert!(rt;
-            run(alloc, text.as_bytes())?.is(3, "", UNSUPPORTED),
-            "{text}"
-        );
+        assert!(rt; check(alloc, text.as_bytes())?.is(0, "ok\n", ""), "{text}");
+        assert!(rt; run(alloc, text.as_bytes())?.is(3, "", UNSUPPORTED), "{text}");
     }
+    assert!(rt; check(alloc, PROGRAM.as_bytes())?.is(0, "ok\n", ""));
     Ok(())
 }
 
@@ -218,7 +217,7 @@ fn bytes_of_any_kind_are_refused(rt: HostRuntime) -> Result<(), Fail> {
         [0].as_slice(),
         [b'"', 0x80].as_slice(),
     ] {
-        assert!(rt; run(alloc, text)?.is(3, "", UNSUPPORTED));
+        assert!(rt; is_refused(alloc, text, "refused: Lexical at line 1\n")?);
     }
     Ok(())
 }
@@ -237,7 +236,7 @@ fn a_sum_has_at_most_256_operators(rt: HostRuntime) -> Result<(), Fail> {
     let most = repeated(alloc, "int main() { printf(\"%d\", 1", "+1", 256, "); }")?;
     assert!(rt; run(alloc, most.as_slice())?.is(0, "257", ""));
     let more = repeated(alloc, "int main() { printf(\"%d\", 1", "+1", 257, "); }")?;
-    assert!(rt; run(alloc, more.as_slice())?.is(3, "", UNSUPPORTED));
+    assert!(rt; run(alloc, more.as_slice())?.is(3, "", TOO_LARGE));
     Ok(())
 }
 
@@ -247,7 +246,7 @@ fn a_name_has_at_most_63_bytes(rt: HostRuntime) -> Result<(), Fail> {
     let most = repeated(alloc, "long ", "n", 63, "; int main() { }")?;
     assert!(rt; run(alloc, most.as_slice())?.is(0, "", ""));
     let more = repeated(alloc, "long ", "n", 64, "; int main() { }")?;
-    assert!(rt; run(alloc, more.as_slice())?.is(3, "", UNSUPPORTED));
+    assert!(rt; run(alloc, more.as_slice())?.is(3, "", TOO_LARGE));
     Ok(())
 }
 
@@ -258,7 +257,8 @@ fn a_file_has_at_most_1048576_bytes(rt: HostRuntime) -> Result<(), Fail> {
     assert_eq!(rt; most.len(), 1_048_576);
     assert!(rt; run(alloc, most.as_slice())?.is(0, "", ""));
     let more = repeated(alloc, "int main() { }", " ", 1_048_563, "")?;
-    assert!(rt; run(alloc, more.as_slice())?.is(3, "", "refused: TooLarge at line 1\n"));
+    assert!(rt; run(alloc, more.as_slice())?.is(3, "", TOO_LARGE));
+    assert!(rt; check(alloc, more.as_slice())?.is(3, "", TOO_LARGE));
     Ok(())
 }
 
@@ -284,7 +284,11 @@ fn words_that_are_no_command_are_refused(rt: HostRuntime) -> Result<(), Fail> {
     assert!(rt; refuses_words(alloc, &["run", "-a"])?);
     assert!(rt; refuses_words(alloc, &["run", ""])?);
     assert!(rt; refuses_words(alloc, &["--help"])?);
-    assert!(rt; refuses_words(alloc, &["check", "p.c"])?);
+    assert!(rt; refuses_words(alloc, &["check"])?);
+    assert!(rt; refuses_words(alloc, &["check", "p.c", "--fuel=5"])?);
+    assert!(rt; refuses_words(alloc, &["check", "-"])?);
+    assert!(rt; refuses_words(alloc, &["run", "p.c", "--workers=4"])?);
+    assert!(rt; refuses_words(alloc, &["trace", "p.c"])?);
     assert!(rt; refuses_words(alloc, &["RUN", "p.c"])?);
     assert!(rt; refuses_words(alloc, &["", "p.c"])?);
     Ok(())
@@ -327,31 +331,6 @@ fn an_output_that_fails_holds_a_prefix(rt: HostRuntime) -> Result<(), Fail> {
     err.fail_at(3)?;
     let told = call(alloc, &["run"], MemoryShelf::new(alloc), sink(alloc)?, err)?;
     assert!(rt; told.is(5, "", "usage:"));
-    Ok(())
-}
-
-/// Whether an answer is this fault without output.
-fn is_fault(answer: &Answer, kind: FaultKind, line: u32) -> bool {
-    match answer {
-        Answer::Fault(found, at, output) => {
-            *found == kind && *at == line && output.as_slice().is_empty()
-        }
-        Answer::Done(_, _) => false,
-    }
-}
-
-#[test]
-fn a_run_out_of_fuel_names_the_line(rt: HostRuntime) -> Result<(), Fail> {
-    let alloc = rt.alloc();
-    assert!(rt; PROGRAM.len() <= 1_048_576);
-    match form::read(alloc, PROGRAM.as_bytes()) {
-        Ok(program) => {
-            let ran = serial_tree(alloc, &program, 2)?;
-            assert!(rt; is_fault(&ran.answer, FaultKind::OutOfFuel, 7));
-            assert_eq!(rt; ran.tasks, 1);
-        }
-        Err(_) => assert!(rt; false, "the program is read"),
-    }
     Ok(())
 }
 
@@ -434,7 +413,7 @@ fn blocks_nest_at_most_64_deep(rt: HostRuntime) -> Result<(), Fail> {
     assert!(rt; run(alloc, most.as_slice())?.is(0, "", ""));
     let mut more = repeated(alloc, "int main() {", "{", 65, "")?;
     more.extend_from_slice(repeated(alloc, "", "}", 65, "}")?.as_slice())?;
-    assert!(rt; run(alloc, more.as_slice())?.is(3, "", UNSUPPORTED));
+    assert!(rt; run(alloc, more.as_slice())?.is(3, "", TOO_LARGE));
     Ok(())
 }
 
@@ -445,7 +424,7 @@ fn a_pragma_names_at_most_64_variables(rt: HostRuntime) -> Result<(), Fail> {
     let most = repeated(alloc, before, ", x", 63, ")\n;\n}")?;
     assert!(rt; run(alloc, most.as_slice())?.is(0, "", ""));
     let more = repeated(alloc, before, ", x", 64, ")\n;\n}")?;
-    assert!(rt; run(alloc, more.as_slice())?.is(3, "", UNSUPPORTED));
+    assert!(rt; run(alloc, more.as_slice())?.is(3, "", TOO_LARGE));
     Ok(())
 }
 
@@ -455,8 +434,36 @@ fn main_and_each_created_task_are_counted(rt: HostRuntime) -> Result<(), Fail> {
     let text =
         "long x;\nint main() {\n#pragma oss task inout(x)\n{\n#pragma oss task\n;\n#pragma oss task in(x)\n;\n}\n}";
     assert!(rt; text.len() <= 1_048_576);
-    match form::read(alloc, text.as_bytes()) {
-        Ok(program) => assert_eq!(rt; serial_tree(alloc, &program, 5)?.tasks, 4),
+    match known(alloc, text.as_bytes()) {
+        Ok(known) => {
+            let ran = serial_tree(alloc, known.program(), 5)?;
+            assert_eq!(rt; ran.tasks, 4);
+        }
+        Err(_) => assert!(rt; false, "the program is read"),
+    }
+    Ok(())
+}
+
+/// Whether an answer is this fault without output.
+fn is_fault(answer: &Answer, kind: FaultKind, line: u32) -> bool {
+    match answer {
+        Answer::Fault(found, at, output) => {
+            *found == kind && *at == line && output.as_slice().is_empty()
+        }
+        Answer::Done(_, _) => false,
+    }
+}
+
+#[test]
+fn a_run_out_of_fuel_names_the_line(rt: HostRuntime) -> Result<(), Fail> {
+    let alloc = rt.alloc();
+    assert!(rt; PROGRAM.len() <= 1_048_576);
+    match known(alloc, PROGRAM.as_bytes()) {
+        Ok(known) => {
+            let ran = serial_tree(alloc, known.program(), 2)?;
+            assert!(rt; is_fault(&ran.answer, FaultKind::OutOfFuel, 7));
+            assert_eq!(rt; ran.tasks, 1);
+        }
         Err(_) => assert!(rt; false, "the program is read"),
     }
     Ok(())
@@ -468,7 +475,7 @@ fn tasks_nest_as_blocks_do(rt: HostRuntime) -> Result<(), Fail> {
     let most = repeated(alloc, "int main() {", "\n#pragma oss task\n", 63, ";}")?;
     assert!(rt; run(alloc, most.as_slice())?.is(0, "", ""));
     let more = repeated(alloc, "int main() {", "\n#pragma oss task\n", 64, ";}")?;
-    assert!(rt; run(alloc, more.as_slice())?.is(3, "", UNSUPPORTED));
+    assert!(rt; run(alloc, more.as_slice())?.is(3, "", TOO_LARGE));
     Ok(())
 }
 

@@ -417,6 +417,7 @@ impl Build {
             base,
             form,
             line: self.line,
+            base_line: self.line,
         })?;
         Ok(true)
     }

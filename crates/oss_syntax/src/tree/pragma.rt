@@ -3,9 +3,13 @@ use crate::{Bytes, Expr, List, Mode, Name};
 /// The cells that a dependency clause names (OmpSs-2, array sections).
 #[derive(Debug, Drop)]
 pub struct Section {
+    /// The name of the array, the scalar or the pointer.
     pub base: Name,
     pub form: Form,
+    /// The line of the section's first token.
     pub line: u32,
+    /// The line of the name.
+    pub base_line: u32,
 }
 
 /// How a section names its cells, `p` being its base.
