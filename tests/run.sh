@@ -1,9 +1,26 @@
 #!/bin/sh
-# Runs the built program on the files of examples/ and of tests/programs/ and on bad input, and compares what it writes and its
-# status.
-# NAME.c is run; NAME.out is its output, NAME.err its error output (empty where there is none), NAME.status its status (0
-# where there is none). The last line counts.
+# Runs the built program on the programs of examples/, on the cases of tests/cases/ and on bad words, files and bytes, and
+# compares its output, its error output and its status with what is stored. The last line counts; the status is 0 only where
+# nothing failed. `tests/run.sh PROGRAM` runs another program than the one of this repository.
+#
+# In examples/, NAME.c is run; NAME.out is its output, NAME.err its error output (empty where there is none), NAME.status its
+# status (0 where there is none).
+#
+# A case is a file tests/cases/SUBJECT/NAME.case with these lines:
+#   # what the case shows
+#   words: WORDS          the words of the call, parted by blanks
+#   status: N
+#   out: TEXT             the output, with escapes as `printf %b` reads them; more such lines are joined; none where it is empty
+#   err: LINE             the one line of the error output; none where it is empty
+#   end: no newline       where the newline at the end of the file does not belong to the program
+#   program:              what stands behind this line is the program, to the end of the file
+# It is called in a folder that holds nothing but the program, as p.c.
 top=$(CDPATH='' cd -- "$(dirname -- "$0")/.." && pwd) || exit 1
+program=${1:-$top/nest6}
+case $program in
+  /*) ;;
+  *) program=$PWD/$program ;;
+esac
 work=$(mktemp -d) || exit 1
 trap 'rm -rf "$work"' EXIT
 passed=0
@@ -11,63 +28,113 @@ failed=0
 
 # expect NAME STATUS OUT-FILE ERR-FILE WORD..
 expect() {
-  name=$1 status=$2 out=$3 err=$4
+  name=$1 wanted=$2 out=$3 err=$4
   shift 4
-  "$top/nest6" "$@" >"$work/out" 2>"$work/err"
+  "$program" "$@" >"$work/out" 2>"$work/err" </dev/null
   got=$?
-  if [ "$got" = "$status" ] && cmp -s "$work/out" "$out" && cmp -s "$work/err" "$err"; then
+  if [ "$got" = "$wanted" ] && cmp -s "$work/out" "$out" && cmp -s "$work/err" "$err"; then
     passed=$((passed + 1))
   else
     failed=$((failed + 1))
-    echo "failed: $name (status $got, wanted $status)"
+    echo "failed: $name (status $got, wanted $wanted)"
     diff "$out" "$work/out" | head -n 5
     diff "$err" "$work/err" | head -n 5
   fi
 }
 
-"$top/nest6" >/dev/null 2>"$work/build"
+# leaves the program of a case in p.c, and what is said of it in `words`, `status`, `out_text`, `err_text`
+read_case() {
+  words='' status='' out_text='' err_text='' end=''
+  {
+    while IFS= read -r line; do
+      case $line in
+        'program:') break ;;
+        'words:'*) words=${line#words:} ;;
+        'status: '*) status=${line#status: } ;;
+        'out: '*) out_text=$out_text${line#out: } ;;
+        'err: '*) err_text=${line#err: }'\n' ;;
+        'end: no newline') end=cut ;;
+        '# '*) ;;
+        *) status="a number; this line is unknown: $line" ;;
+      esac
+    done
+    cat >p.c
+  } <"$1"
+  if [ "$end" = cut ]; then
+    size=$(wc -c <p.c)
+    mv p.c "$work/whole"
+    dd if="$work/whole" of=p.c bs=$((size - 1)) count=1 2>/dev/null
+  fi
+}
+
+"$program" >/dev/null 2>"$work/build"
 [ $? = 2 ] || cat "$work/build"
 : >"$work/nothing"
 
-for folder in examples tests/programs; do
-  cd "$top/$folder" || exit 1
-  for file in *.c; do
-    name=${file%.c}
-    err=$work/nothing
-    [ -f "$name.err" ] && err=$name.err
-    status=0
-    [ -f "$name.status" ] && status=$(cat "$name.status")
-    expect "$folder/$file" "$status" "$name.out" "$err" run "$file"
-  done
+cd "$top/examples" || exit 1
+for file in *.c; do
+  name=${file%.c}
+  err=$work/nothing
+  [ -f "$name.err" ] && err=$name.err
+  status=0
+  [ -f "$name.status" ] && status=$(cat "$name.status")
+  expect "examples/$file" "$status" "$name.out" "$err" run "$file"
 done
 
-cd "$work" || exit 1
+mkdir "$work/case"
+cd "$work/case" || exit 1
+for file in "$top"/tests/cases/*/*.case; do
+  read_case "$file"
+  printf '%b' "$out_text" >"$work/wanted_out"
+  printf '%b' "$err_text" >"$work/wanted_err"
+  set -f
+  # The words are parted here.
+  # shellcheck disable=SC2086
+  expect "${file#"$top"/}" "$status" "$work/wanted_out" "$work/wanted_err" $words
+  set +f
+done
+
+mkdir "$work/words"
+cd "$work/words" || exit 1
 echo 'usage: nest6 run FILE | check FILE | trace FILE | replay FILE SCHEDULE | soak NUMBER SIZE' >usage
-echo 'refused: Unsupported at line 1' >unsupported
+echo 'refused: NoMain at line 1' >no_main
+echo 'refused: Lexical at line 2' >lexical
 echo 'refused: TooLarge at line 1' >too_large
 echo 'cannot read missing.c' >missing
 echo 'cannot read folder' >folder_line
+echo 'ok' >ok
 mkdir folder
 : >empty.c
 printf 'int main() { printf("no newline\\n"); }' >short.c
 echo 'no newline' >short.out
-printf 'int main() { \303\251 }\n' >bytes.c
-printf 'int main() { printf("\303\251\\n"); }\n' >string.c
-printf '\303\251\n' >string.out
-awk 'BEGIN { printf "int main() { }"; for (i = 0; i < 1048563; i++) printf " " }' >long.c
-expect "no words" 2 nothing usage
-expect "one word" 2 nothing usage run
-expect "two files" 2 nothing usage run short.c empty.c
-expect "an option" 2 nothing usage run short.c --fuel=5
-expect "an empty file name" 2 nothing usage run ''
-expect "a word that is not UTF-8" 2 nothing usage run "$(printf '\377')"
-expect "a missing file" 4 nothing missing run missing.c
-expect "a folder" 4 nothing folder_line run folder
-expect "an empty file" 3 nothing unsupported run empty.c
-expect "no newline at the end" 0 short.out nothing run short.c
-expect "a byte above 127" 3 nothing unsupported run bytes.c
-expect "bytes above 127 in a string" 0 string.out nothing run string.c
-expect "a file of 1,048,577 bytes" 3 nothing too_large run long.c
+printf 'int main() {\n\303\251 }\n' >bytes.c
+printf 'int main() { printf("\303\251\377\\n"); }\n' >string.c
+printf '\303\251\377\n' >string.out
+awk 'BEGIN { printf "int main() { }"; for (i = 0; i < 1048562; i++) printf " " }' >full.c
+{ cat full.c; printf ' '; } >long.c
+awk 'BEGIN { printf "@"; for (i = 0; i < 1048576; i++) printf " " }' >long_bytes.c
+expect "no words" 2 ../nothing usage
+expect "one word" 2 ../nothing usage run
+expect "two files" 2 ../nothing usage run short.c empty.c
+expect "an option" 2 ../nothing usage run short.c --fuel=5
+expect "an empty word" 2 ../nothing usage ''
+expect "an empty file name" 2 ../nothing usage run ''
+expect "an empty file name to check" 2 ../nothing usage check ''
+expect "an empty second file name" 2 ../nothing usage run short.c ''
+expect "a word that is not UTF-8" 2 ../nothing usage run "$(printf '\377')"
+expect "a missing file" 4 ../nothing missing run missing.c
+expect "a folder" 4 ../nothing folder_line run folder
+expect "an empty file" 3 ../nothing no_main run empty.c
+expect "an empty file to check" 3 ../nothing no_main check empty.c
+expect "no newline at the end" 0 short.out ../nothing run short.c
+expect "a byte above 127" 3 ../nothing lexical run bytes.c
+expect "a byte above 127 to check" 3 ../nothing lexical check bytes.c
+expect "bytes above 127 in a string" 0 string.out ../nothing run string.c
+expect "a file of 1,048,576 bytes" 0 ../nothing ../nothing run full.c
+expect "a file of 1,048,576 bytes to check" 0 ok ../nothing check full.c
+expect "a file of 1,048,577 bytes" 3 ../nothing too_large run long.c
+expect "a file of 1,048,577 bytes to check" 3 ../nothing too_large check long.c
+expect "a file of 1,048,577 bytes with a bad byte" 3 ../nothing too_large check long_bytes.c
 
 echo "$passed passed, $failed failed"
 [ "$failed" = 0 ]

@@ -1,7 +1,0 @@
-long x;
-int main() {
-#pragma oss task out(x)
-  x = 5;
-#pragma oss task
-  printf("%ld\n", x);
-}

@@ -1,5 +1,0 @@
-long x, y;
-int main() {
-#pragma oss task out(y)
-  y = x;
-}

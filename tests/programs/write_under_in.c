@@ -1,7 +1,0 @@
-long x;
-int main() {
-  printf("before\n");
-#pragma oss task in(x)
-  x = 1;
-  printf("behind\n");
-}
