@@ -1,1 +1,3 @@
+pub mod FormLemmas
+pub mod KnownLemmas
 pub mod ReplyLemmas

@@ -1,5 +1,5 @@
 -- A text has one reply at most, and from the causes of each status which one comes.
-use Rattle.std.proofs.Common.{◌≡◌, ◌≢◌, ℕ, zero, suc, ◌<◌, ◌≤◌, Bool, true, false, List, [], length, Option, Some, None, refl, sym, ap, ◌∙◌, subst, arith, ◌⊎◌, inl, inr}
+use Rattle.std.proofs.Common.{◌≡◌, ◌≢◌, ℕ, zero, suc, ◌≤◌, Bool, true, false, List, [], Option, Some, None, refl, sym, ap, ◌∙◌, subst, arith, ◌⊎◌, inl, inr}
 use Rattle.std.specs.Prelude.{IfSome}
 use Rattle.oss_io.specs.Faults.{Rises}
 use Rattle.oss_syntax.specs.declared.tree.program.Program.{Program}
@@ -7,15 +7,14 @@ use Rattle.oss_model.specs.declared.refusal.Refused.{Refused}
 use Rattle.oss_model.specs.Broken.{first}
 use Rattle.oss_model.specs.Built.{is_built}
 use Rattle.oss_model.specs.Parsing.{IsParsedOnce}
-use Rattle.oss_model.specs.ProgramRules.{program_rules, refusal_of}
+use Rattle.oss_model.specs.ProgramRules.{refusal_of}
 use Rattle.oss_model.specs.Texts.{refusal_line}
 use Rattle.oss_parse.proofs.OneProgram.{parsed_once}
 use Rattle.oss_top.specs.CommandWords.{Command, asked_of, file_of}
-use Rattle.oss_top.specs.CommandWords.Command.{run, check}
 use Rattle.oss_top.specs.Once.{IsRepliedOnce}
 use Rattle.oss_top.specs.ProgramTexts.{Accepts, Refuses}
 use Rattle.oss_top.specs.ProgramTexts.Refuses.{by_grammar, by_rules}
-use Rattle.oss_top.specs.Reply.{Is, IsReply, IsFileReply, IsTextReply, IsProgramReply, IsUnwritten, IsComplete, OfText, most_bytes}
+use Rattle.oss_top.specs.Reply.{Is, IsReply, IsFileReply, IsTextReply, IsProgramReply, IsUnwritten, IsComplete, OfText}
 use Rattle.oss_top.specs.Reply.IsProgramReply.{checked, ran, not_built}
 use Rattle.oss_top.specs.Reply.IsTextReply.{accepted, refused_text}
 use Rattle.oss_top.specs.Reply.IsFileReply.{too_large, fits}
@@ -33,7 +32,7 @@ one_some r other o a b = cc
 
 program_once : (c : Command) (p : Program) (s t : ℕ) (o e q f : List ℕ) → IsProgramReply c p s o e → IsProgramReply c p t q f → Is s o e t q f
 program_once c p s t o e q f (checked x) (checked y) = same x y
-program_once c p s t o e q f (ran b x) (ran c y) = same x y
+program_once c p s t o e q f (ran b x) (ran d y) = same x y
 program_once c p s t o e q f (ran b x) (not_built n y) = absurd (not_both (is_built p) b n)
 program_once c p s t o e q f (not_built n x) (ran b y) = absurd (not_both (is_built p) b n)
 program_once c p s t o e q f (not_built n x) (not_built m y) = same x y

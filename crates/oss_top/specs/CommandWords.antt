@@ -2,7 +2,7 @@
 -- not empty and does not begin with `-`. There are no options.
 -- Read against: no words, `run`, `run a.c b.c`, `run -a`, `check` and `check a.c --fuel=5` are refused; `check a.c` asks to check
 -- the file `a.c`.
-use Rattle.std.specs.Prelude.{◌≡◌, ℕ, Bool, false, ◌&&◌, not, ◌==◌, if◌then◌else◌, List, [], ◌∷◌, ◌++◌, Option, Some, None, Result, Ok, Err, codes}
+use Rattle.std.specs.Prelude.{◌≡◌, ℕ, Bool, false, not, ◌==◌, if◌then◌else◌, List, [], ◌∷◌, ◌++◌, Option, Some, None, Result, Ok, Err, codes}
 use Rattle.std.specs.Str.{bytes_eq}
 use Rattle.oss_top.specs.declared.words.Asked.{Asked}
 use Rattle.oss_top.specs.declared.words.Asked.TheVariants as asked

@@ -1,6 +1,6 @@
 -- A text has one reply to a command at most: of two replies by their definition the status, the output and the error output are equal.
 -- Read against: a text is accepted as one program at most, and not refused then, since its grammar leaves no choice.
-use Rattle.std.specs.Prelude.{◌≡◌, ℕ, List}
+use Rattle.std.specs.Prelude.{ℕ, List}
 use Rattle.oss_top.specs.CommandWords.{Command}
 use Rattle.oss_top.specs.Reply.{Is, IsFileReply}
 

@@ -4,7 +4,6 @@ ghost use Rattle.oss_top.specs.Once.{IsRepliedOnce};
 
 /// A law, with nothing to run: a text has one reply to a command at most, so status, output and error output of a check or a
 /// run are settled by the text.
-#[tactic(auto, using(crate::proofs::ReplyLemmas::replied_once))]
 pub fn a_text_has_one_reply(text: &[u8])
     ensures { IsRepliedOnce text.now }
 {}

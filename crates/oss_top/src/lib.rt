@@ -4,6 +4,8 @@
 mod known;
 mod laws;
 mod reply;
+#[cfg(test)]
+mod tests;
 mod texts;
 mod top;
 mod words;

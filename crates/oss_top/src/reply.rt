@@ -2,8 +2,7 @@
 
 ghost use Rattle.std.specs.Prelude.{◌≡◌, ◌≤◌, [], length, map, IfOk};
 ghost use Rattle.std.specs.String.{string_bytes};
-ghost use Rattle.oss_model.specs.ProgramRules.{program_rules};
-ghost use Rattle.oss_model.specs.Scalars.{answer_of};
+ghost use Rattle.oss_model.specs.Texts.{refusal_line as line_of_refusal};
 ghost use Rattle.oss_top.specs.CommandWords.{meant};
 ghost use Rattle.oss_top.specs.Reply.{IsAnswerReply, IsProgramReply, IsReply, IsTextReply};
 
@@ -86,7 +85,7 @@ pub fn reply_to<S: Shelf>(
 /// The reply to the text of a file.
 fn reply_to_text(alloc: Global, asked: Asked<'_>, text: &[u8]) -> Result<Reply, AllocError>
     requires { length text.now ≤ 1048576 }
-    ensures { IfOk result (λ reply. IsTextReply (meant asked) text.now reply.status reply.out reply.err) }
+    ensures { IfOk result (λ reply. IsTextReply (meant asked.entry) text.now reply.status reply.out reply.err) }
 {
     match known(alloc, text) {
         Ok(known) => reply_to_program(alloc, asked, &known),
@@ -99,7 +98,7 @@ fn reply_to_text(alloc: Global, asked: Asked<'_>, text: &[u8]) -> Result<Reply, 
 
 /// The reply to a program that breaks no rule.
 fn reply_to_program(alloc: Global, asked: Asked<'_>, known: &Known) -> Result<Reply, AllocError>
-    ensures { IfOk result (λ reply. IsProgramReply (meant asked) known.now reply.status reply.out reply.err) }
+    ensures { IfOk result (λ reply. IsProgramReply (meant asked.entry) known.now reply.status reply.out reply.err) }
 {
     match asked {
         Asked::Check(_) => Ok(Reply::done(alloc, texts::accepted(alloc)?)),
@@ -130,7 +129,7 @@ fn reply_to_answer(alloc: Global, answer: &Answer) -> Result<Reply, AllocError>
 
 /// The reply to a text that is refused as a whole.
 fn refused(alloc: Global, kind: RefusedKind) -> Result<Reply, AllocError>
-    ensures { IfOk result (λ reply. (reply.status ≡ 3) × (reply.out ≡ []) × (reply.err ≡ refusal_line kind 1)) }
+    ensures { IfOk result (λ reply. (reply.status ≡ 3) × (reply.out ≡ []) × (reply.err ≡ line_of_refusal kind 1)) }
 {
     let refused = Refused {
         kind,

@@ -167,20 +167,50 @@ fn refused_texts_are_told_with_kind_and_line(rt: HostRuntime) -> Result<(), Fail
     for (text, line) in [
         ("", "refused: NoMain at line 1\n"),
         ("int main() { x = 1; }", "refused: UnknownName at line 1\n"),
-        ("int main() {\nprintf(\"%d\"); }", "refused: WrongCount at line 2\n"),
-        ("int main() { printf(\"%x\", 1); }", "refused: WrongKind at line 1\n"),
-        ("long a;\nint a;\nint main() { }", "refused: DuplicateName at line 2\n"),
+        (
+            "int main() {\nprintf(\"%d\"); }",
+            "refused: WrongCount at line 2\n",
+        ),
+        (
+            "int main() { printf(\"%x\", 1); }",
+            "refused: WrongKind at line 1\n",
+        ),
+        (
+            "long a;\nint a;\nint main() { }",
+            "refused: DuplicateName at line 2\n",
+        ),
         ("int main() {\nbreak;\n}", "refused: BadJump at line 2\n"),
         ("long a[0]; int main() { }", "refused: TooLarge at line 1\n"),
-        ("long a; int main() { a = 1 }", "refused: Syntax at line 1\n"),
-        ("long a;\nint main() {\na = 1;\n", "refused: Syntax at line 4\n"),
+        (
+            "long a; int main() { a = 1 }",
+            "refused: Syntax at line 1\n",
+        ),
+        (
+            "long a;\nint main() {\na = 1;\n",
+            "refused: Syntax at line 4\n",
+        ),
         ("long a@; int main() { }", "refused: Lexical at line 1\n"),
         ("\nint main() { /* }\n", "refused: Lexical at line 2\n"),
-        ("#define A\nint main() { }", "refused: Unsupported at line 1\n"),
-        ("int main() {\n#pragma oss task commutative(x)\n;\n}", "refused: Unsupported at line 2\n"),
-        ("int main() {\n#pragma oss task on(x)\n;\n}", "refused: BadPragma at line 2\n"),
-        ("int main() {\n#pragma oss task in(", "refused: Syntax at line 2\n"),
-        ("int main() {\n#pragma oss task\n}", "refused: Syntax at line 3\n"),
+        (
+            "#define A\nint main() { }",
+            "refused: Unsupported at line 1\n",
+        ),
+        (
+            "int main() {\n#pragma oss task commutative(x)\n;\n}",
+            "refused: Unsupported at line 2\n",
+        ),
+        (
+            "int main() {\n#pragma oss task on(x)\n;\n}",
+            "refused: BadPragma at line 2\n",
+        ),
+        (
+            "int main() {\n#pragma oss task in(",
+            "refused: Syntax at line 2\n",
+        ),
+        (
+            "int main() {\n#pragma oss task\n}",
+            "refused: Syntax at line 3\n",
+        ),
     ] {
         assert!(rt; is_refused(alloc, text.as_bytes(), line)?, "{text}");
     }
@@ -203,7 +233,10 @@ fn accepted_texts_that_are_not_built_are_not_run(rt: HostRuntime) -> Result<(), 
         "long a; int main() {\n#pragma oss taskwait on(a)\n}",
     ] {
         assert!(rt; check(alloc, text.as_bytes())?.is(0, "ok\n", ""), "{text}");
-        assert!(rt; run(alloc, text.as_bytes())?.is(3, "", UNSUPPORTED), "{text}");
+        assert!(rt;
+            run(alloc, text.as_bytes())?.is(3, "", UNSUPPORTED),
+            "{text}"
+        );
     }
     assert!(rt; check(alloc, PROGRAM.as_bytes())?.is(0, "ok\n", ""));
     Ok(())

@@ -67,7 +67,7 @@ fn can_be_operand(word: &str) -> bool
 impl<'w> Asked<'w> {
     /// The name of the file.
     pub fn file(self) -> &'w str
-        ensures { result.now ≡ file_of (meant self) }
+        ensures { result.now ≡ file_of (meant self.entry) }
     {
         match self {
             Asked::Run(file) => file,
