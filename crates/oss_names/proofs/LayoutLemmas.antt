@@ -91,6 +91,14 @@ names-few q well =
     let within = names-within q.items 0 0 q.items none (omega arith) in
     omega (arith, within)
 
+sizes-many : (xs : List Item) → length (sizes_of xs) ≡ length (names_of xs)
+sizes-many [] = refl
+sizes-many (items.Global g ∷ rest) = ap suc (sizes-many rest)
+sizes-many (items.Function f ∷ rest) = sizes-many rest
+
+pub sizes-few : (q : Program) → program_rules q ≡ [] → length (sizes_of q.items) ≤ 1048576
+sizes-few q well = let few = names-few q well in omega (arith, few, sizes-many q.items)
+
 -- the bounds of a program that breaks no rule
 module _ (q : Program) (bounds : List ℕ) (well : program_rules q ≡ []) (lie : bounds ≡ bounds_of 0 (sizes_of q.items)) where
   none : first (items_rules q.items 0 0 q.items) ≡ None

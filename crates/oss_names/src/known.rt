@@ -68,6 +68,13 @@ impl Known {
         program_is_built(&self.program)
     }
 
+    /// How many globals there are, scalars and arrays.
+    pub fn globals(&self) -> u32
+        ensures { result ≡ length (sizes_of self.now.items) }
+    {
+        (self.bounds.len() - 1) as u32
+    }
+
     /// How many cells the globals have in all.
     pub fn cells(&self) -> u32
         ensures { result ≡ cells_in self.now.items }
@@ -75,7 +82,7 @@ impl Known {
         self.bounds[self.bounds.len() - 1]
     }
 
-    /// The cells of the global with this number, counted from 0 in text order. Condition: there is one.
+    /// The cells of the global with this number, counted from 0 in text order. Condition: it is less than `globals`.
     pub fn place(&self, global: u32) -> Range
         requires { global < length (sizes_of self.now.items) }
         ensures begins { result.lo ≡ start_of self.now.items global }

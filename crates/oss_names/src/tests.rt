@@ -385,6 +385,12 @@ fn layout(rt: HostRuntime) -> Result<(), Fail> {
         Some(Ok(known)) => {
             assert_eq!(rt; known.cells(), 5);
             assert_eq!(rt; known.program().items.len(), 4);
+            assert_eq!(rt; known.globals(), 3);
+            for (global, lo, hi) in [(0u32, 0, 1), (1, 1, 4), (2, 4, 5)] {
+                assert!(rt; global < known.globals());
+                let place = known.place(global);
+                assert_eq!(rt; (place.lo, place.hi), (lo, hi));
+            }
             assert!(rt; !known.built());
         }
         _ => assert!(rt; false, "{text}"),
