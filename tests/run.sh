@@ -81,6 +81,8 @@ for file in *.c; do
   expect "examples/$file" "$status" "$name.out" "$err" run "$file"
 done
 
+# The examples were run by the script, which looks at every source first. From here on the program is called itself.
+[ "$#" -gt 0 ] || program=$top/crates/nest6/out/nest6
 mkdir "$work/case"
 cd "$work/case" || exit 1
 for file in "$top"/tests/cases/*/*.case; do
