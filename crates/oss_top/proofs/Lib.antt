@@ -1,3 +1,4 @@
 pub mod FormLemmas
 pub mod KnownLemmas
 pub mod ReplyLemmas
+pub mod SomeReply

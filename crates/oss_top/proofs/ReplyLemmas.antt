@@ -1,6 +1,5 @@
 -- A text has one reply at most, and from the causes of each status which one comes.
 use Rattle.std.proofs.Common.{◌≡◌, ◌≢◌, ℕ, zero, suc, ◌≤◌, Bool, true, false, List, [], Option, Some, None, refl, sym, ap, ◌∙◌, subst, arith, ◌⊎◌, inl, inr}
-use Rattle.std.specs.Prelude.{IfSome}
 use Rattle.oss_io.specs.Faults.{Rises}
 use Rattle.oss_syntax.specs.declared.tree.program.Program.{Program}
 use Rattle.oss_model.specs.declared.refusal.Refused.{Refused}
@@ -11,9 +10,10 @@ use Rattle.oss_model.specs.ProgramRules.{refusal_of}
 use Rattle.oss_model.specs.Texts.{refusal_line}
 use Rattle.oss_parse.proofs.OneProgram.{parsed_once}
 use Rattle.oss_top.specs.CommandWords.{Command, asked_of, file_of}
-use Rattle.oss_top.specs.Once.{IsRepliedOnce}
+use Rattle.oss_top.specs.OneReply.{IsReplied}
 use Rattle.oss_top.specs.ProgramTexts.{Accepts, Refuses}
 use Rattle.oss_top.specs.ProgramTexts.Refuses.{by_grammar, by_rules}
+use Rattle.oss_top.proofs.SomeReply.{file_reply}
 use Rattle.oss_top.specs.Reply.{Is, IsReply, IsFileReply, IsTextReply, IsProgramReply, IsUnwritten, IsComplete, OfText}
 use Rattle.oss_top.specs.Reply.IsProgramReply.{checked, ran, not_built}
 use Rattle.oss_top.specs.Reply.IsTextReply.{accepted, refused_text}
@@ -70,8 +70,8 @@ module _ (text : List ℕ) (once : IsParsedOnce text) where
   file_once c s t o e q f (fits m x) (too_large n y) = absurd (omega arith)
   file_once c s t o e q f (fits m x) (fits n y) = text_once c s t o e q f x y
 
-pub replied_once : (text : List ℕ) → IsRepliedOnce text
-replied_once text = file_once text (parsed_once text)
+pub replied : (text : List ℕ) → IsReplied text
+replied text = record { some = file_reply text; one = file_once text (parsed_once text) }
 
 -- the statuses that a text has
 abbrev Told : ℕ → Type 0
@@ -81,9 +81,10 @@ module _ (words : List (List ℕ)) (held : List ℕ → Option (List ℕ)) (befo
   -- the reply of the text of the file, where no read failed
   text_of : (status : ℕ) (out err text : List ℕ) (c : Command) → IsReply words held before now last status out err → asked_of words ≡ Some c → held (file_of c) ≡ Some text → Told status → IsFileReply c text status out err
   text_of status out err text c r named given is =
-      let all : OfText held words (λ c t. IsFileReply c t status out err) = r.by_text is in
-      let of_file : IfSome (held (file_of c)) (λ t. IsFileReply c t status out err) = rw named at all in
-      rw given at of_file
+      let of_command : OfText held status out err c = rw named at (r.by_text is) in
+      let (shown, same, reply) = of_command in
+      let is_text : shown ≡ text = rw given at same in
+      subst (λ t. IsFileReply c t status out err) is_text reply
 
   cases : (n : ℕ) → n ≤ 6 → n ≢ 5 → n ≢ 2 → n ≢ 4 → Told n ⊎ (n ≡ 6)
   cases zero small a b c = inl (inl refl)
@@ -103,7 +104,7 @@ module _ (words : List (List ℕ)) (held : List ℕ → Option (List ℕ)) (befo
 
   replies_of : (status s : ℕ) (out err o e text : List ℕ) (c : Command) → IsReply words held before now last status out err → asked_of words ≡ Some c → held (file_of c) ≡ Some text
       → IsFileReply c text s o e → Told status ⊎ (status ≡ 6) → (status ≡ s) ⊎ (status ≡ 6)
-  replies_of status s out err o e text c r named given is (inl told) = inl ((replied_once text c s status o e out err is (text_of status out err text c r named given told)).0)
+  replies_of status s out err o e text c r named given is (inl told) = inl (((replied text).one c s status o e out err is (text_of status out err text c r named given told)).0)
   replies_of status s out err o e text c r named given is (inr full) = inr full
 
   pub complete : (status : ℕ) (out err : List ℕ) → IsReply words held before now last status out err → IsComplete words held status

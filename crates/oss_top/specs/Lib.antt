@@ -1,4 +1,4 @@
 pub mod CommandWords
-pub mod Once
+pub mod OneReply
 pub mod ProgramTexts
 pub mod Reply

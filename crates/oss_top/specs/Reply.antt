@@ -5,7 +5,7 @@
 --     2  the words are refused                  nothing                          the usage line
 --     3  the text is refused                    nothing                          refused: KIND at line N
 --     4  the file could not be read             nothing                          cannot read FILE
---     5  a text could not be written            a prefix of it                   a prefix of it
+--     5  a text could not be written            a prefix of it                   a prefix of it, behind the whole output alone
 --     6  memory is wanting                      nothing                          nothing
 --
 -- Read against: of `long a[2]; int main() { }` the reply to `check` is 0 with `ok`, and to `run` 3 with Unsupported at line 1; of the
@@ -83,20 +83,22 @@ pub data IsFileReply (c : Command) (text : List ℕ) (status : ℕ) (out err : L
   too_large : most_bytes < length text → Is 3 [] too_large_line status out err → IsFileReply c text status out err
   fits : length text ≤ most_bytes → IsTextReply c text status out err → IsFileReply c text status out err
 
--- a fact on the command of the words, and on the text that the shelf holds under its file, where it tells it
-abbrev pub OfText : (List ℕ → Option (List ℕ)) → List (List ℕ) → (Command → List ℕ → Type 0) → Type 0
-OfText held words Fact = IfSome (asked_of words) (λ c. IfSome (held (file_of c)) (λ text. Fact c text))
+-- this is the reply to a command by some text, which is the one that the shelf holds under its file, where it tells it
+abbrev pub OfText : (List ℕ → Option (List ℕ)) → ℕ → List ℕ → List ℕ → Command → Type 0
+OfText held status out err c = (text : List ℕ) × IfSome (held (file_of c)) (λ t. text ≡ t) × IsFileReply c text status out err
 
 -- The reply to words, from a shelf that held these texts; `before` and `now` are its counts of faults, `last` the name of its last one.
 pub record IsReply (words : List (List ℕ)) (held : List ℕ → Option (List ℕ)) (before now : ℕ) (last : List ℕ) (status : ℕ) (out err : List ℕ) : Type 0 where
   pub known : (status ≤ 6) × (status ≢ 5)
-  -- 2 exactly where the words are refused
+  -- 2 exactly where the words are refused, or 6
   pub usage : status ≡ 2 → (asked_of words ≡ None) × (out ≡ []) × (err ≡ usage_line)
   pub refused_words : asked_of words ≡ None → (status ≡ 2) ⊎ (status ≡ 6)
   -- 4 only where the shelf's count rose in this call, and its last fault names the file
   pub unread : status ≡ 4 → Rises before now × (out ≡ []) × IfSome (asked_of words) (λ c. (last ≡ file_of c) × (err ≡ unread_line (file_of c)))
   -- 0, 1 and 3 by the text
-  pub by_text : (status ≡ 0) ⊎ ((status ≡ 1) ⊎ (status ≡ 3)) → OfText held words (λ c text. IsFileReply c text status out err)
+  pub by_text : (status ≡ 0) ⊎ ((status ≡ 1) ⊎ (status ≡ 3)) → IfSome (asked_of words) (λ c. OfText held status out err c)
+  -- no read failed, but for 4, and where memory is wanting
+  pub quiet : status ≢ 4 → status ≢ 6 → now ≡ before
   pub memory : status ≡ 6 → (out ≡ []) × (err ≡ [])
 
 -- a sink after a text that it could not take whole

@@ -1,9 +1,9 @@
 //! The law of the replies of the top call.
 
-ghost use Rattle.oss_top.specs.Once.{IsRepliedOnce};
+ghost use Rattle.oss_top.specs.OneReply.{IsReplied};
 
-/// A law, with nothing to run: a text has one reply to a command at most, so status, output and error output of a check or a
-/// run are settled by the text.
+/// A law, with nothing to run: a text has one reply to a command, and no other. So status, output and error output of a check or
+/// a run are settled by the text.
 pub fn a_text_has_one_reply(text: &[u8])
-    ensures { IsRepliedOnce text.now }
+    ensures { IsReplied text.now }
 {}

@@ -131,10 +131,10 @@ fn reply_to_answer(alloc: Global, answer: &Answer) -> Result<Reply, AllocError>
 fn refused(alloc: Global, kind: RefusedKind) -> Result<Reply, AllocError>
     ensures { IfOk result (λ reply. (reply.status ≡ 3) × (reply.out ≡ []) × (reply.err ≡ line_of_refusal kind 1)) }
 {
-    let refused = Refused {
+    let whole = Refused {
         kind,
         line: 1,
         token: 0,
     };
-    Ok(Reply::error(alloc, 3, refusal_line(alloc, &refused)?))
+    Ok(Reply::error(alloc, 3, refusal_line(alloc, &whole)?))
 }

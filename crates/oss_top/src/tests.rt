@@ -11,6 +11,9 @@ use std::test::Fail;
 const PROGRAM: &str =
     "int i = 2147483647;\nunsigned long u;\nlong t = -5;\nint main() {\ni = i + 1;\nu = u - 1;\nt = t + i;\nprintf(\"%d %lu %ld\\n\", i, u, t);\n}\n";
 
+const FLOW: &str =
+    "long x, y;\nint main() {\n#pragma oss task out(x)\n  x = 5;\n#pragma oss task in(x) out(y)\n  y = x + 1;\n#pragma oss taskwait\n  printf(\"%ld\\n\", y);\n}\n";
+
 const OUTPUT: &str = "-2147483648 18446744073709551615 -2147483653\n";
 
 const UNSUPPORTED: &str = "refused: Unsupported at line 1\n";
@@ -313,6 +316,9 @@ fn words_that_are_no_command_are_refused(rt: HostRuntime) -> Result<(), Fail> {
     assert!(rt; refuses_words(alloc, &["run"])?);
     assert!(rt; refuses_words(alloc, &["run", "p.c", "q.c"])?);
     assert!(rt; refuses_words(alloc, &["run", "p.c", "--fuel=5"])?);
+    assert!(rt; refuses_words(alloc, &["run", "p.c", "--fuel=5", "--fuel=5"])?);
+    assert!(rt; refuses_words(alloc, &["run", "p.c", "--fuel=0"])?);
+    assert!(rt; refuses_words(alloc, &["run", "p.c", "--mode=serial", "--deps=plain"])?);
     assert!(rt; refuses_words(alloc, &["run", "--fuel=5"])?);
     assert!(rt; refuses_words(alloc, &["run", "-a"])?);
     assert!(rt; refuses_words(alloc, &["run", ""])?);
@@ -359,11 +365,34 @@ fn an_output_that_fails_holds_a_prefix(rt: HostRuntime) -> Result<(), Fail> {
         sink(alloc)?,
     )?;
     assert!(rt; told.is(5, "-", ""));
+    let mut out = sink(alloc)?;
+    out.set_piece(1);
+    out.fail_at(2)?;
+    let told = call(
+        alloc,
+        &["run", "p.c"],
+        shelf_with(alloc, FLOW.as_bytes())?,
+        out,
+        sink(alloc)?,
+    )?;
+    assert!(rt; told.is(5, "6", ""));
     let mut err = sink(alloc)?;
     err.set_piece(3);
     err.fail_at(3)?;
     let told = call(alloc, &["run"], MemoryShelf::new(alloc), sink(alloc)?, err)?;
     assert!(rt; told.is(5, "", "usage:"));
+    let mut err = sink(alloc)?;
+    err.set_piece(7);
+    err.fail_at(2)?;
+    let lent = "long x;\nint main() {\nprintf(\"a\");\n#pragma oss task out(x)\nx = 1;\nx = 2;\n}";
+    let told = call(
+        alloc,
+        &["run", "p.c"],
+        shelf_with(alloc, lent.as_bytes())?,
+        sink(alloc)?,
+        err,
+    )?;
+    assert!(rt; told.is(5, "a", "fault: "));
     Ok(())
 }
 
@@ -371,10 +400,7 @@ fn an_output_that_fails_holds_a_prefix(rt: HostRuntime) -> Result<(), Fail> {
 fn tasks_run_where_they_stand(rt: HostRuntime) -> Result<(), Fail> {
     let alloc = rt.alloc();
     for (text, output) in [
-        (
-            "long x, y;\nint main() {\n#pragma oss task out(x)\n  x = 5;\n#pragma oss task in(x) out(y)\n  y = x + 1;\n#pragma oss taskwait\n  printf(\"%ld\\n\", y);\n}\n",
-            "6\n",
-        ),
+        (FLOW, "6\n"),
         (
             "long x;\nint main() {\n#pragma oss task inout(x)\n{\n#pragma oss task out(x)\nx = 1;\n#pragma oss taskwait\nx = x + 1;\n}\n#pragma oss taskwait\nprintf(\"%ld\", x);\n}",
             "2",
@@ -457,7 +483,7 @@ fn a_pragma_names_at_most_64_variables(rt: HostRuntime) -> Result<(), Fail> {
     let most = repeated(alloc, before, ", x", 63, ")\n;\n}")?;
     assert!(rt; run(alloc, most.as_slice())?.is(0, "", ""));
     let more = repeated(alloc, before, ", x", 64, ")\n;\n}")?;
-    assert!(rt; run(alloc, more.as_slice())?.is(3, "", TOO_LARGE));
+    assert!(rt; run(alloc, more.as_slice())?.is(3, "", "refused: TooLarge at line 2\n"));
     Ok(())
 }
 
@@ -508,7 +534,7 @@ fn tasks_nest_as_blocks_do(rt: HostRuntime) -> Result<(), Fail> {
     let most = repeated(alloc, "int main() {", "\n#pragma oss task\n", 63, ";}")?;
     assert!(rt; run(alloc, most.as_slice())?.is(0, "", ""));
     let more = repeated(alloc, "int main() {", "\n#pragma oss task\n", 64, ";}")?;
-    assert!(rt; run(alloc, more.as_slice())?.is(3, "", TOO_LARGE));
+    assert!(rt; run(alloc, more.as_slice())?.is(3, "", "refused: TooLarge at line 129\n"));
     Ok(())
 }
 

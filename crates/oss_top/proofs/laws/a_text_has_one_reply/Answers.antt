@@ -1,5 +1,5 @@
-use Rattle.oss_top.proofs.ReplyLemmas.{replied_once}
+use Rattle.oss_top.proofs.ReplyLemmas.{replied}
 use Rattle.oss_top.proofs.laws.a_text_has_one_reply.Goals as goal
 
 pub returns : goal.returns
-returns c = replied_once c.args.text.now
+returns c = replied c.args.text.now

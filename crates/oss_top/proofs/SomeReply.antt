@@ -1,0 +1,100 @@
+-- A text has a reply: its tokens or a first fault, a program or a refusal by the grammar, and its static rules.
+use Rattle.std.proofs.Common.{◌≡◌, ℕ, zero, suc, ◌+◌, ◌≤◌, ◌<◌, nat_lt, Bool, true, false, List, [], ◌∷◌, length, Result, Ok, Err, refl, ap, arith, ◌⊎◌, inl, inr}
+use Rattle.std.proofs.lemmas.Bool.Decides.{nat_tests}
+use Rattle.oss_syntax.specs.declared.token.Token.{Token}
+use Rattle.oss_syntax.specs.declared.tree.program.Program.{Program}
+use Rattle.oss_model.specs.declared.line_part.LinePart.{LinePart}
+use Rattle.oss_model.specs.declared.line_part.LinePart.TheVariants.{Beginning}
+use Rattle.oss_model.specs.declared.refusal.Refused.{Refused}
+use Rattle.oss_model.specs.declared.refusal.RefusedKind.{RefusedKind}
+use Rattle.oss_model.specs.declared.refusal.Refusal.TheVariants as refusal
+use Rattle.oss_model.specs.Broken.{first}
+use Rattle.oss_model.specs.Built.{is_built}
+use Rattle.oss_model.specs.Parsing.{IsProgramText, IsTextRefusal}
+use Rattle.oss_model.specs.Parsing.IsTextRefusal.{by_tokens}
+use Rattle.oss_model.specs.ProgramRules.{program_rules}
+use Rattle.oss_model.specs.Scalars.{answer_of}
+use Rattle.oss_model.specs.Texts.{refusal_line}
+use Rattle.oss_model.specs.Tokens.{Front, IsFront, Tokens, Stops}
+use Rattle.oss_model.specs.Tokens.Tokens.{done, step}
+use Rattle.oss_model.specs.Tokens.Stops.{here, past}
+use Rattle.oss_lex.specs.Reading.{Fault, front_at}
+use Rattle.oss_lex.proofs.Fronts.{front_fits, faulty, fault_kind, fault_lines}
+use Rattle.oss_lex.proofs.Walk.{step_shorter}
+use Rattle.oss_parse.specs.Parsed.{told_of}
+use Rattle.oss_parse.specs.ProgramReading.{read_text}
+use Rattle.oss_parse.proofs.ParsedLemmas.{parsed}
+use Rattle.oss_report.specs.Outputs.{output_of}
+use Rattle.oss_top.specs.CommandWords.{Command}
+use Rattle.oss_top.specs.CommandWords.Command.{run, check}
+use Rattle.oss_top.specs.ProgramTexts.{Refuses}
+use Rattle.oss_top.specs.ProgramTexts.Refuses.{by_grammar, by_rules}
+use Rattle.oss_top.specs.Reply.{IsFileReply, IsTextReply, IsProgramReply, accepted_line, error_of, most_bytes, run_fuel, status_of, too_large_line, unsupported_line}
+use Rattle.oss_top.specs.Reply.IsProgramReply.{checked, ran, not_built}
+use Rattle.oss_top.specs.Reply.IsTextReply.{accepted, refused_text}
+use Rattle.oss_top.specs.Reply.IsFileReply.{too_large, fits}
+
+-- the tokens of a text from a place on, or the first fault there
+abbrev Read : LinePart → ℕ → List ℕ → Type 0
+Read part line text = ((ts : List Token) × Tokens part line text ts) ⊎ ((kind : RefusedKind) × (at : ℕ) × Stops part line text kind at)
+
+front_is : (part : LinePart) (text : List ℕ) (told : Front) → front_at part text ≡ Ok told → IsFront part text told
+front_is part text told read = rw read at (front_fits part text)
+
+behind : (part : LinePart) (line : ℕ) (text : List ℕ) (told : Front) → IsFront part text told → Read told.part (line + told.lines) told.rest → Read part line text
+behind part line text told is (inl (ts, w)) = inl (_, step told ts is w refl)
+behind part line text told is (inr (kind, at, w)) = inr (kind, at, past told is w)
+
+some_reading : (n : ℕ) (part : LinePart) (line : ℕ) (text : List ℕ) → length text ≤ n → Read part line text
+some_reading n part line [] few = inl ([], done refl)
+some_reading zero part line (b ∷ more) few = absurd (omega arith)
+some_reading (suc n) part line (b ∷ more) few =
+    on (front_at part (b ∷ more)) refl (λ told shorter. some_reading n told.part (line + told.lines) told.rest (omega (arith, shorter, few))) where
+      on : (answer : Result Front Fault) → front_at part (b ∷ more) ≡ answer → ((told : Front) → length told.rest < length (b ∷ more) → Read told.part (line + told.lines) told.rest) → Read part line (b ∷ more)
+      on (Ok told) e again =
+          behind part line (b ∷ more) told (front_is part (b ∷ more) told e) (again told (step_shorter part (b ∷ more) told.what told.part told.lines told.rest e))
+      on (Err fault) e again = inr (fault_kind fault, line + fault_lines fault, here (fault_lines fault) (faulty part (b ∷ more) fault (λ none. absurd (cc)) e))
+
+-- a program of the grammar, or why there is none
+abbrev Parse : List ℕ → Type 0
+Parse text = ((p : Program) × IsProgramText text p) ⊎ ((r : Refused) × IsTextRefusal text r)
+
+some_parse : (text : List ℕ) → Parse text
+some_parse text = from (some_reading (length text) Beginning 1 text (omega arith)) where
+  told : (ts : List Token) → Tokens Beginning 1 text ts → (answer : Result Program Refused) → told_of text ts (read_text ts) ≡ answer → Parse text
+  told ts w (Ok p) e = inl (p, parsed text (Ok p) (record { tokens = ts; are_tokens = w; is_told = e }))
+  told ts w (Err r) e = inr (r, parsed text (Err (refusal.Refused r)) (inr (record { tokens = ts; are_tokens = w; is_told = e })))
+
+  from : Read Beginning 1 text → Parse text
+  from (inl (ts, w)) = told ts w (told_of text ts (read_text ts)) refl
+  from (inr (kind, at, w)) = inr (record { kind = kind; line = at; token = 0 }, by_tokens w refl)
+
+-- a reply of any kind
+abbrev Some_of : (ℕ → List ℕ → List ℕ → Type 0) → Type 0
+Some_of R = (s : ℕ) × (out : List ℕ) × (err : List ℕ) × R s out err
+
+program_reply : (c : Command) (p : Program) → Some_of (IsProgramReply c p)
+program_reply (check file) p = (0, accepted_line, [], checked (refl, refl, refl))
+program_reply (run file) p = on (is_built p) refl where
+  on : (b : Bool) → is_built p ≡ b → Some_of (IsProgramReply (run file) p)
+  on true e = (status_of (answer_of p run_fuel), output_of (answer_of p run_fuel), error_of (answer_of p run_fuel), ran e (refl, refl, refl))
+  on false e = (3, [], unsupported_line, not_built e (refl, refl, refl))
+
+text_reply : (c : Command) (text : List ℕ) → Some_of (IsTextReply c text)
+text_reply c text = from (some_parse text) where
+  refused : (r : Refused) → Refuses text r → Some_of (IsTextReply c text)
+  refused r w = (3, [], refusal_line r.kind r.line, refused_text r w (refl, refl, refl))
+
+  ruled : (p : Program) → IsProgramText text p → (rules : List Refused) → program_rules p ≡ rules → Some_of (IsTextReply c text)
+  ruled p w [] e = let (s, out, err, is) = program_reply c p in (s, out, err, accepted p (record { is_text = w; obeys = e }) is)
+  ruled p w (r ∷ rest) e = refused r (by_rules p w (ap first e))
+
+  from : Parse text → Some_of (IsTextReply c text)
+  from (inl (p, w)) = ruled p w (program_rules p) refl
+  from (inr (r, w)) = refused r (by_grammar w)
+
+pub file_reply : (text : List ℕ) (c : Command) → Some_of (IsFileReply c text)
+file_reply text c = on (nat_lt most_bytes (length text)) refl where
+  on : (b : Bool) → nat_lt most_bytes (length text) ≡ b → Some_of (IsFileReply c text)
+  on true e = (3, [], too_large_line, too_large (grind (arith, nat_tests)) (refl, refl, refl))
+  on false e = let (s, out, err, is) = text_reply c text in (s, out, err, fits (grind (arith, nat_tests)) is)
