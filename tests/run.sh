@@ -26,20 +26,24 @@ trap 'rm -rf "$work"' EXIT
 passed=0
 failed=0
 
+# judge NAME STATUS OUT-FILE ERR-FILE GOT: of a call that has left its outputs in $work/out and $work/err
+judge() {
+  if [ "$5" = "$2" ] && cmp -s "$work/out" "$3" && cmp -s "$work/err" "$4"; then
+    passed=$((passed + 1))
+  else
+    failed=$((failed + 1))
+    echo "failed: $1 (status $5, wanted $2)"
+    diff "$3" "$work/out" | head -n 5
+    diff "$4" "$work/err" | head -n 5
+  fi
+}
+
 # expect NAME STATUS OUT-FILE ERR-FILE WORD..
 expect() {
   name=$1 wanted=$2 out=$3 err=$4
   shift 4
   "$program" "$@" >"$work/out" 2>"$work/err" </dev/null
-  got=$?
-  if [ "$got" = "$wanted" ] && cmp -s "$work/out" "$out" && cmp -s "$work/err" "$err"; then
-    passed=$((passed + 1))
-  else
-    failed=$((failed + 1))
-    echo "failed: $name (status $got, wanted $wanted)"
-    diff "$out" "$work/out" | head -n 5
-    diff "$err" "$work/err" | head -n 5
-  fi
+  judge "$name" "$wanted" "$out" "$err" $?
 }
 
 # leaves the program of a case in p.c, and what is said of it in `words`, `status`, `out_text`, `err_text`
@@ -137,6 +141,21 @@ expect "a file of 1,048,576 bytes to check" 0 ok ../nothing check full.c
 expect "a file of 1,048,577 bytes" 3 ../nothing too_large run long.c
 expect "a file of 1,048,577 bytes to check" 3 ../nothing too_large check long.c
 expect "a file of 1,048,577 bytes with a bad byte" 3 ../nothing too_large check long_bytes.c
+
+# What stands outside fails: memory is wanting, and an output takes nothing.
+awk 'BEGIN { printf "int main() {"; for (i = 0; i < 1000000; i++) printf ";"; printf "}" }' >statements.c
+(ulimit -v 60000 && exec "$program" check statements.c) >"$work/out" 2>"$work/err"
+judge "little memory to check" 6 ../nothing ../nothing $?
+(ulimit -v 60000 && exec "$program" run statements.c) >"$work/out" 2>"$work/err"
+judge "little memory to run" 6 ../nothing ../nothing $?
+if [ -c /dev/full ]; then
+  : >"$work/out"
+  "$program" run short.c >/dev/full 2>"$work/err"
+  judge "a full output" 5 ../nothing ../nothing $?
+  : >"$work/err"
+  "$program" run >"$work/out" 2>/dev/full
+  judge "a full error output" 5 ../nothing ../nothing $?
+fi
 
 echo "$passed passed, $failed failed"
 [ "$failed" = 0 ]
