@@ -1,8 +1,8 @@
 -- The faults of clauses, by a table of the rights that they give.
 use Rattle.std.proofs.Common.{◌≡◌, ap, ◌∙◌, sym, Bool, false, if◌then◌else◌, List, get_or, Option, Some, None}
 use Rattle.oss_syntax.specs.declared.access.Access.{Access}
-use Rattle.oss_model.specs.declared.answer.FaultKind.{FaultKind}
-use Rattle.oss_model.specs.declared.answer.FaultKind.TheVariants as fault
+use Rattle.oss_syntax.specs.declared.fault.FaultKind.{FaultKind}
+use Rattle.oss_syntax.specs.declared.fault.FaultKind.TheVariants as fault
 use Rattle.oss_model.specs.Rights.{any_cell, is_released, holds_uncovered, is_mixed, right_from}
 use Rattle.oss_model.specs.Context.{Entry, Context, no_entry, clause_fault, release_fault}
 use Rattle.oss_judge.specs.Table.{Gives}

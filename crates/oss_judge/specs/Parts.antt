@@ -2,8 +2,8 @@
 use Rattle.std.specs.Prelude.{Bool, if◌then◌else◌, List, slice_index_or, Option, Some, None}
 use Rattle.oss_syntax.specs.declared.access.Access.{Access}
 use Rattle.oss_syntax.specs.declared.access.Mode.{Mode}
-use Rattle.oss_model.specs.declared.answer.FaultKind.{FaultKind}
-use Rattle.oss_model.specs.declared.answer.FaultKind.TheVariants as fault
+use Rattle.oss_syntax.specs.declared.fault.FaultKind.{FaultKind}
+use Rattle.oss_syntax.specs.declared.fault.FaultKind.TheVariants as fault
 use Rattle.oss_model.specs.Rights.{Right, Holds, Lending, Free, Writing, any_cell, is_released, holds_uncovered}
 use Rattle.oss_model.specs.Context.{Entry, lacks_right, no_entry}
 

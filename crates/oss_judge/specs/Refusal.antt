@@ -1,6 +1,6 @@
 -- A refusal has its cause: it tells the fault, or memory is wanting.
 use Rattle.std.specs.Prelude.{◌≡◌, Option, Some}
-use Rattle.oss_model.specs.declared.answer.FaultKind.{FaultKind}
+use Rattle.oss_syntax.specs.declared.fault.FaultKind.{FaultKind}
 use Rattle.oss_judge.specs.declared.refused.JudgeRefused.{JudgeRefused}
 use Rattle.oss_judge.specs.declared.refused.JudgeRefused.TheVariants.{Fault, Memory}
 

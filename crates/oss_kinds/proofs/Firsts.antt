@@ -3,11 +3,11 @@ use Rattle.std.proofs.Common.{◌≡◌, ℕ, ◌+◌, ◌<◌, nat_lt, if◌the
 use Rattle.std.proofs.lemmas.List.{drop_more, take-map}
 use Rattle.oss_syntax.specs.declared.tree.expr.Expr.{Expr}
 use Rattle.oss_syntax.specs.declared.tree.program.Local.{Local}
-use Rattle.oss_model.specs.ExpressionRules.{argument_rules, argument_wanted, parameters_behind}
-use Rattle.oss_model.specs.Kinds.{Findings, all_of, placed}
-use Rattle.oss_model.specs.declared.refusal.Refused.{Refused}
-use Rattle.oss_model.specs.Broken.{first, rank, insert}
-use Rattle.oss_model.specs.Scopes.{or_else}
+use Rattle.oss_grammar.specs.ExpressionRules.{argument_rules, argument_wanted, parameters_behind}
+use Rattle.oss_grammar.specs.Kinds.{Findings, all_of, placed}
+use Rattle.oss_syntax.specs.declared.refusal.Refused.{Refused}
+use Rattle.oss_grammar.specs.Broken.{first, rank, insert}
+use Rattle.oss_grammar.specs.Scopes.{or_else}
 use Rattle.oss_kinds.specs.Seen.{earlier}
 
 pub first-append : (xs ys : List Refused) → first (xs ++ ys) ≡ or_else (first xs) (first ys)

@@ -1,8 +1,8 @@
 -- What the checker keeps of broken rules: of each list its first.
 use Rattle.std.specs.Prelude.{nat_lt, if◌then◌else◌, Option, Some, None}
-use Rattle.oss_model.specs.declared.refusal.Refused.{Refused}
-use Rattle.oss_model.specs.Broken.{first, rank}
-use Rattle.oss_model.specs.Kinds.{Findings}
+use Rattle.oss_syntax.specs.declared.refusal.Refused.{Refused}
+use Rattle.oss_grammar.specs.Broken.{first, rank}
+use Rattle.oss_grammar.specs.Kinds.{Findings}
 use Rattle.oss_kinds.specs.declared.finding.Finding.{Finding}
 
 abbrev pub seen : Findings → Finding

@@ -1,17 +1,17 @@
 //! The rules on expressions.
 ghost use Rattle.std.specs.Prelude.{◌≡◌, map, length};
 ghost use Rattle.std.specs.Option.{option_copied};
-ghost use Rattle.oss_model.specs.Broken.{first};
-ghost use Rattle.oss_model.specs.ExpressionRules.{argument_rules, argument_wanted, call_findings, call_kind, call_rules, callee_rules, findings, parameters_behind, parameters_of, value_rules};
-ghost use Rattle.oss_model.specs.Scalars.{is_main};
+ghost use Rattle.oss_grammar.specs.Broken.{first};
+ghost use Rattle.oss_grammar.specs.ExpressionRules.{argument_rules, argument_wanted, call_findings, call_kind, call_rules, callee_rules, findings, parameters_behind, parameters_of, value_rules};
+ghost use Rattle.oss_grammar.specs.Scopes.{is_main};
 ghost use Rattle.oss_kinds.specs.Seen.{seen};
 
 use crate::finding::{Finding, at_place, before, first_of, kind_of, number, refused, taken_by};
 use crate::globals::Globals;
 use crate::locals::Locals;
 use crate::operators::{binary, index, name, unary};
-use oss_model::{Named, Object, Refused, RefusedKind, ValueKind, Wanted};
-use oss_syntax::{Expr, ExprKind, Function, Local};
+use oss_grammar::{Named, Object, ValueKind, Wanted};
+use oss_syntax::{Expr, ExprKind, Function, Local, Refused, RefusedKind};
 
 /// The first rule that an expression breaks at a place.
 pub fn value(

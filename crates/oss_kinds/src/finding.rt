@@ -1,11 +1,11 @@
 ghost use Rattle.std.specs.Prelude.{◌≡◌, Option};
-ghost use Rattle.oss_model.specs.Broken.{broken, first, rank, insert, where_so};
-ghost use Rattle.oss_model.specs.Kinds.{Findings, all_of, allows, number_kind, value_kind, same_number, refused_here, placed, wanted_by, number_findings};
-ghost use Rattle.oss_model.specs.Scopes.{or_else};
+ghost use Rattle.oss_grammar.specs.Broken.{broken, first, rank, insert, where_so};
+ghost use Rattle.oss_grammar.specs.Kinds.{Findings, all_of, allows, number_kind, value_kind, same_number, refused_here, placed, wanted_by, number_findings};
+ghost use Rattle.oss_grammar.specs.Scopes.{or_else};
 ghost use Rattle.oss_kinds.specs.Seen.{seen, earlier as earlier_of};
 
-use oss_model::{Object, Refused, RefusedKind, ValueKind, Wanted};
-use oss_syntax::{Kind, NumKind};
+use oss_grammar::{Object, ValueKind, Wanted};
+use oss_syntax::{Kind, NumKind, Refused, RefusedKind};
 
 /// What the checker keeps of an expression: the line of its first token, the first rule that is broken at that token and
 /// the first one behind it, its kind, and what it designates.

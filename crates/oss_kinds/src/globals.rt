@@ -1,12 +1,12 @@
 //! The globals and functions of a program, by name.
 ghost use Rattle.std.specs.Prelude.{◌≡◌, ◌∷◌, ◌++◌, ℕ, List, [], length, slice_get, IfOk, OnOk};
 ghost use Rattle.std.specs.Option.{option_copied};
-ghost use Rattle.oss_model.specs.Scopes.{item_name, item_named, item_place, function_named, is_again, meaning, global_meaning};
+ghost use Rattle.oss_grammar.specs.Scopes.{item_name, item_named, item_place, function_named, is_again, meaning, global_meaning};
 ghost use Rattle.oss_kinds.specs.Tables.{Tells};
 
 use crate::locals::Locals;
 use indexmap::IndexMap;
-use oss_model::Named;
+use oss_grammar::Named;
 use oss_syntax::{Function, GlobalDef, Item, Name};
 use std::alloc::{AllocError, Global};
 use std::marker::Model;
@@ -21,7 +21,7 @@ pub struct Globals<'p> {
 impl<'p> Model for Globals<'p> {
     ghost use Rattle.std.specs.Prelude.{List, map};
     ghost use Rattle.oss_syntax.specs.declared.tree.program.Item.{Item};
-    ghost use Rattle.oss_model.specs.Scopes.{item_name};
+    ghost use Rattle.oss_grammar.specs.Scopes.{item_name};
     ghost use Rattle.oss_kinds.specs.Tables.{Tells};
     ghost use Rattle.std.specs.Coded.{coded_list};
     ghost use Rattle.oss_syntax.specs.contracts.tree.program.Item as item;

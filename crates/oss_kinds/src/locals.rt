@@ -1,6 +1,6 @@
 //! The locals in scope.
 ghost use Rattle.std.specs.Prelude.{◌≡◌, ◌∷◌, ◌++◌, ◌≤◌, [], length, map, take, IfOk, OnOk};
-ghost use Rattle.oss_model.specs.Scopes.{local_kind, is_local_again};
+ghost use Rattle.oss_grammar.specs.Scopes.{local_kind, is_local_again};
 
 use oss_syntax::{Kind, Local};
 use std::alloc::{AllocError, Global};

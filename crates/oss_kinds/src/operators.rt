@@ -1,14 +1,14 @@
 //! What is found of an expression, from what was found of its operands.
 ghost use Rattle.std.specs.Prelude.{◌≡◌};
-ghost use Rattle.oss_model.specs.Kinds.{Findings, address_kind, binary_findings, binary_kind, binary_of, element_kind, element_object, has_address, index_findings, index_of, joined_kind, left_wanted, name_findings, name_kind, name_object, name_rules, prefixed, unary_findings, unless, unless_unknown};
-ghost use Rattle.oss_model.specs.Broken.{first};
+ghost use Rattle.oss_grammar.specs.Kinds.{Findings, address_kind, binary_findings, binary_kind, binary_of, element_kind, element_object, has_address, index_findings, index_of, joined_kind, left_wanted, name_findings, name_kind, name_object, name_rules, prefixed, unary_findings, unless, unless_unknown};
+ghost use Rattle.oss_grammar.specs.Broken.{first};
 ghost use Rattle.oss_kinds.specs.Seen.{seen};
 
 use crate::finding::{
     Finding, at_place, before, first_of, kind_of, kind_of_number, refused, wrong,
 };
-use oss_model::{Named, Object, Refused, RefusedKind, ValueKind, Wanted};
-use oss_syntax::{BinOp, UnOp};
+use oss_grammar::{Named, Object, ValueKind, Wanted};
+use oss_syntax::{BinOp, Refused, RefusedKind, UnOp};
 
 /// A name that stands for this.
 pub fn name(named: Named, line: u32) -> Finding

@@ -1,8 +1,8 @@
 -- What an answer of the reader says of the text.
 use Rattle.std.proofs.Common.{ℕ, List}
 use Rattle.std.specs.Prelude.{Ok, Err}
-use Rattle.oss_model.specs.declared.refusal.RefusedKind.TheVariants.{Lexical, TooLarge}
-use Rattle.oss_model.specs.Tokens.{Begins, IsLong}
+use Rattle.oss_syntax.specs.declared.refusal.RefusedKind.TheVariants.{Lexical, TooLarge}
+use Rattle.oss_grammar.specs.Tokens.{Begins, IsLong}
 use Rattle.oss_lex.specs.Reading.{Answer}
 
 -- The text begins with the token that is answered, or with a name that is too long. Of `Lexical` nothing is said yet.

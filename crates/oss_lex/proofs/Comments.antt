@@ -2,10 +2,10 @@
 use Rattle.std.proofs.Common.{◌≡◌, ℕ, ◌+◌, Bool, true, false, ◌&&◌, List, [], ◌∷◌, ◌++◌, length, take, drop, refl, ◌∙◌, zero, suc, inl, inr, arith, one-add}
 use Rattle.std.proofs.lemmas.Bool.{cases_Bool, cases_eq, eqb-true, ne_eqb, and_parts, not-false}
 use Rattle.std.specs.Prelude.{◌==◌, if◌then◌else◌, slice_index, not}
-use Rattle.oss_model.specs.Words.{NotFirst}
-use Rattle.oss_model.specs.Tokens.{ends_line, Closes, Remarks}
-use Rattle.oss_model.specs.Tokens.Closes.{close, inside}
-use Rattle.oss_model.specs.Tokens.Remarks.{over, goes_on}
+use Rattle.oss_grammar.specs.Words.{NotFirst}
+use Rattle.oss_grammar.specs.Tokens.{ends_line, Closes, Remarks}
+use Rattle.oss_grammar.specs.Tokens.Closes.{close, inside}
+use Rattle.oss_grammar.specs.Tokens.Remarks.{over, goes_on}
 use Rattle.oss_lex.specs.Reading.{lengthened, close_len, remark_len}
 
 pub lengthened-none : (more : ℕ) → lengthened more 0 ≡ 0

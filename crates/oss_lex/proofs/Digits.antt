@@ -4,7 +4,7 @@ use Rattle.std.proofs.lemmas.List.{take-append-drop}
 use Rattle.std.proofs.lemmas.List.Sums.{fold-append, fold_more}
 use Rattle.std.proofs.Math.Nat.{mul-le-mul_left}
 use Rattle.std.specs.List.{fold}
-use Rattle.oss_model.specs.Words.{digit_of, value_in}
+use Rattle.oss_grammar.specs.Words.{digit_of, value_in}
 
 pub value_from-grows : (base : ℕ) → 0 < base → (a : ℕ) (ds : List ℕ) → a ≤ fold (λ value b. value * base + digit_of b) a ds
 value_from-grows base some a [] = omega arith

@@ -4,13 +4,13 @@ use Rattle.std.proofs.lemmas.List.{take-append-drop}
 use Rattle.std.proofs.lemmas.Bool.{cases_Bool, cases_eq, eqb-true, and_parts, ne_eqb}
 use Rattle.std.specs.Prelude.{◌==◌, Result, Ok, Err, Some, None, codes}
 use Rattle.oss_syntax.specs.declared.token.TokenKind.{TokenKind}
-use Rattle.oss_model.specs.declared.line_part.LinePart.{LinePart}
-use Rattle.oss_model.specs.declared.line_part.LinePart.TheVariants.{Beginning, Later, Pragma}
-use Rattle.oss_model.specs.declared.refusal.RefusedKind.{RefusedKind}
-use Rattle.oss_model.specs.declared.refusal.RefusedKind.TheVariants.{Lexical, TooLarge}
-use Rattle.oss_model.specs.Tokens.{newlines, IsGap, IsUnclosed, Begins, Front, IsFront, IsLong, IsFaulty, part_behind}
-use Rattle.oss_model.specs.Tokens.IsFront.{newline, pragma_end, gap, token, include, pragma_oss, other_pragma, directive}
-use Rattle.oss_model.specs.Tokens.IsFaulty.{bad, long, unclosed}
+use Rattle.oss_grammar.specs.declared.line_part.LinePart.{LinePart}
+use Rattle.oss_grammar.specs.declared.line_part.LinePart.TheVariants.{Beginning, Later, Pragma}
+use Rattle.oss_syntax.specs.declared.refusal.RefusedKind.{RefusedKind}
+use Rattle.oss_syntax.specs.declared.refusal.RefusedKind.TheVariants.{Lexical, TooLarge}
+use Rattle.oss_grammar.specs.Tokens.{newlines, IsGap, IsUnclosed, Begins, Front, IsFront, IsLong, IsFaulty, part_behind}
+use Rattle.oss_grammar.specs.Tokens.IsFront.{newline, pragma_end, gap, token, include, pragma_oss, other_pragma, directive}
+use Rattle.oss_grammar.specs.Tokens.IsFaulty.{bad, long, unclosed}
 use Rattle.oss_lex.specs.Reading.{Answer, Fault, at_front, in_head, token_at, gap_len, front, newline_at, is_beginning, token_told, front_behind, front_at, hash_at}
 use Rattle.oss_lex.proofs.Answers.{Fits}
 use Rattle.oss_lex.proofs.Gaps.{gap_taken, gap_again, gap_first, gap_no_token, no_token}

@@ -2,8 +2,8 @@
 use Rattle.std.proofs.Common.{◌≡◌, ℕ, ◌+◌, ◌-◌, ◌≤◌, List, [], ◌∷◌, ◌++◌, length, take, drop, refl, ap, sym, ◌∙◌, zero, suc, inl, inr, arith, append_assoc, length-append, length-take, sub-one, zero-add}
 use Rattle.std.proofs.lemmas.List.{take-append-drop}
 use Rattle.std.proofs.lemmas.Bool.{cases_eq, ne_eqb}
-use Rattle.oss_model.specs.Tokens.{IsGap, IsGaps}
-use Rattle.oss_model.specs.Tokens.IsGaps.{none, one_more}
+use Rattle.oss_grammar.specs.Tokens.{IsGap, IsGaps}
+use Rattle.oss_grammar.specs.Tokens.IsGaps.{none, one_more}
 use Rattle.oss_lex.specs.Reading.{gap_len, gaps_len}
 use Rattle.oss_lex.proofs.Gaps.{gap_taken, gap_again, gap_first, no_gap}
 use Rattle.oss_lex.proofs.Runs.{take_word, drop_word}

@@ -3,10 +3,10 @@ use Rattle.std.proofs.Common.{◌≡◌, ℕ, ◌+◌, Bool, true, false, ◌&&�
 use Rattle.std.proofs.lemmas.Bool.{cases_Bool, eqb-true, and_parts, or_left, or_right}
 use Rattle.std.proofs.lemmas.Bool.Decides.{nat_tests}
 use Rattle.std.specs.Prelude.{◌==◌, if◌then◌else◌, Err}
-use Rattle.oss_model.specs.declared.refusal.RefusedKind.TheVariants.{Lexical}
-use Rattle.oss_model.specs.Words.{is_letter, is_digit, is_one, opens_comment}
-use Rattle.oss_model.specs.Tokens.{is_blank, IsGap}
-use Rattle.oss_model.specs.Tokens.IsGap.{blank, spliced, comment, remark}
+use Rattle.oss_syntax.specs.declared.refusal.RefusedKind.TheVariants.{Lexical}
+use Rattle.oss_grammar.specs.Words.{is_letter, is_digit, is_one, opens_comment}
+use Rattle.oss_grammar.specs.Tokens.{is_blank, IsGap}
+use Rattle.oss_grammar.specs.Tokens.IsGap.{blank, spliced, comment, remark}
 use Rattle.oss_lex.specs.Reading.{Answer, lengthened, close_len, remark_len, gap_len, gap_len_behind, token_at, symbol_at, symbol_told}
 use Rattle.oss_lex.proofs.Comments.{lengthened-none, lengthened-some, close_fits, close_again, closes_some, remark_fits, remark_again}
 use Rattle.oss_lex.proofs.SymbolWords.{symbol_len_none}

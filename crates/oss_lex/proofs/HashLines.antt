@@ -7,10 +7,10 @@ use Rattle.std.specs.Prelude.{◌==◌, not, codes, Some, None, Result, Ok, Err}
 use Rattle.std.specs.List.{prefix_len, list_all}
 use Rattle.std.specs.Str.{bytes_eq}
 use Rattle.oss_syntax.specs.declared.token.TokenKind.TheVariants.{PragmaOss, Directive}
-use Rattle.oss_model.specs.declared.line_part.LinePart.TheVariants.{Beginning, Later, Pragma}
-use Rattle.oss_model.specs.Words.{is_letter, is_digit, is_name_byte, opens_comment}
-use Rattle.oss_model.specs.Tokens.{newlines, IsUnclosed, IsGaps, HasWord, IsLine, Front, IsFront}
-use Rattle.oss_model.specs.Tokens.IsFront.{include, pragma_oss, other_pragma, directive}
+use Rattle.oss_grammar.specs.declared.line_part.LinePart.TheVariants.{Beginning, Later, Pragma}
+use Rattle.oss_grammar.specs.Words.{is_letter, is_digit, is_name_byte, opens_comment}
+use Rattle.oss_grammar.specs.Tokens.{newlines, IsUnclosed, IsGaps, HasWord, IsLine, Front, IsFront}
+use Rattle.oss_grammar.specs.Tokens.IsFront.{include, pragma_oss, other_pragma, directive}
 use Rattle.oss_lex.specs.Reading.{Fault, at_front, in_head, front, line_len, gaps_len, pragma_behind, pragma_at, hash_behind, hash_at}
 use Rattle.oss_lex.proofs.GapRuns.{gaps_taken, gaps_len_again}
 use Rattle.oss_lex.proofs.Runs.{prefix_len_word, front_passes, rest_stops, take_word, drop_word}

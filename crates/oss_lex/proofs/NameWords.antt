@@ -5,8 +5,8 @@ use Rattle.std.proofs.lemmas.Bool.{cases_Bool, or_left, lt-ltb, le-ltb, ltb-true
 use Rattle.std.specs.Prelude.{Ok, Err, nat_lt}
 use Rattle.std.specs.List.{prefix_len, list_all}
 use Rattle.oss_syntax.specs.declared.token.TokenKind.TheVariants.{Name, Keyword}
-use Rattle.oss_model.specs.declared.refusal.RefusedKind.TheVariants.{TooLarge}
-use Rattle.oss_model.specs.Words.{NotFirst, is_letter, is_digit, is_name_byte, IsIdentifier, is_keyword}
+use Rattle.oss_syntax.specs.declared.refusal.RefusedKind.TheVariants.{TooLarge}
+use Rattle.oss_grammar.specs.Words.{NotFirst, is_letter, is_digit, is_name_byte, IsIdentifier, is_keyword}
 use Rattle.oss_lex.specs.Reading.{name_at, name_answer}
 use Rattle.oss_lex.proofs.Answers.{Fits}
 use Rattle.oss_lex.proofs.Runs.{prefix_len_word, front_passes, rest_stops, take_word, drop_word}

@@ -8,8 +8,8 @@ use Rattle.std.specs.Prelude.{Option, Some, None, Ok, nat_lt, ◌==◌, codes}
 use Rattle.std.specs.List.{prefix_len, list_all}
 use Rattle.std.specs.Str.{bytes_eq}
 use Rattle.oss_syntax.specs.declared.token.TokenKind.TheVariants.{Number}
-use Rattle.oss_model.specs.Words.{NotFirst, is_letter, is_digit, is_name_byte, digit_of, is_digit_in, value_in, Written, is_signed_suffix, is_unsigned_suffix, IsMarked, IsNumber}
-use Rattle.oss_model.specs.Words.Written.{decimal, octal, hexadecimal}
+use Rattle.oss_grammar.specs.Words.{NotFirst, is_letter, is_digit, is_name_byte, digit_of, is_digit_in, value_in, Written, is_signed_suffix, is_unsigned_suffix, IsMarked, IsNumber}
+use Rattle.oss_grammar.specs.Words.Written.{decimal, octal, hexadecimal}
 use Rattle.oss_lex.specs.Reading.{marked, number_in, hexadecimal_of, zero_number_of, number_of, number_told, number_at}
 use Rattle.oss_lex.proofs.Answers.{Fits}
 use Rattle.oss_lex.proofs.Runs.{prefix_len_word, front_passes, rest_stops, take_word, drop_word, list_all_more, list_all_append}

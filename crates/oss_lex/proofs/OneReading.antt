@@ -2,14 +2,14 @@
 use Rattle.std.proofs.Common.{◌≡◌, ◌≢◌, ℕ, ◌+◌, List, [], ◌∷◌, ◌++◌, refl, ap, sym, ◌∙◌, subst}
 use Rattle.std.specs.Prelude.{Ok, Err, codes}
 use Rattle.oss_syntax.specs.declared.token.Token.{Token}
-use Rattle.oss_model.specs.declared.line_part.LinePart.{LinePart}
-use Rattle.oss_model.specs.declared.refusal.RefusedKind.{RefusedKind}
-use Rattle.oss_model.specs.declared.refusal.RefusedKind.TheVariants.{Lexical}
-use Rattle.oss_model.specs.Tokens.{Front, IsFront, IsFaulty, Tokens, Stops, found_before, IsReadOnce}
-use Rattle.oss_model.specs.Tokens.IsFaulty.{bad, long, unclosed}
-use Rattle.oss_model.specs.Tokens.Tokens.{done, step}
-use Rattle.oss_model.specs.Tokens.Stops.{here, past}
-use Rattle.oss_model.specs.Words.{IsIdentifier}
+use Rattle.oss_grammar.specs.declared.line_part.LinePart.{LinePart}
+use Rattle.oss_syntax.specs.declared.refusal.RefusedKind.{RefusedKind}
+use Rattle.oss_syntax.specs.declared.refusal.RefusedKind.TheVariants.{Lexical}
+use Rattle.oss_grammar.specs.Tokens.{Front, IsFront, IsFaulty, Tokens, Stops, found_before, IsReadOnce}
+use Rattle.oss_grammar.specs.Tokens.IsFaulty.{bad, long, unclosed}
+use Rattle.oss_grammar.specs.Tokens.Tokens.{done, step}
+use Rattle.oss_grammar.specs.Tokens.Stops.{here, past}
+use Rattle.oss_grammar.specs.Words.{IsIdentifier}
 use Rattle.oss_lex.specs.Reading.{at_front, front_at}
 use Rattle.oss_lex.proofs.Fronts.{fault_kind, fault_lines, front_again, faulty_again}
 

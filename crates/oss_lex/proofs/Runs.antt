@@ -2,7 +2,7 @@
 use Rattle.std.proofs.Common.{◌≡◌, ℕ, Bool, true, List, [], ◌∷◌, ◌++◌, length, take, drop, refl, ap, inl, inr, one-add}
 use Rattle.std.proofs.lemmas.Bool.{and_parts, and_from, cases_Bool}
 use Rattle.std.specs.List.{prefix_len, list_all}
-use Rattle.oss_model.specs.Words.{NotFirst}
+use Rattle.oss_grammar.specs.Words.{NotFirst}
 
 pub prefix_len_word : (test : ℕ → Bool) (word rest : List ℕ) → list_all test word ≡ true → NotFirst test rest → prefix_len test (word ++ rest) ≡ length word
 prefix_len_word test [] [] all stops = refl

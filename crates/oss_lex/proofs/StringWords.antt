@@ -4,9 +4,9 @@ use Rattle.std.proofs.lemmas.Bool.{cases_Bool, eqb-true}
 use Rattle.std.proofs.lemmas.Bool.Decides.{nat_tests}
 use Rattle.std.specs.Prelude.{◌==◌, Ok, Err}
 use Rattle.oss_syntax.specs.declared.token.TokenKind.TheVariants.{Text}
-use Rattle.oss_model.specs.declared.refusal.RefusedKind.TheVariants.{Lexical}
-use Rattle.oss_model.specs.Words.{is_plain, is_escape, escaped, Spells}
-use Rattle.oss_model.specs.Words.Spells.{nothing, plain, escape}
+use Rattle.oss_syntax.specs.declared.refusal.RefusedKind.TheVariants.{Lexical}
+use Rattle.oss_grammar.specs.Words.{is_plain, is_escape, escaped, Spells}
+use Rattle.oss_grammar.specs.Words.Spells.{nothing, plain, escape}
 use Rattle.oss_lex.specs.Reading.{Answer, string_at}
 
 -- how the bytes go on, behind a backslash or not

@@ -4,8 +4,8 @@ use Rattle.std.proofs.lemmas.Bool.{cases_Bool, false_from_ne_true}
 use Rattle.std.proofs.lemmas.Bool.Decides.{nat_tests}
 use Rattle.std.specs.Prelude.{slice_index, ◌==◌, if◌then◌else◌, Ok}
 use Rattle.oss_syntax.specs.declared.token.TokenKind.TheVariants.{Symbol}
-use Rattle.oss_model.specs.Words.{is_letter, is_digit, is_one, is_two, is_three, is_symbol, opens_comment, Ends}
-use Rattle.oss_model.specs.Tokens.{is_blank}
+use Rattle.oss_grammar.specs.Words.{is_letter, is_digit, is_one, is_two, is_three, is_symbol, opens_comment, Ends}
+use Rattle.oss_grammar.specs.Tokens.{is_blank}
 use Rattle.oss_lex.specs.Reading.{symbol_len, symbol_told, symbol_at}
 use Rattle.oss_lex.proofs.Answers.{Fits}
 use Rattle.oss_lex.proofs.Runs.{take_word, drop_word}

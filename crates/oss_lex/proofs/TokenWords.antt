@@ -5,9 +5,9 @@ use Rattle.std.proofs.lemmas.Bool.Decides.{nat_tests}
 use Rattle.std.specs.Prelude.{◌==◌, Ok, Err}
 use Rattle.oss_syntax.specs.declared.token.TokenKind.{TokenKind}
 use Rattle.oss_syntax.specs.declared.token.TokenKind.TheVariants.{Name, Keyword, Number, Text, Symbol, PragmaOss, PragmaEnd, Directive}
-use Rattle.oss_model.specs.declared.refusal.RefusedKind.TheVariants.{Lexical, TooLarge}
-use Rattle.oss_model.specs.Words.{NotFirst, is_letter, is_digit, is_name_byte, is_symbol, is_keyword, IsIdentifier, IsWord, Ends}
-use Rattle.oss_model.specs.Tokens.{Begins, IsLong}
+use Rattle.oss_syntax.specs.declared.refusal.RefusedKind.TheVariants.{Lexical, TooLarge}
+use Rattle.oss_grammar.specs.Words.{NotFirst, is_letter, is_digit, is_name_byte, is_symbol, is_keyword, IsIdentifier, IsWord, Ends}
+use Rattle.oss_grammar.specs.Tokens.{Begins, IsLong}
 use Rattle.oss_lex.specs.Reading.{Answer, string_at, token_at}
 use Rattle.oss_lex.proofs.Answers.{Fits}
 use Rattle.oss_lex.proofs.NameWords.{name_fits, name_again, keyword_again, long_again}

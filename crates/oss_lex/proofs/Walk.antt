@@ -5,16 +5,16 @@ use Rattle.std.proofs.lemmas.List.Sums.{count_by-le-length}
 use Rattle.std.specs.Prelude.{◌==◌, Option, Some, None, Result, Ok, Err, codes}
 use Rattle.oss_syntax.specs.declared.token.TokenKind.{TokenKind}
 use Rattle.oss_syntax.specs.declared.token.Token.{Token}
-use Rattle.oss_model.specs.declared.line_part.LinePart.{LinePart}
-use Rattle.oss_model.specs.declared.line_part.LinePart.TheVariants.{Beginning}
-use Rattle.oss_model.specs.declared.refusal.RefusedKind.{RefusedKind}
-use Rattle.oss_model.specs.declared.refusal.Refused.{Refused as RefusedAt}
-use Rattle.oss_model.specs.declared.refusal.Refusal.{Refusal}
-use Rattle.oss_model.specs.declared.refusal.Refusal.TheVariants.{Refused, Memory}
-use Rattle.oss_model.specs.Tokens.{newlines, Front, IsFront, Tokens, Stops, IsReading, found_before}
-use Rattle.oss_model.specs.Tokens.IsFront.{newline, pragma_end, gap, token, include, pragma_oss, other_pragma, directive}
-use Rattle.oss_model.specs.Tokens.Tokens.{done, step}
-use Rattle.oss_model.specs.Tokens.Stops.{here, past}
+use Rattle.oss_grammar.specs.declared.line_part.LinePart.{LinePart}
+use Rattle.oss_grammar.specs.declared.line_part.LinePart.TheVariants.{Beginning}
+use Rattle.oss_syntax.specs.declared.refusal.RefusedKind.{RefusedKind}
+use Rattle.oss_syntax.specs.declared.refusal.Refused.{Refused as RefusedAt}
+use Rattle.oss_syntax.specs.declared.refusal.Refusal.{Refusal}
+use Rattle.oss_syntax.specs.declared.refusal.Refusal.TheVariants.{Refused, Memory}
+use Rattle.oss_grammar.specs.Tokens.{newlines, Front, IsFront, Tokens, Stops, IsReading, found_before}
+use Rattle.oss_grammar.specs.Tokens.IsFront.{newline, pragma_end, gap, token, include, pragma_oss, other_pragma, directive}
+use Rattle.oss_grammar.specs.Tokens.Tokens.{done, step}
+use Rattle.oss_grammar.specs.Tokens.Stops.{here, past}
 use Rattle.oss_lex.specs.Reading.{Fault, at_front, in_head, front, front_at, Refuses, Steps}
 use Rattle.oss_lex.proofs.Fronts.{front_fits, faulty}
 use Rattle.oss_lex.proofs.Gaps.{gap_first}

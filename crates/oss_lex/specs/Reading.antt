@@ -1,19 +1,19 @@
 -- What the reader's functions answer, as functions on lists. That these are the answers of the definitions of
--- `oss_model` is proved of them once, in proofs/.
+-- `oss_grammar` is proved of them once, in proofs/.
 use Rattle.std.specs.Prelude.{◌≡◌, ℕ, zero, suc, ◌+◌, ◌-◌, ◌^◌, Bool, true, false, not, ◌&&◌, ◌||◌, ◌==◌, nat_lt, if◌then◌else◌, List, [], ◌∷◌, ◌++◌, length, take, drop, codes, slice_index, Option, Some, None, Result, Ok, Err}
 use Rattle.std.specs.List.{prefix_len}
 use Rattle.std.specs.Str.{bytes_eq}
 use Rattle.oss_syntax.specs.declared.token.TokenKind.{TokenKind}
 use Rattle.oss_syntax.specs.declared.token.TokenKind.TheVariants.{Name, Keyword, Number, Text, Symbol, PragmaOss, PragmaEnd, Directive}
-use Rattle.oss_model.specs.declared.line_part.LinePart.{LinePart}
-use Rattle.oss_model.specs.declared.line_part.LinePart.TheVariants.{Beginning, Later, Pragma}
-use Rattle.oss_model.specs.declared.refusal.RefusedKind.{RefusedKind}
-use Rattle.oss_model.specs.declared.refusal.RefusedKind.TheVariants.{Lexical, TooLarge}
-use Rattle.oss_model.specs.declared.refusal.Refusal.{Refusal}
-use Rattle.oss_model.specs.declared.refusal.Refused.{Refused as RefusedAt}
-use Rattle.oss_model.specs.declared.refusal.Refusal.TheVariants.{Refused, Memory}
-use Rattle.oss_model.specs.Words.{is_letter, is_digit, is_name_byte, is_keyword, is_digit_in, value_in, is_signed_suffix, is_unsigned_suffix, is_plain, is_escape, escaped, is_one, is_two, is_three, opens_comment}
-use Rattle.oss_model.specs.Tokens.{is_blank, ends_line, newlines, part_behind, Front}
+use Rattle.oss_grammar.specs.declared.line_part.LinePart.{LinePart}
+use Rattle.oss_grammar.specs.declared.line_part.LinePart.TheVariants.{Beginning, Later, Pragma}
+use Rattle.oss_syntax.specs.declared.refusal.RefusedKind.{RefusedKind}
+use Rattle.oss_syntax.specs.declared.refusal.RefusedKind.TheVariants.{Lexical, TooLarge}
+use Rattle.oss_syntax.specs.declared.refusal.Refusal.{Refusal}
+use Rattle.oss_syntax.specs.declared.refusal.Refused.{Refused as RefusedAt}
+use Rattle.oss_syntax.specs.declared.refusal.Refusal.TheVariants.{Refused, Memory}
+use Rattle.oss_grammar.specs.Words.{is_letter, is_digit, is_name_byte, is_keyword, is_digit_in, value_in, is_signed_suffix, is_unsigned_suffix, is_plain, is_escape, escaped, is_one, is_two, is_three, opens_comment}
+use Rattle.oss_grammar.specs.Tokens.{is_blank, ends_line, newlines, part_behind, Front}
 use Rattle.oss_lex.specs.declared.taken.Step.{Step}
 use Rattle.oss_lex.specs.declared.taken.Taken.{Taken}
 

@@ -1,11 +1,11 @@
 ghost use Rattle.std.specs.Prelude.{◌≡◌, ◌≤◌, false, length};
-ghost use Rattle.oss_model.specs.Words.{opens_comment};
-ghost use Rattle.oss_model.specs.Tokens.{ends_line, is_blank, newlines};
+ghost use Rattle.oss_grammar.specs.Words.{opens_comment};
+ghost use Rattle.oss_grammar.specs.Tokens.{ends_line, is_blank, newlines};
 ghost use Rattle.oss_lex.specs.Reading.{close_len, gap_len, gaps_len, remark_len};
 
 use crate::bytes::{byte_at, first};
 
-#[tactic(auto, unfolding(oss_model::specs::Tokens::is_blank))]
+#[tactic(auto, unfolding(oss_grammar::specs::Tokens::is_blank))]
 fn is_space(b: u8) -> bool
     ensures { result ≡ is_blank b }
 {
@@ -31,7 +31,7 @@ fn to_close(text: &[u8]) -> usize
 }
 
 /// How many bytes stand up to the end of the line, which a newline behind a backslash is not.
-#[tactic(auto, unfolding(crate::specs::Reading::remark_len, oss_model::specs::Tokens::ends_line))]
+#[tactic(auto, unfolding(crate::specs::Reading::remark_len, oss_grammar::specs::Tokens::ends_line))]
 fn to_line_end(text: &[u8]) -> usize
     ensures value { result ≡ remark_len false text.now }
     ensures within { result ≤ length text.now }
@@ -51,7 +51,7 @@ fn to_line_end(text: &[u8]) -> usize
 }
 
 /// Whether a comment begins at the front of a text.
-#[tactic(auto, unfolding(oss_model::specs::Words::opens_comment))]
+#[tactic(auto, unfolding(oss_grammar::specs::Words::opens_comment))]
 pub fn begins_comment(text: &[u8]) -> bool
     ensures { result ≡ opens_comment text.now }
 {

@@ -1,8 +1,8 @@
 ghost use Rattle.std.specs.Prelude.{◌≡◌, [], ◌∷◌, MatchOption, slice_index};
-ghost use Rattle.oss_model.specs.Words.{is_letter, is_digit, is_name_byte};
+ghost use Rattle.oss_grammar.specs.Words.{is_letter, is_digit, is_name_byte};
 
 /// Whether a byte is a letter or `_`.
-#[tactic(auto, unfolding(oss_model::specs::Words::is_letter))]
+#[tactic(auto, unfolding(oss_grammar::specs::Words::is_letter))]
 pub fn begins_name(b: u8) -> bool
     ensures { result ≡ is_letter b }
 {
@@ -10,7 +10,7 @@ pub fn begins_name(b: u8) -> bool
 }
 
 /// Whether a byte is a digit of base 10.
-#[tactic(auto, unfolding(oss_model::specs::Words::is_digit))]
+#[tactic(auto, unfolding(oss_grammar::specs::Words::is_digit))]
 pub fn begins_number(b: u8) -> bool
     ensures { result ≡ is_digit b }
 {
@@ -18,7 +18,7 @@ pub fn begins_number(b: u8) -> bool
 }
 
 /// Whether a byte may stand in a name.
-#[tactic(auto, unfolding(oss_model::specs::Words::is_name_byte))]
+#[tactic(auto, unfolding(oss_grammar::specs::Words::is_name_byte))]
 pub fn goes_on_name(b: u8) -> bool
     ensures { result ≡ is_name_byte b }
 {

@@ -4,8 +4,8 @@ ghost use Rattle.oss_lex.specs.Reading.{Shows, Steps, front, hash_at, line_len, 
 use crate::blanks::{begins_comment, blanks_len, newlines_in};
 use crate::names::word_len;
 use crate::taken::{Step, no_token};
-use oss_model::{LinePart, Refusal};
-use oss_syntax::TokenKind;
+use oss_grammar::LinePart;
+use oss_syntax::{Refusal, TokenKind};
 
 /// How many bytes stand up to the next newline.
 fn rest_of_line(text: &[u8]) -> usize

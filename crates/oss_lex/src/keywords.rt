@@ -1,16 +1,16 @@
 ghost use Rattle.std.specs.Prelude.{◌≡◌};
-ghost use Rattle.oss_model.specs.Words.{is_keyword, is_left_out_keyword, is_used_keyword};
+ghost use Rattle.oss_grammar.specs.Words.{is_keyword, is_left_out_keyword, is_used_keyword};
 
 /// Whether a word is a keyword, one that is left out too: a keyword of C (C11 6.4.1), or `printf`, which is a keyword of
 /// this language and not of C.
-#[tactic(auto, unfolding(oss_model::specs::Words::is_keyword))]
+#[tactic(auto, unfolding(oss_grammar::specs::Words::is_keyword))]
 pub fn is_reserved(word: &[u8]) -> bool
     ensures { result ≡ is_keyword word.now }
 {
     is_used(word) || is_left_out(word)
 }
 
-#[tactic(auto, unfolding(oss_model::specs::Words::is_used_keyword))]
+#[tactic(auto, unfolding(oss_grammar::specs::Words::is_used_keyword))]
 fn is_used(word: &[u8]) -> bool
     ensures { result ≡ is_used_keyword word.now }
 {
@@ -28,7 +28,7 @@ fn is_used(word: &[u8]) -> bool
         || word == b"printf".as_slice()
 }
 
-#[tactic(auto, unfolding(oss_model::specs::Words::is_left_out_keyword))]
+#[tactic(auto, unfolding(oss_grammar::specs::Words::is_left_out_keyword))]
 fn is_left_out(word: &[u8]) -> bool
     ensures { result ≡ is_left_out_keyword word.now }
 {

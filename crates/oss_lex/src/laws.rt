@@ -1,4 +1,4 @@
-ghost use Rattle.oss_model.specs.Tokens.{IsReadOnce};
+ghost use Rattle.oss_grammar.specs.Tokens.{IsReadOnce};
 
 /// A law, with nothing to run: a text has at most one list of tokens, none where it is refused, and at most one refusal.
 #[tactic(auto, using(crate::proofs::OneReading::read_once))]

@@ -1,13 +1,12 @@
 ghost use Rattle.std.specs.Prelude.{◌≡◌, ◌≤◌, length};
 ghost use Rattle.std.specs.List.{prefix_len};
-ghost use Rattle.oss_model.specs.Words.{is_name_byte};
+ghost use Rattle.oss_grammar.specs.Words.{is_name_byte};
 ghost use Rattle.oss_lex.specs.Reading.{Gives, name_at};
 
 use crate::bytes::goes_on_name;
 use crate::keywords::is_reserved;
 use crate::taken::{Taken, long_name};
-use oss_model::Refusal;
-use oss_syntax::{Name, TokenKind};
+use oss_syntax::{Name, Refusal, TokenKind};
 use std::alloc::Global;
 
 /// How many bytes from the front on are letters, digits or `_`.

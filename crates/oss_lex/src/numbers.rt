@@ -1,17 +1,16 @@
 ghost use Rattle.std.specs.Prelude.{◌≡◌, ◌≤◌, ◌<◌, ◌^◌, ℕ, length};
 ghost use Rattle.std.specs.List.{prefix_len};
 ghost use Rattle.std.specs.Option.{SomeIff};
-ghost use Rattle.oss_model.specs.Words.{digit_of, is_digit_in, is_signed_suffix, is_unsigned_suffix, value_in};
+ghost use Rattle.oss_grammar.specs.Words.{digit_of, is_digit_in, is_signed_suffix, is_unsigned_suffix, value_in};
 ghost use Rattle.oss_lex.specs.Reading.{Gives, hexadecimal_of, marked, number_at, number_in, number_of, zero_number_of};
 
 use crate::bytes::{begins_number, first};
 use crate::names::word_len;
 use crate::taken::{Taken, no_token};
-use oss_model::Refusal;
-use oss_syntax::TokenKind;
+use oss_syntax::{Refusal, TokenKind};
 
 /// The digit that a byte stands for, and 16 where it stands for none.
-#[tactic(auto, unfolding(oss_model::specs::Words::digit_of, oss_model::specs::Words::is_digit))]
+#[tactic(auto, unfolding(oss_grammar::specs::Words::digit_of, oss_grammar::specs::Words::is_digit))]
 fn digit(b: u8) -> u8
     ensures value { result ≡ digit_of b }
     ensures small { result ≤ 16 }
@@ -28,7 +27,7 @@ fn digit(b: u8) -> u8
 }
 
 /// How many bytes from the front on are digits in this base.
-#[tactic(auto, unfolding(oss_model::specs::Words::is_digit_in))]
+#[tactic(auto, unfolding(oss_grammar::specs::Words::is_digit_in))]
 fn digits_len(base: u8, word: &[u8]) -> usize
     ensures value { result ≡ prefix_len (is_digit_in base) word.now }
     ensures within { result ≤ length word.now }
@@ -49,7 +48,7 @@ fn value(base: u8, digits: &[u8]) -> Option<u64>
     Some(sum)
 }
 
-#[tactic(auto, unfolding(oss_model::specs::Words::is_signed_suffix))]
+#[tactic(auto, unfolding(oss_grammar::specs::Words::is_signed_suffix))]
 fn keeps_sign(suffix: &[u8]) -> bool
     ensures { result ≡ is_signed_suffix suffix.now }
 {
@@ -60,7 +59,7 @@ fn keeps_sign(suffix: &[u8]) -> bool
         || suffix == b"LL".as_slice()
 }
 
-#[tactic(auto, unfolding(oss_model::specs::Words::is_unsigned_suffix))]
+#[tactic(auto, unfolding(oss_grammar::specs::Words::is_unsigned_suffix))]
 fn takes_sign(suffix: &[u8]) -> bool
     ensures { result ≡ is_unsigned_suffix suffix.now }
 {

@@ -1,5 +1,5 @@
 ghost use Rattle.std.specs.Prelude.{◌≡◌, ◌≤◌, ◌<◌, ◌+◌, ◌^◌, [], ◌++◌, OnOk, length};
-ghost use Rattle.oss_model.specs.Tokens.{IsReading, found_before, part_behind};
+ghost use Rattle.oss_grammar.specs.Tokens.{IsReading, found_before, part_behind};
 ghost use Rattle.oss_lex.specs.Reading.{Gives, Shows, Steps, front_at, front_behind, gap_len, is_beginning, newline_at, token_at};
 
 use crate::blanks::{blank_len, newlines_in};
@@ -10,8 +10,8 @@ use crate::numbers::read_number;
 use crate::strings::read_string;
 use crate::symbols::read_symbol;
 use crate::taken::{Step, Taken, no_token};
-use oss_model::{LinePart, Refusal};
-use oss_syntax::{List, Token, TokenKind};
+use oss_grammar::LinePart;
+use oss_syntax::{List, Refusal, Token, TokenKind};
 use std::alloc::{AllocError, Global};
 
 /// The token at the front of a text that begins on this line.

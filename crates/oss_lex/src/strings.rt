@@ -1,15 +1,14 @@
 ghost use Rattle.std.specs.Prelude.{◌≡◌, [], ◌∷◌, ◌++◌, false, OnOk};
-ghost use Rattle.oss_model.specs.Words.{escaped, is_escape, is_plain};
+ghost use Rattle.oss_grammar.specs.Words.{escaped, is_escape, is_plain};
 ghost use Rattle.oss_lex.specs.Reading.{Gives, string_at};
 
 use crate::bytes::first;
 use crate::taken::{Taken, no_token};
-use oss_model::Refusal;
-use oss_syntax::{Bytes, TokenKind};
+use oss_syntax::{Bytes, Refusal, TokenKind};
 use std::alloc::{AllocError, Global};
 
 /// Whether a byte may stand in a string as it is.
-#[tactic(auto, unfolding(oss_model::specs::Words::is_plain))]
+#[tactic(auto, unfolding(oss_grammar::specs::Words::is_plain))]
 fn stands_for_itself(b: u8) -> bool
     ensures { result ≡ is_plain b }
 {
@@ -17,7 +16,7 @@ fn stands_for_itself(b: u8) -> bool
 }
 
 /// Whether a byte may stand behind a backslash.
-#[tactic(auto, unfolding(oss_model::specs::Words::is_escape))]
+#[tactic(auto, unfolding(oss_grammar::specs::Words::is_escape))]
 fn can_be_escaped(b: u8) -> bool
     ensures { result ≡ is_escape b }
 {
@@ -25,7 +24,7 @@ fn can_be_escaped(b: u8) -> bool
 }
 
 /// What a byte behind a backslash stands for.
-#[tactic(auto, unfolding(oss_model::specs::Words::escaped))]
+#[tactic(auto, unfolding(oss_grammar::specs::Words::escaped))]
 fn escape(b: u8) -> u8
     ensures { result ≡ escaped b }
 {

@@ -1,15 +1,14 @@
 ghost use Rattle.std.specs.Prelude.{◌≡◌, ◌≤◌, length};
-ghost use Rattle.oss_model.specs.Words.{is_one, is_three, is_two};
+ghost use Rattle.oss_grammar.specs.Words.{is_one, is_three, is_two};
 ghost use Rattle.oss_lex.specs.Reading.{Gives, symbol_at, symbol_len};
 
 use crate::blanks::begins_comment;
 use crate::bytes::byte_at;
 use crate::taken::{Taken, no_token};
-use oss_model::Refusal;
-use oss_syntax::{Name, TokenKind};
+use oss_syntax::{Name, Refusal, TokenKind};
 use std::alloc::Global;
 
-#[tactic(auto, unfolding(oss_model::specs::Words::is_one))]
+#[tactic(auto, unfolding(oss_grammar::specs::Words::is_one))]
 fn is_symbol(a: u8) -> bool
     ensures { result ≡ is_one a }
 {
@@ -39,7 +38,7 @@ fn is_symbol(a: u8) -> bool
         || a == b'.'
 }
 
-#[tactic(auto, unfolding(oss_model::specs::Words::is_two))]
+#[tactic(auto, unfolding(oss_grammar::specs::Words::is_two))]
 fn is_symbol_of_two(a: u8, b: u8) -> bool
     ensures { result ≡ is_two a b }
 {
@@ -65,7 +64,7 @@ fn is_symbol_of_two(a: u8, b: u8) -> bool
         || (b == b'>' && a == b'-')
 }
 
-#[tactic(auto, unfolding(oss_model::specs::Words::is_three))]
+#[tactic(auto, unfolding(oss_grammar::specs::Words::is_three))]
 fn is_symbol_of_three(a: u8, b: u8, c: u8) -> bool
     ensures { result ≡ is_three a b c }
 {

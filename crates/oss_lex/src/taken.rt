@@ -1,7 +1,7 @@
 ghost use Rattle.std.specs.Prelude.{◌≡◌};
 
-use oss_model::{LinePart, Refusal, Refused, RefusedKind};
-use oss_syntax::TokenKind;
+use oss_grammar::LinePart;
+use oss_syntax::{Refusal, Refused, RefusedKind, TokenKind};
 
 /// A token, and the text behind it.
 #[derive(Debug, Drop)]

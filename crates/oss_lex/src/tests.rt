@@ -1,8 +1,7 @@
 ghost use Rattle.std.specs.Prelude.{◌≤◌, length};
 
 use crate::tokens;
-use oss_model::{Refusal, Refused, RefusedKind};
-use oss_syntax::{Token, TokenKind};
+use oss_syntax::{Refusal, Refused, RefusedKind, Token, TokenKind};
 use std::alloc::{AllocError, Global};
 use std::process::Abort;
 use std::test::Fail;

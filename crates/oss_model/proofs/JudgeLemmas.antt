@@ -5,8 +5,8 @@ use Rattle.oss_syntax.specs.declared.access.Mode.{Mode}
 use Rattle.oss_syntax.specs.declared.access.Op.{Op}
 use Rattle.oss_syntax.specs.declared.access.Op.TheVariants.{Add, And, Or, Xor}
 use Rattle.oss_syntax.specs.declared.access.Mode.TheVariants.{Read, Write, Fold}
-use Rattle.oss_model.specs.declared.answer.FaultKind.{FaultKind}
-use Rattle.oss_model.specs.declared.answer.FaultKind.TheVariants as fault
+use Rattle.oss_syntax.specs.declared.fault.FaultKind.{FaultKind}
+use Rattle.oss_syntax.specs.declared.fault.FaultKind.TheVariants as fault
 use Rattle.std.specs.Prelude.{◌&&◌, ◌||◌, not, if◌then◌else◌, nat_lt, nat_le}
 use Rattle.std.proofs.lemmas.Bool.Decides.{nat_tests}
 use Rattle.oss_model.specs.Rights.{Right, NoRight, Released, Holds, Lending, Free, Reading, Writing, Touch, Reads, Writes, Folds, op_eq, covers, right_covers, touch_fault, in_access, right_from, any_from, any_cell, is_fold, holds_uncovered, is_released, is_mixed}

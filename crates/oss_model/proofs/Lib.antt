@@ -22,7 +22,6 @@ pub mod OutputLemmas
 pub mod Places
 pub mod ProgressTheorem
 pub mod RecallLemmas
-pub mod RefusalLemmas
 pub mod ResultTheorem
 pub mod RunLemmas
 pub mod SequenceLemmas
@@ -32,10 +31,3 @@ pub mod StayLemmas
 pub mod TerminationTheorem
 pub mod TreeLemmas
 pub mod WeightLemmas
-pub mod Parts
-pub mod PartLemmas
-pub mod StepLemmas
-pub mod AnswerLemmas
-pub mod CountedLemmas
-pub mod PairLemmas
-pub mod TextLemmas

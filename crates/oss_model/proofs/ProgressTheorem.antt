@@ -3,7 +3,7 @@ use Rattle.std.proofs.Common.{◌≡◌, ◌≢◌, ℕ, zero, suc, ◌+◌, ◌
 use Rattle.oss_syntax.specs.declared.access.Mode.{Mode}
 use Rattle.oss_syntax.specs.declared.access.Op.{Op}
 use Rattle.oss_syntax.specs.declared.access.Mode.TheVariants.{Read, Write, Fold}
-use Rattle.oss_model.specs.declared.answer.FaultKind.{FaultKind}
+use Rattle.oss_syntax.specs.declared.fault.FaultKind.{FaultKind}
 use Rattle.oss_model.specs.Forest.{IsDone, IsWriteSatisfied, IsReadSatisfied, IsJoinSatisfied, done, write_top, write_child, read_top, read_child, join_top, join_below_fold, join_below_write}
 use Rattle.oss_model.specs.Order.{IsSuffix, whole, IsIn, here, there, IsBefore}
 use Rattle.oss_model.specs.Rights.{Right, NoRight, Released, Holds, covers, Reads, Writes, Folds, touch_fault, is_fold}

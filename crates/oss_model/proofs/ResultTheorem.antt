@@ -2,7 +2,7 @@
 use Rattle.std.proofs.Common.{◌≡◌, ◌≢◌, ℕ, ◌<◌, ◌≤◌, ◌⊎◌, inl, inr, refl, sym, subst, ap, ◌∙◌, List, [], ◌∷◌, length, reverse, arith, true, Option, Some, None}
 use Rattle.std.proofs.lemmas.List.{ext_get_or}
 use Rattle.std.specs.Prelude.{◌+◌, slice_index}
-use Rattle.oss_model.specs.declared.answer.FaultKind.{FaultKind}
+use Rattle.oss_syntax.specs.declared.fault.FaultKind.{FaultKind}
 use Rattle.oss_model.specs.declared.answer.Answer.{Answer}
 use Rattle.oss_model.specs.declared.answer.Answer.TheVariants as answers
 use Rattle.oss_model.specs.Order.{IsSuffix, whole, IsBefore, IsEarlierKey}

@@ -4,7 +4,7 @@
 -- which is 0, and a print of 4 in main behind them. The answer is the division's fault with the output 1, 2, 3:
 -- main's print may have been made, but its key is past the fault's.
 use Rattle.std.specs.Prelude.{◌≡◌, ℕ, List, [], ◌∷◌, ◌++◌, Option, Some, None}
-use Rattle.oss_model.specs.declared.answer.FaultKind.{FaultKind}
+use Rattle.oss_syntax.specs.declared.fault.FaultKind.{FaultKind}
 use Rattle.oss_model.specs.declared.answer.Answer.{Answer}
 use Rattle.oss_model.specs.declared.answer.Answer.TheVariants as answers
 use Rattle.oss_model.specs.Order.{IsIn, IsEarlierKey}

@@ -9,8 +9,8 @@
 use Rattle.std.specs.Prelude.{ℕ, ◌+◌, ◌%◌, ◌^◌, Bool, true, false, ◌||◌, not, if◌then◌else◌, List, [], ◌∷◌, ℤ, Option, Some, None}
 use Rattle.oss_syntax.specs.declared.access.Access.{Access}
 use Rattle.oss_syntax.specs.declared.access.Op.{Op}
-use Rattle.oss_model.specs.declared.answer.FaultKind.{FaultKind}
-use Rattle.oss_model.specs.declared.answer.FaultKind.TheVariants as fault
+use Rattle.oss_syntax.specs.declared.fault.FaultKind.{FaultKind}
+use Rattle.oss_syntax.specs.declared.fault.FaultKind.TheVariants as fault
 use Rattle.oss_model.specs.Rights.{Right, Touch, Reads, Writes, Folds, touch_fault, is_fold}
 use Rattle.oss_model.specs.Context.{Context, tick_fault, create_fault, creation_fault, release_fault, wait_on_fault, child_context, lend, release, waited_on, right_of, lent_of, waited}
 

@@ -2,7 +2,7 @@
 use Rattle.std.specs.Prelude.{◌≡◌, ◌≢◌, ℕ, ◌<◌, ◌≤◌, ◌⊎◌, List, ◌∷◌, length, slice_index, Bool, true, false, Some, None}
 use Rattle.oss_syntax.specs.declared.access.Op.{Op}
 use Rattle.oss_model.specs.declared.answer.Answer.{Answer}
-use Rattle.oss_model.specs.declared.answer.FaultKind.{FaultKind}
+use Rattle.oss_syntax.specs.declared.fault.FaultKind.{FaultKind}
 use Rattle.oss_model.specs.Order.{IsSuffix}
 use Rattle.oss_model.specs.Rights.{Touch, Conflicts}
 use Rattle.oss_model.specs.Context.{Context}

@@ -10,8 +10,8 @@ use Rattle.oss_syntax.specs.declared.access.Mode.{Mode}
 use Rattle.oss_syntax.specs.declared.access.Op.{Op}
 use Rattle.oss_syntax.specs.declared.access.Op.TheVariants.{Add, And, Or, Xor}
 use Rattle.oss_syntax.specs.declared.access.Mode.TheVariants.{Read, Write, Fold}
-use Rattle.oss_model.specs.declared.answer.FaultKind.{FaultKind}
-use Rattle.oss_model.specs.declared.answer.FaultKind.TheVariants as fault
+use Rattle.oss_syntax.specs.declared.fault.FaultKind.{FaultKind}
+use Rattle.oss_syntax.specs.declared.fault.FaultKind.TheVariants as fault
 
 -- What a task may do with a cell: nothing; nothing any more, since it has released the cell; or what its
 -- clauses say. A weak access is for descendants alone.

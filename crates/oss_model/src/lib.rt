@@ -1,17 +1,10 @@
-//! What programs mean: the definitions on which every crate stands, and the types of their answers.
+//! What runs of tasks mean: the definitions of rights, bodies, moves and answers, and the laws of every interleaving.
 #![tactic(auto)]
 
 mod answer;
 mod cell;
-mod format;
-mod kinds;
 pub mod laws;
-mod line_part;
-mod refusal;
 
-pub use answer::{Answer, FaultKind};
+pub use answer::Answer;
 pub use cell::range_of;
-pub use format::{Piece, arguments, conversions, pieces, write_pieces};
-pub use kinds::{Around, Named, Object, ValueKind, Wanted};
-pub use line_part::LinePart;
-pub use refusal::{Refusal, Refused, RefusedKind};
+pub use oss_syntax::{FaultKind, Refusal, Refused, RefusedKind};

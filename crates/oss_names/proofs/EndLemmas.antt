@@ -4,14 +4,14 @@ use Rattle.std.proofs.lemmas.List.{drop_more}
 use Rattle.oss_syntax.specs.declared.tree.program.Item.{Item}
 use Rattle.oss_syntax.specs.declared.tree.program.Local.{Local}
 use Rattle.oss_syntax.specs.declared.tree.stmt.Stmt.{Stmt}
-use Rattle.oss_model.specs.declared.kinds.Around.{Around}
-use Rattle.oss_model.specs.declared.refusal.Refusal.{Refusal}
-use Rattle.oss_model.specs.declared.refusal.Refusal.TheVariants as refusal
-use Rattle.oss_model.specs.declared.refusal.Refused.{Refused}
-use Rattle.oss_model.specs.Broken.{first}
-use Rattle.oss_model.specs.Scopes.{or_else}
-use Rattle.oss_model.specs.StaticRules.{Judged, alone, declare_all, declare_one, local_rules, rules_of, rules_of_all, then_judge, with_local}
-use Rattle.oss_model.specs.Scopes.{is_local_again}
+use Rattle.oss_grammar.specs.declared.kinds.Around.{Around}
+use Rattle.oss_syntax.specs.declared.refusal.Refusal.{Refusal}
+use Rattle.oss_syntax.specs.declared.refusal.Refusal.TheVariants as refusal
+use Rattle.oss_syntax.specs.declared.refusal.Refused.{Refused}
+use Rattle.oss_grammar.specs.Broken.{first}
+use Rattle.oss_grammar.specs.Scopes.{or_else}
+use Rattle.oss_grammar.specs.StaticRules.{Judged, alone, declare_all, declare_one, local_rules, rules_of, rules_of_all, then_judge, with_local}
+use Rattle.oss_grammar.specs.Scopes.{is_local_again}
 use Rattle.oss_names.specs.Ends.{Ends, Leaves, Tells}
 use Rattle.oss_kinds.proofs.Firsts.{first-append}
 

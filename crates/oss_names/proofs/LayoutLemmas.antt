@@ -5,11 +5,10 @@ use Rattle.std.specs.List.{fold, sum}
 use Rattle.oss_syntax.specs.declared.tree.program.Item.{Item}
 use Rattle.oss_syntax.specs.declared.tree.program.Item.TheVariants as items
 use Rattle.oss_syntax.specs.declared.tree.program.Program.{Program}
-use Rattle.oss_model.specs.declared.refusal.RefusedKind.TheVariants as refused
-use Rattle.oss_model.specs.Broken.{first, where_so}
-use Rattle.oss_model.specs.Layout.{cells_in, cells_of, sizes_of, start_of}
-use Rattle.oss_model.specs.Scalars.{names_of}
-use Rattle.oss_model.specs.ProgramRules.{function_rules, global_rules, has_main, items_rules, program_rules}
+use Rattle.oss_syntax.specs.declared.refusal.RefusedKind.TheVariants as refused
+use Rattle.oss_grammar.specs.Broken.{first, where_so}
+use Rattle.oss_grammar.specs.Layout.{cells_in, cells_of, sizes_of, start_of, names_of}
+use Rattle.oss_grammar.specs.ProgramRules.{function_rules, global_rules, has_main, items_rules, program_rules}
 use Rattle.oss_names.specs.Resolved.{bounds_of}
 use Rattle.oss_names.proofs.Parts.{append-left, append-right}
 use Rattle.oss_names.proofs.ProgramLemmas.{global-cells}

@@ -7,15 +7,15 @@ use Rattle.oss_syntax.specs.declared.tree.pragma.Clause.{Clause}
 use Rattle.oss_syntax.specs.declared.tree.pragma.Section.{Section}
 use Rattle.oss_syntax.specs.declared.tree.program.Item.{Item}
 use Rattle.oss_syntax.specs.declared.tree.program.Local.{Local}
-use Rattle.oss_model.specs.declared.kinds.Wanted.TheVariants as wanted
-use Rattle.oss_model.specs.declared.refusal.Refused.{Refused}
-use Rattle.oss_model.specs.declared.refusal.RefusedKind.{RefusedKind}
-use Rattle.oss_model.specs.declared.refusal.RefusedKind.TheVariants as refused
-use Rattle.oss_model.specs.Broken.{first, where_so}
-use Rattle.oss_model.specs.ExpressionRules.{value_rules}
-use Rattle.oss_model.specs.Scopes.{meaning, or_else}
-use Rattle.oss_model.specs.SectionRules.{begins_with_base, clause_rules, clauses_rules, form_rules, is_missing, is_wrong_section, section_rules, sections_in, sections_rules}
-use Rattle.oss_model.specs.StaticRules.{numbers_rules}
+use Rattle.oss_grammar.specs.declared.kinds.Wanted.TheVariants as wanted
+use Rattle.oss_syntax.specs.declared.refusal.Refused.{Refused}
+use Rattle.oss_syntax.specs.declared.refusal.RefusedKind.{RefusedKind}
+use Rattle.oss_syntax.specs.declared.refusal.RefusedKind.TheVariants as refused
+use Rattle.oss_grammar.specs.Broken.{first, where_so}
+use Rattle.oss_grammar.specs.ExpressionRules.{value_rules}
+use Rattle.oss_grammar.specs.Scopes.{meaning, or_else}
+use Rattle.oss_grammar.specs.SectionRules.{begins_with_base, clause_rules, clauses_rules, form_rules, is_missing, is_wrong_section, section_rules, sections_in, sections_rules}
+use Rattle.oss_grammar.specs.StaticRules.{numbers_rules}
 use Rattle.oss_kinds.proofs.Firsts.{first-append}
 
 -- what no part of a list breaks

@@ -7,14 +7,14 @@ use Rattle.oss_syntax.specs.declared.tree.program.GlobalDef.{GlobalDef}
 use Rattle.oss_syntax.specs.declared.tree.program.Item.{Item}
 use Rattle.oss_syntax.specs.declared.tree.program.Item.TheVariants as items
 use Rattle.oss_syntax.specs.declared.tree.program.Program.{Program}
-use Rattle.oss_model.specs.declared.refusal.Refusal.{Refusal}
-use Rattle.oss_model.specs.declared.refusal.Refusal.TheVariants as refusal
-use Rattle.oss_model.specs.declared.refusal.Refused.{Refused}
-use Rattle.oss_model.specs.declared.refusal.RefusedKind.TheVariants as refused
-use Rattle.oss_model.specs.Broken.{broken, first, where_so}
-use Rattle.oss_model.specs.Layout.{cells_of, sizes_of}
-use Rattle.oss_model.specs.ProgramRules.{function_rules, global_rules, has_main, items_rules, passes_cells, program_rules, refusal_of}
-use Rattle.oss_model.specs.Scopes.{is_again, or_else}
+use Rattle.oss_syntax.specs.declared.refusal.Refusal.{Refusal}
+use Rattle.oss_syntax.specs.declared.refusal.Refusal.TheVariants as refusal
+use Rattle.oss_syntax.specs.declared.refusal.Refused.{Refused}
+use Rattle.oss_syntax.specs.declared.refusal.RefusedKind.TheVariants as refused
+use Rattle.oss_grammar.specs.Broken.{broken, first, where_so}
+use Rattle.oss_grammar.specs.Layout.{cells_of, sizes_of}
+use Rattle.oss_grammar.specs.ProgramRules.{function_rules, global_rules, has_main, items_rules, passes_cells, program_rules, refusal_of}
+use Rattle.oss_grammar.specs.Scopes.{is_again, or_else}
 use Rattle.oss_names.specs.Ends.{Tells}
 use Rattle.oss_names.specs.Resolved.{IsChecked, bounds_of}
 use Rattle.oss_names.proofs.EndLemmas.{tells-behind}

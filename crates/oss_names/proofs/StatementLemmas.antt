@@ -9,13 +9,13 @@ use Rattle.oss_syntax.specs.declared.tree.program.Local.{Local}
 use Rattle.oss_syntax.specs.declared.tree.stmt.Stmt.{Stmt}
 use Rattle.oss_syntax.specs.declared.tree.stmt.StmtKind.TheVariants as stmts
 use Rattle.oss_syntax.specs.declared.tree.stmt.StmtKind.TheFolds.{the_lemmas as stmt_folds}
-use Rattle.oss_model.specs.declared.kinds.Around.{Around}
-use Rattle.oss_model.specs.declared.refusal.RefusedKind.TheVariants as refused
-use Rattle.oss_model.specs.Broken.{where_so}
-use Rattle.oss_model.specs.ExpressionRules.{call_findings, findings}
-use Rattle.oss_model.specs.Kinds.{all_of}
-use Rattle.oss_model.specs.SectionRules.{clauses_rules}
-use Rattle.oss_model.specs.StaticRules.{assign_rules, declare_all, for_rules, inner, judged, print_rules, return_rules, rules_of, wait_rules}
+use Rattle.oss_grammar.specs.declared.kinds.Around.{Around}
+use Rattle.oss_syntax.specs.declared.refusal.RefusedKind.TheVariants as refused
+use Rattle.oss_grammar.specs.Broken.{where_so}
+use Rattle.oss_grammar.specs.ExpressionRules.{call_findings, findings}
+use Rattle.oss_grammar.specs.Kinds.{all_of}
+use Rattle.oss_grammar.specs.SectionRules.{clauses_rules}
+use Rattle.oss_grammar.specs.StaticRules.{assign_rules, declare_all, for_rules, inner, judged, print_rules, return_rules, rules_of, wait_rules}
 
 module _ (s : Stmt) (all : List Item) (a : Around) (locals : List Local) where
   pub rules-empty : s.what ≡ stmts.Empty → rules_of s all a locals ≡ judged [] locals

@@ -2,11 +2,11 @@
 -- scope, the old ones first; or the first rule that it breaks is told. Want of memory says nothing.
 use Rattle.std.specs.Prelude.{◌≡◌, List, length, take, Some, None, Result, Ok, Err}
 use Rattle.oss_syntax.specs.declared.tree.program.Local.{Local}
-use Rattle.oss_model.specs.declared.refusal.Refusal.{Refusal}
-use Rattle.oss_model.specs.declared.refusal.Refusal.TheVariants as refusal
-use Rattle.oss_model.specs.declared.refusal.Refused.{Refused}
-use Rattle.oss_model.specs.Broken.{first}
-use Rattle.oss_model.specs.StaticRules.{Judged}
+use Rattle.oss_syntax.specs.declared.refusal.Refusal.{Refusal}
+use Rattle.oss_syntax.specs.declared.refusal.Refusal.TheVariants as refusal
+use Rattle.oss_syntax.specs.declared.refusal.Refused.{Refused}
+use Rattle.oss_grammar.specs.Broken.{first}
+use Rattle.oss_grammar.specs.StaticRules.{Judged}
 
 -- the first of these rules is told, or there is none
 abbrev pub Tells : {U : Type 0} → List Refused → Result U Refusal → Type 0

@@ -2,10 +2,10 @@
 use Rattle.std.specs.Prelude.{◌≡◌, ℕ, ◌+◌, List, [], ◌∷◌, Some, Result, Ok, Err}
 use Rattle.std.specs.Global.{Vec}
 use Rattle.oss_syntax.specs.declared.tree.program.Program.{Program}
-use Rattle.oss_model.specs.declared.refusal.Refusal.{Refusal}
-use Rattle.oss_model.specs.declared.refusal.Refusal.TheVariants as refusal
-use Rattle.oss_model.specs.Layout.{sizes_of}
-use Rattle.oss_model.specs.ProgramRules.{program_rules, refusal_of}
+use Rattle.oss_syntax.specs.declared.refusal.Refusal.{Refusal}
+use Rattle.oss_syntax.specs.declared.refusal.Refusal.TheVariants as refusal
+use Rattle.oss_grammar.specs.Layout.{sizes_of}
+use Rattle.oss_grammar.specs.ProgramRules.{program_rules, refusal_of}
 
 -- the first cell of each global, and at the end the number of all cells: of the sizes 1, 3 and 1 it is 0, 1, 4, 5
 abbrev pub bounds_of : ℕ → List ℕ → List ℕ

@@ -1,6 +1,6 @@
 //! Programs whose runs are built.
 ghost use Rattle.std.specs.Prelude.{◌≡◌, map};
-ghost use Rattle.oss_model.specs.Built.{every, is_built, is_built_clause, is_built_expr, is_built_item, is_built_stmt, is_dependency, is_name, is_sum, is_whole};
+ghost use Rattle.oss_grammar.specs.Built.{every, is_built, is_built_clause, is_built_expr, is_built_item, is_built_stmt, is_dependency, is_name, is_sum, is_whole};
 
 use oss_kinds::is_named_main;
 use oss_syntax::{

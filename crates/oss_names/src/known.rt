@@ -1,15 +1,13 @@
 //! Programs that break no rule.
 ghost use Rattle.std.specs.Prelude.{◌≡◌, ◌+◌, ◌<◌, ◌≤◌, [], length};
-ghost use Rattle.oss_model.specs.Built.{is_built};
-ghost use Rattle.oss_model.specs.Layout.{cells_in, sizes_of, start_of};
-ghost use Rattle.oss_model.specs.ProgramRules.{program_rules};
-ghost use Rattle.oss_model.specs.Scalars.{names_of};
+ghost use Rattle.oss_grammar.specs.Built.{is_built};
+ghost use Rattle.oss_grammar.specs.Layout.{cells_in, sizes_of, start_of, names_of};
+ghost use Rattle.oss_grammar.specs.ProgramRules.{program_rules};
 ghost use Rattle.oss_names.specs.Resolved.{IsResolved};
 
 use crate::built::program_is_built;
 use crate::program::check;
-use oss_model::Refusal;
-use oss_syntax::{Program, Range};
+use oss_syntax::{Program, Range, Refusal};
 use std::alloc::Global;
 use std::marker::Model;
 
@@ -24,8 +22,8 @@ impl Model for Known {
     ghost use Rattle.std.specs.Prelude.{◌≡◌, []};
     ghost use Rattle.oss_syntax.specs.declared.tree.program.Program.{Program};
     ghost use Rattle.oss_syntax.specs.contracts.tree.program.Program as tree;
-    ghost use Rattle.oss_model.specs.Layout.{sizes_of};
-    ghost use Rattle.oss_model.specs.ProgramRules.{program_rules};
+    ghost use Rattle.oss_grammar.specs.Layout.{sizes_of};
+    ghost use Rattle.oss_grammar.specs.ProgramRules.{program_rules};
     ghost use Rattle.oss_names.specs.Resolved.{bounds_of};
 
     ghost Value = { Program };

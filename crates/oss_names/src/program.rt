@@ -1,16 +1,18 @@
 //! The rules on whole programs.
 ghost use Rattle.std.specs.Prelude.{◌≡◌, ◌∷◌, ◌++◌, ◌+◌, ◌≤◌, [], OnOk};
-ghost use Rattle.oss_model.specs.Broken.{first};
-ghost use Rattle.oss_model.specs.Layout.{cells_of};
-ghost use Rattle.oss_model.specs.ProgramRules.{body_around, function_rules, global_rules, has_main, is_wrong_function, mark_rules, passes_cells, returns_int, returns_nothing};
+ghost use Rattle.oss_grammar.specs.Broken.{first};
+ghost use Rattle.oss_grammar.specs.Layout.{cells_of};
+ghost use Rattle.oss_grammar.specs.ProgramRules.{body_around, function_rules, global_rules, has_main, is_wrong_function, mark_rules, passes_cells, returns_int, returns_nothing};
 ghost use Rattle.oss_names.specs.Ends.{Tells};
 ghost use Rattle.oss_names.specs.Resolved.{IsChecked};
 
 use crate::sections::{clauses, is_of_ints};
 use crate::statements::{declare, statements};
+use oss_grammar::Around;
 use oss_kinds::{Globals, Locals, before, is_named_main, refused, refused_if};
-use oss_model::{Around, Refusal, Refused, RefusedKind};
-use oss_syntax::{Function, GlobalDef, Item, Kind, Program, TaskMark};
+use oss_syntax::{
+    Function, GlobalDef, Item, Kind, Program, Refusal, Refused, RefusedKind, TaskMark,
+};
 use std::alloc::{AllocError, Global};
 
 /// The most cells of a program.

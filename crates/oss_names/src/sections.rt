@@ -1,13 +1,13 @@
 //! The rules on array sections and on the clauses of a pragma.
 ghost use Rattle.std.specs.Prelude.{◌≡◌, ◌++◌, ◌+◌, ◌≤◌, None, length};
-ghost use Rattle.oss_model.specs.Broken.{first};
-ghost use Rattle.oss_model.specs.ExpressionRules.{value_rules};
-ghost use Rattle.oss_model.specs.StaticRules.{wait_rules};
-ghost use Rattle.oss_model.specs.SectionRules.{begins_with_base, clause_rules, clauses_rules, fits_base, form_rules, has_elements, has_ints, is_array, is_fold, is_global, is_int, is_missing, is_wrong_section, optional_rules, section_rules, sections_in, sections_rules};
+ghost use Rattle.oss_grammar.specs.Broken.{first};
+ghost use Rattle.oss_grammar.specs.ExpressionRules.{value_rules};
+ghost use Rattle.oss_grammar.specs.StaticRules.{wait_rules};
+ghost use Rattle.oss_grammar.specs.SectionRules.{begins_with_base, clause_rules, clauses_rules, fits_base, form_rules, has_elements, has_ints, is_array, is_fold, is_global, is_int, is_missing, is_wrong_section, optional_rules, section_rules, sections_in, sections_rules};
 
+use oss_grammar::{Named, Wanted};
 use oss_kinds::{Globals, Locals, before, refused_if, value};
-use oss_model::{Named, Refused, RefusedKind, Wanted};
-use oss_syntax::{Clause, Expr, Form, Kind, List, Mode, NumKind, Section};
+use oss_syntax::{Clause, Expr, Form, Kind, List, Mode, NumKind, Refused, RefusedKind, Section};
 
 /// The most sections of a pragma.
 const MOST_SECTIONS: usize = 64;

@@ -1,17 +1,17 @@
 //! The rules on statements that hold no others.
 ghost use Rattle.std.specs.Prelude.{◌≡◌, length, map, true};
-ghost use Rattle.oss_model.specs.Broken.{first};
-ghost use Rattle.oss_model.specs.ExpressionRules.{call_findings, findings};
-ghost use Rattle.oss_model.specs.Kinds.{Findings, all_of};
-ghost use Rattle.oss_model.specs.StaticRules.{assign_rules, format_rules, is_wrong_return, moved, numbers_rules, or_anything, print_rules, return_rules, returned_rules, stored_in, stored_rules, target_wanted};
+ghost use Rattle.oss_grammar.specs.Broken.{first};
+ghost use Rattle.oss_grammar.specs.ExpressionRules.{call_findings, findings};
+ghost use Rattle.oss_grammar.specs.Kinds.{Findings, all_of};
+ghost use Rattle.oss_grammar.specs.StaticRules.{assign_rules, format_rules, is_wrong_return, moved, numbers_rules, or_anything, print_rules, return_rules, returned_rules, stored_in, stored_rules, target_wanted};
 ghost use Rattle.oss_kinds.specs.Seen.{seen};
 
+use oss_grammar::{Around, Object, ValueKind, Wanted, conversions};
 use oss_kinds::{
     Finding, Globals, Locals, at_place, before, call, expression, first_of, refused, refused_if,
     taken_by, value, wrong,
 };
-use oss_model::{Around, Object, Refused, RefusedKind, ValueKind, Wanted, conversions};
-use oss_syntax::{BinOp, Bytes, Expr, Kind, List, Name, NumKind};
+use oss_syntax::{BinOp, Bytes, Expr, Kind, List, Name, NumKind, Refused, RefusedKind};
 
 /// The first rule that an assignment breaks.
 pub fn assignment(

@@ -1,19 +1,19 @@
 //! The rules on statements.
 ghost use Rattle.std.specs.Prelude.{◌≡◌, List, length, take, map, option_map, IfOk, OnOk};
 ghost use Rattle.oss_syntax.specs.declared.tree.program.Local.{Local as Declared};
-ghost use Rattle.oss_model.specs.declared.refusal.Refused.{Refused as Broken};
-ghost use Rattle.oss_model.specs.Broken.{first};
-ghost use Rattle.oss_model.specs.ExpressionRules.{value_rules};
-ghost use Rattle.oss_model.specs.SectionRules.{clauses_rules};
-ghost use Rattle.oss_model.specs.Scopes.{is_local_again};
-ghost use Rattle.oss_model.specs.StaticRules.{Judged, alone, declare_all, for_rules, in_a_loop, in_a_task, inner, inner_part, judged, local_rules, part_rules, rules_of, rules_of_all, scope_in, statements_rules, then_judge, with_local};
+ghost use Rattle.oss_syntax.specs.declared.refusal.Refused.{Refused as Broken};
+ghost use Rattle.oss_grammar.specs.Broken.{first};
+ghost use Rattle.oss_grammar.specs.ExpressionRules.{value_rules};
+ghost use Rattle.oss_grammar.specs.SectionRules.{clauses_rules};
+ghost use Rattle.oss_grammar.specs.Scopes.{is_local_again};
+ghost use Rattle.oss_grammar.specs.StaticRules.{Judged, alone, declare_all, for_rules, in_a_loop, in_a_task, inner, inner_part, judged, local_rules, part_rules, rules_of, rules_of_all, scope_in, statements_rules, then_judge, with_local};
 ghost use Rattle.oss_names.specs.Ends.{Ends};
 
 use crate::sections::{clauses, optional, wait};
 use crate::simple::{assignment, call_statement, optional_for, print, return_statement};
+use oss_grammar::{Around, Wanted};
 use oss_kinds::{Globals, Locals, before, refused_if, value};
-use oss_model::{Around, Refusal, Refused, RefusedKind, Wanted};
-use oss_syntax::{Boxed, Expr, Local, Stmt, StmtKind, TaskMark};
+use oss_syntax::{Boxed, Expr, Local, Refusal, Refused, RefusedKind, Stmt, StmtKind, TaskMark};
 use std::alloc::AllocError;
 
 /// The most locals of a function that are in scope at one place.

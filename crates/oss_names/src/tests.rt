@@ -5,7 +5,7 @@ mod build;
 
 use self::build::Build;
 use crate::{Known, resolve};
-use oss_model::{Refusal, RefusedKind};
+use oss_syntax::{Refusal, RefusedKind};
 use std::alloc::{AllocError, Global};
 use std::test::Fail;
 

@@ -10,30 +10,30 @@ use Rattle.oss_syntax.specs.declared.tree.expr.Expr.{Expr}
 use Rattle.oss_syntax.specs.declared.tree.pragma.Directive.{Directive}
 use Rattle.oss_syntax.specs.declared.tree.pragma.Directive.TheVariants as directive
 use Rattle.oss_syntax.specs.declared.tree.stmt.Stmt.{Stmt}
-use Rattle.oss_model.specs.Expressions.{IsExpr, IsWhole}
-use Rattle.oss_model.specs.Expressions.IsExpr.{number, tighter}
-use Rattle.oss_model.specs.Fronts.{Viable}
-use Rattle.oss_model.specs.OneToken.{is_symbol, is_keyword, IsSymbol, IsKeyword, IsOpen}
-use Rattle.oss_model.specs.Pragmas.{IsPragma}
-use Rattle.oss_model.specs.Pragmas.IsPragma.{task as task_pragma, wait_all, wait_on, release as release_pragma}
-use Rattle.oss_model.specs.Reading.{begins, has, one_of}
-use Rattle.oss_model.specs.SimpleStatements.{IsSimple, IsTarget, IsDeclaration, IsNumKind, step_of}
-use Rattle.oss_model.specs.SimpleStatements.IsTarget.{name_target, element_target, pointer_target, pointed_target}
-use Rattle.oss_model.specs.SimpleStatements.IsSimple.{assigned, stepped, step_first, called}
-use Rattle.oss_model.specs.SimpleStatements.IsNumKind.{int_kind, long_kind, unsigned_kind}
-use Rattle.oss_model.specs.SimpleStatements.IsDeclared.{number_declared}
-use Rattle.oss_model.specs.SimpleStatements.IsLocal.{plain_local}
-use Rattle.oss_model.specs.SimpleStatements.IsLocals.{last_local}
-use Rattle.oss_model.specs.SimpleStatements.IsDeclaration.{declaration}
-use Rattle.oss_model.specs.StatementLimits.{IsOneItem}
-use Rattle.oss_model.specs.StatementLimits.IsOneItem.{declared_item, stated_item}
-use Rattle.oss_model.specs.Statements.{IsStmt, IsAnyStmt, IsItems}
-use Rattle.oss_model.specs.Statements.IsStmt.{block, empty, simple, if_alone, if_else, while_loop, for_loop, return_jump, break_jump, continue_jump, print, task, task_wait, release}
-use Rattle.oss_model.specs.Statements.IsItems.{no_item}
-use Rattle.oss_model.specs.Statements.IsForFirst.{other_first}
-use Rattle.oss_model.specs.Statements.IsMaybeSimple.{no_simple}
-use Rattle.oss_model.specs.Statements.IsMaybeWhole.{no_expression}
-use Rattle.oss_model.specs.Statements.IsPrinted.{nothing_printed}
+use Rattle.oss_grammar.specs.Expressions.{IsExpr, IsWhole}
+use Rattle.oss_grammar.specs.Expressions.IsExpr.{number, tighter}
+use Rattle.oss_grammar.specs.Fronts.{Viable}
+use Rattle.oss_grammar.specs.OneToken.{is_symbol, is_keyword, IsSymbol, IsKeyword, IsOpen}
+use Rattle.oss_grammar.specs.Pragmas.{IsPragma}
+use Rattle.oss_grammar.specs.Pragmas.IsPragma.{task as task_pragma, wait_all, wait_on, release as release_pragma}
+use Rattle.oss_grammar.specs.Reading.{begins, has, one_of}
+use Rattle.oss_grammar.specs.SimpleStatements.{IsSimple, IsTarget, IsDeclaration, IsNumKind, step_of}
+use Rattle.oss_grammar.specs.SimpleStatements.IsTarget.{name_target, element_target, pointer_target, pointed_target}
+use Rattle.oss_grammar.specs.SimpleStatements.IsSimple.{assigned, stepped, step_first, called}
+use Rattle.oss_grammar.specs.SimpleStatements.IsNumKind.{int_kind, long_kind, unsigned_kind}
+use Rattle.oss_grammar.specs.SimpleStatements.IsDeclared.{number_declared}
+use Rattle.oss_grammar.specs.SimpleStatements.IsLocal.{plain_local}
+use Rattle.oss_grammar.specs.SimpleStatements.IsLocals.{last_local}
+use Rattle.oss_grammar.specs.SimpleStatements.IsDeclaration.{declaration}
+use Rattle.oss_grammar.specs.StatementLimits.{IsOneItem}
+use Rattle.oss_grammar.specs.StatementLimits.IsOneItem.{declared_item, stated_item}
+use Rattle.oss_grammar.specs.Statements.{IsStmt, IsAnyStmt, IsItems}
+use Rattle.oss_grammar.specs.Statements.IsStmt.{block, empty, simple, if_alone, if_else, while_loop, for_loop, return_jump, break_jump, continue_jump, print, task, task_wait, release}
+use Rattle.oss_grammar.specs.Statements.IsItems.{no_item}
+use Rattle.oss_grammar.specs.Statements.IsForFirst.{other_first}
+use Rattle.oss_grammar.specs.Statements.IsMaybeSimple.{no_simple}
+use Rattle.oss_grammar.specs.Statements.IsMaybeWhole.{no_expression}
+use Rattle.oss_grammar.specs.Statements.IsPrinted.{nothing_printed}
 use Rattle.oss_pragma.specs.TokenValues.{symbol_at, keyword_at, start_at, start_in, name_at, named_in}
 use Rattle.oss_pragma.proofs.TokenLemmas.{on_symbol, on_keyword, has_symbol, has_keyword}
 use Rattle.oss_parse.specs.SimpleReading.{begins_simple, begins_kind, star, step_at, stepped_in, single_kind_at}

@@ -5,11 +5,11 @@ use Rattle.std.proofs.lemmas.List.{append-nil, append_cancel_right}
 use Rattle.oss_syntax.specs.declared.token.Token.{Token}
 use Rattle.oss_syntax.specs.declared.tree.expr.Expr.{Expr}
 use Rattle.oss_syntax.specs.declared.tree.stmt.Stmt.{Stmt}
-use Rattle.oss_model.specs.Fronts.{Viable}
-use Rattle.oss_model.specs.OneToken.{is_keyword}
-use Rattle.oss_model.specs.Reading.{Stop, Reader, begins, has, go_on, token_told, read_one, read_then, read_nothing, read_mapped, read_both, read_either}
-use Rattle.oss_model.specs.Reading.Stop.{Syntax, Deep}
-use Rattle.oss_model.proofs.Parts.{AtSame, Taken, Stopped, Sunk, IsRead, Sinks, Exact, Begun, ok_is, taken, viable_front, still_fails}
+use Rattle.oss_grammar.specs.Fronts.{Viable}
+use Rattle.oss_grammar.specs.OneToken.{is_keyword}
+use Rattle.oss_grammar.specs.Reading.{Stop, Reader, begins, has, go_on, token_told, read_one, read_then, read_nothing, read_mapped, read_both, read_either}
+use Rattle.oss_grammar.specs.Reading.Stop.{Syntax, Deep}
+use Rattle.oss_grammar.proofs.Parts.{AtSame, Taken, Stopped, Sunk, IsRead, Sinks, Exact, Begun, ok_is, taken, viable_front, still_fails}
 use Rattle.oss_pragma.specs.ExpressionReading.{latter}
 use Rattle.oss_pragma.specs.TokenValues.{keyword_at}
 use Rattle.oss_parse.specs.StatementReading.{if_of, if_else_of, read_branches}

@@ -4,15 +4,15 @@
 use Rattle.std.proofs.Common.{◌≡◌, ℕ, Bool, true, false, if◌then◌else◌, List, [], ◌∷◌, ◌++◌, refl, sym, ap, ◌∙◌, subst, append_assoc, ◌⊎◌, inl, inr, Option, Some, None, is_some, Result, Ok, Err}
 use Rattle.std.proofs.lemmas.List.{append-nil, append_cancel_right}
 use Rattle.oss_syntax.specs.declared.token.Token.{Token}
-use Rattle.oss_model.specs.Fronts.{Viable}
-use Rattle.oss_model.specs.Grammar.{Mapped, Either}
-use Rattle.oss_model.specs.Grammar.Either.{one_way, other_way}
-use Rattle.oss_model.specs.Reading.{Stop, begins, never, go_on, read_then, read_mapped, read_either}
-use Rattle.oss_model.specs.Reading.Stop.{Syntax, Deep}
-use Rattle.oss_model.proofs.Parts.{AtSame, Taken, Stopped, Sunk, IsRead, Sinks, Exact, Begun, ok_is, taken, member_begins, deep_begins, exact_as, exact_before}
-use Rattle.oss_model.proofs.PartLemmas.{Then, ThenDeep, exact_then, exact_mapped, EitherDeep, exact_either}
-use Rattle.oss_model.proofs.PartLemmas.ThenDeep.{in_first, in_second}
-use Rattle.oss_model.proofs.PartLemmas.EitherDeep.{one_deep, other_deep}
+use Rattle.oss_grammar.specs.Fronts.{Viable}
+use Rattle.oss_grammar.specs.Grammar.{Mapped, Either}
+use Rattle.oss_grammar.specs.Grammar.Either.{one_way, other_way}
+use Rattle.oss_grammar.specs.Reading.{Stop, begins, never, go_on, read_then, read_mapped, read_either}
+use Rattle.oss_grammar.specs.Reading.Stop.{Syntax, Deep}
+use Rattle.oss_grammar.proofs.Parts.{AtSame, Taken, Stopped, Sunk, IsRead, Sinks, Exact, Begun, ok_is, taken, member_begins, deep_begins, exact_as, exact_before}
+use Rattle.oss_grammar.proofs.PartLemmas.{Then, ThenDeep, exact_then, exact_mapped, EitherDeep, exact_either}
+use Rattle.oss_grammar.proofs.PartLemmas.ThenDeep.{in_first, in_second}
+use Rattle.oss_grammar.proofs.PartLemmas.EitherDeep.{one_deep, other_deep}
 use Rattle.oss_pragma.proofs.TokenLemmas.{begins_never, exact_closed}
 
 pub record Ending {A : Type 0} (goes : Token → Bool) (f : List Token → Result (A × List Token) Stop) (U C : List Token → A → Type 0) (B : List Token → Token → Type 0) : Type 0 where

@@ -10,27 +10,27 @@ use Rattle.oss_syntax.specs.declared.tree.program.Local.{Local}
 use Rattle.oss_syntax.specs.declared.tree.program.NumKind.{NumKind}
 use Rattle.oss_syntax.specs.declared.tree.program.NumKind.TheVariants as num
 use Rattle.oss_syntax.specs.declared.tree.stmt.Stmt.{Stmt}
-use Rattle.oss_model.specs.Expressions.{IsWhole, operator_of}
-use Rattle.oss_model.specs.Fronts.{Viable}
-use Rattle.oss_model.specs.Grammar.{One, Mapped, Either}
-use Rattle.oss_model.specs.Grammar.Either.{one_way, other_way}
-use Rattle.oss_model.specs.Levels.{IsExcessBehind}
-use Rattle.oss_model.specs.OneToken.{is_symbol, is_keyword}
-use Rattle.oss_model.specs.Reading.{Reader, begins, has, one_of, never, read_one, read_nothing, read_mapped, read_both, read_either}
-use Rattle.oss_model.specs.SimpleStatements.{IsNumKind, IsDeclared, IsLocal, IsLocals, IsDeclaration, first_line}
-use Rattle.oss_model.specs.SimpleStatements.IsNumKind.{int_kind, long_kind, unsigned_kind}
-use Rattle.oss_model.specs.SimpleStatements.IsDeclared.{number_declared, pointer_declared}
-use Rattle.oss_model.specs.SimpleStatements.IsLocal.{plain_local, first_local}
-use Rattle.oss_model.specs.SimpleStatements.IsLocals.{last_local, next_local}
-use Rattle.oss_model.specs.SimpleStatements.IsDeclaration.{declaration}
-use Rattle.oss_model.specs.StatementLimits.{OpensLocals, OpensDeclaration}
-use Rattle.oss_model.specs.StatementLimits.OpensLocals.{local_value, later_local}
-use Rattle.oss_model.proofs.Parts.{Exact, Begun, exact_as, exact_before}
-use Rattle.oss_model.proofs.PartLemmas.{Nowhere, nowhere, exact_one, begun_one, Nothing, exact_nothing, exact_mapped, begun_mapped, Then, ThenDeep, exact_then, begun_then, EitherDeep, exact_either, begun_either}
-use Rattle.oss_model.proofs.PartLemmas.ThenDeep.{in_first, in_second}
-use Rattle.oss_model.proofs.PartLemmas.EitherDeep.{one_deep, other_deep}
-use Rattle.oss_model.proofs.PairLemmas.{some_text, exact_next, begun_next}
-use Rattle.oss_model.proofs.StepLemmas.{fewer_go}
+use Rattle.oss_grammar.specs.Expressions.{IsWhole, operator_of}
+use Rattle.oss_grammar.specs.Fronts.{Viable}
+use Rattle.oss_grammar.specs.Grammar.{One, Mapped, Either}
+use Rattle.oss_grammar.specs.Grammar.Either.{one_way, other_way}
+use Rattle.oss_grammar.specs.Levels.{IsExcessBehind}
+use Rattle.oss_grammar.specs.OneToken.{is_symbol, is_keyword}
+use Rattle.oss_grammar.specs.Reading.{Reader, begins, has, one_of, never, read_one, read_nothing, read_mapped, read_both, read_either}
+use Rattle.oss_grammar.specs.SimpleStatements.{IsNumKind, IsDeclared, IsLocal, IsLocals, IsDeclaration, first_line}
+use Rattle.oss_grammar.specs.SimpleStatements.IsNumKind.{int_kind, long_kind, unsigned_kind}
+use Rattle.oss_grammar.specs.SimpleStatements.IsDeclared.{number_declared, pointer_declared}
+use Rattle.oss_grammar.specs.SimpleStatements.IsLocal.{plain_local, first_local}
+use Rattle.oss_grammar.specs.SimpleStatements.IsLocals.{last_local, next_local}
+use Rattle.oss_grammar.specs.SimpleStatements.IsDeclaration.{declaration}
+use Rattle.oss_grammar.specs.StatementLimits.{OpensLocals, OpensDeclaration}
+use Rattle.oss_grammar.specs.StatementLimits.OpensLocals.{local_value, later_local}
+use Rattle.oss_grammar.proofs.Parts.{Exact, Begun, exact_as, exact_before}
+use Rattle.oss_grammar.proofs.PartLemmas.{Nowhere, nowhere, exact_one, begun_one, Nothing, exact_nothing, exact_mapped, begun_mapped, Then, ThenDeep, exact_then, begun_then, EitherDeep, exact_either, begun_either}
+use Rattle.oss_grammar.proofs.PartLemmas.ThenDeep.{in_first, in_second}
+use Rattle.oss_grammar.proofs.PartLemmas.EitherDeep.{one_deep, other_deep}
+use Rattle.oss_grammar.proofs.PairLemmas.{some_text, exact_next, begun_next}
+use Rattle.oss_grammar.proofs.StepLemmas.{fewer_go}
 use Rattle.oss_parse.specs.SimpleReading.{single_kind_at, ulong_of, read_num_kind, begins_kind, star, pointer_to, number_of, read_declared, local_of, read_local, declared_at, read_declaration}
 use Rattle.oss_pragma.specs.ExpressionReading.{read_list}
 use Rattle.oss_pragma.specs.TokenValues.{symbol_at, keyword_at, name_at, begins_expression}

@@ -15,30 +15,30 @@ use Rattle.oss_syntax.specs.declared.tree.program.Kind.TheVariants as kind
 use Rattle.oss_syntax.specs.declared.tree.program.Local.{Local}
 use Rattle.oss_syntax.specs.declared.tree.program.NumKind.{NumKind}
 use Rattle.oss_syntax.specs.declared.tree.stmt.Stmt.{Stmt}
-use Rattle.oss_model.specs.Expressions.{IsWhole}
-use Rattle.oss_model.specs.Fronts.{Viable}
-use Rattle.oss_model.specs.Grammar.{One, Both, Mapped, Either}
-use Rattle.oss_model.specs.Grammar.Either.{one_way, other_way}
-use Rattle.oss_model.specs.Levels.{IsExcessBehind}
-use Rattle.oss_model.specs.OneToken.{is_word, is_keyword, IsSymbol, IsWord, IsOpen, IsClose}
-use Rattle.oss_model.specs.Pragmas.{IsPragma}
-use Rattle.oss_model.specs.Pragmas.IsPragma.{task}
-use Rattle.oss_model.specs.Pragmas.IsClauses.{no_clause}
-use Rattle.oss_model.specs.Programs.{IsParameter, IsParameterList, IsParameters, IsResult}
-use Rattle.oss_model.specs.Programs.IsParameter.{parameter}
-use Rattle.oss_model.specs.Programs.IsParameterList.{last_parameter, next_parameter}
-use Rattle.oss_model.specs.Programs.IsParameters.{no_parameters, void_parameters, some_parameters}
-use Rattle.oss_model.specs.Programs.IsResult.{number_result, void_result}
-use Rattle.oss_model.specs.Reading.{Reader, has, one_of, never, read_one, read_both}
-use Rattle.oss_model.specs.SimpleStatements.{first_line}
-use Rattle.oss_model.specs.StatementLimits.{OpensMark}
-use Rattle.oss_model.specs.StatementLimits.OpensMark.{in_mark}
-use Rattle.oss_model.specs.Statements.{IsItems}
-use Rattle.oss_model.specs.Statements.IsItems.{no_item}
-use Rattle.oss_model.proofs.Parts.{Exact, Begun, exact_as}
-use Rattle.oss_model.proofs.PartLemmas.{Nowhere, nowhere, exact_one, begun_one, exact_mapped, begun_mapped, Then, ThenDeep, exact_then, begun_then, EitherDeep, begun_either}
-use Rattle.oss_model.proofs.PartLemmas.EitherDeep.{one_deep, other_deep}
-use Rattle.oss_model.proofs.PairLemmas.{begun_both, some_text}
+use Rattle.oss_grammar.specs.Expressions.{IsWhole}
+use Rattle.oss_grammar.specs.Fronts.{Viable}
+use Rattle.oss_grammar.specs.Grammar.{One, Both, Mapped, Either}
+use Rattle.oss_grammar.specs.Grammar.Either.{one_way, other_way}
+use Rattle.oss_grammar.specs.Levels.{IsExcessBehind}
+use Rattle.oss_grammar.specs.OneToken.{is_word, is_keyword, IsSymbol, IsWord, IsOpen, IsClose}
+use Rattle.oss_grammar.specs.Pragmas.{IsPragma}
+use Rattle.oss_grammar.specs.Pragmas.IsPragma.{task}
+use Rattle.oss_grammar.specs.Pragmas.IsClauses.{no_clause}
+use Rattle.oss_grammar.specs.Programs.{IsParameter, IsParameterList, IsParameters, IsResult}
+use Rattle.oss_grammar.specs.Programs.IsParameter.{parameter}
+use Rattle.oss_grammar.specs.Programs.IsParameterList.{last_parameter, next_parameter}
+use Rattle.oss_grammar.specs.Programs.IsParameters.{no_parameters, void_parameters, some_parameters}
+use Rattle.oss_grammar.specs.Programs.IsResult.{number_result, void_result}
+use Rattle.oss_grammar.specs.Reading.{Reader, has, one_of, never, read_one, read_both}
+use Rattle.oss_grammar.specs.SimpleStatements.{first_line}
+use Rattle.oss_grammar.specs.StatementLimits.{OpensMark}
+use Rattle.oss_grammar.specs.StatementLimits.OpensMark.{in_mark}
+use Rattle.oss_grammar.specs.Statements.{IsItems}
+use Rattle.oss_grammar.specs.Statements.IsItems.{no_item}
+use Rattle.oss_grammar.proofs.Parts.{Exact, Begun, exact_as}
+use Rattle.oss_grammar.proofs.PartLemmas.{Nowhere, nowhere, exact_one, begun_one, exact_mapped, begun_mapped, Then, ThenDeep, exact_then, begun_then, EitherDeep, begun_either}
+use Rattle.oss_grammar.proofs.PartLemmas.EitherDeep.{one_deep, other_deep}
+use Rattle.oss_grammar.proofs.PairLemmas.{begun_both, some_text}
 use Rattle.oss_pragma.specs.ExpressionReading.{former, read_list}
 use Rattle.oss_pragma.specs.PragmaReading.{task_of}
 use Rattle.oss_pragma.specs.TokenValues.{symbol_at, keyword_at, word_at, start_in, start_at, end_in, end_at, begins_expression}

@@ -9,21 +9,21 @@ use Rattle.oss_syntax.specs.declared.tree.program.GlobalDef.{GlobalDef}
 use Rattle.oss_syntax.specs.declared.tree.program.Item.{Item}
 use Rattle.oss_syntax.specs.declared.tree.program.Item.TheVariants as items
 use Rattle.oss_syntax.specs.declared.tree.program.NumKind.{NumKind}
-use Rattle.oss_model.specs.Fronts.{Viable}
-use Rattle.oss_model.specs.Grammar.{One, Mapped, Either}
-use Rattle.oss_model.specs.Grammar.Either.{one_way, other_way}
-use Rattle.oss_model.specs.OneToken.{IsSymbol, IsIndexOpen, IsIndexClose, IsComma}
-use Rattle.oss_model.specs.Programs.{IsFirstValue, IsGlobal, IsGlobals}
-use Rattle.oss_model.specs.Programs.IsFirstValue.{plain_value, negative_value}
-use Rattle.oss_model.specs.Programs.IsGlobal.{scalar_global, first_global, array_global}
-use Rattle.oss_model.specs.Programs.IsGlobals.{last_global, next_global}
-use Rattle.oss_model.specs.Reading.{begins, has, one_of, never, read_one, read_then, read_mapped}
-use Rattle.oss_model.specs.Values.{negated}
-use Rattle.oss_model.proofs.Parts.{Exact, Begun, exact_as, member_begins}
-use Rattle.oss_model.proofs.PartLemmas.{Nowhere, nowhere, exact_one, begun_one, Nothing, exact_nothing, exact_mapped, begun_mapped, Then, ThenDeep, exact_then, begun_then, EitherDeep, exact_either, begun_either}
-use Rattle.oss_model.proofs.PartLemmas.EitherDeep.{one_deep, other_deep}
-use Rattle.oss_model.proofs.PairLemmas.{some_text}
-use Rattle.oss_model.proofs.StepLemmas.{none_goes, fewer_go}
+use Rattle.oss_grammar.specs.Fronts.{Viable}
+use Rattle.oss_grammar.specs.Grammar.{One, Mapped, Either}
+use Rattle.oss_grammar.specs.Grammar.Either.{one_way, other_way}
+use Rattle.oss_grammar.specs.OneToken.{IsSymbol, IsIndexOpen, IsIndexClose, IsComma}
+use Rattle.oss_grammar.specs.Programs.{IsFirstValue, IsGlobal, IsGlobals}
+use Rattle.oss_grammar.specs.Programs.IsFirstValue.{plain_value, negative_value}
+use Rattle.oss_grammar.specs.Programs.IsGlobal.{scalar_global, first_global, array_global}
+use Rattle.oss_grammar.specs.Programs.IsGlobals.{last_global, next_global}
+use Rattle.oss_grammar.specs.Reading.{begins, has, one_of, never, read_one, read_then, read_mapped}
+use Rattle.oss_grammar.specs.Values.{negated}
+use Rattle.oss_grammar.proofs.Parts.{Exact, Begun, exact_as, member_begins}
+use Rattle.oss_grammar.proofs.PartLemmas.{Nowhere, nowhere, exact_one, begun_one, Nothing, exact_nothing, exact_mapped, begun_mapped, Then, ThenDeep, exact_then, begun_then, EitherDeep, exact_either, begun_either}
+use Rattle.oss_grammar.proofs.PartLemmas.EitherDeep.{one_deep, other_deep}
+use Rattle.oss_grammar.proofs.PairLemmas.{some_text}
+use Rattle.oss_grammar.proofs.StepLemmas.{none_goes, fewer_go}
 use Rattle.oss_pragma.specs.ExpressionReading.{and_then, read_more}
 use Rattle.oss_pragma.specs.TokenValues.{symbol_at, name_at}
 use Rattle.oss_pragma.specs.declared.cursor.Named.{Named}

@@ -7,17 +7,17 @@ use Rattle.oss_syntax.specs.declared.tree.program.Kind.{Kind}
 use Rattle.oss_syntax.specs.declared.tree.program.Kind.TheVariants as kind
 use Rattle.oss_syntax.specs.declared.tree.program.NumKind.{NumKind}
 use Rattle.oss_syntax.specs.declared.tree.program.NumKind.TheVariants as num
-use Rattle.oss_model.specs.Grammar.{One, Mapped, Either}
-use Rattle.oss_model.specs.Grammar.Either.{one_way, other_way}
-use Rattle.oss_model.specs.OneToken.{is_keyword, IsKeyword}
-use Rattle.oss_model.specs.Reading.{has, one_of, never, read_one, read_both}
-use Rattle.oss_model.specs.SimpleStatements.{IsNumKind, IsDeclared, first_line}
-use Rattle.oss_model.specs.SimpleStatements.IsNumKind.{int_kind, long_kind, unsigned_kind}
-use Rattle.oss_model.specs.SimpleStatements.IsDeclared.{number_declared, pointer_declared}
-use Rattle.oss_model.proofs.Parts.{Exact, Begun, exact_as}
-use Rattle.oss_model.proofs.PartLemmas.{Nowhere, nowhere, exact_one, begun_one, exact_mapped, begun_mapped, EitherDeep, begun_either}
-use Rattle.oss_model.proofs.PartLemmas.EitherDeep.{one_deep, other_deep}
-use Rattle.oss_model.proofs.PairLemmas.{some_text}
+use Rattle.oss_grammar.specs.Grammar.{One, Mapped, Either}
+use Rattle.oss_grammar.specs.Grammar.Either.{one_way, other_way}
+use Rattle.oss_grammar.specs.OneToken.{is_keyword, IsKeyword}
+use Rattle.oss_grammar.specs.Reading.{has, one_of, never, read_one, read_both}
+use Rattle.oss_grammar.specs.SimpleStatements.{IsNumKind, IsDeclared, first_line}
+use Rattle.oss_grammar.specs.SimpleStatements.IsNumKind.{int_kind, long_kind, unsigned_kind}
+use Rattle.oss_grammar.specs.SimpleStatements.IsDeclared.{number_declared, pointer_declared}
+use Rattle.oss_grammar.proofs.Parts.{Exact, Begun, exact_as}
+use Rattle.oss_grammar.proofs.PartLemmas.{Nowhere, nowhere, exact_one, begun_one, exact_mapped, begun_mapped, EitherDeep, begun_either}
+use Rattle.oss_grammar.proofs.PartLemmas.EitherDeep.{one_deep, other_deep}
+use Rattle.oss_grammar.proofs.PairLemmas.{some_text}
 use Rattle.oss_pragma.specs.TokenValues.{symbol_at, keyword_at, name_at}
 use Rattle.oss_pragma.specs.declared.cursor.Named.{Named}
 use Rattle.oss_pragma.proofs.ExactPairs.{Headed, HeadedDeep, exact_headed, begun_headed, exact_or}

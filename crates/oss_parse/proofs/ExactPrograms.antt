@@ -15,31 +15,31 @@ use Rattle.oss_syntax.specs.declared.tree.program.Local.{Local}
 use Rattle.oss_syntax.specs.declared.tree.program.NumKind.{NumKind}
 use Rattle.oss_syntax.specs.declared.tree.program.Program.{Program}
 use Rattle.oss_syntax.specs.declared.tree.stmt.Stmt.{Stmt}
-use Rattle.oss_model.specs.Expressions.{IsWhole}
-use Rattle.oss_model.specs.Fronts.{Viable}
-use Rattle.oss_model.specs.Grammar.{One, Mapped, Either}
-use Rattle.oss_model.specs.Grammar.Either.{one_way, other_way}
-use Rattle.oss_model.specs.Levels.{IsExcessBehind, IsExpressionExcess, most_levels}
-use Rattle.oss_model.specs.OneToken.{IsSymbol, IsOpen, IsClose}
-use Rattle.oss_model.specs.Programs.{IsMark, IsResult, IsParameters, IsItem, IsProgramItems, IsProgram}
-use Rattle.oss_model.specs.Programs.IsMark.{no_mark, some_mark}
-use Rattle.oss_model.specs.Programs.IsResult.{number_result, void_result}
-use Rattle.oss_model.specs.Programs.IsFunction.{function}
-use Rattle.oss_model.specs.Programs.IsItem.{globals, one_function}
-use Rattle.oss_model.specs.Programs.IsProgramItems.{no_items, more_items}
-use Rattle.oss_model.specs.Programs.IsProgram.{program}
-use Rattle.oss_model.specs.Reading.{Reader, begins, has, one_of, never, read_one, read_then, read_mapped}
-use Rattle.oss_model.specs.SimpleStatements.{IsNumKind, first_line}
-use Rattle.oss_model.specs.StatementLimits.{OpensMark, IsItemsExcess, IsProgramExcess}
-use Rattle.oss_model.specs.StatementLimits.IsProgramExcess.{in_marked, in_body, in_later_item}
-use Rattle.oss_model.specs.Statements.{IsItems}
-use Rattle.oss_model.proofs.Parts.{Exact, Begun, exact_as}
-use Rattle.oss_model.proofs.PartLemmas.{Nowhere, nowhere, begun_one, exact_mapped, begun_mapped, Then, ThenDeep, exact_then, begun_then, EitherDeep, exact_either, begun_either}
-use Rattle.oss_model.proofs.PartLemmas.EitherDeep.{one_deep, other_deep}
-use Rattle.oss_model.proofs.PairLemmas.{some_text}
-use Rattle.oss_model.proofs.StepLemmas.{Steps, StepsDeep, exact_steps}
-use Rattle.oss_model.proofs.StepLemmas.Steps.{over, once_more}
-use Rattle.oss_model.proofs.StepLemmas.StepsDeep.{in_this, in_later}
+use Rattle.oss_grammar.specs.Expressions.{IsWhole}
+use Rattle.oss_grammar.specs.Fronts.{Viable}
+use Rattle.oss_grammar.specs.Grammar.{One, Mapped, Either}
+use Rattle.oss_grammar.specs.Grammar.Either.{one_way, other_way}
+use Rattle.oss_grammar.specs.Levels.{IsExcessBehind, IsExpressionExcess, most_levels}
+use Rattle.oss_grammar.specs.OneToken.{IsSymbol, IsOpen, IsClose}
+use Rattle.oss_grammar.specs.Programs.{IsMark, IsResult, IsParameters, IsItem, IsProgramItems, IsProgram}
+use Rattle.oss_grammar.specs.Programs.IsMark.{no_mark, some_mark}
+use Rattle.oss_grammar.specs.Programs.IsResult.{number_result, void_result}
+use Rattle.oss_grammar.specs.Programs.IsFunction.{function}
+use Rattle.oss_grammar.specs.Programs.IsItem.{globals, one_function}
+use Rattle.oss_grammar.specs.Programs.IsProgramItems.{no_items, more_items}
+use Rattle.oss_grammar.specs.Programs.IsProgram.{program}
+use Rattle.oss_grammar.specs.Reading.{Reader, begins, has, one_of, never, read_one, read_then, read_mapped}
+use Rattle.oss_grammar.specs.SimpleStatements.{IsNumKind, first_line}
+use Rattle.oss_grammar.specs.StatementLimits.{OpensMark, IsItemsExcess, IsProgramExcess}
+use Rattle.oss_grammar.specs.StatementLimits.IsProgramExcess.{in_marked, in_body, in_later_item}
+use Rattle.oss_grammar.specs.Statements.{IsItems}
+use Rattle.oss_grammar.proofs.Parts.{Exact, Begun, exact_as}
+use Rattle.oss_grammar.proofs.PartLemmas.{Nowhere, nowhere, begun_one, exact_mapped, begun_mapped, Then, ThenDeep, exact_then, begun_then, EitherDeep, exact_either, begun_either}
+use Rattle.oss_grammar.proofs.PartLemmas.EitherDeep.{one_deep, other_deep}
+use Rattle.oss_grammar.proofs.PairLemmas.{some_text}
+use Rattle.oss_grammar.proofs.StepLemmas.{Steps, StepsDeep, exact_steps}
+use Rattle.oss_grammar.proofs.StepLemmas.Steps.{over, once_more}
+use Rattle.oss_grammar.proofs.StepLemmas.StepsDeep.{in_this, in_later}
 use Rattle.oss_pragma.specs.ExpressionReading.{read_expression}
 use Rattle.oss_pragma.specs.TokenValues.{symbol_at, keyword_at, start_in, start_at, name_at, begins_expression}
 use Rattle.oss_pragma.specs.declared.cursor.Named.{Named}

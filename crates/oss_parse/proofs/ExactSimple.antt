@@ -10,25 +10,25 @@ use Rattle.oss_syntax.specs.declared.tree.expr.Expr.{Expr}
 use Rattle.oss_syntax.specs.declared.tree.expr.ExprKind.TheVariants as exprs
 use Rattle.oss_syntax.specs.declared.tree.stmt.Stmt.{Stmt}
 use Rattle.oss_syntax.specs.declared.tree.stmt.StmtKind.TheVariants as stmts
-use Rattle.oss_model.specs.Expressions.{IsWhole, operator_of}
-use Rattle.oss_model.specs.Fronts.{Viable}
-use Rattle.oss_model.specs.Grammar.{One, Mapped, Either}
-use Rattle.oss_model.specs.Grammar.Either.{one_way, other_way}
-use Rattle.oss_model.specs.Levels.{IsExcessBehind}
-use Rattle.oss_model.specs.OneToken.{is_symbol}
-use Rattle.oss_model.specs.Reading.{Reader, begins, has, one_of, never, read_one, read_then, read_mapped, read_both}
-use Rattle.oss_model.specs.SimpleStatements.{IsTarget, IsSimple, assignment_of, step_of}
-use Rattle.oss_model.specs.SimpleStatements.IsTarget.{name_target, element_target, pointer_target, pointed_target}
-use Rattle.oss_model.specs.SimpleStatements.IsSimple.{assigned, stepped, step_first, called}
-use Rattle.oss_model.specs.StatementLimits.{OpensTarget, OpensSimple}
-use Rattle.oss_model.specs.StatementLimits.OpensTarget.{element_place, pointed_place}
-use Rattle.oss_model.specs.StatementLimits.OpensSimple.{simple_target, simple_value, stepped_target, first_value, later_value}
-use Rattle.oss_model.proofs.Parts.{Exact, Begun, exact_as, exact_before, member_begins, deep_begins}
-use Rattle.oss_model.proofs.PartLemmas.{Nowhere, nowhere, exact_one, begun_one, Nothing, exact_nothing, exact_mapped, begun_mapped, Then, ThenDeep, exact_then, begun_then, EitherDeep, exact_either, begun_either}
-use Rattle.oss_model.proofs.PartLemmas.ThenDeep.{in_first, in_second}
-use Rattle.oss_model.proofs.PartLemmas.EitherDeep.{one_deep, other_deep}
-use Rattle.oss_model.proofs.PairLemmas.{some_text, exact_next, begun_next}
-use Rattle.oss_model.proofs.StepLemmas.{none_goes, fewer_go}
+use Rattle.oss_grammar.specs.Expressions.{IsWhole, operator_of}
+use Rattle.oss_grammar.specs.Fronts.{Viable}
+use Rattle.oss_grammar.specs.Grammar.{One, Mapped, Either}
+use Rattle.oss_grammar.specs.Grammar.Either.{one_way, other_way}
+use Rattle.oss_grammar.specs.Levels.{IsExcessBehind}
+use Rattle.oss_grammar.specs.OneToken.{is_symbol}
+use Rattle.oss_grammar.specs.Reading.{Reader, begins, has, one_of, never, read_one, read_then, read_mapped, read_both}
+use Rattle.oss_grammar.specs.SimpleStatements.{IsTarget, IsSimple, assignment_of, step_of}
+use Rattle.oss_grammar.specs.SimpleStatements.IsTarget.{name_target, element_target, pointer_target, pointed_target}
+use Rattle.oss_grammar.specs.SimpleStatements.IsSimple.{assigned, stepped, step_first, called}
+use Rattle.oss_grammar.specs.StatementLimits.{OpensTarget, OpensSimple}
+use Rattle.oss_grammar.specs.StatementLimits.OpensTarget.{element_place, pointed_place}
+use Rattle.oss_grammar.specs.StatementLimits.OpensSimple.{simple_target, simple_value, stepped_target, first_value, later_value}
+use Rattle.oss_grammar.proofs.Parts.{Exact, Begun, exact_as, exact_before, member_begins, deep_begins}
+use Rattle.oss_grammar.proofs.PartLemmas.{Nowhere, nowhere, exact_one, begun_one, Nothing, exact_nothing, exact_mapped, begun_mapped, Then, ThenDeep, exact_then, begun_then, EitherDeep, exact_either, begun_either}
+use Rattle.oss_grammar.proofs.PartLemmas.ThenDeep.{in_first, in_second}
+use Rattle.oss_grammar.proofs.PartLemmas.EitherDeep.{one_deep, other_deep}
+use Rattle.oss_grammar.proofs.PairLemmas.{some_text, exact_next, begun_next}
+use Rattle.oss_grammar.proofs.StepLemmas.{none_goes, fewer_go}
 use Rattle.oss_parse.specs.SimpleReading.{assignment_at, stepped_in, step_at, star, deref_at, assigned_to, stepped_by, step_before, call_statement, read_target_from, read_pointed_at, read_starred, read_target, read_assigned, read_step_first, read_called, read_simple_from, read_simple, begins_simple}
 use Rattle.oss_pragma.specs.ExpressionReading.{named_expression, indexed}
 use Rattle.oss_pragma.specs.TokenValues.{symbol_at, name_at, begins_expression}

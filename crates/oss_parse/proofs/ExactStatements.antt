@@ -7,28 +7,28 @@ use Rattle.oss_syntax.specs.declared.tree.expr.Expr.{Expr}
 use Rattle.oss_syntax.specs.declared.tree.pragma.Directive.{Directive}
 use Rattle.oss_syntax.specs.declared.tree.stmt.Stmt.{Stmt}
 use Rattle.oss_syntax.specs.declared.token.TokenKind.TheVariants as kinds
-use Rattle.oss_model.specs.Expressions.{IsWhole}
-use Rattle.oss_model.specs.Fronts.{Viable}
-use Rattle.oss_model.specs.Grammar.{One, Mapped, Either}
-use Rattle.oss_model.specs.Grammar.Either.{one_way, other_way}
-use Rattle.oss_model.specs.Levels.{IsExcessBehind, OpensPragma}
-use Rattle.oss_model.specs.OneToken.{is_keyword}
-use Rattle.oss_model.specs.Pragmas.{IsPragma}
-use Rattle.oss_model.specs.Reading.{Stop, Reader, begins, has, never, one_of, read_one, read_mapped, read_both, read_either, read_steps, read_too_deep}
-use Rattle.oss_model.specs.Reading.Stop.{Syntax, Deep}
-use Rattle.oss_model.specs.SimpleStatements.{IsDeclaration, step_of}
-use Rattle.oss_model.specs.StatementLimits.{OpensDeclaration, IsOneItem, IsStatementExcess, IsItemExcess, IsItemsExcess}
-use Rattle.oss_model.specs.StatementLimits.IsOneItem.{declared_item, stated_item}
-use Rattle.oss_model.specs.StatementLimits.IsStatementExcess.{no_level}
-use Rattle.oss_model.specs.StatementLimits.IsItemExcess.{no_item_level, in_declaration, in_statement}
-use Rattle.oss_model.specs.StatementLimits.IsItemsExcess.{first_item, later_item}
-use Rattle.oss_model.specs.Statements.{IsStmt, IsAnyStmt, IsItems}
-use Rattle.oss_model.specs.Statements.IsItems.{no_item, declaration_item, statement_item}
-use Rattle.oss_model.proofs.Parts.{Sinks, Exact, Begun, exact_as, exact_same, member_begins, deep_begins}
-use Rattle.oss_model.proofs.PartLemmas.{Nowhere, EitherDeep, exact_one, begun_one, exact_mapped, begun_mapped, exact_either, begun_either, exact_too_deep, begun_too_deep}
-use Rattle.oss_model.proofs.PartLemmas.EitherDeep.{one_deep, other_deep}
-use Rattle.oss_model.proofs.PairLemmas as pairs
-use Rattle.oss_model.proofs.StepLemmas.{none_goes}
+use Rattle.oss_grammar.specs.Expressions.{IsWhole}
+use Rattle.oss_grammar.specs.Fronts.{Viable}
+use Rattle.oss_grammar.specs.Grammar.{One, Mapped, Either}
+use Rattle.oss_grammar.specs.Grammar.Either.{one_way, other_way}
+use Rattle.oss_grammar.specs.Levels.{IsExcessBehind, OpensPragma}
+use Rattle.oss_grammar.specs.OneToken.{is_keyword}
+use Rattle.oss_grammar.specs.Pragmas.{IsPragma}
+use Rattle.oss_grammar.specs.Reading.{Stop, Reader, begins, has, never, one_of, read_one, read_mapped, read_both, read_either, read_steps, read_too_deep}
+use Rattle.oss_grammar.specs.Reading.Stop.{Syntax, Deep}
+use Rattle.oss_grammar.specs.SimpleStatements.{IsDeclaration, step_of}
+use Rattle.oss_grammar.specs.StatementLimits.{OpensDeclaration, IsOneItem, IsStatementExcess, IsItemExcess, IsItemsExcess}
+use Rattle.oss_grammar.specs.StatementLimits.IsOneItem.{declared_item, stated_item}
+use Rattle.oss_grammar.specs.StatementLimits.IsStatementExcess.{no_level}
+use Rattle.oss_grammar.specs.StatementLimits.IsItemExcess.{no_item_level, in_declaration, in_statement}
+use Rattle.oss_grammar.specs.StatementLimits.IsItemsExcess.{first_item, later_item}
+use Rattle.oss_grammar.specs.Statements.{IsStmt, IsAnyStmt, IsItems}
+use Rattle.oss_grammar.specs.Statements.IsItems.{no_item, declaration_item, statement_item}
+use Rattle.oss_grammar.proofs.Parts.{Sinks, Exact, Begun, exact_as, exact_same, member_begins, deep_begins}
+use Rattle.oss_grammar.proofs.PartLemmas.{Nowhere, EitherDeep, exact_one, begun_one, exact_mapped, begun_mapped, exact_either, begun_either, exact_too_deep, begun_too_deep}
+use Rattle.oss_grammar.proofs.PartLemmas.EitherDeep.{one_deep, other_deep}
+use Rattle.oss_grammar.proofs.PairLemmas as pairs
+use Rattle.oss_grammar.proofs.StepLemmas.{none_goes}
 use Rattle.oss_pragma.specs.ExpressionReading.{former, and_then}
 use Rattle.oss_pragma.specs.TokenValues.{symbol_at, keyword_at, start_at, begins_expression}
 use Rattle.oss_pragma.proofs.ExactPairs.{Trailed, exact_trailed}

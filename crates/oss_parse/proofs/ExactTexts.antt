@@ -3,19 +3,19 @@ use Rattle.std.proofs.Common.{arith, ◌≡◌, ◌≤◌, ◌<◌, ◌+◌, ◌
 use Rattle.std.proofs.lemmas.List.{append-nil, append_cancel_right}
 use Rattle.oss_syntax.specs.declared.token.Token.{Token}
 use Rattle.oss_syntax.specs.declared.tree.program.Program.{Program}
-use Rattle.oss_model.specs.declared.refusal.RefusedKind.TheVariants as kind
-use Rattle.oss_model.specs.Fronts.{Viable}
-use Rattle.oss_model.specs.Levels.{IsExcessBehind, IsExpressionExcess, IsPragmaExcess, OpensPragma, Begins}
-use Rattle.oss_model.specs.Parsing.{programs, RefusesText}
-use Rattle.oss_model.specs.Parsing.RefusesText.{text_too_large, at_token_of_text, at_end_of_text}
-use Rattle.oss_model.specs.Programs.{IsProgram}
-use Rattle.oss_model.specs.Reading.{Stop, begins}
-use Rattle.oss_model.specs.Reading.Stop.{Syntax, Deep}
-use Rattle.oss_model.specs.Refusals.{Language, Reaches, IsExcess, IsWithin, IsNone, HasOneValue, kind_of, is_in_pragma}
-use Rattle.oss_model.specs.StatementLimits.{IsProgramExcess, IsItemsExcess}
-use Rattle.oss_model.specs.Statements.{IsItems}
-use Rattle.oss_model.proofs.AnswerLemmas.{ok_answer, reaches_stop, within_stopped, within_deep, stop_none}
-use Rattle.oss_model.proofs.Parts.{Taken, Stopped, Sunk, Exact, taken, stopped, sunk}
+use Rattle.oss_syntax.specs.declared.refusal.RefusedKind.TheVariants as kind
+use Rattle.oss_grammar.specs.Fronts.{Viable}
+use Rattle.oss_grammar.specs.Levels.{IsExcessBehind, IsExpressionExcess, IsPragmaExcess, OpensPragma, Begins}
+use Rattle.oss_grammar.specs.Parsing.{programs, RefusesText}
+use Rattle.oss_grammar.specs.Parsing.RefusesText.{text_too_large, at_token_of_text, at_end_of_text}
+use Rattle.oss_grammar.specs.Programs.{IsProgram}
+use Rattle.oss_grammar.specs.Reading.{Stop, begins}
+use Rattle.oss_grammar.specs.Reading.Stop.{Syntax, Deep}
+use Rattle.oss_grammar.specs.Refusals.{Language, Reaches, IsExcess, IsWithin, IsNone, HasOneValue, kind_of, is_in_pragma}
+use Rattle.oss_grammar.specs.StatementLimits.{IsProgramExcess, IsItemsExcess}
+use Rattle.oss_grammar.specs.Statements.{IsItems}
+use Rattle.oss_grammar.proofs.AnswerLemmas.{ok_answer, reaches_stop, within_stopped, within_deep, stop_none}
+use Rattle.oss_grammar.proofs.Parts.{Taken, Stopped, Sunk, Exact, taken, stopped, sunk}
 use Rattle.oss_pragma.specs.ExpressionReading.{read_expression}
 use Rattle.oss_pragma.specs.PragmaReading.{read_pragma}
 use Rattle.oss_pragma.proofs.ExactExpressions.{exact_expression, begun_expression}

@@ -10,21 +10,21 @@ use Rattle.oss_syntax.specs.declared.tree.pragma.Directive.{Directive}
 use Rattle.oss_syntax.specs.declared.tree.pragma.Directive.TheVariants as directive
 use Rattle.oss_syntax.specs.declared.tree.stmt.Stmt.{Stmt}
 use Rattle.oss_syntax.specs.declared.tree.stmt.StmtKind.TheVariants as stmts
-use Rattle.oss_model.specs.Expressions.{IsWhole, operator_of, prefix_of}
-use Rattle.oss_model.specs.Fronts.{Viable}
-use Rattle.oss_model.specs.Grammar.{One, Both, Mapped, Either}
-use Rattle.oss_model.specs.Grammar.Either.{one_way, other_way}
-use Rattle.oss_model.specs.Levels.{IsExcessBehind}
-use Rattle.oss_model.specs.Pragmas.{IsPragma}
-use Rattle.oss_model.specs.Reading.{Stop, Reader, begins, has, never, one_of, go_on, read_one, read_then, read_nothing, read_mapped, read_both, read_either}
-use Rattle.oss_model.specs.Reading.Stop.{Syntax, Deep}
-use Rattle.oss_model.specs.SimpleStatements.{IsSimple, IsDeclaration, first_line, step_of}
-use Rattle.oss_model.specs.StatementLimits.{OpensSimple, OpensDeclaration, IsStatementExcess, IsItemsExcess}
-use Rattle.oss_model.specs.Statements.{IsStmt, IsAnyStmt, IsItems, IsForFirst, IsMaybeWhole, IsMaybeSimple, IsPrinted}
-use Rattle.oss_model.proofs.Parts.{AtSame, Taken, Stopped, Sunk, IsRead, Sinks, Exact, Begun, exact_as, exact_before, member_begins, deep_begins, not_empty, taken, stopped, takes_some}
-use Rattle.oss_model.proofs.PartLemmas.{Nowhere, nowhere, Nothing, exact_one, begun_one, exact_nothing, exact_mapped, begun_mapped, Then, ThenDeep, begun_then, EitherDeep, exact_either, begun_either}
-use Rattle.oss_model.proofs.PairLemmas as pairs
-use Rattle.oss_model.proofs.StepLemmas.{none_goes, fewer_go}
+use Rattle.oss_grammar.specs.Expressions.{IsWhole, operator_of, prefix_of}
+use Rattle.oss_grammar.specs.Fronts.{Viable}
+use Rattle.oss_grammar.specs.Grammar.{One, Both, Mapped, Either}
+use Rattle.oss_grammar.specs.Grammar.Either.{one_way, other_way}
+use Rattle.oss_grammar.specs.Levels.{IsExcessBehind}
+use Rattle.oss_grammar.specs.Pragmas.{IsPragma}
+use Rattle.oss_grammar.specs.Reading.{Stop, Reader, begins, has, never, one_of, go_on, read_one, read_then, read_nothing, read_mapped, read_both, read_either}
+use Rattle.oss_grammar.specs.Reading.Stop.{Syntax, Deep}
+use Rattle.oss_grammar.specs.SimpleStatements.{IsSimple, IsDeclaration, first_line, step_of}
+use Rattle.oss_grammar.specs.StatementLimits.{OpensSimple, OpensDeclaration, IsStatementExcess, IsItemsExcess}
+use Rattle.oss_grammar.specs.Statements.{IsStmt, IsAnyStmt, IsItems, IsForFirst, IsMaybeWhole, IsMaybeSimple, IsPrinted}
+use Rattle.oss_grammar.proofs.Parts.{AtSame, Taken, Stopped, Sunk, IsRead, Sinks, Exact, Begun, exact_as, exact_before, member_begins, deep_begins, not_empty, taken, stopped, takes_some}
+use Rattle.oss_grammar.proofs.PartLemmas.{Nowhere, nowhere, Nothing, exact_one, begun_one, exact_nothing, exact_mapped, begun_mapped, Then, ThenDeep, begun_then, EitherDeep, exact_either, begun_either}
+use Rattle.oss_grammar.proofs.PairLemmas as pairs
+use Rattle.oss_grammar.proofs.StepLemmas.{none_goes, fewer_go}
 use Rattle.oss_pragma.specs.ExpressionReading.{former, latter, middle, read_more}
 use Rattle.oss_pragma.specs.TokenValues.{symbol_at, keyword_at, start_at, name_at, begins_expression}
 use Rattle.oss_pragma.proofs.ExactPairs.{Headed, HeadedDeep, exact_headed, begun_headed, Trailed, exact_trailed, Enclosed, exact_enclosed, begun_enclosed, Bracketed, BracketedDeep, exact_bracketed, begun_bracketed, bracketed_viable, Behind, exact_behind, begun_behind}

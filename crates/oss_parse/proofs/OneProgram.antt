@@ -4,24 +4,24 @@ use Rattle.std.proofs.lemmas.List.{length-append}
 use Rattle.oss_syntax.specs.declared.token.Token.{Token}
 use Rattle.oss_syntax.specs.declared.tree.pragma.Directive.{Directive}
 use Rattle.oss_syntax.specs.declared.tree.program.Program.{Program}
-use Rattle.oss_model.specs.declared.refusal.Refusal.TheVariants.{Refused}
-use Rattle.oss_model.specs.declared.refusal.Refused.{Refused as RefusedData}
-use Rattle.oss_model.specs.Expressions.{loosest_level}
-use Rattle.oss_model.specs.Levels.{Begins, IsExcessBehind}
-use Rattle.oss_model.specs.Parsing.{programs, end_line, RefusesText, IsParse, IsParsedOnce, IsTextRefusal, IsProgramText}
-use Rattle.oss_model.specs.Parsing.IsTextRefusal.{by_tokens, by_grammar}
-use Rattle.oss_model.specs.Pragmas.{IsPragma}
-use Rattle.oss_model.specs.Pragmas.IsPragma.{task, wait_all, wait_on, release}
-use Rattle.oss_model.specs.Programs.{IsProgram}
-use Rattle.oss_model.specs.Refusals.{HasOneValue, IsWithin}
-use Rattle.oss_model.specs.StatementLimits.{IsStatementExcess, IsItemExcess, IsItemsExcess}
-use Rattle.oss_model.specs.StatementLimits.IsStatementExcess.{no_level, in_expression, under_if, under_else, under_while, under_for, under_task}
-use Rattle.oss_model.specs.StatementLimits.IsStatementExcess.{in_block as inside_block}
-use Rattle.oss_model.specs.StatementLimits.IsItemExcess.{no_item_level, in_declaration, in_statement}
-use Rattle.oss_model.specs.StatementLimits.IsItemsExcess.{first_item, later_item}
-use Rattle.oss_model.proofs.AnswerLemmas.{one_value}
-use Rattle.oss_model.proofs.RefusalLemmas.{same_refused}
-use Rattle.oss_model.proofs.TextLemmas.{no_refusal, text_refused_once}
+use Rattle.oss_syntax.specs.declared.refusal.Refusal.TheVariants.{Refused}
+use Rattle.oss_syntax.specs.declared.refusal.Refused.{Refused as RefusedData}
+use Rattle.oss_grammar.specs.Expressions.{loosest_level}
+use Rattle.oss_grammar.specs.Levels.{Begins, IsExcessBehind}
+use Rattle.oss_grammar.specs.Parsing.{programs, end_line, RefusesText, IsParse, IsParsedOnce, IsTextRefusal, IsProgramText}
+use Rattle.oss_grammar.specs.Parsing.IsTextRefusal.{by_tokens, by_grammar}
+use Rattle.oss_grammar.specs.Pragmas.{IsPragma}
+use Rattle.oss_grammar.specs.Pragmas.IsPragma.{task, wait_all, wait_on, release}
+use Rattle.oss_grammar.specs.Programs.{IsProgram}
+use Rattle.oss_grammar.specs.Refusals.{HasOneValue, IsWithin}
+use Rattle.oss_grammar.specs.StatementLimits.{IsStatementExcess, IsItemExcess, IsItemsExcess}
+use Rattle.oss_grammar.specs.StatementLimits.IsStatementExcess.{no_level, in_expression, under_if, under_else, under_while, under_for, under_task}
+use Rattle.oss_grammar.specs.StatementLimits.IsStatementExcess.{in_block as inside_block}
+use Rattle.oss_grammar.specs.StatementLimits.IsItemExcess.{no_item_level, in_declaration, in_statement}
+use Rattle.oss_grammar.specs.StatementLimits.IsItemsExcess.{first_item, later_item}
+use Rattle.oss_grammar.proofs.AnswerLemmas.{one_value}
+use Rattle.oss_grammar.proofs.RefusalLemmas.{same_refused}
+use Rattle.oss_grammar.proofs.TextLemmas.{no_refusal, text_refused_once}
 use Rattle.oss_lex.proofs.OneReading.{read_once}
 use Rattle.oss_pragma.proofs.ExactExpressions.{exact_whole, begun_whole_at, deep_long}
 use Rattle.oss_pragma.proofs.ExactPragmas.{exact_pragma, begun_pragma}

@@ -5,17 +5,17 @@ use Rattle.std.proofs.lemmas.List.{length-append}
 use Rattle.std.proofs.Math.Seq.{take-append_seam}
 use Rattle.oss_syntax.specs.declared.token.Token.{Token}
 use Rattle.oss_syntax.specs.declared.tree.program.Program.{Program}
-use Rattle.oss_model.specs.declared.refusal.Refusal.{Refusal}
-use Rattle.oss_model.specs.declared.refusal.Refusal.TheVariants.{Refused, Memory}
-use Rattle.oss_model.specs.declared.refusal.Refused.{Refused as RefusedData}
-use Rattle.oss_model.specs.declared.refusal.RefusedKind.TheVariants as kind
-use Rattle.oss_model.specs.Parsing.{programs, end_line, RefusesText, IsProgramText, IsTextRefusal, IsParse}
-use Rattle.oss_model.specs.Parsing.IsTextRefusal.{by_tokens, by_grammar}
-use Rattle.oss_model.specs.Programs.{IsProgram}
-use Rattle.oss_model.specs.Reading.{Stop}
-use Rattle.oss_model.specs.Reading.Stop.{Syntax, Deep}
-use Rattle.oss_model.specs.Refusals.{kind_of, is_in_pragma}
-use Rattle.oss_model.proofs.Parts.{Stopped, stopped}
+use Rattle.oss_syntax.specs.declared.refusal.Refusal.{Refusal}
+use Rattle.oss_syntax.specs.declared.refusal.Refusal.TheVariants.{Refused, Memory}
+use Rattle.oss_syntax.specs.declared.refusal.Refused.{Refused as RefusedData}
+use Rattle.oss_syntax.specs.declared.refusal.RefusedKind.TheVariants as kind
+use Rattle.oss_grammar.specs.Parsing.{programs, end_line, RefusesText, IsProgramText, IsTextRefusal, IsParse}
+use Rattle.oss_grammar.specs.Parsing.IsTextRefusal.{by_tokens, by_grammar}
+use Rattle.oss_grammar.specs.Programs.{IsProgram}
+use Rattle.oss_grammar.specs.Reading.{Stop}
+use Rattle.oss_grammar.specs.Reading.Stop.{Syntax, Deep}
+use Rattle.oss_grammar.specs.Refusals.{kind_of, is_in_pragma}
+use Rattle.oss_grammar.proofs.Parts.{Stopped, stopped}
 use Rattle.oss_pragma.specs.ToldAt.{count_before, tokens_before}
 use Rattle.oss_parse.specs.Parsed.{IsParsed, Tells, told_of, refused_at}
 use Rattle.oss_parse.specs.ProgramReading.{read_text}

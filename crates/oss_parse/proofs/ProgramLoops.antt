@@ -9,8 +9,8 @@ use Rattle.oss_syntax.specs.declared.tree.program.Kind.TheVariants as kind
 use Rattle.oss_syntax.specs.declared.tree.program.Local.{Local}
 use Rattle.oss_syntax.specs.declared.tree.program.NumKind.{NumKind}
 use Rattle.oss_syntax.specs.declared.tree.stmt.Stmt.{Stmt}
-use Rattle.oss_model.specs.Reading.{Reader, Stop, has, go_on, read_one, read_then, read_nothing, read_mapped, read_both, read_either, read_steps}
-use Rattle.oss_model.specs.Values.{negated}
+use Rattle.oss_grammar.specs.Reading.{Reader, Stop, has, go_on, read_one, read_then, read_nothing, read_mapped, read_both, read_either, read_steps}
+use Rattle.oss_grammar.specs.Values.{negated}
 use Rattle.oss_pragma.specs.TokenValues.{symbol_at, keyword_at, start_at, name_at}
 use Rattle.oss_pragma.specs.ExpressionReading.{latter, former, middle, and_then, read_next, read_list, read_more, read_expression}
 use Rattle.oss_pragma.specs.PragmaReading.{read_task}

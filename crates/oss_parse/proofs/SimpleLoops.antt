@@ -5,8 +5,8 @@ use Rattle.oss_syntax.specs.declared.tree.expr.Expr.{Expr}
 use Rattle.oss_syntax.specs.declared.tree.program.Kind.{Kind}
 use Rattle.oss_syntax.specs.declared.tree.program.Local.{Local}
 use Rattle.oss_syntax.specs.declared.tree.program.NumKind.{NumKind}
-use Rattle.oss_model.specs.Levels.{is_operator}
-use Rattle.oss_model.specs.Reading.{Reader, Stop, has, go_on, read_one, read_then, read_nothing, read_mapped, read_both, read_either}
+use Rattle.oss_grammar.specs.Levels.{is_operator}
+use Rattle.oss_grammar.specs.Reading.{Reader, Stop, has, go_on, read_one, read_then, read_nothing, read_mapped, read_both, read_either}
 use Rattle.oss_pragma.specs.TokenValues.{symbol_at, keyword_at, name_at}
 use Rattle.oss_pragma.specs.ExpressionReading.{latter, former, middle, and_then, named_expression, indexed, read_next, read_list, read_arguments, read_expression}
 use Rattle.oss_pragma.specs.declared.cursor.Named.{Named}

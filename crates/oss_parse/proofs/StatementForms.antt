@@ -13,31 +13,31 @@ use Rattle.oss_syntax.specs.declared.tree.pragma.Section.{Section}
 use Rattle.oss_syntax.specs.declared.tree.pragma.TaskMark.{TaskMark}
 use Rattle.oss_syntax.specs.declared.tree.stmt.Stmt.{Stmt}
 use Rattle.oss_syntax.specs.declared.tree.stmt.StmtKind.TheVariants as stmts
-use Rattle.oss_model.specs.Expressions.{IsWhole, IsArgumentList, operator_of, prefix_of}
-use Rattle.oss_model.specs.Fronts.{Viable}
-use Rattle.oss_model.specs.Grammar.{One, Both, Mapped, Either}
-use Rattle.oss_model.specs.Grammar.Either.{one_way, other_way}
-use Rattle.oss_model.specs.Levels.{IsExcessBehind, OpensPragma}
-use Rattle.oss_model.specs.Pragmas.{IsPragma}
-use Rattle.oss_model.specs.Reading.{Stop, Reader, begins, has, never, one_of, read_one, read_then, read_nothing, read_mapped, read_both, read_either}
-use Rattle.oss_model.specs.SimpleStatements.{IsSimple, IsDeclaration, first_line, step_of}
-use Rattle.oss_model.specs.StatementLimits.{OpensSimple, OpensStatement, IsStatementExcess, IsItemsExcess}
-use Rattle.oss_model.specs.StatementLimits.IsStatementExcess.{in_expression, under_if, under_else, under_while, under_for, under_task}
-use Rattle.oss_model.specs.StatementLimits.OpensStatement.{in_if_test, in_while_test, in_for_declaration, in_for_first, in_for_test, in_for_last, in_return, in_print, in_pragma}
-use Rattle.oss_model.specs.Statements.{IsStmt, IsAnyStmt, IsItems, IsMaybeWhole, IsMaybeSimple, IsForFirst, IsPrinted}
-use Rattle.oss_model.specs.Statements.IsItems.{no_item}
-use Rattle.oss_model.specs.Statements.IsStmt.{block, empty, simple, if_alone, if_else, while_loop, for_loop, return_jump, break_jump, continue_jump, print, task, task_wait, release}
-use Rattle.oss_model.specs.Statements.IsMaybeWhole.{no_expression, some_expression}
-use Rattle.oss_model.specs.Statements.IsMaybeSimple.{no_simple, some_simple}
-use Rattle.oss_model.specs.Statements.IsForFirst.{declared_first, other_first}
-use Rattle.oss_model.specs.Statements.IsPrinted.{nothing_printed, values_printed}
-use Rattle.oss_model.specs.Expressions.IsArgumentList.{last_argument, next_argument}
-use Rattle.oss_model.specs.OneToken.{IsSymbol, IsKeyword, IsOpen, IsClose, IsComma}
-use Rattle.oss_model.proofs.Parts.{Exact, Begun, exact_same}
-use Rattle.oss_model.proofs.PartLemmas.{Nowhere, nowhere, Nothing, exact_one, begun_one, exact_nothing, exact_mapped, begun_mapped, Then, ThenDeep, begun_then, EitherDeep, begun_either}
-use Rattle.oss_model.proofs.PartLemmas.ThenDeep.{in_first, in_second}
-use Rattle.oss_model.proofs.PartLemmas.EitherDeep.{one_deep, other_deep}
-use Rattle.oss_model.proofs.PairLemmas as pairs
+use Rattle.oss_grammar.specs.Expressions.{IsWhole, IsArgumentList, operator_of, prefix_of}
+use Rattle.oss_grammar.specs.Fronts.{Viable}
+use Rattle.oss_grammar.specs.Grammar.{One, Both, Mapped, Either}
+use Rattle.oss_grammar.specs.Grammar.Either.{one_way, other_way}
+use Rattle.oss_grammar.specs.Levels.{IsExcessBehind, OpensPragma}
+use Rattle.oss_grammar.specs.Pragmas.{IsPragma}
+use Rattle.oss_grammar.specs.Reading.{Stop, Reader, begins, has, never, one_of, read_one, read_then, read_nothing, read_mapped, read_both, read_either}
+use Rattle.oss_grammar.specs.SimpleStatements.{IsSimple, IsDeclaration, first_line, step_of}
+use Rattle.oss_grammar.specs.StatementLimits.{OpensSimple, OpensStatement, IsStatementExcess, IsItemsExcess}
+use Rattle.oss_grammar.specs.StatementLimits.IsStatementExcess.{in_expression, under_if, under_else, under_while, under_for, under_task}
+use Rattle.oss_grammar.specs.StatementLimits.OpensStatement.{in_if_test, in_while_test, in_for_declaration, in_for_first, in_for_test, in_for_last, in_return, in_print, in_pragma}
+use Rattle.oss_grammar.specs.Statements.{IsStmt, IsAnyStmt, IsItems, IsMaybeWhole, IsMaybeSimple, IsForFirst, IsPrinted}
+use Rattle.oss_grammar.specs.Statements.IsItems.{no_item}
+use Rattle.oss_grammar.specs.Statements.IsStmt.{block, empty, simple, if_alone, if_else, while_loop, for_loop, return_jump, break_jump, continue_jump, print, task, task_wait, release}
+use Rattle.oss_grammar.specs.Statements.IsMaybeWhole.{no_expression, some_expression}
+use Rattle.oss_grammar.specs.Statements.IsMaybeSimple.{no_simple, some_simple}
+use Rattle.oss_grammar.specs.Statements.IsForFirst.{declared_first, other_first}
+use Rattle.oss_grammar.specs.Statements.IsPrinted.{nothing_printed, values_printed}
+use Rattle.oss_grammar.specs.Expressions.IsArgumentList.{last_argument, next_argument}
+use Rattle.oss_grammar.specs.OneToken.{IsSymbol, IsKeyword, IsOpen, IsClose, IsComma}
+use Rattle.oss_grammar.proofs.Parts.{Exact, Begun, exact_same}
+use Rattle.oss_grammar.proofs.PartLemmas.{Nowhere, nowhere, Nothing, exact_one, begun_one, exact_nothing, exact_mapped, begun_mapped, Then, ThenDeep, begun_then, EitherDeep, begun_either}
+use Rattle.oss_grammar.proofs.PartLemmas.ThenDeep.{in_first, in_second}
+use Rattle.oss_grammar.proofs.PartLemmas.EitherDeep.{one_deep, other_deep}
+use Rattle.oss_grammar.proofs.PairLemmas as pairs
 use Rattle.oss_pragma.specs.TokenValues.{symbol_at, keyword_at, start_at, begins_expression}
 use Rattle.oss_pragma.proofs.ExactPairs.{Headed, HeadedDeep, exact_headed, begun_headed, Trailed, exact_trailed, Enclosed, exact_enclosed, begun_enclosed, BracketedDeep, Behind, exact_behind, begun_behind, symbol_line}
 use Rattle.oss_pragma.proofs.TokenLemmas.{goes_on, on_symbol, has_symbol, has_keyword, symbol_token, symbol_value, keyword_token, keyword_value, keyword_line, not_symbol, not_keyword, begins_never}

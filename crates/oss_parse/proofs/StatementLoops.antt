@@ -5,9 +5,9 @@ use Rattle.oss_syntax.specs.declared.tree.expr.Expr.{Expr}
 use Rattle.oss_syntax.specs.declared.tree.pragma.Directive.{Directive}
 use Rattle.oss_syntax.specs.declared.tree.pragma.Directive.TheVariants as directive
 use Rattle.oss_syntax.specs.declared.tree.stmt.Stmt.{Stmt}
-use Rattle.oss_model.specs.Reading.{Reader, Stop, begins, has, read_one, read_then, read_nothing, read_mapped, read_both, read_either}
-use Rattle.oss_model.specs.SimpleStatements.{first_line}
-use Rattle.oss_model.proofs.Parts.{Taken, IsRead, Exact}
+use Rattle.oss_grammar.specs.Reading.{Reader, Stop, begins, has, read_one, read_then, read_nothing, read_mapped, read_both, read_either}
+use Rattle.oss_grammar.specs.SimpleStatements.{first_line}
+use Rattle.oss_grammar.proofs.Parts.{Taken, IsRead, Exact}
 use Rattle.oss_pragma.specs.TokenValues.{symbol_at, keyword_at, word_at, start_at, begins_expression}
 use Rattle.oss_pragma.specs.ExpressionReading.{latter, former, middle, and_then, read_more, read_expression}
 use Rattle.oss_pragma.specs.PragmaReading.{read_task, read_taskwait, read_release, read_pragma}

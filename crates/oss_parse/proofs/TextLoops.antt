@@ -2,12 +2,12 @@
 use Rattle.std.proofs.Common.{◌≡◌, ℕ, ◌+◌, ◌<◌, ◌≤◌, List, length, ap, arith, Option, Some, None, Result, Ok, Err, inl, inr}
 use Rattle.oss_syntax.specs.declared.token.Token.{Token}
 use Rattle.oss_syntax.specs.declared.token.TokenKind.{TokenKind}
-use Rattle.oss_model.specs.declared.line_part.LinePart.{LinePart}
+use Rattle.oss_grammar.specs.declared.line_part.LinePart.{LinePart}
 use Rattle.oss_syntax.specs.declared.tree.program.Program.{Program}
-use Rattle.oss_model.specs.declared.refusal.Refusal.{Refusal}
-use Rattle.oss_model.specs.declared.refusal.Refusal.TheVariants as refusal
-use Rattle.oss_model.specs.Tokens.{Tokens, IsReading, found_before}
-use Rattle.oss_model.specs.Tokens.Tokens.{done, step}
+use Rattle.oss_syntax.specs.declared.refusal.Refusal.{Refusal}
+use Rattle.oss_syntax.specs.declared.refusal.Refusal.TheVariants as refusal
+use Rattle.oss_grammar.specs.Tokens.{Tokens, IsReading, found_before}
+use Rattle.oss_grammar.specs.Tokens.Tokens.{done, step}
 use Rattle.oss_lex.proofs.Fronts.{front_again}
 use Rattle.oss_lex.proofs.Walk.{step_shorter}
 use Rattle.oss_parse.specs.Parsed.{IsParsed, IsToldOf}

@@ -2,7 +2,7 @@
 use Rattle.std.specs.Prelude.{◌≡◌, ℕ, codes, Result, Ok, Err}
 use Rattle.oss_syntax.specs.declared.tree.expr.Expr.{Expr}
 use Rattle.oss_syntax.specs.declared.tree.stmt.Stmt.{Stmt}
-use Rattle.oss_model.specs.Reading.{Reader, has, read_one, read_nothing, read_mapped, read_both, read_either}
+use Rattle.oss_grammar.specs.Reading.{Reader, has, read_one, read_nothing, read_mapped, read_both, read_either}
 use Rattle.oss_pragma.specs.ExpressionReading.{latter}
 use Rattle.oss_pragma.specs.TokenValues.{keyword_at}
 use Rattle.oss_pragma.specs.declared.cursor.Unread.{Unread}

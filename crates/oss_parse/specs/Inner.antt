@@ -1,7 +1,7 @@
 -- What is read inside a statement with the readers of expressions and of pragmas, where so many levels of statements may still begin.
 use Rattle.std.specs.Prelude.{ℕ, List}
 use Rattle.oss_syntax.specs.declared.tree.stmt.Stmt.{Stmt}
-use Rattle.oss_model.specs.Reading.{Reader, read_mapped, read_steps}
+use Rattle.oss_grammar.specs.Reading.{Reader, read_mapped, read_steps}
 use Rattle.oss_pragma.specs.ExpressionReading.{and_then, read_expression}
 use Rattle.oss_pragma.specs.PragmaReading.{read_pragma}
 use Rattle.oss_parse.specs.StatementReading.{begins_item, read_inner_statement, read_inner_item, read_items}

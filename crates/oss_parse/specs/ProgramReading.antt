@@ -17,9 +17,9 @@ use Rattle.oss_syntax.specs.declared.tree.program.Local.{Local}
 use Rattle.oss_syntax.specs.declared.tree.program.NumKind.{NumKind}
 use Rattle.oss_syntax.specs.declared.tree.program.Program.{Program}
 use Rattle.oss_syntax.specs.declared.tree.stmt.Stmt.{Stmt}
-use Rattle.oss_model.specs.Reading.{Reader, Stop, has, go_on, read_one, read_then, read_nothing, read_mapped, read_both, read_either, read_steps}
-use Rattle.oss_model.specs.Reading.Stop.{Syntax}
-use Rattle.oss_model.specs.Values.{negated}
+use Rattle.oss_grammar.specs.Reading.{Reader, Stop, has, go_on, read_one, read_then, read_nothing, read_mapped, read_both, read_either, read_steps}
+use Rattle.oss_grammar.specs.Reading.Stop.{Syntax}
+use Rattle.oss_grammar.specs.Values.{negated}
 use Rattle.oss_pragma.specs.declared.cursor.Named.{Named}
 use Rattle.oss_pragma.specs.ExpressionReading.{latter, former, middle, read_list, read_more, read_expression}
 use Rattle.oss_pragma.specs.PragmaReading.{read_task, read_pragma}

@@ -13,9 +13,9 @@ use Rattle.oss_syntax.specs.declared.tree.program.NumKind.{NumKind}
 use Rattle.oss_syntax.specs.declared.tree.program.NumKind.TheVariants as num
 use Rattle.oss_syntax.specs.declared.tree.stmt.Stmt.{Stmt}
 use Rattle.oss_syntax.specs.declared.tree.stmt.StmtKind.TheVariants as stmts
-use Rattle.oss_model.specs.OneToken.{is_keyword}
-use Rattle.oss_model.specs.Reading.{Reader, has, read_one, read_then, read_nothing, read_mapped, read_both, read_either}
-use Rattle.oss_model.specs.SimpleStatements.{assignment_of, step_of, one_at}
+use Rattle.oss_grammar.specs.OneToken.{is_keyword}
+use Rattle.oss_grammar.specs.Reading.{Reader, has, read_one, read_then, read_nothing, read_mapped, read_both, read_either}
+use Rattle.oss_grammar.specs.SimpleStatements.{assignment_of, step_of, one_at}
 use Rattle.oss_pragma.specs.declared.cursor.Named.{Named}
 use Rattle.oss_pragma.specs.ExpressionReading.{latter, middle, named_expression, indexed, read_list, read_arguments}
 use Rattle.oss_pragma.specs.TokenValues.{symbol_at, keyword_at, name_at}

@@ -1,7 +1,7 @@
 //! Which tokens begin which part of a program.
 
 ghost use Rattle.std.specs.Prelude.{◌≡◌};
-ghost use Rattle.oss_model.specs.Reading.{begins};
+ghost use Rattle.oss_grammar.specs.Reading.{begins};
 ghost use Rattle.oss_parse.specs.ProgramReading.{begins_program_item};
 ghost use Rattle.oss_parse.specs.SimpleReading.{begins_kind, begins_simple};
 ghost use Rattle.oss_parse.specs.StatementReading.{begins_item, begins_keyword_statement, begins_statement};

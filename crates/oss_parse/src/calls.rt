@@ -1,17 +1,16 @@
 //! The call that reads a whole text.
 
 ghost use Rattle.std.specs.Prelude.{◌≡◌, ◌≤◌, length};
-ghost use Rattle.oss_model.specs.Parsing.{IsParse};
-ghost use Rattle.oss_model.specs.Tokens.{newlines};
+ghost use Rattle.oss_grammar.specs.Parsing.{IsParse};
+ghost use Rattle.oss_grammar.specs.Tokens.{newlines};
 ghost use Rattle.oss_parse.specs.Parsed.{IsParsed, IsToldOf, RefusesAt, placed_at};
 ghost use Rattle.oss_parse.specs.ProgramReading.{read_text};
 ghost use Rattle.oss_pragma.specs.Told.{Gives};
 
 use crate::programs::program;
 use oss_lex::tokens;
-use oss_model::{Refusal, Refused};
 use oss_pragma::reading::{Cursor, Unread, refusal};
-use oss_syntax::{List, Program, Token};
+use oss_syntax::{List, Program, Refusal, Refused, Token};
 use std::alloc::Global;
 
 /// Reads the program of a text of at most 1,048,576 bytes.

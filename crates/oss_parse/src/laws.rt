@@ -1,6 +1,6 @@
 //! The law of the answers of the reader.
 
-ghost use Rattle.oss_model.specs.Parsing.{IsParsedOnce};
+ghost use Rattle.oss_grammar.specs.Parsing.{IsParsedOnce};
 
 /// A law, with nothing to run: a text is at most one program, or has at most one refusal, and not both.
 #[tactic(auto, using(crate::proofs::OneProgram::parsed_once))]

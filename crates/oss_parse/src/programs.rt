@@ -2,7 +2,7 @@
 
 ghost use Rattle.std.specs.Prelude.{◌≡◌, ◌++◌, ◌∷◌, [], codes, map, IfOk};
 ghost use Rattle.oss_syntax.specs.declared.tree.program.Item.TheVariants as items;
-ghost use Rattle.oss_model.specs.Reading.{read_both, read_mapped, read_one, read_then};
+ghost use Rattle.oss_grammar.specs.Reading.{read_both, read_mapped, read_one, read_then};
 ghost use Rattle.oss_pragma.specs.ExpressionReading.{middle, read_expression, read_list, read_more, read_next};
 ghost use Rattle.oss_pragma.specs.TokenValues.{symbol_at};
 ghost use Rattle.oss_pragma.specs.Told.{Gives};

@@ -1,7 +1,7 @@
 //! The reader of simple statements and declarations.
 
 ghost use Rattle.std.specs.Prelude.{◌≡◌, IfOk};
-ghost use Rattle.oss_model.specs.SimpleStatements.{one_at};
+ghost use Rattle.oss_grammar.specs.SimpleStatements.{one_at};
 ghost use Rattle.oss_pragma.specs.ExpressionReading.{indexed, named_expression, read_arguments, read_brackets, read_expression, read_index, read_list, read_more, read_next};
 ghost use Rattle.oss_pragma.specs.Told.{Gives};
 ghost use Rattle.oss_parse.specs.SimpleReading.{deref_at, read_assigned, read_called, read_declaration, read_declared, read_local, read_num_kind, read_pointed_at, read_simple, read_simple_from, read_starred, read_step_first, read_target, read_target_from};

@@ -1,6 +1,6 @@
 //! The reader of statements, and of what stands in a block.
 
-ghost use Rattle.oss_model.specs.Reading.{read_mapped};
+ghost use Rattle.oss_grammar.specs.Reading.{read_mapped};
 ghost use Rattle.oss_pragma.specs.ExpressionReading.{read_expression};
 ghost use Rattle.oss_pragma.specs.PragmaReading.{read_pragma};
 ghost use Rattle.oss_pragma.specs.Told.{Gives};

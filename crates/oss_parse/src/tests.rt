@@ -1,8 +1,7 @@
 //! What no clause says: that calls succeed, and answers taken from outside.
 
 use crate::parse;
-use oss_model::{Refusal, Refused, RefusedKind};
-use oss_syntax::{Item, Program, Stmt, StmtKind};
+use oss_syntax::{Item, Program, Refusal, Refused, RefusedKind, Stmt, StmtKind};
 use std::alloc::{AllocError, Global};
 use std::process::Abort;
 use std::test::Fail;

@@ -1,9 +1,9 @@
 //! Single tokens, as a reader of programs takes them from a cursor.
 
 ghost use Rattle.std.specs.Prelude.{◌≡◌, is_some};
-ghost use Rattle.oss_model.specs.OneToken.{is_keyword, is_symbol};
-ghost use Rattle.oss_model.specs.Reading.{begins, has, read_one};
-ghost use Rattle.oss_model.specs.SimpleStatements.{assignment_of, first_line, step_of};
+ghost use Rattle.oss_grammar.specs.OneToken.{is_keyword, is_symbol};
+ghost use Rattle.oss_grammar.specs.Reading.{begins, has, read_one};
+ghost use Rattle.oss_grammar.specs.SimpleStatements.{assignment_of, first_line, step_of};
 ghost use Rattle.oss_pragma.specs.TokenValues.{keyword_at, name_at, named_in, start_at, start_in};
 ghost use Rattle.oss_pragma.specs.Told.{Gives, Makes};
 ghost use Rattle.oss_parse.specs.ProgramReading.{value_at, value_in};
@@ -114,7 +114,7 @@ fn text_of(alloc: Global, what: &TokenKind) -> Result<Bytes, Unread>
 }
 
 /// The assignment that this is: `=` has no operator, a compound one has its own.
-#[tactic(auto, unfolding(oss_model::specs::SimpleStatements::assignment_of))]
+#[tactic(auto, unfolding(oss_grammar::specs::SimpleStatements::assignment_of))]
 pub fn assignment_of(what: &TokenKind) -> Option<Option<BinOp>>
     ensures { result ≡ assignment_of what.now }
 {
@@ -146,7 +146,7 @@ pub fn assignment_of(what: &TokenKind) -> Option<Option<BinOp>>
 }
 
 /// The operator of the step that this is.
-#[tactic(auto, unfolding(oss_model::specs::SimpleStatements::step_of))]
+#[tactic(auto, unfolding(oss_grammar::specs::SimpleStatements::step_of))]
 pub fn step_of(what: &TokenKind) -> Option<BinOp>
     ensures { result ≡ step_of what.now }
 {

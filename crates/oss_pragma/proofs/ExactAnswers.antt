@@ -4,12 +4,12 @@ use Rattle.std.proofs.lemmas.List.{length-append}
 use Rattle.oss_syntax.specs.declared.token.Token.{Token}
 use Rattle.oss_syntax.specs.declared.tree.expr.Expr.{Expr}
 use Rattle.oss_syntax.specs.declared.tree.pragma.Directive.{Directive}
-use Rattle.oss_model.specs.declared.refusal.Refusal.{Refusal}
-use Rattle.oss_model.specs.Refusals.{IsAnswer, IsAnsweredOnce, HasOneValue, expressions, pragmas}
-use Rattle.oss_model.specs.Expressions.{loosest_level}
-use Rattle.oss_model.specs.Pragmas.{IsPragma}
-use Rattle.oss_model.proofs.AnswerLemmas.{one_value}
-use Rattle.oss_model.proofs.RefusalLemmas.{answered_once}
+use Rattle.oss_syntax.specs.declared.refusal.Refusal.{Refusal}
+use Rattle.oss_grammar.specs.Refusals.{IsAnswer, IsAnsweredOnce, HasOneValue, expressions, pragmas}
+use Rattle.oss_grammar.specs.Expressions.{loosest_level}
+use Rattle.oss_grammar.specs.Pragmas.{IsPragma}
+use Rattle.oss_grammar.proofs.AnswerLemmas.{one_value}
+use Rattle.oss_grammar.proofs.RefusalLemmas.{answered_once}
 use Rattle.oss_pragma.specs.ExpressionReading.{read_expression}
 use Rattle.oss_pragma.specs.ToldAt.{IsToldAt}
 use Rattle.oss_pragma.specs.PragmaReading.{read_pragma}

@@ -12,23 +12,23 @@ use Rattle.oss_syntax.specs.declared.tree.expr.Expr.{Expr}
 use Rattle.oss_syntax.specs.declared.tree.pragma.Clause.{Clause}
 use Rattle.oss_syntax.specs.declared.tree.pragma.Clause.TheVariants as clause
 use Rattle.oss_syntax.specs.declared.tree.pragma.Section.{Section}
-use Rattle.oss_model.specs.Expressions.{IsWhole}
-use Rattle.oss_model.specs.Fronts.{Viable}
-use Rattle.oss_model.specs.Grammar.{One, Mapped, Either}
-use Rattle.oss_model.specs.Grammar.Either.{one_way, other_way}
-use Rattle.oss_model.specs.Levels.{IsExcessBehind, OpensSections, OpensDepend, OpensClause}
-use Rattle.oss_model.specs.Levels.OpensDepend.{depend_sections}
-use Rattle.oss_model.specs.Levels.OpensClause.{clause_dependency, clause_reduction, clause_condition, clause_final, clause_priority}
-use Rattle.oss_model.specs.OneToken.{is_word, IsOpen, IsClose}
-use Rattle.oss_model.specs.Pragmas.{IsSections, IsDepend, IsClause, IsLabel, Single, is_single, access_of, reduction_of, fold_of}
-use Rattle.oss_model.specs.Pragmas.IsDepend.{depend}
-use Rattle.oss_model.specs.Pragmas.IsLabel.{named, quoted}
-use Rattle.oss_model.specs.Pragmas.IsClause.{dependency, reduction, condition, final_task, waiting, labelled, priority}
-use Rattle.oss_model.specs.Pragmas.Single.{once_if, once_final, once_wait, once_label, once_priority}
-use Rattle.oss_model.specs.Reading.{Reader, begins, has, one_of, never, read_one, read_mapped, read_either}
-use Rattle.oss_model.proofs.Parts.{Exact, Begun, exact_as}
-use Rattle.oss_model.proofs.PartLemmas.{Nowhere, nowhere, exact_one, begun_one, exact_mapped, begun_mapped, EitherDeep, begun_either}
-use Rattle.oss_model.proofs.PartLemmas.EitherDeep.{one_deep, other_deep}
+use Rattle.oss_grammar.specs.Expressions.{IsWhole}
+use Rattle.oss_grammar.specs.Fronts.{Viable}
+use Rattle.oss_grammar.specs.Grammar.{One, Mapped, Either}
+use Rattle.oss_grammar.specs.Grammar.Either.{one_way, other_way}
+use Rattle.oss_grammar.specs.Levels.{IsExcessBehind, OpensSections, OpensDepend, OpensClause}
+use Rattle.oss_grammar.specs.Levels.OpensDepend.{depend_sections}
+use Rattle.oss_grammar.specs.Levels.OpensClause.{clause_dependency, clause_reduction, clause_condition, clause_final, clause_priority}
+use Rattle.oss_grammar.specs.OneToken.{is_word, IsOpen, IsClose}
+use Rattle.oss_grammar.specs.Pragmas.{IsSections, IsDepend, IsClause, IsLabel, Single, is_single, access_of, reduction_of, fold_of}
+use Rattle.oss_grammar.specs.Pragmas.IsDepend.{depend}
+use Rattle.oss_grammar.specs.Pragmas.IsLabel.{named, quoted}
+use Rattle.oss_grammar.specs.Pragmas.IsClause.{dependency, reduction, condition, final_task, waiting, labelled, priority}
+use Rattle.oss_grammar.specs.Pragmas.Single.{once_if, once_final, once_wait, once_label, once_priority}
+use Rattle.oss_grammar.specs.Reading.{Reader, begins, has, one_of, never, read_one, read_mapped, read_either}
+use Rattle.oss_grammar.proofs.Parts.{Exact, Begun, exact_as}
+use Rattle.oss_grammar.proofs.PartLemmas.{Nowhere, nowhere, exact_one, begun_one, exact_mapped, begun_mapped, EitherDeep, begun_either}
+use Rattle.oss_grammar.proofs.PartLemmas.EitherDeep.{one_deep, other_deep}
 use Rattle.oss_pragma.specs.ExpressionReading.{latter}
 use Rattle.oss_pragma.specs.PragmaReading.{read_sections, read_bracketed_sections, read_bracketed_expression, read_depend, dependency_of, read_folded, read_reduction, reduction_of_parts, read_single, read_label, read_waiting, read_clause}
 use Rattle.oss_pragma.specs.TokenValues.{symbol_at, access_at, reduction_at, fold_at, label_in, label_at, stands, is_single_word, single_at, begins_expression}

@@ -12,22 +12,22 @@ use Rattle.oss_syntax.specs.declared.tree.expr.BinOp.TheVariants as op
 use Rattle.oss_syntax.specs.declared.tree.expr.Expr.{Expr}
 use Rattle.oss_syntax.specs.declared.tree.expr.ExprKind.TheVariants as exprs
 use Rattle.oss_syntax.specs.declared.tree.expr.UnOp.{UnOp}
-use Rattle.oss_model.specs.Expressions.{IsExpr, IsWhole, primary_level, prefix_level, loosest_level, prefix_of, operator_of}
-use Rattle.oss_model.specs.Expressions.IsExpr.{number, name, call, brackets, index, prefixed, joined, tighter}
-use Rattle.oss_model.specs.Fronts.{Viable}
-use Rattle.oss_model.specs.Levels.{Begins, IsExpressionExcess, is_operator}
-use Rattle.oss_model.specs.Levels.Begins.{at_once, in_brackets, in_first_argument, in_later_argument, in_index, under_prefix, on_the_right, in_tighter}
-use Rattle.oss_model.specs.Levels.IsExpressionExcess.{too_deep, too_long}
-use Rattle.oss_model.specs.OneToken.{is_symbol, IsOpen}
-use Rattle.oss_model.specs.Reading.{Reader, begins, has, one_of, read_then, read_too_deep}
-use Rattle.oss_model.specs.Reading.Stop.{Syntax}
-use Rattle.oss_model.specs.Refusals.{HasOneValue}
-use Rattle.oss_model.proofs.AnswerLemmas.{one_value}
-use Rattle.oss_model.proofs.CountedLemmas.{CountedDeep, exact_counted, begun_counted}
-use Rattle.oss_model.proofs.CountedLemmas.CountedDeep.{in_part, one_more}
-use Rattle.oss_model.proofs.Parts.{Exact, Begun, exact_as, exact_before, exact_same}
-use Rattle.oss_model.proofs.PartLemmas.{exact_too_deep, begun_too_deep}
-use Rattle.oss_model.proofs.StepLemmas.{fewer_go}
+use Rattle.oss_grammar.specs.Expressions.{IsExpr, IsWhole, primary_level, prefix_level, loosest_level, prefix_of, operator_of}
+use Rattle.oss_grammar.specs.Expressions.IsExpr.{number, name, call, brackets, index, prefixed, joined, tighter}
+use Rattle.oss_grammar.specs.Fronts.{Viable}
+use Rattle.oss_grammar.specs.Levels.{Begins, IsExpressionExcess, is_operator}
+use Rattle.oss_grammar.specs.Levels.Begins.{at_once, in_brackets, in_first_argument, in_later_argument, in_index, under_prefix, on_the_right, in_tighter}
+use Rattle.oss_grammar.specs.Levels.IsExpressionExcess.{too_deep, too_long}
+use Rattle.oss_grammar.specs.OneToken.{is_symbol, IsOpen}
+use Rattle.oss_grammar.specs.Reading.{Reader, begins, has, one_of, read_then, read_too_deep}
+use Rattle.oss_grammar.specs.Reading.Stop.{Syntax}
+use Rattle.oss_grammar.specs.Refusals.{HasOneValue}
+use Rattle.oss_grammar.proofs.AnswerLemmas.{one_value}
+use Rattle.oss_grammar.proofs.CountedLemmas.{CountedDeep, exact_counted, begun_counted}
+use Rattle.oss_grammar.proofs.CountedLemmas.CountedDeep.{in_part, one_more}
+use Rattle.oss_grammar.proofs.Parts.{Exact, Begun, exact_as, exact_before, exact_same}
+use Rattle.oss_grammar.proofs.PartLemmas.{exact_too_deep, begun_too_deep}
+use Rattle.oss_grammar.proofs.StepLemmas.{fewer_go}
 use Rattle.oss_pragma.specs.ExpressionReading.{read_prefixed, read_levels, read_operations, read_unary, read_whole, read_expression}
 use Rattle.oss_pragma.specs.TokenValues.{symbol_at, name_at, number_at, prefix_at, named_in, number_in, signed_in, operator_at, of_level, begins_expression}
 use Rattle.oss_pragma.proofs.LevelLemmas.{exact_level, begun_level}

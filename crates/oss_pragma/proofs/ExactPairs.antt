@@ -4,15 +4,15 @@ use Rattle.std.proofs.lemmas.List.{length-append}
 use Rattle.std.specs.Str.{bytes_eq}
 use Rattle.oss_syntax.specs.declared.token.Token.{Token}
 use Rattle.oss_syntax.specs.declared.token.TokenKind.TheVariants as kinds
-use Rattle.oss_model.specs.Fronts.{Viable}
-use Rattle.oss_model.specs.Grammar.{One, Both, Mapped, Either}
-use Rattle.oss_model.specs.Grammar.Either.{one_way, other_way}
-use Rattle.oss_model.specs.OneToken.{is_symbol, IsSymbol}
-use Rattle.oss_model.specs.Reading.{Stop, Reader, begins, has, one_of, never, go_on, read_one, read_then, read_mapped, read_both, read_either}
-use Rattle.oss_model.specs.Reading.Stop.{Syntax}
-use Rattle.oss_model.proofs.Parts.{Stopped, Exact, Begun, exact_as, exact_same, member_begins, deep_begins, stopped}
-use Rattle.oss_model.proofs.PartLemmas.{Nowhere, nowhere, exact_one, exact_mapped, begun_mapped, Then, ThenDeep, exact_then, EitherDeep, exact_either}
-use Rattle.oss_model.proofs.StepLemmas.{none_goes}
+use Rattle.oss_grammar.specs.Fronts.{Viable}
+use Rattle.oss_grammar.specs.Grammar.{One, Both, Mapped, Either}
+use Rattle.oss_grammar.specs.Grammar.Either.{one_way, other_way}
+use Rattle.oss_grammar.specs.OneToken.{is_symbol, IsSymbol}
+use Rattle.oss_grammar.specs.Reading.{Stop, Reader, begins, has, one_of, never, go_on, read_one, read_then, read_mapped, read_both, read_either}
+use Rattle.oss_grammar.specs.Reading.Stop.{Syntax}
+use Rattle.oss_grammar.proofs.Parts.{Stopped, Exact, Begun, exact_as, exact_same, member_begins, deep_begins, stopped}
+use Rattle.oss_grammar.proofs.PartLemmas.{Nowhere, nowhere, exact_one, exact_mapped, begun_mapped, Then, ThenDeep, exact_then, EitherDeep, exact_either}
+use Rattle.oss_grammar.proofs.StepLemmas.{none_goes}
 use Rattle.oss_pragma.specs.ExpressionReading.{middle, latter}
 use Rattle.oss_pragma.specs.TokenValues.{symbol_at}
 use Rattle.oss_pragma.proofs.TokenLemmas.{begins_never, symbol_token, symbol_value}

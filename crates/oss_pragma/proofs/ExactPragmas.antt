@@ -10,22 +10,22 @@ use Rattle.oss_syntax.specs.declared.tree.pragma.Clause.{Clause}
 use Rattle.oss_syntax.specs.declared.tree.pragma.Directive.{Directive}
 use Rattle.oss_syntax.specs.declared.tree.pragma.Directive.TheVariants as directive
 use Rattle.oss_syntax.specs.declared.tree.pragma.Section.{Section}
-use Rattle.oss_model.specs.Expressions.{IsWhole}
-use Rattle.oss_model.specs.Fronts.{Viable}
-use Rattle.oss_model.specs.Grammar.{One, Mapped, Either}
-use Rattle.oss_model.specs.Grammar.Either.{one_way, other_way}
-use Rattle.oss_model.specs.Levels.{IsExcessBehind, IsPragmaExcess, OpensSections, OpensDepend, OpensClause, AfterComma, OpensPragma}
-use Rattle.oss_model.specs.Levels.AfterComma.{with_comma, without_comma}
-use Rattle.oss_model.specs.Levels.OpensPragma.{in_task, in_wait, in_release, in_more_release}
-use Rattle.oss_model.specs.OneToken.{is_word, IsWord}
-use Rattle.oss_model.specs.Pragmas.{IsSections, IsDepend, IsClauses, HasEachOnce, IsMoreDepends, IsPragma, access_of, reduction_of}
-use Rattle.oss_model.specs.Pragmas.IsClauses.{no_clause, plain_clause, comma_clause}
-use Rattle.oss_model.specs.Pragmas.IsMoreDepends.{no_depend, plain_depend, comma_depend}
-use Rattle.oss_model.specs.Pragmas.IsPragma.{task, wait_all, wait_on, release}
-use Rattle.oss_model.specs.Reading.{Stop, Reader, has, one_of, never, read_one, read_mapped, read_either}
-use Rattle.oss_model.proofs.Parts.{Exact, Begun, exact_as}
-use Rattle.oss_model.proofs.PartLemmas.{Nowhere, nowhere, exact_one, begun_one, exact_mapped, begun_mapped, Then, ThenDeep, exact_then, begun_then, EitherDeep, begun_either}
-use Rattle.oss_model.proofs.PartLemmas.EitherDeep.{one_deep, other_deep}
+use Rattle.oss_grammar.specs.Expressions.{IsWhole}
+use Rattle.oss_grammar.specs.Fronts.{Viable}
+use Rattle.oss_grammar.specs.Grammar.{One, Mapped, Either}
+use Rattle.oss_grammar.specs.Grammar.Either.{one_way, other_way}
+use Rattle.oss_grammar.specs.Levels.{IsExcessBehind, IsPragmaExcess, OpensSections, OpensDepend, OpensClause, AfterComma, OpensPragma}
+use Rattle.oss_grammar.specs.Levels.AfterComma.{with_comma, without_comma}
+use Rattle.oss_grammar.specs.Levels.OpensPragma.{in_task, in_wait, in_release, in_more_release}
+use Rattle.oss_grammar.specs.OneToken.{is_word, IsWord}
+use Rattle.oss_grammar.specs.Pragmas.{IsSections, IsDepend, IsClauses, HasEachOnce, IsMoreDepends, IsPragma, access_of, reduction_of}
+use Rattle.oss_grammar.specs.Pragmas.IsClauses.{no_clause, plain_clause, comma_clause}
+use Rattle.oss_grammar.specs.Pragmas.IsMoreDepends.{no_depend, plain_depend, comma_depend}
+use Rattle.oss_grammar.specs.Pragmas.IsPragma.{task, wait_all, wait_on, release}
+use Rattle.oss_grammar.specs.Reading.{Stop, Reader, has, one_of, never, read_one, read_mapped, read_either}
+use Rattle.oss_grammar.proofs.Parts.{Exact, Begun, exact_as}
+use Rattle.oss_grammar.proofs.PartLemmas.{Nowhere, nowhere, exact_one, begun_one, exact_mapped, begun_mapped, Then, ThenDeep, exact_then, begun_then, EitherDeep, begun_either}
+use Rattle.oss_grammar.proofs.PartLemmas.EitherDeep.{one_deep, other_deep}
 use Rattle.oss_pragma.specs.ExpressionReading.{read_expression, middle, and_then}
 use Rattle.oss_pragma.specs.PragmaReading.{read_clause, read_after_comma, goes_on_with_clause, read_clauses, goes_on_with_depend, read_depend, read_more_depends, read_depends, task_of, read_task, read_on, read_taskwait, read_release, read_pragma}
 use Rattle.oss_pragma.specs.TokenValues.{symbol_at, word_at, start_in, start_at, end_in, end_at, access_at, begins_expression}

@@ -2,13 +2,13 @@
 use Rattle.std.proofs.Common.{◌≡◌, Bool, true, false, List, [], ◌∷◌, ◌++◌, refl, sym, ap, ◌∙◌, subst, append_assoc, Result}
 use Rattle.std.proofs.lemmas.List.{append-nil}
 use Rattle.oss_syntax.specs.declared.token.Token.{Token}
-use Rattle.oss_model.specs.Grammar.{Mapped}
-use Rattle.oss_model.specs.Reading.{Stop, read_mapped, read_steps}
-use Rattle.oss_model.proofs.Parts.{Exact, Begun, exact_as}
-use Rattle.oss_model.proofs.PartLemmas.{exact_mapped, begun_mapped}
-use Rattle.oss_model.proofs.StepLemmas.{Steps, StepsDeep, exact_steps}
-use Rattle.oss_model.proofs.StepLemmas.Steps.{over, once_more}
-use Rattle.oss_model.proofs.StepLemmas.StepsDeep.{in_this, in_later}
+use Rattle.oss_grammar.specs.Grammar.{Mapped}
+use Rattle.oss_grammar.specs.Reading.{Stop, read_mapped, read_steps}
+use Rattle.oss_grammar.proofs.Parts.{Exact, Begun, exact_as}
+use Rattle.oss_grammar.proofs.PartLemmas.{exact_mapped, begun_mapped}
+use Rattle.oss_grammar.proofs.StepLemmas.{Steps, StepsDeep, exact_steps}
+use Rattle.oss_grammar.proofs.StepLemmas.Steps.{over, once_more}
+use Rattle.oss_grammar.proofs.StepLemmas.StepsDeep.{in_this, in_later}
 use Rattle.oss_pragma.specs.ExpressionReading.{and_then}
 
 -- any number of parts, each behind those that were found before it

@@ -9,25 +9,25 @@ use Rattle.oss_syntax.specs.declared.tree.expr.ExprKind.TheVariants as exprs
 use Rattle.oss_syntax.specs.declared.tree.pragma.Form.{Form}
 use Rattle.oss_syntax.specs.declared.tree.pragma.Form.TheVariants as form
 use Rattle.oss_syntax.specs.declared.tree.pragma.Section.{Section}
-use Rattle.oss_model.specs.Expressions.{IsWhole, prefix_of, operator_of}
-use Rattle.oss_model.specs.Expressions.IsExpr.{number, tighter}
-use Rattle.oss_model.specs.Fronts.{Viable}
-use Rattle.oss_model.specs.Grammar.{One, Both, Mapped, Either}
-use Rattle.oss_model.specs.Grammar.Either.{one_way, other_way}
-use Rattle.oss_model.specs.Levels.{IsExcessBehind, OpensInner, OpensSection, OpensSections}
-use Rattle.oss_model.specs.Levels.OpensInner.{inner_first, inner_count, inner_last}
-use Rattle.oss_model.specs.Levels.OpensSection.{section_shape, section_part}
-use Rattle.oss_model.specs.Levels.OpensSections.{sections_first, sections_later}
-use Rattle.oss_model.specs.Pragmas.{IsBound, IsInner, IsSection, IsSections}
-use Rattle.oss_model.specs.Pragmas.IsBound.{left_out, given}
-use Rattle.oss_model.specs.Pragmas.IsInner.{element, counted, ranged}
-use Rattle.oss_model.specs.Pragmas.IsSection.{whole, pointed, shape, part}
-use Rattle.oss_model.specs.Pragmas.IsSections.{last_section, next_section}
-use Rattle.oss_model.specs.Reading.{Reader, begins, has, one_of, never, read_one, read_then, read_nothing, read_both, read_either}
-use Rattle.oss_model.proofs.Parts.{Exact, Begun, exact_as, exact_before, member_begins, deep_begins}
-use Rattle.oss_model.proofs.PartLemmas.{Nowhere, nowhere, exact_one, begun_one, Nothing, exact_nothing, exact_mapped, begun_mapped, Then, ThenDeep, exact_then, begun_then, EitherDeep, exact_either, begun_either}
-use Rattle.oss_model.proofs.PartLemmas.EitherDeep.{one_deep, other_deep}
-use Rattle.oss_model.proofs.StepLemmas.{none_goes, fewer_go}
+use Rattle.oss_grammar.specs.Expressions.{IsWhole, prefix_of, operator_of}
+use Rattle.oss_grammar.specs.Expressions.IsExpr.{number, tighter}
+use Rattle.oss_grammar.specs.Fronts.{Viable}
+use Rattle.oss_grammar.specs.Grammar.{One, Both, Mapped, Either}
+use Rattle.oss_grammar.specs.Grammar.Either.{one_way, other_way}
+use Rattle.oss_grammar.specs.Levels.{IsExcessBehind, OpensInner, OpensSection, OpensSections}
+use Rattle.oss_grammar.specs.Levels.OpensInner.{inner_first, inner_count, inner_last}
+use Rattle.oss_grammar.specs.Levels.OpensSection.{section_shape, section_part}
+use Rattle.oss_grammar.specs.Levels.OpensSections.{sections_first, sections_later}
+use Rattle.oss_grammar.specs.Pragmas.{IsBound, IsInner, IsSection, IsSections}
+use Rattle.oss_grammar.specs.Pragmas.IsBound.{left_out, given}
+use Rattle.oss_grammar.specs.Pragmas.IsInner.{element, counted, ranged}
+use Rattle.oss_grammar.specs.Pragmas.IsSection.{whole, pointed, shape, part}
+use Rattle.oss_grammar.specs.Pragmas.IsSections.{last_section, next_section}
+use Rattle.oss_grammar.specs.Reading.{Reader, begins, has, one_of, never, read_one, read_then, read_nothing, read_both, read_either}
+use Rattle.oss_grammar.proofs.Parts.{Exact, Begun, exact_as, exact_before, member_begins, deep_begins}
+use Rattle.oss_grammar.proofs.PartLemmas.{Nowhere, nowhere, exact_one, begun_one, Nothing, exact_nothing, exact_mapped, begun_mapped, Then, ThenDeep, exact_then, begun_then, EitherDeep, exact_either, begun_either}
+use Rattle.oss_grammar.proofs.PartLemmas.EitherDeep.{one_deep, other_deep}
+use Rattle.oss_grammar.proofs.StepLemmas.{none_goes, fewer_go}
 use Rattle.oss_pragma.specs.PragmaReading.{read_upper, read_span, read_length, read_inner_from, read_inner, read_pointed, read_shape, read_part, read_based, read_section, read_sections, pointed_section, shape_section, part_section, whole_section}
 use Rattle.oss_pragma.specs.TokenValues.{symbol_at, name_at, begins_expression}
 use Rattle.oss_pragma.specs.declared.cursor.Named.{Named}

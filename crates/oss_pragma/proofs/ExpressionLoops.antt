@@ -2,7 +2,7 @@
 use Rattle.std.proofs.Common.{◌≡◌, ℕ, zero, suc, ◌+◌, ◌-◌, ◌<◌, List, [], ◌∷◌, codes, refl, ap, ◌∙◌, arith, Result, Ok, Err}
 use Rattle.oss_syntax.specs.declared.token.Token.{Token}
 use Rattle.oss_syntax.specs.declared.tree.expr.Expr.{Expr}
-use Rattle.oss_model.specs.Reading.{Reader, Stop, begins, has, go_on, read_nothing, read_mapped, read_either}
+use Rattle.oss_grammar.specs.Reading.{Reader, Stop, begins, has, go_on, read_nothing, read_mapped, read_either}
 use Rattle.oss_pragma.specs.TokenValues.{symbol_at, name_at, number_at, prefix_at, operator_at, begins_expression}
 use Rattle.oss_pragma.specs.ExpressionReading.{latter, former, middle, and_then, read_next, read_more, read_list, named_expression, call_of, indexed, prefixed_by, joined_to, read_arguments, read_call, read_named, read_brackets, read_primary, read_index, read_postfix, read_prefixed, read_operation, read_operations, read_levels, binary_levels, read_unary, read_whole}
 use Rattle.oss_pragma.specs.Operands.{read_operand, read_above}

@@ -5,20 +5,20 @@ use Rattle.std.proofs.lemmas.List.{append-nil}
 use Rattle.oss_syntax.specs.declared.token.Token.{Token}
 use Rattle.oss_syntax.specs.declared.tree.expr.BinOp.{BinOp}
 use Rattle.oss_syntax.specs.declared.tree.expr.Expr.{Expr}
-use Rattle.oss_model.specs.Expressions.{IsExpr, operator_of}
-use Rattle.oss_model.specs.Expressions.IsExpr.{joined, tighter}
-use Rattle.oss_model.specs.Fronts.{Viable}
-use Rattle.oss_model.specs.Grammar.{One, Both, Mapped}
-use Rattle.oss_model.specs.Levels.{Begins}
-use Rattle.oss_model.specs.Levels.Begins.{on_the_right, in_tighter}
-use Rattle.oss_model.specs.Reading.{Reader, begins, has, never, one_of, read_one, read_then, read_mapped}
-use Rattle.oss_model.proofs.Parts.{Exact, Begun, exact_as}
-use Rattle.oss_model.proofs.PartLemmas.{Nowhere, nowhere, exact_one, begun_one, exact_mapped, begun_mapped, Then, ThenDeep, exact_then, begun_then}
-use Rattle.oss_model.proofs.PartLemmas.ThenDeep.{in_first, in_second}
-use Rattle.oss_model.proofs.PairLemmas.{exact_both, begun_both}
-use Rattle.oss_model.proofs.StepLemmas.{Steps, StepsDeep, exact_steps, steps_apart, steps_apart_deep}
-use Rattle.oss_model.proofs.StepLemmas.Steps.{over, once_more}
-use Rattle.oss_model.proofs.StepLemmas.StepsDeep.{in_this, in_later}
+use Rattle.oss_grammar.specs.Expressions.{IsExpr, operator_of}
+use Rattle.oss_grammar.specs.Expressions.IsExpr.{joined, tighter}
+use Rattle.oss_grammar.specs.Fronts.{Viable}
+use Rattle.oss_grammar.specs.Grammar.{One, Both, Mapped}
+use Rattle.oss_grammar.specs.Levels.{Begins}
+use Rattle.oss_grammar.specs.Levels.Begins.{on_the_right, in_tighter}
+use Rattle.oss_grammar.specs.Reading.{Reader, begins, has, never, one_of, read_one, read_then, read_mapped}
+use Rattle.oss_grammar.proofs.Parts.{Exact, Begun, exact_as}
+use Rattle.oss_grammar.proofs.PartLemmas.{Nowhere, nowhere, exact_one, begun_one, exact_mapped, begun_mapped, Then, ThenDeep, exact_then, begun_then}
+use Rattle.oss_grammar.proofs.PartLemmas.ThenDeep.{in_first, in_second}
+use Rattle.oss_grammar.proofs.PairLemmas.{exact_both, begun_both}
+use Rattle.oss_grammar.proofs.StepLemmas.{Steps, StepsDeep, exact_steps, steps_apart, steps_apart_deep}
+use Rattle.oss_grammar.proofs.StepLemmas.Steps.{over, once_more}
+use Rattle.oss_grammar.proofs.StepLemmas.StepsDeep.{in_this, in_later}
 use Rattle.oss_pragma.specs.ExpressionReading.{joined_to, read_operation, read_operations}
 use Rattle.oss_pragma.specs.TokenValues.{operator_at, of_level, begins_expression}
 

@@ -4,17 +4,17 @@ use Rattle.std.specs.Prelude.{codes}
 use Rattle.std.proofs.lemmas.List.{append-nil}
 use Rattle.oss_syntax.specs.declared.token.Token.{Token}
 use Rattle.oss_syntax.specs.declared.token.TokenKind.TheVariants as kinds
-use Rattle.oss_model.specs.Grammar.{One, Both, Mapped}
-use Rattle.oss_model.specs.Fronts.{Viable}
-use Rattle.oss_model.specs.OneToken.{IsComma}
-use Rattle.oss_model.specs.Reading.{Stop, begins, has, never, one_of, read_one, read_mapped}
-use Rattle.oss_model.proofs.Parts.{Exact, Begun, exact_as}
-use Rattle.oss_model.proofs.PartLemmas.{Nowhere, nowhere, exact_one, begun_one, exact_mapped, begun_mapped, exact_then, begun_then, Then, ThenDeep}
-use Rattle.oss_model.proofs.PartLemmas.ThenDeep.{in_first, in_second}
-use Rattle.oss_model.proofs.PairLemmas.{exact_both, begun_both}
-use Rattle.oss_model.proofs.StepLemmas.{Steps, StepsDeep, exact_steps, steps_apart, steps_apart_deep}
-use Rattle.oss_model.proofs.StepLemmas.Steps.{over, once_more}
-use Rattle.oss_model.proofs.StepLemmas.StepsDeep.{in_this, in_later}
+use Rattle.oss_grammar.specs.Grammar.{One, Both, Mapped}
+use Rattle.oss_grammar.specs.Fronts.{Viable}
+use Rattle.oss_grammar.specs.OneToken.{IsComma}
+use Rattle.oss_grammar.specs.Reading.{Stop, begins, has, never, one_of, read_one, read_mapped}
+use Rattle.oss_grammar.proofs.Parts.{Exact, Begun, exact_as}
+use Rattle.oss_grammar.proofs.PartLemmas.{Nowhere, nowhere, exact_one, begun_one, exact_mapped, begun_mapped, exact_then, begun_then, Then, ThenDeep}
+use Rattle.oss_grammar.proofs.PartLemmas.ThenDeep.{in_first, in_second}
+use Rattle.oss_grammar.proofs.PairLemmas.{exact_both, begun_both}
+use Rattle.oss_grammar.proofs.StepLemmas.{Steps, StepsDeep, exact_steps, steps_apart, steps_apart_deep}
+use Rattle.oss_grammar.proofs.StepLemmas.Steps.{over, once_more}
+use Rattle.oss_grammar.proofs.StepLemmas.StepsDeep.{in_this, in_later}
 use Rattle.oss_pragma.specs.ExpressionReading.{latter, and_then, read_next, read_more, read_list}
 use Rattle.oss_pragma.specs.TokenValues.{symbol_at}
 use Rattle.oss_pragma.proofs.TokenLemmas.{symbol_value, symbol_token}

@@ -9,9 +9,9 @@ use Rattle.oss_syntax.specs.declared.tree.expr.Expr.{Expr}
 use Rattle.oss_syntax.specs.declared.tree.pragma.Clause.{Clause}
 use Rattle.oss_syntax.specs.declared.tree.pragma.Clause.TheVariants as clause
 use Rattle.oss_syntax.specs.declared.tree.pragma.Section.{Section}
-use Rattle.oss_model.specs.Pragmas.{Single, is_single, HasEachOnce}
-use Rattle.oss_model.specs.Pragmas.Single.{once_if, once_final, once_wait, once_label, once_priority}
-use Rattle.oss_model.specs.Reading.{has}
+use Rattle.oss_grammar.specs.Pragmas.{Single, is_single, HasEachOnce}
+use Rattle.oss_grammar.specs.Pragmas.Single.{once_if, once_final, once_wait, once_label, once_priority}
+use Rattle.oss_grammar.specs.Reading.{has}
 use Rattle.oss_pragma.specs.ExpressionReading.{and_then}
 use Rattle.oss_pragma.specs.TokenValues.{stands, single_at, is_single_word}
 

@@ -11,21 +11,21 @@ use Rattle.oss_syntax.specs.declared.tree.expr.Expr.{Expr}
 use Rattle.oss_syntax.specs.declared.tree.expr.ExprKind.TheVariants as exprs
 use Rattle.oss_syntax.specs.declared.tree.expr.UnOp.{UnOp}
 use Rattle.oss_syntax.specs.declared.tree.expr.UnOp.TheVariants as prefix
-use Rattle.oss_model.specs.Expressions.{IsExpr, IsWhole, primary_level, postfix_level, prefix_level, loosest_level, prefix_of, operator_of}
-use Rattle.oss_model.specs.Expressions.IsExpr.{index, prefixed, joined, tighter}
-use Rattle.oss_model.specs.Fronts.{Viable}
-use Rattle.oss_model.specs.Grammar.{One, Both, Mapped, Either}
-use Rattle.oss_model.specs.Grammar.Either.{one_way, other_way}
-use Rattle.oss_model.specs.Levels.{Begins}
-use Rattle.oss_model.specs.Levels.Begins.{in_index, under_prefix, on_the_right, in_tighter}
-use Rattle.oss_model.specs.OneToken.{is_symbol}
-use Rattle.oss_model.specs.Reading.{Reader, begins, has, never, one_of, read_one, read_mapped, read_both, read_either, read_nothing}
-use Rattle.oss_model.proofs.Parts.{Exact, Begun, exact_as, member_begins, deep_begins}
-use Rattle.oss_model.proofs.PartLemmas.{Nowhere, nowhere, exact_one, begun_one, exact_nothing, Nothing, exact_mapped, begun_mapped, Then, ThenDeep, exact_then, begun_then, EitherDeep, exact_either, begun_either}
-use Rattle.oss_model.proofs.PartLemmas.ThenDeep.{in_first, in_second}
-use Rattle.oss_model.proofs.PartLemmas.EitherDeep.{one_deep, other_deep}
-use Rattle.oss_model.proofs.PairLemmas.{exact_both, begun_both}
-use Rattle.oss_model.proofs.StepLemmas.{none_goes, fewer_go}
+use Rattle.oss_grammar.specs.Expressions.{IsExpr, IsWhole, primary_level, postfix_level, prefix_level, loosest_level, prefix_of, operator_of}
+use Rattle.oss_grammar.specs.Expressions.IsExpr.{index, prefixed, joined, tighter}
+use Rattle.oss_grammar.specs.Fronts.{Viable}
+use Rattle.oss_grammar.specs.Grammar.{One, Both, Mapped, Either}
+use Rattle.oss_grammar.specs.Grammar.Either.{one_way, other_way}
+use Rattle.oss_grammar.specs.Levels.{Begins}
+use Rattle.oss_grammar.specs.Levels.Begins.{in_index, under_prefix, on_the_right, in_tighter}
+use Rattle.oss_grammar.specs.OneToken.{is_symbol}
+use Rattle.oss_grammar.specs.Reading.{Reader, begins, has, never, one_of, read_one, read_mapped, read_both, read_either, read_nothing}
+use Rattle.oss_grammar.proofs.Parts.{Exact, Begun, exact_as, member_begins, deep_begins}
+use Rattle.oss_grammar.proofs.PartLemmas.{Nowhere, nowhere, exact_one, begun_one, exact_nothing, Nothing, exact_mapped, begun_mapped, Then, ThenDeep, exact_then, begun_then, EitherDeep, exact_either, begun_either}
+use Rattle.oss_grammar.proofs.PartLemmas.ThenDeep.{in_first, in_second}
+use Rattle.oss_grammar.proofs.PartLemmas.EitherDeep.{one_deep, other_deep}
+use Rattle.oss_grammar.proofs.PairLemmas.{exact_both, begun_both}
+use Rattle.oss_grammar.proofs.StepLemmas.{none_goes, fewer_go}
 use Rattle.oss_pragma.specs.ExpressionReading.{middle, indexed, prefixed_by, read_index, read_postfix, read_prefixed}
 use Rattle.oss_pragma.specs.TokenValues.{symbol_at, name_at, number_at, prefix_at, signed_in, begins_expression}
 use Rattle.oss_pragma.proofs.TokenLemmas.{goes_on, opening, index_opening, index_closing, exact_symbol, exact_closed, one_symbol, symbol_one, has_symbol, on_symbol}

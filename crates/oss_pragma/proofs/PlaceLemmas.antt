@@ -4,15 +4,15 @@ use Rattle.std.specs.Prelude.{take, drop}
 use Rattle.std.proofs.lemmas.List.{length-append, length-drop, take-append-drop}
 use Rattle.std.proofs.Math.Seq.{drop-append_seam, take-append_seam}
 use Rattle.oss_syntax.specs.declared.token.Token.{Token}
-use Rattle.oss_model.specs.declared.refusal.Refusal.{Refusal}
-use Rattle.oss_model.specs.declared.refusal.Refusal.TheVariants.{Refused, Memory}
-use Rattle.oss_model.specs.declared.refusal.Refused.{Refused as RefusedData}
-use Rattle.oss_model.specs.declared.refusal.RefusedKind.TheVariants as kind
-use Rattle.oss_model.specs.Reading.{Stop}
-use Rattle.oss_model.specs.Reading.Stop.{Syntax, Deep}
-use Rattle.oss_model.specs.Refusals.{Language, IsRead, Refuses, IsAnswer, kind_of, is_in_pragma}
-use Rattle.oss_model.proofs.AnswerLemmas.{ok_answer, token_answer, end_answer, deep_answer}
-use Rattle.oss_model.proofs.Parts.{Exact, taken, stopped, sunk}
+use Rattle.oss_syntax.specs.declared.refusal.Refusal.{Refusal}
+use Rattle.oss_syntax.specs.declared.refusal.Refusal.TheVariants.{Refused, Memory}
+use Rattle.oss_syntax.specs.declared.refusal.Refused.{Refused as RefusedData}
+use Rattle.oss_syntax.specs.declared.refusal.RefusedKind.TheVariants as kind
+use Rattle.oss_grammar.specs.Reading.{Stop}
+use Rattle.oss_grammar.specs.Reading.Stop.{Syntax, Deep}
+use Rattle.oss_grammar.specs.Refusals.{Language, IsRead, Refuses, IsAnswer, kind_of, is_in_pragma}
+use Rattle.oss_grammar.proofs.AnswerLemmas.{ok_answer, token_answer, end_answer, deep_answer}
+use Rattle.oss_grammar.proofs.Parts.{Exact, taken, stopped, sunk}
 use Rattle.oss_pragma.specs.ToldAt.{IsToldAt, placed_in, refused_at, count_before, tokens_before}
 
 -- tokens that are cut in three

@@ -5,11 +5,11 @@ use Rattle.oss_syntax.specs.declared.tree.pragma.Clause.{Clause}
 use Rattle.oss_syntax.specs.declared.tree.pragma.Clause.TheVariants as clause
 use Rattle.oss_syntax.specs.declared.tree.pragma.Form.TheVariants as form
 use Rattle.oss_syntax.specs.declared.tree.pragma.Section.{Section}
-use Rattle.oss_model.specs.Pragmas.{Single}
-use Rattle.oss_model.specs.Pragmas.Single.{once_if, once_final, once_wait, once_label, once_priority}
-use Rattle.oss_model.specs.Reading.{Reader, has, read_nothing, read_either}
+use Rattle.oss_grammar.specs.Pragmas.{Single}
+use Rattle.oss_grammar.specs.Pragmas.Single.{once_if, once_final, once_wait, once_label, once_priority}
+use Rattle.oss_grammar.specs.Reading.{Reader, has, read_nothing, read_either}
 use Rattle.oss_pragma.specs.TokenValues.{symbol_at, name_at, access_at, reduction_at, fold_at, label_at, single_at, begins_expression}
-use Rattle.oss_model.specs.Levels.{is_operator}
+use Rattle.oss_grammar.specs.Levels.{is_operator}
 use Rattle.oss_pragma.specs.ExpressionReading.{latter, middle, and_then, read_next, read_expression}
 use Rattle.oss_pragma.specs.PragmaReading.{read_upper, read_span, read_length, read_inner_from, read_inner, whole_section, pointed_section, shape_section, part_section, read_pointed, read_shape, read_part, read_based, read_section, read_sections, read_bracketed_sections, read_bracketed_expression, dependency_of, read_depend, read_folded, reduction_of_parts, read_reduction, read_single, read_label, read_waiting, read_clause, read_after_comma, goes_on_with_clause, goes_on_with_depend}
 use Rattle.oss_pragma.specs.declared.cursor.Named.{Named}

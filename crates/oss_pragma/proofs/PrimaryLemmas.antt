@@ -6,23 +6,23 @@ use Rattle.oss_syntax.specs.declared.token.TokenKind.{TokenKind}
 use Rattle.oss_syntax.specs.declared.token.TokenKind.TheVariants as kinds
 use Rattle.oss_syntax.specs.declared.tree.expr.Expr.{Expr}
 use Rattle.oss_syntax.specs.declared.tree.expr.ExprKind.TheVariants as exprs
-use Rattle.oss_model.specs.Expressions.{IsExpr, IsArguments, IsArgumentList, IsWhole, primary_level, loosest_level, prefix_of, operator_of}
-use Rattle.oss_model.specs.Expressions.IsExpr.{number, name, call, brackets}
-use Rattle.oss_model.specs.Expressions.IsArguments.{no_arguments, arguments}
-use Rattle.oss_model.specs.Expressions.IsArgumentList.{last_argument, next_argument}
-use Rattle.oss_model.specs.Fronts.{Viable}
-use Rattle.oss_model.specs.Grammar.{One, Both, Mapped, Either}
-use Rattle.oss_model.specs.Grammar.Either.{one_way, other_way}
-use Rattle.oss_model.specs.Levels.{Begins}
-use Rattle.oss_model.specs.Levels.Begins.{in_brackets, in_first_argument, in_later_argument}
-use Rattle.oss_model.specs.OneToken.{IsOpen, IsClose, IsComma}
-use Rattle.oss_model.specs.Reading.{Reader, begins, has, never, one_of, read_one, read_mapped, read_both, read_either, read_nothing}
-use Rattle.oss_model.proofs.Parts.{Exact, Begun, exact_as, member_begins, deep_begins}
-use Rattle.oss_model.proofs.PartLemmas.{Nowhere, nowhere, exact_one, begun_one, exact_nothing, Nothing, exact_mapped, begun_mapped, Then, ThenDeep, exact_then, begun_then, EitherDeep, exact_either, begun_either}
-use Rattle.oss_model.proofs.PartLemmas.ThenDeep.{in_first, in_second}
-use Rattle.oss_model.proofs.PartLemmas.EitherDeep.{one_deep, other_deep}
-use Rattle.oss_model.proofs.PairLemmas.{exact_both, begun_both}
-use Rattle.oss_model.proofs.StepLemmas.{none_goes}
+use Rattle.oss_grammar.specs.Expressions.{IsExpr, IsArguments, IsArgumentList, IsWhole, primary_level, loosest_level, prefix_of, operator_of}
+use Rattle.oss_grammar.specs.Expressions.IsExpr.{number, name, call, brackets}
+use Rattle.oss_grammar.specs.Expressions.IsArguments.{no_arguments, arguments}
+use Rattle.oss_grammar.specs.Expressions.IsArgumentList.{last_argument, next_argument}
+use Rattle.oss_grammar.specs.Fronts.{Viable}
+use Rattle.oss_grammar.specs.Grammar.{One, Both, Mapped, Either}
+use Rattle.oss_grammar.specs.Grammar.Either.{one_way, other_way}
+use Rattle.oss_grammar.specs.Levels.{Begins}
+use Rattle.oss_grammar.specs.Levels.Begins.{in_brackets, in_first_argument, in_later_argument}
+use Rattle.oss_grammar.specs.OneToken.{IsOpen, IsClose, IsComma}
+use Rattle.oss_grammar.specs.Reading.{Reader, begins, has, never, one_of, read_one, read_mapped, read_both, read_either, read_nothing}
+use Rattle.oss_grammar.proofs.Parts.{Exact, Begun, exact_as, member_begins, deep_begins}
+use Rattle.oss_grammar.proofs.PartLemmas.{Nowhere, nowhere, exact_one, begun_one, exact_nothing, Nothing, exact_mapped, begun_mapped, Then, ThenDeep, exact_then, begun_then, EitherDeep, exact_either, begun_either}
+use Rattle.oss_grammar.proofs.PartLemmas.ThenDeep.{in_first, in_second}
+use Rattle.oss_grammar.proofs.PartLemmas.EitherDeep.{one_deep, other_deep}
+use Rattle.oss_grammar.proofs.PairLemmas.{exact_both, begun_both}
+use Rattle.oss_grammar.proofs.StepLemmas.{none_goes}
 use Rattle.oss_pragma.specs.declared.cursor.Named.{Named}
 use Rattle.oss_pragma.specs.ExpressionReading.{latter, former, middle, named_expression, call_of, read_list, read_arguments, read_call, read_named, read_brackets, read_primary}
 use Rattle.oss_pragma.specs.TokenValues.{symbol_at, name_at, number_at, named_in, number_in, begins_expression}

@@ -4,8 +4,8 @@ use Rattle.std.proofs.lemmas.Bool.Decides.{nat_tests}
 use Rattle.std.proofs.lemmas.List.Sums.{sum_by-cons}
 use Rattle.std.specs.List.{count_by}
 use Rattle.oss_syntax.specs.declared.token.Token.{Token}
-use Rattle.oss_model.specs.Reading.{Reader, Stop, begins, shown, unshown, from_count, passed, counted_told, read_counted}
-use Rattle.oss_model.specs.Reading.Stop.{Syntax, Deep}
+use Rattle.oss_grammar.specs.Reading.{Reader, Stop, begins, shown, unshown, from_count, passed, counted_told, read_counted}
+use Rattle.oss_grammar.specs.Reading.Stop.{Syntax, Deep}
 use Rattle.oss_pragma.proofs.StepLoops.{Takes, told, halted, ok_rest}
 
 pub shown_none : (counts : Token → Bool) (ts : List Token) → shown counts 0 ts ≡ []

@@ -1,7 +1,7 @@
 -- How steps go on, as a loop needs it, and that a step takes a token.
 use Rattle.std.proofs.Common.{◌≡◌, ℕ, zero, suc, ◌<◌, ◌≤◌, Bool, true, false, List, [], ◌∷◌, length, refl, sym, ap, ◌∙◌, arith, Option, Some, None, Result, Ok, Err}
 use Rattle.oss_syntax.specs.declared.token.Token.{Token}
-use Rattle.oss_model.specs.Reading.{Reader, Stop, begins, go_on, read_then, token_told, read_one, read_nothing, read_mapped, read_both, read_either, read_steps_within, read_steps, read_too_deep}
+use Rattle.oss_grammar.specs.Reading.{Reader, Stop, begins, go_on, read_then, token_told, read_one, read_nothing, read_mapped, read_both, read_either, read_steps_within, read_steps, read_too_deep}
 
 -- A reader that takes a token at least, where it reads a value, and one that takes any number.
 pub record Takes {A : Type 0} (f : Reader A) : Type 0 where

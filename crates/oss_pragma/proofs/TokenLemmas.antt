@@ -6,12 +6,12 @@ use Rattle.std.proofs.lemmas.Slice.Eq.{bytes_eq-Decides}
 use Rattle.oss_syntax.specs.declared.token.Token.{Token}
 use Rattle.oss_syntax.specs.declared.token.TokenKind.{TokenKind}
 use Rattle.oss_syntax.specs.declared.token.TokenKind.TheVariants as kinds
-use Rattle.oss_model.specs.Expressions.{operator_of}
-use Rattle.oss_model.specs.OneToken.{is_symbol, is_keyword, is_word}
-use Rattle.oss_model.specs.Grammar.{One}
-use Rattle.oss_model.specs.Reading.{Stop, begins, has, never, read_one}
-use Rattle.oss_model.proofs.Parts.{Exact, exact_before}
-use Rattle.oss_model.proofs.PartLemmas.{Nowhere, exact_one}
+use Rattle.oss_grammar.specs.Expressions.{operator_of}
+use Rattle.oss_grammar.specs.OneToken.{is_symbol, is_keyword, is_word}
+use Rattle.oss_grammar.specs.Grammar.{One}
+use Rattle.oss_grammar.specs.Reading.{Stop, begins, has, never, read_one}
+use Rattle.oss_grammar.proofs.Parts.{Exact, exact_before}
+use Rattle.oss_grammar.proofs.PartLemmas.{Nowhere, exact_one}
 use Rattle.oss_pragma.specs.TokenValues.{symbol_at, word_at, keyword_at}
 
 -- with these tokens an expression may go on: with the bracket of a call or of an index, and with a binary operator

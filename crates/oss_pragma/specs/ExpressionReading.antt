@@ -5,8 +5,8 @@ use Rattle.oss_syntax.specs.declared.tree.expr.BinOp.{BinOp}
 use Rattle.oss_syntax.specs.declared.tree.expr.Expr.{Expr}
 use Rattle.oss_syntax.specs.declared.tree.expr.ExprKind.TheVariants as exprs
 use Rattle.oss_syntax.specs.declared.tree.expr.UnOp.{UnOp}
-use Rattle.oss_model.specs.Levels.{is_operator}
-use Rattle.oss_model.specs.Reading.{Reader, has, read_one, read_then, read_nothing, read_mapped, read_both, read_either, read_steps, read_too_deep, read_counted}
+use Rattle.oss_grammar.specs.Levels.{is_operator}
+use Rattle.oss_grammar.specs.Reading.{Reader, has, read_one, read_then, read_nothing, read_mapped, read_both, read_either, read_steps, read_too_deep, read_counted}
 use Rattle.oss_pragma.specs.TokenValues.{symbol_at, name_at, number_at, prefix_at, operator_at, begins_expression}
 use Rattle.oss_pragma.specs.declared.cursor.Named.{Named}
 

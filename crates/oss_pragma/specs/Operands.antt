@@ -1,7 +1,7 @@
 -- What stands between two binary operators.
 use Rattle.std.specs.Prelude.{ℕ}
 use Rattle.oss_syntax.specs.declared.tree.expr.Expr.{Expr}
-use Rattle.oss_model.specs.Reading.{Reader}
+use Rattle.oss_grammar.specs.Reading.{Reader}
 use Rattle.oss_pragma.specs.ExpressionReading.{read_prefixed, read_unary, read_whole, read_levels}
 
 -- An expression without a binary operator, in which so many levels may still begin.

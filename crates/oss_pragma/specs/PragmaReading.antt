@@ -13,9 +13,9 @@ use Rattle.oss_syntax.specs.declared.tree.pragma.Directive.TheVariants as direct
 use Rattle.oss_syntax.specs.declared.tree.pragma.Form.{Form}
 use Rattle.oss_syntax.specs.declared.tree.pragma.Form.TheVariants as form
 use Rattle.oss_syntax.specs.declared.tree.pragma.Section.{Section}
-use Rattle.oss_model.specs.Pragmas.{Single}
-use Rattle.oss_model.specs.Pragmas.Single.{once_if, once_final, once_wait, once_label, once_priority}
-use Rattle.oss_model.specs.Reading.{Reader, has, read_one, read_then, read_nothing, read_mapped, read_both, read_either, read_steps}
+use Rattle.oss_grammar.specs.Pragmas.{Single}
+use Rattle.oss_grammar.specs.Pragmas.Single.{once_if, once_final, once_wait, once_label, once_priority}
+use Rattle.oss_grammar.specs.Reading.{Reader, has, read_one, read_then, read_nothing, read_mapped, read_both, read_either, read_steps}
 use Rattle.oss_pragma.specs.TokenValues.{symbol_at, word_at, start_at, end_at, name_at, access_at, reduction_at, fold_at, label_at, single_at, begins_expression}
 use Rattle.oss_pragma.specs.ExpressionReading.{latter, middle, and_then, read_next, read_list}
 use Rattle.oss_pragma.specs.declared.cursor.Named.{Named}

@@ -2,8 +2,8 @@
 -- stand behind them.
 use Rattle.std.specs.Prelude.{ℕ, List}
 use Rattle.oss_syntax.specs.declared.token.Token.{Token}
-use Rattle.oss_model.specs.Reading.{shown, unshown}
-use Rattle.oss_model.specs.Levels.{is_operator}
+use Rattle.oss_grammar.specs.Reading.{shown, unshown}
+use Rattle.oss_grammar.specs.Levels.{is_operator}
 
 pub record Sight : Type 0 where
   pub seen : List Token

@@ -2,8 +2,8 @@
 use Rattle.std.specs.Prelude.{◌≡◌, ℕ, Bool, ◌&&◌, not, if◌then◌else◌, List, Option, Some, None}
 use Rattle.oss_syntax.specs.declared.token.Token.{Token}
 use Rattle.oss_syntax.specs.declared.tree.pragma.Clause.{Clause}
-use Rattle.oss_model.specs.Pragmas.{Single}
-use Rattle.oss_model.specs.Pragmas.Single.{once_if, once_final, once_wait, once_label, once_priority}
+use Rattle.oss_grammar.specs.Pragmas.{Single}
+use Rattle.oss_grammar.specs.Pragmas.Single.{once_if, once_final, once_wait, once_label, once_priority}
 use Rattle.oss_pragma.specs.TokenValues.{is_single_word, stands}
 use Rattle.oss_pragma.specs.declared.kinds.Once.{Once}
 use Rattle.oss_pragma.specs.declared.kinds.Once.TheVariants as once

@@ -12,10 +12,10 @@ use Rattle.oss_syntax.specs.declared.tree.expr.Expr.{Expr}
 use Rattle.oss_syntax.specs.declared.tree.expr.ExprKind.TheVariants as exprs
 use Rattle.oss_syntax.specs.declared.tree.expr.UnOp.{UnOp}
 use Rattle.oss_syntax.specs.declared.tree.pragma.Clause.{Clause}
-use Rattle.oss_model.specs.OneToken.{is_symbol, is_keyword, is_word}
-use Rattle.oss_model.specs.Expressions.{prefix_of, operator_of}
-use Rattle.oss_model.specs.Pragmas.{Single, is_single, access_of, reduction_of, fold_of}
-use Rattle.oss_model.specs.Pragmas.Single.{once_if, once_final, once_wait, once_label, once_priority}
+use Rattle.oss_grammar.specs.OneToken.{is_symbol, is_keyword, is_word}
+use Rattle.oss_grammar.specs.Expressions.{prefix_of, operator_of}
+use Rattle.oss_grammar.specs.Pragmas.{Single, is_single, access_of, reduction_of, fold_of}
+use Rattle.oss_grammar.specs.Pragmas.Single.{once_if, once_final, once_wait, once_label, once_priority}
 use Rattle.oss_pragma.specs.declared.cursor.Named.{Named}
 
 -- The line of a symbol, of a keyword and of a word with these bytes.

@@ -1,8 +1,8 @@
 -- What calls that read tell.
 use Rattle.std.specs.Prelude.{◌≡◌, List, Option, Some, None, Result, Ok, Err}
 use Rattle.oss_syntax.specs.declared.token.Token.{Token}
-use Rattle.oss_model.specs.Reading.{Stop}
-use Rattle.oss_model.specs.Reading.Stop.{Syntax, Deep}
+use Rattle.oss_grammar.specs.Reading.{Stop}
+use Rattle.oss_grammar.specs.Reading.Stop.{Syntax, Deep}
 use Rattle.oss_pragma.specs.declared.cursor.Unread.{Unread}
 use Rattle.oss_pragma.specs.declared.cursor.Unread.TheVariants as unread
 

@@ -1,13 +1,13 @@
 -- What calls tell that read from a place in a list of tokens: the value and the place behind it, or the refusal.
 use Rattle.std.specs.Prelude.{◌≡◌, ℕ, ◌-◌, List, [], ◌∷◌, length, take, drop, Result, Ok, Err}
 use Rattle.oss_syntax.specs.declared.token.Token.{Token}
-use Rattle.oss_model.specs.declared.refusal.Refusal.{Refusal}
-use Rattle.oss_model.specs.declared.refusal.Refusal.TheVariants as refusal
-use Rattle.oss_model.specs.declared.refusal.Refused.{Refused}
-use Rattle.oss_model.specs.declared.refusal.RefusedKind.TheVariants as kind
-use Rattle.oss_model.specs.Reading.{Reader, Stop}
-use Rattle.oss_model.specs.Reading.Stop.{Syntax, Deep}
-use Rattle.oss_model.specs.Refusals.{kind_of, is_in_pragma}
+use Rattle.oss_syntax.specs.declared.refusal.Refusal.{Refusal}
+use Rattle.oss_syntax.specs.declared.refusal.Refusal.TheVariants as refusal
+use Rattle.oss_syntax.specs.declared.refusal.Refused.{Refused}
+use Rattle.oss_syntax.specs.declared.refusal.RefusedKind.TheVariants as kind
+use Rattle.oss_grammar.specs.Reading.{Reader, Stop}
+use Rattle.oss_grammar.specs.Reading.Stop.{Syntax, Deep}
+use Rattle.oss_grammar.specs.Refusals.{kind_of, is_in_pragma}
 use Rattle.oss_pragma.specs.declared.cursor.Unread.{Unread}
 use Rattle.oss_pragma.specs.declared.cursor.Unread.TheVariants as unread
 

@@ -1,7 +1,7 @@
 //! The calls that read from a place in a list of tokens.
 
 ghost use Rattle.std.specs.Prelude.{◌≤◌, length};
-ghost use Rattle.oss_model.specs.Refusals.{IsAnswer, expressions, pragmas};
+ghost use Rattle.oss_grammar.specs.Refusals.{IsAnswer, expressions, pragmas};
 ghost use Rattle.oss_pragma.specs.ExpressionReading.{read_expression};
 ghost use Rattle.oss_pragma.specs.PragmaReading.{read_pragma};
 ghost use Rattle.oss_pragma.specs.ToldAt.{IsToldAt};
@@ -9,8 +9,7 @@ ghost use Rattle.oss_pragma.specs.ToldAt.{IsToldAt};
 use crate::cursor::Cursor;
 use crate::refusals::{count_before, refusal};
 use crate::{limits, pragmas};
-use oss_model::Refusal;
-use oss_syntax::{Directive, Expr, List, Token};
+use oss_syntax::{Directive, Expr, List, Refusal, Token};
 use std::alloc::Global;
 
 /// Reads the expression that begins at a place of the tokens, and answers it with the place behind it (C11 6.5).

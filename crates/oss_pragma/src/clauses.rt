@@ -2,8 +2,8 @@
 
 ghost use Rattle.std.specs.Prelude.{◌≡◌, []};
 ghost use Rattle.oss_syntax.specs.declared.tree.pragma.Clause.TheVariants as clauses;
-ghost use Rattle.oss_model.specs.Pragmas.Single.{once_final, once_if, once_priority};
-ghost use Rattle.oss_model.specs.Reading.{begins, read_both, read_mapped, read_one};
+ghost use Rattle.oss_grammar.specs.Pragmas.Single.{once_final, once_if, once_priority};
+ghost use Rattle.oss_grammar.specs.Reading.{begins, read_both, read_mapped, read_one};
 ghost use Rattle.oss_pragma.specs.ExpressionReading.{latter, read_expression};
 ghost use Rattle.oss_pragma.specs.PragmaReading.{goes_on_with_clause, read_after_comma, read_bracketed_expression, read_clause, read_clauses, read_depend, read_folded, read_label, read_reduction, read_single, read_waiting};
 ghost use Rattle.oss_pragma.specs.Singles.{single_of, single_unless};

@@ -1,6 +1,6 @@
 ghost use Rattle.std.specs.Prelude.{◌≡◌, ◌↔◌, ◌∷◌, ◌++◌, [], IsTrue, MatchOption, drop};
-ghost use Rattle.oss_model.specs.Reading.{begins, has, read_one};
-ghost use Rattle.oss_model.specs.Levels.{is_operator};
+ghost use Rattle.oss_grammar.specs.Reading.{begins, has, read_one};
+ghost use Rattle.oss_grammar.specs.Levels.{is_operator};
 ghost use Rattle.oss_pragma.specs.Sights.{Sight, sight_of};
 ghost use Rattle.oss_pragma.specs.TokenValues.{begins_expression, name_at, number_at, operator_at, prefix_at, symbol_at};
 ghost use Rattle.oss_pragma.specs.Told.{Gives};

@@ -1,5 +1,5 @@
 ghost use Rattle.std.specs.Prelude.{◌≡◌, ◌∷◌, [], MatchOption};
-ghost use Rattle.oss_model.specs.Reading.{begins, has, read_one};
+ghost use Rattle.oss_grammar.specs.Reading.{begins, has, read_one};
 ghost use Rattle.oss_pragma.specs.Singles.{single_of, single_unless};
 ghost use Rattle.oss_pragma.specs.TokenValues.{access_at, begins_expression, end_at, fold_at, label_at, name_at, reduction_at, start_at, symbol_at, word_at};
 ghost use Rattle.oss_pragma.specs.Told.{Gives};

@@ -1,8 +1,8 @@
 //! The clauses of a task that were read so far.
 
 ghost use Rattle.std.specs.Prelude.{◌≡◌, ◌∷◌, ◌++◌, ◌||◌, [], OnOk};
-ghost use Rattle.oss_model.specs.Pragmas.{is_single};
-ghost use Rattle.oss_model.specs.Reading.{has};
+ghost use Rattle.oss_grammar.specs.Pragmas.{is_single};
+ghost use Rattle.oss_grammar.specs.Reading.{has};
 ghost use Rattle.oss_pragma.specs.Singles.{single_of};
 ghost use Rattle.oss_pragma.specs.TokenValues.{single_at, stands};
 

@@ -1,9 +1,9 @@
 //! What a single token is.
 
 ghost use Rattle.std.specs.Prelude.{◌≡◌, is_some};
-ghost use Rattle.oss_model.specs.Expressions.{prefix_of, operator_of};
-ghost use Rattle.oss_model.specs.OneToken.{is_symbol, is_keyword, is_word};
-ghost use Rattle.oss_model.specs.Pragmas.{access_of, reduction_of, fold_of};
+ghost use Rattle.oss_grammar.specs.Expressions.{prefix_of, operator_of};
+ghost use Rattle.oss_grammar.specs.OneToken.{is_symbol, is_keyword, is_word};
+ghost use Rattle.oss_grammar.specs.Pragmas.{access_of, reduction_of, fold_of};
 ghost use Rattle.oss_pragma.specs.Singles.{single_of};
 ghost use Rattle.oss_pragma.specs.TokenValues.{begins_expression, end_in, is_single_word, label_in, named_in, number_in, start_in};
 ghost use Rattle.oss_pragma.specs.Told.{Makes};
@@ -195,7 +195,7 @@ pub fn label(alloc: Global, what: &TokenKind) -> Result<Bytes, Unread>
 }
 
 /// The prefix operator that this is.
-#[tactic(auto, unfolding(oss_model::specs::Expressions::prefix_of))]
+#[tactic(auto, unfolding(oss_grammar::specs::Expressions::prefix_of))]
 pub fn prefix(what: &TokenKind) -> Option<UnOp>
     ensures { result ≡ prefix_of what.now }
 {
@@ -217,7 +217,7 @@ pub fn prefix(what: &TokenKind) -> Option<UnOp>
 }
 
 /// The binary operator that this is, with its level.
-#[tactic(auto, unfolding(oss_model::specs::Expressions::operator_of))]
+#[tactic(auto, unfolding(oss_grammar::specs::Expressions::operator_of))]
 pub fn operator(what: &TokenKind) -> Option<(u32, BinOp)>
     ensures { result ≡ operator_of what.now }
 {
@@ -263,7 +263,7 @@ pub fn operator(what: &TokenKind) -> Option<(u32, BinOp)>
 }
 
 /// How a dependency with this word uses its cells, and whether it is strong.
-#[tactic(auto, unfolding(oss_model::specs::Pragmas::access_of))]
+#[tactic(auto, unfolding(oss_grammar::specs::Pragmas::access_of))]
 pub fn access(what: &TokenKind) -> Option<(Mode, bool)>
     ensures { result ≡ access_of what.now }
 {
@@ -281,7 +281,7 @@ pub fn access(what: &TokenKind) -> Option<(Mode, bool)>
 }
 
 /// Whether a reduction with this word is strong.
-#[tactic(auto, unfolding(oss_model::specs::Pragmas::reduction_of))]
+#[tactic(auto, unfolding(oss_grammar::specs::Pragmas::reduction_of))]
 pub fn reduction(what: &TokenKind) -> Option<bool>
     ensures { result ≡ reduction_of what.now }
 {
@@ -295,7 +295,7 @@ pub fn reduction(what: &TokenKind) -> Option<bool>
 }
 
 /// The operator of a reduction that this is.
-#[tactic(auto, unfolding(oss_model::specs::Pragmas::fold_of))]
+#[tactic(auto, unfolding(oss_grammar::specs::Pragmas::fold_of))]
 pub fn fold(what: &TokenKind) -> Option<Op>
     ensures { result ≡ fold_of what.now }
 {

@@ -1,6 +1,6 @@
 //! Laws of the answers of the two calls.
 
-ghost use Rattle.oss_model.specs.Refusals.{IsAnsweredOnce, expressions, pragmas};
+ghost use Rattle.oss_grammar.specs.Refusals.{IsAnsweredOnce, expressions, pragmas};
 
 use oss_syntax::{List, Token};
 

@@ -1,8 +1,8 @@
 //! The reader of an expression with at most so many levels and operators.
 
 ghost use Rattle.std.specs.Prelude.{◌≡◌, ◌≤◌, true, false, MatchOption};
-ghost use Rattle.oss_model.specs.Reading.{from_count, passed, read_counted};
-ghost use Rattle.oss_model.specs.Levels.{is_operator};
+ghost use Rattle.oss_grammar.specs.Reading.{from_count, passed, read_counted};
+ghost use Rattle.oss_grammar.specs.Levels.{is_operator};
 ghost use Rattle.oss_pragma.specs.ExpressionReading.{read_expression, read_whole};
 ghost use Rattle.oss_pragma.specs.Told.{Gives};
 

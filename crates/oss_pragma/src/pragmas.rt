@@ -1,7 +1,7 @@
 //! The reader of pragmas.
 
 ghost use Rattle.std.specs.Prelude.{◌≡◌};
-ghost use Rattle.oss_model.specs.Reading.{begins, read_one, read_then};
+ghost use Rattle.oss_grammar.specs.Reading.{begins, read_one, read_then};
 ghost use Rattle.oss_pragma.specs.ExpressionReading.{read_expression};
 ghost use Rattle.oss_pragma.specs.PragmaReading.{goes_on_with_depend, read_after_comma, read_depend, read_depends, read_more_depends, read_on, read_pragma, read_release, read_task, read_taskwait};
 ghost use Rattle.oss_pragma.specs.TokenValues.{start_at};

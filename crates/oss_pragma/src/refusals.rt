@@ -1,18 +1,17 @@
 //! Why tokens are refused, and where.
 
 ghost use Rattle.std.specs.Prelude.{◌≡◌, ◌≤◌, false, length};
-ghost use Rattle.oss_model.specs.Reading.Stop.{Deep, Syntax};
-ghost use Rattle.oss_model.specs.Refusals.{is_in_pragma, is_left_out, is_left_out_word, is_open_behind, is_pragma_edge, kind_of, opened_by};
-ghost use Rattle.oss_model.specs.Words.{is_left_out_keyword};
+ghost use Rattle.oss_grammar.specs.Reading.Stop.{Deep, Syntax};
+ghost use Rattle.oss_grammar.specs.Refusals.{is_in_pragma, is_left_out, is_left_out_word, is_open_behind, is_pragma_edge, kind_of, opened_by};
+ghost use Rattle.oss_grammar.specs.Words.{is_left_out_keyword};
 ghost use Rattle.oss_pragma.specs.ToldAt.{Tells, count_before, refused_at};
 
 use crate::cursor::Unread;
 use crate::kinds::{symbol_is, word_is};
-use oss_model::{Refusal, Refused, RefusedKind};
-use oss_syntax::{Token, TokenKind};
+use oss_syntax::{Refusal, Refused, RefusedKind, Token, TokenKind};
 
 /// Whether a word is a keyword of C that the language leaves out.
-#[tactic(auto, unfolding(oss_model::specs::Words::is_left_out_keyword))]
+#[tactic(auto, unfolding(oss_grammar::specs::Words::is_left_out_keyword))]
 fn keyword_is_left_out(word: &[u8]) -> bool
     ensures { result ≡ is_left_out_keyword word.now }
 {
@@ -42,7 +41,7 @@ fn keyword_is_left_out(word: &[u8]) -> bool
 }
 
 /// Whether a token is left out of the language.
-#[tactic(auto, unfolding(oss_model::specs::Refusals::is_left_out))]
+#[tactic(auto, unfolding(oss_grammar::specs::Refusals::is_left_out))]
 fn is_left_out(what: &TokenKind) -> bool
     ensures { result ≡ is_left_out what.now }
 {
@@ -61,7 +60,7 @@ fn is_left_out(what: &TokenKind) -> bool
 }
 
 /// Whether a token is a word of OmpSs-2 that is left out in pragmas.
-#[tactic(auto, unfolding(oss_model::specs::Refusals::is_left_out_word))]
+#[tactic(auto, unfolding(oss_grammar::specs::Refusals::is_left_out_word))]
 fn word_is_left_out(what: &TokenKind) -> bool
     ensures { result ≡ is_left_out_word what.now }
 {
@@ -83,7 +82,7 @@ fn word_is_left_out(what: &TokenKind) -> bool
 }
 
 /// Why a token is refused that fits nowhere, in a pragma or not.
-#[tactic(auto, unfolding(oss_model::specs::Refusals::kind_of))]
+#[tactic(auto, unfolding(oss_grammar::specs::Refusals::kind_of))]
 fn kind_of(in_pragma: bool, what: &TokenKind) -> RefusedKind
     ensures { result ≡ kind_of in_pragma what.now }
 {
@@ -144,7 +143,7 @@ fn is_open_behind(before: &[Token]) -> bool
 }
 
 /// Whether a token stands in a pragma, behind these tokens.
-#[tactic(auto, unfolding(oss_model::specs::Refusals::is_in_pragma))]
+#[tactic(auto, unfolding(oss_grammar::specs::Refusals::is_in_pragma))]
 fn is_in_pragma(before: &[Token], what: &TokenKind) -> bool
     ensures { result ≡ is_in_pragma before.now what.now }
 {

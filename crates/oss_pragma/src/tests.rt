@@ -1,10 +1,9 @@
 //! What no clause says: that calls succeed, and answers taken from outside.
 
 use crate::{expression, pragma};
-use oss_model::{Refusal, Refused, RefusedKind};
 use oss_syntax::{
-    BinOp, Bytes, Clause, Directive, Expr, ExprKind, Form, List, Mode, Name, Op, Section, Token,
-    TokenKind,
+    BinOp, Bytes, Clause, Directive, Expr, ExprKind, Form, List, Mode, Name, Op, Refusal, Refused,
+    RefusedKind, Section, Token, TokenKind,
 };
 use std::alloc::{AllocError, Global};
 use std::process::Abort;

@@ -14,7 +14,7 @@ use Rattle.oss_syntax.specs.declared.tree.program.Item.{Item}
 use Rattle.oss_syntax.specs.declared.tree.program.Item.TheVariants as items
 use Rattle.oss_syntax.specs.declared.tree.program.GlobalDef.{GlobalDef}
 use Rattle.oss_syntax.specs.declared.tree.program.Function.{Function}
-use Rattle.oss_model.specs.Scalars.{place_of, names_of, kinds_of, first_cells}
+use Rattle.oss_serial.specs.Scalars.{place_of, names_of, kinds_of, first_cells}
 use Rattle.oss_serial.specs.Places.{Tells}
 
 -- the first element of a list and one more that passes

@@ -8,14 +8,14 @@ use Rattle.oss_syntax.specs.declared.tree.stmt.Stmt.{Stmt}
 use Rattle.oss_syntax.specs.declared.tree.stmt.StmtKind.{StmtKind}
 use Rattle.oss_syntax.specs.declared.tree.stmt.StmtKind.TheVariants as stmts
 use Rattle.oss_syntax.specs.declared.tree.stmt.StmtKind.TheFolds.{the_lemmas as stmt_folds}
-use Rattle.oss_model.specs.declared.answer.FaultKind.{FaultKind}
+use Rattle.oss_syntax.specs.declared.fault.FaultKind.{FaultKind}
 use Rattle.oss_judge.specs.Refusal.{IsRefusal}
 use Rattle.oss_judge.specs.declared.refused.JudgeRefused.{JudgeRefused}
 use Rattle.oss_judge.specs.declared.refused.JudgeRefused.TheVariants as judge
 use Rattle.oss_syntax.specs.declared.access.Access.{Access}
 use Rattle.oss_model.specs.Context.{Context, waited, create_fault, clause_fault, lend}
 use Rattle.oss_model.specs.Rights.{right_from}
-use Rattle.oss_model.specs.Scalars.{State, Ending, Goes, Stops, Run, assigned, printed_values, task_run, mark_accesses, ticked, run_of, runs_of, entered, left_task}
+use Rattle.oss_serial.specs.Scalars.{State, Ending, Goes, Stops, Run, assigned, printed_values, task_run, mark_accesses, ticked, run_of, runs_of, entered, left_task}
 use Rattle.oss_serial.specs.declared.stop.Stop.{Stop}
 use Rattle.oss_serial.specs.declared.stop.Stop.TheVariants as stop
 use Rattle.oss_serial.specs.Endings.{Ends, GoesOn, EntersTask, stop_for}

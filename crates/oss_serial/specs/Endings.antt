@@ -4,10 +4,10 @@ use Rattle.std.specs.Prelude.{◌≡◌, ◌||◌, false, ℕ, List, Option, Som
 use Rattle.std.specs.Global.{Vec}
 use Rattle.oss_judge.specs.declared.refused.JudgeRefused.{JudgeRefused}
 use Rattle.oss_judge.specs.declared.refused.JudgeRefused.TheVariants as judge
-use Rattle.oss_model.specs.declared.answer.FaultKind.{FaultKind}
+use Rattle.oss_syntax.specs.declared.fault.FaultKind.{FaultKind}
 use Rattle.oss_syntax.specs.declared.access.Access.{Access}
 use Rattle.oss_model.specs.Context.{Context, clause_fault}
-use Rattle.oss_model.specs.Scalars.{Ending, Goes, Stops, State, entered}
+use Rattle.oss_serial.specs.Scalars.{Ending, Goes, Stops, State, entered}
 use Rattle.oss_serial.specs.declared.stop.Stop.{Stop}
 use Rattle.oss_serial.specs.declared.stop.Stop.TheVariants as stop
 

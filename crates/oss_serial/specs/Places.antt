@@ -4,7 +4,7 @@ use Rattle.std.specs.Borrow.{Bor}
 use Rattle.std.specs.HashMap.{HashMap, get_by}
 use Rattle.std.specs.Str.{bytes_eq}
 use Rattle.oss_syntax.specs.declared.tree.program.NumKind.{NumKind}
-use Rattle.oss_model.specs.Scalars.{place_of}
+use Rattle.oss_serial.specs.Scalars.{place_of}
 
 -- the names and types of globals, in text order
 pub record Globals : Type 0 where

@@ -1,5 +1,5 @@
 ghost use Rattle.std.specs.Prelude.{◌≡◌, ◌++◌, ◌∷◌, [], IfOk, OnOk};
-ghost use Rattle.oss_model.specs.Scalars.{cell_access, clause_accesses, mark_accesses, place_of, section_accesses};
+ghost use Rattle.oss_serial.specs.Scalars.{cell_access, clause_accesses, mark_accesses, place_of, section_accesses};
 
 use crate::variables::Variables;
 use oss_model::range_of;

@@ -1,5 +1,5 @@
 ghost use Rattle.std.specs.Prelude.{◌≡◌, ◌≤◌, length, IfOk};
-ghost use Rattle.oss_model.specs.Scalars.{answer_of, main_body, mark_accesses, names_of, run_of, runs_of, task_run, tasks_of};
+ghost use Rattle.oss_serial.specs.Scalars.{answer_of, main_body, mark_accesses, names_of, run_of, runs_of, task_run, tasks_of};
 ghost use Rattle.oss_serial.specs.Endings.{Ends};
 
 use crate::accesses::declared;

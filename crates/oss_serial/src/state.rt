@@ -2,15 +2,16 @@ ghost use Rattle.std.specs.Prelude.{◌≡◌, ◌+◌, ◌++◌, ◌<◌, ◌�
 ghost use Rattle.std.specs.Result.{result_err};
 ghost use Rattle.oss_model.specs.Context.{create_fault, lend, waited};
 ghost use Rattle.oss_model.specs.Rights.{right_from};
-ghost use Rattle.oss_model.specs.Scalars.{assigned, first_cells, opening, printed_values, stored, ticked};
-ghost use Rattle.oss_model.specs.Texts.{printed};
+ghost use Rattle.oss_serial.specs.Scalars.{assigned, first_cells, opening, printed_values, stored, ticked};
+ghost use Rattle.oss_grammar.specs.Formats.{printed};
 ghost use Rattle.oss_model.specs.declared.answer.Answer.TheVariants as Answer;
 ghost use Rattle.oss_serial.specs.Endings.{Ends, EntersTask, GoesOn};
 
 use crate::stop::{Stop, stop_at};
 use crate::variables::{Variables, cells_at_start};
+use oss_grammar::{pieces, write_pieces};
 use oss_judge::{Context, JudgeRefused};
-use oss_model::{Answer, FaultKind, pieces, write_pieces};
+use oss_model::{Answer, FaultKind};
 use oss_syntax::{Access, Bytes, Cells, Expr, Item, List};
 use std::alloc::{AllocError, Global};
 use std::marker::Model;
@@ -26,7 +27,7 @@ pub struct State {
 }
 
 impl Model for State {
-    ghost use Rattle.oss_model.specs.Scalars.{State as Meaning};
+    ghost use Rattle.oss_serial.specs.Scalars.{State as Meaning};
 
     ghost Value = { Meaning };
 

@@ -1,8 +1,8 @@
 ghost use Rattle.std.specs.Prelude.{◌≡◌, ◌∷◌, ◌++◌, ◌<◌, ◌≤◌, ◌^◌, ℕ, List, [], length, IfOk, OnOk};
-ghost use Rattle.oss_model.specs.Scalars.{names_of, kinds_of, first_cells, place_of, loaded, value_of, values_of, cells_with, target_place, named_by, summed};
+ghost use Rattle.oss_serial.specs.Scalars.{names_of, kinds_of, first_cells, place_of, loaded, value_of, values_of, cells_with, target_place, named_by, summed};
 ghost use Rattle.oss_serial.specs.Places.{Tells};
 ghost use Rattle.oss_serial.specs.Endings.{AreValues};
-ghost use Rattle.oss_model.specs.Values.{kept, widened};
+ghost use Rattle.oss_grammar.specs.Values.{kept, widened};
 
 use oss_judge::{Context, JudgeRefused};
 use oss_model::FaultKind;
@@ -20,7 +20,7 @@ pub struct Variables<'p> {
 }
 
 impl<'p> Model for Variables<'p> {
-    ghost use Rattle.oss_model.specs.Scalars.{names_of};
+    ghost use Rattle.oss_serial.specs.Scalars.{names_of};
     ghost use Rattle.oss_serial.specs.Places.{Globals, Tells};
 
     ghost Value = { Globals };

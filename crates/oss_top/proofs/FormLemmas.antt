@@ -6,7 +6,7 @@ use Rattle.std.proofs.lemmas.List.{append-nil, length-replicate}
 use Rattle.oss_syntax.specs.declared.tree.program.Program.{Program}
 use Rattle.oss_model.specs.declared.answer.Answer.{Answer}
 use Rattle.oss_model.specs.declared.answer.Answer.TheVariants.{Done, Fault}
-use Rattle.oss_model.specs.Scalars.{answer_of}
+use Rattle.oss_serial.specs.Scalars.{answer_of}
 use Rattle.oss_top.specs.CommandWords.{Command, asked_of, file_of}
 use Rattle.oss_top.specs.Reply.{Is, IsProgramReply, IsTextReply, IsReply, OfText, most_bytes, run_fuel, status_of, too_large_line}
 use Rattle.oss_top.specs.Reply.IsProgramReply.{checked, ran, not_built}

@@ -1,9 +1,9 @@
 -- What the reader and the check of the rules tell, put together.
 use Rattle.std.proofs.Common.{ℕ, List, Result, Ok, Err, sym, subst}
 use Rattle.oss_syntax.specs.declared.tree.program.Program.{Program}
-use Rattle.oss_model.specs.declared.refusal.Refusal.{Refusal}
-use Rattle.oss_model.specs.declared.refusal.Refusal.TheVariants as refusal
-use Rattle.oss_model.specs.Parsing.{IsParse}
+use Rattle.oss_syntax.specs.declared.refusal.Refusal.{Refusal}
+use Rattle.oss_syntax.specs.declared.refusal.Refusal.TheVariants as refusal
+use Rattle.oss_grammar.specs.Parsing.{IsParse}
 use Rattle.oss_names.specs.Resolved.{IsResolved}
 use Rattle.oss_top.specs.ProgramTexts.{Accepts, IsKnown}
 use Rattle.oss_top.specs.ProgramTexts.Refuses.{by_grammar, by_rules}

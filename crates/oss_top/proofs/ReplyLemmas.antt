@@ -2,11 +2,11 @@
 use Rattle.std.proofs.Common.{◌≡◌, ◌≢◌, ℕ, zero, suc, ◌≤◌, Bool, true, false, List, [], Option, Some, None, refl, sym, ap, ◌∙◌, subst, arith, ◌⊎◌, inl, inr}
 use Rattle.oss_io.specs.Faults.{Rises}
 use Rattle.oss_syntax.specs.declared.tree.program.Program.{Program}
-use Rattle.oss_model.specs.declared.refusal.Refused.{Refused}
-use Rattle.oss_model.specs.Broken.{first}
-use Rattle.oss_model.specs.Built.{is_built}
-use Rattle.oss_model.specs.Parsing.{IsParsedOnce}
-use Rattle.oss_model.specs.ProgramRules.{refusal_of}
+use Rattle.oss_syntax.specs.declared.refusal.Refused.{Refused}
+use Rattle.oss_grammar.specs.Broken.{first}
+use Rattle.oss_grammar.specs.Built.{is_built}
+use Rattle.oss_grammar.specs.Parsing.{IsParsedOnce}
+use Rattle.oss_grammar.specs.ProgramRules.{refusal_of}
 use Rattle.oss_model.specs.Texts.{refusal_line}
 use Rattle.oss_parse.proofs.OneProgram.{parsed_once}
 use Rattle.oss_top.specs.CommandWords.{Command, asked_of, file_of}

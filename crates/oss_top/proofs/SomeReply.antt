@@ -3,21 +3,21 @@ use Rattle.std.proofs.Common.{◌≡◌, ℕ, zero, suc, ◌+◌, ◌≤◌, ◌
 use Rattle.std.proofs.lemmas.Bool.Decides.{nat_tests}
 use Rattle.oss_syntax.specs.declared.token.Token.{Token}
 use Rattle.oss_syntax.specs.declared.tree.program.Program.{Program}
-use Rattle.oss_model.specs.declared.line_part.LinePart.{LinePart}
-use Rattle.oss_model.specs.declared.line_part.LinePart.TheVariants.{Beginning}
-use Rattle.oss_model.specs.declared.refusal.Refused.{Refused}
-use Rattle.oss_model.specs.declared.refusal.RefusedKind.{RefusedKind}
-use Rattle.oss_model.specs.declared.refusal.Refusal.TheVariants as refusal
-use Rattle.oss_model.specs.Broken.{first}
-use Rattle.oss_model.specs.Built.{is_built}
-use Rattle.oss_model.specs.Parsing.{IsProgramText, IsTextRefusal}
-use Rattle.oss_model.specs.Parsing.IsTextRefusal.{by_tokens}
-use Rattle.oss_model.specs.ProgramRules.{program_rules}
-use Rattle.oss_model.specs.Scalars.{answer_of}
+use Rattle.oss_grammar.specs.declared.line_part.LinePart.{LinePart}
+use Rattle.oss_grammar.specs.declared.line_part.LinePart.TheVariants.{Beginning}
+use Rattle.oss_syntax.specs.declared.refusal.Refused.{Refused}
+use Rattle.oss_syntax.specs.declared.refusal.RefusedKind.{RefusedKind}
+use Rattle.oss_syntax.specs.declared.refusal.Refusal.TheVariants as refusal
+use Rattle.oss_grammar.specs.Broken.{first}
+use Rattle.oss_grammar.specs.Built.{is_built}
+use Rattle.oss_grammar.specs.Parsing.{IsProgramText, IsTextRefusal}
+use Rattle.oss_grammar.specs.Parsing.IsTextRefusal.{by_tokens}
+use Rattle.oss_grammar.specs.ProgramRules.{program_rules}
+use Rattle.oss_serial.specs.Scalars.{answer_of}
 use Rattle.oss_model.specs.Texts.{refusal_line}
-use Rattle.oss_model.specs.Tokens.{Front, IsFront, Tokens, Stops}
-use Rattle.oss_model.specs.Tokens.Tokens.{done, step}
-use Rattle.oss_model.specs.Tokens.Stops.{here, past}
+use Rattle.oss_grammar.specs.Tokens.{Front, IsFront, Tokens, Stops}
+use Rattle.oss_grammar.specs.Tokens.Tokens.{done, step}
+use Rattle.oss_grammar.specs.Tokens.Stops.{here, past}
 use Rattle.oss_lex.specs.Reading.{Fault, front_at}
 use Rattle.oss_lex.proofs.Fronts.{front_fits, faulty, fault_kind, fault_lines}
 use Rattle.oss_lex.proofs.Walk.{step_shorter}

@@ -4,11 +4,11 @@
 -- UnknownName at line 1, and with `int x;` before it accepted; `int main() { x = ; }` is refused as Syntax, and not for its `x`.
 use Rattle.std.specs.Prelude.{◌≡◌, ℕ, List, [], Some, Result, Ok, Err}
 use Rattle.oss_syntax.specs.declared.tree.program.Program.{Program}
-use Rattle.oss_model.specs.declared.refusal.Refusal.{Refusal}
-use Rattle.oss_model.specs.declared.refusal.Refusal.TheVariants as refusal
-use Rattle.oss_model.specs.declared.refusal.Refused.{Refused}
-use Rattle.oss_model.specs.Parsing.{IsProgramText, IsTextRefusal}
-use Rattle.oss_model.specs.ProgramRules.{program_rules, refusal_of}
+use Rattle.oss_syntax.specs.declared.refusal.Refusal.{Refusal}
+use Rattle.oss_syntax.specs.declared.refusal.Refusal.TheVariants as refusal
+use Rattle.oss_syntax.specs.declared.refusal.Refused.{Refused}
+use Rattle.oss_grammar.specs.Parsing.{IsProgramText, IsTextRefusal}
+use Rattle.oss_grammar.specs.ProgramRules.{program_rules, refusal_of}
 
 -- the text is accepted as this program
 pub record Accepts (text : List ℕ) (program : Program) : Type 0 where

@@ -16,10 +16,10 @@ use Rattle.oss_io.specs.Faults.{Rises}
 use Rattle.oss_syntax.specs.declared.tree.program.Program.{Program}
 use Rattle.oss_model.specs.declared.answer.Answer.{Answer}
 use Rattle.oss_model.specs.declared.answer.Answer.TheVariants.{Done, Fault}
-use Rattle.oss_model.specs.declared.refusal.Refused.{Refused}
-use Rattle.oss_model.specs.declared.refusal.RefusedKind.TheVariants as refused
-use Rattle.oss_model.specs.Built.{is_built}
-use Rattle.oss_model.specs.Scalars.{answer_of}
+use Rattle.oss_syntax.specs.declared.refusal.Refused.{Refused}
+use Rattle.oss_syntax.specs.declared.refusal.RefusedKind.TheVariants as refused
+use Rattle.oss_grammar.specs.Built.{is_built}
+use Rattle.oss_serial.specs.Scalars.{answer_of}
 use Rattle.oss_model.specs.Texts.{fault_line, refusal_line}
 use Rattle.oss_report.specs.Outputs.{output_of}
 use Rattle.oss_top.specs.CommandWords.{Command, asked_of, file_of, usage_line}

@@ -1,7 +1,7 @@
 use Rattle.std.proofs.Common.{◌≡◌, ◌+◌, ◌∙◌, ap, drop, map, sym}
-use Rattle.oss_model.specs.Broken.{first}
-use Rattle.oss_model.specs.ExpressionRules.{argument_rules, argument_wanted, findings, parameters_behind}
-use Rattle.oss_model.specs.Kinds.{all_of, placed}
+use Rattle.oss_grammar.specs.Broken.{first}
+use Rattle.oss_grammar.specs.ExpressionRules.{argument_rules, argument_wanted, findings, parameters_behind}
+use Rattle.oss_grammar.specs.Kinds.{all_of, placed}
 use Rattle.oss_kinds.specs.Seen.{seen}
 use Rattle.oss_kinds.proofs.Firsts.{arguments-left, part-broken, part-whole}
 use Rattle.oss_kinds.proofs.expressions.+expressions.Goals as goal

@@ -1,6 +1,6 @@
 use Rattle.std.proofs.Common.{◌≡◌, drop, map}
-use Rattle.oss_model.specs.Broken.{first}
-use Rattle.oss_model.specs.ExpressionRules.{argument_rules, findings}
+use Rattle.oss_grammar.specs.Broken.{first}
+use Rattle.oss_grammar.specs.ExpressionRules.{argument_rules, findings}
 use Rattle.oss_kinds.proofs.expressions.+expressions.Given as goal
 
 -- the arguments so far break no rule

@@ -1,5 +1,5 @@
 use Rattle.std.proofs.Common.{◌≡◌, drop, map}
-use Rattle.oss_model.specs.Scopes.{local_kind, or_else}
+use Rattle.oss_grammar.specs.Scopes.{local_kind, or_else}
 use Rattle.oss_kinds.proofs.locals.kind_among.Given as goal
 
 -- the last local of the name is one of those left, or the one found

@@ -1,5 +1,5 @@
 use Rattle.std.proofs.Common.{◌≡◌, ◌<◌, ◌^◌, take}
-use Rattle.oss_model.specs.Words.{value_in}
+use Rattle.oss_grammar.specs.Words.{value_in}
 use Rattle.oss_lex.proofs.numbers.value.Given as goal
 
 abbrev pub invariant-loop-b : goal.invariant-loop-b

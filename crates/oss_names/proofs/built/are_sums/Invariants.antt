@@ -1,5 +1,5 @@
 use Rattle.std.proofs.Common.{◌≡◌, drop, map}
-use Rattle.oss_model.specs.Built.{every, is_built_expr}
+use Rattle.oss_grammar.specs.Built.{every, is_built_expr}
 use Rattle.oss_names.proofs.built.are_sums.Given as goal
 
 -- those so far are built

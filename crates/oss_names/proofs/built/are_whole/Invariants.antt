@@ -1,5 +1,5 @@
 use Rattle.std.proofs.Common.{◌≡◌, drop, map}
-use Rattle.oss_model.specs.Built.{every, is_whole}
+use Rattle.oss_grammar.specs.Built.{every, is_whole}
 use Rattle.oss_names.proofs.built.are_whole.Given as goal
 
 -- those so far are built

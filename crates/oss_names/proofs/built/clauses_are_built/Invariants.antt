@@ -1,5 +1,5 @@
 use Rattle.std.proofs.Common.{◌≡◌, drop, map}
-use Rattle.oss_model.specs.Built.{every, is_built_clause}
+use Rattle.oss_grammar.specs.Built.{every, is_built_clause}
 use Rattle.oss_names.proofs.built.clauses_are_built.Given as goal
 
 -- those so far are built

@@ -1,5 +1,5 @@
 use Rattle.std.proofs.Common.{◌≡◌, drop, map}
-use Rattle.oss_model.specs.Built.{every, is_built_item}
+use Rattle.oss_grammar.specs.Built.{every, is_built_item}
 use Rattle.oss_names.proofs.built.program_is_built.Given as goal
 
 -- those so far are built

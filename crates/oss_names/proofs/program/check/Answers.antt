@@ -1,8 +1,8 @@
 use Rattle.std.proofs.lemmas.Grind.{common_steps}
 use Rattle.std.proofs.Common.{◌≡◌, ◌+◌, ◌++◌, ◌∙◌, [], ◌∷◌, Some, None, Err, ap, arith, drop, subst, sym}
-use Rattle.oss_model.specs.Broken.{first}
-use Rattle.oss_model.specs.Layout.{cells_of, sizes_of}
-use Rattle.oss_model.specs.ProgramRules.{function_rules, global_rules, has_main, items_rules}
+use Rattle.oss_grammar.specs.Broken.{first}
+use Rattle.oss_grammar.specs.Layout.{cells_of, sizes_of}
+use Rattle.oss_grammar.specs.ProgramRules.{function_rules, global_rules, has_main, items_rules}
 use Rattle.oss_names.specs.Ends.{Tells}
 use Rattle.oss_names.specs.Resolved.{bounds_of}
 use Rattle.oss_names.proofs.EndLemmas.{tells-before}

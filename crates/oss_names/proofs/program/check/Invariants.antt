@@ -1,7 +1,7 @@
 use Rattle.std.proofs.Common.{◌≡◌, ◌++◌, ◌≤◌, drop}
-use Rattle.oss_model.specs.Broken.{first}
-use Rattle.oss_model.specs.Layout.{sizes_of}
-use Rattle.oss_model.specs.ProgramRules.{items_rules}
+use Rattle.oss_grammar.specs.Broken.{first}
+use Rattle.oss_grammar.specs.Layout.{sizes_of}
+use Rattle.oss_grammar.specs.ProgramRules.{items_rules}
 use Rattle.oss_names.specs.Resolved.{bounds_of}
 use Rattle.oss_names.proofs.program.check.Given as goal
 

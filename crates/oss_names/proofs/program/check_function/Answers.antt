@@ -1,10 +1,10 @@
 use Rattle.std.proofs.Common.{◌≡◌, ◌∙◌, [], ap, subst, sym}
-use Rattle.oss_model.specs.declared.kinds.Around.{Around}
-use Rattle.oss_model.specs.declared.refusal.RefusedKind.TheVariants as refused
-use Rattle.oss_model.specs.Broken.{first, where_so}
-use Rattle.oss_model.specs.ProgramRules.{body_around, is_wrong_function, mark_rules}
-use Rattle.oss_model.specs.Scopes.{is_again, or_else}
-use Rattle.oss_model.specs.StaticRules.{Judged, declare_all, rules_of_all}
+use Rattle.oss_grammar.specs.declared.kinds.Around.{Around}
+use Rattle.oss_syntax.specs.declared.refusal.RefusedKind.TheVariants as refused
+use Rattle.oss_grammar.specs.Broken.{first, where_so}
+use Rattle.oss_grammar.specs.ProgramRules.{body_around, is_wrong_function, mark_rules}
+use Rattle.oss_grammar.specs.Scopes.{is_again, or_else}
+use Rattle.oss_grammar.specs.StaticRules.{Judged, declare_all, rules_of_all}
 use Rattle.oss_names.specs.Ends.{Tells}
 use Rattle.oss_names.proofs.ProgramLemmas.{front-broken, front-whole}
 use Rattle.oss_names.proofs.program.check_function.Goals as goal

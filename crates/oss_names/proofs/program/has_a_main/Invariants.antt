@@ -1,5 +1,5 @@
 use Rattle.std.proofs.Common.{◌≡◌, drop}
-use Rattle.oss_model.specs.ProgramRules.{has_main}
+use Rattle.oss_grammar.specs.ProgramRules.{has_main}
 use Rattle.oss_names.proofs.program.has_a_main.Given as goal
 
 -- none so far is a function `main`

@@ -1,6 +1,6 @@
 use Rattle.std.proofs.Common.{◌≡◌, ◌+◌, ◌∙◌, None, ap, arith, drop, length, sym}
-use Rattle.oss_model.specs.Broken.{first}
-use Rattle.oss_model.specs.SectionRules.{clause_rules, clauses_rules, sections_in}
+use Rattle.oss_grammar.specs.Broken.{first}
+use Rattle.oss_grammar.specs.SectionRules.{clause_rules, clauses_rules, sections_in}
 use Rattle.oss_kinds.proofs.Firsts.{part-broken, part-whole}
 use Rattle.oss_names.proofs.Parts.{clauses-left}
 use Rattle.oss_names.proofs.sections.clauses.Goals as goal

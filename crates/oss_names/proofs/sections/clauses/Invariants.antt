@@ -1,6 +1,6 @@
 use Rattle.std.proofs.Common.{◌≡◌, ◌≤◌, drop}
-use Rattle.oss_model.specs.Broken.{first}
-use Rattle.oss_model.specs.SectionRules.{clauses_rules}
+use Rattle.oss_grammar.specs.Broken.{first}
+use Rattle.oss_grammar.specs.SectionRules.{clauses_rules}
 use Rattle.oss_names.proofs.sections.clauses.Given as goal
 
 -- the clauses so far break no rule, and have few sections

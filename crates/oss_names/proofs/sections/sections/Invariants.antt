@@ -1,6 +1,6 @@
 use Rattle.std.proofs.Common.{◌≡◌, ◌+◌, ◌≤◌, drop}
-use Rattle.oss_model.specs.Broken.{first}
-use Rattle.oss_model.specs.SectionRules.{sections_rules}
+use Rattle.oss_grammar.specs.Broken.{first}
+use Rattle.oss_grammar.specs.SectionRules.{sections_rules}
 use Rattle.oss_names.proofs.sections.sections.Given as goal
 
 -- the sections so far break no rule, and are few

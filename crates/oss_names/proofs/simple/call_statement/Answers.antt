@@ -1,8 +1,8 @@
 use Rattle.std.proofs.Common.{◌∙◌, ℕ, List, ap, map, true}
 use Rattle.oss_syntax.specs.declared.tree.expr.Expr.{Expr}
-use Rattle.oss_model.specs.Broken.{first}
-use Rattle.oss_model.specs.ExpressionRules.{call_findings, findings}
-use Rattle.oss_model.specs.Kinds.{Findings, all_of}
+use Rattle.oss_grammar.specs.Broken.{first}
+use Rattle.oss_grammar.specs.ExpressionRules.{call_findings, findings}
+use Rattle.oss_grammar.specs.Kinds.{Findings, all_of}
 use Rattle.oss_names.proofs.simple.call_statement.Goals as goal
 
 pub returns : goal.returns

@@ -1,6 +1,6 @@
 use Rattle.std.proofs.Common.{◌≡◌, drop}
-use Rattle.oss_model.specs.Broken.{first}
-use Rattle.oss_model.specs.StaticRules.{numbers_rules}
+use Rattle.oss_grammar.specs.Broken.{first}
+use Rattle.oss_grammar.specs.StaticRules.{numbers_rules}
 use Rattle.oss_names.proofs.simple.numbers.Given as goal
 
 -- the numbers so far break no rule

@@ -1,13 +1,13 @@
 use Rattle.std.proofs.lemmas.Grind.{common_steps}
 use Rattle.std.proofs.Common.{◌≡◌, ◌+◌, ◌≤◌, ◌∙◌, Ok, Err, List, [], ap, arith, drop, map, not, option_map, refl, subst, sym, true}
 use Rattle.oss_syntax.specs.declared.tree.program.Local.{Local}
-use Rattle.oss_model.specs.declared.kinds.Wanted.TheVariants as wanted
-use Rattle.oss_model.specs.declared.refusal.RefusedKind.TheVariants as refused
-use Rattle.oss_model.specs.Broken.{first, where_so}
-use Rattle.oss_model.specs.ExpressionRules.{call_findings, findings, value_rules}
-use Rattle.oss_model.specs.Kinds.{all_of}
-use Rattle.oss_model.specs.SectionRules.{clauses_rules, optional_rules}
-use Rattle.oss_model.specs.StaticRules.{Judged, assign_rules, in_a_loop, in_a_task, inner, inner_part, judged, part_rules, print_rules, return_rules, rules_of, rules_of_all, then_judge, wait_rules}
+use Rattle.oss_grammar.specs.declared.kinds.Wanted.TheVariants as wanted
+use Rattle.oss_syntax.specs.declared.refusal.RefusedKind.TheVariants as refused
+use Rattle.oss_grammar.specs.Broken.{first, where_so}
+use Rattle.oss_grammar.specs.ExpressionRules.{call_findings, findings, value_rules}
+use Rattle.oss_grammar.specs.Kinds.{all_of}
+use Rattle.oss_grammar.specs.SectionRules.{clauses_rules, optional_rules}
+use Rattle.oss_grammar.specs.StaticRules.{Judged, assign_rules, in_a_loop, in_a_task, inner, inner_part, judged, part_rules, print_rules, return_rules, rules_of, rules_of_all, then_judge, wait_rules}
 use Rattle.oss_names.proofs.EndLemmas.{ends-along, ends-stop, ends-then, prefix-same, statements-left}
 use Rattle.oss_names.proofs.StatementLemmas.{rules-assign, rules-break, rules-call, rules-continue, rules-empty, rules-print, rules-release, rules-return, rules-wait}
 use Rattle.oss_names.proofs.Weights.{weight, weight-one, weights}

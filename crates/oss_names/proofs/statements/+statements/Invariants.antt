@@ -2,8 +2,8 @@ use Rattle.std.proofs.Common.{◌+◌, ◌*◌, List, drop}
 use Rattle.oss_names.proofs.Weights.{part_weight, weight, weights}
 use Rattle.std.specs.Prelude.{Result}
 use Rattle.oss_syntax.specs.declared.tree.program.Local.{Local}
-use Rattle.oss_model.specs.declared.refusal.Refusal.{Refusal}
-use Rattle.oss_model.specs.StaticRules.{rules_of_all}
+use Rattle.oss_syntax.specs.declared.refusal.Refusal.{Refusal}
+use Rattle.oss_grammar.specs.StaticRules.{rules_of_all}
 use Rattle.oss_names.specs.Ends.{Ends}
 use Rattle.oss_names.proofs.statements.+statements.Given as goal
 

@@ -1,4 +1,4 @@
-use Rattle.oss_model.specs.StaticRules.{declare_all}
+use Rattle.oss_grammar.specs.StaticRules.{declare_all}
 use Rattle.oss_names.proofs.statements.declaration.Goals as goal
 
 pub returns-in-Ok : goal.returns-in-Ok

@@ -1,7 +1,7 @@
 use Rattle.std.proofs.Common.{◌≡◌, drop, length, take}
-use Rattle.oss_model.specs.Broken.{first}
-use Rattle.oss_model.specs.Scopes.{or_else}
-use Rattle.oss_model.specs.StaticRules.{declare_all}
+use Rattle.oss_grammar.specs.Broken.{first}
+use Rattle.oss_grammar.specs.Scopes.{or_else}
+use Rattle.oss_grammar.specs.StaticRules.{declare_all}
 use Rattle.oss_names.proofs.statements.declare.Given as goal
 
 -- what the locals so far break comes before what those left break

@@ -1,5 +1,5 @@
 use Rattle.std.proofs.Common.{◌≡◌, ◌∙◌, refl, sym, true, false}
-use Rattle.oss_model.specs.Reading.{begins}
+use Rattle.oss_grammar.specs.Reading.{begins}
 use Rattle.oss_pragma.proofs.ExpressionLoops.{gives_err}
 use Rattle.oss_parse.specs.ProgramReading.{begins_program_item, read_program_items}
 use Rattle.oss_parse.proofs.ProgramLoops.{read_items_behind, repeats_items}

@@ -1,5 +1,5 @@
 use Rattle.std.proofs.Common.{◌≡◌, ◌<◌, ◌∙◌, arith, subst, sym, true, false, refl}
-use Rattle.oss_model.specs.Reading.{begins}
+use Rattle.oss_grammar.specs.Reading.{begins}
 use Rattle.oss_pragma.specs.Told.{Gives}
 use Rattle.oss_pragma.proofs.ExpressionLoops.{gives_err}
 use Rattle.oss_parse.specs.Inner.{read_parts_behind}

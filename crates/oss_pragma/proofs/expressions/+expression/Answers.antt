@@ -1,5 +1,5 @@
 use Rattle.std.proofs.Common.{◌≡◌, ◌<◌, ◌∙◌, arith, codes, subst, sym, true, false}
-use Rattle.oss_model.specs.Reading.{begins, has}
+use Rattle.oss_grammar.specs.Reading.{begins, has}
 use Rattle.oss_pragma.specs.ExpressionReading.{read_more, read_operations}
 use Rattle.oss_pragma.specs.TokenValues.{operator_at, symbol_at}
 use Rattle.oss_pragma.specs.Told.{Gives}

@@ -1,6 +1,6 @@
 use Rattle.std.proofs.Common.{◌≡◌, length}
-use Rattle.oss_model.specs.Reading.{from_count}
-use Rattle.oss_model.specs.Levels.{is_operator}
+use Rattle.oss_grammar.specs.Reading.{from_count}
+use Rattle.oss_grammar.specs.Levels.{is_operator}
 use Rattle.oss_pragma.proofs.limits.excess.Given as goal
 
 -- behind the tokens so far the same is found as from the start

@@ -1,5 +1,5 @@
 use Rattle.std.proofs.Common.{◌≡◌, ◌∙◌, [], sym}
-use Rattle.oss_model.specs.Levels.{is_operator}
+use Rattle.oss_grammar.specs.Levels.{is_operator}
 use Rattle.oss_pragma.proofs.SightLemmas.{over_none, over_some}
 use Rattle.oss_pragma.proofs.limits.over.Goals as goal
 

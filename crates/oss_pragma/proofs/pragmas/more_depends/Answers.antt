@@ -1,5 +1,5 @@
 use Rattle.std.proofs.Common.{◌≡◌, ◌∙◌, sym, true, false}
-use Rattle.oss_model.specs.Reading.{begins}
+use Rattle.oss_grammar.specs.Reading.{begins}
 use Rattle.oss_pragma.specs.PragmaReading.{goes_on_with_depend, read_more_depends}
 use Rattle.oss_pragma.proofs.ExpressionLoops.{gives_err}
 use Rattle.oss_pragma.proofs.PragmaLoops.{repeats_depends}

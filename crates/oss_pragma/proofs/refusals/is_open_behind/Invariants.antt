@@ -1,5 +1,5 @@
 use Rattle.std.proofs.Common.{◌≡◌, drop, false}
-use Rattle.oss_model.specs.Refusals.{is_open_behind}
+use Rattle.oss_grammar.specs.Refusals.{is_open_behind}
 use Rattle.oss_pragma.proofs.refusals.is_open_behind.Given as goal
 
 -- what is found of the tokens that are left is what is found of all

@@ -1,5 +1,5 @@
 use Rattle.std.proofs.Common.{◌≡◌, ◌∙◌, codes, sym, true, false}
-use Rattle.oss_model.specs.Reading.{begins, has}
+use Rattle.oss_grammar.specs.Reading.{begins, has}
 use Rattle.oss_pragma.specs.ExpressionReading.{read_more}
 use Rattle.oss_pragma.specs.TokenValues.{symbol_at}
 use Rattle.oss_pragma.proofs.ExpressionLoops.{gives_err}

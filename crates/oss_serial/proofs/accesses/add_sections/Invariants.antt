@@ -1,5 +1,5 @@
 use Rattle.std.proofs.Common.{◌≡◌, ◌++◌, drop}
-use Rattle.oss_model.specs.Scalars.{section_accesses}
+use Rattle.oss_serial.specs.Scalars.{section_accesses}
 use Rattle.oss_serial.proofs.accesses.add_sections.Given as goal
 
 abbrev pub invariant-loop-section : goal.invariant-loop-section

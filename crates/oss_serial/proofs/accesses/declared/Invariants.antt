@@ -1,5 +1,5 @@
 use Rattle.std.proofs.Common.{◌≡◌, ◌++◌, drop}
-use Rattle.oss_model.specs.Scalars.{mark_accesses}
+use Rattle.oss_serial.specs.Scalars.{mark_accesses}
 use Rattle.oss_serial.proofs.accesses.declared.Given as goal
 
 abbrev pub invariant-loop-clause : goal.invariant-loop-clause

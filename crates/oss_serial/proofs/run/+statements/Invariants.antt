@@ -1,5 +1,5 @@
 use Rattle.std.proofs.Common.{◌≡◌, drop}
-use Rattle.oss_model.specs.Scalars.{runs_of}
+use Rattle.oss_serial.specs.Scalars.{runs_of}
 use Rattle.oss_serial.proofs.run.+statements.Given as goal
 
 -- what is left has, from here, the ending of the whole

@@ -1,5 +1,5 @@
 use Rattle.std.proofs.Common.{◌≡◌, drop}
-use Rattle.oss_model.specs.Scalars.{main_body}
+use Rattle.oss_serial.specs.Scalars.{main_body}
 use Rattle.oss_serial.proofs.run.main_statements.Given as goal
 
 -- no function so far is `main`

@@ -1,5 +1,5 @@
 use Rattle.std.proofs.Common.{◌≡◌, ◌++◌, drop}
-use Rattle.oss_model.specs.Scalars.{first_cells}
+use Rattle.oss_serial.specs.Scalars.{first_cells}
 use Rattle.oss_serial.proofs.variables.cells_at_start.Given as goal
 
 abbrev pub invariant-loop-item : goal.invariant-loop-item

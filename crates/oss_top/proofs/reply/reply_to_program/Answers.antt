@@ -1,6 +1,6 @@
 use Rattle.std.proofs.Common.{◌≡◌, ◌∙◌, ap, false, sym, subst, true}
-use Rattle.oss_model.specs.Built.{is_built}
-use Rattle.oss_model.specs.Scalars.{answer_of}
+use Rattle.oss_grammar.specs.Built.{is_built}
+use Rattle.oss_serial.specs.Scalars.{answer_of}
 use Rattle.oss_top.specs.CommandWords.{meant}
 use Rattle.oss_top.specs.Reply.{IsAnswerReply, IsProgramReply, run_fuel}
 use Rattle.oss_top.specs.Reply.IsProgramReply.{checked, ran, not_built}

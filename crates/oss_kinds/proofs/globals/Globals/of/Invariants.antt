@@ -1,5 +1,5 @@
 use Rattle.std.proofs.Common.{◌≡◌, take, map}
-use Rattle.oss_model.specs.Scopes.{item_name}
+use Rattle.oss_grammar.specs.Scopes.{item_name}
 use Rattle.oss_kinds.specs.Tables.{Tells}
 use Rattle.oss_kinds.proofs.globals.Globals.of.Given as goal
 

@@ -1,5 +1,5 @@
 use Rattle.std.proofs.Common.{◌≡◌, ◌-◌, ◌∙◌, ap, arith, get_or, length}
-use Rattle.oss_model.specs.Layout.{cells_in}
+use Rattle.oss_grammar.specs.Layout.{cells_in}
 use Rattle.oss_names.proofs.LayoutLemmas.{bounds-many, last-bound}
 use Rattle.oss_names.proofs.known.Known.cells.Goals as goal
 

@@ -1,5 +1,5 @@
 use Rattle.std.proofs.Common.{◌≡◌, ◌-◌, ◌∙◌, ap, arith, length}
-use Rattle.oss_model.specs.Layout.{sizes_of}
+use Rattle.oss_grammar.specs.Layout.{sizes_of}
 use Rattle.oss_names.proofs.LayoutLemmas.{bounds-many, sizes-few}
 use Rattle.oss_names.proofs.known.Known.globals.Goals as goal
 

@@ -1,5 +1,5 @@
 use Rattle.std.proofs.Common.{◌+◌, ◌<◌, ◌∙◌, ap, arith, length, subst, sym}
-use Rattle.oss_model.specs.Layout.{sizes_of, start_of}
+use Rattle.oss_grammar.specs.Layout.{sizes_of, start_of}
 use Rattle.oss_names.proofs.LayoutLemmas.{bound-fits, bound-is, bounds-many, bounds-rise}
 use Rattle.oss_names.proofs.known.Known.place.Goals as goal
 

@@ -1,5 +1,5 @@
 use Rattle.std.proofs.Common.{◌≡◌, ◌∙◌, ap, sym, arith}
-use Rattle.oss_model.specs.Levels.{is_operator}
+use Rattle.oss_grammar.specs.Levels.{is_operator}
 use Rattle.oss_pragma.specs.Sights.{Sight}
 use Rattle.oss_pragma.proofs.SightLemmas.{shown_none}
 use Rattle.oss_pragma.proofs.counted.Counted.first.Goals as goal

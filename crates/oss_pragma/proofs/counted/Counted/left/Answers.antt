@@ -1,5 +1,5 @@
 use Rattle.std.proofs.Common.{◌++◌, ◌∙◌, ap}
-use Rattle.oss_model.specs.Levels.{is_operator}
+use Rattle.oss_grammar.specs.Levels.{is_operator}
 use Rattle.oss_pragma.specs.Sights.{Sight}
 use Rattle.oss_pragma.proofs.SightLemmas.{all_shown}
 use Rattle.oss_pragma.proofs.counted.Counted.left.Goals as goal

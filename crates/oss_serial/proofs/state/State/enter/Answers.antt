@@ -1,5 +1,5 @@
 use Rattle.std.proofs.Common.{Err, subst}
-use Rattle.oss_model.specs.Scalars.{State}
+use Rattle.oss_serial.specs.Scalars.{State}
 use Rattle.oss_serial.specs.Endings.{EntersTask}
 use Rattle.oss_serial.proofs.RunLemmas.{enter-refused}
 use Rattle.oss_serial.proofs.state.State.enter.Goals as goal

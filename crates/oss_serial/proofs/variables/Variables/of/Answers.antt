@@ -1,7 +1,7 @@
 use Rattle.std.proofs.Common.{◌≡◌, ◌∷◌, ◌++◌, ◌∙◌, [], ◌+◌, ap, length, sym, take, arith}
 use Rattle.std.specs.HashMap.{get_by}
 use Rattle.std.specs.Str.{bytes_eq}
-use Rattle.oss_model.specs.Scalars.{names_of, place_of}
+use Rattle.oss_serial.specs.Scalars.{names_of, place_of}
 use Rattle.oss_serial.proofs.PlaceLemmas.{kinds-function, kinds-global, kinds-take, length-kinds_of, names-function, names-global}
 use Rattle.oss_serial.proofs.variables.Variables.of.Goals as goal
 use Rattle.oss_serial.proofs.variables.Variables.of.Goals.{in-Global+in_ok-note-in-Global+in_ok-push-in-Global, in-Function}

@@ -1,6 +1,6 @@
 use Rattle.std.proofs.Common.{◌≡◌, take}
 use Rattle.oss_serial.specs.Places.{Tells}
-use Rattle.oss_model.specs.Scalars.{names_of, kinds_of}
+use Rattle.oss_serial.specs.Scalars.{names_of, kinds_of}
 use Rattle.oss_serial.proofs.variables.Variables.of.Given as goal
 
 -- the globals so far are noted

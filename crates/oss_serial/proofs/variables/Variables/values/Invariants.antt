@@ -1,5 +1,5 @@
 use Rattle.std.proofs.Common.{◌≡◌, ◌++◌, drop, Ok}
-use Rattle.oss_model.specs.Scalars.{values_of, and_then}
+use Rattle.oss_serial.specs.Scalars.{values_of, and_then}
 use Rattle.oss_serial.proofs.variables.Variables.values.Given as goal
 
 -- the values so far stand before those of what is left
