@@ -1,4 +1,5 @@
 pub mod Faults
+pub mod Opened
 pub mod Plan
 pub mod ShelfView
 pub mod SinkView

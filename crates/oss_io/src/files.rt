@@ -1,12 +1,14 @@
 // Real files.
-ghost use Rattle.std.specs.Prelude.{◌≡◌, ℕ, ◌<◌, ◌≤◌, List, [], ◌++◌, None, length, take, IfOk, IfSome, OnOk, OnErr};
+ghost use Rattle.std.specs.Prelude.{◌≡◌, ◌≢◌, ℕ, ◌+◌, ◌-◌, ◌^◌, ◌<◌, ◌≤◌, min, List, [], ◌++◌, None, length, take, IfOk, IfSome, OnOk, OnErr, string_bytes};
 ghost use Rattle.std.specs.Io.{ReadsAtMost};
 ghost use Rattle.std.specs.Io.KnownBytes.{Consumes, IsAtEnd};
+ghost use Rattle.oss_io.specs.Faults.{Rises};
+ghost use Rattle.oss_io.specs.Opened.{OfOpened};
 
 use crate::{Shelf, ShelfFault};
 use std::alloc::Global;
 use std::fs::File;
-use std::io::{ErrorKind, Read};
+use std::io::{self, ErrorKind, Read};
 use std::marker::Model;
 use std::rt::Files;
 
@@ -19,16 +21,15 @@ const PIECE: usize = 4096;
 pub struct FileShelf<'a, R: Files> {
     alloc: Global,
     files: &'a R,
-    faults: u64,
-    last: String,
+    faults: FaultRecord,
 }
 
 impl<'a, R: Files> Model for FileShelf<'a, R> {
-    ghost use Rattle.std.specs.Prelude.{List, ℕ, string_bytes};
+    ghost use Rattle.std.specs.Prelude.{List, ℕ};
 
     ghost Value = { ℕ × List ℕ };
 
-    ghost view = { λ shelf. (shelf.faults, string_bytes shelf.last) };
+    ghost view = { λ shelf. shelf.faults };
 }
 
 impl<'a, R: Files> FileShelf<'a, R> {
@@ -39,9 +40,37 @@ impl<'a, R: Files> FileShelf<'a, R> {
         FileShelf {
             alloc,
             files,
-            faults: 0,
-            last: String::new(alloc),
+            faults: FaultRecord {
+                count: 0,
+                last: String::new(alloc),
+            },
         }
+    }
+}
+
+// How often the outside has failed, and the name at which it failed last.
+#[derive(Drop)]
+struct FaultRecord {
+    count: u64,
+    last: String,
+}
+
+impl Model for FaultRecord {
+    ghost use Rattle.std.specs.Prelude.{List, ℕ, string_bytes};
+
+    ghost Value = { ℕ × List ℕ };
+
+    ghost view = { λ faults. (faults.count, string_bytes faults.last) };
+}
+
+impl FaultRecord {
+    fn note(&mut self, name: String)
+        ensures rises { Rises self.old.0 self.new.0 }
+        ensures once { self.new.0 ≡ min (self.old.0 + 1) (2 ^ 64 - 1) }
+        ensures last { self.new.1 ≡ string_bytes name }
+    {
+        self.count = self.count.saturating_add(1);
+        self.last = name;
     }
 }
 
@@ -86,16 +115,53 @@ fn read_whole<F: Read>(file: &mut F, limit: usize, into: &mut Vec<u8>) -> Result
     Err(ShelfFault::Failed)
 }
 
-fn read_file<R: Files>(
-    files: &R,
+// Reads what was opened under a name, or tells that it was not opened. Room for the name of a fault is taken first, so
+// that no fault lacks its name.
+fn read_opened<F: Read + Drop>(
+    alloc: Global,
     name: &str,
+    opened: io::Result<F>,
+    limit: usize,
+    into: &mut Vec<u8>,
+    faults: &mut FaultRecord,
+) -> Result<(), ShelfFault>
+    requires { into.old.items ≡ [] }
+    ensures whole { OnOk result (OfOpened opened (λ file. IfSome (F.remaining file) (λ bytes. into.new.items ≡ bytes))) }
+    ensures within { OnOk result (length into.new.items ≤ limit) }
+    ensures empty { OnErr result (into.new.items ≡ []) }
+    ensures failed { result ≡ Err ShelfFault.Failed
+        → Rises faults.old.0 faults.new.0 × (faults.new.1 ≡ name.now) }
+    ensures once { result ≡ Err ShelfFault.Failed → faults.new.0 ≡ min (faults.old.0 + 1) (2 ^ 64 - 1) }
+    ensures count { result ≢ Err ShelfFault.Failed → faults.new ≡ faults.old }
+    ensures too_long { result ≡ Err ShelfFault.TooLong
+        → OfOpened opened (λ file. IfSome (F.remaining file) (λ bytes. limit < length bytes)) }
+{
+    let noted = String::from_str(alloc, name).map_err(ShelfFault::Memory)?;
+    match read_if_opened(opened, limit, into) {
+        Ok(()) => Ok(()),
+        Err(fault) => {
+            into.clear();
+            if let ShelfFault::Failed = fault {
+                faults.note(noted);
+            }
+            Err(fault)
+        }
+    }
+}
+
+// Reads to the end of what was opened. Where it fails, some of the bytes may be there.
+fn read_if_opened<F: Read + Drop>(
+    opened: io::Result<F>,
     limit: usize,
     into: &mut Vec<u8>,
 ) -> Result<(), ShelfFault>
     requires { into.old.items ≡ [] }
-    ensures { OnOk result (length into.new.items ≤ limit) }
+    ensures whole { OnOk result (OfOpened opened (λ file. IfSome (F.remaining file) (λ bytes. into.new.items ≡ bytes))) }
+    ensures within { OnOk result (length into.new.items ≤ limit) }
+    ensures too_long { result ≡ Err ShelfFault.TooLong
+        → OfOpened opened (λ file. IfSome (F.remaining file) (λ bytes. limit < length bytes)) }
 {
-    match File::open(files, name) {
+    match opened {
         Ok(mut file) => read_whole(&mut file, limit, into),
         Err(_) => Err(ShelfFault::Failed),
     }
@@ -110,19 +176,8 @@ impl<'a, R: Files> Shelf for FileShelf<'a, R> {
 
     /// A file that can't be opened or read to its end fails.
     fn read(&mut self, name: &str, limit: usize, into: &mut Vec<u8>) -> Result<(), ShelfFault> {
-        // Room for the name of a fault first, so that no fault lacks its name.
-        let noted = String::from_str(self.alloc, name).map_err(ShelfFault::Memory)?;
-        match read_file(self.files, name, limit, into) {
-            Ok(()) => Ok(()),
-            Err(fault) => {
-                into.clear();
-                if let ShelfFault::Failed = fault {
-                    self.faults = self.faults.saturating_add(1);
-                    self.last = noted;
-                }
-                Err(fault)
-            }
-        }
+        let opened = File::open(self.files, name);
+        read_opened(self.alloc, name, opened, limit, into, &mut self.faults)
     }
 }
 
@@ -147,13 +202,13 @@ mod tests {
         let answer = shelf.read("shelf_file.txt", 3, &mut into);
         assert_eq!(rt; answer, Err(ShelfFault::TooLong));
         assert!(rt; into.is_empty());
-        assert_eq!(rt; shelf.faults, 0);
+        assert_eq!(rt; shelf.faults.count, 0);
 
         for (name, faults) in [("shelf_missing.txt", 1), ("shelf_folder", 2)] {
             let mut into = Vec::new(alloc);
             assert_eq!(rt; shelf.read(name, 9, &mut into), Err(ShelfFault::Failed));
-            assert_eq!(rt; shelf.faults, faults);
-            assert_eq!(rt; shelf.last.as_str(), name);
+            assert_eq!(rt; shelf.faults.count, faults);
+            assert_eq!(rt; shelf.faults.last.as_str(), name);
         }
         fs::remove_dir(&rt, "shelf_folder")?;
         fs::remove_file(&rt, "shelf_file.txt")?;

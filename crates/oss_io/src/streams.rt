@@ -1,6 +1,7 @@
 // Standard output and error, and other writers of the system.
-ghost use Rattle.std.specs.Prelude.{◌≡◌, ◌<◌, ◌≤◌, [], None, length, take, IfOk, OnOk, OnErr};
+ghost use Rattle.std.specs.Prelude.{◌≡◌, ◌+◌, ◌-◌, ◌^◌, ◌<◌, ◌≤◌, min, [], None, length, take, IfOk, OnOk, OnErr};
 ghost use Rattle.std.specs.Io.KnownBytes.{Appends, Keeps};
+ghost use Rattle.oss_io.specs.Faults.{Rises};
 
 use crate::{Sink, SinkFault};
 use std::io::{ErrorKind, Write};
@@ -51,6 +52,29 @@ fn write_piece<W: Write>(out: &mut W, bytes: &[u8]) -> Result<usize, SinkFault>
     Err(SinkFault::Failed)
 }
 
+// All that the sink does of a piece, which it takes or counts as a fault. An empty piece is taken without a call of the
+// writer.
+fn write_counted<W: Write>(out: &mut W, bytes: &[u8], faults: &mut u64) -> Result<usize, SinkFault>
+    ensures taken { IfOk result (λ count.
+        Appends (W.contents out.old) (W.contents out.new) (take count bytes.now)) }
+    ensures within { IfOk result (λ count. count ≤ length bytes.now) }
+    ensures some { IfOk result (λ count. 0 < length bytes.now → 0 < count) }
+    ensures nothing { bytes.now ≡ [] → result ≡ Ok 0 }
+    ensures count { OnOk result (faults.new ≡ faults.old) }
+    ensures failed { OnErr result (Keeps (W.contents out.old) (W.contents out.new)) }
+    ensures cause { OnErr result (Rises faults.old faults.new) }
+    ensures once { OnErr result (faults.new ≡ min (faults.old + 1) (2 ^ 64 - 1)) }
+{
+    if bytes.is_empty() {
+        return Ok(0);
+    }
+    let result = write_piece(out, bytes);
+    if result.is_err() {
+        *faults = faults.saturating_add(1);
+    }
+    result
+}
+
 impl<W: Write + Drop> Sink for StdSink<W> {
     ghost taken = { λ _. None };
 
@@ -58,14 +82,7 @@ impl<W: Write + Drop> Sink for StdSink<W> {
 
     /// A writer that fails, or takes nothing of a piece that isn't empty, is a fault.
     fn write(&mut self, bytes: &[u8]) -> Result<usize, SinkFault> {
-        if bytes.is_empty() {
-            return Ok(0);
-        }
-        let result = write_piece(&mut self.out, bytes);
-        if result.is_err() {
-            self.faults = self.faults.saturating_add(1);
-        }
-        result
+        write_counted(&mut self.out, bytes, &mut self.faults)
     }
 }
 
