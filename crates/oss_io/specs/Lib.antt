@@ -3,3 +3,4 @@ pub mod Opened
 pub mod Plan
 pub mod ShelfView
 pub mod SinkView
+pub mod Spans
