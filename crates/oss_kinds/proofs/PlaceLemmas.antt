@@ -1,5 +1,5 @@
 -- The first place of a name, with one more name at the end.
-use Rattle.std.proofs.Common.{◌≡◌, ℕ, if◌then◌else◌, Bool, true, false, cond, List, [], ◌∷◌, ◌++◌, length, refl, sym, ap, ◌∙◌, arith, ◌≤◌, nat_lt, not, subst, true≢false, Option, Some, None, is_some, position, length-append}
+use Rattle.std.proofs.Common.{◌≡◌, ℕ, ◌<◌, if◌then◌else◌, Bool, true, false, cond, IfSome, List, [], ◌∷◌, ◌++◌, length, refl, sym, ap, ◌∙◌, arith, ◌≤◌, nat_lt, not, subst, true≢false, Option, Some, None, is_some, position, length-append}
 use Rattle.std.specs.List.{position_or_len}
 use Rattle.std.proofs.lemmas.Slice.Eq.{bytes_eq-Decides}
 use Rattle.std.proofs.lemmas.List.Sums.{prefix_len-le-length}
@@ -8,11 +8,9 @@ use Rattle.std.proofs.lemmas.List.Folds.{position_or_len_push}
 use Rattle.std.specs.Borrow.{Bor}
 use Rattle.std.specs.Str.{bytes_eq}
 use Rattle.std.proofs.lemmas.Map.Text.{hash_map_updates_str}
-use Rattle.indexmap.specs.IndexMap.{IndexMap, get_by, UpdatesBy}
-use Rattle.oss_kinds.specs.Tables.{Tells}
-
-abbrev place_in : List (List ℕ) → List ℕ → Option ℕ
-place_in names name = position (λ other. bytes_eq other name) names
+use Rattle.std.specs.Map.{lookup}
+use Rattle.indexmap.specs.IndexMap.{IndexMap, get_by, IsUnchanged, UpdatesBy}
+use Rattle.oss_kinds.specs.Tables.{HasFirstPlaces, place_among}
 
 -- the first element of a list and one more that passes
 position-push : {X : Type 0} (p : X → Bool) (xs : List X) (y : X) (n m : ℕ) (b : Bool) → position_or_len p xs ≡ n → length xs ≡ m → p y ≡ b → n ≤ m
@@ -30,7 +28,7 @@ found-first : (b : Bool) (n m : ℕ) (is_it : Bool) → (if b then Some n else (
 found-first true n m is_it = refl
 found-first false n m is_it = refl
 
-place-push : (names : List (List ℕ)) (more name : List ℕ) → place_in (names ++ more ∷ []) name ≡ with_place (place_in names name) (bytes_eq more name) (length names)
+place-push : (names : List (List ℕ)) (more name : List ℕ) → place_among (names ++ more ∷ []) name ≡ with_place (place_among names name) (bytes_eq more name) (length names)
 place-push names more name =
     let passes : List ℕ → Bool = λ other. bytes_eq other name in
     let before = position_or_len passes names in
@@ -49,18 +47,32 @@ new-place None true place h = refl
 new-place None false place h = refl
 
 -- a name that is noted has its place already
-pub stays : {S : Type 0} (m : IndexMap (Bor (List ℕ)) ℕ S) (names : List (List ℕ)) (more : List ℕ) → is_some (get_by (λ key. bytes_eq more key.now) m) ≡ true → Tells m names → Tells m (names ++ more ∷ [])
+pub stays : {S : Type 0} (m : IndexMap (Bor (List ℕ)) ℕ S) (names : List (List ℕ)) (more : List ℕ) → is_some (get_by (λ key. bytes_eq more key.now) m) ≡ true → HasFirstPlaces m names → HasFirstPlaces m (names ++ more ∷ [])
 stays m names more known told name =
-    let Known : List ℕ → Type 0 = λ q. is_some (place_in names q) ≡ true in
+    let Known : List ℕ → Type 0 = λ q. is_some (place_among names q) ≡ true in
     let here : Known more = sym (ap is_some (told more)) ∙ known in
-    told name ∙ old-place (place_in names name) (bytes_eq more name) (length names) (λ e. subst Known ((bytes_eq-Decides more name).0 e) here) ∙ sym (place-push names more name)
+    told name ∙ old-place (place_among names name) (bytes_eq more name) (length names) (λ e. subst Known ((bytes_eq-Decides more name).0 e) here) ∙ sym (place-push names more name)
 
 -- a new name takes the next place
 pub noted : {S : Type 0} (m n : IndexMap (Bor (List ℕ)) ℕ S) (more : List ℕ) (names : List (List ℕ)) (place : ℕ) → is_some (get_by (λ key. bytes_eq more key.now) m) ≡ false
-    → UpdatesBy (λ x y. bytes_eq x.now y.now) (λ key. bytes_eq more key.now) m n (Some place) → length names ≡ place → Tells m names → Tells n (names ++ more ∷ [])
+    → UpdatesBy (λ x y. bytes_eq x.now y.now) (λ key. bytes_eq more key.now) m n (Some place) → length names ≡ place → HasFirstPlaces m names → HasFirstPlaces n (names ++ more ∷ [])
 noted m n more names place fresh updates size told name =
-    let New : List ℕ → Type 0 = λ q. is_some (place_in names q) ≡ false in
+    let New : List ℕ → Type 0 = λ q. is_some (place_among names q) ≡ false in
     let here : New more = sym (ap is_some (told more)) ∙ fresh in
     hash_map_updates_str more m n (Some place) updates name ∙ ap (λ o. cond (bytes_eq more name) (Some place) o) (told name)
-    ∙ new-place (place_in names name) (bytes_eq more name) place (λ e. subst New ((bytes_eq-Decides more name).0 e) here)
-    ∙ ap (λ k. with_place (place_in names name) (bytes_eq more name) k) (sym size) ∙ sym (place-push names more name)
+    ∙ new-place (place_among names name) (bytes_eq more name) place (λ e. subst New ((bytes_eq-Decides more name).0 e) here)
+    ∙ ap (λ k. with_place (place_among names name) (bytes_eq more name) k) (sym size) ∙ sym (place-push names more name)
+
+-- a table that keeps its entries keeps its places
+pub kept : {S : Type 0} (m n : IndexMap (Bor (List ℕ)) ℕ S) (names : List (List ℕ)) → IsUnchanged m n → HasFirstPlaces m names → HasFirstPlaces n names
+kept m n names same told name = ap (λ es. lookup (λ key. bytes_eq name key.now) es) same ∙ told name
+
+-- a place is one of the list
+within : (n m : ℕ) (b : Bool) → nat_lt n m ≡ b → IfSome (cond b (Some n) None) (λ i. i < m)
+within n m true e = grind (arith, nat_tests)
+within n m false e = tt
+
+pub place-within : (names : List (List ℕ)) (name : List ℕ) → IfSome (place_among names name) (λ i. i < length names)
+place-within names name =
+    let passes : List ℕ → Bool = λ other. bytes_eq other name in
+    within (position_or_len passes names) (length names) (nat_lt (position_or_len passes names) (length names)) refl

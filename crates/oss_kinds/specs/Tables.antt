@@ -1,9 +1,14 @@
--- A table of names tells the first place of each.
-use Rattle.std.specs.Prelude.{◌≡◌, ℕ, List, position}
+-- Tables of names. A name may stand more than once in a list, and its place is that of the first.
+-- Read against: among `a`, `b`, `a` the place of `a` is 0 and that of `b` is 1, and `c` has none; a table of these names holds two.
+use Rattle.std.specs.Prelude.{◌≡◌, ℕ, List, Option, position}
 use Rattle.std.specs.Borrow.{Bor}
 use Rattle.std.specs.Str.{bytes_eq}
 use Rattle.indexmap.specs.IndexMap.{IndexMap, get_by}
 
+-- the place of a name among names
+abbrev pub place_among : List (List ℕ) → List ℕ → Option ℕ
+place_among names name = position (λ other. bytes_eq other name) names
+
 -- the table has the first place of each of these names, and no other name
-abbrev pub Tells : {S : Type 0} → IndexMap (Bor (List ℕ)) ℕ S → List (List ℕ) → Type 0
-Tells table names = (name : List ℕ) → get_by (λ key. bytes_eq name key.now) table ≡ position (λ other. bytes_eq other name) names
+abbrev pub HasFirstPlaces : {S : Type 0} → IndexMap (Bor (List ℕ)) ℕ S → List (List ℕ) → Type 0
+HasFirstPlaces table names = (name : List ℕ) → get_by (λ key. bytes_eq name key.now) table ≡ place_among names name

@@ -141,9 +141,7 @@ fn refusal_of_call(
             Some(function) => refusal_of_callee(function, line, as_statement, count),
             None => None,
         },
-        Named::Local(_) => Some(refused(RefusedKind::WrongKind, line)),
-        Named::Scalar(_) => Some(refused(RefusedKind::WrongKind, line)),
-        Named::Array(_) => Some(refused(RefusedKind::WrongKind, line)),
+        _ => Some(refused(RefusedKind::WrongKind, line)),
     }
 }
 
@@ -179,10 +177,7 @@ fn parameters<'p>(named: Named, function: Option<&'p Function>) -> &'p [Local]
             Some(function) => function.params.as_slice(),
             None => &[],
         },
-        Named::Missing => &[],
-        Named::Local(_) => &[],
-        Named::Scalar(_) => &[],
-        Named::Array(_) => &[],
+        _ => &[],
     }
 }
 
@@ -194,9 +189,6 @@ fn kind_of_call(named: Named, function: Option<&Function>) -> ValueKind
             Some(function) => kind_of(function.result),
             None => ValueKind::Unknown,
         },
-        Named::Missing => ValueKind::Unknown,
-        Named::Local(_) => ValueKind::Unknown,
-        Named::Scalar(_) => ValueKind::Unknown,
-        Named::Array(_) => ValueKind::Unknown,
+        _ => ValueKind::Unknown,
     }
 }

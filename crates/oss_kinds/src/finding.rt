@@ -52,10 +52,7 @@ fn place_in_table(kind: RefusedKind) -> u8
         RefusedKind::BadJump => 4,
         RefusedKind::TooLarge => 5,
         RefusedKind::NoMain => 6,
-        RefusedKind::Lexical => 7,
-        RefusedKind::Syntax => 7,
-        RefusedKind::BadPragma => 7,
-        RefusedKind::Unsupported => 7,
+        _ => 7,
     }
 }
 
@@ -132,60 +129,7 @@ fn are_same(one: NumKind, other: NumKind) -> bool
         (NumKind::Int, NumKind::Int) => true,
         (NumKind::Long, NumKind::Long) => true,
         (NumKind::Ulong, NumKind::Ulong) => true,
-        (NumKind::Int, NumKind::Long) => false,
-        (NumKind::Int, NumKind::Ulong) => false,
-        (NumKind::Long, NumKind::Int) => false,
-        (NumKind::Long, NumKind::Ulong) => false,
-        (NumKind::Ulong, NumKind::Int) => false,
-        (NumKind::Ulong, NumKind::Long) => false,
-    }
-}
-
-fn takes_number(kind: ValueKind) -> bool
-    ensures { result ≡ allows Wanted.Number kind }
-{
-    match kind {
-        ValueKind::Signed => true,
-        ValueKind::Unsigned => true,
-        ValueKind::Pointer(_) => false,
-        ValueKind::Nothing => false,
-        ValueKind::Unknown => true,
-    }
-}
-
-fn takes_pointer(kind: ValueKind) -> bool
-    ensures { result ≡ allows Wanted.Pointer kind }
-{
-    match kind {
-        ValueKind::Signed => false,
-        ValueKind::Unsigned => false,
-        ValueKind::Pointer(_) => true,
-        ValueKind::Nothing => false,
-        ValueKind::Unknown => true,
-    }
-}
-
-fn takes_either(kind: ValueKind) -> bool
-    ensures { result ≡ allows Wanted.NumberOrPointer kind }
-{
-    match kind {
-        ValueKind::Signed => true,
-        ValueKind::Unsigned => true,
-        ValueKind::Pointer(_) => true,
-        ValueKind::Nothing => false,
-        ValueKind::Unknown => true,
-    }
-}
-
-fn takes_pointer_to(number: NumKind, kind: ValueKind) -> bool
-    ensures { result ≡ allows (Wanted.PointerTo number) kind }
-{
-    match kind {
-        ValueKind::Signed => false,
-        ValueKind::Unsigned => false,
-        ValueKind::Pointer(other) => are_same(number, other),
-        ValueKind::Nothing => false,
-        ValueKind::Unknown => true,
+        _ => false,
     }
 }
 
@@ -193,12 +137,17 @@ fn takes_pointer_to(number: NumKind, kind: ValueKind) -> bool
 fn may_stand(wanted: Wanted, kind: ValueKind) -> bool
     ensures { result ≡ allows wanted kind }
 {
-    match wanted {
-        Wanted::Number => takes_number(kind),
-        Wanted::Pointer => takes_pointer(kind),
-        Wanted::NumberOrPointer => takes_either(kind),
-        Wanted::PointerTo(number) => takes_pointer_to(number, kind),
-        Wanted::Anything => true,
+    match (wanted, kind) {
+        (_, ValueKind::Unknown) => true,
+        (Wanted::Number, ValueKind::Signed) => true,
+        (Wanted::Number, ValueKind::Unsigned) => true,
+        (Wanted::Pointer, ValueKind::Pointer(_)) => true,
+        (Wanted::NumberOrPointer, ValueKind::Signed) => true,
+        (Wanted::NumberOrPointer, ValueKind::Unsigned) => true,
+        (Wanted::NumberOrPointer, ValueKind::Pointer(_)) => true,
+        (Wanted::PointerTo(one), ValueKind::Pointer(other)) => are_same(one, other),
+        (Wanted::Anything, _) => true,
+        _ => false,
     }
 }
 

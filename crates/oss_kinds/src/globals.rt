@@ -1,11 +1,10 @@
 //! The globals and functions of a program, by name.
-ghost use Rattle.std.specs.Prelude.{◌≡◌, ◌∷◌, ◌++◌, ℕ, List, [], length, slice_get, IfOk, OnOk};
+ghost use Rattle.std.specs.Prelude.{◌≡◌, IfOk};
 ghost use Rattle.std.specs.Option.{option_copied};
 ghost use Rattle.oss_grammar.specs.Scopes.{item_name, item_named, item_place, function_named, is_again, meaning, global_meaning};
-ghost use Rattle.oss_kinds.specs.Tables.{Tells};
 
 use crate::locals::Locals;
-use indexmap::IndexMap;
+use crate::table::NameTable;
 use oss_grammar::Named;
 use oss_syntax::{Function, GlobalDef, Item, Name};
 use std::alloc::{AllocError, Global};
@@ -15,14 +14,13 @@ use std::marker::Model;
 #[derive(Drop)]
 pub struct Globals<'p> {
     items: &'p [Item],
-    places: IndexMap<&'p [u8], usize>,
+    names: NameTable<'p>,
 }
 
 impl<'p> Model for Globals<'p> {
-    ghost use Rattle.std.specs.Prelude.{List, map};
+    ghost use Rattle.std.specs.Prelude.{◌≡◌, List, map};
     ghost use Rattle.oss_syntax.specs.declared.tree.program.Item.{Item};
     ghost use Rattle.oss_grammar.specs.Scopes.{item_name};
-    ghost use Rattle.oss_kinds.specs.Tables.{Tells};
     ghost use Rattle.std.specs.Coded.{coded_list};
     ghost use Rattle.oss_syntax.specs.contracts.tree.program.Item as item;
 
@@ -32,7 +30,7 @@ impl<'p> Model for Globals<'p> {
 
     ghost view = { λ g. g.items.now };
 
-    ghost invariant = { λ g. Tells g.places (map item_name g.items.now) };
+    ghost invariant = { λ g. g.names ≡ map item_name g.items.now };
 }
 
 impl<'p> Globals<'p> {
@@ -40,20 +38,18 @@ impl<'p> Globals<'p> {
     pub fn of(alloc: Global, items: &'p [Item]) -> Result<Globals<'p>, AllocError>
         ensures { IfOk result (λ globals. globals ≡ items.now) }
     {
-        let mut places = IndexMap::new(alloc);
-        let mut place = 0usize;
+        let mut names = NameTable::new(alloc);
         for item in items {
-            note(&mut places, name_of(item).as_slice(), place)?;
-            place += 1;
+            names.add(name_of(item).as_slice())?;
         }
-        Ok(Globals { items, places })
+        Ok(Globals { items, names })
     }
 
     /// The place of the first item of this name.
     fn place(&self, name: &[u8]) -> Option<usize>
         ensures { result ≡ item_place self.now name.now }
     {
-        self.places.get(name).copied()
+        self.names.place(name)
     }
 
     /// The first item of this name; `None` where there is none.
@@ -119,18 +115,4 @@ pub fn name_of(item: &Item) -> &Name
         Item::Global(global) => &global.name,
         Item::Function(function) => &function.name,
     }
-}
-
-/// Notes the place of a name, which is the number of the names before it. The first place of a name stays.
-fn note<'p>(
-    places: &mut IndexMap<&'p [u8], usize>,
-    name: &'p [u8],
-    place: usize,
-) -> Result<(), AllocError>
-    ensures { OnOk result ((names : List (List ℕ)) → Tells places.old names → length names ≡ place → Tells places.new (names ++ name.now ∷ [])) }
-{
-    if !places.contains_key(name) {
-        places.insert(name, place)?;
-    }
-    Ok(())
 }

@@ -6,8 +6,10 @@ mod finding;
 mod globals;
 mod locals;
 mod operators;
+mod table;
 
 pub use expressions::{call, expression, is_named_main, value};
 pub use finding::{Finding, at_place, before, first_of, refused, refused_if, taken_by, wrong};
 pub use globals::Globals;
 pub use locals::Locals;
+pub use table::NameTable;

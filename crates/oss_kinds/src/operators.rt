@@ -28,10 +28,8 @@ fn refusal_of_name(named: Named, line: u32) -> Option<Refused>
 {
     match named {
         Named::Missing => Some(refused(RefusedKind::UnknownName, line)),
-        Named::Local(_) => None,
-        Named::Scalar(_) => None,
-        Named::Array(_) => None,
         Named::Function => Some(refused(RefusedKind::WrongKind, line)),
+        _ => None,
     }
 }
 
@@ -51,11 +49,9 @@ fn object_of_name(named: Named) -> Object
     ensures { result ≡ name_object named }
 {
     match named {
-        Named::Missing => Object::ValueOnly,
         Named::Local(kind) => Object::Variable(kind),
         Named::Scalar(number) => Object::Cell(number),
-        Named::Array(_) => Object::ValueOnly,
-        Named::Function => Object::ValueOnly,
+        _ => Object::ValueOnly,
     }
 }
 
@@ -64,10 +60,7 @@ fn kind_of_element(kind: ValueKind) -> ValueKind
 {
     match kind {
         ValueKind::Pointer(number) => kind_of_number(number),
-        ValueKind::Signed => ValueKind::Unknown,
-        ValueKind::Unsigned => ValueKind::Unknown,
-        ValueKind::Nothing => ValueKind::Unknown,
-        ValueKind::Unknown => ValueKind::Unknown,
+        _ => ValueKind::Unknown,
     }
 }
 
@@ -76,10 +69,7 @@ fn object_of_element(kind: ValueKind) -> Object
 {
     match kind {
         ValueKind::Pointer(number) => Object::Cell(number),
-        ValueKind::Signed => Object::ValueOnly,
-        ValueKind::Unsigned => Object::ValueOnly,
-        ValueKind::Nothing => Object::ValueOnly,
-        ValueKind::Unknown => Object::ValueOnly,
+        _ => Object::ValueOnly,
     }
 }
 
@@ -164,36 +154,18 @@ fn kind_of_address(kind: ValueKind, object: Object) -> ValueKind
 {
     match (kind, object) {
         (ValueKind::Unknown, _) => ValueKind::Unknown,
-        (ValueKind::Signed, Object::Cell(number)) => ValueKind::Pointer(number),
-        (ValueKind::Unsigned, Object::Cell(number)) => ValueKind::Pointer(number),
-        (ValueKind::Pointer(_), Object::Cell(number)) => ValueKind::Pointer(number),
-        (ValueKind::Nothing, Object::Cell(number)) => ValueKind::Pointer(number),
-        (ValueKind::Signed, _) => ValueKind::Unknown,
-        (ValueKind::Unsigned, _) => ValueKind::Unknown,
-        (ValueKind::Pointer(_), _) => ValueKind::Unknown,
-        (ValueKind::Nothing, _) => ValueKind::Unknown,
+        (_, Object::Cell(number)) => ValueKind::Pointer(number),
+        _ => ValueKind::Unknown,
     }
 }
 
 fn may_have_address(kind: ValueKind, object: Object) -> bool
     ensures { result ≡ has_address kind object }
 {
-    match kind {
-        ValueKind::Unknown => true,
-        ValueKind::Signed => is_cell(object),
-        ValueKind::Unsigned => is_cell(object),
-        ValueKind::Pointer(_) => is_cell(object),
-        ValueKind::Nothing => is_cell(object),
-    }
-}
-
-fn is_cell(object: Object) -> bool
-    ensures { result ≡ has_address ValueKind.Signed object }
-{
-    match object {
-        Object::ValueOnly => false,
-        Object::Cell(_) => true,
-        Object::Variable(_) => false,
+    match (kind, object) {
+        (ValueKind::Unknown, _) => true,
+        (_, Object::Cell(_)) => true,
+        _ => false,
     }
 }
 
@@ -219,22 +191,7 @@ fn wanted_on_the_left(op: BinOp) -> Wanted
     match op {
         BinOp::Add => Wanted::NumberOrPointer,
         BinOp::Sub => Wanted::NumberOrPointer,
-        BinOp::OrElse => Wanted::Number,
-        BinOp::AndAlso => Wanted::Number,
-        BinOp::Or => Wanted::Number,
-        BinOp::Xor => Wanted::Number,
-        BinOp::And => Wanted::Number,
-        BinOp::Equal => Wanted::Number,
-        BinOp::Differ => Wanted::Number,
-        BinOp::Less => Wanted::Number,
-        BinOp::LessEqual => Wanted::Number,
-        BinOp::More => Wanted::Number,
-        BinOp::MoreEqual => Wanted::Number,
-        BinOp::Left => Wanted::Number,
-        BinOp::Right => Wanted::Number,
-        BinOp::Mul => Wanted::Number,
-        BinOp::Div => Wanted::Number,
-        BinOp::Rem => Wanted::Number,
+        _ => Wanted::Number,
     }
 }
 
@@ -252,14 +209,7 @@ fn kind_of_binary(op: BinOp, left: ValueKind, right: ValueKind) -> ValueKind
         BinOp::MoreEqual => ValueKind::Signed,
         BinOp::Left => left,
         BinOp::Right => left,
-        BinOp::Or => kind_of_both(left, right),
-        BinOp::Xor => kind_of_both(left, right),
-        BinOp::And => kind_of_both(left, right),
-        BinOp::Add => kind_of_both(left, right),
-        BinOp::Sub => kind_of_both(left, right),
-        BinOp::Mul => kind_of_both(left, right),
-        BinOp::Div => kind_of_both(left, right),
-        BinOp::Rem => kind_of_both(left, right),
+        _ => kind_of_both(left, right),
     }
 }
 
@@ -279,10 +229,7 @@ fn unless_it_is_unknown(right: ValueKind, kind: ValueKind) -> ValueKind
     ensures { result ≡ unless_unknown right kind }
 {
     match right {
-        ValueKind::Signed => kind,
-        ValueKind::Unsigned => kind,
-        ValueKind::Pointer(_) => kind,
-        ValueKind::Nothing => kind,
         ValueKind::Unknown => ValueKind::Unknown,
+        _ => kind,
     }
 }

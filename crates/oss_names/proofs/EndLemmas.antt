@@ -1,5 +1,8 @@
 -- How the checks of parts of a text end together.
-use Rattle.std.proofs.Common.{◌≡◌, ℕ, Bool, true, false, ◌+◌, ◌<◌, List, [], ◌∷◌, ◌++◌, length, take, drop, get_or, Option, Some, None, Result, Ok, Err, refl, sym, ap, ◌∙◌, subst}
+use Rattle.std.proofs.Common.{◌≡◌, ℕ, suc, Bool, true, false, ◌+◌, ◌<◌, nat_lt, nat_le, ◌||◌, cond, List, [], ◌∷◌, ◌++◌, length, map, take, drop, get_or, position, Option, Some, None, is_some, Result, Ok, Err, refl, sym, ap, ◌∙◌, subst, arith}
+use Rattle.std.specs.List.{list_any, position_or_len}
+use Rattle.std.specs.Str.{bytes_eq}
+use Rattle.std.proofs.lemmas.Bool.Decides.{nat_tests}
 use Rattle.std.proofs.lemmas.List.{drop_more}
 use Rattle.oss_syntax.specs.declared.tree.program.Item.{Item}
 use Rattle.oss_syntax.specs.declared.tree.program.Local.{Local}
@@ -8,12 +11,15 @@ use Rattle.oss_grammar.specs.declared.kinds.Around.{Around}
 use Rattle.oss_syntax.specs.declared.refusal.Refusal.{Refusal}
 use Rattle.oss_syntax.specs.declared.refusal.Refusal.TheVariants as refusal
 use Rattle.oss_syntax.specs.declared.refusal.Refused.{Refused}
-use Rattle.oss_grammar.specs.Broken.{first}
+use Rattle.oss_syntax.specs.declared.refusal.RefusedKind.TheVariants as refused
+use Rattle.oss_grammar.specs.Broken.{first, where_so}
 use Rattle.oss_grammar.specs.Scopes.{or_else}
-use Rattle.oss_grammar.specs.StaticRules.{Judged, alone, declare_all, declare_one, local_rules, rules_of, rules_of_all, then_judge, with_local}
+use Rattle.oss_grammar.specs.StaticRules.{Judged, alone, declare_all, declare_one, first_rules, local_rules, rules_of, rules_of_all, then_judge, with_local}
 use Rattle.oss_grammar.specs.Scopes.{is_local_again}
-use Rattle.oss_names.specs.Ends.{Ends, Leaves, Tells}
+use Rattle.oss_kinds.specs.Tables.{place_among}
+use Rattle.oss_names.specs.PartChecks.{IsPartChecked, LeavesInScope, TellsFirst}
 use Rattle.oss_kinds.proofs.Firsts.{first-append}
+use Rattle.oss_names.proofs.Parts.{append-left, not-so}
 
 -- old locals that stand in front of those in the middle stand in front of the new ones
 pub prefix-trans : (old mid now : List Local) → take (length old) mid ≡ old → take (length mid) now ≡ mid → take (length old) now ≡ old
@@ -31,24 +37,24 @@ prefix-same [] = refl
 prefix-same (o ∷ old) = ap (λ xs. o ∷ xs) (prefix-same old)
 
 -- a refusal that tells of a part tells of the part and of what stands behind it
-pub tells-before : (V U : Type 0) (xs ys : List Refused) (e : Refusal) → Tells {U = V} xs (Err e) → Tells {U = U} (xs ++ ys) (Err e)
+pub tells-before : (V U : Type 0) (xs ys : List Refused) (e : Refusal) → TellsFirst {U = V} xs (Err e) → TellsFirst {U = U} (xs ++ ys) (Err e)
 tells-before V U xs ys (refusal.Refused r) told = first-append xs ys ∙ ap (λ o. or_else o (first ys)) told
 tells-before V U xs ys (refusal.Memory e) told = tt
 
 module _ {U : Type 0} where
-  pub tells-behind : (xs ys : List Refused) (r : Result U Refusal) → first xs ≡ None → Tells ys r → Tells (xs ++ ys) r
+  pub tells-behind : (xs ys : List Refused) (r : Result U Refusal) → first xs ≡ None → TellsFirst ys r → TellsFirst (xs ++ ys) r
   tells-behind xs ys (Ok u) none told = first-append xs ys ∙ ap (λ o. or_else o (first ys)) none ∙ told
   tells-behind xs ys (Err (refusal.Refused r)) none told = first-append xs ys ∙ ap (λ o. or_else o (first ys)) none ∙ told
   tells-behind xs ys (Err (refusal.Memory e)) none told = tt
 
-  leaves-behind : (old mid after : List Local) (r : Result U Refusal) (now : List Local) → take (length old) mid ≡ old → Leaves mid after r now → Leaves old after r now
+  leaves-behind : (old mid after : List Local) (r : Result U Refusal) (now : List Local) → take (length old) mid ≡ old → LeavesInScope mid after r now → LeavesInScope old after r now
   leaves-behind old mid after (Ok u) now a l = (l.0, prefix-trans old mid now a l.1)
   leaves-behind old mid after (Err e) now a l = tt
 
   -- a part that breaks no rule, and the part behind it
-  pub ends-then : {V : Type 0} (old mid now : List Local) (j : Judged) (go : List Local → Judged) (v : V) (r : Result U Refusal) → Ends old j (Ok v) mid → Ends mid (go mid) r now → Ends old (then_judge j go) r now
+  pub ends-then : {V : Type 0} (old mid now : List Local) (j : Judged) (go : List Local → Judged) (v : V) (r : Result U Refusal) → IsPartChecked old j (Ok v) mid → IsPartChecked mid (go mid) r now → IsPartChecked old (then_judge j go) r now
   ends-then old mid now j go v r here there =
-      let At : List Local → Type 0 = λ m. Tells (go m).broken r × Leaves mid (go m).locals r now in
+      let At : List Local → Type 0 = λ m. TellsFirst (go m).broken r × LeavesInScope mid (go m).locals r now in
       let moved = subst At here.leaves.0 (there.tells, there.leaves) in
       record {
         tells = tells-behind j.broken (go j.locals).broken r here.tells moved.0;
@@ -56,21 +62,21 @@ module _ {U : Type 0} where
       }
 
   -- a part that breaks a rule
-  pub ends-stop : {V : Type 0} (old mid now : List Local) (j : Judged) (go : List Local → Judged) (e : Refusal) → Ends {U = V} old j (Err e) mid → Ends {U = U} old (then_judge j go) (Err e) now
+  pub ends-stop : {V : Type 0} (old mid now : List Local) (j : Judged) (go : List Local → Judged) (e : Refusal) → IsPartChecked {U = V} old j (Err e) mid → IsPartChecked {U = U} old (then_judge j go) (Err e) now
   ends-stop {V} old mid now j go e here = record { tells = tells-before V U j.broken (go j.locals).broken e here.tells; leaves = tt }
 
-  leaves-alone : (old after mid : List Local) (r : Result U Refusal) (now : List Local) → Leaves old after r mid → now ≡ take (length old) mid → Leaves old old r now
+  leaves-alone : (old after mid : List Local) (r : Result U Refusal) (now : List Local) → LeavesInScope old after r mid → now ≡ take (length old) mid → LeavesInScope old old r now
   leaves-alone old after mid (Ok u) now l is = (is ∙ l.1, ap (take (length old)) (is ∙ l.1) ∙ prefix-same old)
   leaves-alone old after mid (Err e) now l is = tt
 
   -- a scope that is left
-  pub ends-alone : (old mid now : List Local) (j : Judged) (r : Result U Refusal) (count : ℕ) → Ends old j r mid → count ≡ length old → now ≡ take count mid → Ends old (alone j old) r now
+  pub ends-alone : (old mid now : List Local) (j : Judged) (r : Result U Refusal) (count : ℕ) → IsPartChecked old j r mid → count ≡ length old → now ≡ take count mid → IsPartChecked old (alone j old) r now
   ends-alone old mid now j r count here size is =
       record { tells = here.tells; leaves = leaves-alone old j.locals mid r now here.leaves (is ∙ ap (λ n. take n mid) size) }
 
   -- what a check tells is the first of its rules
-  pub ends-along : (old now : List Local) (j k : Judged) (r : Result U Refusal) → k ≡ j → Ends old j r now → Ends old k r now
-  ends-along old now j k r e h = subst (λ x. Ends old x r now) (sym e) h
+  pub ends-along : (old now : List Local) (j k : Judged) (r : Result U Refusal) → k ≡ j → IsPartChecked old j r now → IsPartChecked old k r now
+  ends-along old now j k r e h = subst (λ x. IsPartChecked old x r now) (sym e) h
 
 -- the statements from one on
 pub statements-left : (all : List Item) (a : Around) (locals : List Local) (ss : List Stmt) (i : ℕ) (s : Stmt) → i < length ss → s ≡ get_or ss i s
@@ -86,33 +92,63 @@ declared-left all start locals ds i d within at =
     ap (λ xs. declare_all all start xs locals) (drop_more ds i d within)
     ∙ ap (λ x. declare_all all start (x ∷ drop (i + 1) ds) locals) (sym at)
 
-or-assoc : (a b c : Option Refused) → or_else (or_else a b) c ≡ or_else a (or_else b c)
-or-assoc (Some x) b c = refl
-or-assoc None b c = refl
+-- a local that breaks no rule is new in its scope, and stands behind the others
+prefix-more : (d : Local) (ls : List Local) → take (length ls) (ls ++ d ∷ []) ≡ ls
+prefix-more d [] = refl
+prefix-more d (l ∷ ls) = ap (λ xs. l ∷ xs) (prefix-more d ls)
 
-module _ (all : List Item) (start : ℕ) (locals new : List Local) (ds : List Local) (i : ℕ) (d : Local) (within : i < length ds) (at : d ≡ get_or ds i d)
-    (is : new ≡ with_local (is_local_again start locals d.name) d locals) where
-  pub declared-rules : (before here with_it : Option Refused) → here ≡ first (local_rules all start d locals) → with_it ≡ or_else before here
-      → or_else with_it (first (declare_all all start (drop (i + 1) ds) new).broken) ≡ or_else before (first (declare_all all start (drop i ds) locals).broken)
-  declared-rules before here with_it told joined =
-      let after = with_local (is_local_again start locals d.name) d locals in
-      let rest = declare_all all start (drop (i + 1) ds) after in
-      ap (λ o. or_else o (first (declare_all all start (drop (i + 1) ds) new).broken)) (joined ∙ ap (or_else before) told)
-      ∙ ap (λ ls. or_else (or_else before (first (local_rules all start d locals))) (first (declare_all all start (drop (i + 1) ds) ls).broken)) is
-      ∙ or-assoc before (first (local_rules all start d locals)) (first rest.broken)
-      ∙ ap (or_else before) (sym (first-append (local_rules all start d locals) rest.broken))
-      ∙ ap (λ j. or_else before (first j.broken)) (sym (declared-left all start locals ds i d within at))
+pub local-declared : (all : List Item) (start : ℕ) (d : Local) (ls now : List Local) → first (local_rules all start d ls) ≡ None → now ≡ ls ++ d ∷ []
+    → IsPartChecked {U = Unit {0}} ls (declare_one all start d ls) (Ok tt) now
+local-declared all start d ls now none is =
+    let again = where_so (is_local_again start ls d.name) refused.DuplicateName d.line in
+    let others = where_so (nat_le 255 (length ls)) refused.TooLarge d.line ++ first_rules all ls d in
+    let fresh : is_local_again start ls d.name ≡ false = not-so (is_local_again start ls d.name) refused.DuplicateName d.line (append-left again others none) in
+    record {
+      tells = none;
+      leaves = (is ∙ ap (λ b. with_local b d ls) (sym fresh), ap (take (length ls)) is ∙ prefix-more d ls);
+    }
 
-  pub declared-after : (declare_all all start (drop (i + 1) ds) new).locals ≡ (declare_all all start (drop i ds) locals).locals
-  declared-after = ap (λ ls. (declare_all all start (drop (i + 1) ds) ls).locals) is ∙ ap (λ j. j.locals) (sym (declared-left all start locals ds i d within at))
+-- the parameters of a function: whether one of the name is among those so far is told by the table of their names
+found : (b : Bool) (n : ℕ) → is_some (cond b (Some n) None) ≡ b
+found true n = refl
+found false n = refl
 
-  pub declared-stays : (old : List Local) → take (length old) locals ≡ old → take (length old) new ≡ old
-  declared-stays old h = prefix-trans old locals new h (ap (take (length locals)) is ∙ with-stays (is_local_again start locals d.name) d locals)
-    where
-      with-stays : (b : Bool) (d : Local) (ls : List Local) → take (length ls) (with_local b d ls) ≡ ls
-      with-stays true d ls = prefix-same ls
-      with-stays false d ls = prefix-more d ls
-        where
-          prefix-more : (d : Local) (ls : List Local) → take (length ls) (ls ++ d ∷ []) ≡ ls
-          prefix-more d [] = refl
-          prefix-more d (l ∷ ls) = ap (λ xs. l ∷ xs) (prefix-more d ls)
+place-found : {X : Type 0} (p : X → Bool) (xs : List X) → is_some (position p xs) ≡ nat_lt (position_or_len p xs) (length xs)
+place-found p xs = found (nat_lt (position_or_len p xs) (length xs)) (position_or_len p xs)
+
+less-first : (m : ℕ) → nat_lt 0 (suc m) ≡ true
+less-first m = grind (arith, nat_tests)
+
+less-more : (n m : ℕ) → nat_lt (1 + n) (suc m) ≡ nat_lt n m
+less-more n m = grind (arith, nat_tests)
+
+one-more : {X : Type 0} (p : X → Bool) (x : X) (xs : List X) (b : Bool) → p x ≡ b → nat_lt (position_or_len p xs) (length xs) ≡ list_any p xs
+    → nat_lt (position_or_len p (x ∷ xs)) (length (x ∷ xs)) ≡ list_any p (x ∷ xs)
+one-more p x xs true e h = rw e (less-first (length xs))
+one-more p x xs false e h = rw e (less-more (position_or_len p xs) (length xs) ∙ h)
+
+within-any : {X : Type 0} (p : X → Bool) (xs : List X) → nat_lt (position_or_len p xs) (length xs) ≡ list_any p xs
+within-any p [] = refl
+within-any p (x ∷ xs) = one-more p x xs (p x) refl (within-any p xs)
+
+some-place : {X : Type 0} (p : X → Bool) (xs : List X) → is_some (position p xs) ≡ list_any p xs
+some-place p xs = place-found p xs ∙ within-any p xs
+
+any-name : (name : List ℕ) (ls : List Local) → list_any (λ other. bytes_eq other name) (map (λ l. l.name) ls) ≡ list_any (λ l. bytes_eq l.name name) ls
+any-name name [] = refl
+any-name name (l ∷ ls) = ap (λ b. bytes_eq l.name name || b) (any-name name ls)
+
+abbrev pub names_in : List Local → List (List ℕ)
+names_in ls = map (λ l. l.name) ls
+
+pub again-by-table : (ls : List Local) (name : List ℕ) → is_some (place_among (names_in ls) name) ≡ is_local_again 0 ls name
+again-by-table ls name = some-place (λ other. bytes_eq other name) (names_in ls) ∙ any-name name ls
+
+pub declared-next : (all : List Item) (ls : List Local) (ds : List Local) (i : ℕ) (d : Local) → i < length ds → d ≡ get_or ds i d → (b : Bool) → is_local_again 0 ls d.name ≡ b
+    → (declare_all all 0 (drop i ds) ls).locals ≡ (declare_all all 0 (drop (i + 1) ds) (with_local b d ls)).locals
+declared-next all ls ds i d within at b is =
+    ap (λ j. j.locals) (declared-left all 0 ls ds i d within at) ∙ ap (λ x. (declare_all all 0 (drop (i + 1) ds) (with_local x d ls)).locals) is
+
+pub names-more : (ls : List Local) (d : Local) → names_in (ls ++ d ∷ []) ≡ names_in ls ++ d.name ∷ []
+names-more [] d = refl
+names-more (l ∷ ls) d = ap (λ names. l.name ∷ names) (names-more ls d)

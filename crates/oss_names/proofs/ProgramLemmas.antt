@@ -15,38 +15,33 @@ use Rattle.oss_grammar.specs.Broken.{broken, first, where_so}
 use Rattle.oss_grammar.specs.Layout.{cells_of, sizes_of}
 use Rattle.oss_grammar.specs.ProgramRules.{function_rules, global_rules, has_main, items_rules, passes_cells, program_rules, refusal_of}
 use Rattle.oss_grammar.specs.Scopes.{is_again, or_else}
-use Rattle.oss_names.specs.Ends.{Tells}
+use Rattle.oss_names.specs.PartChecks.{TellsFirst}
 use Rattle.oss_names.specs.Resolved.{IsChecked, bounds_of}
 use Rattle.oss_names.proofs.EndLemmas.{tells-behind}
 use Rattle.oss_kinds.proofs.Firsts.{first-append}
 use Rattle.oss_names.proofs.Parts.{append-right, no-rule, none-left, none-right, not-so}
 
--- four parts, and what stands behind them
-kept : (a b c d e : Option Refused) (r : Refused) → or_else a (or_else b (or_else c d)) ≡ Some r → or_else a (or_else b (or_else c (or_else d e))) ≡ Some r
-kept (Some x) b c d e r h = h
-kept None (Some x) c d e r h = h
-kept None None (Some x) d e r h = h
-kept None None None (Some x) e r h = h
-kept None None None None e r h = absurd (cc)
+-- three parts, and what stands behind them
+kept : (a b c e : Option Refused) (r : Refused) → or_else a (or_else b c) ≡ Some r → or_else a (or_else b (or_else c e)) ≡ Some r
+kept (Some x) b c e r h = h
+kept None (Some x) c e r h = h
+kept None None (Some x) e r h = h
+kept None None None e r h = absurd (cc)
 
-module _ (A B C D E : List Refused) where
-  parts : first (A ++ (B ++ (C ++ (D ++ E)))) ≡ or_else (first A) (or_else (first B) (or_else (first C) (or_else (first D) (first E))))
-  parts =
-      first-append A (B ++ (C ++ (D ++ E)))
-      ∙ ap (or_else (first A)) (first-append B (C ++ (D ++ E)) ∙ ap (or_else (first B)) (first-append C (D ++ E) ∙ ap (or_else (first C)) (first-append D E)))
+module _ (A B C E : List Refused) where
+  parts : first (A ++ (B ++ (C ++ E))) ≡ or_else (first A) (or_else (first B) (or_else (first C) (first E)))
+  parts = first-append A (B ++ (C ++ E)) ∙ ap (or_else (first A)) (first-append B (C ++ E) ∙ ap (or_else (first B)) (first-append C E))
 
-  pub front-broken : (r : Refused) → or_else (first A) (or_else (first B) (or_else (first C) (first D))) ≡ Some r → first (A ++ (B ++ (C ++ (D ++ E)))) ≡ Some r
-  front-broken r h = parts ∙ kept (first A) (first B) (first C) (first D) (first E) r h
+  pub front-broken : (r : Refused) → or_else (first A) (or_else (first B) (first C)) ≡ Some r → first (A ++ (B ++ (C ++ E))) ≡ Some r
+  front-broken r h = parts ∙ kept (first A) (first B) (first C) (first E) r h
 
-  pub front-whole : (r : Result (Unit {0}) Refusal) → or_else (first A) (or_else (first B) (or_else (first C) (first D))) ≡ None → Tells E r → Tells (A ++ (B ++ (C ++ (D ++ E)))) r
+  pub front-whole : (r : Result (Unit {0}) Refusal) → or_else (first A) (or_else (first B) (first C)) ≡ None → TellsFirst E r → TellsFirst (A ++ (B ++ (C ++ E))) r
   front-whole r h told =
-      let a = none-left (first A) (or_else (first B) (or_else (first C) (first D))) h in
-      let bcd = none-right (first A) (or_else (first B) (or_else (first C) (first D))) h in
-      let b = none-left (first B) (or_else (first C) (first D)) bcd in
-      let cd = none-right (first B) (or_else (first C) (first D)) bcd in
-      let c = none-left (first C) (first D) cd in
-      let d = none-right (first C) (first D) cd in
-      tells-behind A (B ++ (C ++ (D ++ E))) r a (tells-behind B (C ++ (D ++ E)) r b (tells-behind C (D ++ E) r c (tells-behind D E r d told)))
+      let a = none-left (first A) (or_else (first B) (first C)) h in
+      let bc = none-right (first A) (or_else (first B) (first C)) h in
+      let b = none-left (first B) (first C) bc in
+      let c = none-right (first B) (first C) bc in
+      tells-behind A (B ++ (C ++ E)) r a (tells-behind B (C ++ E) r b (tells-behind C E r c told))
 
 module _ (all xs : List Item) (p n i : ℕ) (item : Item) (within : i < length xs) (at : item ≡ get_or xs i item) where
   left : items_rules all p n (drop i xs) ≡ items_rules all p n (item ∷ drop (i + 1) xs)
@@ -88,7 +83,7 @@ global-cells all p n g h =
     (grind (arith, nat_tests), grind (arith, nat_tests))
 
 -- what the whole check tells
-pub checked-err : (q : Program) (e : Refusal) (rules : List Refused) → first rules ≡ first (items_rules q.items 0 0 q.items) → Tells {U = Unit {0}} rules (Err e) → IsChecked q (Err e)
+pub checked-err : (q : Program) (e : Refusal) (rules : List Refused) → first rules ≡ first (items_rules q.items 0 0 q.items) → TellsFirst {U = Unit {0}} rules (Err e) → IsChecked q (Err e)
 checked-err q (refusal.Refused r) rules same told =
     first-append (items_rules q.items 0 0 q.items) (where_so (not (has_main q.items)) refused.NoMain 1)
     ∙ ap (λ o. or_else o (first (where_so (not (has_main q.items)) refused.NoMain 1))) (sym same ∙ told)

@@ -7,7 +7,5 @@ mod program;
 mod sections;
 mod simple;
 mod statements;
-#[cfg(test)]
-mod tests;
 
 pub use known::{Known, resolve};

@@ -1,17 +1,19 @@
 //! The rules on whole programs.
-ghost use Rattle.std.specs.Prelude.{◌≡◌, ◌∷◌, ◌++◌, ◌+◌, ◌≤◌, [], OnOk};
+ghost use Rattle.std.specs.Prelude.{◌≡◌, ◌∷◌, ◌++◌, ◌+◌, ◌≤◌, List, [], IfOk, OnOk};
+ghost use Rattle.oss_syntax.specs.declared.tree.program.Item.{Item as Declared};
 ghost use Rattle.oss_grammar.specs.Broken.{first};
 ghost use Rattle.oss_grammar.specs.Layout.{cells_of};
 ghost use Rattle.oss_grammar.specs.ProgramRules.{body_around, function_rules, global_rules, has_main, is_wrong_function, mark_rules, passes_cells, returns_int, returns_nothing};
-ghost use Rattle.oss_names.specs.Ends.{Tells};
+ghost use Rattle.oss_grammar.specs.StaticRules.{declare_all};
+ghost use Rattle.oss_names.specs.PartChecks.{TellsFirst};
 ghost use Rattle.oss_names.specs.Resolved.{IsChecked};
 
 use crate::sections::{clauses, is_of_ints};
 use crate::statements::{declare, statements};
 use oss_grammar::Around;
-use oss_kinds::{Globals, Locals, before, is_named_main, refused, refused_if};
+use oss_kinds::{Globals, Locals, NameTable, before, is_named_main, refused, refused_if};
 use oss_syntax::{
-    Function, GlobalDef, Item, Kind, Program, Refusal, Refused, RefusedKind, TaskMark,
+    Function, GlobalDef, Item, Kind, Local, Program, Refusal, Refused, RefusedKind,
 };
 use std::alloc::{AllocError, Global};
 
@@ -119,38 +121,60 @@ fn check_function<'p>(
     place: usize,
     function: &'p Function,
 ) -> Result<(), Refusal>
-    ensures { Tells (function_rules globals.now place function.now) result }
+    ensures { TellsFirst (function_rules globals.now place function.now) result }
 {
-    let mut locals = Locals::none(alloc);
-    let params = match declare(globals, 0, function.params.as_slice(), &mut locals) {
-        Ok(params) => params,
-        Err(full) => return Err(Refusal::Memory(full)),
-    };
     let again = globals.declares_again(place, function.name.as_slice());
     let twice = refused_if(again, RefusedKind::DuplicateName, function.line);
     let wrong = is_wrong(function);
     let unlike = refused_if(wrong, RefusedKind::WrongKind, function.line);
-    let mark = refusal_of_mark(globals, &locals, &function.mark);
-    match before(mark, before(twice, before(unlike, params))) {
+    let mark = match refusal_of_mark(alloc, globals, function) {
+        Ok(mark) => mark,
+        Err(full) => return Err(Refusal::Memory(full)),
+    };
+    match before(mark, before(twice, unlike)) {
         Some(broken) => return Err(Refusal::Refused(broken)),
         None => {}
+    }
+    let mut locals = Locals::none(alloc);
+    match declare(globals, 0, function.params.as_slice(), &mut locals) {
+        Ok(()) => {}
+        Err(refusal) => return Err(refusal),
     }
     let around = around_body(function.result);
     statements(globals, around, function.body.as_slice(), &mut locals)
 }
 
-/// The first rule that the pragma of a function breaks.
+/// The first rule that the pragma of a function breaks, in which the parameters are in scope.
 fn refusal_of_mark(
+    alloc: Global,
     globals: &Globals<'_>,
-    locals: &Locals<'_>,
-    mark: &Option<TaskMark>,
-) -> Option<Refused>
-    ensures { result ≡ first (mark_rules globals.now locals.now mark.now) }
+    function: &Function,
+) -> Result<Option<Refused>, AllocError>
+    ensures { IfOk result (λ broken. broken ≡ first (mark_rules globals.now (declare_all globals.now 0 function.now.params []).locals function.now.mark)) }
 {
-    match mark {
-        Some(mark) => clauses(globals, locals, mark.clauses.as_slice()),
-        None => None,
+    match &function.mark {
+        Some(mark) => {
+            let locals = parameters(alloc, function.params.as_slice())?;
+            Ok(clauses(globals, &locals, mark.clauses.as_slice()))
+        }
+        None => Ok(None),
     }
+}
+
+/// The parameters of a function as they are in scope in its pragma, however many there are: of two of one name the first
+/// counts.
+fn parameters<'p>(alloc: Global, params: &'p [Local]) -> Result<Locals<'p>, AllocError>
+    ensures { IfOk result (λ locals. (all : List Declared) → locals ≡ (declare_all all 0 params.now []).locals) }
+{
+    let mut names = NameTable::new(alloc);
+    let mut locals = Locals::none(alloc);
+    for param in params {
+        if names.place(param.name.as_slice()).is_none() {
+            names.add(param.name.as_slice())?;
+            locals.add(param)?;
+        }
+    }
+    Ok(locals)
 }
 
 /// What stands around the body of a function.

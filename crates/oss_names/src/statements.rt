@@ -1,28 +1,25 @@
 //! The rules on statements.
-ghost use Rattle.std.specs.Prelude.{◌≡◌, List, length, take, map, option_map, IfOk, OnOk};
+ghost use Rattle.std.specs.Prelude.{◌≡◌, List, length, option_map};
 ghost use Rattle.oss_syntax.specs.declared.tree.program.Local.{Local as Declared};
 ghost use Rattle.oss_syntax.specs.declared.refusal.Refused.{Refused as Broken};
 ghost use Rattle.oss_grammar.specs.Broken.{first};
 ghost use Rattle.oss_grammar.specs.ExpressionRules.{value_rules};
 ghost use Rattle.oss_grammar.specs.SectionRules.{clauses_rules};
-ghost use Rattle.oss_grammar.specs.Scopes.{is_local_again};
-ghost use Rattle.oss_grammar.specs.StaticRules.{Judged, alone, declare_all, for_rules, in_a_loop, in_a_task, inner, inner_part, judged, local_rules, part_rules, rules_of, rules_of_all, scope_in, statements_rules, then_judge, with_local};
-ghost use Rattle.oss_names.specs.Ends.{Ends};
+ghost use Rattle.oss_grammar.specs.StaticRules.{alone, declare_all, declare_one, for_rules, in_a_loop, in_a_task, inner, inner_part, judged, local_rules, part_rules, rules_of, rules_of_all, scope_in, statements_rules, then_judge};
+ghost use Rattle.oss_names.specs.PartChecks.{IsPartChecked};
 
 use crate::sections::{clauses, optional, wait};
 use crate::simple::{assignment, call_statement, optional_for, print, return_statement};
 use oss_grammar::{Around, Wanted};
 use oss_kinds::{Globals, Locals, before, refused_if, value};
 use oss_syntax::{Boxed, Expr, Local, Refusal, Refused, RefusedKind, Stmt, StmtKind, TaskMark};
-use std::alloc::AllocError;
 
 /// The most locals of a function that are in scope at one place.
 const MOST_LOCALS: usize = 255;
 
-/// Ends a part of a text whose first broken rule this is.
+/// IsPartChecked a part of a text whose first broken rule this is.
 fn told(broken: Option<Refused>) -> Result<(), Refusal>
-    ensures simple { (rules : List Broken) → (locals : List Declared) → broken ≡ first rules → Ends locals (judged rules locals) result locals }
-    ensures after { (old : List Declared) → (j : Judged) → (now : List Declared) → broken ≡ first j.broken → now ≡ j.locals → take (length old) now ≡ old → Ends old j result now }
+    ensures { (rules : List Broken) → (locals : List Declared) → broken ≡ first rules → IsPartChecked locals (judged rules locals) result locals }
 {
     match broken {
         Some(broken) => Err(Refusal::Refused(broken)),
@@ -30,62 +27,58 @@ fn told(broken: Option<Refused>) -> Result<(), Refusal>
     }
 }
 
-/// Declares locals one after the other, and tells the first rule that they break. Of two declarations of a name the first
-/// counts. Want of memory is the one error.
+/// Declares locals one after the other, which stay in scope behind their declaration.
 pub fn declare<'p>(
     globals: &Globals<'_>,
     start: usize,
     declared: &'p [Local],
     locals: &mut Locals<'p>,
-) -> Result<Option<Refused>, AllocError>
-    ensures rules { IfOk result (λ broken. broken ≡ first (declare_all globals.now start declared.now locals.old).broken) }
-    ensures after { OnOk result (locals.new ≡ (declare_all globals.now start declared.now locals.old).locals) }
-    ensures stays { OnOk result (take (length locals.old) locals.new ≡ locals.old) }
-{
-    let mut broken = None;
-    for local in declared {
-        let here = declare_local(globals, start, local, locals)?;
-        broken = before(broken, here);
-    }
-    Ok(broken)
-}
-
-/// Checks a declaration, whose locals stay in scope behind it.
-fn declaration<'p>(
-    globals: &Globals<'_>,
-    start: usize,
-    declared: &'p [Local],
-    locals: &mut Locals<'p>,
 ) -> Result<(), Refusal>
-    ensures { Ends locals.old (declare_all globals.now start declared.now locals.old) result locals.new }
+    ensures { IsPartChecked locals.old (declare_all globals.now start declared.now locals.old) result locals.new }
 {
-    match declare(globals, start, declared, locals) {
-        Ok(broken) => told(broken),
-        Err(full) => Err(Refusal::Memory(full)),
+    for local in declared {
+        match declare_local(globals, start, local, locals) {
+            Ok(()) => {}
+            Err(refusal) => return Err(refusal),
+        }
     }
+    Ok(())
 }
 
-/// Declares one local, and tells the first rule that it breaks.
-#[tactic(auto, using(oss_kinds::proofs::Firsts::firsts))]
+/// Declares one local.
 fn declare_local<'p>(
     globals: &Globals<'_>,
     start: usize,
     local: &'p Local,
     locals: &mut Locals<'p>,
-) -> Result<Option<Refused>, AllocError>
-    ensures rules { IfOk result (λ broken. broken ≡ first (local_rules globals.now start local.now locals.old)) }
-    ensures after { OnOk result (locals.new ≡ with_local (is_local_again start locals.old local.now.name) local.now locals.old) }
+) -> Result<(), Refusal>
+    ensures { IsPartChecked locals.old (declare_one globals.now start local.now locals.old) result locals.new }
+{
+    match refusal_of_local(globals, start, local, locals) {
+        Some(broken) => Err(Refusal::Refused(broken)),
+        None => match locals.add(local) {
+            Ok(()) => Ok(()),
+            Err(full) => Err(Refusal::Memory(full)),
+        },
+    }
+}
+
+/// The first rule that a local breaks.
+#[tactic(auto, using(oss_kinds::proofs::Firsts::firsts))]
+fn refusal_of_local(
+    globals: &Globals<'_>,
+    start: usize,
+    local: &Local,
+    locals: &Locals<'_>,
+) -> Option<Refused>
+    ensures { result ≡ first (local_rules globals.now start local.now locals.now) }
 {
     let again = locals.has_since(start, local.name.as_slice());
     let many = MOST_LOCALS <= locals.len();
-    let inside = optional_for(globals, locals, local.kind, &local.first);
-    let large = refused_if(many, RefusedKind::TooLarge, local.line);
     let twice = refused_if(again, RefusedKind::DuplicateName, local.line);
-    let broken = before(twice, before(large, inside));
-    if !again {
-        locals.add(local)?;
-    }
-    Ok(broken)
+    let large = refused_if(many, RefusedKind::TooLarge, local.line);
+    let inside = optional_for(globals, locals, local.kind, &local.first);
+    before(twice, before(large, inside))
 }
 
 /// Checks statements in order, whose declarations stay in scope behind them.
@@ -96,7 +89,7 @@ pub fn statements<'p>(
     list: &'p [Stmt],
     locals: &mut Locals<'p>,
 ) -> Result<(), Refusal>
-    ensures { Ends locals.old (rules_of_all list.now globals.now around locals.old) result locals.new }
+    ensures { IsPartChecked locals.old (rules_of_all list.now globals.now around locals.old) result locals.new }
 {
     for one in list {
         match statement(globals, around, one, locals) {
@@ -115,14 +108,14 @@ fn statement<'p>(
     statement: &'p Stmt,
     locals: &mut Locals<'p>,
 ) -> Result<(), Refusal>
-    ensures { Ends locals.old (rules_of statement.now globals.now around locals.old) result locals.new }
+    ensures { IsPartChecked locals.old (rules_of statement.now globals.now around locals.old) result locals.new }
 {
     let line = statement.line;
     match &statement.what {
         StmtKind::Block(list) => block(globals, around, list.as_slice(), locals),
         StmtKind::Empty => told(None),
         StmtKind::Declare(declared) => {
-            declaration(globals, around.start, declared.as_slice(), locals)
+            declare(globals, around.start, declared.as_slice(), locals)
         }
         StmtKind::Assign(target, op, value) => {
             told(assignment(globals, locals, *op, target, value))
@@ -189,7 +182,7 @@ fn block<'p>(
     list: &'p [Stmt],
     locals: &mut Locals<'p>,
 ) -> Result<(), Refusal>
-    ensures { Ends locals.old (inner (rules_of_all list.now) globals.now around locals.old) result locals.new }
+    ensures { IsPartChecked locals.old (inner (rules_of_all list.now) globals.now around locals.old) result locals.new }
 {
     let count = locals.len();
     let ends = statements(globals, scope_of(around, count), list, locals);
@@ -205,7 +198,7 @@ fn inside<'p>(
     one: &'p Boxed<Stmt>,
     locals: &mut Locals<'p>,
 ) -> Result<(), Refusal>
-    ensures { Ends locals.old (inner (rules_of one.now) globals.now around locals.old) result locals.new }
+    ensures { IsPartChecked locals.old (inner (rules_of one.now) globals.now around locals.old) result locals.new }
 {
     let count = locals.len();
     let ends = statement(globals, scope_of(around, count), one.get(), locals);
@@ -221,7 +214,7 @@ fn inside_part<'p>(
     one: &'p Option<Boxed<Stmt>>,
     locals: &mut Locals<'p>,
 ) -> Result<(), Refusal>
-    ensures { Ends locals.old (inner_part (option_map rules_of one.now) globals.now around locals.old) result locals.new }
+    ensures { IsPartChecked locals.old (inner_part (option_map rules_of one.now) globals.now around locals.old) result locals.new }
 {
     match one {
         Some(one) => inside(globals, around, one, locals),
@@ -237,7 +230,7 @@ fn part<'p>(
     one: &'p Option<Boxed<Stmt>>,
     locals: &mut Locals<'p>,
 ) -> Result<(), Refusal>
-    ensures { Ends locals.old (part_rules (option_map rules_of one.now) globals.now around locals.old) result locals.new }
+    ensures { IsPartChecked locals.old (part_rules (option_map rules_of one.now) globals.now around locals.old) result locals.new }
 {
     match one {
         Some(one) => statement(globals, around, one.get(), locals),
@@ -255,7 +248,7 @@ fn branches<'p>(
     else_part: &'p Option<Boxed<Stmt>>,
     locals: &mut Locals<'p>,
 ) -> Result<(), Refusal>
-    ensures { Ends locals.old (then_judge (judged (value_rules globals.now locals.old Wanted.Number test.now) locals.old) (λ ls. then_judge (inner (rules_of then_part.now) globals.now around ls) (λ ms. inner_part (option_map rules_of else_part.now) globals.now around ms))) result locals.new }
+    ensures { IsPartChecked locals.old (then_judge (judged (value_rules globals.now locals.old Wanted.Number test.now) locals.old) (λ ls. then_judge (inner (rules_of then_part.now) globals.now around ls) (λ ms. inner_part (option_map rules_of else_part.now) globals.now around ms))) result locals.new }
 {
     match told(value(globals, locals, Wanted::Number, test)) {
         Ok(()) => {}
@@ -276,7 +269,7 @@ fn while_loop<'p>(
     body: &'p Boxed<Stmt>,
     locals: &mut Locals<'p>,
 ) -> Result<(), Refusal>
-    ensures { Ends locals.old (then_judge (judged (value_rules globals.now locals.old Wanted.Number test.now) locals.old) (λ ls. inner (rules_of body.now) globals.now (in_a_loop around) ls)) result locals.new }
+    ensures { IsPartChecked locals.old (then_judge (judged (value_rules globals.now locals.old Wanted.Number test.now) locals.old) (λ ls. inner (rules_of body.now) globals.now (in_a_loop around) ls)) result locals.new }
 {
     match told(value(globals, locals, Wanted::Number, test)) {
         Ok(()) => inside(globals, looping(around), body, locals),
@@ -295,7 +288,7 @@ fn for_statement<'p>(
     body: &'p Boxed<Stmt>,
     locals: &mut Locals<'p>,
 ) -> Result<(), Refusal>
-    ensures { Ends locals.old (inner (for_rules (option_map rules_of start.now) test.now (option_map rules_of step.now) (rules_of body.now)) globals.now around locals.old) result locals.new }
+    ensures { IsPartChecked locals.old (inner (for_rules (option_map rules_of start.now) test.now (option_map rules_of step.now) (rules_of body.now)) globals.now around locals.old) result locals.new }
 {
     let count = locals.len();
     let ends = for_loop(
@@ -322,7 +315,7 @@ fn for_loop<'p>(
     body: &'p Boxed<Stmt>,
     locals: &mut Locals<'p>,
 ) -> Result<(), Refusal>
-    ensures { Ends locals.old (for_rules (option_map rules_of start.now) test.now (option_map rules_of step.now) (rules_of body.now) globals.now around locals.old) result locals.new }
+    ensures { IsPartChecked locals.old (for_rules (option_map rules_of start.now) test.now (option_map rules_of step.now) (rules_of body.now) globals.now around locals.old) result locals.new }
 {
     match part(globals, around, start, locals) {
         Ok(()) => {}
@@ -347,7 +340,7 @@ fn task<'p>(
     body: &'p Boxed<Stmt>,
     locals: &mut Locals<'p>,
 ) -> Result<(), Refusal>
-    ensures { Ends locals.old (then_judge (judged (clauses_rules globals.now locals.old 0 mark.now.clauses) locals.old) (λ ls. inner (rules_of body.now) globals.now (in_a_task around) ls)) result locals.new }
+    ensures { IsPartChecked locals.old (then_judge (judged (clauses_rules globals.now locals.old 0 mark.now.clauses) locals.old) (λ ls. inner (rules_of body.now) globals.now (in_a_task around) ls)) result locals.new }
 {
     match told(clauses(globals, locals, mark.clauses.as_slice())) {
         Ok(()) => inside(globals, tasking(around), body, locals),

@@ -18,7 +18,7 @@ use Rattle.oss_model.specs.Rights.{right_from}
 use Rattle.oss_serial.specs.Scalars.{State, Ending, Goes, Stops, Run, assigned, printed_values, task_run, mark_accesses, ticked, run_of, runs_of, entered, left_task}
 use Rattle.oss_serial.specs.declared.stop.Stop.{Stop}
 use Rattle.oss_serial.specs.declared.stop.Stop.TheVariants as stop
-use Rattle.oss_serial.specs.Endings.{Ends, GoesOn, EntersTask, stop_for}
+use Rattle.oss_serial.specs.Endings.{EndsAs, GoesOn, EntersTask, stop_for}
 
 module _ (s : Stmt) (names : List (List ℕ)) (kinds : List NumKind) (st : State) where
   pub run-assign : (t e : Expr) → s.what ≡ stmts.Assign t None e → run_of s names kinds st ≡ ticked s.line st (λ next. assigned names kinds s.line t e next)
@@ -75,20 +75,20 @@ module _ (s : Stmt) (names : List (List ℕ)) (kinds : List NumKind) (st : State
   run-compound t e o is = rw is (search (rules, stmt_folds))
 
 -- from what a call says to how the run ends
-pub ends_along : {U : Type 0} (e f : Ending) (r : Result U Stop) (now : State) → e ≡ f → Ends f r now → Ends e r now
-ends_along {U} e f r now is ends = let P : Ending → Type 0 = λ x. Ends x r now in subst P (sym is) ends
+pub ends_along : {U : Type 0} (e f : Ending) (r : Result U Stop) (now : State) → e ≡ f → EndsAs f r now → EndsAs e r now
+ends_along {U} e f r now is ends = let P : Ending → Type 0 = λ x. EndsAs x r now in subst P (sym is) ends
 
-pub ends_goes : {U : Type 0} (e : Ending) (whole : (State → Ending) → Ending) (r : Result U Stop) (now : State) → e ≡ whole (λ next. Goes next) → GoesOn whole r now → Ends e r now
+pub ends_goes : {U : Type 0} (e : Ending) (whole : (State → Ending) → Ending) (r : Result U Stop) (now : State) → e ≡ whole (λ next. Goes next) → GoesOn whole r now → EndsAs e r now
 ends_goes e whole (Ok u) now is goes = is ∙ goes (λ next. Goes next)
 ends_goes e whole (Err (stop.Fault kind line)) now is goes = is ∙ goes (λ next. Goes next)
 ends_goes e whole (Err (stop.Memory m)) now is goes = tt
 
-pub ends_stop : (U V : Type 0) (e : Ending) (whole : (State → Ending) → Ending) (behind : State → Ending) (why : Stop) (now : State) → e ≡ whole behind → GoesOn {U = U} whole (Err why) now → Ends {U = V} e (Err why) now
+pub ends_stop : (U V : Type 0) (e : Ending) (whole : (State → Ending) → Ending) (behind : State → Ending) (why : Stop) (now : State) → e ≡ whole behind → GoesOn {U = U} whole (Err why) now → EndsAs {U = V} e (Err why) now
 ends_stop U V e whole behind (stop.Fault kind line) now is goes = is ∙ goes behind
 ends_stop U V e whole behind (stop.Memory m) now is goes = tt
 
 -- a part that stops stops the whole
-pub stop_along : (U V : Type 0) (part whole : Ending) (why : Stop) (now : State) → ((kind : FaultKind) (line : ℕ) → part ≡ Stops kind line now → whole ≡ Stops kind line now) → Ends {U = U} part (Err why) now → Ends {U = V} whole (Err why) now
+pub stop_along : (U V : Type 0) (part whole : Ending) (why : Stop) (now : State) → ((kind : FaultKind) (line : ℕ) → part ≡ Stops kind line now → whole ≡ Stops kind line now) → EndsAs {U = U} part (Err why) now → EndsAs {U = V} whole (Err why) now
 stop_along U V part whole (stop.Fault kind line) now hence ends = hence kind line ends
 stop_along U V part whole (stop.Memory m) now hence ends = tt
 
@@ -105,7 +105,7 @@ module _ (accesses : List Access) (line : ℕ) (body : State → Ending) (st : S
   task-refused : (kind : FaultKind) → clause_fault st.context accesses (st.context.final || false) ≡ Some kind → task_run accesses line body st ≡ Stops kind line st
   task-refused kind refused = rw (begins, refused) refl
 
-  pub task-enters : (U V : Type 0) (why : JudgeRefused) (now : State) → EntersTask accesses st (Err why) now → Ends {U = V} (task_run accesses line body st) (Err (stop_for line why)) now
+  pub task-enters : (U V : Type 0) (why : JudgeRefused) (now : State) → EntersTask accesses st (Err why) now → EndsAs {U = V} (task_run accesses line body st) (Err (stop_for line why)) now
   task-enters U V (judge.Fault kind) now enters = task-refused kind enters.0 ∙ ap (λ s. Stops kind line s) (sym enters.1)
   task-enters U V (judge.Memory e) now enters = tt
 

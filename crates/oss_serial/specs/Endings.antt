@@ -11,10 +11,10 @@ use Rattle.oss_serial.specs.Scalars.{Ending, Goes, Stops, State, entered}
 use Rattle.oss_serial.specs.declared.stop.Stop.{Stop}
 use Rattle.oss_serial.specs.declared.stop.Stop.TheVariants as stop
 
-abbrev pub Ends : {U : Type 0} → Ending → Result U Stop → State → Type 0
-Ends ending (Ok u) now = ending ≡ Goes now
-Ends ending (Err (stop.Fault kind line)) now = ending ≡ Stops kind line now
-Ends ending (Err (stop.Memory e)) now = Unit {0}
+abbrev pub EndsAs : {U : Type 0} → Ending → Result U Stop → State → Type 0
+EndsAs ending (Ok u) now = ending ≡ Goes now
+EndsAs ending (Err (stop.Fault kind line)) now = ending ≡ Stops kind line now
+EndsAs ending (Err (stop.Memory e)) now = Unit {0}
 
 -- the values of expressions, or their first fault
 abbrev pub AreValues : Result (List ℕ) FaultKind → Result (Vec ℕ) JudgeRefused → Type 0

@@ -1,3 +1,3 @@
 pub mod Endings
-pub mod Places
+pub mod Globals
 pub mod Scalars

@@ -1,4 +1,4 @@
-ghost use Rattle.std.specs.Prelude.{◌≡◌, ◌++◌, ◌∷◌, [], IfOk, OnOk};
+ghost use Rattle.std.specs.Prelude.{◌≡◌, ◌++◌, ◌∷◌, ◌<◌, [], IfOk, IfSome, OnOk};
 ghost use Rattle.oss_serial.specs.Scalars.{cell_access, clause_accesses, mark_accesses, place_of, section_accesses};
 
 use crate::variables::Variables;
@@ -33,11 +33,7 @@ fn add_clause(
         Clause::Depend(mode, strong, sections) => {
             add_sections(variables, *mode, *strong, sections.as_slice(), accesses)
         }
-        Clause::If(_) => Ok(()),
-        Clause::Final(_) => Ok(()),
-        Clause::Wait => Ok(()),
-        Clause::Label(_) => Ok(()),
-        Clause::Priority(_) => Ok(()),
+        _ => Ok(()),
     }
 }
 
@@ -69,6 +65,7 @@ fn add_cell(
     place: Option<u32>,
     accesses: &mut List<Access>,
 ) -> Result<(), AllocError>
+    requires { IfSome place (λ cell. cell < 1048576) }
     ensures { OnOk result (accesses.new ≡ accesses.old ++ cell_access mode strong place) }
 {
     match place {

@@ -1,6 +1,7 @@
 ghost use Rattle.std.specs.Prelude.{◌≡◌, ◌≤◌, length, IfOk};
-ghost use Rattle.oss_serial.specs.Scalars.{answer_of, main_body, mark_accesses, names_of, run_of, runs_of, task_run, tasks_of};
-ghost use Rattle.oss_serial.specs.Endings.{Ends};
+ghost use Rattle.oss_grammar.specs.Layout.{names_of};
+ghost use Rattle.oss_serial.specs.Scalars.{answer_of, main_body, mark_accesses, run_of, runs_of, task_run, tasks_of};
+ghost use Rattle.oss_serial.specs.Endings.{EndsAs};
 
 use crate::accesses::declared;
 use crate::state::State;
@@ -69,7 +70,7 @@ fn run_all(
     statements: &[Stmt],
     state: &mut State,
 ) -> Result<(), Stop>
-    ensures { Ends (runs_of statements.now variables.now.names variables.now.kinds state.old) result state.new }
+    ensures { EndsAs (runs_of statements.now variables.now.names variables.now.kinds state.old) result state.new }
 {
     for statement in statements {
         match run_one(alloc, variables, statement, state) {
@@ -88,7 +89,7 @@ fn run_one(
     statement: &Stmt,
     state: &mut State,
 ) -> Result<(), Stop>
-    ensures { Ends (run_of statement.now variables.now.names variables.now.kinds state.old) result state.new }
+    ensures { EndsAs (run_of statement.now variables.now.names variables.now.kinds state.old) result state.new }
 {
     let line = statement.line;
     match &statement.what {
@@ -143,7 +144,7 @@ fn run_task(
     body: &Stmt,
     state: &mut State,
 ) -> Result<(), Stop>
-    ensures { Ends (task_run (mark_accesses variables.now.names mark.now.clauses) line (λ child. run_of body.now variables.now.names variables.now.kinds child) state.old) result state.new }
+    ensures { EndsAs (task_run (mark_accesses variables.now.names mark.now.clauses) line (λ child. run_of body.now variables.now.names variables.now.kinds child) state.old) result state.new }
 {
     match state.may_create() {
         Ok(()) => {}

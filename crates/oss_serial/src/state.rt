@@ -5,7 +5,7 @@ ghost use Rattle.oss_model.specs.Rights.{right_from};
 ghost use Rattle.oss_serial.specs.Scalars.{assigned, first_cells, opening, printed_values, stored, ticked};
 ghost use Rattle.oss_grammar.specs.Formats.{printed};
 ghost use Rattle.oss_model.specs.declared.answer.Answer.TheVariants as Answer;
-ghost use Rattle.oss_serial.specs.Endings.{Ends, EntersTask, GoesOn};
+ghost use Rattle.oss_serial.specs.Endings.{EndsAs, EntersTask, GoesOn};
 
 use crate::stop::{Stop, stop_at};
 use crate::variables::{Variables, cells_at_start};
@@ -68,7 +68,7 @@ impl State {
         target: &Expr,
         value: &Expr,
     ) -> Result<(), Stop>
-        ensures { Ends (assigned variables.now.names variables.now.kinds line target.now value.now self.old) result self.new }
+        ensures { EndsAs (assigned variables.now.names variables.now.kinds line target.now value.now self.old) result self.new }
     {
         match variables.value(value, self.cells.as_slice(), &self.context) {
             Ok(value) => self.store(variables, line, variables.target(&target.what), value),
@@ -84,7 +84,7 @@ impl State {
         cell: Option<u32>,
         value: u64,
     ) -> Result<(), Stop>
-        ensures { Ends (stored variables.now.kinds line cell value self.old) result self.new }
+        ensures { EndsAs (stored variables.now.kinds line cell value self.old) result self.new }
     {
         match cell {
             Some(cell) => match self.context.may_write(cell) {
@@ -107,7 +107,7 @@ impl State {
         format: &[u8],
         arguments: &[Expr],
     ) -> Result<(), Stop>
-        ensures { Ends (printed_values variables.now.names line format.now arguments.now self.old) result self.new }
+        ensures { EndsAs (printed_values variables.now.names line format.now arguments.now self.old) result self.new }
     {
         let values = match variables.values(
             alloc,

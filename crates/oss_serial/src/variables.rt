@@ -1,65 +1,64 @@
-ghost use Rattle.std.specs.Prelude.{◌≡◌, ◌∷◌, ◌++◌, ◌<◌, ◌≤◌, ◌^◌, ℕ, List, [], length, IfOk, OnOk};
-ghost use Rattle.oss_serial.specs.Scalars.{names_of, kinds_of, first_cells, place_of, loaded, value_of, values_of, cells_with, target_place, named_by, summed};
-ghost use Rattle.oss_serial.specs.Places.{Tells};
+ghost use Rattle.std.specs.Prelude.{◌≡◌, ◌<◌, ◌≤◌, ◌^◌, length, IfOk, IfSome};
+ghost use Rattle.oss_grammar.specs.Layout.{names_of};
+ghost use Rattle.oss_serial.specs.Scalars.{kinds_of, first_cells, place_of, loaded, value_of, values_of, cells_with, target_place, named_by, summed};
 ghost use Rattle.oss_serial.specs.Endings.{AreValues};
 ghost use Rattle.oss_grammar.specs.Values.{kept, widened};
 
 use oss_judge::{Context, JudgeRefused};
+use oss_kinds::NameTable;
 use oss_model::FaultKind;
 use oss_syntax::{BinOp, Expr, ExprKind, Item, NumKind};
 use std::alloc::{AllocError, Global};
-use std::collections::HashMap;
 use std::marker::Model;
 
-/// The globals of a program: contracts see their names and types, in text order.
+/// The globals of a program, at most 1,048,576: contracts see their names and types, in text order.
 #[derive(Drop)]
 pub struct Variables<'p> {
-    items: &'p [Item],
-    places: HashMap<&'p [u8], u32>,
+    names: NameTable<'p>,
     kinds: Vec<NumKind>,
 }
 
 impl<'p> Model for Variables<'p> {
-    ghost use Rattle.oss_serial.specs.Scalars.{names_of};
-    ghost use Rattle.oss_serial.specs.Places.{Globals, Tells};
+    ghost use Rattle.std.specs.Prelude.{◌≤◌, length};
+    ghost use Rattle.oss_serial.specs.Globals.{Globals};
 
     ghost Value = { Globals };
 
-    ghost view = { λ v. record { names = names_of v.items.now; kinds = v.kinds.items } };
+    ghost view = { λ v. record { names = v.names; kinds = v.kinds.items } };
 
-    ghost invariant = { λ v. Tells v.places (names_of v.items.now) };
+    ghost invariant = { λ v. length v.names ≤ 1048576 };
 }
 
 impl<'p> Variables<'p> {
-    /// The globals of these items.
+    /// The globals of these items. Condition: they are at most 1,048,576.
     pub fn of(alloc: Global, items: &'p [Item]) -> Result<Variables<'p>, AllocError>
-        requires { length (kinds_of items.now) ≤ 1048576 }
+        requires { length (names_of items.now) ≤ 1048576 }
         ensures names { IfOk result (λ v. v.names ≡ names_of items.now) }
         ensures kinds { IfOk result (λ v. v.kinds ≡ kinds_of items.now) }
     {
-        let mut places = HashMap::new(alloc);
+        let mut names = NameTable::new(alloc);
         let mut kinds = Vec::new(alloc);
         for item in items {
             match item {
                 Item::Global(global) => {
-                    note(&mut places, global.name.as_slice(), kinds.len() as u32)?;
+                    names.add(global.name.as_slice())?;
                     kinds.push(global.kind)?;
                 }
                 Item::Function(_) => {}
             }
         }
-        Ok(Variables {
-            items,
-            places,
-            kinds,
-        })
+        Ok(Variables { names, kinds })
     }
 
     /// The cell of a global.
     pub fn place(&self, name: &[u8]) -> Option<u32>
-        ensures { result ≡ place_of self.now.names name.now }
+        ensures first { result ≡ place_of self.now.names name.now }
+        ensures within { IfSome result (λ cell. cell < 1048576) }
     {
-        self.places.get(name).copied()
+        match self.names.place(name) {
+            Some(place) => Some(place as u32),
+            None => None,
+        }
     }
 
     /// The value of an expression, or the fault of its first load that is not allowed.
@@ -70,19 +69,11 @@ impl<'p> Variables<'p> {
             ExprKind::Number(number, _) => Ok(*number),
             ExprKind::Name(name) => load(self.place(name.as_slice()), cells, context),
             ExprKind::Binary(op, left, right) => {
-                let left = match self.value(left.get(), cells, context) {
-                    Ok(value) => value,
-                    Err(kind) => return Err(kind),
-                };
-                let right = match self.value(right.get(), cells, context) {
-                    Ok(value) => value,
-                    Err(kind) => return Err(kind),
-                };
+                let left = self.value(left.get(), cells, context)?;
+                let right = self.value(right.get(), cells, context)?;
                 Ok(summed_by(*op, left, right))
             }
-            ExprKind::Index(_, _) => Ok(0),
-            ExprKind::Unary(_, _) => Ok(0),
-            ExprKind::Call(_, _) => Ok(0),
+            _ => Ok(0),
         }
     }
 
@@ -116,11 +107,7 @@ impl<'p> Variables<'p> {
     {
         match target {
             ExprKind::Name(name) => self.place(name.as_slice()),
-            ExprKind::Number(_, _) => None,
-            ExprKind::Index(_, _) => None,
-            ExprKind::Unary(_, _) => None,
-            ExprKind::Binary(_, _, _) => None,
-            ExprKind::Call(_, _) => None,
+            _ => None,
         }
     }
 
@@ -147,20 +134,6 @@ fn load(place: Option<u32>, cells: &[u64], context: &Context) -> Result<u64, Fau
             Err(kind) => Err(kind),
         },
     }
-}
-
-/// Notes the place of a name, which is the number of the names before it. The first place of a name stays.
-fn note<'p>(
-    places: &mut HashMap<&'p [u8], u32>,
-    name: &'p [u8],
-    place: u32,
-) -> Result<(), AllocError>
-    ensures { OnOk result ((names : List (List ℕ)) → Tells places.old names → length names ≡ place → Tells places.new (names ++ name.now ∷ [])) }
-{
-    if !places.contains_key(name) {
-        places.insert(name, place)?;
-    }
-    Ok(())
 }
 
 /// The cells at the start: each keeps its initial value, or 0.

@@ -1,15 +1,31 @@
 use Rattle.std.proofs.lemmas.Grind.{common_steps}
 use Rattle.std.proofs.Common.{◌≡◌, ◌+◌, ◌++◌, ◌∙◌, [], ◌∷◌, Some, None, Err, ap, arith, drop, subst, sym}
+use Rattle.oss_syntax.specs.declared.refusal.Refusal.TheVariants as refusal
 use Rattle.oss_grammar.specs.Broken.{first}
 use Rattle.oss_grammar.specs.Layout.{cells_of, sizes_of}
 use Rattle.oss_grammar.specs.ProgramRules.{function_rules, global_rules, has_main, items_rules}
-use Rattle.oss_names.specs.Ends.{Tells}
+use Rattle.oss_grammar.specs.Scopes.{or_else}
+use Rattle.oss_names.specs.PartChecks.{TellsFirst}
 use Rattle.oss_names.specs.Resolved.{bounds_of}
 use Rattle.oss_names.proofs.EndLemmas.{tells-before}
 use Rattle.oss_kinds.proofs.Firsts.{first-append, part-whole}
 use Rattle.oss_names.proofs.ProgramLemmas.{all-well, bounds-more, checked-err, function-left, global-cells, global-left, main-missing, sizes-function, sizes-global}
 use Rattle.oss_names.proofs.program.check.Goals as goal
 use Rattle.oss_names.proofs.program.check.Goals.{in-Global+in-None+in-Ok-note, in-Function+in-Ok-check_function}
+
+pub returns-in-Some : goal.returns-in-Some
+returns-in-Some c =
+    let q = c.args.program.now in
+    let xs = c.as_slice-items.result.now in
+    let p = c.loop-item.place in
+    let n = c.loop-item.cells in
+    let i = c.loop-item.item-index in
+    let g = c.in-Global.global in
+    let here : first (global_rules xs p n g) ≡ Some c.in-Some.broken = ap (λ all. first (global_rules all p n g)) (sym c.in-Ok.ensures) ∙ sym c.refusal_of_global.ensures ∙ c.in-Some.is in
+    let rest = items_rules xs (p + 1) (n + cells_of g.cells) (drop (i + 1) xs) in
+    let same : first (global_rules xs p n g ++ rest) ≡ first (items_rules q.items 0 0 q.items) =
+    first-append (global_rules xs p n g) rest ∙ sym (global-left xs xs p n i c.item-item.result c.loop-item-test.true c.item-item.is g c.in-Global.is) ∙ c.loop-item.invariant.same ∙ ap (λ ys. first (items_rules ys 0 0 ys)) c.as_slice-items.ensures in
+    checked-err q (refusal.Refused c.in-Some.broken) (global_rules xs p n g ++ rest) same (first-append (global_rules xs p n g) rest ∙ ap (λ o. or_else o (first rest)) here)
 
 pub returns-in-Err-check_function : goal.returns-in-Err-check_function
 returns-in-Err-check_function c =
@@ -20,7 +36,7 @@ returns-in-Err-check_function c =
     let i = c.loop-item.item-index in
     let f = c.in-Function.function in
     let e = c.in-Err-check_function.refusal in
-    let here : Tells {U = Unit {0}} (function_rules xs p f) (Err e) = subst (λ all. Tells {U = Unit {0}} (function_rules all p f) (Err e)) c.in-Ok.ensures c.in-Err-check_function.ensures in
+    let here : TellsFirst {U = Unit {0}} (function_rules xs p f) (Err e) = subst (λ all. TellsFirst {U = Unit {0}} (function_rules all p f) (Err e)) c.in-Ok.ensures c.in-Err-check_function.ensures in
     let rest = items_rules xs (p + 1) n (drop (i + 1) xs) in
     let same : first (function_rules xs p f ++ rest) ≡ first (items_rules q.items 0 0 q.items) =
     ap first (sym (function-left xs xs p n i c.item-item.result c.loop-item-test.true c.item-item.is f c.in-Function.is)) ∙ c.loop-item.invariant.same ∙ ap (λ ys. first (items_rules ys 0 0 ys)) c.as_slice-items.ensures in

@@ -20,7 +20,7 @@ branches-returns-in-Err t c =
     let ls = c.args.locals.now in
     let test = value_rules all ls wanted.Number c.args.test.now in
     let behind : List Local → Judged = λ ms. then_judge (inner (rules_of c.args.then_part.now) all a ms) (λ ns. inner_part (option_map rules_of c.args.else_part.now) all a ns) in
-    ends-stop {U = Unit {0}} {V = Unit {0}} ls ls ls (judged test ls) behind c.in-Err.refusal (c.in-Err.ensures.simple test ls c.value.ensures)
+    ends-stop {U = Unit {0}} {V = Unit {0}} ls ls ls (judged test ls) behind c.in-Err.refusal (c.in-Err.ensures test ls c.value.ensures)
 
 pub branches-returns-in-Err-inside : goal.branches-returns-in-Err-inside
 branches-returns-in-Err-inside t c =
@@ -31,7 +31,7 @@ branches-returns-in-Err-inside t c =
     let test = value_rules all ls wanted.Number c.args.test.now in
     let last : List Local → Judged = λ ns. inner_part (option_map rules_of c.args.else_part.now) all a ns in
     let behind : List Local → Judged = λ ms. then_judge (inner (rules_of c.args.then_part.now) all a ms) last in
-    ends-then {U = Unit {0}} {V = Unit {0}} ls ls now (judged test ls) behind c.in-Ok.field-0 (Err c.in-Err-inside.refusal) (c.in-Ok.ensures.simple test ls c.value.ensures)
+    ends-then {U = Unit {0}} {V = Unit {0}} ls ls now (judged test ls) behind c.in-Ok.field-0 (Err c.in-Err-inside.refusal) (c.in-Ok.ensures test ls c.value.ensures)
     (ends-stop {U = Unit {0}} {V = Unit {0}} ls now now (inner (rules_of c.args.then_part.now) all a ls) last c.in-Err-inside.refusal c.in-Err-inside.ensures)
 
 pub while_loop-returns-in-Err : goal.while_loop-returns-in-Err
@@ -40,7 +40,7 @@ while_loop-returns-in-Err t c =
     let ls = c.args.locals.now in
     let test = value_rules all ls wanted.Number c.args.test.now in
     let behind : List Local → Judged = λ ms. inner (rules_of c.args.body.now) all (in_a_loop c.args.around) ms in
-    ends-stop {U = Unit {0}} {V = Unit {0}} ls ls ls (judged test ls) behind c.in-Err.refusal (c.in-Err.ensures.simple test ls c.value.ensures)
+    ends-stop {U = Unit {0}} {V = Unit {0}} ls ls ls (judged test ls) behind c.in-Err.refusal (c.in-Err.ensures test ls c.value.ensures)
 
 pub task-returns-in-Err : goal.task-returns-in-Err
 task-returns-in-Err t c =
@@ -48,7 +48,7 @@ task-returns-in-Err t c =
     let ls = c.args.locals.now in
     let mark = clauses_rules all ls 0 c.args.mark.now.clauses in
     let behind : List Local → Judged = λ ms. inner (rules_of c.args.body.now) all (in_a_task c.args.around) ms in
-    ends-stop {U = Unit {0}} {V = Unit {0}} ls ls ls (judged mark ls) behind c.in-Err.refusal (c.in-Err.ensures.simple mark ls (c.clauses.ensures ∙ ap (λ cs. first (clauses_rules all ls 0 cs)) c.as_slice.ensures))
+    ends-stop {U = Unit {0}} {V = Unit {0}} ls ls ls (judged mark ls) behind c.in-Err.refusal (c.in-Err.ensures mark ls (c.clauses.ensures ∙ ap (λ cs. first (clauses_rules all ls 0 cs)) c.as_slice.ensures))
 
 pub for_loop-returns-in-Err-told : goal.for_loop-returns-in-Err-told
 for_loop-returns-in-Err-told t c =
@@ -60,18 +60,18 @@ for_loop-returns-in-Err-told t c =
     let last : List Local → Judged = λ ms. then_judge (inner_part (option_map rules_of c.args.step.now) all a ms) (λ ns. inner (rules_of c.args.body.now) all (in_a_loop a) ns) in
     let behind : List Local → Judged = λ ms. then_judge (judged (optional_rules all ms c.args.test.now) ms) last in
     ends-then {U = Unit {0}} {V = Unit {0}} ls now now (part_rules (option_map rules_of c.args.start.now) all a ls) behind c.in-Ok.field-0 (Err c.in-Err-told.refusal) c.in-Ok.ensures
-    (ends-stop {U = Unit {0}} {V = Unit {0}} now now now (judged test now) last c.in-Err-told.refusal (c.in-Err-told.ensures.simple test now c.optional.ensures))
+    (ends-stop {U = Unit {0}} {V = Unit {0}} now now now (judged test now) last c.in-Err-told.refusal (c.in-Err-told.ensures test now c.optional.ensures))
 
 pub inside_part-returns-in-None : goal.inside_part-returns-in-None
-inside_part-returns-in-None t c = rw c.in-None.is (c.told.ensures.simple [] c.args.locals.now refl)
+inside_part-returns-in-None t c = rw c.in-None.is (c.told.ensures [] c.args.locals.now refl)
 
 pub part-returns-in-None : goal.part-returns-in-None
-part-returns-in-None t c = rw c.in-None.is (c.told.ensures.simple [] c.args.locals.now refl)
+part-returns-in-None t c = rw c.in-None.is (c.told.ensures [] c.args.locals.now refl)
 
 pub statement-returns-in-Empty : goal.statement-returns-in-Empty
 statement-returns-in-Empty t c =
     let ls = c.args.locals.now in
-    ends-along ls ls (judged [] ls) _ c.told.result (rules-empty c.args.statement.now c.args.globals.now c.args.around ls c.in-Empty.is) (c.told.ensures.simple [] ls refl)
+    ends-along ls ls (judged [] ls) _ c.told.result (rules-empty c.args.statement.now c.args.globals.now c.args.around ls c.in-Empty.is) (c.told.ensures [] ls refl)
 
 pub statement-returns-in-Assign : goal.statement-returns-in-Assign
 statement-returns-in-Assign t c =
@@ -79,33 +79,33 @@ statement-returns-in-Assign t c =
     let ls = c.args.locals.now in
     let w = c.in-Assign in
     let parts = assign_rules all ls w.op w.target w.value in
-    ends-along ls ls (judged parts ls) _ c.told-in-Assign.result (rules-assign c.args.statement.now all c.args.around ls w.target w.op w.value w.is) (c.told-in-Assign.ensures.simple parts ls c.assignment.ensures)
+    ends-along ls ls (judged parts ls) _ c.told-in-Assign.result (rules-assign c.args.statement.now all c.args.around ls w.target w.op w.value w.is) (c.told-in-Assign.ensures parts ls c.assignment.ensures)
 
 pub statement-returns-in-Return : goal.statement-returns-in-Return
 statement-returns-in-Return t c =
     let all = c.args.globals.now in
     let ls = c.args.locals.now in
     let parts = return_rules all ls c.args.around c.args.statement.now.line c.in-Return.value in
-    ends-along ls ls (judged parts ls) _ c.told-in-Return.result (rules-return c.args.statement.now all c.args.around ls c.in-Return.value c.in-Return.is) (c.told-in-Return.ensures.simple parts ls c.return_statement.ensures)
+    ends-along ls ls (judged parts ls) _ c.told-in-Return.result (rules-return c.args.statement.now all c.args.around ls c.in-Return.value c.in-Return.is) (c.told-in-Return.ensures parts ls c.return_statement.ensures)
 
 pub statement-returns-in-Break : goal.statement-returns-in-Break
 statement-returns-in-Break t c =
     let ls = c.args.locals.now in
     let parts = where_so (not c.args.around.in_loop) refused.BadJump c.args.statement.now.line in
-    ends-along ls ls (judged parts ls) _ c.told-in-Break.result (rules-break c.args.statement.now c.args.globals.now c.args.around ls c.in-Break.is) (c.told-in-Break.ensures.simple parts ls c.refused_if.ensures)
+    ends-along ls ls (judged parts ls) _ c.told-in-Break.result (rules-break c.args.statement.now c.args.globals.now c.args.around ls c.in-Break.is) (c.told-in-Break.ensures parts ls c.refused_if.ensures)
 
 pub statement-returns-in-Continue : goal.statement-returns-in-Continue
 statement-returns-in-Continue t c =
     let ls = c.args.locals.now in
     let parts = where_so (not c.args.around.in_loop) refused.BadJump c.args.statement.now.line in
-    ends-along ls ls (judged parts ls) _ c.told-in-Continue.result (rules-continue c.args.statement.now c.args.globals.now c.args.around ls c.in-Continue.is) (c.told-in-Continue.ensures.simple parts ls c.refused_if-in-Continue.ensures)
+    ends-along ls ls (judged parts ls) _ c.told-in-Continue.result (rules-continue c.args.statement.now c.args.globals.now c.args.around ls c.in-Continue.is) (c.told-in-Continue.ensures parts ls c.refused_if-in-Continue.ensures)
 
 pub statement-returns-in-TaskWait : goal.statement-returns-in-TaskWait
 statement-returns-in-TaskWait t c =
     let all = c.args.globals.now in
     let ls = c.args.locals.now in
     let parts = wait_rules all ls c.in-TaskWait.sections in
-    ends-along ls ls (judged parts ls) _ c.told-in-TaskWait.result (rules-wait c.args.statement.now all c.args.around ls c.in-TaskWait.sections c.in-TaskWait.is) (c.told-in-TaskWait.ensures.simple parts ls c.wait.ensures)
+    ends-along ls ls (judged parts ls) _ c.told-in-TaskWait.result (rules-wait c.args.statement.now all c.args.around ls c.in-TaskWait.sections c.in-TaskWait.is) (c.told-in-TaskWait.ensures parts ls c.wait.ensures)
 
 pub statement-returns-in-Release : goal.statement-returns-in-Release
 statement-returns-in-Release t c =
@@ -114,7 +114,7 @@ statement-returns-in-Release t c =
     let parts = clauses_rules all ls 0 c.as_slice-in-Release.result.now in
     ends-along ls ls (judged parts ls) _ c.told-in-Release.result
     (rules-release c.args.statement.now all c.args.around ls c.in-Release.list c.in-Release.is ∙ ap (λ cs. judged (clauses_rules all ls 0 cs) ls) (sym c.as_slice-in-Release.ensures))
-    (c.told-in-Release.ensures.simple parts ls c.clauses.ensures)
+    (c.told-in-Release.ensures parts ls c.clauses.ensures)
 
 pub statements-statement-requires : goal.statements-statement-requires
 statements-statement-requires t c =
@@ -167,7 +167,7 @@ statement-returns-in-Call t c =
     let ls = c.args.locals.now in
     let w = c.in-Call in
     let parts = all_of (call_findings all ls w.name c.args.statement.now.line true (map (findings all ls) w.values)) in
-    ends-along ls ls (judged parts ls) _ c.told-in-Call.result (rules-call c.args.statement.now all c.args.around ls w.name w.values w.is) (c.told-in-Call.ensures.simple parts ls c.call_statement.ensures)
+    ends-along ls ls (judged parts ls) _ c.told-in-Call.result (rules-call c.args.statement.now all c.args.around ls w.name w.values w.is) (c.told-in-Call.ensures parts ls c.call_statement.ensures)
 
 pub statement-returns-in-Print : goal.statement-returns-in-Print
 statement-returns-in-Print t c =
@@ -175,4 +175,4 @@ statement-returns-in-Print t c =
     let ls = c.args.locals.now in
     let w = c.in-Print in
     let parts = print_rules all ls c.args.statement.now.line w.format w.values in
-    ends-along ls ls (judged parts ls) _ c.told-in-Print.result (rules-print c.args.statement.now all c.args.around ls w.format w.values w.is) (c.told-in-Print.ensures.simple parts ls c.print.ensures)
+    ends-along ls ls (judged parts ls) _ c.told-in-Print.result (rules-print c.args.statement.now all c.args.around ls w.format w.values w.is) (c.told-in-Print.ensures parts ls c.print.ensures)

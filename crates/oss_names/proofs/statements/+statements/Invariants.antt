@@ -4,13 +4,13 @@ use Rattle.std.specs.Prelude.{Result}
 use Rattle.oss_syntax.specs.declared.tree.program.Local.{Local}
 use Rattle.oss_syntax.specs.declared.refusal.Refusal.{Refusal}
 use Rattle.oss_grammar.specs.StaticRules.{rules_of_all}
-use Rattle.oss_names.specs.Ends.{Ends}
+use Rattle.oss_names.specs.PartChecks.{IsPartChecked}
 use Rattle.oss_names.proofs.statements.+statements.Given as goal
 
 -- as the check of those left ends, that of all ends
 abbrev pub invariant-statements-loop-one : goal.invariant-statements-loop-one
-invariant-statements-loop-one l = (result : Result (Unit {0}) Refusal) (now : List Local) → Ends l.locals (rules_of_all (drop l.one-index l.list) l.globals l.around l.locals) result now
-    → Ends l.fn.locals (rules_of_all l.list l.globals l.around l.fn.locals) result now
+invariant-statements-loop-one l = (result : Result (Unit {0}) Refusal) (now : List Local) → IsPartChecked l.locals (rules_of_all (drop l.one-index l.list) l.globals l.around l.locals) result now
+    → IsPartChecked l.fn.locals (rules_of_all l.list l.globals l.around l.fn.locals) result now
 
 -- each function has a smaller part of the statement than its caller, or stands below it
 abbrev pub decreases-statement : goal.decreases-statement

@@ -1,21 +1,44 @@
-use Rattle.std.proofs.Common.{◌∙◌}
-use Rattle.oss_names.proofs.EndLemmas.{declared-after, declared-rules, declared-stays}
+use Rattle.std.proofs.lemmas.Grind.{common_steps}
+use Rattle.std.proofs.Common.{◌≡◌, ◌+◌, Ok, Err, List, [], ap, arith, drop, refl}
+use Rattle.oss_syntax.specs.declared.tree.program.Local.{Local}
+use Rattle.oss_grammar.specs.StaticRules.{Judged, declare_all, declare_one, judged, then_judge}
+use Rattle.oss_names.proofs.EndLemmas.{declared-left, ends-along, ends-stop, ends-then, prefix-same}
 use Rattle.oss_names.proofs.statements.declare.Goals as goal
+
+pub returns-in-Err : goal.returns-in-Err
+returns-in-Err c =
+    let all = c.args.globals.now in
+    let start = c.args.start in
+    let ls = c.loop-local.locals in
+    let now = c.declare_local.new.locals in
+    let ds = c.args.declared.now in
+    let i = c.loop-local.local-index in
+    let d = c.local-item.result in
+    let behind : List Local → Judged = λ ms. declare_all all start (drop (i + 1) ds) ms in
+    c.loop-local.invariant (Err c.in-Err.refusal) now
+    (ends-along ls now (then_judge (declare_one all start d ls) behind) _ (Err c.in-Err.refusal) (declared-left all start ls ds i d c.loop-local-test.true c.local-item.is)
+    (ends-stop {U = Unit {0}} {V = Unit {0}} ls now now (declare_one all start d ls) behind c.in-Err.refusal c.in-Err.ensures))
 
 pub loop-local-preserved : goal.loop-local-preserved
 loop-local-preserved c =
     let all = c.args.globals.now in
     let start = c.args.start in
     let ls = c.loop-local.locals in
-    let new = c.declare_local.new.locals in
+    let mid = c.declare_local.new.locals in
     let ds = c.args.declared.now in
     let i = c.loop-local.local-index in
     let d = c.local-item.result in
-    let within = c.loop-local-test.true in
-    let at = c.local-item.is in
-    let is = c.in_ok-here.ensures.after in
-    record {
-      rules = declared-rules all start ls new ds i d within at is c.loop-local.broken c.in_ok-here.here c.before-broken.result c.in_ok-here.ensures.rules c.before-broken.ensures ∙ c.loop-local.invariant.rules;
-      after = declared-after all start ls new ds i d within at is ∙ c.loop-local.invariant.after;
-      stays = declared-stays all start ls new ds i d within at is c.args.locals.now c.loop-local.invariant.stays;
-    }
+    let behind : List Local → Judged = λ ms. declare_all all start (drop (i + 1) ds) ms in
+    λ r now h. c.loop-local.invariant r now
+    (ends-along ls now (then_judge (declare_one all start d ls) behind) _ r (declared-left all start ls ds i d c.loop-local-test.true c.local-item.is)
+    (ends-then {U = Unit {0}} {V = Unit {0}} ls mid now (declare_one all start d ls) behind c.in-Ok.field-0 r c.in-Ok.ensures h))
+
+pub returns : goal.returns
+returns c =
+    let all = c.args.globals.now in
+    let start = c.args.start in
+    let ls = c.loop-local.locals in
+    let ds = c.args.declared.now in
+    let none : drop c.loop-local.local-index ds ≡ [] = grind (arith, common_steps) in
+    c.loop-local.invariant (Ok tt) ls
+    (ends-along ls ls (judged [] ls) _ (Ok tt) (ap (λ xs. declare_all all start xs ls) none) (record { tells = refl; leaves = (refl, prefix-same ls) }))

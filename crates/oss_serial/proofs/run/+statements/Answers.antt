@@ -1,7 +1,7 @@
 use Rattle.std.proofs.Common.{◌≡◌, ◌∙◌, ap, sym, subst, List, Err}
 use Rattle.oss_syntax.specs.declared.tree.stmt.Stmt.{Stmt}
 use Rattle.oss_serial.specs.Scalars.{State, Ending, Goes, Stops, entered, printed_values, task_run, mark_accesses, run_of, runs_of, in_order, ticked}
-use Rattle.oss_serial.specs.Endings.{Ends, stop_for}
+use Rattle.oss_serial.specs.Endings.{EndsAs, stop_for}
 use Rattle.std.specs.Prelude.{None}
 use Rattle.oss_syntax.specs.declared.access.Access.{Access}
 use Rattle.oss_model.specs.Context.{create_fault}
@@ -22,7 +22,7 @@ run_one-returns-in-Err-tick t c =
 
 pub run_one-returns-in-Ok-tick-2 : goal.run_one-returns-in-Ok-tick-2
 run_one-returns-in-Ok-tick-2 t c =
-    let P : Stmt → Type 0 = λ body. Ends (task_run (mark_accesses c.args.variables.now.names c.in-Task.mark.clauses) c.args.statement.now.line (λ child. run_of body c.args.variables.now.names c.args.variables.now.kinds child) c.tick-in-Task.new.self) c.run_task.result c.run_task.new.state in
+    let P : Stmt → Type 0 = λ body. EndsAs (task_run (mark_accesses c.args.variables.now.names c.in-Task.mark.clauses) c.args.statement.now.line (λ child. run_of body c.args.variables.now.names c.args.variables.now.kinds child) c.tick-in-Task.new.self) c.run_task.result c.run_task.new.state in
     ends_along _ (task_run (mark_accesses c.args.variables.now.names c.in-Task.mark.clauses) c.args.statement.now.line (λ child. run_of c.in-Task.body c.args.variables.now.names c.args.variables.now.kinds child) c.tick-in-Task.new.self) _ _
     (run-task c.args.statement.now c.args.variables.now.names c.args.variables.now.kinds c.args.state.now c.in-Task.mark c.in-Task.body c.in-Task.is ∙ c.in-Ok-tick-2.ensures (λ next. task_run (mark_accesses c.args.variables.now.names c.in-Task.mark.clauses) c.args.statement.now.line (λ child. run_of c.in-Task.body c.args.variables.now.names c.args.variables.now.kinds child) next))
     (subst P c.get.ensures c.run_task.ensures)
@@ -83,16 +83,16 @@ pub run_task-returns-in-Err-enter : goal.run_task-returns-in-Err-enter
 run_task-returns-in-Err-enter t c =
     let begins : create_fault c.args.state.now.context ≡ None = sym c.in-Ok.ensures in
     let all : c.in-Ok-declared.accesses ≡ mark_accesses c.args.variables.now.names c.args.mark.now.clauses = c.in-Ok-declared.ensures ∙ ap (mark_accesses c.args.variables.now.names) c.as_slice.ensures in
-    let P : List Access → Type 0 = λ xs. Ends {U = Unit {0}} (task_run xs c.args.line (λ child. run_of c.args.body.now c.args.variables.now.names c.args.variables.now.kinds child) c.args.state.now) (Err (stop_for c.args.line c.in-Err-enter.refused)) c.enter.new.self in
-    let Q : Stop → Type 0 = λ why. Ends {U = Unit {0}} (task_run (mark_accesses c.args.variables.now.names c.args.mark.now.clauses) c.args.line (λ child. run_of c.args.body.now c.args.variables.now.names c.args.variables.now.kinds child) c.args.state.now) (Err why) c.enter.new.self in
+    let P : List Access → Type 0 = λ xs. EndsAs {U = Unit {0}} (task_run xs c.args.line (λ child. run_of c.args.body.now c.args.variables.now.names c.args.variables.now.kinds child) c.args.state.now) (Err (stop_for c.args.line c.in-Err-enter.refused)) c.enter.new.self in
+    let Q : Stop → Type 0 = λ why. EndsAs {U = Unit {0}} (task_run (mark_accesses c.args.variables.now.names c.args.mark.now.clauses) c.args.line (λ child. run_of c.args.body.now c.args.variables.now.names c.args.variables.now.kinds child) c.args.state.now) (Err why) c.enter.new.self in
     subst Q (sym c.stop_at.ensures) (subst P all (task-enters c.in-Ok-declared.accesses c.args.line (λ child. run_of c.args.body.now c.args.variables.now.names c.args.variables.now.kinds child) c.args.state.now begins (Unit {0}) (Unit {0}) c.in-Err-enter.refused c.enter.new.self c.in-Err-enter.ensures))
 
 pub run_task-returns-in-Err-run_one : goal.run_task-returns-in-Err-run_one
 run_task-returns-in-Err-run_one t c =
     let begins : create_fault c.args.state.now.context ≡ None = sym c.in-Ok.ensures in
     let all : c.in-Ok-declared.accesses ≡ mark_accesses c.args.variables.now.names c.args.mark.now.clauses = c.in-Ok-declared.ensures ∙ ap (mark_accesses c.args.variables.now.names) c.as_slice.ensures in
-    let P : List Access → Type 0 = λ xs. Ends {U = Unit {0}} (task_run xs c.args.line (λ child. run_of c.args.body.now c.args.variables.now.names c.args.variables.now.kinds child) c.args.state.now) (Err c.in-Err-run_one.stop) c.run_one.new.state in
-    let Q : State → Type 0 = λ st. Ends {U = Unit {0}} (run_of c.args.body.now c.args.variables.now.names c.args.variables.now.kinds st) (Err c.in-Err-run_one.stop) c.run_one.new.state in
+    let P : List Access → Type 0 = λ xs. EndsAs {U = Unit {0}} (task_run xs c.args.line (λ child. run_of c.args.body.now c.args.variables.now.names c.args.variables.now.kinds child) c.args.state.now) (Err c.in-Err-run_one.stop) c.run_one.new.state in
+    let Q : State → Type 0 = λ st. EndsAs {U = Unit {0}} (run_of c.args.body.now c.args.variables.now.names c.args.variables.now.kinds st) (Err c.in-Err-run_one.stop) c.run_one.new.state in
     subst P all (stop_along (Unit {0}) (Unit {0}) (run_of c.args.body.now c.args.variables.now.names c.args.variables.now.kinds (entered c.in-Ok-declared.accesses c.args.state.now)) _ c.in-Err-run_one.stop c.run_one.new.state
     (λ kind line e. task-stops c.in-Ok-declared.accesses c.args.line (λ child. run_of c.args.body.now c.args.variables.now.names c.args.variables.now.kinds child) c.args.state.now begins kind line c.run_one.new.state c.in-Ok-enter.ensures.1 e)
     (subst Q c.in-Ok-enter.ensures.2 c.in-Err-run_one.ensures))
