@@ -124,6 +124,7 @@ expect "one word" 2 ../nothing usage run
 expect "two files" 2 ../nothing usage run short.c empty.c
 expect "an option" 2 ../nothing usage run short.c --fuel=5
 expect "an empty word" 2 ../nothing usage ''
+expect "an empty command" 2 ../nothing usage '' short.c
 expect "an empty file name" 2 ../nothing usage run ''
 expect "an empty file name to check" 2 ../nothing usage check ''
 expect "an empty second file name" 2 ../nothing usage run short.c ''
@@ -141,6 +142,18 @@ expect "a file of 1,048,576 bytes to check" 0 ok ../nothing check full.c
 expect "a file of 1,048,577 bytes" 3 ../nothing too_large run long.c
 expect "a file of 1,048,577 bytes to check" 3 ../nothing too_large check long.c
 expect "a file of 1,048,577 bytes with a bad byte" 3 ../nothing too_large check long_bytes.c
+
+# The creation of a task is a tick of its creator, and so is a print.
+for count in 999998 999999; do
+  awk -v count="$count" 'BEGIN {
+    printf "int main() {"; for (i = 0; i < count; i++) printf ";"
+    print "\n#pragma oss task\n{;;}\nprintf(\"a\\n\");\n}"
+  }' >"ticks_$count.c"
+done
+echo a >letter
+echo 'fault: OutOfFuel at line 4' >out_of_fuel
+expect "1,000,000 ticks, one of them a creation" 0 letter ../nothing run ticks_999998.c
+expect "1,000,001 ticks, one of them a creation" 1 ../nothing out_of_fuel run ticks_999999.c
 
 # What stands outside fails: memory is wanting, and an output takes nothing.
 awk 'BEGIN { printf "int main() {"; for (i = 0; i < 1000000; i++) printf ";"; printf "}" }' >statements.c
