@@ -1,6 +1,7 @@
--- The words that the top call is given: those of the command line where they were read; none, so that they are refused, where a word
--- is not UTF-8 or the command line cannot be had; and nothing at all where memory was wanting.
--- Read against: of `nest6 run a.c` they are `run` and `a.c`; of `nest6 run` and a byte 255 there are none, and the status is 2.
+-- The words of a call, the name of the program first: those of the command line where they were read; none, so that they are refused,
+-- where a word is not UTF-8 or the command line cannot be had; and nothing at all where memory was wanting.
+-- Read against: of `nest6 run a.c` they are `nest6`, `run` and `a.c`; of `nest6 run` and a byte 255 there are none, and the status
+-- is 2.
 use Rattle.std.specs.Prelude.{◌≡◌, ◌≢◌, [], Option, Some, None, Result, Ok, Err}
 use Rattle.std.specs.Prelude.{String}
 use Rattle.std.specs.Global.{Global, Vec}

@@ -4,8 +4,7 @@ ghost use Rattle.std.specs.Prelude.{◌≡◌, IfOk};
 ghost use Rattle.oss_model.specs.Texts.{fault_line as line_of_fault, placed_line, refusal_line as line_of_refusal};
 
 use crate::words::{word_of_fault, word_of_refusal};
-use oss_model::{FaultKind, Refused};
-use oss_syntax::Bytes;
+use oss_syntax::{Bytes, FaultKind, Refused};
 use std::alloc::{AllocError, Global};
 
 /// `fault: KIND at line N` and a newline, of a fault on this line. Want of memory is the one error.

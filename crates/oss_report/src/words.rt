@@ -3,7 +3,7 @@
 ghost use Rattle.std.specs.Prelude.{◌≡◌, codes};
 ghost use Rattle.oss_model.specs.Texts.{fault_word, refused_word};
 
-use oss_model::{FaultKind, RefusedKind};
+use oss_syntax::{FaultKind, RefusedKind};
 
 /// The word for a kind of fault.
 pub fn word_of_fault(kind: FaultKind) -> &'static [u8]

@@ -24,15 +24,16 @@ use Rattle.oss_lex.proofs.Walk.{step_shorter}
 use Rattle.oss_parse.specs.Parsed.{told_of}
 use Rattle.oss_parse.specs.ProgramReading.{read_text}
 use Rattle.oss_parse.proofs.ParsedLemmas.{parsed}
-use Rattle.oss_report.specs.Outputs.{output_of}
 use Rattle.oss_top.specs.CommandWords.{Command}
 use Rattle.oss_top.specs.CommandWords.Command.{run, check}
 use Rattle.oss_top.specs.ProgramTexts.{Refuses}
 use Rattle.oss_top.specs.ProgramTexts.Refuses.{by_grammar, by_rules}
-use Rattle.oss_top.specs.Reply.{IsFileReply, IsTextReply, IsProgramReply, accepted_line, error_of, most_bytes, run_fuel, status_of, too_large_line, unsupported_line}
+use Rattle.oss_top.specs.Reply.{IsFileReply, IsTextReply, IsProgramReply, accepted_line, answer_reply, done_reply, error_reply, most_bytes, run_fuel, too_large_line, unsupported_line}
 use Rattle.oss_top.specs.Reply.IsProgramReply.{checked, ran, not_built}
 use Rattle.oss_top.specs.Reply.IsTextReply.{accepted, refused_text}
 use Rattle.oss_top.specs.Reply.IsFileReply.{too_large, fits}
+use Rattle.oss_top.specs.declared.reply.Reply.{Reply}
+use Rattle.oss_top.specs.declared.status.Status.TheVariants as status
 
 -- the tokens of a text from a place on, or the first fault there
 abbrev Read : LinePart → ℕ → List ℕ → Type 0
@@ -69,32 +70,28 @@ some_parse text = from (some_reading (length text) Beginning 1 text (omega arith
   from (inl (ts, w)) = told ts w (told_of text ts (read_text ts)) refl
   from (inr (kind, at, w)) = inr (record { kind = kind; line = at; token = 0 }, by_tokens w refl)
 
--- a reply of any kind
-abbrev Some_of : (ℕ → List ℕ → List ℕ → Type 0) → Type 0
-Some_of R = (s : ℕ) × (out : List ℕ) × (err : List ℕ) × R s out err
-
-program_reply : (c : Command) (p : Program) → Some_of (IsProgramReply c p)
-program_reply (check file) p = (0, accepted_line, [], checked (refl, refl, refl))
+program_reply : (c : Command) (p : Program) → (reply : Reply) × IsProgramReply c p reply
+program_reply (check file) p = (done_reply accepted_line, checked refl)
 program_reply (run file) p = on (is_built p) refl where
-  on : (b : Bool) → is_built p ≡ b → Some_of (IsProgramReply (run file) p)
-  on true e = (status_of (answer_of p run_fuel), output_of (answer_of p run_fuel), error_of (answer_of p run_fuel), ran e (refl, refl, refl))
-  on false e = (3, [], unsupported_line, not_built e (refl, refl, refl))
+  on : (b : Bool) → is_built p ≡ b → (reply : Reply) × IsProgramReply (run file) p reply
+  on true e = (answer_reply (answer_of p run_fuel), ran e refl)
+  on false e = (error_reply status.TextRefused unsupported_line, not_built e refl)
 
-text_reply : (c : Command) (text : List ℕ) → Some_of (IsTextReply c text)
+text_reply : (c : Command) (text : List ℕ) → (reply : Reply) × IsTextReply c text reply
 text_reply c text = from (some_parse text) where
-  refused : (r : Refused) → Refuses text r → Some_of (IsTextReply c text)
-  refused r w = (3, [], refusal_line r.kind r.line, refused_text r w (refl, refl, refl))
+  refused : (r : Refused) → Refuses text r → (reply : Reply) × IsTextReply c text reply
+  refused r w = (error_reply status.TextRefused (refusal_line r.kind r.line), refused_text r w refl)
 
-  ruled : (p : Program) → IsProgramText text p → (rules : List Refused) → program_rules p ≡ rules → Some_of (IsTextReply c text)
-  ruled p w [] e = let (s, out, err, is) = program_reply c p in (s, out, err, accepted p (record { is_text = w; obeys = e }) is)
+  ruled : (p : Program) → IsProgramText text p → (rules : List Refused) → program_rules p ≡ rules → (reply : Reply) × IsTextReply c text reply
+  ruled p w [] e = let (reply, is) = program_reply c p in (reply, accepted p (record { is_text = w; obeys = e }) is)
   ruled p w (r ∷ rest) e = refused r (by_rules p w (ap first e))
 
-  from : Parse text → Some_of (IsTextReply c text)
+  from : Parse text → (reply : Reply) × IsTextReply c text reply
   from (inl (p, w)) = ruled p w (program_rules p) refl
   from (inr (r, w)) = refused r (by_grammar w)
 
-pub file_reply : (text : List ℕ) (c : Command) → Some_of (IsFileReply c text)
+pub file_reply : (text : List ℕ) (c : Command) → (reply : Reply) × IsFileReply c text reply
 file_reply text c = on (nat_lt most_bytes (length text)) refl where
-  on : (b : Bool) → nat_lt most_bytes (length text) ≡ b → Some_of (IsFileReply c text)
-  on true e = (3, [], too_large_line, too_large (grind (arith, nat_tests)) (refl, refl, refl))
-  on false e = let (s, out, err, is) = text_reply c text in (s, out, err, fits (grind (arith, nat_tests)) is)
+  on : (b : Bool) → nat_lt most_bytes (length text) ≡ b → (reply : Reply) × IsFileReply c text reply
+  on true e = (error_reply status.TextRefused too_large_line, too_large (grind (arith, nat_tests)) refl)
+  on false e = let (reply, is) = text_reply c text in (reply, fits (grind (arith, nat_tests)) is)

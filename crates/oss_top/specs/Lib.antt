@@ -2,3 +2,4 @@ pub mod CommandWords
 pub mod OneReply
 pub mod ProgramTexts
 pub mod Reply
+pub mod Statuses

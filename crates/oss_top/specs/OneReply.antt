@@ -1,11 +1,11 @@
--- A text has one reply to a command: there is one, and of two by their definition the status, the output and the error output are
--- equal.
+-- A text has one reply to a command: there is one, and two by their definition are equal in status, output and error output.
 -- Read against: a text is accepted as one program or refused for one reason, since its grammar leaves no choice; and a text that is
 -- too long is refused as that, whatever stands in it.
-use Rattle.std.specs.Prelude.{ℕ, List}
+use Rattle.std.specs.Prelude.{◌≡◌, ℕ, List}
 use Rattle.oss_top.specs.CommandWords.{Command}
-use Rattle.oss_top.specs.Reply.{Is, IsFileReply}
+use Rattle.oss_top.specs.Reply.{IsFileReply}
+use Rattle.oss_top.specs.declared.reply.Reply.{Reply}
 
 pub record IsReplied (text : List ℕ) : Type 0 where
-  pub some : (c : Command) → (s : ℕ) × (out : List ℕ) × (err : List ℕ) × IsFileReply c text s out err
-  pub one : (c : Command) (s t : ℕ) (out err other_out other_err : List ℕ) → IsFileReply c text s out err → IsFileReply c text t other_out other_err → Is s out err t other_out other_err
+  pub some : (c : Command) → (reply : Reply) × IsFileReply c text reply
+  pub one : (c : Command) (reply other : Reply) → IsFileReply c text reply → IsFileReply c text other → reply ≡ other

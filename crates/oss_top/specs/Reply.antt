@@ -1,30 +1,32 @@
 -- What the top call replies: a status, the bytes for the output and those for the error output.
 --
---     0  the command is done                    `ok`, or the program's output    nothing
---     1  the program ran into a fault           the output before it             fault: KIND at line N
---     2  the words are refused                  nothing                          the usage line
---     3  the text is refused                    nothing                          refused: KIND at line N
---     4  the file could not be read             nothing                          cannot read FILE
---     5  a text could not be written            a prefix of it                   a prefix of it, behind the whole output alone
---     6  memory is wanting                      nothing                          nothing
+--     0  Done           the command is done              `ok`, or the program's output    nothing
+--     1  Fault          the program ran into a fault     the output before it             fault: KIND at line N
+--     2  WordsRefused   the words are refused            nothing                          the usage line
+--     3  TextRefused    the text is refused              nothing                          refused: KIND at line N
+--     4  Unread         the file could not be read       nothing                          cannot read FILE
+--     5  Unwritten      a text could not be written      a prefix of it                   a prefix of it, behind the whole output alone
+--     6  OutOfMemory    memory is wanting                nothing                          nothing
 --
--- Read against: of `long a[2]; int main() { }` the reply to `check` is 0 with `ok`, and to `run` 3 with Unsupported at line 1; of the
--- empty text it is 3 with NoMain at line 1 to both.
-use Rattle.std.specs.Prelude.{◌≡◌, ◌≢◌, ◌≤◌, ◌<◌, ◌⊎◌, ℕ, true, false, List, [], ◌∷◌, ◌++◌, length, take, Option, Some, None, IfSome, codes}
-use Rattle.std.specs.Io.KnownBytes.{append_known}
-use Rattle.oss_io.specs.Faults.{Rises}
+-- Read against: of `long a[2]; int main() { }` the reply to `check` is Done with `ok`, and to `run` TextRefused with Unsupported at
+-- line 1; of the empty text it is TextRefused with NoMain at line 1 to both; and of words that are refused, no file is read.
+use Rattle.std.specs.Prelude.{◌≡◌, ◌≤◌, ◌<◌, ◌⊎◌, ℕ, true, false, List, [], ◌∷◌, ◌++◌, length, Some, None, IfSome, codes}
+use Rattle.oss_io.specs.Spans.{ShelfSpan, ShelfFailed, ShelfQuiet, SinkSpan, SinkFailed, TookWhole, TookPart, Untouched}
 use Rattle.oss_syntax.specs.declared.tree.program.Program.{Program}
-use Rattle.oss_model.specs.declared.answer.Answer.{Answer}
-use Rattle.oss_model.specs.declared.answer.Answer.TheVariants.{Done, Fault}
 use Rattle.oss_syntax.specs.declared.refusal.Refused.{Refused}
 use Rattle.oss_syntax.specs.declared.refusal.RefusedKind.TheVariants as refused
+use Rattle.oss_model.specs.declared.answer.Answer.{Answer}
+use Rattle.oss_model.specs.declared.answer.Answer.TheVariants.{Done, Fault}
+use Rattle.oss_model.specs.Texts.{fault_line, refusal_line}
 use Rattle.oss_grammar.specs.Built.{is_built}
 use Rattle.oss_serial.specs.Scalars.{answer_of}
-use Rattle.oss_model.specs.Texts.{fault_line, refusal_line}
-use Rattle.oss_report.specs.Outputs.{output_of}
 use Rattle.oss_top.specs.CommandWords.{Command, asked_of, file_of, usage_line}
 use Rattle.oss_top.specs.CommandWords.Command.{run, check}
 use Rattle.oss_top.specs.ProgramTexts.{Accepts, Refuses}
+use Rattle.oss_top.specs.Statuses.{number_of}
+use Rattle.oss_top.specs.declared.reply.Reply.{Reply}
+use Rattle.oss_top.specs.declared.status.Status.{Status}
+use Rattle.oss_top.specs.declared.status.Status.TheVariants as status
 
 -- the most bytes of a program text, and the ticks of a task
 abbrev pub most_bytes : ℕ
@@ -45,74 +47,67 @@ too_large_line = refusal_line refused.TooLarge 1
 abbrev pub unread_line : List ℕ → List ℕ
 unread_line file = codes "cannot read " ++ file ++ 10 ∷ []
 
--- the status of a run that has this answer: 1 exactly where it is a fault
-abbrev pub status_of : Answer → ℕ
-status_of (Done text cells) = 0
-status_of (Fault kind line text) = 1
+-- the reply to a command that is done, with this output
+abbrev pub done_reply : List ℕ → Reply
+done_reply text = record { status = status.Done; out = text; err = [] }
 
--- what is told of it on the error output
-abbrev pub error_of : Answer → List ℕ
-error_of (Done text cells) = []
-error_of (Fault kind line text) = fault_line kind line
-
--- the reply is these three
-abbrev pub Is : ℕ → List ℕ → List ℕ → ℕ → List ℕ → List ℕ → Type 0
-Is s o e status out err = (status ≡ s) × (out ≡ o) × (err ≡ e)
+-- a reply that has a line for the error output alone
+abbrev pub error_reply : Status → List ℕ → Reply
+error_reply s line = record { status = s; out = []; err = line }
 
 -- the reply to a run that has this answer
-abbrev pub IsAnswerReply : Answer → ℕ → List ℕ → List ℕ → Type 0
-IsAnswerReply a status out err = Is (status_of a) (output_of a) (error_of a) status out err
+abbrev pub answer_reply : Answer → Reply
+answer_reply (Done text cells) = done_reply text
+answer_reply (Fault kind line text) = record { status = status.Fault; out = text; err = fault_line kind line }
 
 -- The reply to a program that breaks no rule. A check accepts it. A run has the answer of the program's sequential run, or refuses it
 -- where that run is not built.
-pub data IsProgramReply : Command → Program → ℕ → List ℕ → List ℕ → Type 0 where
-  checked : {file : List ℕ} {program : Program} {status : ℕ} {out err : List ℕ}
-      → Is 0 accepted_line [] status out err → IsProgramReply (check file) program status out err
-  ran : {file : List ℕ} {program : Program} {status : ℕ} {out err : List ℕ}
-      → is_built program ≡ true → IsAnswerReply (answer_of program run_fuel) status out err → IsProgramReply (run file) program status out err
-  not_built : {file : List ℕ} {program : Program} {status : ℕ} {out err : List ℕ}
-      → is_built program ≡ false → Is 3 [] unsupported_line status out err → IsProgramReply (run file) program status out err
+pub data IsProgramReply : Command → Program → Reply → Type 0 where
+  checked : {file : List ℕ} {program : Program} {reply : Reply} → reply ≡ done_reply accepted_line → IsProgramReply (check file) program reply
+  ran : {file : List ℕ} {program : Program} {reply : Reply}
+      → is_built program ≡ true → reply ≡ answer_reply (answer_of program run_fuel) → IsProgramReply (run file) program reply
+  not_built : {file : List ℕ} {program : Program} {reply : Reply}
+      → is_built program ≡ false → reply ≡ error_reply status.TextRefused unsupported_line → IsProgramReply (run file) program reply
 
 -- the reply to a text of at most 1,048,576 bytes
-pub data IsTextReply (c : Command) (text : List ℕ) (status : ℕ) (out err : List ℕ) : Type 0 where
-  accepted : (program : Program) → Accepts text program → IsProgramReply c program status out err → IsTextReply c text status out err
-  refused_text : (r : Refused) → Refuses text r → Is 3 [] (refusal_line r.kind r.line) status out err → IsTextReply c text status out err
+pub data IsTextReply (c : Command) (text : List ℕ) (reply : Reply) : Type 0 where
+  accepted : (program : Program) → Accepts text program → IsProgramReply c program reply → IsTextReply c text reply
+  refused_text : (r : Refused) → Refuses text r → reply ≡ error_reply status.TextRefused (refusal_line r.kind r.line) → IsTextReply c text reply
 
 -- the reply to a text of any length
-pub data IsFileReply (c : Command) (text : List ℕ) (status : ℕ) (out err : List ℕ) : Type 0 where
-  too_large : most_bytes < length text → Is 3 [] too_large_line status out err → IsFileReply c text status out err
-  fits : length text ≤ most_bytes → IsTextReply c text status out err → IsFileReply c text status out err
+pub data IsFileReply (c : Command) (text : List ℕ) (reply : Reply) : Type 0 where
+  too_large : most_bytes < length text → reply ≡ error_reply status.TextRefused too_large_line → IsFileReply c text reply
+  fits : length text ≤ most_bytes → IsTextReply c text reply → IsFileReply c text reply
 
--- this is the reply to a command by some text, which is the one that the shelf holds under its file, where it tells it
-abbrev pub OfText : (List ℕ → Option (List ℕ)) → ℕ → List ℕ → List ℕ → Command → Type 0
-OfText held status out err c = (text : List ℕ) × IfSome (held (file_of c)) (λ t. text ≡ t) × IsFileReply c text status out err
+-- The reply to words, by what they ask for and what is seen of the shelf:
+--   their usage, exactly where they are refused, and then nothing is read;
+--   that the file could not be read, only where the shelf failed in this call, at the name of the file;
+--   else by a text, which is the one that the shelf holds under the name where it tells it, and the shelf has not failed;
+--   or that memory is wanting, which may come at any time before something is written, and so nothing is.
+pub data IsReply (words : List (List ℕ)) (shelf : ShelfSpan) (reply : Reply) : Type 0 where
+  usage : asked_of words ≡ None → ShelfQuiet shelf → reply ≡ error_reply status.WordsRefused usage_line → IsReply words shelf reply
+  unread : (c : Command) → asked_of words ≡ Some c → ShelfFailed shelf → shelf.after.last ≡ file_of c
+      → reply ≡ error_reply status.Unread (unread_line (file_of c)) → IsReply words shelf reply
+  by_text : (c : Command) (text : List ℕ) → asked_of words ≡ Some c → ShelfQuiet shelf → IfSome (shelf.before.held (file_of c)) (λ t. text ≡ t)
+      → IsFileReply c text reply → IsReply words shelf reply
+  no_memory : reply ≡ error_reply status.OutOfMemory [] → IsReply words shelf reply
 
--- The reply to words, from a shelf that held these texts; `before` and `now` are its counts of faults, `last` the name of its last one.
-pub record IsReply (words : List (List ℕ)) (held : List ℕ → Option (List ℕ)) (before now : ℕ) (last : List ℕ) (status : ℕ) (out err : List ℕ) : Type 0 where
-  pub known : (status ≤ 6) × (status ≢ 5)
-  -- 2 exactly where the words are refused, or 6
-  pub usage : status ≡ 2 → (asked_of words ≡ None) × (out ≡ []) × (err ≡ usage_line)
-  pub refused_words : asked_of words ≡ None → (status ≡ 2) ⊎ (status ≡ 6)
-  -- 4 only where the shelf's count rose in this call, and its last fault names the file
-  pub unread : status ≡ 4 → Rises before now × (out ≡ []) × IfSome (asked_of words) (λ c. (last ≡ file_of c) × (err ≡ unread_line (file_of c)))
-  -- 0, 1 and 3 by the text
-  pub by_text : (status ≡ 0) ⊎ ((status ≡ 1) ⊎ (status ≡ 3)) → IfSome (asked_of words) (λ c. OfText held status out err c)
-  -- no read failed, but for 4, and where memory is wanting
-  pub quiet : status ≢ 4 → status ≢ 6 → now ≡ before
-  pub memory : status ≡ 6 → (out ≡ []) × (err ≡ [])
+-- What could not be written of a reply: the output, and then the error output is as it was; or the error output, behind the whole
+-- output.
+pub data IsUnwritten (out err : SinkSpan) (reply : Reply) : Type 0 where
+  no_output : TookPart out reply.out → Untouched err → IsUnwritten out err reply
+  no_errors : TookWhole out reply.out → TookPart err reply.err → IsUnwritten out err reply
 
--- a sink after a text that it could not take whole
-pub record IsCut (taken now : Option (List ℕ)) (text : List ℕ) : Type 0 where
-  pub count : ℕ
-  pub short : count < length text
-  pub prefix : now ≡ append_known taken (take count text)
+-- What a call did that ended with this number: it wrote the whole of a reply to its words and ended with the number of its status, or
+-- it could not, and then 5 is the number.
+pub data IsOutcome (words : List (List ℕ)) (shelf : ShelfSpan) (out err : SinkSpan) (number : ℕ) : Type 0 where
+  written : (reply : Reply) → IsReply words shelf reply → TookWhole out reply.out → TookWhole err reply.err
+      → number ≡ number_of reply.status → IsOutcome words shelf out err number
+  unwritten : (reply : Reply) → IsReply words shelf reply → IsUnwritten out err reply
+      → number ≡ number_of status.Unwritten → IsOutcome words shelf out err number
 
--- What could not be written: the output, and then the error output is as it was; or the error output, behind the whole output.
-pub data IsUnwritten (out_old out_new : Option (List ℕ)) (out_before out_now : ℕ) (err_old err_new : Option (List ℕ)) (err_before err_now : ℕ) (out err : List ℕ) : Type 0 where
-  no_output : Rises out_before out_now → IsCut out_old out_new out → err_new ≡ err_old → err_now ≡ err_before → IsUnwritten out_old out_new out_before out_now err_old err_new err_before err_now out err
-  no_errors : out_now ≡ out_before → out_new ≡ append_known out_old out → Rises err_before err_now → IsCut err_old err_new err → IsUnwritten out_old out_new out_before out_now err_old err_new err_before err_now out err
-
--- Completeness: where no count of faults rises, a file that is given has the one reply of its text; or memory is wanting.
-pub record IsComplete (words : List (List ℕ)) (held : List ℕ → Option (List ℕ)) (status : ℕ) : Type 0 where
-  pub replies : (c : Command) (text : List ℕ) → asked_of words ≡ Some c → held (file_of c) ≡ Some text
-      → (s : ℕ) (out err : List ℕ) → IsFileReply c text s out err → (status ≡ s) ⊎ (status ≡ 6)
+-- Completeness: where nothing failed, a file that is given has the one reply of its text; or memory is wanting.
+abbrev pub IsComplete : List (List ℕ) → ShelfSpan → SinkSpan → SinkSpan → ℕ → Type 0
+IsComplete words shelf out err number = ¬ ShelfFailed shelf → ¬ SinkFailed out → ¬ SinkFailed err
+    → (c : Command) (text : List ℕ) → asked_of words ≡ Some c → shelf.before.held (file_of c) ≡ Some text
+    → (reply : Reply) → IsFileReply c text reply → (number ≡ number_of reply.status) ⊎ (number ≡ number_of status.OutOfMemory)

@@ -3,9 +3,9 @@
 ghost use Rattle.std.specs.Prelude.{◌≤◌, length};
 ghost use Rattle.oss_top.specs.ProgramTexts.{IsKnown};
 
-use oss_model::Refusal;
 use oss_names::{Known, resolve};
 use oss_parse::parse;
+use oss_syntax::Refusal;
 use std::alloc::Global;
 
 /// Reads the text of a program and checks its static rules. `Refused` comes exactly where the text is refused.

@@ -4,6 +4,7 @@
 mod known;
 mod laws;
 mod reply;
+mod status;
 #[cfg(test)]
 mod tests;
 mod texts;
@@ -11,5 +12,6 @@ mod top;
 mod words;
 
 pub use laws::a_text_has_one_reply;
-pub use top::nest6;
+pub use status::Status;
+pub use top::{Sinks, nest6};
 pub use words::{Asked, WordsRefused, read_words};

@@ -1,20 +1,22 @@
 //! What the top call replies, before it is written.
 
-ghost use Rattle.std.specs.Prelude.{◌≡◌, ◌≤◌, [], length, map, IfOk};
+ghost use Rattle.std.specs.Prelude.{◌≡◌, ◌≤◌, length, map, IfOk};
 ghost use Rattle.std.specs.String.{string_bytes};
+ghost use Rattle.oss_io.specs.Spans.{shelf_span};
 ghost use Rattle.oss_model.specs.Texts.{refusal_line as line_of_refusal};
 ghost use Rattle.oss_top.specs.CommandWords.{meant};
-ghost use Rattle.oss_top.specs.Reply.{IsAnswerReply, IsProgramReply, IsReply, IsTextReply};
+ghost use Rattle.oss_top.specs.Reply.{IsProgramReply, IsReply, IsTextReply, answer_reply, done_reply, error_reply};
 
 use crate::known::known;
+use crate::status::Status;
 use crate::texts;
 use crate::words::{Asked, read_words};
 use oss_io::{Shelf, ShelfFault};
-use oss_model::{Answer, Refusal, Refused, RefusedKind};
+use oss_model::Answer;
 use oss_names::Known;
-use oss_report::{fault_line, output_bytes, refusal_line};
+use oss_report::{fault_line, refusal_line};
 use oss_serial::serial_tree;
-use oss_syntax::Bytes;
+use oss_syntax::{Bytes, Refusal, Refused, RefusedKind};
 use std::alloc::{AllocError, Global};
 
 /// The most bytes of a program text.
@@ -26,17 +28,15 @@ const FUEL: u32 = 1_000_000;
 /// A status, and the texts for the output and the error output.
 #[derive(Debug, Drop)]
 pub struct Reply {
-    pub status: u8,
+    pub status: Status,
     pub out: Bytes,
     pub err: Bytes,
 }
 
 impl Reply {
     /// A reply that has a line for the error output alone.
-    fn error(alloc: Global, status: u8, line: Bytes) -> Reply
-        ensures status { result.status ≡ status }
-        ensures out { result.out ≡ [] }
-        ensures err { result.err ≡ line }
+    fn error(alloc: Global, status: Status, line: Bytes) -> Reply
+        ensures { result ≡ error_reply status line }
     {
         Reply {
             status,
@@ -47,12 +47,10 @@ impl Reply {
 
     /// The reply to a command that is done.
     fn done(alloc: Global, text: Bytes) -> Reply
-        ensures status { result.status ≡ 0 }
-        ensures out { result.out ≡ text }
-        ensures err { result.err ≡ [] }
+        ensures { result ≡ done_reply text }
     {
         Reply {
-            status: 0,
+            status: Status::Done,
             out: text,
             err: Bytes::new(alloc),
         }
@@ -65,17 +63,21 @@ pub fn reply_to<S: Shelf>(
     words: &[String],
     shelf: &mut S,
 ) -> Result<Reply, AllocError>
-    ensures { IfOk result (λ reply. IsReply (map string_bytes words.now) (S.held shelf.old) (S.faults shelf.old) (S.faults shelf.new) (S.last shelf.new) reply.status reply.out reply.err) }
+    ensures { IfOk result (λ reply. IsReply (map string_bytes words.now) (shelf_span S.held S.faults S.last shelf.old shelf.new) reply) }
 {
     let asked = match read_words(words) {
         Ok(asked) => asked,
-        Err(_) => return Ok(Reply::error(alloc, 2, texts::usage(alloc)?)),
+        Err(_) => {
+            let line = texts::usage(alloc)?;
+            return Ok(Reply::error(alloc, Status::WordsRefused, line));
+        }
     };
     let mut text = Vec::new(alloc);
     match shelf.read(asked.file(), MOST_BYTES, &mut text) {
         Ok(()) => reply_to_text(alloc, asked, text.as_slice()),
         Err(ShelfFault::Failed) => {
-            Ok(Reply::error(alloc, 4, texts::unread(alloc, asked.file())?))
+            let line = texts::unread(alloc, asked.file())?;
+            Ok(Reply::error(alloc, Status::Unread, line))
         }
         Err(ShelfFault::TooLong) => refused(alloc, RefusedKind::TooLarge),
         Err(ShelfFault::Memory(e)) => Err(e),
@@ -85,12 +87,13 @@ pub fn reply_to<S: Shelf>(
 /// The reply to the text of a file.
 fn reply_to_text(alloc: Global, asked: Asked<'_>, text: &[u8]) -> Result<Reply, AllocError>
     requires { length text.now ≤ 1048576 }
-    ensures { IfOk result (λ reply. IsTextReply (meant asked.entry) text.now reply.status reply.out reply.err) }
+    ensures { IfOk result (λ reply. IsTextReply (meant asked.entry) text.now reply) }
 {
     match known(alloc, text) {
         Ok(known) => reply_to_program(alloc, asked, &known),
         Err(Refusal::Refused(refused)) => {
-            Ok(Reply::error(alloc, 3, refusal_line(alloc, &refused)?))
+            let line = refusal_line(alloc, &refused)?;
+            Ok(Reply::error(alloc, Status::TextRefused, line))
         }
         Err(Refusal::Memory(e)) => Err(e),
     }
@@ -98,7 +101,7 @@ fn reply_to_text(alloc: Global, asked: Asked<'_>, text: &[u8]) -> Result<Reply, 
 
 /// The reply to a program that breaks no rule.
 fn reply_to_program(alloc: Global, asked: Asked<'_>, known: &Known) -> Result<Reply, AllocError>
-    ensures { IfOk result (λ reply. IsProgramReply (meant asked.entry) known.now reply.status reply.out reply.err) }
+    ensures { IfOk result (λ reply. IsProgramReply (meant asked.entry) known.now reply) }
 {
     match asked {
         Asked::Check(_) => Ok(Reply::done(alloc, texts::accepted(alloc)?)),
@@ -107,34 +110,37 @@ fn reply_to_program(alloc: Global, asked: Asked<'_>, known: &Known) -> Result<Re
                 return refused(alloc, RefusedKind::Unsupported);
             }
             let ran = serial_tree(alloc, known.program(), FUEL)?;
-            reply_to_answer(alloc, &ran.answer)
+            reply_to_answer(alloc, ran.answer)
         }
     }
 }
 
-/// The reply to a run.
-fn reply_to_answer(alloc: Global, answer: &Answer) -> Result<Reply, AllocError>
-    ensures { IfOk result (λ reply. IsAnswerReply answer.now reply.status reply.out reply.err) }
+/// The reply to a run, which has its output.
+fn reply_to_answer(alloc: Global, answer: Answer) -> Result<Reply, AllocError>
+    ensures { IfOk result (λ reply. reply ≡ answer_reply answer) }
 {
-    let output = output_bytes(alloc, answer)?;
     match answer {
-        Answer::Done(_, _) => Ok(Reply::done(alloc, output)),
-        Answer::Fault(kind, line, _) => Ok(Reply {
-            status: 1,
-            out: output,
-            err: fault_line(alloc, *kind, *line)?,
-        }),
+        Answer::Done(output, _) => Ok(Reply::done(alloc, output)),
+        Answer::Fault(kind, line, output) => {
+            let line = fault_line(alloc, kind, line)?;
+            Ok(Reply {
+                status: Status::Fault,
+                out: output,
+                err: line,
+            })
+        }
     }
 }
 
 /// The reply to a text that is refused as a whole.
 fn refused(alloc: Global, kind: RefusedKind) -> Result<Reply, AllocError>
-    ensures { IfOk result (λ reply. (reply.status ≡ 3) × (reply.out ≡ []) × (reply.err ≡ line_of_refusal kind 1)) }
+    ensures { IfOk result (λ reply. reply ≡ error_reply Status.TextRefused (line_of_refusal kind 1)) }
 {
     let whole = Refused {
         kind,
         line: 1,
         token: 0,
     };
-    Ok(Reply::error(alloc, 3, refusal_line(alloc, &whole)?))
+    let line = refusal_line(alloc, &whole)?;
+    Ok(Reply::error(alloc, Status::TextRefused, line))
 }

@@ -1,0 +1,40 @@
+//! The statuses with which a call ends.
+
+ghost use Rattle.std.specs.Prelude.{◌≡◌};
+ghost use Rattle.oss_top.specs.Statuses.{number_of};
+
+/// How a call ended.
+#[derive(Clone, Copy, Debug, PartialEq, Eq)]
+pub enum Status {
+    /// The command is done: a check accepted its file, or a program ran to its end.
+    Done,
+    /// The program ran into a fault.
+    Fault,
+    /// The words are no command with its operands.
+    WordsRefused,
+    /// The file is too long, its text is no program, or the program cannot be run yet.
+    TextRefused,
+    /// The file could not be read.
+    Unread,
+    /// An output could not be written whole.
+    Unwritten,
+    /// Memory was wanting.
+    OutOfMemory,
+}
+
+impl Status {
+    /// The number of the status, from 0 to 6.
+    pub fn number(self) -> u8
+        ensures { result ≡ number_of self }
+    {
+        match self {
+            Status::Done => 0,
+            Status::Fault => 1,
+            Status::WordsRefused => 2,
+            Status::TextRefused => 3,
+            Status::Unread => 4,
+            Status::Unwritten => 5,
+            Status::OutOfMemory => 6,
+        }
+    }
+}

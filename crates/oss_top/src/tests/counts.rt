@@ -1,0 +1,21 @@
+//! How many tasks a run has had, which no command tells.
+
+use crate::known::known;
+use oss_serial::serial_tree;
+use std::test::Fail;
+
+#[test]
+fn main_and_each_created_task_are_counted(rt: HostRuntime) -> Result<(), Fail> {
+    let alloc = rt.alloc();
+    let text =
+        "long x;\nint main() {\n#pragma oss task inout(x)\n{\n#pragma oss task\n;\n#pragma oss task in(x)\n;\n}\n}";
+    assert!(rt; text.len() <= 1_048_576);
+    match known(alloc, text.as_bytes()) {
+        Ok(known) => {
+            let ran = serial_tree(alloc, known.program(), 5)?;
+            assert_eq!(rt; ran.tasks, 4);
+        }
+        Err(_) => assert!(rt; false, "the program is read"),
+    }
+    Ok(())
+}
