@@ -2,7 +2,7 @@
 
 ghost use Rattle.std.specs.Prelude.{◌≡◌, IfOk};
 ghost use Rattle.oss_pragma.specs.ExpressionReading.{read_brackets, read_expression};
-ghost use Rattle.oss_pragma.specs.Told.{Gives};
+ghost use Rattle.oss_pragma.specs.Told.{ReadsAs};
 ghost use Rattle.oss_parse.specs.Branches.{Built};
 ghost use Rattle.oss_parse.specs.StatementReading.{for_of, if_else_of, if_of, read_break, read_continue, read_empty, read_for_first, read_for_head, read_for_parts, read_head, read_maybe_expression, read_maybe_simple, read_print, read_printed, read_return, read_simple_statement, task_of, while_of};
 
@@ -19,7 +19,7 @@ pub type ForParts = (Option<Stmt>, (Option<Expr>, Option<Stmt>));
 /// [ expr ]
 #[tactic(auto, unfolding(crate::specs::StatementReading::read_maybe_expression))]
 fn maybe_expression(alloc: Global, tokens: &mut Cursor<'_>) -> Result<Option<Expr>, Unread>
-    ensures { Gives (read_maybe_expression read_expression tokens.old) result tokens.new }
+    ensures { ReadsAs (read_maybe_expression read_expression tokens.old) result tokens.new }
 {
     if !tokens.begins_with_expression() {
         return Ok(None);
@@ -33,7 +33,7 @@ fn maybe_expression(alloc: Global, tokens: &mut Cursor<'_>) -> Result<Option<Exp
 /// [ simple ]
 #[tactic(auto, unfolding(crate::specs::StatementReading::read_maybe_simple))]
 fn maybe_simple(alloc: Global, tokens: &mut Cursor<'_>) -> Result<Option<Stmt>, Unread>
-    ensures { Gives (read_maybe_simple read_expression tokens.old) result tokens.new }
+    ensures { ReadsAs (read_maybe_simple read_expression tokens.old) result tokens.new }
 {
     if !begins_with_simple(tokens) {
         return Ok(None);
@@ -47,7 +47,7 @@ fn maybe_simple(alloc: Global, tokens: &mut Cursor<'_>) -> Result<Option<Stmt>, 
 /// [ type ldecl { "," ldecl } | simple ]
 #[tactic(auto, unfolding(crate::specs::StatementReading::read_for_first))]
 fn for_first(alloc: Global, tokens: &mut Cursor<'_>) -> Result<Option<Stmt>, Unread>
-    ensures { Gives (read_for_first read_expression tokens.old) result tokens.new }
+    ensures { ReadsAs (read_for_first read_expression tokens.old) result tokens.new }
 {
     if !begins_with_kind(tokens) {
         return maybe_simple(alloc, tokens);
@@ -61,7 +61,7 @@ fn for_first(alloc: Global, tokens: &mut Cursor<'_>) -> Result<Option<Stmt>, Unr
 /// [ type ldecl { "," ldecl } | simple ] ";" [ expr ] ";" [ simple ] ")"
 #[tactic(auto, unfolding(crate::specs::StatementReading::read_for_parts))]
 fn for_parts(alloc: Global, tokens: &mut Cursor<'_>) -> Result<ForParts, Unread>
-    ensures { Gives (read_for_parts read_expression tokens.old) result tokens.new }
+    ensures { ReadsAs (read_for_parts read_expression tokens.old) result tokens.new }
 {
     let first = match for_first(alloc, tokens) {
         Ok(first) => first,
@@ -92,7 +92,7 @@ fn for_parts(alloc: Global, tokens: &mut Cursor<'_>) -> Result<ForParts, Unread>
 /// "for" "(" parts ")"
 #[tactic(auto, unfolding(crate::specs::StatementReading::read_for_head))]
 pub fn for_head(alloc: Global, tokens: &mut Cursor<'_>) -> Result<(u32, ForParts), Unread>
-    ensures { Gives (read_for_head read_expression tokens.old) result tokens.new }
+    ensures { ReadsAs (read_for_head read_expression tokens.old) result tokens.new }
 {
     let line = match keyword(b"for", tokens) {
         Ok(line) => line,
@@ -111,7 +111,7 @@ pub fn for_head(alloc: Global, tokens: &mut Cursor<'_>) -> Result<(u32, ForParts
 /// A keyword with its line, and the test in brackets behind it.
 #[tactic(auto, unfolding(crate::specs::StatementReading::read_head, oss_pragma::specs::ExpressionReading::read_brackets))]
 pub fn head(alloc: Global, word: &[u8], tokens: &mut Cursor<'_>) -> Result<(u32, Expr), Unread>
-    ensures { Gives (read_head word.now read_expression tokens.old) result tokens.new }
+    ensures { ReadsAs (read_head word.now read_expression tokens.old) result tokens.new }
 {
     let line = match keyword(word, tokens) {
         Ok(line) => line,
@@ -126,7 +126,7 @@ pub fn head(alloc: Global, word: &[u8], tokens: &mut Cursor<'_>) -> Result<(u32,
 /// ";"
 #[tactic(auto, unfolding(crate::specs::StatementReading::read_empty))]
 pub fn empty(tokens: &mut Cursor<'_>) -> Result<Stmt, Unread>
-    ensures { Gives (read_empty tokens.old) result tokens.new }
+    ensures { ReadsAs (read_empty tokens.old) result tokens.new }
 {
     match tokens.symbol(b";") {
         Ok(line) => Ok(Stmt {
@@ -140,7 +140,7 @@ pub fn empty(tokens: &mut Cursor<'_>) -> Result<Stmt, Unread>
 /// simple ";"
 #[tactic(auto, unfolding(crate::specs::StatementReading::read_simple_statement))]
 pub fn simple_statement(alloc: Global, tokens: &mut Cursor<'_>) -> Result<Stmt, Unread>
-    ensures { Gives (read_simple_statement read_expression tokens.old) result tokens.new }
+    ensures { ReadsAs (read_simple_statement read_expression tokens.old) result tokens.new }
 {
     let statement = match simple(alloc, tokens) {
         Ok(statement) => statement,
@@ -155,7 +155,7 @@ pub fn simple_statement(alloc: Global, tokens: &mut Cursor<'_>) -> Result<Stmt, 
 /// "return" [ expr ] ";"
 #[tactic(auto, unfolding(crate::specs::StatementReading::read_return))]
 pub fn return_statement(alloc: Global, tokens: &mut Cursor<'_>) -> Result<Stmt, Unread>
-    ensures { Gives (read_return read_expression tokens.old) result tokens.new }
+    ensures { ReadsAs (read_return read_expression tokens.old) result tokens.new }
 {
     let line = match keyword(b"return", tokens) {
         Ok(line) => line,
@@ -177,7 +177,7 @@ pub fn return_statement(alloc: Global, tokens: &mut Cursor<'_>) -> Result<Stmt, 
 /// "break" ";"
 #[tactic(auto, unfolding(crate::specs::StatementReading::read_break))]
 pub fn break_statement(tokens: &mut Cursor<'_>) -> Result<Stmt, Unread>
-    ensures { Gives (read_break tokens.old) result tokens.new }
+    ensures { ReadsAs (read_break tokens.old) result tokens.new }
 {
     let line = match keyword(b"break", tokens) {
         Ok(line) => line,
@@ -195,7 +195,7 @@ pub fn break_statement(tokens: &mut Cursor<'_>) -> Result<Stmt, Unread>
 /// "continue" ";"
 #[tactic(auto, unfolding(crate::specs::StatementReading::read_continue))]
 pub fn continue_statement(tokens: &mut Cursor<'_>) -> Result<Stmt, Unread>
-    ensures { Gives (read_continue tokens.old) result tokens.new }
+    ensures { ReadsAs (read_continue tokens.old) result tokens.new }
 {
     let line = match keyword(b"continue", tokens) {
         Ok(line) => line,
@@ -213,7 +213,7 @@ pub fn continue_statement(tokens: &mut Cursor<'_>) -> Result<Stmt, Unread>
 /// { "," expr } ")" ";"
 #[tactic(auto, unfolding(crate::specs::StatementReading::read_printed))]
 fn printed(alloc: Global, tokens: &mut Cursor<'_>) -> Result<List<Expr>, Unread>
-    ensures { Gives (read_printed read_expression tokens.old) result tokens.new }
+    ensures { ReadsAs (read_printed read_expression tokens.old) result tokens.new }
 {
     let none = List::new(alloc);
     let values = match more_values(alloc, none, tokens) {
@@ -233,7 +233,7 @@ fn printed(alloc: Global, tokens: &mut Cursor<'_>) -> Result<List<Expr>, Unread>
 /// "printf" "(" string { "," expr } ")" ";"
 #[tactic(auto, unfolding(crate::specs::StatementReading::read_print))]
 pub fn print(alloc: Global, tokens: &mut Cursor<'_>) -> Result<Stmt, Unread>
-    ensures { Gives (read_print read_expression tokens.old) result tokens.new }
+    ensures { ReadsAs (read_print read_expression tokens.old) result tokens.new }
 {
     let line = match keyword(b"printf", tokens) {
         Ok(line) => line,

@@ -5,7 +5,7 @@ ghost use Rattle.oss_syntax.specs.declared.tree.program.Item.TheVariants as item
 ghost use Rattle.oss_grammar.specs.Reading.{read_both, read_mapped, read_one, read_then};
 ghost use Rattle.oss_pragma.specs.ExpressionReading.{middle, read_expression, read_list, read_more, read_next};
 ghost use Rattle.oss_pragma.specs.TokenValues.{symbol_at};
-ghost use Rattle.oss_pragma.specs.Told.{Gives};
+ghost use Rattle.oss_pragma.specs.Told.{ReadsAs};
 ghost use Rattle.oss_parse.specs.Inner.{read_body};
 ghost use Rattle.oss_parse.specs.ProgramReading.{array_of, function_of, just, mark_in, read_first_value, read_function_from, read_global, read_global_from, read_globals_from, read_mark, read_marked, read_parameter, read_parameters, read_program, read_program_item, read_program_items, read_result, read_typed, read_typed_from, read_void, scalar_of};
 
@@ -22,7 +22,7 @@ use std::alloc::{AllocError, Global};
 /// [ "-" ] number
 #[tactic(auto, unfolding(crate::specs::ProgramReading::read_first_value))]
 fn first_value(tokens: &mut Cursor<'_>) -> Result<u64, Unread>
-    ensures { Gives (read_first_value tokens.old) result tokens.new }
+    ensures { ReadsAs (read_first_value tokens.old) result tokens.new }
 {
     if !tokens.begins_with_symbol(b"-") {
         return value(tokens);
@@ -40,7 +40,7 @@ fn first_value(tokens: &mut Cursor<'_>) -> Result<u64, Unread>
 /// "[" number "]" | "=" [ "-" ] number | nothing, behind the name of a global
 #[tactic(auto, unfolding(crate::specs::ProgramReading::read_global_from))]
 fn global_from(numbers: NumKind, name: Named, tokens: &mut Cursor<'_>) -> Result<GlobalDef, Unread>
-    ensures { Gives (read_global_from numbers name tokens.old) result tokens.new }
+    ensures { ReadsAs (read_global_from numbers name tokens.old) result tokens.new }
 {
     if tokens.begins_with_symbol(b"=") {
         match tokens.symbol(b"=") {
@@ -98,7 +98,7 @@ fn array(numbers: NumKind, name: Named, cells: u64) -> GlobalDef
 /// name | name "[" number "]" | name "=" [ "-" ] number
 #[tactic(auto, unfolding(crate::specs::ProgramReading::read_global))]
 fn global(alloc: Global, numbers: NumKind, tokens: &mut Cursor<'_>) -> Result<GlobalDef, Unread>
-    ensures { Gives (read_global numbers tokens.old) result tokens.new }
+    ensures { ReadsAs (read_global numbers tokens.old) result tokens.new }
 {
     match tokens.name(alloc) {
         Ok(name) => global_from(numbers, name, tokens),
@@ -112,7 +112,7 @@ fn next_global(
     numbers: NumKind,
     tokens: &mut Cursor<'_>,
 ) -> Result<GlobalDef, Unread>
-    ensures { Gives (read_next (read_global numbers) tokens.old) result tokens.new }
+    ensures { ReadsAs (read_next (read_global numbers) tokens.old) result tokens.new }
 {
     match tokens.symbol(b",") {
         Ok(_) => global(alloc, numbers, tokens),
@@ -127,7 +127,7 @@ fn more_globals(
     mut found: List<GlobalDef>,
     tokens: &mut Cursor<'_>,
 ) -> Result<List<GlobalDef>, Unread>
-    ensures { Gives (read_more (read_global numbers) found tokens.old) result tokens.new }
+    ensures { ReadsAs (read_more (read_global numbers) found tokens.old) result tokens.new }
 {
     'globals: while tokens.begins_with_symbol(b",") {
         let next = match next_global(alloc, numbers, tokens) {
@@ -149,7 +149,7 @@ fn globals(
     name: Named,
     tokens: &mut Cursor<'_>,
 ) -> Result<List<GlobalDef>, Unread>
-    ensures { Gives (read_then (read_global_from numbers name) (λ first. read_more (read_global numbers) (first ∷ [])) tokens.old) result tokens.new }
+    ensures { ReadsAs (read_then (read_global_from numbers name) (λ first. read_more (read_global numbers) (first ∷ [])) tokens.old) result tokens.new }
 {
     let first = match global_from(numbers, name, tokens) {
         Ok(first) => first,
@@ -182,7 +182,7 @@ fn globals_from(
     name: Named,
     tokens: &mut Cursor<'_>,
 ) -> Result<List<Item>, Unread>
-    ensures { Gives (read_globals_from numbers name tokens.old) result tokens.new }
+    ensures { ReadsAs (read_globals_from numbers name tokens.old) result tokens.new }
 {
     let globals = match globals(alloc, numbers, name, tokens) {
         Ok(globals) => globals,
@@ -201,7 +201,7 @@ fn globals_from(
 /// type [ "*" ] name
 #[tactic(auto, unfolding(crate::specs::ProgramReading::read_parameter))]
 fn parameter(alloc: Global, tokens: &mut Cursor<'_>) -> Result<Local, Unread>
-    ensures { Gives (read_parameter tokens.old) result tokens.new }
+    ensures { ReadsAs (read_parameter tokens.old) result tokens.new }
 {
     let (numbers, _) = match num_kind(tokens) {
         Ok(kind) => kind,
@@ -220,7 +220,7 @@ fn parameter(alloc: Global, tokens: &mut Cursor<'_>) -> Result<Local, Unread>
 
 /// "," param
 fn next_parameter(alloc: Global, tokens: &mut Cursor<'_>) -> Result<Local, Unread>
-    ensures { Gives (read_next read_parameter tokens.old) result tokens.new }
+    ensures { ReadsAs (read_next read_parameter tokens.old) result tokens.new }
 {
     match tokens.symbol(b",") {
         Ok(_) => parameter(alloc, tokens),
@@ -234,7 +234,7 @@ fn more_parameters(
     mut found: List<Local>,
     tokens: &mut Cursor<'_>,
 ) -> Result<List<Local>, Unread>
-    ensures { Gives (read_more read_parameter found tokens.old) result tokens.new }
+    ensures { ReadsAs (read_more read_parameter found tokens.old) result tokens.new }
 {
     'parameters: while tokens.begins_with_symbol(b",") {
         let next = match next_parameter(alloc, tokens) {
@@ -251,7 +251,7 @@ fn more_parameters(
 
 /// param { "," param }
 fn some_parameters(alloc: Global, tokens: &mut Cursor<'_>) -> Result<List<Local>, Unread>
-    ensures { Gives (read_list read_parameter tokens.old) result tokens.new }
+    ensures { ReadsAs (read_list read_parameter tokens.old) result tokens.new }
 {
     let first = match parameter(alloc, tokens) {
         Ok(first) => first,
@@ -267,7 +267,7 @@ fn some_parameters(alloc: Global, tokens: &mut Cursor<'_>) -> Result<List<Local>
 /// [ "void" | param { "," param } ] ")"
 #[tactic(auto, unfolding(crate::specs::ProgramReading::read_parameters))]
 fn parameters(alloc: Global, tokens: &mut Cursor<'_>) -> Result<List<Local>, Unread>
-    ensures { Gives (read_parameters tokens.old) result tokens.new }
+    ensures { ReadsAs (read_parameters tokens.old) result tokens.new }
 {
     if tokens.begins_with_symbol(b")") {
         return match tokens.symbol(b")") {
@@ -297,7 +297,7 @@ fn parameters(alloc: Global, tokens: &mut Cursor<'_>) -> Result<List<Local>, Unr
 
 /// "{" items "}"
 fn function_body(alloc: Global, tokens: &mut Cursor<'_>) -> Result<List<Stmt>, Unread>
-    ensures { Gives (read_mapped middle (read_both (read_one (symbol_at (codes "{"))) (read_both read_body (read_one (symbol_at (codes "}"))))) tokens.old) result tokens.new }
+    ensures { ReadsAs (read_mapped middle (read_both (read_one (symbol_at (codes "{"))) (read_both read_body (read_one (symbol_at (codes "}"))))) tokens.old) result tokens.new }
 {
     match tokens.symbol(b"{") {
         Ok(_) => {}
@@ -345,7 +345,7 @@ fn function_from(
     name: Named,
     tokens: &mut Cursor<'_>,
 ) -> Result<List<Item>, Unread>
-    ensures { Gives (read_function_from read_body mark kind name tokens.old) result tokens.new }
+    ensures { ReadsAs (read_function_from read_body mark kind name tokens.old) result tokens.new }
 {
     match tokens.symbol(b"(") {
         Ok(_) => {}
@@ -373,7 +373,7 @@ fn typed_from(
     name: Named,
     tokens: &mut Cursor<'_>,
 ) -> Result<List<Item>, Unread>
-    ensures { Gives (read_typed_from read_body numbers name tokens.old) result tokens.new }
+    ensures { ReadsAs (read_typed_from read_body numbers name tokens.old) result tokens.new }
 {
     if tokens.begins_with_symbol(b"(") {
         return function_from(alloc, None, Kind::Num(numbers), name, tokens);
@@ -384,7 +384,7 @@ fn typed_from(
 /// Globals or a function that begin with the type of numbers.
 #[tactic(auto, unfolding(crate::specs::ProgramReading::read_typed))]
 fn typed(alloc: Global, tokens: &mut Cursor<'_>) -> Result<List<Item>, Unread>
-    ensures { Gives (read_typed read_body tokens.old) result tokens.new }
+    ensures { ReadsAs (read_typed read_body tokens.old) result tokens.new }
 {
     let (numbers, _) = match num_kind(tokens) {
         Ok(kind) => kind,
@@ -399,7 +399,7 @@ fn typed(alloc: Global, tokens: &mut Cursor<'_>) -> Result<List<Item>, Unread>
 /// type | "void"
 #[tactic(auto, unfolding(crate::specs::ProgramReading::read_result))]
 fn result_kind(tokens: &mut Cursor<'_>) -> Result<Kind, Unread>
-    ensures { Gives (read_result tokens.old) result tokens.new }
+    ensures { ReadsAs (read_result tokens.old) result tokens.new }
 {
     if begins_with_keyword(b"void", tokens) {
         return match keyword(b"void", tokens) {
@@ -416,7 +416,7 @@ fn result_kind(tokens: &mut Cursor<'_>) -> Result<Kind, Unread>
 /// A function that begins with `void`.
 #[tactic(auto, unfolding(crate::specs::ProgramReading::read_void))]
 fn void(alloc: Global, tokens: &mut Cursor<'_>) -> Result<List<Item>, Unread>
-    ensures { Gives (read_void read_body tokens.old) result tokens.new }
+    ensures { ReadsAs (read_void read_body tokens.old) result tokens.new }
 {
     match keyword(b"void", tokens) {
         Ok(_) => {}
@@ -442,7 +442,7 @@ fn mark_of(directive: Directive) -> Option<TaskMark>
 /// start "task" { [ "," ] clause } end
 #[tactic(auto, unfolding(crate::specs::ProgramReading::read_mark))]
 fn mark(alloc: Global, tokens: &mut Cursor<'_>) -> Result<Option<TaskMark>, Unread>
-    ensures { Gives (read_mark read_expression tokens.old) result tokens.new }
+    ensures { ReadsAs (read_mark read_expression tokens.old) result tokens.new }
 {
     match task_pragma(alloc, tokens) {
         Ok(directive) => Ok(mark_of(directive)),
@@ -453,7 +453,7 @@ fn mark(alloc: Global, tokens: &mut Cursor<'_>) -> Result<Option<TaskMark>, Unre
 /// A function with a pragma before it.
 #[tactic(auto, unfolding(crate::specs::ProgramReading::read_marked))]
 fn marked(alloc: Global, tokens: &mut Cursor<'_>) -> Result<List<Item>, Unread>
-    ensures { Gives (read_marked read_expression read_body tokens.old) result tokens.new }
+    ensures { ReadsAs (read_marked read_expression read_body tokens.old) result tokens.new }
 {
     let mark = match mark(alloc, tokens) {
         Ok(mark) => mark,
@@ -472,7 +472,7 @@ fn marked(alloc: Global, tokens: &mut Cursor<'_>) -> Result<List<Item>, Unread>
 /// type gdecl { "," gdecl } ";" | [ task ] ( type | "void" ) name "(" [ params ] ")" block
 #[tactic(auto, unfolding(crate::specs::ProgramReading::read_program_item))]
 fn program_item(alloc: Global, tokens: &mut Cursor<'_>) -> Result<List<Item>, Unread>
-    ensures { Gives (read_program_item read_expression read_body tokens.old) result tokens.new }
+    ensures { ReadsAs (read_program_item read_expression read_body tokens.old) result tokens.new }
 {
     if begins_with_start(tokens) {
         return marked(alloc, tokens);
@@ -495,7 +495,7 @@ fn joined(found: List<Item>, more: List<Item>) -> Result<List<Item>, AllocError>
 
 /// { item }
 fn program_items(alloc: Global, tokens: &mut Cursor<'_>) -> Result<List<Item>, Unread>
-    ensures { Gives (read_program_items read_expression read_body tokens.old) result tokens.new }
+    ensures { ReadsAs (read_program_items read_expression read_body tokens.old) result tokens.new }
 {
     let mut found = List::new(alloc);
     'items: while begins_with_program_item(tokens) {
@@ -513,7 +513,7 @@ fn program_items(alloc: Global, tokens: &mut Cursor<'_>) -> Result<List<Item>, U
 
 /// A program, with at most 64 levels of statements.
 pub fn program(alloc: Global, tokens: &mut Cursor<'_>) -> Result<Program, Unread>
-    ensures { Gives (read_program tokens.old) result tokens.new }
+    ensures { ReadsAs (read_program tokens.old) result tokens.new }
 {
     match program_items(alloc, tokens) {
         Ok(items) => Ok(Program { items }),

@@ -3,7 +3,7 @@
 ghost use Rattle.std.specs.Prelude.{◌≡◌, IfOk};
 ghost use Rattle.oss_grammar.specs.SimpleStatements.{one_at};
 ghost use Rattle.oss_pragma.specs.ExpressionReading.{indexed, named_expression, read_arguments, read_brackets, read_expression, read_index, read_list, read_more, read_next};
-ghost use Rattle.oss_pragma.specs.Told.{Gives};
+ghost use Rattle.oss_pragma.specs.Told.{ReadsAs};
 ghost use Rattle.oss_parse.specs.SimpleReading.{deref_at, read_assigned, read_called, read_declaration, read_declared, read_local, read_num_kind, read_pointed_at, read_simple, read_simple_from, read_starred, read_step_first, read_target, read_target_from};
 
 use crate::tokens::{
@@ -17,7 +17,7 @@ use std::alloc::{AllocError, Global};
 /// "(" expr ")"
 #[tactic(auto, unfolding(oss_pragma::specs::ExpressionReading::read_brackets))]
 pub fn brackets(alloc: Global, tokens: &mut Cursor<'_>) -> Result<Expr, Unread>
-    ensures { Gives (read_brackets read_expression tokens.old) result tokens.new }
+    ensures { ReadsAs (read_brackets read_expression tokens.old) result tokens.new }
 {
     match tokens.symbol(b"(") {
         Ok(_) => {}
@@ -36,7 +36,7 @@ pub fn brackets(alloc: Global, tokens: &mut Cursor<'_>) -> Result<Expr, Unread>
 /// "[" expr "]"
 #[tactic(auto, unfolding(oss_pragma::specs::ExpressionReading::read_index))]
 fn index(alloc: Global, tokens: &mut Cursor<'_>) -> Result<Expr, Unread>
-    ensures { Gives (read_index read_expression tokens.old) result tokens.new }
+    ensures { ReadsAs (read_index read_expression tokens.old) result tokens.new }
 {
     match tokens.symbol(b"[") {
         Ok(_) => {}
@@ -54,7 +54,7 @@ fn index(alloc: Global, tokens: &mut Cursor<'_>) -> Result<Expr, Unread>
 
 /// "," expr
 fn next_value(alloc: Global, tokens: &mut Cursor<'_>) -> Result<Expr, Unread>
-    ensures { Gives (read_next read_expression tokens.old) result tokens.new }
+    ensures { ReadsAs (read_next read_expression tokens.old) result tokens.new }
 {
     match tokens.symbol(b",") {
         Ok(_) => expression(alloc, tokens),
@@ -68,7 +68,7 @@ pub fn more_values(
     mut found: List<Expr>,
     tokens: &mut Cursor<'_>,
 ) -> Result<List<Expr>, Unread>
-    ensures { Gives (read_more read_expression found tokens.old) result tokens.new }
+    ensures { ReadsAs (read_more read_expression found tokens.old) result tokens.new }
 {
     'values: while tokens.begins_with_symbol(b",") {
         let next = match next_value(alloc, tokens) {
@@ -85,7 +85,7 @@ pub fn more_values(
 
 /// expr { "," expr }
 fn values(alloc: Global, tokens: &mut Cursor<'_>) -> Result<List<Expr>, Unread>
-    ensures { Gives (read_list read_expression tokens.old) result tokens.new }
+    ensures { ReadsAs (read_list read_expression tokens.old) result tokens.new }
 {
     let first = match expression(alloc, tokens) {
         Ok(first) => first,
@@ -101,7 +101,7 @@ fn values(alloc: Global, tokens: &mut Cursor<'_>) -> Result<List<Expr>, Unread>
 /// [ expr { "," expr } ] ")"
 #[tactic(auto, unfolding(oss_pragma::specs::ExpressionReading::read_arguments))]
 fn arguments(alloc: Global, tokens: &mut Cursor<'_>) -> Result<List<Expr>, Unread>
-    ensures { Gives (read_arguments read_expression tokens.old) result tokens.new }
+    ensures { ReadsAs (read_arguments read_expression tokens.old) result tokens.new }
 {
     if tokens.begins_with_symbol(b")") {
         return match tokens.symbol(b")") {
@@ -153,7 +153,7 @@ fn pointee(alloc: Global, line: u32, pointer: Expr) -> Result<Expr, AllocError>
 /// [ "[" expr "]" ], behind the name of a target
 #[tactic(auto, unfolding(crate::specs::SimpleReading::read_target_from, oss_pragma::specs::ExpressionReading::read_index))]
 fn target_from(alloc: Global, name: Named, tokens: &mut Cursor<'_>) -> Result<Expr, Unread>
-    ensures { Gives (read_target_from read_expression name tokens.old) result tokens.new }
+    ensures { ReadsAs (read_target_from read_expression name tokens.old) result tokens.new }
 {
     if !tokens.begins_with_symbol(b"[") {
         return Ok(named(name));
@@ -171,7 +171,7 @@ fn target_from(alloc: Global, name: Named, tokens: &mut Cursor<'_>) -> Result<Ex
 /// name | "(" expr ")", behind the `*` of a target with this line
 #[tactic(auto, unfolding(crate::specs::SimpleReading::read_pointed_at, oss_pragma::specs::ExpressionReading::read_brackets))]
 fn pointed_at(alloc: Global, line: u32, tokens: &mut Cursor<'_>) -> Result<Expr, Unread>
-    ensures { Gives (read_pointed_at read_expression line tokens.old) result tokens.new }
+    ensures { ReadsAs (read_pointed_at read_expression line tokens.old) result tokens.new }
 {
     if begins_with_name(tokens) {
         let name = match tokens.name(alloc) {
@@ -196,7 +196,7 @@ fn pointed_at(alloc: Global, line: u32, tokens: &mut Cursor<'_>) -> Result<Expr,
 /// "*" ( name | "(" expr ")" )
 #[tactic(auto, unfolding(crate::specs::SimpleReading::read_starred))]
 fn starred(alloc: Global, tokens: &mut Cursor<'_>) -> Result<Expr, Unread>
-    ensures { Gives (read_starred read_expression tokens.old) result tokens.new }
+    ensures { ReadsAs (read_starred read_expression tokens.old) result tokens.new }
 {
     match tokens.symbol(b"*") {
         Ok(line) => pointed_at(alloc, line, tokens),
@@ -207,7 +207,7 @@ fn starred(alloc: Global, tokens: &mut Cursor<'_>) -> Result<Expr, Unread>
 /// name [ "[" expr "]" ] | "*" ( name | "(" expr ")" )
 #[tactic(auto, unfolding(crate::specs::SimpleReading::read_target))]
 fn target(alloc: Global, tokens: &mut Cursor<'_>) -> Result<Expr, Unread>
-    ensures { Gives (read_target read_expression tokens.old) result tokens.new }
+    ensures { ReadsAs (read_target read_expression tokens.old) result tokens.new }
 {
     if tokens.begins_with_symbol(b"*") {
         return starred(alloc, tokens);
@@ -231,7 +231,7 @@ fn one(line: u32) -> Expr
 /// assign expr | "++" | "--", behind a target
 #[tactic(auto, unfolding(crate::specs::SimpleReading::read_assigned))]
 fn assigned(alloc: Global, target: Expr, tokens: &mut Cursor<'_>) -> Result<Stmt, Unread>
-    ensures { Gives (read_assigned read_expression target tokens.old) result tokens.new }
+    ensures { ReadsAs (read_assigned read_expression target tokens.old) result tokens.new }
 {
     let line = target.line;
     if begins_with_step(tokens) {
@@ -259,7 +259,7 @@ fn assigned(alloc: Global, target: Expr, tokens: &mut Cursor<'_>) -> Result<Stmt
 /// ( "++" | "--" ) lvalue
 #[tactic(auto, unfolding(crate::specs::SimpleReading::read_step_first))]
 fn step_first(alloc: Global, tokens: &mut Cursor<'_>) -> Result<Stmt, Unread>
-    ensures { Gives (read_step_first read_expression tokens.old) result tokens.new }
+    ensures { ReadsAs (read_step_first read_expression tokens.old) result tokens.new }
 {
     let (operator, line) = match step(tokens) {
         Ok(step) => step,
@@ -277,7 +277,7 @@ fn step_first(alloc: Global, tokens: &mut Cursor<'_>) -> Result<Stmt, Unread>
 /// "(" arguments ")", behind the name of a function
 #[tactic(auto, unfolding(crate::specs::SimpleReading::read_called))]
 fn called(alloc: Global, name: Named, tokens: &mut Cursor<'_>) -> Result<Stmt, Unread>
-    ensures { Gives (read_called read_expression name tokens.old) result tokens.new }
+    ensures { ReadsAs (read_called read_expression name tokens.old) result tokens.new }
 {
     match tokens.symbol(b"(") {
         Ok(_) => {}
@@ -295,7 +295,7 @@ fn called(alloc: Global, name: Named, tokens: &mut Cursor<'_>) -> Result<Stmt, U
 /// A call or an assignment, behind the name with which it begins.
 #[tactic(auto, unfolding(crate::specs::SimpleReading::read_simple_from))]
 fn simple_from(alloc: Global, name: Named, tokens: &mut Cursor<'_>) -> Result<Stmt, Unread>
-    ensures { Gives (read_simple_from read_expression name tokens.old) result tokens.new }
+    ensures { ReadsAs (read_simple_from read_expression name tokens.old) result tokens.new }
 {
     if tokens.begins_with_symbol(b"(") {
         return called(alloc, name, tokens);
@@ -309,7 +309,7 @@ fn simple_from(alloc: Global, name: Named, tokens: &mut Cursor<'_>) -> Result<St
 /// lvalue assign expr | lvalue ( "++" | "--" ) | ( "++" | "--" ) lvalue | name "(" arguments ")"
 #[tactic(auto, unfolding(crate::specs::SimpleReading::read_simple))]
 pub fn simple(alloc: Global, tokens: &mut Cursor<'_>) -> Result<Stmt, Unread>
-    ensures { Gives (read_simple read_expression tokens.old) result tokens.new }
+    ensures { ReadsAs (read_simple read_expression tokens.old) result tokens.new }
 {
     if begins_with_step(tokens) {
         return step_first(alloc, tokens);
@@ -329,7 +329,7 @@ pub fn simple(alloc: Global, tokens: &mut Cursor<'_>) -> Result<Stmt, Unread>
 /// "int" | "long" | "unsigned" "long", with its line
 #[tactic(auto, unfolding(crate::specs::SimpleReading::read_num_kind))]
 pub fn num_kind(tokens: &mut Cursor<'_>) -> Result<(NumKind, u32), Unread>
-    ensures { Gives (read_num_kind tokens.old) result tokens.new }
+    ensures { ReadsAs (read_num_kind tokens.old) result tokens.new }
 {
     if begins_with_single_kind(tokens) {
         return single_kind(tokens);
@@ -351,7 +351,7 @@ pub fn declared(
     numbers: NumKind,
     tokens: &mut Cursor<'_>,
 ) -> Result<(Kind, Named), Unread>
-    ensures { Gives (read_declared numbers tokens.old) result tokens.new }
+    ensures { ReadsAs (read_declared numbers tokens.old) result tokens.new }
 {
     if tokens.begins_with_symbol(b"*") {
         match tokens.symbol(b"*") {
@@ -372,7 +372,7 @@ pub fn declared(
 /// [ "*" ] name [ "=" expr ]
 #[tactic(auto, unfolding(crate::specs::SimpleReading::read_local))]
 fn local(alloc: Global, numbers: NumKind, tokens: &mut Cursor<'_>) -> Result<Local, Unread>
-    ensures { Gives (read_local read_expression numbers tokens.old) result tokens.new }
+    ensures { ReadsAs (read_local read_expression numbers tokens.old) result tokens.new }
 {
     let (kind, Named { name, line }) = match declared(alloc, numbers, tokens) {
         Ok(declared) => declared,
@@ -403,7 +403,7 @@ fn local(alloc: Global, numbers: NumKind, tokens: &mut Cursor<'_>) -> Result<Loc
 
 /// "," ldecl
 fn next_local(alloc: Global, numbers: NumKind, tokens: &mut Cursor<'_>) -> Result<Local, Unread>
-    ensures { Gives (read_next (read_local read_expression numbers) tokens.old) result tokens.new }
+    ensures { ReadsAs (read_next (read_local read_expression numbers) tokens.old) result tokens.new }
 {
     match tokens.symbol(b",") {
         Ok(_) => local(alloc, numbers, tokens),
@@ -418,7 +418,7 @@ fn more_locals(
     mut found: List<Local>,
     tokens: &mut Cursor<'_>,
 ) -> Result<List<Local>, Unread>
-    ensures { Gives (read_more (read_local read_expression numbers) found tokens.old) result tokens.new }
+    ensures { ReadsAs (read_more (read_local read_expression numbers) found tokens.old) result tokens.new }
 {
     'locals: while tokens.begins_with_symbol(b",") {
         let next = match next_local(alloc, numbers, tokens) {
@@ -435,7 +435,7 @@ fn more_locals(
 
 /// ldecl { "," ldecl }
 fn locals(alloc: Global, numbers: NumKind, tokens: &mut Cursor<'_>) -> Result<List<Local>, Unread>
-    ensures { Gives (read_list (read_local read_expression numbers) tokens.old) result tokens.new }
+    ensures { ReadsAs (read_list (read_local read_expression numbers) tokens.old) result tokens.new }
 {
     let first = match local(alloc, numbers, tokens) {
         Ok(first) => first,
@@ -451,7 +451,7 @@ fn locals(alloc: Global, numbers: NumKind, tokens: &mut Cursor<'_>) -> Result<Li
 /// type ldecl { "," ldecl }
 #[tactic(auto, unfolding(crate::specs::SimpleReading::read_declaration))]
 pub fn declaration(alloc: Global, tokens: &mut Cursor<'_>) -> Result<Stmt, Unread>
-    ensures { Gives (read_declaration read_expression tokens.old) result tokens.new }
+    ensures { ReadsAs (read_declaration read_expression tokens.old) result tokens.new }
 {
     let (numbers, line) = match num_kind(tokens) {
         Ok(kind) => kind,

@@ -3,7 +3,7 @@
 ghost use Rattle.oss_grammar.specs.Reading.{read_mapped};
 ghost use Rattle.oss_pragma.specs.ExpressionReading.{read_expression};
 ghost use Rattle.oss_pragma.specs.PragmaReading.{read_pragma};
-ghost use Rattle.oss_pragma.specs.Told.{Gives};
+ghost use Rattle.oss_pragma.specs.Told.{ReadsAs};
 ghost use Rattle.oss_parse.specs.Branches.{read_maybe_else, read_with_else};
 ghost use Rattle.oss_parse.specs.Inner.{read_body, read_part, read_parts, read_within};
 ghost use Rattle.oss_parse.specs.StatementReading.{read_block, read_branches, read_directed, read_for, read_if, read_item, read_keyword_statement, read_pragma_statement, read_statement, read_while, task_of};
@@ -28,7 +28,7 @@ const MOST_LEVELS: u32 = 64;
 #[cycle(statement)]
 #[tactic(auto, unfolding(crate::specs::StatementReading::read_block))]
 fn block(alloc: Global, levels: u32, tokens: &mut Cursor<'_>) -> Result<Stmt, Unread>
-    ensures { Gives (read_block (read_parts levels) tokens.old) result tokens.new }
+    ensures { ReadsAs (read_block (read_parts levels) tokens.old) result tokens.new }
 {
     let line = match tokens.symbol(b"{") {
         Ok(line) => line,
@@ -56,7 +56,7 @@ fn with_else(
     then: Stmt,
     tokens: &mut Cursor<'_>,
 ) -> Result<Stmt, Unread>
-    ensures { Gives (read_with_else (read_within levels) head then tokens.old) result tokens.new }
+    ensures { ReadsAs (read_with_else (read_within levels) head then tokens.old) result tokens.new }
 {
     match keyword(b"else", tokens) {
         Ok(_) => {}
@@ -77,7 +77,7 @@ fn maybe_else(
     then: Stmt,
     tokens: &mut Cursor<'_>,
 ) -> Result<Stmt, Unread>
-    ensures { Gives (read_maybe_else (read_within levels) head then tokens.old) result tokens.new }
+    ensures { ReadsAs (read_maybe_else (read_within levels) head then tokens.old) result tokens.new }
 {
     if begins_with_keyword(b"else", tokens) {
         return with_else(alloc, levels, head, then, tokens);
@@ -94,7 +94,7 @@ fn branches(
     head: (u32, Expr),
     tokens: &mut Cursor<'_>,
 ) -> Result<Stmt, Unread>
-    ensures { Gives (read_branches (read_within levels) head tokens.old) result tokens.new }
+    ensures { ReadsAs (read_branches (read_within levels) head tokens.old) result tokens.new }
 {
     match within(alloc, levels, tokens) {
         Ok(then) => maybe_else(alloc, levels, head, then, tokens),
@@ -106,7 +106,7 @@ fn branches(
 #[cycle(statement)]
 #[tactic(auto, unfolding(crate::specs::StatementReading::read_if))]
 fn if_statement(alloc: Global, levels: u32, tokens: &mut Cursor<'_>) -> Result<Stmt, Unread>
-    ensures { Gives (read_if read_expression (read_within levels) tokens.old) result tokens.new }
+    ensures { ReadsAs (read_if read_expression (read_within levels) tokens.old) result tokens.new }
 {
     match head(alloc, b"if", tokens) {
         Ok(head) => branches(alloc, levels, head, tokens),
@@ -118,7 +118,7 @@ fn if_statement(alloc: Global, levels: u32, tokens: &mut Cursor<'_>) -> Result<S
 #[cycle(statement)]
 #[tactic(auto, unfolding(crate::specs::StatementReading::read_while))]
 fn while_statement(alloc: Global, levels: u32, tokens: &mut Cursor<'_>) -> Result<Stmt, Unread>
-    ensures { Gives (read_while read_expression (read_within levels) tokens.old) result tokens.new }
+    ensures { ReadsAs (read_while read_expression (read_within levels) tokens.old) result tokens.new }
 {
     let head = match head(alloc, b"while", tokens) {
         Ok(head) => head,
@@ -134,7 +134,7 @@ fn while_statement(alloc: Global, levels: u32, tokens: &mut Cursor<'_>) -> Resul
 #[cycle(statement)]
 #[tactic(auto, unfolding(crate::specs::StatementReading::read_for))]
 fn for_statement(alloc: Global, levels: u32, tokens: &mut Cursor<'_>) -> Result<Stmt, Unread>
-    ensures { Gives (read_for read_expression (read_within levels) tokens.old) result tokens.new }
+    ensures { ReadsAs (read_for read_expression (read_within levels) tokens.old) result tokens.new }
 {
     let head = match for_head(alloc, tokens) {
         Ok(head) => head,
@@ -154,7 +154,7 @@ fn task_statement(
     mark: TaskMark,
     tokens: &mut Cursor<'_>,
 ) -> Result<Stmt, Unread>
-    ensures { Gives (read_mapped (task_of mark) (read_within levels) tokens.old) result tokens.new }
+    ensures { ReadsAs (read_mapped (task_of mark) (read_within levels) tokens.old) result tokens.new }
 {
     match within(alloc, levels, tokens) {
         Ok(body) => task(alloc, mark, body),
@@ -172,7 +172,7 @@ fn directed(
     line: u32,
     tokens: &mut Cursor<'_>,
 ) -> Result<Stmt, Unread>
-    ensures { Gives (read_directed (read_within levels) (directive, line) tokens.old) result tokens.new }
+    ensures { ReadsAs (read_directed (read_within levels) (directive, line) tokens.old) result tokens.new }
 {
     match directive {
         Directive::Task(mark) => task_statement(alloc, levels, mark, tokens),
@@ -191,7 +191,7 @@ fn directed(
 #[cycle(statement)]
 #[tactic(auto, unfolding(crate::specs::StatementReading::read_pragma_statement))]
 fn pragma_statement(alloc: Global, levels: u32, tokens: &mut Cursor<'_>) -> Result<Stmt, Unread>
-    ensures { Gives (read_pragma_statement (read_pragma read_expression) (read_within levels) tokens.old) result tokens.new }
+    ensures { ReadsAs (read_pragma_statement (read_pragma read_expression) (read_within levels) tokens.old) result tokens.new }
 {
     let line = first_line(tokens);
     match pragma(alloc, tokens) {
@@ -204,7 +204,7 @@ fn pragma_statement(alloc: Global, levels: u32, tokens: &mut Cursor<'_>) -> Resu
 #[cycle(statement)]
 #[tactic(auto, unfolding(crate::specs::StatementReading::read_keyword_statement))]
 fn keyword_statement(alloc: Global, levels: u32, tokens: &mut Cursor<'_>) -> Result<Stmt, Unread>
-    ensures { Gives (read_keyword_statement read_expression (read_pragma read_expression) (read_within levels) tokens.old) result tokens.new }
+    ensures { ReadsAs (read_keyword_statement read_expression (read_pragma read_expression) (read_within levels) tokens.old) result tokens.new }
 {
     if begins_with_keyword(b"if", tokens) {
         return if_statement(alloc, levels, tokens);
@@ -234,7 +234,7 @@ fn keyword_statement(alloc: Global, levels: u32, tokens: &mut Cursor<'_>) -> Res
 #[cycle(statement)]
 #[tactic(auto, unfolding(crate::specs::StatementReading::read_statement))]
 fn statement(alloc: Global, levels: u32, tokens: &mut Cursor<'_>) -> Result<Stmt, Unread>
-    ensures { Gives (read_statement read_expression (read_pragma read_expression) (read_parts levels) (read_within levels) tokens.old) result tokens.new }
+    ensures { ReadsAs (read_statement read_expression (read_pragma read_expression) (read_parts levels) (read_within levels) tokens.old) result tokens.new }
 {
     if tokens.begins_with_symbol(b"{") {
         return block(alloc, levels, tokens);
@@ -252,7 +252,7 @@ fn statement(alloc: Global, levels: u32, tokens: &mut Cursor<'_>) -> Result<Stmt
 #[cycle(statement)]
 #[tactic(auto, unfolding(crate::specs::StatementReading::read_item))]
 fn item(alloc: Global, levels: u32, tokens: &mut Cursor<'_>) -> Result<Stmt, Unread>
-    ensures { Gives (read_item read_expression (read_pragma read_expression) (read_parts levels) (read_within levels) tokens.old) result tokens.new }
+    ensures { ReadsAs (read_item read_expression (read_pragma read_expression) (read_parts levels) (read_within levels) tokens.old) result tokens.new }
 {
     if !begins_with_kind(tokens) {
         return statement(alloc, levels, tokens);
@@ -270,7 +270,7 @@ fn item(alloc: Global, levels: u32, tokens: &mut Cursor<'_>) -> Result<Stmt, Unr
 /// A statement inside another, with so many levels.
 #[cycle(statement)]
 fn within(alloc: Global, levels: u32, tokens: &mut Cursor<'_>) -> Result<Stmt, Unread>
-    ensures { Gives (read_within levels tokens.old) result tokens.new }
+    ensures { ReadsAs (read_within levels tokens.old) result tokens.new }
 {
     if levels == 0 {
         return if begins_with_statement(tokens) {
@@ -285,7 +285,7 @@ fn within(alloc: Global, levels: u32, tokens: &mut Cursor<'_>) -> Result<Stmt, U
 /// decl ";" | stmt, with so many levels
 #[cycle(statement)]
 fn part(alloc: Global, levels: u32, tokens: &mut Cursor<'_>) -> Result<Stmt, Unread>
-    ensures { Gives (read_part levels tokens.old) result tokens.new }
+    ensures { ReadsAs (read_part levels tokens.old) result tokens.new }
 {
     if levels == 0 {
         return if begins_with_item(tokens) {
@@ -300,7 +300,7 @@ fn part(alloc: Global, levels: u32, tokens: &mut Cursor<'_>) -> Result<Stmt, Unr
 /// { decl ";" | stmt }, with so many levels
 #[cycle(statement)]
 fn parts(alloc: Global, levels: u32, tokens: &mut Cursor<'_>) -> Result<List<Stmt>, Unread>
-    ensures { Gives (read_parts levels tokens.old) result tokens.new }
+    ensures { ReadsAs (read_parts levels tokens.old) result tokens.new }
 {
     let mut found = List::new(alloc);
     'parts: while begins_with_item(tokens) {
@@ -318,7 +318,7 @@ fn parts(alloc: Global, levels: u32, tokens: &mut Cursor<'_>) -> Result<List<Stm
 
 /// { decl ";" | stmt }, with at most 64 levels
 pub fn body(alloc: Global, tokens: &mut Cursor<'_>) -> Result<List<Stmt>, Unread>
-    ensures { Gives (read_body tokens.old) result tokens.new }
+    ensures { ReadsAs (read_body tokens.old) result tokens.new }
 {
     parts(alloc, MOST_LEVELS, tokens)
 }

@@ -5,7 +5,7 @@ ghost use Rattle.oss_grammar.specs.OneToken.{is_keyword, is_symbol};
 ghost use Rattle.oss_grammar.specs.Reading.{begins, has, read_one};
 ghost use Rattle.oss_grammar.specs.SimpleStatements.{assignment_of, first_line, step_of};
 ghost use Rattle.oss_pragma.specs.TokenValues.{keyword_at, name_at, named_in, start_at, start_in};
-ghost use Rattle.oss_pragma.specs.Told.{Gives, Makes};
+ghost use Rattle.oss_pragma.specs.Told.{ReadsAs, Makes};
 ghost use Rattle.oss_parse.specs.ProgramReading.{value_at, value_in};
 ghost use Rattle.oss_parse.specs.SimpleReading.{assignment_at, single_kind_at, step_at};
 ghost use Rattle.oss_parse.specs.StatementReading.{text_at, text_in};
@@ -184,7 +184,7 @@ pub fn first_line(tokens: &Cursor<'_>) -> u32
 
 /// Takes this keyword, and answers its line.
 pub fn keyword(keyword: &[u8], tokens: &mut Cursor<'_>) -> Result<u32, Unread>
-    ensures { Gives (read_one (keyword_at keyword.now) tokens.old) result tokens.new }
+    ensures { ReadsAs (read_one (keyword_at keyword.now) tokens.old) result tokens.new }
 {
     let Some((token, rest)) = tokens.left().split_first() else {
         return Err(Unread::Syntax);
@@ -198,7 +198,7 @@ pub fn keyword(keyword: &[u8], tokens: &mut Cursor<'_>) -> Result<u32, Unread>
 
 /// Takes an assignment's operator.
 pub fn assignment(tokens: &mut Cursor<'_>) -> Result<Option<BinOp>, Unread>
-    ensures { Gives (read_one assignment_at tokens.old) result tokens.new }
+    ensures { ReadsAs (read_one assignment_at tokens.old) result tokens.new }
 {
     let Some((token, rest)) = tokens.left().split_first() else {
         return Err(Unread::Syntax);
@@ -212,7 +212,7 @@ pub fn assignment(tokens: &mut Cursor<'_>) -> Result<Option<BinOp>, Unread>
 
 /// Takes a step, and answers its operator and its line.
 pub fn step(tokens: &mut Cursor<'_>) -> Result<(BinOp, u32), Unread>
-    ensures { Gives (read_one step_at tokens.old) result tokens.new }
+    ensures { ReadsAs (read_one step_at tokens.old) result tokens.new }
 {
     let Some((token, rest)) = tokens.left().split_first() else {
         return Err(Unread::Syntax);
@@ -226,7 +226,7 @@ pub fn step(tokens: &mut Cursor<'_>) -> Result<(BinOp, u32), Unread>
 
 /// Takes a type of one word, and answers its line too.
 pub fn single_kind(tokens: &mut Cursor<'_>) -> Result<(NumKind, u32), Unread>
-    ensures { Gives (read_one single_kind_at tokens.old) result tokens.new }
+    ensures { ReadsAs (read_one single_kind_at tokens.old) result tokens.new }
 {
     let Some((token, rest)) = tokens.left().split_first() else {
         return Err(Unread::Syntax);
@@ -240,7 +240,7 @@ pub fn single_kind(tokens: &mut Cursor<'_>) -> Result<(NumKind, u32), Unread>
 
 /// Takes a number, and answers its value.
 pub fn value(tokens: &mut Cursor<'_>) -> Result<u64, Unread>
-    ensures { Gives (read_one value_at tokens.old) result tokens.new }
+    ensures { ReadsAs (read_one value_at tokens.old) result tokens.new }
 {
     let Some((token, rest)) = tokens.left().split_first() else {
         return Err(Unread::Syntax);
@@ -254,7 +254,7 @@ pub fn value(tokens: &mut Cursor<'_>) -> Result<u64, Unread>
 
 /// Takes a string, and answers its bytes.
 pub fn text(alloc: Global, tokens: &mut Cursor<'_>) -> Result<Bytes, Unread>
-    ensures { Gives (read_one text_at tokens.old) result tokens.new }
+    ensures { ReadsAs (read_one text_at tokens.old) result tokens.new }
 {
     let Some((token, rest)) = tokens.left().split_first() else {
         return Err(Unread::Syntax);
