@@ -56,10 +56,7 @@ fn told(alloc: Global, text: &[u8], tokens: &[Token]) -> Result<Program, Refusal
 fn whole(alloc: Global, tokens: &mut Cursor<'_>) -> Result<Program, Unread>
     ensures { ReadsAs (read_text tokens.old) result tokens.new }
 {
-    let found = match program(alloc, tokens) {
-        Ok(found) => found,
-        Err(unread) => return Err(unread),
-    };
+    let found = program(alloc, tokens)?;
     match tokens.left().first() {
         Some(_) => Err(Unread::Syntax),
         None => Ok(found),

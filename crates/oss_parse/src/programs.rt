@@ -7,7 +7,7 @@ ghost use Rattle.oss_pragma.specs.ExpressionReading.{middle, read_expression, re
 ghost use Rattle.oss_pragma.specs.TokenValues.{symbol_at};
 ghost use Rattle.oss_pragma.specs.Told.{ReadsAs};
 ghost use Rattle.oss_parse.specs.Inner.{read_body};
-ghost use Rattle.oss_parse.specs.ProgramReading.{array_of, function_of, just, mark_in, read_first_value, read_function_from, read_global, read_global_from, read_globals_from, read_mark, read_marked, read_parameter, read_parameters, read_program, read_program_item, read_program_items, read_result, read_typed, read_typed_from, read_void, scalar_of};
+ghost use Rattle.oss_parse.specs.ProgramReading.{array_of, function_of, just, mark_in, read_first_value, read_function_from, read_function_parts, read_global, read_global_from, read_globals_from, read_mark, read_marked, read_parameter, read_parameters, read_program, read_program_item, read_program_items, read_result, read_typed, read_typed_from, read_void, scalar_of};
 
 use crate::beginnings::begins_with_program_item;
 use crate::simple::{declared, num_kind};
@@ -27,14 +27,9 @@ fn first_value(tokens: &mut Cursor<'_>) -> Result<u64, Unread>
     if !tokens.begins_with_symbol(b"-") {
         return value(tokens);
     }
-    match tokens.symbol(b"-") {
-        Ok(_) => {}
-        Err(unread) => return Err(unread),
-    }
-    match value(tokens) {
-        Ok(value) => Ok(value.wrapping_neg()),
-        Err(unread) => Err(unread),
-    }
+    tokens.symbol(b"-")?;
+    let value = value(tokens)?;
+    Ok(value.wrapping_neg())
 }
 
 /// "[" number "]" | "=" [ "-" ] number | nothing, behind the name of a global
@@ -43,30 +38,17 @@ fn global_from(numbers: NumKind, name: Named, tokens: &mut Cursor<'_>) -> Result
     ensures { ReadsAs (read_global_from numbers name tokens.old) result tokens.new }
 {
     if tokens.begins_with_symbol(b"=") {
-        match tokens.symbol(b"=") {
-            Ok(_) => {}
-            Err(unread) => return Err(unread),
-        }
-        return match first_value(tokens) {
-            Ok(first) => Ok(scalar(numbers, name, first)),
-            Err(unread) => Err(unread),
-        };
+        tokens.symbol(b"=")?;
+        let first = first_value(tokens)?;
+        return Ok(scalar(numbers, name, first));
     }
     if !tokens.begins_with_symbol(b"[") {
         return Ok(scalar(numbers, name, 0));
     }
-    match tokens.symbol(b"[") {
-        Ok(_) => {}
-        Err(unread) => return Err(unread),
-    }
-    let cells = match value(tokens) {
-        Ok(cells) => cells,
-        Err(unread) => return Err(unread),
-    };
-    match tokens.symbol(b"]") {
-        Ok(_) => Ok(array(numbers, name, cells)),
-        Err(unread) => Err(unread),
-    }
+    tokens.symbol(b"[")?;
+    let cells = value(tokens)?;
+    tokens.symbol(b"]")?;
+    Ok(array(numbers, name, cells))
 }
 
 /// A global that is one number.
@@ -100,10 +82,8 @@ fn array(numbers: NumKind, name: Named, cells: u64) -> GlobalDef
 fn global(alloc: Global, numbers: NumKind, tokens: &mut Cursor<'_>) -> Result<GlobalDef, Unread>
     ensures { ReadsAs (read_global numbers tokens.old) result tokens.new }
 {
-    match tokens.name(alloc) {
-        Ok(name) => global_from(numbers, name, tokens),
-        Err(unread) => Err(unread),
-    }
+    let name = tokens.name(alloc)?;
+    global_from(numbers, name, tokens)
 }
 
 /// "," gdecl
@@ -114,10 +94,8 @@ fn next_global(
 ) -> Result<GlobalDef, Unread>
     ensures { ReadsAs (read_next (read_global numbers) tokens.old) result tokens.new }
 {
-    match tokens.symbol(b",") {
-        Ok(_) => global(alloc, numbers, tokens),
-        Err(unread) => Err(unread),
-    }
+    tokens.symbol(b",")?;
+    global(alloc, numbers, tokens)
 }
 
 /// { "," gdecl }, behind the globals that were found
@@ -134,10 +112,7 @@ fn more_globals(
             Ok(next) => next,
             Err(unread) => return Err(unread),
         };
-        match found.push(next) {
-            Ok(()) => {}
-            Err(e) => return Err(Unread::Memory(e)),
-        }
+        found.push(next)?;
     }
     Ok(found)
 }
@@ -151,15 +126,10 @@ fn globals(
 ) -> Result<List<GlobalDef>, Unread>
     ensures { ReadsAs (read_then (read_global_from numbers name) (λ first. read_more (read_global numbers) (first ∷ [])) tokens.old) result tokens.new }
 {
-    let first = match global_from(numbers, name, tokens) {
-        Ok(first) => first,
-        Err(unread) => return Err(unread),
-    };
+    let first = global_from(numbers, name, tokens)?;
     let mut found = List::new(alloc);
-    match found.push(first) {
-        Ok(()) => more_globals(alloc, numbers, found, tokens),
-        Err(e) => Err(Unread::Memory(e)),
-    }
+    found.push(first)?;
+    more_globals(alloc, numbers, found, tokens)
 }
 
 /// Globals as items of a program.
@@ -184,18 +154,9 @@ fn globals_from(
 ) -> Result<List<Item>, Unread>
     ensures { ReadsAs (read_globals_from numbers name tokens.old) result tokens.new }
 {
-    let globals = match globals(alloc, numbers, name, tokens) {
-        Ok(globals) => globals,
-        Err(unread) => return Err(unread),
-    };
-    match tokens.symbol(b";") {
-        Ok(_) => {}
-        Err(unread) => return Err(unread),
-    }
-    match as_items(alloc, globals) {
-        Ok(found) => Ok(found),
-        Err(e) => Err(Unread::Memory(e)),
-    }
+    let globals = globals(alloc, numbers, name, tokens)?;
+    tokens.symbol(b";")?;
+    Ok(as_items(alloc, globals)?)
 }
 
 /// type [ "*" ] name
@@ -203,29 +164,22 @@ fn globals_from(
 fn parameter(alloc: Global, tokens: &mut Cursor<'_>) -> Result<Local, Unread>
     ensures { ReadsAs (read_parameter tokens.old) result tokens.new }
 {
-    let (numbers, _) = match num_kind(tokens) {
-        Ok(kind) => kind,
-        Err(unread) => return Err(unread),
-    };
-    match declared(alloc, numbers, tokens) {
-        Ok((kind, name)) => Ok(Local {
-            name: name.name,
-            kind,
-            first: None,
-            line: name.line,
-        }),
-        Err(unread) => Err(unread),
-    }
+    let (numbers, _) = num_kind(tokens)?;
+    let (kind, name) = declared(alloc, numbers, tokens)?;
+    Ok(Local {
+        name: name.name,
+        kind,
+        first: None,
+        line: name.line,
+    })
 }
 
 /// "," param
 fn next_parameter(alloc: Global, tokens: &mut Cursor<'_>) -> Result<Local, Unread>
     ensures { ReadsAs (read_next read_parameter tokens.old) result tokens.new }
 {
-    match tokens.symbol(b",") {
-        Ok(_) => parameter(alloc, tokens),
-        Err(unread) => Err(unread),
-    }
+    tokens.symbol(b",")?;
+    parameter(alloc, tokens)
 }
 
 /// { "," param }, behind the parameters that were found
@@ -241,10 +195,7 @@ fn more_parameters(
             Ok(next) => next,
             Err(unread) => return Err(unread),
         };
-        match found.push(next) {
-            Ok(()) => {}
-            Err(e) => return Err(Unread::Memory(e)),
-        }
+        found.push(next)?;
     }
     Ok(found)
 }
@@ -253,15 +204,10 @@ fn more_parameters(
 fn some_parameters(alloc: Global, tokens: &mut Cursor<'_>) -> Result<List<Local>, Unread>
     ensures { ReadsAs (read_list read_parameter tokens.old) result tokens.new }
 {
-    let first = match parameter(alloc, tokens) {
-        Ok(first) => first,
-        Err(unread) => return Err(unread),
-    };
+    let first = parameter(alloc, tokens)?;
     let mut found = List::new(alloc);
-    match found.push(first) {
-        Ok(()) => more_parameters(alloc, found, tokens),
-        Err(e) => Err(Unread::Memory(e)),
-    }
+    found.push(first)?;
+    more_parameters(alloc, found, tokens)
 }
 
 /// [ "void" | param { "," param } ] ")"
@@ -270,47 +216,40 @@ fn parameters(alloc: Global, tokens: &mut Cursor<'_>) -> Result<List<Local>, Unr
     ensures { ReadsAs (read_parameters tokens.old) result tokens.new }
 {
     if tokens.begins_with_symbol(b")") {
-        return match tokens.symbol(b")") {
-            Ok(_) => Ok(List::new(alloc)),
-            Err(unread) => Err(unread),
-        };
+        tokens.symbol(b")")?;
+        return Ok(List::new(alloc));
     }
     if begins_with_keyword(b"void", tokens) {
-        match keyword(b"void", tokens) {
-            Ok(_) => {}
-            Err(unread) => return Err(unread),
-        }
-        return match tokens.symbol(b")") {
-            Ok(_) => Ok(List::new(alloc)),
-            Err(unread) => Err(unread),
-        };
+        keyword(b"void", tokens)?;
+        tokens.symbol(b")")?;
+        return Ok(List::new(alloc));
     }
-    let found = match some_parameters(alloc, tokens) {
-        Ok(found) => found,
-        Err(unread) => return Err(unread),
-    };
-    match tokens.symbol(b")") {
-        Ok(_) => Ok(found),
-        Err(unread) => Err(unread),
-    }
+    let found = some_parameters(alloc, tokens)?;
+    tokens.symbol(b")")?;
+    Ok(found)
 }
 
 /// "{" items "}"
 fn function_body(alloc: Global, tokens: &mut Cursor<'_>) -> Result<List<Stmt>, Unread>
     ensures { ReadsAs (read_mapped middle (read_both (read_one (symbol_at (codes "{"))) (read_both read_body (read_one (symbol_at (codes "}"))))) tokens.old) result tokens.new }
 {
-    match tokens.symbol(b"{") {
-        Ok(_) => {}
-        Err(unread) => return Err(unread),
-    }
-    let statements = match body(alloc, tokens) {
-        Ok(statements) => statements,
-        Err(unread) => return Err(unread),
-    };
-    match tokens.symbol(b"}") {
-        Ok(_) => Ok(statements),
-        Err(unread) => Err(unread),
-    }
+    tokens.symbol(b"{")?;
+    let statements = body(alloc, tokens)?;
+    tokens.symbol(b"}")?;
+    Ok(statements)
+}
+
+/// "(" [ params ] ")" "{" items "}"
+fn function_parts(
+    alloc: Global,
+    tokens: &mut Cursor<'_>,
+) -> Result<(List<Local>, List<Stmt>), Unread>
+    ensures { ReadsAs (read_function_parts read_body tokens.old) result tokens.new }
+{
+    tokens.symbol(b"(")?;
+    let params = parameters(alloc, tokens)?;
+    let body = function_body(alloc, tokens)?;
+    Ok((params, body))
 }
 
 /// A function, as the items of a program that it is.
@@ -347,22 +286,8 @@ fn function_from(
 ) -> Result<List<Item>, Unread>
     ensures { ReadsAs (read_function_from read_body mark kind name tokens.old) result tokens.new }
 {
-    match tokens.symbol(b"(") {
-        Ok(_) => {}
-        Err(unread) => return Err(unread),
-    }
-    let params = match parameters(alloc, tokens) {
-        Ok(params) => params,
-        Err(unread) => return Err(unread),
-    };
-    let body = match function_body(alloc, tokens) {
-        Ok(body) => body,
-        Err(unread) => return Err(unread),
-    };
-    match function(alloc, mark, kind, name, params, body) {
-        Ok(found) => Ok(found),
-        Err(e) => Err(Unread::Memory(e)),
-    }
+    let (params, body) = function_parts(alloc, tokens)?;
+    Ok(function(alloc, mark, kind, name, params, body)?)
 }
 
 /// Globals or a function, behind their type and the first name.
@@ -386,14 +311,9 @@ fn typed_from(
 fn typed(alloc: Global, tokens: &mut Cursor<'_>) -> Result<List<Item>, Unread>
     ensures { ReadsAs (read_typed read_body tokens.old) result tokens.new }
 {
-    let (numbers, _) = match num_kind(tokens) {
-        Ok(kind) => kind,
-        Err(unread) => return Err(unread),
-    };
-    match tokens.name(alloc) {
-        Ok(name) => typed_from(alloc, numbers, name, tokens),
-        Err(unread) => Err(unread),
-    }
+    let (numbers, _) = num_kind(tokens)?;
+    let name = tokens.name(alloc)?;
+    typed_from(alloc, numbers, name, tokens)
 }
 
 /// type | "void"
@@ -402,15 +322,11 @@ fn result_kind(tokens: &mut Cursor<'_>) -> Result<Kind, Unread>
     ensures { ReadsAs (read_result tokens.old) result tokens.new }
 {
     if begins_with_keyword(b"void", tokens) {
-        return match keyword(b"void", tokens) {
-            Ok(_) => Ok(Kind::Nothing),
-            Err(unread) => Err(unread),
-        };
+        keyword(b"void", tokens)?;
+        return Ok(Kind::Nothing);
     }
-    match num_kind(tokens) {
-        Ok((numbers, _)) => Ok(Kind::Num(numbers)),
-        Err(unread) => Err(unread),
-    }
+    let (numbers, _) = num_kind(tokens)?;
+    Ok(Kind::Num(numbers))
 }
 
 /// A function that begins with `void`.
@@ -418,14 +334,9 @@ fn result_kind(tokens: &mut Cursor<'_>) -> Result<Kind, Unread>
 fn void(alloc: Global, tokens: &mut Cursor<'_>) -> Result<List<Item>, Unread>
     ensures { ReadsAs (read_void read_body tokens.old) result tokens.new }
 {
-    match keyword(b"void", tokens) {
-        Ok(_) => {}
-        Err(unread) => return Err(unread),
-    }
-    match tokens.name(alloc) {
-        Ok(name) => function_from(alloc, None, Kind::Nothing, name, tokens),
-        Err(unread) => Err(unread),
-    }
+    keyword(b"void", tokens)?;
+    let name = tokens.name(alloc)?;
+    function_from(alloc, None, Kind::Nothing, name, tokens)
 }
 
 /// The mark in the pragma of a task.
@@ -444,10 +355,8 @@ fn mark_of(directive: Directive) -> Option<TaskMark>
 fn mark(alloc: Global, tokens: &mut Cursor<'_>) -> Result<Option<TaskMark>, Unread>
     ensures { ReadsAs (read_mark read_expression tokens.old) result tokens.new }
 {
-    match task_pragma(alloc, tokens) {
-        Ok(directive) => Ok(mark_of(directive)),
-        Err(unread) => Err(unread),
-    }
+    let directive = task_pragma(alloc, tokens)?;
+    Ok(mark_of(directive))
 }
 
 /// A function with a pragma before it.
@@ -455,18 +364,10 @@ fn mark(alloc: Global, tokens: &mut Cursor<'_>) -> Result<Option<TaskMark>, Unre
 fn marked(alloc: Global, tokens: &mut Cursor<'_>) -> Result<List<Item>, Unread>
     ensures { ReadsAs (read_marked read_expression read_body tokens.old) result tokens.new }
 {
-    let mark = match mark(alloc, tokens) {
-        Ok(mark) => mark,
-        Err(unread) => return Err(unread),
-    };
-    let kind = match result_kind(tokens) {
-        Ok(kind) => kind,
-        Err(unread) => return Err(unread),
-    };
-    match tokens.name(alloc) {
-        Ok(name) => function_from(alloc, mark, kind, name, tokens),
-        Err(unread) => Err(unread),
-    }
+    let mark = mark(alloc, tokens)?;
+    let kind = result_kind(tokens)?;
+    let name = tokens.name(alloc)?;
+    function_from(alloc, mark, kind, name, tokens)
 }
 
 /// type gdecl { "," gdecl } ";" | [ task ] ( type | "void" ) name "(" [ params ] ")" block
@@ -503,10 +404,7 @@ fn program_items(alloc: Global, tokens: &mut Cursor<'_>) -> Result<List<Item>, U
             Ok(more) => more,
             Err(unread) => return Err(unread),
         };
-        found = match joined(found, more) {
-            Ok(all) => all,
-            Err(e) => return Err(Unread::Memory(e)),
-        };
+        found = joined(found, more)?;
     }
     Ok(found)
 }

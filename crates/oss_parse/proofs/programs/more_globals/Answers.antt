@@ -19,7 +19,7 @@ pub globals-preserved : goal.globals-preserved
 unfolding read_more
 globals-preserved c =
     let starts : begins (has (symbol_at (codes ","))) c.globals.tokens ≡ true = sym c.begins_with_symbol.ensures ∙ c.globals-test.true in
-    rw c.in-Ok-push.ensures.ok (sym ((repeats_globals c.args.numbers).go c.globals.found c.globals.tokens c.in-Ok.next c.next_global.new.tokens starts c.in-Ok.ensures) ∙ c.globals.invariant)
+    rw c.in_ok-push.ensures.ok (sym ((repeats_globals c.args.numbers).go c.globals.found c.globals.tokens c.in-Ok.next c.next_global.new.tokens starts c.in-Ok.ensures) ∙ c.globals.invariant)
 
 pub returns : goal.returns
 unfolding read_more

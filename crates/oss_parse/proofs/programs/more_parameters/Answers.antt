@@ -19,7 +19,7 @@ pub parameters-preserved : goal.parameters-preserved
 unfolding read_more
 parameters-preserved c =
     let starts : begins (has (symbol_at (codes ","))) c.parameters.tokens ≡ true = sym c.begins_with_symbol.ensures ∙ c.parameters-test.true in
-    rw c.in-Ok-push.ensures.ok (sym (repeats_parameters.go c.parameters.found c.parameters.tokens c.in-Ok.next c.next_parameter.new.tokens starts c.in-Ok.ensures) ∙ c.parameters.invariant)
+    rw c.in_ok-push.ensures.ok (sym (repeats_parameters.go c.parameters.found c.parameters.tokens c.in-Ok.next c.next_parameter.new.tokens starts c.in-Ok.ensures) ∙ c.parameters.invariant)
 
 pub returns : goal.returns
 unfolding read_more

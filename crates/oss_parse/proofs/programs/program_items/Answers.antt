@@ -22,7 +22,7 @@ pub items-preserved : goal.items-preserved
 unfolding read_items_behind
 items-preserved c =
     let starts : begins begins_program_item c.items.tokens ≡ true = sym c.begins_with_program_item.ensures ∙ c.items-test.true in
-    rw c.in-Ok-joined.ensures (sym (repeats_items.go c.items.found c.items.tokens c.in-Ok.more c.program_item.new.tokens starts c.in-Ok.ensures) ∙ c.items.invariant)
+    rw c.in_ok-found.ensures (sym (repeats_items.go c.items.found c.items.tokens c.in-Ok.more c.program_item.new.tokens starts c.in-Ok.ensures) ∙ c.items.invariant)
 
 pub returns : goal.returns
 unfolding read_items_behind

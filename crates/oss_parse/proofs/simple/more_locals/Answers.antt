@@ -19,7 +19,7 @@ pub locals-preserved : goal.locals-preserved
 unfolding read_more
 locals-preserved c =
     let starts : begins (has (symbol_at (codes ","))) c.locals.tokens ≡ true = sym c.begins_with_symbol.ensures ∙ c.locals-test.true in
-    rw c.in-Ok-push.ensures.ok (sym ((repeats_locals c.args.numbers).go c.locals.found c.locals.tokens c.in-Ok.next c.next_local.new.tokens starts c.in-Ok.ensures) ∙ c.locals.invariant)
+    rw c.in_ok-push.ensures.ok (sym ((repeats_locals c.args.numbers).go c.locals.found c.locals.tokens c.in-Ok.next c.next_local.new.tokens starts c.in-Ok.ensures) ∙ c.locals.invariant)
 
 pub returns : goal.returns
 unfolding read_more

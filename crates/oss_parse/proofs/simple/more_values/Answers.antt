@@ -19,7 +19,7 @@ pub values-preserved : goal.values-preserved
 unfolding read_more
 values-preserved c =
     let starts : begins (has (symbol_at (codes ","))) c.values.tokens ≡ true = sym c.begins_with_symbol.ensures ∙ c.values-test.true in
-    rw c.in-Ok-push.ensures.ok (sym (repeats_values.go c.values.found c.values.tokens c.in-Ok.next c.next_value.new.tokens starts c.in-Ok.ensures) ∙ c.values.invariant)
+    rw c.in_ok-push.ensures.ok (sym (repeats_values.go c.values.found c.values.tokens c.in-Ok.next c.next_value.new.tokens starts c.in-Ok.ensures) ∙ c.values.invariant)
 
 pub returns : goal.returns
 unfolding read_more
