@@ -1,5 +1,5 @@
 -- What begins a statement: each token that the reader looks for begins one, and each statement begins so.
-use Rattle.std.proofs.Common.{◌≡◌, ℕ, suc, Bool, true, false, if◌then◌else◌, ◌||◌, List, [], ◌∷◌, ◌++◌, refl, sym, ap, ◌∙◌, subst, append_assoc, ◌⊎◌, inl, inr, Option, Some, None, is_some}
+use Rattle.std.proofs.Common.{◌≡◌, ℕ, Bool, true, false, if◌then◌else◌, ◌||◌, List, [], ◌∷◌, ◌++◌, refl, ap, ◌∙◌, Option, Some, None, is_some}
 use Rattle.std.specs.Prelude.{codes}
 use Rattle.oss_syntax.specs.declared.token.Token.{Token}
 use Rattle.oss_syntax.specs.declared.token.TokenKind.{TokenKind}
@@ -8,15 +8,14 @@ use Rattle.oss_syntax.specs.declared.tree.expr.BinOp.{BinOp}
 use Rattle.oss_syntax.specs.declared.tree.expr.BinOp.TheVariants as op
 use Rattle.oss_syntax.specs.declared.tree.expr.Expr.{Expr}
 use Rattle.oss_syntax.specs.declared.tree.pragma.Directive.{Directive}
-use Rattle.oss_syntax.specs.declared.tree.pragma.Directive.TheVariants as directive
 use Rattle.oss_syntax.specs.declared.tree.stmt.Stmt.{Stmt}
 use Rattle.oss_grammar.specs.Expressions.{IsExpr, IsWhole}
 use Rattle.oss_grammar.specs.Expressions.IsExpr.{number, tighter}
 use Rattle.oss_grammar.specs.Fronts.{Viable}
-use Rattle.oss_grammar.specs.OneToken.{is_symbol, is_keyword, IsSymbol, IsKeyword, IsOpen}
+use Rattle.oss_grammar.specs.OneToken.{is_keyword, IsSymbol, IsKeyword}
 use Rattle.oss_grammar.specs.Pragmas.{IsPragma}
 use Rattle.oss_grammar.specs.Pragmas.IsPragma.{task as task_pragma, wait_all, wait_on, release as release_pragma}
-use Rattle.oss_grammar.specs.Reading.{begins, has, one_of}
+use Rattle.oss_grammar.specs.Reading.{begins, has}
 use Rattle.oss_grammar.specs.SimpleStatements.{IsSimple, IsTarget, IsDeclaration, IsNumKind, step_of}
 use Rattle.oss_grammar.specs.SimpleStatements.IsTarget.{name_target, element_target, pointer_target, pointed_target}
 use Rattle.oss_grammar.specs.SimpleStatements.IsSimple.{assigned, stepped, step_first, called}
@@ -27,14 +26,14 @@ use Rattle.oss_grammar.specs.SimpleStatements.IsLocals.{last_local}
 use Rattle.oss_grammar.specs.SimpleStatements.IsDeclaration.{declaration}
 use Rattle.oss_grammar.specs.StatementLimits.{IsOneItem}
 use Rattle.oss_grammar.specs.StatementLimits.IsOneItem.{declared_item, stated_item}
-use Rattle.oss_grammar.specs.Statements.{IsStmt, IsAnyStmt, IsItems}
+use Rattle.oss_grammar.specs.Statements.{IsStmt, IsAnyStmt}
 use Rattle.oss_grammar.specs.Statements.IsStmt.{block, empty, simple, if_alone, if_else, while_loop, for_loop, return_jump, break_jump, continue_jump, print, task, task_wait, release}
 use Rattle.oss_grammar.specs.Statements.IsItems.{no_item}
 use Rattle.oss_grammar.specs.Statements.IsForFirst.{other_first}
 use Rattle.oss_grammar.specs.Statements.IsMaybeSimple.{no_simple}
 use Rattle.oss_grammar.specs.Statements.IsMaybeWhole.{no_expression}
 use Rattle.oss_grammar.specs.Statements.IsPrinted.{nothing_printed}
-use Rattle.oss_pragma.specs.TokenValues.{symbol_at, keyword_at, start_at, start_in, name_at, named_in}
+use Rattle.oss_pragma.specs.TokenValues.{symbol_at, keyword_at, start_in, name_at, named_in}
 use Rattle.oss_pragma.proofs.TokenLemmas.{on_symbol, on_keyword, has_symbol, has_keyword}
 use Rattle.oss_parse.specs.SimpleReading.{begins_simple, begins_kind, star, step_at, stepped_in, single_kind_at}
 use Rattle.oss_parse.specs.StatementReading.{begins_statement, begins_keyword_statement, begins_item}

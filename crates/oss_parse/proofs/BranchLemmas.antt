@@ -1,5 +1,5 @@
 -- A statement, and behind it an `else` with another where one can go on: the branches of an `if` are read exactly.
-use Rattle.std.proofs.Common.{◌≡◌, ℕ, Bool, true, false, if◌then◌else◌, List, [], ◌∷◌, ◌++◌, refl, sym, ap, ◌∙◌, subst, append_assoc, ◌⊎◌, inl, inr, Option, Some, None, is_some, Result, Ok, Err}
+use Rattle.std.proofs.Common.{◌≡◌, ℕ, Bool, true, false, if◌then◌else◌, List, [], ◌∷◌, ◌++◌, refl, sym, ap, ◌∙◌, subst, append_assoc, ◌⊎◌, inl, inr, Some, None, is_some, Result, Ok, Err}
 use Rattle.std.specs.Prelude.{codes}
 use Rattle.std.proofs.lemmas.List.{append-nil, append_cancel_right}
 use Rattle.oss_syntax.specs.declared.token.Token.{Token}
@@ -7,9 +7,9 @@ use Rattle.oss_syntax.specs.declared.tree.expr.Expr.{Expr}
 use Rattle.oss_syntax.specs.declared.tree.stmt.Stmt.{Stmt}
 use Rattle.oss_grammar.specs.Fronts.{Viable}
 use Rattle.oss_grammar.specs.OneToken.{is_keyword}
-use Rattle.oss_grammar.specs.Reading.{Stop, Reader, begins, has, go_on, token_told, read_one, read_then, read_nothing, read_mapped, read_both, read_either}
+use Rattle.oss_grammar.specs.Reading.{Stop, Reader, begins, has, go_on, read_one, read_then, read_nothing, read_mapped, read_both, read_either}
 use Rattle.oss_grammar.specs.Reading.Stop.{Syntax, Deep}
-use Rattle.oss_grammar.proofs.Parts.{AtSame, Taken, Stopped, Sunk, IsRead, Sinks, Exact, Begun, ok_is, taken, viable_front, still_fails}
+use Rattle.oss_grammar.proofs.Parts.{Taken, Stopped, Sunk, IsRead, Sinks, ok_is, taken, still_fails}
 use Rattle.oss_pragma.specs.ExpressionReading.{latter}
 use Rattle.oss_pragma.specs.TokenValues.{keyword_at}
 use Rattle.oss_parse.specs.StatementReading.{if_of, if_else_of, read_branches}

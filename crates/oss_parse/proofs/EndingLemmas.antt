@@ -1,15 +1,14 @@
 -- Readers of texts that may go on with an `else`, or may not, by how they end: a reader takes an `else` where one can go on. Beside
 -- the grammar there is the part of it whose texts do not go on so; these are read whatever follows, and what a reader takes before an
 -- `else` is one of them.
-use Rattle.std.proofs.Common.{◌≡◌, ℕ, Bool, true, false, if◌then◌else◌, List, [], ◌∷◌, ◌++◌, refl, sym, ap, ◌∙◌, subst, append_assoc, ◌⊎◌, inl, inr, Option, Some, None, is_some, Result, Ok, Err}
-use Rattle.std.proofs.lemmas.List.{append-nil, append_cancel_right}
+use Rattle.std.proofs.Common.{◌≡◌, Bool, true, false, List, [], ◌∷◌, ◌++◌, refl, sym, ap, ◌∙◌, subst, append_assoc, ◌⊎◌, inl, inr, Result, Ok, Err}
+use Rattle.std.proofs.lemmas.List.{append_cancel_right}
 use Rattle.oss_syntax.specs.declared.token.Token.{Token}
 use Rattle.oss_grammar.specs.Fronts.{Viable}
 use Rattle.oss_grammar.specs.Grammar.{Mapped, Either}
 use Rattle.oss_grammar.specs.Grammar.Either.{one_way, other_way}
 use Rattle.oss_grammar.specs.Reading.{Stop, begins, never, go_on, read_then, read_mapped, read_either}
-use Rattle.oss_grammar.specs.Reading.Stop.{Syntax, Deep}
-use Rattle.oss_grammar.proofs.Parts.{AtSame, Taken, Stopped, Sunk, IsRead, Sinks, Exact, Begun, ok_is, taken, member_begins, deep_begins, exact_as, exact_before}
+use Rattle.oss_grammar.proofs.Parts.{IsRead, Sinks, Exact, Begun, ok_is, taken, member_begins, deep_begins, exact_as}
 use Rattle.oss_grammar.proofs.PartLemmas.{Then, ThenDeep, exact_then, exact_mapped, EitherDeep, exact_either}
 use Rattle.oss_grammar.proofs.PartLemmas.ThenDeep.{in_first, in_second}
 use Rattle.oss_grammar.proofs.PartLemmas.EitherDeep.{one_deep, other_deep}

@@ -1,6 +1,5 @@
 -- Statements, and what stands in a block, are read exactly, with so many levels.
-use Rattle.std.proofs.lemmas.List.{append-nil}
-use Rattle.std.proofs.Common.{◌≡◌, ℕ, zero, suc, Bool, true, false, if◌then◌else◌, ◌||◌, List, [], ◌∷◌, ◌++◌, refl, sym, ap, ◌∙◌, subst, append_assoc, ◌⊎◌, inl, inr, Option, Some, None, is_some, Result, Ok, Err}
+use Rattle.std.proofs.Common.{◌≡◌, ℕ, zero, suc, Bool, true, false, if◌then◌else◌, ◌||◌, List, [], ◌∷◌, ◌++◌, refl, sym, ap, ◌∙◌, subst, append_assoc, ◌⊎◌, inl, inr, Some, None, is_some, Ok, Err}
 use Rattle.std.specs.Prelude.{codes}
 use Rattle.oss_syntax.specs.declared.token.Token.{Token}
 use Rattle.oss_syntax.specs.declared.tree.expr.Expr.{Expr}
@@ -14,7 +13,7 @@ use Rattle.oss_grammar.specs.Grammar.Either.{one_way, other_way}
 use Rattle.oss_grammar.specs.Levels.{IsExcessBehind, OpensPragma}
 use Rattle.oss_grammar.specs.OneToken.{is_keyword}
 use Rattle.oss_grammar.specs.Pragmas.{IsPragma}
-use Rattle.oss_grammar.specs.Reading.{Stop, Reader, begins, has, never, one_of, read_one, read_mapped, read_both, read_either, read_steps, read_too_deep}
+use Rattle.oss_grammar.specs.Reading.{Reader, begins, has, never, one_of, read_one, read_too_deep}
 use Rattle.oss_grammar.specs.Reading.Stop.{Syntax, Deep}
 use Rattle.oss_grammar.specs.SimpleStatements.{IsDeclaration, step_of}
 use Rattle.oss_grammar.specs.StatementLimits.{OpensDeclaration, IsOneItem, IsStatementExcess, IsItemExcess, IsItemsExcess}
@@ -24,8 +23,8 @@ use Rattle.oss_grammar.specs.StatementLimits.IsItemExcess.{no_item_level, in_dec
 use Rattle.oss_grammar.specs.StatementLimits.IsItemsExcess.{first_item, later_item}
 use Rattle.oss_grammar.specs.Statements.{IsStmt, IsAnyStmt, IsItems}
 use Rattle.oss_grammar.specs.Statements.IsItems.{no_item, declaration_item, statement_item}
-use Rattle.oss_grammar.proofs.Parts.{Sinks, Exact, Begun, exact_as, exact_same, member_begins, deep_begins}
-use Rattle.oss_grammar.proofs.PartLemmas.{Nowhere, EitherDeep, exact_one, begun_one, exact_mapped, begun_mapped, exact_either, begun_either, exact_too_deep, begun_too_deep}
+use Rattle.oss_grammar.proofs.Parts.{Sinks, Exact, Begun, exact_as, member_begins, deep_begins}
+use Rattle.oss_grammar.proofs.PartLemmas.{Nowhere, EitherDeep, begun_one, exact_mapped, begun_mapped, exact_either, begun_either, exact_too_deep, begun_too_deep}
 use Rattle.oss_grammar.proofs.PartLemmas.EitherDeep.{one_deep, other_deep}
 use Rattle.oss_grammar.proofs.PairLemmas as pairs
 use Rattle.oss_grammar.proofs.StepLemmas.{none_goes}
@@ -34,8 +33,8 @@ use Rattle.oss_pragma.specs.TokenValues.{symbol_at, keyword_at, start_at, begins
 use Rattle.oss_pragma.proofs.ExactPairs.{Trailed, exact_trailed}
 use Rattle.oss_pragma.proofs.ExactRows.{Rows, RowsEnd, RowsDeep, exact_rows}
 use Rattle.oss_pragma.proofs.ExactRows.Rows.{no_row, next_row}
-use Rattle.oss_pragma.proofs.TokenLemmas.{goes_on, on_symbol, on_keyword, has_symbol, has_keyword, symbol_token, symbol_value, not_keyword, exact_closed, exact_symbol}
-use Rattle.oss_parse.specs.SimpleReading.{read_declaration, begins_kind, single_kind_at}
+use Rattle.oss_pragma.proofs.TokenLemmas.{goes_on, on_symbol, has_symbol, symbol_token, symbol_value, not_keyword, exact_closed, exact_symbol}
+use Rattle.oss_parse.specs.SimpleReading.{begins_kind, single_kind_at}
 use Rattle.oss_parse.specs.StatementReading.{read_statement, read_item, read_items_by, read_inner_statement, read_inner_item, read_items, begins_statement, begins_item}
 use Rattle.oss_parse.proofs.BeginningLemmas.{statement_begins, begins_so, item_begins, item_begins_so}
 use Rattle.oss_parse.proofs.BranchLemmas.{otherwise}

@@ -1,29 +1,23 @@
 -- Programs and whole texts are read exactly, and tokens are one program at most.
-use Rattle.std.proofs.Common.{arith, ◌≡◌, ◌≤◌, ◌<◌, ◌+◌, ◌-◌, ℕ, zero, suc, Bool, true, false, List, [], ◌∷◌, ◌++◌, length, refl, sym, ap, ◌∙◌, subst, append_assoc, Option, Some, None, Result, Ok, Err}
+use Rattle.std.proofs.Common.{◌≡◌, ℕ, List, [], ◌∷◌, ◌++◌, length, refl, sym, ap, ◌∙◌, subst, Result, Ok, Err}
 use Rattle.std.proofs.lemmas.List.{append-nil, append_cancel_right}
 use Rattle.oss_syntax.specs.declared.token.Token.{Token}
 use Rattle.oss_syntax.specs.declared.tree.program.Program.{Program}
 use Rattle.oss_syntax.specs.declared.refusal.RefusedKind.TheVariants as kind
-use Rattle.oss_grammar.specs.Fronts.{Viable}
-use Rattle.oss_grammar.specs.Levels.{IsExcessBehind, IsExpressionExcess, IsPragmaExcess, OpensPragma, Begins}
 use Rattle.oss_grammar.specs.Parsing.{programs, RefusesText}
 use Rattle.oss_grammar.specs.Parsing.RefusesText.{text_too_large, at_token_of_text, at_end_of_text}
 use Rattle.oss_grammar.specs.Programs.{IsProgram}
-use Rattle.oss_grammar.specs.Reading.{Stop, begins}
+use Rattle.oss_grammar.specs.Reading.{Stop}
 use Rattle.oss_grammar.specs.Reading.Stop.{Syntax, Deep}
-use Rattle.oss_grammar.specs.Refusals.{Language, Reaches, IsExcess, IsWithin, IsNone, HasOneValue, kind_of, is_in_pragma}
-use Rattle.oss_grammar.specs.StatementLimits.{IsProgramExcess, IsItemsExcess}
-use Rattle.oss_grammar.specs.Statements.{IsItems}
+use Rattle.oss_grammar.specs.Refusals.{Reaches, IsWithin, kind_of, is_in_pragma}
+use Rattle.oss_grammar.specs.StatementLimits.{IsProgramExcess}
 use Rattle.oss_grammar.proofs.AnswerLemmas.{ok_answer, reaches_stop, within_stopped, within_deep, stop_none}
-use Rattle.oss_grammar.proofs.Parts.{Taken, Stopped, Sunk, Exact, taken, stopped, sunk}
-use Rattle.oss_pragma.specs.ExpressionReading.{read_expression}
-use Rattle.oss_pragma.specs.PragmaReading.{read_pragma}
+use Rattle.oss_grammar.proofs.Parts.{Exact, taken, stopped, sunk}
 use Rattle.oss_pragma.proofs.ExactExpressions.{exact_expression, begun_expression}
 use Rattle.oss_pragma.proofs.ExactPragmas.{exact_pragma, begun_pragma}
 use Rattle.oss_parse.specs.ProgramReading.{read_program, read_text, whole_told, begins_program_item}
-use Rattle.oss_parse.specs.StatementReading.{read_items}
 use Rattle.oss_parse.proofs.ExactPrograms.{exact_limited_program}
-use Rattle.oss_parse.proofs.ExactStatements.{goes_items, exact_items, items_end}
+use Rattle.oss_parse.proofs.ExactStatements.{exact_items, items_end}
 
 -- programs are read exactly
 pub exact_program_text : Exact read_program IsProgram IsProgramExcess begins_program_item

@@ -1,38 +1,33 @@
 -- The forms of statements are read exactly, if what stands in them is.
-use Rattle.std.proofs.Common.{◌≡◌, ℕ, suc, Bool, true, false, ◌||◌, List, [], ◌∷◌, ◌++◌, refl, sym, ap, ◌∙◌, subst, append_assoc, ◌⊎◌, inl, inr, Option, Some, None, is_some, Result, Ok, Err}
+use Rattle.std.proofs.Common.{◌≡◌, ℕ, Bool, true, false, ◌||◌, List, [], ◌∷◌, ◌++◌, refl, sym, ap, ◌∙◌, subst, ◌⊎◌, inl, inr, Option, Some, None, Result, Ok, Err}
 use Rattle.std.specs.Prelude.{codes}
-use Rattle.std.proofs.lemmas.List.{append-nil}
 use Rattle.oss_syntax.specs.declared.token.Token.{Token}
 use Rattle.oss_syntax.specs.declared.token.TokenKind.{TokenKind}
 use Rattle.oss_syntax.specs.declared.token.TokenKind.TheVariants as kinds
 use Rattle.oss_syntax.specs.declared.tree.expr.Expr.{Expr}
-use Rattle.oss_syntax.specs.declared.tree.pragma.Directive.{Directive}
-use Rattle.oss_syntax.specs.declared.tree.pragma.Directive.TheVariants as directive
 use Rattle.oss_syntax.specs.declared.tree.stmt.Stmt.{Stmt}
-use Rattle.oss_syntax.specs.declared.tree.stmt.StmtKind.TheVariants as stmts
 use Rattle.oss_grammar.specs.Expressions.{IsWhole, operator_of, prefix_of}
 use Rattle.oss_grammar.specs.Fronts.{Viable}
 use Rattle.oss_grammar.specs.Grammar.{One, Both, Mapped, Either}
 use Rattle.oss_grammar.specs.Grammar.Either.{one_way, other_way}
 use Rattle.oss_grammar.specs.Levels.{IsExcessBehind}
-use Rattle.oss_grammar.specs.Pragmas.{IsPragma}
-use Rattle.oss_grammar.specs.Reading.{Stop, Reader, begins, has, never, one_of, go_on, read_one, read_then, read_nothing, read_mapped, read_both, read_either}
+use Rattle.oss_grammar.specs.Reading.{Stop, Reader, begins, has, never, one_of, go_on, read_one, read_nothing, read_mapped, read_both, read_either}
 use Rattle.oss_grammar.specs.Reading.Stop.{Syntax, Deep}
 use Rattle.oss_grammar.specs.SimpleStatements.{IsSimple, IsDeclaration, first_line, step_of}
-use Rattle.oss_grammar.specs.StatementLimits.{OpensSimple, OpensDeclaration, IsStatementExcess, IsItemsExcess}
-use Rattle.oss_grammar.specs.Statements.{IsStmt, IsAnyStmt, IsItems, IsForFirst, IsMaybeWhole, IsMaybeSimple, IsPrinted}
-use Rattle.oss_grammar.proofs.Parts.{AtSame, Taken, Stopped, Sunk, IsRead, Sinks, Exact, Begun, exact_as, exact_before, member_begins, deep_begins, not_empty, taken, stopped, takes_some}
-use Rattle.oss_grammar.proofs.PartLemmas.{Nowhere, nowhere, Nothing, exact_one, begun_one, exact_nothing, exact_mapped, begun_mapped, Then, ThenDeep, begun_then, EitherDeep, exact_either, begun_either}
+use Rattle.oss_grammar.specs.StatementLimits.{OpensSimple, OpensDeclaration}
+use Rattle.oss_grammar.proofs.Parts.{IsRead, Sinks, Exact, Begun, exact_before, member_begins, deep_begins, not_empty, takes_some}
+use Rattle.oss_grammar.proofs.PartLemmas.{Nowhere, nowhere, Nothing, exact_one, exact_nothing, exact_mapped, begun_mapped, ThenDeep, EitherDeep, exact_either}
 use Rattle.oss_grammar.proofs.PairLemmas as pairs
 use Rattle.oss_grammar.proofs.StepLemmas.{none_goes, fewer_go}
-use Rattle.oss_pragma.specs.ExpressionReading.{former, latter, middle, read_more}
-use Rattle.oss_pragma.specs.TokenValues.{symbol_at, keyword_at, start_at, name_at, begins_expression}
-use Rattle.oss_pragma.proofs.ExactPairs.{Headed, HeadedDeep, exact_headed, begun_headed, Trailed, exact_trailed, Enclosed, exact_enclosed, begun_enclosed, Bracketed, BracketedDeep, exact_bracketed, begun_bracketed, bracketed_viable, Behind, exact_behind, begun_behind}
+use Rattle.oss_pragma.specs.ExpressionReading.{former, latter, middle}
+use Rattle.oss_pragma.specs.TokenValues.{symbol_at, keyword_at, begins_expression}
+use Rattle.oss_pragma.proofs.ExactPairs.{Headed, HeadedDeep, exact_headed, begun_headed, Trailed, exact_trailed, Bracketed, BracketedDeep, exact_bracketed, bracketed_viable, Behind, exact_behind}
 use Rattle.oss_pragma.proofs.ListLemmas.{comma, Follow, FollowDeep, exact_follow}
 use Rattle.oss_pragma.proofs.ListLemmas.Follow.{none}
-use Rattle.oss_pragma.proofs.TokenLemmas.{goes_on, on_symbol, on_keyword, not_symbol, not_keyword, has_symbol, has_keyword, exact_closed, begins_never}
-use Rattle.oss_parse.specs.SimpleReading.{read_simple, begins_simple, read_declaration, begins_kind, star, step_at}
-use Rattle.oss_parse.specs.StatementReading.{text_at, read_maybe_expression, read_maybe_simple, read_for_first, for_parts, read_for_parts, read_for_head, read_head, read_printed, read_lined}
+use Rattle.oss_pragma.proofs.TokenLemmas.{goes_on, on_symbol, has_symbol}
+use Rattle.oss_parse.specs.SimpleReading.{read_simple, begins_simple, read_declaration, begins_kind}
+use Rattle.oss_parse.specs.declared.forms.ForParts.{ForParts}
+use Rattle.oss_parse.specs.StatementReading.{read_maybe_expression, read_maybe_simple, read_for_first, for_parts, read_for_parts, read_for_head, read_head, read_printed, read_lined}
 
 -- a token with this keyword
 abbrev pub some_keyword : List ℕ → Token
@@ -310,37 +305,37 @@ module _ {expression : Reader Expr} {X : List Token → Token → Type 0} (part 
   some_rest : Viable Rest []
   some_rest = viable_headed (symbol_at (codes ";")) (some_mark (codes ";")) 0 refl (viable_both none_expression some_last)
 
-  abbrev pub ForParts : List Token → Option Stmt × (Option Expr × Option Stmt) → Type 0
-  ForParts = Mapped for_parts (Both First Rest)
+  abbrev pub ForPartsText : List Token → ForParts → Type 0
+  ForPartsText = Mapped for_parts (Both First Rest)
 
   abbrev pub ForPartsDeep : List Token → Token → Type 0
   ForPartsDeep = ThenDeep (EitherDeep DeclarationX (EitherDeep SimpleX Nowhere)) First (λ s. RestDeep)
 
-  exact_for_parts : Exact (read_for_parts expression) ForParts ForPartsDeep never
+  exact_for_parts : Exact (read_for_parts expression) ForPartsText ForPartsDeep never
   unfolding read_for_parts
   exact_for_parts = exact_mapped for_parts (pairs.exact_both exact_for_first exact_rest begun_rest mark_ends_first)
 
-  some_for_parts : Viable ForParts []
+  some_for_parts : Viable ForPartsText []
   some_for_parts = let v : Viable (Both First Rest) [] = viable_both (record { more = []; value = None; member = other_way (other_way (record { nothing = refl; same = refl })) }) some_rest in
       record { more = v.more; value = for_parts v.value; member = record { part = v.value; made = refl; whole = v.member } }
 
-  abbrev pub ForHead : List Token → ℕ × (Option Stmt × (Option Expr × Option Stmt)) → Type 0
-  ForHead = Headed (keyword_at (codes "for")) (Behind (codes "(") ForParts)
+  abbrev pub ForHead : List Token → ℕ × ForParts → Type 0
+  ForHead = Headed (keyword_at (codes "for")) (Behind (codes "(") ForPartsText)
 
   abbrev pub ForHeadDeep : List Token → Token → Type 0
   ForHeadDeep = HeadedDeep (keyword_at (codes "for")) (BracketedDeep (codes "(") ForPartsDeep)
 
-  behind_parts : Exact (read_mapped latter (read_both (read_one (symbol_at (codes "("))) (read_for_parts expression))) (Behind (codes "(") ForParts) (BracketedDeep (codes "(") ForPartsDeep) never
+  behind_parts : Exact (read_mapped latter (read_both (read_one (symbol_at (codes "("))) (read_for_parts expression))) (Behind (codes "(") ForPartsText) (BracketedDeep (codes "(") ForPartsDeep) never
   behind_parts = exact_behind (codes "(") exact_for_parts some_for_parts refl
 
-  some_behind : Viable (Behind (codes "(") ForParts) []
+  some_behind : Viable (Behind (codes "(") ForPartsText) []
   some_behind = let v = some_for_parts in record { more = some_mark (codes "(") ∷ v.more; value = v.value; member = record { mark = some_mark (codes "("); back = v.more; split = refl; marks = refl; behind = v.member } }
 
-  pub exact_for_head : Exact {A = ℕ × (Option Stmt × (Option Expr × Option Stmt))} (read_for_head expression) ForHead ForHeadDeep never
+  pub exact_for_head : Exact {A = ℕ × ForParts} (read_for_head expression) ForHead ForHeadDeep never
   unfolding read_for_head
   exact_for_head = exact_headed (keyword_at (codes "for")) behind_parts (some_keyword (codes "for")) 0 refl some_behind
 
-  pub begun_for_head : Begun {A = ℕ × (Option Stmt × (Option Expr × Option Stmt))} (read_for_head expression) (has (keyword_at (codes "for")))
+  pub begun_for_head : Begun {A = ℕ × ForParts} (read_for_head expression) (has (keyword_at (codes "for")))
   unfolding read_for_head
   begun_for_head = begun_headed (keyword_at (codes "for")) behind_parts
 

@@ -1,14 +1,13 @@
 -- Tokens are one program at most, and a text has one answer at most.
-use Rattle.std.proofs.Common.{arith, ◌≡◌, ◌≤◌, ◌<◌, ◌+◌, ℕ, zero, suc, Bool, List, [], ◌∷◌, ◌++◌, length, refl, sym, ap, ◌∙◌, subst, Ok, Err}
+use Rattle.std.proofs.Common.{arith, ◌≡◌, ◌≤◌, ◌<◌, ◌+◌, ℕ, suc, List, [], ◌∷◌, ◌++◌, length, sym, ap, ◌∙◌, subst}
 use Rattle.std.proofs.lemmas.List.{length-append}
 use Rattle.oss_syntax.specs.declared.token.Token.{Token}
 use Rattle.oss_syntax.specs.declared.tree.pragma.Directive.{Directive}
 use Rattle.oss_syntax.specs.declared.tree.program.Program.{Program}
-use Rattle.oss_syntax.specs.declared.refusal.Refusal.TheVariants.{Refused}
 use Rattle.oss_syntax.specs.declared.refusal.Refused.{Refused as RefusedData}
 use Rattle.oss_grammar.specs.Expressions.{loosest_level}
 use Rattle.oss_grammar.specs.Levels.{Begins, IsExcessBehind}
-use Rattle.oss_grammar.specs.Parsing.{programs, end_line, RefusesText, IsParse, IsParsedOnce, IsTextRefusal, IsProgramText}
+use Rattle.oss_grammar.specs.Parsing.{programs, end_line, RefusesText, IsParsedOnce, IsTextRefusal, IsProgramText}
 use Rattle.oss_grammar.specs.Parsing.IsTextRefusal.{by_tokens, by_grammar}
 use Rattle.oss_grammar.specs.Pragmas.{IsPragma}
 use Rattle.oss_grammar.specs.Pragmas.IsPragma.{task, wait_all, wait_on, release}
@@ -25,7 +24,7 @@ use Rattle.oss_grammar.proofs.TextLemmas.{no_refusal, text_refused_once}
 use Rattle.oss_lex.proofs.OneReading.{read_once}
 use Rattle.oss_pragma.proofs.ExactExpressions.{exact_whole, begun_whole_at, deep_long}
 use Rattle.oss_pragma.proofs.ExactPragmas.{exact_pragma, begun_pragma}
-use Rattle.oss_parse.proofs.ExactPrograms.{ItemExcess, ProgramExcess, exact_program}
+use Rattle.oss_parse.proofs.ExactPrograms.{ProgramExcess, exact_program}
 use Rattle.oss_parse.proofs.ExactPrograms.ItemExcess.{mark_excess, body_excess}
 use Rattle.oss_parse.proofs.ExactPrograms.ProgramExcess.{first_excess, later_excess}
 use Rattle.oss_parse.proofs.ExactStatements.{exact_items, items_end}

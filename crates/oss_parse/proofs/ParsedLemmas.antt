@@ -1,5 +1,5 @@
 -- What is told of a text is its parse.
-use Rattle.std.proofs.Common.{arith, ◌≡◌, ◌+◌, ◌-◌, ℕ, ◌⊎◌, inl, inr, List, [], ◌∷◌, ◌++◌, length, refl, sym, ap, ◌∙◌, subst, Result, Ok, Err}
+use Rattle.std.proofs.Common.{arith, ◌≡◌, ◌+◌, ℕ, inl, inr, List, [], ◌∷◌, length, refl, sym, ap, ◌∙◌, subst, Result, Ok, Err}
 use Rattle.std.specs.Prelude.{take}
 use Rattle.std.proofs.lemmas.List.{length-append}
 use Rattle.std.proofs.Math.Seq.{take-append_seam}
@@ -15,9 +15,8 @@ use Rattle.oss_grammar.specs.Programs.{IsProgram}
 use Rattle.oss_grammar.specs.Reading.{Stop}
 use Rattle.oss_grammar.specs.Reading.Stop.{Syntax, Deep}
 use Rattle.oss_grammar.specs.Refusals.{kind_of, is_in_pragma}
-use Rattle.oss_grammar.proofs.Parts.{Stopped, stopped}
 use Rattle.oss_pragma.specs.ToldAt.{count_before, tokens_before}
-use Rattle.oss_parse.specs.Parsed.{IsParsed, Tells, told_of, refused_at}
+use Rattle.oss_parse.specs.Parsed.{IsParsed, TokensTell, told_of, refused_at}
 use Rattle.oss_parse.specs.ProgramReading.{read_text}
 use Rattle.oss_parse.proofs.ExactTexts.{WholeText, whole_text, token_refused, end_refused, deep_refused, no_deep_end, stop_front}
 
@@ -48,7 +47,7 @@ stop_refused text ts (Deep []) e = absurd (no_deep_end ts e)
 stop_refused text ts (Deep (t ∷ more)) e = deep_refused (end_line text) ts t more e
 
 -- a text that is read
-told_program : (text : List ℕ) (found : Program) → Tells text (Ok found) → IsProgramText text found
+told_program : (text : List ℕ) (found : Program) → TokensTell text (Ok found) → IsProgramText text found
 told_program text found w = on (read_text w.tokens) refl w.is_told where
   on : (r : Result (Program × List Token) Stop) → read_text w.tokens ≡ r → told_of text w.tokens r ≡ Ok found → IsProgramText text found
   on (Ok p) e told =
@@ -57,7 +56,7 @@ told_program text found w = on (read_text w.tokens) refl w.is_told where
       record { tokens = w.tokens; are_tokens = w.are_tokens; is_program = subst (λ q. IsProgram w.tokens q) same (is_program w.tokens p.0 whole); within = whole.within }
   on (Err stop) e told = absurd (cc)
 
-told_refusal : (text : List ℕ) (refused : RefusedData) → Tells text (Err refused) → IsTextRefusal text refused
+told_refusal : (text : List ℕ) (refused : RefusedData) → TokensTell text (Err refused) → IsTextRefusal text refused
 told_refusal text refused w = on (read_text w.tokens) refl w.is_told where
   on : (r : Result (Program × List Token) Stop) → read_text w.tokens ≡ r → told_of text w.tokens r ≡ Err refused → IsTextRefusal text refused
   on (Ok p) e told = absurd (cc)

@@ -1,60 +1,40 @@
 -- Where reading of a statement passes a limit, the statement passes one, and the other way round; so statements are read exactly.
-use Rattle.std.proofs.lemmas.List.{append-nil}
-use Rattle.std.proofs.Common.{◌≡◌, ℕ, suc, Bool, true, false, ◌||◌, List, [], ◌∷◌, ◌++◌, refl, sym, ap, ◌∙◌, subst, append_assoc, Option, Some, None, is_some, Result, Ok, Err}
+use Rattle.std.proofs.Common.{◌≡◌, ℕ, suc, Bool, true, false, List, [], ◌∷◌, ◌++◌, refl, sym, ap, ◌∙◌, subst, append_assoc, Option, Some, None}
 use Rattle.std.specs.Prelude.{codes}
 use Rattle.oss_syntax.specs.declared.token.Token.{Token}
 use Rattle.oss_syntax.specs.declared.token.TokenKind.{TokenKind}
 use Rattle.oss_syntax.specs.declared.token.TokenKind.TheVariants as kinds
 use Rattle.oss_syntax.specs.declared.tree.expr.Expr.{Expr}
 use Rattle.oss_syntax.specs.declared.tree.pragma.Directive.{Directive}
-use Rattle.oss_syntax.specs.declared.tree.pragma.Clause.{Clause}
 use Rattle.oss_syntax.specs.declared.tree.pragma.Directive.TheVariants as directive
-use Rattle.oss_syntax.specs.declared.tree.pragma.Section.{Section}
-use Rattle.oss_syntax.specs.declared.tree.pragma.TaskMark.{TaskMark}
 use Rattle.oss_syntax.specs.declared.tree.stmt.Stmt.{Stmt}
-use Rattle.oss_syntax.specs.declared.tree.stmt.StmtKind.TheVariants as stmts
-use Rattle.oss_grammar.specs.Expressions.{IsWhole, IsArgumentList, operator_of, prefix_of}
-use Rattle.oss_grammar.specs.Fronts.{Viable}
-use Rattle.oss_grammar.specs.Grammar.{One, Both, Mapped, Either}
-use Rattle.oss_grammar.specs.Grammar.Either.{one_way, other_way}
+use Rattle.oss_grammar.specs.Expressions.{IsWhole, IsArgumentList}
+use Rattle.oss_grammar.specs.Grammar.{Mapped, Either}
 use Rattle.oss_grammar.specs.Levels.{IsExcessBehind, OpensPragma}
 use Rattle.oss_grammar.specs.Pragmas.{IsPragma}
-use Rattle.oss_grammar.specs.Reading.{Stop, Reader, begins, has, never, one_of, read_one, read_then, read_nothing, read_mapped, read_both, read_either}
-use Rattle.oss_grammar.specs.SimpleStatements.{IsSimple, IsDeclaration, first_line, step_of}
+use Rattle.oss_grammar.specs.Reading.{Reader, has, never}
+use Rattle.oss_grammar.specs.SimpleStatements.{IsSimple, IsDeclaration, first_line}
 use Rattle.oss_grammar.specs.StatementLimits.{OpensSimple, OpensStatement, IsStatementExcess, IsItemsExcess}
 use Rattle.oss_grammar.specs.StatementLimits.IsStatementExcess.{in_expression, under_if, under_else, under_while, under_for, under_task}
 use Rattle.oss_grammar.specs.StatementLimits.OpensStatement.{in_if_test, in_while_test, in_for_declaration, in_for_first, in_for_test, in_for_last, in_return, in_print, in_pragma}
 use Rattle.oss_grammar.specs.Statements.{IsStmt, IsAnyStmt, IsItems, IsMaybeWhole, IsMaybeSimple, IsForFirst, IsPrinted}
-use Rattle.oss_grammar.specs.Statements.IsItems.{no_item}
-use Rattle.oss_grammar.specs.Statements.IsStmt.{block, empty, simple, if_alone, if_else, while_loop, for_loop, return_jump, break_jump, continue_jump, print, task, task_wait, release}
-use Rattle.oss_grammar.specs.Statements.IsMaybeWhole.{no_expression, some_expression}
-use Rattle.oss_grammar.specs.Statements.IsMaybeSimple.{no_simple, some_simple}
-use Rattle.oss_grammar.specs.Statements.IsForFirst.{declared_first, other_first}
 use Rattle.oss_grammar.specs.Statements.IsPrinted.{nothing_printed, values_printed}
 use Rattle.oss_grammar.specs.Expressions.IsArgumentList.{last_argument, next_argument}
 use Rattle.oss_grammar.specs.OneToken.{IsSymbol, IsKeyword, IsOpen, IsClose, IsComma}
-use Rattle.oss_grammar.proofs.Parts.{Exact, Begun, exact_same}
-use Rattle.oss_grammar.proofs.PartLemmas.{Nowhere, nowhere, Nothing, exact_one, begun_one, exact_nothing, exact_mapped, begun_mapped, Then, ThenDeep, begun_then, EitherDeep, begun_either}
+use Rattle.oss_grammar.proofs.Parts.{Exact, Begun}
+use Rattle.oss_grammar.proofs.PartLemmas.{Nowhere, nowhere, Nothing, ThenDeep, EitherDeep}
 use Rattle.oss_grammar.proofs.PartLemmas.ThenDeep.{in_first, in_second}
 use Rattle.oss_grammar.proofs.PartLemmas.EitherDeep.{one_deep, other_deep}
-use Rattle.oss_grammar.proofs.PairLemmas as pairs
-use Rattle.oss_pragma.specs.TokenValues.{symbol_at, keyword_at, start_at, begins_expression}
-use Rattle.oss_pragma.proofs.ExactPairs.{Headed, HeadedDeep, exact_headed, begun_headed, Trailed, exact_trailed, Enclosed, exact_enclosed, begun_enclosed, BracketedDeep, Behind, exact_behind, begun_behind, symbol_line}
-use Rattle.oss_pragma.proofs.TokenLemmas.{goes_on, on_symbol, has_symbol, has_keyword, symbol_token, symbol_value, keyword_token, keyword_value, keyword_line, not_symbol, not_keyword, begins_never}
-use Rattle.oss_pragma.proofs.ListLemmas.{Follow, FollowDeep}
-use Rattle.oss_pragma.proofs.ListLemmas.Follow.{none, some}
+use Rattle.oss_pragma.specs.TokenValues.{symbol_at, start_at, begins_expression}
+use Rattle.oss_pragma.proofs.ExactPairs.{HeadedDeep}
+use Rattle.oss_pragma.proofs.TokenLemmas.{goes_on, has_keyword, symbol_token, symbol_value, keyword_token, keyword_value}
+use Rattle.oss_pragma.proofs.ListLemmas.{FollowDeep}
 use Rattle.oss_pragma.proofs.ListLemmas.FollowDeep.{here, there}
-use Rattle.oss_parse.specs.SimpleReading.{read_simple, begins_simple, star, step_at}
-use Rattle.oss_parse.specs.StatementReading.{text_in, text_at, block_of, empty_at, if_of, if_else_of, while_of, for_of, return_of, break_at, continue_at, print_of, task_of, read_block, read_empty, read_simple_statement, read_if, read_branches, read_while, read_for, read_return, read_break, read_continue, read_print, read_directed, read_lined, read_pragma_statement, read_keyword_statement, read_statement, read_printed, begins_keyword_statement, begins_statement}
-use Rattle.oss_parse.specs.StatementReading as reading
-use Rattle.oss_pragma.specs.ExpressionReading.{former, latter}
-use Rattle.oss_parse.proofs.BranchLemmas.{otherwise, Branches, ClosedBranches, BranchesDeep, ending_branches}
-use Rattle.oss_parse.proofs.BranchLemmas.Branches.{one_branch, two_branches}
+use Rattle.oss_parse.specs.declared.forms.ForParts.{ForParts}
+use Rattle.oss_parse.specs.StatementReading.{text_in, text_at, read_statement, begins_statement}
+use Rattle.oss_parse.proofs.BranchLemmas.{otherwise}
 use Rattle.oss_parse.proofs.BranchLemmas.BranchesDeep.{in_one, in_other}
-use Rattle.oss_parse.proofs.EndingLemmas.{Ending, ending_as, ending_closed, ending_mapped, ending_then, ending_either}
-use Rattle.oss_parse.proofs.ExactDeclarations.{exact_declaration, begun_declaration, simple_ends}
-use Rattle.oss_parse.proofs.ExactSimple.{exact_simple, begun_simple, semicolon_ends}
-use Rattle.oss_parse.proofs.FormLemmas as form
+use Rattle.oss_parse.proofs.EndingLemmas.{Ending, ending_as}
 use Rattle.oss_parse.proofs.StatementForms as forms
 use Rattle.oss_parse.proofs.StatementTexts as texts
 
@@ -74,7 +54,7 @@ module _ {expression : Reader Expr} {X : List Token → Token → Type 0} (part 
   abbrev WhileDeep : List Token → Token → Type 0
   WhileDeep = forms.WhileDeep part first directed first_directed inside brace_ends below first_below
 
-  abbrev ForHead : List Token → ℕ × (Option Stmt × (Option Expr × Option Stmt)) → Type 0
+  abbrev ForHead : List Token → ℕ × ForParts → Type 0
   ForHead = forms.ForHead part first directed first_directed inside brace_ends below first_below
 
   abbrev ForPartsDeep : List Token → Token → Type 0
@@ -134,13 +114,13 @@ module _ {expression : Reader Expr} {X : List Token → Token → Type 0} (part 
   for_first : (xs : List Token) (s : Option Stmt) → First xs s → IsForFirst xs s
   for_first = texts.for_first part first directed first_directed inside brace_ends below first_below
 
-  abbrev Parts : List Token → ℕ × (Option Stmt × (Option Expr × Option Stmt)) → Type 0
+  abbrev Parts : List Token → ℕ × ForParts → Type 0
   Parts = texts.Parts part first directed first_directed inside brace_ends below first_below
 
-  parts_of : (front : List Token) (h : ℕ × (Option Stmt × (Option Expr × Option Stmt))) → ForHead front h → Parts front h
+  parts_of : (front : List Token) (h : ℕ × ForParts) → ForHead front h → Parts front h
   parts_of = texts.parts_of part first directed first_directed inside brace_ends below first_below
 
-  for_split : (xs front back : List Token) (h : ℕ × (Option Stmt × (Option Expr × Option Stmt))) → xs ≡ front ++ back → (w : Parts front h)
+  for_split : (xs front back : List Token) (h : ℕ × ForParts) → xs ≡ front ++ back → (w : Parts front h)
       → xs ≡ w.t ∷ w.opened ∷ (w.start ++ (w.first_mark ∷ (w.middle ++ (w.second_mark ∷ (w.end ++ (w.closed ∷ back))))))
   for_split = texts.for_split part first directed first_directed inside brace_ends below first_below
 
@@ -170,7 +150,7 @@ module _ {expression : Reader Expr} {X : List Token → Token → Type 0} (part 
 
   for_head_of : (first : Option Stmt) (test : Option Expr) (last : Option Stmt) (t opened : Token) (start : List Token) (m : Token) (middle : List Token) (other : Token) (end : List Token) (closed : Token)
       → IsKeyword (codes "for") t → IsOpen opened → IsSymbol (codes ";") m → IsSymbol (codes ";") other → IsClose closed → IsForFirst start first → IsMaybeWhole middle test → IsMaybeSimple end last
-      → ForHead (t ∷ opened ∷ (start ++ (m ∷ (middle ++ (other ∷ (end ++ (closed ∷ []))))))) (t.line, (first, (test, last)))
+      → ForHead (t ∷ opened ∷ (start ++ (m ∷ (middle ++ (other ∷ (end ++ (closed ∷ []))))))) (t.line, record { first = first; test = test; last = last })
   for_head_of = texts.for_head_of part first directed first_directed inside brace_ends below first_below
 
   split_of_for : (xs : List Token) (t opened : Token) (start : List Token) (m : Token) (middle : List Token) (other : Token) (end : List Token) (closed : Token) (back : List Token)
@@ -263,8 +243,8 @@ module _ {expression : Reader Expr} {X : List Token → Token → Type 0} (part 
   for_deeper : (xs : List Token) (t : Token) → ForDeep xs t → Excess xs t
   for_deeper xs t (in_first d) = for_parts_deeper xs d.deep.inner d.token d.deep.opened t (d.split ∙ ap (λ ys. d.token ∷ ys) d.deep.split) (keyword_token (codes "for") d.token d.value d.passes) d.deep.opens d.deep.deep
   for_deeper xs t (in_second front back h e w d) = let p = parts_of front h w in
-      under_for p.t p.opened p.start p.first_mark p.middle p.second_mark p.end p.closed back (for_split xs front back h e p) p.is_for p.opens (for_first p.start h.1.0 p.starts) p.marks (maybe_whole p.middle h.1.1.0 p.tests) p.marks_again
-      (maybe_simple p.end h.1.1.1 p.ends) p.closes d
+      under_for p.t p.opened p.start p.first_mark p.middle p.second_mark p.end p.closed back (for_split xs front back h e p) p.is_for p.opens (for_first p.start h.1.first p.starts) p.marks (maybe_whole p.middle h.1.test p.tests) p.marks_again
+      (maybe_simple p.end h.1.last p.ends) p.closes d
 
   return_deeper : (xs : List Token) (t : Token) → ReturnDeep xs t → Excess xs t
   return_deeper xs t d = on d.deep where
@@ -431,7 +411,7 @@ module _ {expression : Reader Expr} {X : List Token → Token → Type 0} (part 
   all_upper xs t (under_while {test = test} w opened inner closed front e k o v c d) =
       other_deep (other_deep (other_deep (other_deep (one_deep (in_second (w ∷ opened ∷ (inner ++ (closed ∷ []))) front (w.line, test) (split_of_head xs w opened inner closed front e) (head_of (codes "while") w opened inner closed test k o c v) d)))))
   all_upper xs t (under_for {first = f} {test = test} {last = l} w opened start m middle other end closed front e k o a c v z u b d) =
-      other_deep (other_deep (other_deep (other_deep (other_deep (one_deep (in_second (w ∷ opened ∷ (start ++ (m ∷ (middle ++ (other ∷ (end ++ (closed ∷ []))))))) front (w.line, (f, (test, l)))
+      other_deep (other_deep (other_deep (other_deep (other_deep (one_deep (in_second (w ∷ opened ∷ (start ++ (m ∷ (middle ++ (other ∷ (end ++ (closed ∷ []))))))) front (w.line, record { first = f; test = test; last = l })
       (split_of_for xs w opened start m middle other end closed front e) (for_head_of f test l w opened start m middle other end closed k o c z b a v u) d))))))
   all_upper xs t (under_task {mark = m} front back e p d) =
       other_deep (other_deep (other_deep (other_deep (other_deep (other_deep (other_deep (other_deep (other_deep (other_deep (in_second front back (directive.Task m, first_line front) e (record { is = p; at = refl }) d))))))))))

@@ -1,57 +1,39 @@
 -- Each form of statement is read exactly, and the choice among them by the first token.
-use Rattle.std.proofs.lemmas.List.{append-nil}
-use Rattle.std.proofs.Common.{◌≡◌, ℕ, suc, Bool, true, false, ◌||◌, List, [], ◌∷◌, ◌++◌, refl, sym, ap, ◌∙◌, subst, append_assoc, Option, Some, None, is_some, Result, Ok, Err}
+use Rattle.std.proofs.Common.{◌≡◌, ℕ, Bool, true, false, List, [], ◌∷◌, ◌++◌, refl, Option, Some, None}
 use Rattle.std.specs.Prelude.{codes}
 use Rattle.oss_syntax.specs.declared.token.Token.{Token}
 use Rattle.oss_syntax.specs.declared.token.TokenKind.{TokenKind}
 use Rattle.oss_syntax.specs.declared.token.TokenKind.TheVariants as kinds
 use Rattle.oss_syntax.specs.declared.tree.expr.Expr.{Expr}
 use Rattle.oss_syntax.specs.declared.tree.pragma.Directive.{Directive}
-use Rattle.oss_syntax.specs.declared.tree.pragma.Clause.{Clause}
 use Rattle.oss_syntax.specs.declared.tree.pragma.Directive.TheVariants as directive
-use Rattle.oss_syntax.specs.declared.tree.pragma.Section.{Section}
-use Rattle.oss_syntax.specs.declared.tree.pragma.TaskMark.{TaskMark}
 use Rattle.oss_syntax.specs.declared.tree.stmt.Stmt.{Stmt}
 use Rattle.oss_syntax.specs.declared.tree.stmt.StmtKind.TheVariants as stmts
-use Rattle.oss_grammar.specs.Expressions.{IsWhole, IsArgumentList, operator_of, prefix_of}
+use Rattle.oss_grammar.specs.Expressions.{IsWhole, operator_of, prefix_of}
 use Rattle.oss_grammar.specs.Fronts.{Viable}
-use Rattle.oss_grammar.specs.Grammar.{One, Both, Mapped, Either}
+use Rattle.oss_grammar.specs.Grammar.{One, Mapped, Either}
 use Rattle.oss_grammar.specs.Grammar.Either.{one_way, other_way}
 use Rattle.oss_grammar.specs.Levels.{IsExcessBehind, OpensPragma}
 use Rattle.oss_grammar.specs.Pragmas.{IsPragma}
-use Rattle.oss_grammar.specs.Reading.{Stop, Reader, begins, has, never, one_of, read_one, read_then, read_nothing, read_mapped, read_both, read_either}
-use Rattle.oss_grammar.specs.SimpleStatements.{IsSimple, IsDeclaration, first_line, step_of}
-use Rattle.oss_grammar.specs.StatementLimits.{OpensSimple, OpensStatement, IsStatementExcess, IsItemsExcess}
-use Rattle.oss_grammar.specs.StatementLimits.IsStatementExcess.{in_expression, under_if, under_else, under_while, under_for, under_task}
-use Rattle.oss_grammar.specs.StatementLimits.OpensStatement.{in_if_test, in_while_test, in_for_declaration, in_for_first, in_for_test, in_for_last, in_return, in_print, in_pragma}
-use Rattle.oss_grammar.specs.Statements.{IsStmt, IsAnyStmt, IsItems, IsMaybeWhole, IsMaybeSimple, IsForFirst, IsPrinted}
+use Rattle.oss_grammar.specs.Reading.{Reader, has, never, one_of, read_one, read_then, read_nothing, read_mapped, read_both, read_either}
+use Rattle.oss_grammar.specs.SimpleStatements.{IsSimple, step_of}
+use Rattle.oss_grammar.specs.StatementLimits.{OpensSimple, IsStatementExcess, IsItemsExcess}
+use Rattle.oss_grammar.specs.Statements.{IsStmt, IsAnyStmt, IsItems}
 use Rattle.oss_grammar.specs.Statements.IsItems.{no_item}
-use Rattle.oss_grammar.specs.Statements.IsStmt.{block, empty, simple, if_alone, if_else, while_loop, for_loop, return_jump, break_jump, continue_jump, print, task, task_wait, release}
-use Rattle.oss_grammar.specs.Statements.IsMaybeWhole.{no_expression, some_expression}
-use Rattle.oss_grammar.specs.Statements.IsMaybeSimple.{no_simple, some_simple}
-use Rattle.oss_grammar.specs.Statements.IsForFirst.{declared_first, other_first}
-use Rattle.oss_grammar.specs.Statements.IsPrinted.{nothing_printed, values_printed}
-use Rattle.oss_grammar.specs.Expressions.IsArgumentList.{last_argument, next_argument}
-use Rattle.oss_grammar.specs.OneToken.{IsSymbol, IsKeyword, IsOpen, IsClose, IsComma}
-use Rattle.oss_grammar.proofs.Parts.{Exact, Begun, exact_same}
-use Rattle.oss_grammar.proofs.PartLemmas.{Nowhere, nowhere, Nothing, exact_one, begun_one, exact_nothing, exact_mapped, begun_mapped, Then, ThenDeep, begun_then, EitherDeep, begun_either}
-use Rattle.oss_grammar.proofs.PartLemmas.ThenDeep.{in_first, in_second}
-use Rattle.oss_grammar.proofs.PartLemmas.EitherDeep.{one_deep, other_deep}
+use Rattle.oss_grammar.proofs.Parts.{Exact, Begun}
+use Rattle.oss_grammar.proofs.PartLemmas.{Nowhere, Nothing, exact_one, begun_one, exact_nothing, exact_mapped, begun_mapped, Then, ThenDeep, begun_then, EitherDeep, begun_either}
 use Rattle.oss_grammar.proofs.PairLemmas as pairs
 use Rattle.oss_pragma.specs.TokenValues.{symbol_at, keyword_at, start_at, begins_expression}
-use Rattle.oss_pragma.proofs.ExactPairs.{Headed, HeadedDeep, exact_headed, begun_headed, Trailed, exact_trailed, Enclosed, exact_enclosed, begun_enclosed, BracketedDeep, Behind, exact_behind, begun_behind, symbol_line}
-use Rattle.oss_pragma.proofs.TokenLemmas.{goes_on, on_symbol, has_symbol, has_keyword, symbol_token, symbol_value, keyword_token, keyword_value, keyword_line, not_symbol, not_keyword, begins_never}
-use Rattle.oss_pragma.proofs.ListLemmas.{Follow, FollowDeep}
-use Rattle.oss_pragma.proofs.ListLemmas.Follow.{none, some}
-use Rattle.oss_pragma.proofs.ListLemmas.FollowDeep.{here, there}
-use Rattle.oss_parse.specs.SimpleReading.{read_simple, begins_simple, star, step_at}
+use Rattle.oss_pragma.proofs.ExactPairs.{Headed, HeadedDeep, exact_headed, begun_headed, Trailed, exact_trailed, Enclosed, exact_enclosed, begun_enclosed, BracketedDeep, Behind, exact_behind}
+use Rattle.oss_pragma.proofs.TokenLemmas.{goes_on, on_symbol, has_symbol, not_symbol, not_keyword, begins_never}
+use Rattle.oss_parse.specs.SimpleReading.{read_simple, begins_simple}
+use Rattle.oss_parse.specs.declared.forms.ForParts.{ForParts}
 use Rattle.oss_parse.specs.StatementReading.{text_in, text_at, block_of, empty_at, if_of, if_else_of, while_of, for_of, return_of, break_at, continue_at, print_of, task_of, read_block, read_empty, read_simple_statement, read_if, read_branches, read_while, read_for, read_return, read_break, read_continue, read_print, read_directed, read_lined, read_pragma_statement, read_keyword_statement, read_statement, read_printed, begins_keyword_statement, begins_statement}
 use Rattle.oss_parse.specs.StatementReading as reading
 use Rattle.oss_pragma.specs.ExpressionReading.{former, latter}
 use Rattle.oss_parse.proofs.BranchLemmas.{otherwise, Branches, ClosedBranches, BranchesDeep, ending_branches}
 use Rattle.oss_parse.proofs.BranchLemmas.Branches.{one_branch, two_branches}
-use Rattle.oss_parse.proofs.BranchLemmas.BranchesDeep.{in_one, in_other}
-use Rattle.oss_parse.proofs.EndingLemmas.{Ending, ending_as, ending_closed, ending_mapped, ending_then, ending_either}
+use Rattle.oss_parse.proofs.EndingLemmas.{Ending, ending_closed, ending_mapped, ending_then, ending_either}
 use Rattle.oss_parse.proofs.ExactDeclarations.{exact_declaration, begun_declaration, simple_ends}
 use Rattle.oss_parse.proofs.ExactSimple.{exact_simple, begun_simple, semicolon_ends}
 use Rattle.oss_parse.proofs.FormLemmas as form
@@ -210,7 +192,7 @@ module _ {expression : Reader Expr} {X : List Token → Token → Type 0} (part 
   while_form = headed_form (head (codes "while") refl) (first_head (codes "while")) while_of
 
   -- "for" "(" parts ")" stmt
-  abbrev pub ForHead : List Token → ℕ × (Option Stmt × (Option Expr × Option Stmt)) → Type 0
+  abbrev pub ForHead : List Token → ℕ × ForParts → Type 0
   ForHead = form.ForHead part first (exact_simple part first) (begun_simple part first) (exact_declaration part first) (begun_declaration part first) simple_ends
 
   abbrev pub ForPartsDeep : List Token → Token → Type 0

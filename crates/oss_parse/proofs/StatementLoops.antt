@@ -1,22 +1,22 @@
 -- Readers of statements take a token at least, and how their loops go on.
-use Rattle.std.proofs.Common.{◌≡◌, ℕ, zero, suc, ◌+◌, ◌-◌, ◌<◌, Bool, List, [], length, codes, refl, ap, ◌∙◌, arith, Some, None, Ok, subst, length-append}
+use Rattle.std.proofs.Common.{◌≡◌, ℕ, zero, suc, ◌+◌, ◌-◌, ◌<◌, Bool, List, [], length, codes, refl, ap, ◌∙◌, arith, Some, None, subst, length-append}
 use Rattle.oss_syntax.specs.declared.token.Token.{Token}
 use Rattle.oss_syntax.specs.declared.tree.expr.Expr.{Expr}
 use Rattle.oss_syntax.specs.declared.tree.pragma.Directive.{Directive}
 use Rattle.oss_syntax.specs.declared.tree.pragma.Directive.TheVariants as directive
 use Rattle.oss_syntax.specs.declared.tree.stmt.Stmt.{Stmt}
-use Rattle.oss_grammar.specs.Reading.{Reader, Stop, begins, has, read_one, read_then, read_nothing, read_mapped, read_both, read_either}
+use Rattle.oss_grammar.specs.Reading.{Reader, begins, has, read_one, read_nothing, read_mapped, read_both, read_either}
 use Rattle.oss_grammar.specs.SimpleStatements.{first_line}
 use Rattle.oss_grammar.proofs.Parts.{Taken, IsRead, Exact}
 use Rattle.oss_pragma.specs.TokenValues.{symbol_at, keyword_at, word_at, start_at, begins_expression}
-use Rattle.oss_pragma.specs.ExpressionReading.{latter, former, middle, and_then, read_more, read_expression}
+use Rattle.oss_pragma.specs.ExpressionReading.{latter, former, and_then, read_expression}
 use Rattle.oss_pragma.specs.PragmaReading.{read_task, read_taskwait, read_release, read_pragma}
 use Rattle.oss_pragma.proofs.StepLoops.{Takes, Keeps, keeps, takes_one, keeps_nothing, takes_mapped, keeps_mapped, takes_then, takes_both, takes_either, keeps_either, keeps_steps, too_deep, Repeats, repeats}
 use Rattle.oss_pragma.proofs.ExpressionLoops.{keeps_more}
 use Rattle.oss_pragma.proofs.ExactExpressions.{exact_expression, begun_expression}
 use Rattle.oss_pragma.proofs.ExactPragmas.{exact_task, exact_taskwait, exact_release}
 use Rattle.oss_parse.specs.Inner.{read_within, read_part, read_parts}
-use Rattle.oss_parse.specs.SimpleReading.{read_simple, begins_simple, read_declaration, begins_kind}
+use Rattle.oss_parse.specs.SimpleReading.{begins_simple, begins_kind}
 use Rattle.oss_parse.specs.StatementReading.{text_at, read_maybe_expression, read_maybe_simple, read_for_first, block_of, empty_at, if_of, if_else_of, while_of, for_of, return_of, break_at, continue_at, print_of, task_of, read_block, read_empty, read_simple_statement, read_head, read_branches, read_if, read_while, for_parts, read_for_parts, read_for_head, read_for, read_return, read_break, read_continue, read_printed, read_print, read_lined, read_directed, read_pragma_statement, read_keyword_statement, read_statement, read_item, begins_statement, begins_item, read_items_by}
 use Rattle.oss_parse.proofs.SimpleLoops.{keeps_both, takes_expression, takes_between, takes_simple, takes_declaration}
 

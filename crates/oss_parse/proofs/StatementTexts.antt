@@ -1,6 +1,6 @@
 -- What is read of the forms of statements are the statements of the grammar, and the other way round.
 use Rattle.std.proofs.lemmas.List.{append-nil}
-use Rattle.std.proofs.Common.{◌≡◌, ℕ, suc, Bool, true, false, ◌||◌, List, [], ◌∷◌, ◌++◌, refl, sym, ap, ◌∙◌, subst, append_assoc, Option, Some, None, is_some, Result, Ok, Err}
+use Rattle.std.proofs.Common.{◌≡◌, ℕ, Bool, true, false, List, [], ◌∷◌, ◌++◌, refl, sym, ap, ◌∙◌, subst, append_assoc, Option, Some, None}
 use Rattle.std.specs.Prelude.{codes}
 use Rattle.oss_syntax.specs.declared.token.Token.{Token}
 use Rattle.oss_syntax.specs.declared.token.TokenKind.{TokenKind}
@@ -13,48 +13,34 @@ use Rattle.oss_syntax.specs.declared.tree.pragma.Section.{Section}
 use Rattle.oss_syntax.specs.declared.tree.pragma.TaskMark.{TaskMark}
 use Rattle.oss_syntax.specs.declared.tree.stmt.Stmt.{Stmt}
 use Rattle.oss_syntax.specs.declared.tree.stmt.StmtKind.TheVariants as stmts
-use Rattle.oss_grammar.specs.Expressions.{IsWhole, IsArgumentList, operator_of, prefix_of}
-use Rattle.oss_grammar.specs.Fronts.{Viable}
-use Rattle.oss_grammar.specs.Grammar.{One, Both, Mapped, Either}
+use Rattle.oss_grammar.specs.Expressions.{IsWhole, IsArgumentList}
+use Rattle.oss_grammar.specs.Grammar.{Mapped, Either}
 use Rattle.oss_grammar.specs.Grammar.Either.{one_way, other_way}
 use Rattle.oss_grammar.specs.Levels.{IsExcessBehind, OpensPragma}
 use Rattle.oss_grammar.specs.Pragmas.{IsPragma}
-use Rattle.oss_grammar.specs.Reading.{Stop, Reader, begins, has, never, one_of, read_one, read_then, read_nothing, read_mapped, read_both, read_either}
-use Rattle.oss_grammar.specs.SimpleStatements.{IsSimple, IsDeclaration, first_line, step_of}
-use Rattle.oss_grammar.specs.StatementLimits.{OpensSimple, OpensStatement, IsStatementExcess, IsItemsExcess}
-use Rattle.oss_grammar.specs.StatementLimits.IsStatementExcess.{in_expression, under_if, under_else, under_while, under_for, under_task}
-use Rattle.oss_grammar.specs.StatementLimits.OpensStatement.{in_if_test, in_while_test, in_for_declaration, in_for_first, in_for_test, in_for_last, in_return, in_print, in_pragma}
+use Rattle.oss_grammar.specs.Reading.{Reader, has, never}
+use Rattle.oss_grammar.specs.SimpleStatements.{IsSimple, IsDeclaration, first_line}
+use Rattle.oss_grammar.specs.StatementLimits.{IsStatementExcess, IsItemsExcess}
 use Rattle.oss_grammar.specs.Statements.{IsStmt, IsAnyStmt, IsItems, IsMaybeWhole, IsMaybeSimple, IsForFirst, IsPrinted}
-use Rattle.oss_grammar.specs.Statements.IsItems.{no_item}
 use Rattle.oss_grammar.specs.Statements.IsStmt.{block, empty, simple, if_alone, if_else, while_loop, for_loop, return_jump, break_jump, continue_jump, print, task, task_wait, release}
 use Rattle.oss_grammar.specs.Statements.IsMaybeWhole.{no_expression, some_expression}
 use Rattle.oss_grammar.specs.Statements.IsMaybeSimple.{no_simple, some_simple}
 use Rattle.oss_grammar.specs.Statements.IsForFirst.{declared_first, other_first}
 use Rattle.oss_grammar.specs.Statements.IsPrinted.{nothing_printed, values_printed}
 use Rattle.oss_grammar.specs.Expressions.IsArgumentList.{last_argument, next_argument}
-use Rattle.oss_grammar.specs.OneToken.{IsSymbol, IsKeyword, IsOpen, IsClose, IsComma}
-use Rattle.oss_grammar.proofs.Parts.{Exact, Begun, exact_same}
-use Rattle.oss_grammar.proofs.PartLemmas.{Nowhere, nowhere, Nothing, exact_one, begun_one, exact_nothing, exact_mapped, begun_mapped, Then, ThenDeep, begun_then, EitherDeep, begun_either}
-use Rattle.oss_grammar.proofs.PartLemmas.ThenDeep.{in_first, in_second}
-use Rattle.oss_grammar.proofs.PartLemmas.EitherDeep.{one_deep, other_deep}
-use Rattle.oss_grammar.proofs.PairLemmas as pairs
-use Rattle.oss_pragma.specs.TokenValues.{symbol_at, keyword_at, start_at, begins_expression}
-use Rattle.oss_pragma.proofs.ExactPairs.{Headed, HeadedDeep, exact_headed, begun_headed, Trailed, exact_trailed, Enclosed, exact_enclosed, begun_enclosed, BracketedDeep, Behind, exact_behind, begun_behind, symbol_line}
-use Rattle.oss_pragma.proofs.TokenLemmas.{goes_on, on_symbol, has_symbol, has_keyword, symbol_token, symbol_value, keyword_token, keyword_value, keyword_line, not_symbol, not_keyword, begins_never}
-use Rattle.oss_pragma.proofs.ListLemmas.{Follow, FollowDeep}
+use Rattle.oss_grammar.specs.OneToken.{IsSymbol, IsKeyword, IsOpen, IsClose}
+use Rattle.oss_grammar.proofs.Parts.{Exact, Begun}
+use Rattle.oss_grammar.proofs.PartLemmas.{Nothing}
+use Rattle.oss_pragma.specs.TokenValues.{symbol_at, start_at, begins_expression}
+use Rattle.oss_pragma.proofs.ExactPairs.{symbol_line}
+use Rattle.oss_pragma.proofs.TokenLemmas.{goes_on, has_keyword, symbol_token, symbol_value, keyword_token, keyword_value, keyword_line}
+use Rattle.oss_pragma.proofs.ListLemmas.{Follow}
 use Rattle.oss_pragma.proofs.ListLemmas.Follow.{none, some}
-use Rattle.oss_pragma.proofs.ListLemmas.FollowDeep.{here, there}
-use Rattle.oss_parse.specs.SimpleReading.{read_simple, begins_simple, star, step_at}
-use Rattle.oss_parse.specs.StatementReading.{text_in, text_at, block_of, empty_at, if_of, if_else_of, while_of, for_of, return_of, break_at, continue_at, print_of, task_of, read_block, read_empty, read_simple_statement, read_if, read_branches, read_while, read_for, read_return, read_break, read_continue, read_print, read_directed, read_lined, read_pragma_statement, read_keyword_statement, read_statement, read_printed, begins_keyword_statement, begins_statement}
-use Rattle.oss_parse.specs.StatementReading as reading
-use Rattle.oss_pragma.specs.ExpressionReading.{former, latter}
-use Rattle.oss_parse.proofs.BranchLemmas.{otherwise, Branches, ClosedBranches, BranchesDeep, ending_branches}
+use Rattle.oss_parse.specs.declared.forms.ForParts.{ForParts}
+use Rattle.oss_parse.specs.StatementReading.{text_in, text_at, if_of, if_else_of, break_at, continue_at, begins_statement}
+use Rattle.oss_parse.proofs.BranchLemmas.{otherwise, Branches}
 use Rattle.oss_parse.proofs.BranchLemmas.Branches.{one_branch, two_branches}
-use Rattle.oss_parse.proofs.BranchLemmas.BranchesDeep.{in_one, in_other}
-use Rattle.oss_parse.proofs.EndingLemmas.{Ending, ending_as, ending_closed, ending_mapped, ending_then, ending_either}
-use Rattle.oss_parse.proofs.ExactDeclarations.{exact_declaration, begun_declaration, simple_ends}
-use Rattle.oss_parse.proofs.ExactSimple.{exact_simple, begun_simple, semicolon_ends}
-use Rattle.oss_parse.proofs.FormLemmas as form
+use Rattle.oss_parse.proofs.EndingLemmas.{Ending}
 use Rattle.oss_parse.proofs.StatementForms as forms
 
 module _ {expression : Reader Expr} {X : List Token → Token → Type 0} (part : Exact expression IsWhole X goes_on) (first : Begun expression begins_expression)
@@ -91,7 +77,7 @@ module _ {expression : Reader Expr} {X : List Token → Token → Type 0} (part 
   abbrev WhileDeep : List Token → Token → Type 0
   WhileDeep = forms.WhileDeep part first directed first_directed inside brace_ends below first_below
 
-  abbrev ForHead : List Token → ℕ × (Option Stmt × (Option Expr × Option Stmt)) → Type 0
+  abbrev ForHead : List Token → ℕ × ForParts → Type 0
   ForHead = forms.ForHead part first directed first_directed inside brace_ends below first_below
 
   abbrev ForPartsDeep : List Token → Token → Type 0
@@ -216,7 +202,7 @@ module _ {expression : Reader Expr} {X : List Token → Token → Type 0} (part 
   for_first xs s (other_way w) = other_first (maybe_simple xs s w)
 
   -- the tokens of the head of a `for`
-  pub record Parts (front : List Token) (h : ℕ × (Option Stmt × (Option Expr × Option Stmt))) : Type 0 where
+  pub record Parts (front : List Token) (h : ℕ × ForParts) : Type 0 where
     pub t : Token
     pub opened : Token
     pub start : List Token
@@ -232,11 +218,11 @@ module _ {expression : Reader Expr} {X : List Token → Token → Type 0} (part 
     pub marks : IsSymbol (codes ";") first_mark
     pub marks_again : IsSymbol (codes ";") second_mark
     pub closes : IsClose closed
-    pub starts : First start h.1.0
-    pub tests : MaybeE middle h.1.1.0
-    pub ends : MaybeS end h.1.1.1
+    pub starts : First start h.1.first
+    pub tests : MaybeE middle h.1.test
+    pub ends : MaybeS end h.1.last
 
-  pub parts_of : (front : List Token) (h : ℕ × (Option Stmt × (Option Expr × Option Stmt))) → ForHead front h → Parts front h
+  pub parts_of : (front : List Token) (h : ℕ × ForParts) → ForHead front h → Parts front h
   parts_of front h w =
       let inner = w.behind.behind in let both = inner.whole in let rest = both.behind in let middle = rest.behind in let last = middle.behind in let end = last.behind in record {
         t = w.token;
@@ -255,12 +241,12 @@ module _ {expression : Reader Expr} {X : List Token → Token → Type 0} (part 
         marks = symbol_token (codes ";") rest.token inner.part.1.0 rest.passes;
         marks_again = symbol_token (codes ";") last.token inner.part.1.1.1.0 last.passes;
         closes = symbol_token (codes ")") end.closed inner.part.1.1.1.1.1 end.passes;
-        starts = subst (λ (q : Option Stmt × (Option Expr × Option Stmt)). First both.front q.0) inner.made both.before;
-        tests = subst (λ (q : Option Stmt × (Option Expr × Option Stmt)). MaybeE middle.front q.1.0) inner.made middle.before;
-        ends = subst (λ (q : Option Stmt × (Option Expr × Option Stmt)). MaybeS end.inner q.1.1) inner.made end.inside;
+        starts = subst (λ (q : ForParts). First both.front q.first) inner.made both.before;
+        tests = subst (λ (q : ForParts). MaybeE middle.front q.test) inner.made middle.before;
+        ends = subst (λ (q : ForParts). MaybeS end.inner q.last) inner.made end.inside;
       }
 
-  pub for_split : (xs front back : List Token) (h : ℕ × (Option Stmt × (Option Expr × Option Stmt))) → xs ≡ front ++ back → (w : Parts front h)
+  pub for_split : (xs front back : List Token) (h : ℕ × ForParts) → xs ≡ front ++ back → (w : Parts front h)
       → xs ≡ w.t ∷ w.opened ∷ (w.start ++ (w.first_mark ∷ (w.middle ++ (w.second_mark ∷ (w.end ++ (w.closed ∷ back))))))
   for_split xs front back h e w =
       e ∙ (ap (λ ys. ys ++ back) w.split
@@ -270,9 +256,9 @@ module _ {expression : Reader Expr} {X : List Token → Token → Type 0} (part 
 
   into_for : (o : Bool) (xs : List Token) (s : Stmt) → ForText (IsStmt o) xs s → IsStmt o xs s
   into_for o xs s w = let p = parts_of w.front w.value w.before in
-      subst (λ x. IsStmt o xs x) (ap (λ line. record { what = stmts.For w.value.1.0 w.value.1.1.0 w.value.1.1.1 w.behind.part; line = line }) p.at ∙ w.behind.made)
+      subst (λ x. IsStmt o xs x) (ap (λ line. record { what = stmts.For w.value.1.first w.value.1.test w.value.1.last w.behind.part; line = line }) p.at ∙ w.behind.made)
       (for_loop p.t p.opened p.start p.first_mark p.middle p.second_mark p.end p.closed w.back (for_split xs w.front w.back w.value w.split p) p.is_for p.opens p.marks p.marks_again p.closes
-      (for_first p.start w.value.1.0 p.starts) (maybe_whole p.middle w.value.1.1.0 p.tests) (maybe_simple p.end w.value.1.1.1 p.ends) w.behind.whole)
+      (for_first p.start w.value.1.first p.starts) (maybe_whole p.middle w.value.1.test p.tests) (maybe_simple p.end w.value.1.last p.ends) w.behind.whole)
 
   into_return : (xs : List Token) (s : Stmt) → ReturnText xs s → IsStmt false xs s
   into_return xs s w = let e = w.whole in
@@ -465,7 +451,7 @@ module _ {expression : Reader Expr} {X : List Token → Token → Type 0} (part 
 
   pub for_head_of : (first : Option Stmt) (test : Option Expr) (last : Option Stmt) (t opened : Token) (start : List Token) (m : Token) (middle : List Token) (other : Token) (end : List Token) (closed : Token)
       → IsKeyword (codes "for") t → IsOpen opened → IsSymbol (codes ";") m → IsSymbol (codes ";") other → IsClose closed → IsForFirst start first → IsMaybeWhole middle test → IsMaybeSimple end last
-      → ForHead (t ∷ opened ∷ (start ++ (m ∷ (middle ++ (other ∷ (end ++ (closed ∷ []))))))) (t.line, (first, (test, last)))
+      → ForHead (t ∷ opened ∷ (start ++ (m ∷ (middle ++ (other ∷ (end ++ (closed ∷ []))))))) (t.line, record { first = first; test = test; last = last })
   for_head_of first test last t opened start m middle other end closed k o c d z a b e = record {
     token = t;
     back = opened ∷ (start ++ (m ∷ (middle ++ (other ∷ (end ++ (closed ∷ []))))));
@@ -521,7 +507,7 @@ module _ {expression : Reader Expr} {X : List Token → Token → Type 0} (part 
   out_for U xs first test last s t opened start m middle other end closed back e k o c d z a b l v = record {
     front = t ∷ opened ∷ (start ++ (m ∷ (middle ++ (other ∷ (end ++ (closed ∷ []))))));
     back = back;
-    value = (t.line, (first, (test, last)));
+    value = (t.line, record { first = first; test = test; last = last });
     split = split_of_for xs t opened start m middle other end closed back e;
     before = for_head_of first test last t opened start m middle other end closed k o c d z a b l;
     behind = record { part = s; made = refl; whole = v };

@@ -37,7 +37,7 @@ told_of text ts (Ok read) = Ok read.0
 told_of text ts (Err stop) = Err (refused_at text ts stop)
 
 -- The text has tokens, and this is told of them.
-pub record Tells (text : List ℕ) (answer : Result Program Refused) : Type 0 where
+pub record TokensTell (text : List ℕ) (answer : Result Program Refused) : Type 0 where
   pub tokens : List Token
   pub are_tokens : IsReading text (Ok tokens)
   pub is_told : told_of text tokens (read_text tokens) ≡ answer
@@ -45,8 +45,8 @@ pub record Tells (text : List ℕ) (answer : Result Program Refused) : Type 0 wh
 -- What the call answers. Checked on `int main() {` and a newline: its 5 tokens are a beginning of a program, reading stops behind
 -- them, and the refusal is Syntax at line 2 with 5 tokens before it.
 abbrev pub IsParsed : List ℕ → Result Program Refusal → Type 0
-IsParsed text (Ok program) = Tells text (Ok program)
-IsParsed text (Err (refusal.Refused refused)) = IsReading text (Err (refusal.Refused refused)) ⊎ Tells text (Err refused)
+IsParsed text (Ok program) = TokensTell text (Ok program)
+IsParsed text (Err (refusal.Refused refused)) = IsReading text (Err (refusal.Refused refused)) ⊎ TokensTell text (Err refused)
 IsParsed text (Err (refusal.Memory error)) = Unit {0}
 
 -- The same of the tokens of a text.

@@ -7,7 +7,6 @@ use Rattle.oss_syntax.specs.declared.tree.expr.Expr.{Expr}
 use Rattle.oss_syntax.specs.declared.tree.pragma.Directive.{Directive}
 use Rattle.oss_syntax.specs.declared.tree.pragma.Directive.TheVariants as directive
 use Rattle.oss_syntax.specs.declared.tree.pragma.TaskMark.{TaskMark}
-use Rattle.oss_syntax.specs.declared.tree.program.Function.{Function}
 use Rattle.oss_syntax.specs.declared.tree.program.GlobalDef.{GlobalDef}
 use Rattle.oss_syntax.specs.declared.tree.program.Item.{Item}
 use Rattle.oss_syntax.specs.declared.tree.program.Item.TheVariants as items
@@ -17,7 +16,7 @@ use Rattle.oss_syntax.specs.declared.tree.program.Local.{Local}
 use Rattle.oss_syntax.specs.declared.tree.program.NumKind.{NumKind}
 use Rattle.oss_syntax.specs.declared.tree.program.Program.{Program}
 use Rattle.oss_syntax.specs.declared.tree.stmt.Stmt.{Stmt}
-use Rattle.oss_grammar.specs.Reading.{Reader, Stop, has, go_on, read_one, read_then, read_nothing, read_mapped, read_both, read_either, read_steps}
+use Rattle.oss_grammar.specs.Reading.{Reader, Stop, has, read_one, read_then, read_nothing, read_mapped, read_both, read_either, read_steps}
 use Rattle.oss_grammar.specs.Reading.Stop.{Syntax}
 use Rattle.oss_grammar.specs.Values.{negated}
 use Rattle.oss_pragma.specs.declared.cursor.Named.{Named}
@@ -86,11 +85,15 @@ function_of mark result name p = items.Function (record { name = name.name; resu
 abbrev pub just : Item → List Item
 just item = item ∷ []
 
--- "(" [ params ] ")" "{" items "}", behind the name of a function
+-- "(" [ params ] ")" "{" items "}"
+abbrev pub read_function_parts : Reader (List Stmt) → Reader (List Local × List Stmt)
+read_function_parts body =
+    read_mapped latter (read_both (read_one (symbol_at (codes "("))) (read_both read_parameters
+    (read_mapped middle (read_both (read_one (symbol_at (codes "{"))) (read_both body (read_one (symbol_at (codes "}"))))))))
+
+-- The same behind the name of a function, as the function that it makes.
 unfoldable pub read_function_from : Reader (List Stmt) → Option TaskMark → Kind → Named → Reader (List Item)
-read_function_from body mark result name =
-    read_mapped (λ p. just (function_of mark result name p)) (read_mapped latter (read_both (read_one (symbol_at (codes "("))) (read_both read_parameters
-    (read_mapped middle (read_both (read_one (symbol_at (codes "{"))) (read_both body (read_one (symbol_at (codes "}")))))))))
+read_function_from body mark result name = read_mapped (λ p. just (function_of mark result name p)) (read_function_parts body)
 
 -- Globals or a function, behind their type and the first name.
 unfoldable pub read_typed_from : Reader (List Stmt) → NumKind → Named → Reader (List Item)

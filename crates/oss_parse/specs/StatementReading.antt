@@ -1,6 +1,6 @@
 -- How a statement is read from its tokens, from left to right, by readers of expressions and of pragmas. Each reader stands for the
 -- part of the grammar of the same name.
-use Rattle.std.specs.Prelude.{ℕ, zero, suc, Bool, ◌||◌, List, [], ◌∷◌, codes, Option, Some, None, Result, Ok, Err}
+use Rattle.std.specs.Prelude.{ℕ, zero, suc, Bool, ◌||◌, List, [], codes, Option, Some, None, Ok}
 use Rattle.oss_syntax.specs.declared.token.Token.{Token}
 use Rattle.oss_syntax.specs.declared.token.TokenKind.{TokenKind}
 use Rattle.oss_syntax.specs.declared.token.TokenKind.TheVariants as kinds
@@ -10,11 +10,12 @@ use Rattle.oss_syntax.specs.declared.tree.pragma.Directive.TheVariants as direct
 use Rattle.oss_syntax.specs.declared.tree.pragma.TaskMark.{TaskMark}
 use Rattle.oss_syntax.specs.declared.tree.stmt.Stmt.{Stmt}
 use Rattle.oss_syntax.specs.declared.tree.stmt.StmtKind.TheVariants as stmts
-use Rattle.oss_grammar.specs.Reading.{Reader, Stop, has, go_on, read_one, read_then, read_nothing, read_mapped, read_both, read_either, read_steps, read_too_deep}
+use Rattle.oss_grammar.specs.Reading.{Reader, has, go_on, read_one, read_then, read_nothing, read_mapped, read_both, read_either, read_steps, read_too_deep}
 use Rattle.oss_grammar.specs.SimpleStatements.{first_line}
 use Rattle.oss_pragma.specs.ExpressionReading.{latter, former, middle, and_then, read_more}
 use Rattle.oss_pragma.specs.TokenValues.{symbol_at, keyword_at, start_at, begins_expression}
 use Rattle.oss_parse.specs.SimpleReading.{read_simple, begins_simple, read_declaration, begins_kind}
+use Rattle.oss_parse.specs.declared.forms.ForParts.{ForParts}
 
 -- The bytes of a string.
 abbrev pub text_in : TokenKind → Option (List ℕ)
@@ -52,8 +53,8 @@ if_else_of head s other = record { what = stmts.If head.1 s (Some other); line =
 abbrev pub while_of : ℕ × Expr → Stmt → Stmt
 while_of head s = record { what = stmts.While head.1 s; line = head.0 }
 
-abbrev pub for_of : ℕ × (Option Stmt × (Option Expr × Option Stmt)) → Stmt → Stmt
-for_of head s = record { what = stmts.For head.1.0 head.1.1.0 head.1.1.1 s; line = head.0 }
+abbrev pub for_of : ℕ × ForParts → Stmt → Stmt
+for_of head s = record { what = stmts.For head.1.first head.1.test head.1.last s; line = head.0 }
 
 abbrev pub return_of : ℕ × (Option Expr × ℕ) → Stmt
 return_of p = record { what = stmts.Return p.1.0; line = p.0 }
@@ -100,17 +101,18 @@ read_if expression sub = read_then (read_head (codes "if") expression) (read_bra
 unfoldable pub read_while : Reader Expr → Reader Stmt → Reader Stmt
 read_while expression sub = read_then (read_head (codes "while") expression) (λ head. read_mapped (while_of head) sub)
 
-abbrev pub for_parts : Option Stmt × (ℕ × (Option Expr × (ℕ × (Option Stmt × ℕ)))) → Option Stmt × (Option Expr × Option Stmt)
-for_parts p = (p.0, (p.1.1.0, p.1.1.1.1.0))
+-- The parts of a `for` without the lines of the marks between them.
+abbrev pub for_parts : Option Stmt × (ℕ × (Option Expr × (ℕ × (Option Stmt × ℕ)))) → ForParts
+for_parts p = record { first = p.0; test = p.1.1.0; last = p.1.1.1.1.0 }
 
 -- [ type ldecl { "," ldecl } | simple ] ";" [ expr ] ";" [ simple ] ")"
-unfoldable pub read_for_parts : Reader Expr → Reader (Option Stmt × (Option Expr × Option Stmt))
+unfoldable pub read_for_parts : Reader Expr → Reader ForParts
 read_for_parts expression =
     read_mapped for_parts (read_both (read_for_first expression) (read_both (read_one (symbol_at (codes ";"))) (read_both (read_maybe_expression expression)
     (read_both (read_one (symbol_at (codes ";"))) (read_both (read_maybe_simple expression) (read_one (symbol_at (codes ")"))))))))
 
 -- "for" "(" parts ")"
-unfoldable pub read_for_head : Reader Expr → Reader (ℕ × (Option Stmt × (Option Expr × Option Stmt)))
+unfoldable pub read_for_head : Reader Expr → Reader (ℕ × ForParts)
 read_for_head expression = read_both (read_one (keyword_at (codes "for"))) (read_mapped latter (read_both (read_one (symbol_at (codes "("))) (read_for_parts expression)))
 
 -- "for" "(" parts ")" stmt

@@ -6,8 +6,8 @@ ghost use Rattle.oss_parse.specs.ProgramReading.{begins_program_item};
 ghost use Rattle.oss_parse.specs.SimpleReading.{begins_kind, begins_simple};
 ghost use Rattle.oss_parse.specs.StatementReading.{begins_item, begins_keyword_statement, begins_statement};
 
-use crate::tokens::{is_name, is_start, keyword_is, single_kind_of, step_of, symbol_is};
-use oss_pragma::reading::Cursor;
+use crate::tokens::{single_kind_of, step_of};
+use oss_pragma::reading::{Cursor, is_name, is_start, keyword_is, symbol_is};
 use oss_syntax::Token;
 
 /// Whether a token begins a simple statement.

@@ -5,7 +5,7 @@ ghost use Rattle.oss_grammar.specs.Parsing.{IsParse};
 ghost use Rattle.oss_grammar.specs.Tokens.{newlines};
 ghost use Rattle.oss_parse.specs.Parsed.{IsParsed, IsToldOf, RefusesAt, placed_at};
 ghost use Rattle.oss_parse.specs.ProgramReading.{read_text};
-ghost use Rattle.oss_pragma.specs.Told.{Gives};
+ghost use Rattle.oss_pragma.specs.Told.{ReadsAs};
 
 use crate::programs::program;
 use oss_lex::tokens;
@@ -54,12 +54,9 @@ fn told(alloc: Global, text: &[u8], tokens: &[Token]) -> Result<Program, Refusal
 /// A whole text: no token may be left over.
 #[tactic(auto, unfolding(crate::specs::ProgramReading::read_text))]
 fn whole(alloc: Global, tokens: &mut Cursor<'_>) -> Result<Program, Unread>
-    ensures { Gives (read_text tokens.old) result tokens.new }
+    ensures { ReadsAs (read_text tokens.old) result tokens.new }
 {
-    let found = match program(alloc, tokens) {
-        Ok(found) => found,
-        Err(unread) => return Err(unread),
-    };
+    let found = program(alloc, tokens)?;
     match tokens.left().first() {
         Some(_) => Err(Unread::Syntax),
         None => Ok(found),

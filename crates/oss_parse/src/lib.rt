@@ -8,8 +8,6 @@ mod laws;
 mod programs;
 mod simple;
 mod statements;
-#[cfg(test)]
-mod tests;
 mod tokens;
 
 pub use calls::parse;

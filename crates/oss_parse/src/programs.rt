@@ -5,9 +5,9 @@ ghost use Rattle.oss_syntax.specs.declared.tree.program.Item.TheVariants as item
 ghost use Rattle.oss_grammar.specs.Reading.{read_both, read_mapped, read_one, read_then};
 ghost use Rattle.oss_pragma.specs.ExpressionReading.{middle, read_expression, read_list, read_more, read_next};
 ghost use Rattle.oss_pragma.specs.TokenValues.{symbol_at};
-ghost use Rattle.oss_pragma.specs.Told.{Gives};
+ghost use Rattle.oss_pragma.specs.Told.{ReadsAs};
 ghost use Rattle.oss_parse.specs.Inner.{read_body};
-ghost use Rattle.oss_parse.specs.ProgramReading.{array_of, function_of, just, mark_in, read_first_value, read_function_from, read_global, read_global_from, read_globals_from, read_mark, read_marked, read_parameter, read_parameters, read_program, read_program_item, read_program_items, read_result, read_typed, read_typed_from, read_void, scalar_of};
+ghost use Rattle.oss_parse.specs.ProgramReading.{array_of, function_of, just, mark_in, read_first_value, read_function_from, read_function_parts, read_global, read_global_from, read_globals_from, read_mark, read_marked, read_parameter, read_parameters, read_program, read_program_item, read_program_items, read_result, read_typed, read_typed_from, read_void, scalar_of};
 
 use crate::beginnings::begins_with_program_item;
 use crate::simple::{declared, num_kind};
@@ -22,51 +22,33 @@ use std::alloc::{AllocError, Global};
 /// [ "-" ] number
 #[tactic(auto, unfolding(crate::specs::ProgramReading::read_first_value))]
 fn first_value(tokens: &mut Cursor<'_>) -> Result<u64, Unread>
-    ensures { Gives (read_first_value tokens.old) result tokens.new }
+    ensures { ReadsAs (read_first_value tokens.old) result tokens.new }
 {
     if !tokens.begins_with_symbol(b"-") {
         return value(tokens);
     }
-    match tokens.symbol(b"-") {
-        Ok(_) => {}
-        Err(unread) => return Err(unread),
-    }
-    match value(tokens) {
-        Ok(value) => Ok(value.wrapping_neg()),
-        Err(unread) => Err(unread),
-    }
+    tokens.symbol(b"-")?;
+    let value = value(tokens)?;
+    Ok(value.wrapping_neg())
 }
 
 /// "[" number "]" | "=" [ "-" ] number | nothing, behind the name of a global
 #[tactic(auto, unfolding(crate::specs::ProgramReading::read_global_from))]
 fn global_from(numbers: NumKind, name: Named, tokens: &mut Cursor<'_>) -> Result<GlobalDef, Unread>
-    ensures { Gives (read_global_from numbers name tokens.old) result tokens.new }
+    ensures { ReadsAs (read_global_from numbers name tokens.old) result tokens.new }
 {
     if tokens.begins_with_symbol(b"=") {
-        match tokens.symbol(b"=") {
-            Ok(_) => {}
-            Err(unread) => return Err(unread),
-        }
-        return match first_value(tokens) {
-            Ok(first) => Ok(scalar(numbers, name, first)),
-            Err(unread) => Err(unread),
-        };
+        tokens.symbol(b"=")?;
+        let first = first_value(tokens)?;
+        return Ok(scalar(numbers, name, first));
     }
     if !tokens.begins_with_symbol(b"[") {
         return Ok(scalar(numbers, name, 0));
     }
-    match tokens.symbol(b"[") {
-        Ok(_) => {}
-        Err(unread) => return Err(unread),
-    }
-    let cells = match value(tokens) {
-        Ok(cells) => cells,
-        Err(unread) => return Err(unread),
-    };
-    match tokens.symbol(b"]") {
-        Ok(_) => Ok(array(numbers, name, cells)),
-        Err(unread) => Err(unread),
-    }
+    tokens.symbol(b"[")?;
+    let cells = value(tokens)?;
+    tokens.symbol(b"]")?;
+    Ok(array(numbers, name, cells))
 }
 
 /// A global that is one number.
@@ -98,12 +80,10 @@ fn array(numbers: NumKind, name: Named, cells: u64) -> GlobalDef
 /// name | name "[" number "]" | name "=" [ "-" ] number
 #[tactic(auto, unfolding(crate::specs::ProgramReading::read_global))]
 fn global(alloc: Global, numbers: NumKind, tokens: &mut Cursor<'_>) -> Result<GlobalDef, Unread>
-    ensures { Gives (read_global numbers tokens.old) result tokens.new }
+    ensures { ReadsAs (read_global numbers tokens.old) result tokens.new }
 {
-    match tokens.name(alloc) {
-        Ok(name) => global_from(numbers, name, tokens),
-        Err(unread) => Err(unread),
-    }
+    let name = tokens.name(alloc)?;
+    global_from(numbers, name, tokens)
 }
 
 /// "," gdecl
@@ -112,12 +92,10 @@ fn next_global(
     numbers: NumKind,
     tokens: &mut Cursor<'_>,
 ) -> Result<GlobalDef, Unread>
-    ensures { Gives (read_next (read_global numbers) tokens.old) result tokens.new }
+    ensures { ReadsAs (read_next (read_global numbers) tokens.old) result tokens.new }
 {
-    match tokens.symbol(b",") {
-        Ok(_) => global(alloc, numbers, tokens),
-        Err(unread) => Err(unread),
-    }
+    tokens.symbol(b",")?;
+    global(alloc, numbers, tokens)
 }
 
 /// { "," gdecl }, behind the globals that were found
@@ -127,17 +105,14 @@ fn more_globals(
     mut found: List<GlobalDef>,
     tokens: &mut Cursor<'_>,
 ) -> Result<List<GlobalDef>, Unread>
-    ensures { Gives (read_more (read_global numbers) found tokens.old) result tokens.new }
+    ensures { ReadsAs (read_more (read_global numbers) found tokens.old) result tokens.new }
 {
     'globals: while tokens.begins_with_symbol(b",") {
         let next = match next_global(alloc, numbers, tokens) {
             Ok(next) => next,
             Err(unread) => return Err(unread),
         };
-        match found.push(next) {
-            Ok(()) => {}
-            Err(e) => return Err(Unread::Memory(e)),
-        }
+        found.push(next)?;
     }
     Ok(found)
 }
@@ -149,17 +124,12 @@ fn globals(
     name: Named,
     tokens: &mut Cursor<'_>,
 ) -> Result<List<GlobalDef>, Unread>
-    ensures { Gives (read_then (read_global_from numbers name) (λ first. read_more (read_global numbers) (first ∷ [])) tokens.old) result tokens.new }
+    ensures { ReadsAs (read_then (read_global_from numbers name) (λ first. read_more (read_global numbers) (first ∷ [])) tokens.old) result tokens.new }
 {
-    let first = match global_from(numbers, name, tokens) {
-        Ok(first) => first,
-        Err(unread) => return Err(unread),
-    };
+    let first = global_from(numbers, name, tokens)?;
     let mut found = List::new(alloc);
-    match found.push(first) {
-        Ok(()) => more_globals(alloc, numbers, found, tokens),
-        Err(e) => Err(Unread::Memory(e)),
-    }
+    found.push(first)?;
+    more_globals(alloc, numbers, found, tokens)
 }
 
 /// Globals as items of a program.
@@ -182,50 +152,34 @@ fn globals_from(
     name: Named,
     tokens: &mut Cursor<'_>,
 ) -> Result<List<Item>, Unread>
-    ensures { Gives (read_globals_from numbers name tokens.old) result tokens.new }
+    ensures { ReadsAs (read_globals_from numbers name tokens.old) result tokens.new }
 {
-    let globals = match globals(alloc, numbers, name, tokens) {
-        Ok(globals) => globals,
-        Err(unread) => return Err(unread),
-    };
-    match tokens.symbol(b";") {
-        Ok(_) => {}
-        Err(unread) => return Err(unread),
-    }
-    match as_items(alloc, globals) {
-        Ok(found) => Ok(found),
-        Err(e) => Err(Unread::Memory(e)),
-    }
+    let globals = globals(alloc, numbers, name, tokens)?;
+    tokens.symbol(b";")?;
+    Ok(as_items(alloc, globals)?)
 }
 
 /// type [ "*" ] name
 #[tactic(auto, unfolding(crate::specs::ProgramReading::read_parameter))]
 fn parameter(alloc: Global, tokens: &mut Cursor<'_>) -> Result<Local, Unread>
-    ensures { Gives (read_parameter tokens.old) result tokens.new }
+    ensures { ReadsAs (read_parameter tokens.old) result tokens.new }
 {
-    let (numbers, _) = match num_kind(tokens) {
-        Ok(kind) => kind,
-        Err(unread) => return Err(unread),
-    };
-    match declared(alloc, numbers, tokens) {
-        Ok((kind, name)) => Ok(Local {
-            name: name.name,
-            kind,
-            first: None,
-            line: name.line,
-        }),
-        Err(unread) => Err(unread),
-    }
+    let (numbers, _) = num_kind(tokens)?;
+    let (kind, name) = declared(alloc, numbers, tokens)?;
+    Ok(Local {
+        name: name.name,
+        kind,
+        first: None,
+        line: name.line,
+    })
 }
 
 /// "," param
 fn next_parameter(alloc: Global, tokens: &mut Cursor<'_>) -> Result<Local, Unread>
-    ensures { Gives (read_next read_parameter tokens.old) result tokens.new }
+    ensures { ReadsAs (read_next read_parameter tokens.old) result tokens.new }
 {
-    match tokens.symbol(b",") {
-        Ok(_) => parameter(alloc, tokens),
-        Err(unread) => Err(unread),
-    }
+    tokens.symbol(b",")?;
+    parameter(alloc, tokens)
 }
 
 /// { "," param }, behind the parameters that were found
@@ -234,83 +188,68 @@ fn more_parameters(
     mut found: List<Local>,
     tokens: &mut Cursor<'_>,
 ) -> Result<List<Local>, Unread>
-    ensures { Gives (read_more read_parameter found tokens.old) result tokens.new }
+    ensures { ReadsAs (read_more read_parameter found tokens.old) result tokens.new }
 {
     'parameters: while tokens.begins_with_symbol(b",") {
         let next = match next_parameter(alloc, tokens) {
             Ok(next) => next,
             Err(unread) => return Err(unread),
         };
-        match found.push(next) {
-            Ok(()) => {}
-            Err(e) => return Err(Unread::Memory(e)),
-        }
+        found.push(next)?;
     }
     Ok(found)
 }
 
 /// param { "," param }
 fn some_parameters(alloc: Global, tokens: &mut Cursor<'_>) -> Result<List<Local>, Unread>
-    ensures { Gives (read_list read_parameter tokens.old) result tokens.new }
+    ensures { ReadsAs (read_list read_parameter tokens.old) result tokens.new }
 {
-    let first = match parameter(alloc, tokens) {
-        Ok(first) => first,
-        Err(unread) => return Err(unread),
-    };
+    let first = parameter(alloc, tokens)?;
     let mut found = List::new(alloc);
-    match found.push(first) {
-        Ok(()) => more_parameters(alloc, found, tokens),
-        Err(e) => Err(Unread::Memory(e)),
-    }
+    found.push(first)?;
+    more_parameters(alloc, found, tokens)
 }
 
 /// [ "void" | param { "," param } ] ")"
 #[tactic(auto, unfolding(crate::specs::ProgramReading::read_parameters))]
 fn parameters(alloc: Global, tokens: &mut Cursor<'_>) -> Result<List<Local>, Unread>
-    ensures { Gives (read_parameters tokens.old) result tokens.new }
+    ensures { ReadsAs (read_parameters tokens.old) result tokens.new }
 {
     if tokens.begins_with_symbol(b")") {
-        return match tokens.symbol(b")") {
-            Ok(_) => Ok(List::new(alloc)),
-            Err(unread) => Err(unread),
-        };
+        tokens.symbol(b")")?;
+        return Ok(List::new(alloc));
     }
     if begins_with_keyword(b"void", tokens) {
-        match keyword(b"void", tokens) {
-            Ok(_) => {}
-            Err(unread) => return Err(unread),
-        }
-        return match tokens.symbol(b")") {
-            Ok(_) => Ok(List::new(alloc)),
-            Err(unread) => Err(unread),
-        };
+        keyword(b"void", tokens)?;
+        tokens.symbol(b")")?;
+        return Ok(List::new(alloc));
     }
-    let found = match some_parameters(alloc, tokens) {
-        Ok(found) => found,
-        Err(unread) => return Err(unread),
-    };
-    match tokens.symbol(b")") {
-        Ok(_) => Ok(found),
-        Err(unread) => Err(unread),
-    }
+    let found = some_parameters(alloc, tokens)?;
+    tokens.symbol(b")")?;
+    Ok(found)
 }
 
 /// "{" items "}"
 fn function_body(alloc: Global, tokens: &mut Cursor<'_>) -> Result<List<Stmt>, Unread>
-    ensures { Gives (read_mapped middle (read_both (read_one (symbol_at (codes "{"))) (read_both read_body (read_one (symbol_at (codes "}"))))) tokens.old) result tokens.new }
+    ensures { ReadsAs (read_mapped middle (read_both (read_one (symbol_at (codes "{"))) (read_both read_body (read_one (symbol_at (codes "}"))))) tokens.old) result tokens.new }
 {
-    match tokens.symbol(b"{") {
-        Ok(_) => {}
-        Err(unread) => return Err(unread),
-    }
-    let statements = match body(alloc, tokens) {
-        Ok(statements) => statements,
-        Err(unread) => return Err(unread),
-    };
-    match tokens.symbol(b"}") {
-        Ok(_) => Ok(statements),
-        Err(unread) => Err(unread),
-    }
+    tokens.symbol(b"{")?;
+    let statements = body(alloc, tokens)?;
+    tokens.symbol(b"}")?;
+    Ok(statements)
+}
+
+/// "(" [ params ] ")" "{" items "}"
+fn function_parts(
+    alloc: Global,
+    tokens: &mut Cursor<'_>,
+) -> Result<(List<Local>, List<Stmt>), Unread>
+    ensures { ReadsAs (read_function_parts read_body tokens.old) result tokens.new }
+{
+    tokens.symbol(b"(")?;
+    let params = parameters(alloc, tokens)?;
+    let body = function_body(alloc, tokens)?;
+    Ok((params, body))
 }
 
 /// A function, as the items of a program that it is.
@@ -345,24 +284,10 @@ fn function_from(
     name: Named,
     tokens: &mut Cursor<'_>,
 ) -> Result<List<Item>, Unread>
-    ensures { Gives (read_function_from read_body mark kind name tokens.old) result tokens.new }
+    ensures { ReadsAs (read_function_from read_body mark kind name tokens.old) result tokens.new }
 {
-    match tokens.symbol(b"(") {
-        Ok(_) => {}
-        Err(unread) => return Err(unread),
-    }
-    let params = match parameters(alloc, tokens) {
-        Ok(params) => params,
-        Err(unread) => return Err(unread),
-    };
-    let body = match function_body(alloc, tokens) {
-        Ok(body) => body,
-        Err(unread) => return Err(unread),
-    };
-    match function(alloc, mark, kind, name, params, body) {
-        Ok(found) => Ok(found),
-        Err(e) => Err(Unread::Memory(e)),
-    }
+    let (params, body) = function_parts(alloc, tokens)?;
+    Ok(function(alloc, mark, kind, name, params, body)?)
 }
 
 /// Globals or a function, behind their type and the first name.
@@ -373,7 +298,7 @@ fn typed_from(
     name: Named,
     tokens: &mut Cursor<'_>,
 ) -> Result<List<Item>, Unread>
-    ensures { Gives (read_typed_from read_body numbers name tokens.old) result tokens.new }
+    ensures { ReadsAs (read_typed_from read_body numbers name tokens.old) result tokens.new }
 {
     if tokens.begins_with_symbol(b"(") {
         return function_from(alloc, None, Kind::Num(numbers), name, tokens);
@@ -384,48 +309,34 @@ fn typed_from(
 /// Globals or a function that begin with the type of numbers.
 #[tactic(auto, unfolding(crate::specs::ProgramReading::read_typed))]
 fn typed(alloc: Global, tokens: &mut Cursor<'_>) -> Result<List<Item>, Unread>
-    ensures { Gives (read_typed read_body tokens.old) result tokens.new }
+    ensures { ReadsAs (read_typed read_body tokens.old) result tokens.new }
 {
-    let (numbers, _) = match num_kind(tokens) {
-        Ok(kind) => kind,
-        Err(unread) => return Err(unread),
-    };
-    match tokens.name(alloc) {
-        Ok(name) => typed_from(alloc, numbers, name, tokens),
-        Err(unread) => Err(unread),
-    }
+    let (numbers, _) = num_kind(tokens)?;
+    let name = tokens.name(alloc)?;
+    typed_from(alloc, numbers, name, tokens)
 }
 
 /// type | "void"
 #[tactic(auto, unfolding(crate::specs::ProgramReading::read_result))]
 fn result_kind(tokens: &mut Cursor<'_>) -> Result<Kind, Unread>
-    ensures { Gives (read_result tokens.old) result tokens.new }
+    ensures { ReadsAs (read_result tokens.old) result tokens.new }
 {
     if begins_with_keyword(b"void", tokens) {
-        return match keyword(b"void", tokens) {
-            Ok(_) => Ok(Kind::Nothing),
-            Err(unread) => Err(unread),
-        };
+        keyword(b"void", tokens)?;
+        return Ok(Kind::Nothing);
     }
-    match num_kind(tokens) {
-        Ok((numbers, _)) => Ok(Kind::Num(numbers)),
-        Err(unread) => Err(unread),
-    }
+    let (numbers, _) = num_kind(tokens)?;
+    Ok(Kind::Num(numbers))
 }
 
 /// A function that begins with `void`.
 #[tactic(auto, unfolding(crate::specs::ProgramReading::read_void))]
 fn void(alloc: Global, tokens: &mut Cursor<'_>) -> Result<List<Item>, Unread>
-    ensures { Gives (read_void read_body tokens.old) result tokens.new }
+    ensures { ReadsAs (read_void read_body tokens.old) result tokens.new }
 {
-    match keyword(b"void", tokens) {
-        Ok(_) => {}
-        Err(unread) => return Err(unread),
-    }
-    match tokens.name(alloc) {
-        Ok(name) => function_from(alloc, None, Kind::Nothing, name, tokens),
-        Err(unread) => Err(unread),
-    }
+    keyword(b"void", tokens)?;
+    let name = tokens.name(alloc)?;
+    function_from(alloc, None, Kind::Nothing, name, tokens)
 }
 
 /// The mark in the pragma of a task.
@@ -442,37 +353,27 @@ fn mark_of(directive: Directive) -> Option<TaskMark>
 /// start "task" { [ "," ] clause } end
 #[tactic(auto, unfolding(crate::specs::ProgramReading::read_mark))]
 fn mark(alloc: Global, tokens: &mut Cursor<'_>) -> Result<Option<TaskMark>, Unread>
-    ensures { Gives (read_mark read_expression tokens.old) result tokens.new }
+    ensures { ReadsAs (read_mark read_expression tokens.old) result tokens.new }
 {
-    match task_pragma(alloc, tokens) {
-        Ok(directive) => Ok(mark_of(directive)),
-        Err(unread) => Err(unread),
-    }
+    let directive = task_pragma(alloc, tokens)?;
+    Ok(mark_of(directive))
 }
 
 /// A function with a pragma before it.
 #[tactic(auto, unfolding(crate::specs::ProgramReading::read_marked))]
 fn marked(alloc: Global, tokens: &mut Cursor<'_>) -> Result<List<Item>, Unread>
-    ensures { Gives (read_marked read_expression read_body tokens.old) result tokens.new }
+    ensures { ReadsAs (read_marked read_expression read_body tokens.old) result tokens.new }
 {
-    let mark = match mark(alloc, tokens) {
-        Ok(mark) => mark,
-        Err(unread) => return Err(unread),
-    };
-    let kind = match result_kind(tokens) {
-        Ok(kind) => kind,
-        Err(unread) => return Err(unread),
-    };
-    match tokens.name(alloc) {
-        Ok(name) => function_from(alloc, mark, kind, name, tokens),
-        Err(unread) => Err(unread),
-    }
+    let mark = mark(alloc, tokens)?;
+    let kind = result_kind(tokens)?;
+    let name = tokens.name(alloc)?;
+    function_from(alloc, mark, kind, name, tokens)
 }
 
 /// type gdecl { "," gdecl } ";" | [ task ] ( type | "void" ) name "(" [ params ] ")" block
 #[tactic(auto, unfolding(crate::specs::ProgramReading::read_program_item))]
 fn program_item(alloc: Global, tokens: &mut Cursor<'_>) -> Result<List<Item>, Unread>
-    ensures { Gives (read_program_item read_expression read_body tokens.old) result tokens.new }
+    ensures { ReadsAs (read_program_item read_expression read_body tokens.old) result tokens.new }
 {
     if begins_with_start(tokens) {
         return marked(alloc, tokens);
@@ -495,7 +396,7 @@ fn joined(found: List<Item>, more: List<Item>) -> Result<List<Item>, AllocError>
 
 /// { item }
 fn program_items(alloc: Global, tokens: &mut Cursor<'_>) -> Result<List<Item>, Unread>
-    ensures { Gives (read_program_items read_expression read_body tokens.old) result tokens.new }
+    ensures { ReadsAs (read_program_items read_expression read_body tokens.old) result tokens.new }
 {
     let mut found = List::new(alloc);
     'items: while begins_with_program_item(tokens) {
@@ -503,17 +404,14 @@ fn program_items(alloc: Global, tokens: &mut Cursor<'_>) -> Result<List<Item>, U
             Ok(more) => more,
             Err(unread) => return Err(unread),
         };
-        found = match joined(found, more) {
-            Ok(all) => all,
-            Err(e) => return Err(Unread::Memory(e)),
-        };
+        found = joined(found, more)?;
     }
     Ok(found)
 }
 
 /// A program, with at most 64 levels of statements.
 pub fn program(alloc: Global, tokens: &mut Cursor<'_>) -> Result<Program, Unread>
-    ensures { Gives (read_program tokens.old) result tokens.new }
+    ensures { ReadsAs (read_program tokens.old) result tokens.new }
 {
     match program_items(alloc, tokens) {
         Ok(items) => Ok(Program { items }),

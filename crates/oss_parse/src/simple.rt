@@ -3,63 +3,34 @@
 ghost use Rattle.std.specs.Prelude.{◌≡◌, IfOk};
 ghost use Rattle.oss_grammar.specs.SimpleStatements.{one_at};
 ghost use Rattle.oss_pragma.specs.ExpressionReading.{indexed, named_expression, read_arguments, read_brackets, read_expression, read_index, read_list, read_more, read_next};
-ghost use Rattle.oss_pragma.specs.Told.{Gives};
+ghost use Rattle.oss_pragma.specs.Told.{ReadsAs};
 ghost use Rattle.oss_parse.specs.SimpleReading.{deref_at, read_assigned, read_called, read_declaration, read_declared, read_local, read_num_kind, read_pointed_at, read_simple, read_simple_from, read_starred, read_step_first, read_target, read_target_from};
 
 use crate::tokens::{
     assignment, begins_with_name, begins_with_single_kind, begins_with_step, keyword, single_kind,
     step,
 };
-use oss_pragma::reading::{Cursor, Named, Unread, expression};
+use oss_pragma::reading::{Cursor, Named, Unread, brackets, element, expression};
 use oss_syntax::{BinOp, Boxed, Expr, ExprKind, Kind, List, Local, NumKind, Stmt, StmtKind, UnOp};
 use std::alloc::{AllocError, Global};
-
-/// "(" expr ")"
-#[tactic(auto, unfolding(oss_pragma::specs::ExpressionReading::read_brackets))]
-pub fn brackets(alloc: Global, tokens: &mut Cursor<'_>) -> Result<Expr, Unread>
-    ensures { Gives (read_brackets read_expression tokens.old) result tokens.new }
-{
-    match tokens.symbol(b"(") {
-        Ok(_) => {}
-        Err(unread) => return Err(unread),
-    }
-    let inner = match expression(alloc, tokens) {
-        Ok(inner) => inner,
-        Err(unread) => return Err(unread),
-    };
-    match tokens.symbol(b")") {
-        Ok(_) => Ok(inner),
-        Err(unread) => Err(unread),
-    }
-}
 
 /// "[" expr "]"
 #[tactic(auto, unfolding(oss_pragma::specs::ExpressionReading::read_index))]
 fn index(alloc: Global, tokens: &mut Cursor<'_>) -> Result<Expr, Unread>
-    ensures { Gives (read_index read_expression tokens.old) result tokens.new }
+    ensures { ReadsAs (read_index read_expression tokens.old) result tokens.new }
 {
-    match tokens.symbol(b"[") {
-        Ok(_) => {}
-        Err(unread) => return Err(unread),
-    }
-    let inner = match expression(alloc, tokens) {
-        Ok(inner) => inner,
-        Err(unread) => return Err(unread),
-    };
-    match tokens.symbol(b"]") {
-        Ok(_) => Ok(inner),
-        Err(unread) => Err(unread),
-    }
+    tokens.symbol(b"[")?;
+    let inner = expression(alloc, tokens)?;
+    tokens.symbol(b"]")?;
+    Ok(inner)
 }
 
 /// "," expr
 fn next_value(alloc: Global, tokens: &mut Cursor<'_>) -> Result<Expr, Unread>
-    ensures { Gives (read_next read_expression tokens.old) result tokens.new }
+    ensures { ReadsAs (read_next read_expression tokens.old) result tokens.new }
 {
-    match tokens.symbol(b",") {
-        Ok(_) => expression(alloc, tokens),
-        Err(unread) => Err(unread),
-    }
+    tokens.symbol(b",")?;
+    expression(alloc, tokens)
 }
 
 /// { "," expr }, behind the expressions that were found
@@ -68,55 +39,40 @@ pub fn more_values(
     mut found: List<Expr>,
     tokens: &mut Cursor<'_>,
 ) -> Result<List<Expr>, Unread>
-    ensures { Gives (read_more read_expression found tokens.old) result tokens.new }
+    ensures { ReadsAs (read_more read_expression found tokens.old) result tokens.new }
 {
     'values: while tokens.begins_with_symbol(b",") {
         let next = match next_value(alloc, tokens) {
             Ok(next) => next,
             Err(unread) => return Err(unread),
         };
-        match found.push(next) {
-            Ok(()) => {}
-            Err(e) => return Err(Unread::Memory(e)),
-        }
+        found.push(next)?;
     }
     Ok(found)
 }
 
 /// expr { "," expr }
 fn values(alloc: Global, tokens: &mut Cursor<'_>) -> Result<List<Expr>, Unread>
-    ensures { Gives (read_list read_expression tokens.old) result tokens.new }
+    ensures { ReadsAs (read_list read_expression tokens.old) result tokens.new }
 {
-    let first = match expression(alloc, tokens) {
-        Ok(first) => first,
-        Err(unread) => return Err(unread),
-    };
+    let first = expression(alloc, tokens)?;
     let mut found = List::new(alloc);
-    match found.push(first) {
-        Ok(()) => more_values(alloc, found, tokens),
-        Err(e) => Err(Unread::Memory(e)),
-    }
+    found.push(first)?;
+    more_values(alloc, found, tokens)
 }
 
 /// [ expr { "," expr } ] ")"
 #[tactic(auto, unfolding(oss_pragma::specs::ExpressionReading::read_arguments))]
 fn arguments(alloc: Global, tokens: &mut Cursor<'_>) -> Result<List<Expr>, Unread>
-    ensures { Gives (read_arguments read_expression tokens.old) result tokens.new }
+    ensures { ReadsAs (read_arguments read_expression tokens.old) result tokens.new }
 {
     if tokens.begins_with_symbol(b")") {
-        return match tokens.symbol(b")") {
-            Ok(_) => Ok(List::new(alloc)),
-            Err(unread) => Err(unread),
-        };
+        tokens.symbol(b")")?;
+        return Ok(List::new(alloc));
     }
-    let values = match values(alloc, tokens) {
-        Ok(values) => values,
-        Err(unread) => return Err(unread),
-    };
-    match tokens.symbol(b")") {
-        Ok(_) => Ok(values),
-        Err(unread) => Err(unread),
-    }
+    let values = values(alloc, tokens)?;
+    tokens.symbol(b")")?;
+    Ok(values)
 }
 
 /// A name, as an expression.
@@ -127,17 +83,6 @@ fn named(name: Named) -> Expr
         what: ExprKind::Name(name.name),
         line: name.line,
     }
-}
-
-/// The element of an array at a place.
-fn element(alloc: Global, base: Expr, at: Expr) -> Result<Expr, AllocError>
-    ensures { IfOk result (λ element. element ≡ indexed base at) }
-{
-    let line = base.line;
-    Ok(Expr {
-        what: ExprKind::Index(Boxed::new(alloc, base)?, Boxed::new(alloc, at)?),
-        line,
-    })
 }
 
 /// What a pointer points to, with the line of its `*`.
@@ -153,69 +98,47 @@ fn pointee(alloc: Global, line: u32, pointer: Expr) -> Result<Expr, AllocError>
 /// [ "[" expr "]" ], behind the name of a target
 #[tactic(auto, unfolding(crate::specs::SimpleReading::read_target_from, oss_pragma::specs::ExpressionReading::read_index))]
 fn target_from(alloc: Global, name: Named, tokens: &mut Cursor<'_>) -> Result<Expr, Unread>
-    ensures { Gives (read_target_from read_expression name tokens.old) result tokens.new }
+    ensures { ReadsAs (read_target_from read_expression name tokens.old) result tokens.new }
 {
     if !tokens.begins_with_symbol(b"[") {
         return Ok(named(name));
     }
-    let at = match index(alloc, tokens) {
-        Ok(at) => at,
-        Err(unread) => return Err(unread),
-    };
-    match element(alloc, named(name), at) {
-        Ok(element) => Ok(element),
-        Err(e) => Err(Unread::Memory(e)),
-    }
+    let at = index(alloc, tokens)?;
+    Ok(element(alloc, named(name), at)?)
 }
 
 /// name | "(" expr ")", behind the `*` of a target with this line
 #[tactic(auto, unfolding(crate::specs::SimpleReading::read_pointed_at, oss_pragma::specs::ExpressionReading::read_brackets))]
 fn pointed_at(alloc: Global, line: u32, tokens: &mut Cursor<'_>) -> Result<Expr, Unread>
-    ensures { Gives (read_pointed_at read_expression line tokens.old) result tokens.new }
+    ensures { ReadsAs (read_pointed_at read_expression line tokens.old) result tokens.new }
 {
     if begins_with_name(tokens) {
-        let name = match tokens.name(alloc) {
-            Ok(name) => name,
-            Err(unread) => return Err(unread),
-        };
-        return match pointee(alloc, line, named(name)) {
-            Ok(pointee) => Ok(pointee),
-            Err(e) => Err(Unread::Memory(e)),
-        };
+        let name = tokens.name(alloc)?;
+        return Ok(pointee(alloc, line, named(name))?);
     }
-    let inner = match brackets(alloc, tokens) {
-        Ok(inner) => inner,
-        Err(unread) => return Err(unread),
-    };
-    match pointee(alloc, line, inner) {
-        Ok(pointee) => Ok(pointee),
-        Err(e) => Err(Unread::Memory(e)),
-    }
+    let inner = brackets(alloc, tokens)?;
+    Ok(pointee(alloc, line, inner)?)
 }
 
 /// "*" ( name | "(" expr ")" )
 #[tactic(auto, unfolding(crate::specs::SimpleReading::read_starred))]
 fn starred(alloc: Global, tokens: &mut Cursor<'_>) -> Result<Expr, Unread>
-    ensures { Gives (read_starred read_expression tokens.old) result tokens.new }
+    ensures { ReadsAs (read_starred read_expression tokens.old) result tokens.new }
 {
-    match tokens.symbol(b"*") {
-        Ok(line) => pointed_at(alloc, line, tokens),
-        Err(unread) => Err(unread),
-    }
+    let line = tokens.symbol(b"*")?;
+    pointed_at(alloc, line, tokens)
 }
 
 /// name [ "[" expr "]" ] | "*" ( name | "(" expr ")" )
 #[tactic(auto, unfolding(crate::specs::SimpleReading::read_target))]
 fn target(alloc: Global, tokens: &mut Cursor<'_>) -> Result<Expr, Unread>
-    ensures { Gives (read_target read_expression tokens.old) result tokens.new }
+    ensures { ReadsAs (read_target read_expression tokens.old) result tokens.new }
 {
     if tokens.begins_with_symbol(b"*") {
         return starred(alloc, tokens);
     }
-    match tokens.name(alloc) {
-        Ok(name) => target_from(alloc, name, tokens),
-        Err(unread) => Err(unread),
-    }
+    let name = tokens.name(alloc)?;
+    target_from(alloc, name, tokens)
 }
 
 /// The number one of a step, with the line of its mark.
@@ -231,117 +154,89 @@ fn one(line: u32) -> Expr
 /// assign expr | "++" | "--", behind a target
 #[tactic(auto, unfolding(crate::specs::SimpleReading::read_assigned))]
 fn assigned(alloc: Global, target: Expr, tokens: &mut Cursor<'_>) -> Result<Stmt, Unread>
-    ensures { Gives (read_assigned read_expression target tokens.old) result tokens.new }
+    ensures { ReadsAs (read_assigned read_expression target tokens.old) result tokens.new }
 {
     let line = target.line;
     if begins_with_step(tokens) {
-        return match step(tokens) {
-            Ok((operator, marked)) => Ok(Stmt {
-                what: StmtKind::Assign(target, Some(operator), one(marked)),
-                line,
-            }),
-            Err(unread) => Err(unread),
-        };
-    }
-    let operator = match assignment(tokens) {
-        Ok(operator) => operator,
-        Err(unread) => return Err(unread),
-    };
-    match expression(alloc, tokens) {
-        Ok(value) => Ok(Stmt {
-            what: StmtKind::Assign(target, operator, value),
+        let (operator, marked) = step(tokens)?;
+        return Ok(Stmt {
+            what: StmtKind::Assign(target, Some(operator), one(marked)),
             line,
-        }),
-        Err(unread) => Err(unread),
+        });
     }
+    let operator = assignment(tokens)?;
+    let value = expression(alloc, tokens)?;
+    Ok(Stmt {
+        what: StmtKind::Assign(target, operator, value),
+        line,
+    })
 }
 
 /// ( "++" | "--" ) lvalue
 #[tactic(auto, unfolding(crate::specs::SimpleReading::read_step_first))]
 fn step_first(alloc: Global, tokens: &mut Cursor<'_>) -> Result<Stmt, Unread>
-    ensures { Gives (read_step_first read_expression tokens.old) result tokens.new }
+    ensures { ReadsAs (read_step_first read_expression tokens.old) result tokens.new }
 {
-    let (operator, line) = match step(tokens) {
-        Ok(step) => step,
-        Err(unread) => return Err(unread),
-    };
-    match target(alloc, tokens) {
-        Ok(target) => Ok(Stmt {
-            what: StmtKind::Assign(target, Some(operator), one(line)),
-            line,
-        }),
-        Err(unread) => Err(unread),
-    }
+    let (operator, line) = step(tokens)?;
+    let target = target(alloc, tokens)?;
+    Ok(Stmt {
+        what: StmtKind::Assign(target, Some(operator), one(line)),
+        line,
+    })
 }
 
 /// "(" arguments ")", behind the name of a function
 #[tactic(auto, unfolding(crate::specs::SimpleReading::read_called))]
 fn called(alloc: Global, name: Named, tokens: &mut Cursor<'_>) -> Result<Stmt, Unread>
-    ensures { Gives (read_called read_expression name tokens.old) result tokens.new }
+    ensures { ReadsAs (read_called read_expression name tokens.old) result tokens.new }
 {
-    match tokens.symbol(b"(") {
-        Ok(_) => {}
-        Err(unread) => return Err(unread),
-    }
-    match arguments(alloc, tokens) {
-        Ok(values) => Ok(Stmt {
-            what: StmtKind::Call(name.name, values),
-            line: name.line,
-        }),
-        Err(unread) => Err(unread),
-    }
+    tokens.symbol(b"(")?;
+    let values = arguments(alloc, tokens)?;
+    Ok(Stmt {
+        what: StmtKind::Call(name.name, values),
+        line: name.line,
+    })
 }
 
 /// A call or an assignment, behind the name with which it begins.
 #[tactic(auto, unfolding(crate::specs::SimpleReading::read_simple_from))]
 fn simple_from(alloc: Global, name: Named, tokens: &mut Cursor<'_>) -> Result<Stmt, Unread>
-    ensures { Gives (read_simple_from read_expression name tokens.old) result tokens.new }
+    ensures { ReadsAs (read_simple_from read_expression name tokens.old) result tokens.new }
 {
     if tokens.begins_with_symbol(b"(") {
         return called(alloc, name, tokens);
     }
-    match target_from(alloc, name, tokens) {
-        Ok(target) => assigned(alloc, target, tokens),
-        Err(unread) => Err(unread),
-    }
+    let target = target_from(alloc, name, tokens)?;
+    assigned(alloc, target, tokens)
 }
 
 /// lvalue assign expr | lvalue ( "++" | "--" ) | ( "++" | "--" ) lvalue | name "(" arguments ")"
 #[tactic(auto, unfolding(crate::specs::SimpleReading::read_simple))]
 pub fn simple(alloc: Global, tokens: &mut Cursor<'_>) -> Result<Stmt, Unread>
-    ensures { Gives (read_simple read_expression tokens.old) result tokens.new }
+    ensures { ReadsAs (read_simple read_expression tokens.old) result tokens.new }
 {
     if begins_with_step(tokens) {
         return step_first(alloc, tokens);
     }
     if tokens.begins_with_symbol(b"*") {
-        return match starred(alloc, tokens) {
-            Ok(target) => assigned(alloc, target, tokens),
-            Err(unread) => Err(unread),
-        };
+        let target = starred(alloc, tokens)?;
+        return assigned(alloc, target, tokens);
     }
-    match tokens.name(alloc) {
-        Ok(name) => simple_from(alloc, name, tokens),
-        Err(unread) => Err(unread),
-    }
+    let name = tokens.name(alloc)?;
+    simple_from(alloc, name, tokens)
 }
 
 /// "int" | "long" | "unsigned" "long", with its line
 #[tactic(auto, unfolding(crate::specs::SimpleReading::read_num_kind))]
 pub fn num_kind(tokens: &mut Cursor<'_>) -> Result<(NumKind, u32), Unread>
-    ensures { Gives (read_num_kind tokens.old) result tokens.new }
+    ensures { ReadsAs (read_num_kind tokens.old) result tokens.new }
 {
     if begins_with_single_kind(tokens) {
         return single_kind(tokens);
     }
-    let line = match keyword(b"unsigned", tokens) {
-        Ok(line) => line,
-        Err(unread) => return Err(unread),
-    };
-    match keyword(b"long", tokens) {
-        Ok(_) => Ok((NumKind::Ulong, line)),
-        Err(unread) => Err(unread),
-    }
+    let line = keyword(b"unsigned", tokens)?;
+    keyword(b"long", tokens)?;
+    Ok((NumKind::Ulong, line))
 }
 
 /// [ "*" ] name
@@ -351,33 +246,23 @@ pub fn declared(
     numbers: NumKind,
     tokens: &mut Cursor<'_>,
 ) -> Result<(Kind, Named), Unread>
-    ensures { Gives (read_declared numbers tokens.old) result tokens.new }
+    ensures { ReadsAs (read_declared numbers tokens.old) result tokens.new }
 {
     if tokens.begins_with_symbol(b"*") {
-        match tokens.symbol(b"*") {
-            Ok(_) => {}
-            Err(unread) => return Err(unread),
-        }
-        return match tokens.name(alloc) {
-            Ok(name) => Ok((Kind::Pointer(numbers), name)),
-            Err(unread) => Err(unread),
-        };
+        tokens.symbol(b"*")?;
+        let name = tokens.name(alloc)?;
+        return Ok((Kind::Pointer(numbers), name));
     }
-    match tokens.name(alloc) {
-        Ok(name) => Ok((Kind::Num(numbers), name)),
-        Err(unread) => Err(unread),
-    }
+    let name = tokens.name(alloc)?;
+    Ok((Kind::Num(numbers), name))
 }
 
 /// [ "*" ] name [ "=" expr ]
 #[tactic(auto, unfolding(crate::specs::SimpleReading::read_local))]
 fn local(alloc: Global, numbers: NumKind, tokens: &mut Cursor<'_>) -> Result<Local, Unread>
-    ensures { Gives (read_local read_expression numbers tokens.old) result tokens.new }
+    ensures { ReadsAs (read_local read_expression numbers tokens.old) result tokens.new }
 {
-    let (kind, Named { name, line }) = match declared(alloc, numbers, tokens) {
-        Ok(declared) => declared,
-        Err(unread) => return Err(unread),
-    };
+    let (kind, Named { name, line }) = declared(alloc, numbers, tokens)?;
     if !tokens.begins_with_symbol(b"=") {
         return Ok(Local {
             name,
@@ -386,29 +271,22 @@ fn local(alloc: Global, numbers: NumKind, tokens: &mut Cursor<'_>) -> Result<Loc
             line,
         });
     }
-    match tokens.symbol(b"=") {
-        Ok(_) => {}
-        Err(unread) => return Err(unread),
-    }
-    match expression(alloc, tokens) {
-        Ok(value) => Ok(Local {
-            name,
-            kind,
-            first: Some(value),
-            line,
-        }),
-        Err(unread) => Err(unread),
-    }
+    tokens.symbol(b"=")?;
+    let value = expression(alloc, tokens)?;
+    Ok(Local {
+        name,
+        kind,
+        first: Some(value),
+        line,
+    })
 }
 
 /// "," ldecl
 fn next_local(alloc: Global, numbers: NumKind, tokens: &mut Cursor<'_>) -> Result<Local, Unread>
-    ensures { Gives (read_next (read_local read_expression numbers) tokens.old) result tokens.new }
+    ensures { ReadsAs (read_next (read_local read_expression numbers) tokens.old) result tokens.new }
 {
-    match tokens.symbol(b",") {
-        Ok(_) => local(alloc, numbers, tokens),
-        Err(unread) => Err(unread),
-    }
+    tokens.symbol(b",")?;
+    local(alloc, numbers, tokens)
 }
 
 /// { "," ldecl }, behind the locals that were found
@@ -418,50 +296,37 @@ fn more_locals(
     mut found: List<Local>,
     tokens: &mut Cursor<'_>,
 ) -> Result<List<Local>, Unread>
-    ensures { Gives (read_more (read_local read_expression numbers) found tokens.old) result tokens.new }
+    ensures { ReadsAs (read_more (read_local read_expression numbers) found tokens.old) result tokens.new }
 {
     'locals: while tokens.begins_with_symbol(b",") {
         let next = match next_local(alloc, numbers, tokens) {
             Ok(next) => next,
             Err(unread) => return Err(unread),
         };
-        match found.push(next) {
-            Ok(()) => {}
-            Err(e) => return Err(Unread::Memory(e)),
-        }
+        found.push(next)?;
     }
     Ok(found)
 }
 
 /// ldecl { "," ldecl }
 fn locals(alloc: Global, numbers: NumKind, tokens: &mut Cursor<'_>) -> Result<List<Local>, Unread>
-    ensures { Gives (read_list (read_local read_expression numbers) tokens.old) result tokens.new }
+    ensures { ReadsAs (read_list (read_local read_expression numbers) tokens.old) result tokens.new }
 {
-    let first = match local(alloc, numbers, tokens) {
-        Ok(first) => first,
-        Err(unread) => return Err(unread),
-    };
+    let first = local(alloc, numbers, tokens)?;
     let mut found = List::new(alloc);
-    match found.push(first) {
-        Ok(()) => more_locals(alloc, numbers, found, tokens),
-        Err(e) => Err(Unread::Memory(e)),
-    }
+    found.push(first)?;
+    more_locals(alloc, numbers, found, tokens)
 }
 
 /// type ldecl { "," ldecl }
 #[tactic(auto, unfolding(crate::specs::SimpleReading::read_declaration))]
 pub fn declaration(alloc: Global, tokens: &mut Cursor<'_>) -> Result<Stmt, Unread>
-    ensures { Gives (read_declaration read_expression tokens.old) result tokens.new }
+    ensures { ReadsAs (read_declaration read_expression tokens.old) result tokens.new }
 {
-    let (numbers, line) = match num_kind(tokens) {
-        Ok(kind) => kind,
-        Err(unread) => return Err(unread),
-    };
-    match locals(alloc, numbers, tokens) {
-        Ok(locals) => Ok(Stmt {
-            what: StmtKind::Declare(locals),
-            line,
-        }),
-        Err(unread) => Err(unread),
-    }
+    let (numbers, line) = num_kind(tokens)?;
+    let locals = locals(alloc, numbers, tokens)?;
+    Ok(Stmt {
+        what: StmtKind::Declare(locals),
+        line,
+    })
 }

@@ -3,8 +3,8 @@
 ghost use Rattle.oss_grammar.specs.Reading.{read_mapped};
 ghost use Rattle.oss_pragma.specs.ExpressionReading.{read_expression};
 ghost use Rattle.oss_pragma.specs.PragmaReading.{read_pragma};
-ghost use Rattle.oss_pragma.specs.Told.{Gives};
-ghost use Rattle.oss_parse.specs.Branches.{read_maybe_else, read_with_else};
+ghost use Rattle.oss_pragma.specs.Told.{ReadsAs};
+ghost use Rattle.oss_parse.specs.Branches.{read_else, read_maybe_else};
 ghost use Rattle.oss_parse.specs.Inner.{read_body, read_part, read_parts, read_within};
 ghost use Rattle.oss_parse.specs.StatementReading.{read_block, read_branches, read_directed, read_for, read_if, read_item, read_keyword_statement, read_pragma_statement, read_statement, read_while, task_of};
 
@@ -12,13 +12,12 @@ use crate::beginnings::{
     begins_with_item, begins_with_kind, begins_with_simple, begins_with_statement,
 };
 use crate::forms::{
-    break_statement, continue_statement, empty, for_head, for_loop, head, if_else, if_only, print,
-    return_statement, simple_statement, task, while_loop,
+    ForParts, break_statement, continue_statement, declaration_statement, empty, for_head, head,
+    print, return_statement, simple_statement,
 };
-use crate::simple::declaration;
 use crate::tokens::{begins_with_keyword, first_line, keyword};
 use oss_pragma::reading::{Cursor, Unread, pragma};
-use oss_syntax::{Directive, Expr, List, Stmt, StmtKind, TaskMark};
+use oss_syntax::{Boxed, Directive, Expr, List, Stmt, StmtKind, TaskMark};
 use std::alloc::Global;
 
 /// How many levels of statements a function may have.
@@ -28,44 +27,24 @@ const MOST_LEVELS: u32 = 64;
 #[cycle(statement)]
 #[tactic(auto, unfolding(crate::specs::StatementReading::read_block))]
 fn block(alloc: Global, levels: u32, tokens: &mut Cursor<'_>) -> Result<Stmt, Unread>
-    ensures { Gives (read_block (read_parts levels) tokens.old) result tokens.new }
+    ensures { ReadsAs (read_block (read_parts levels) tokens.old) result tokens.new }
 {
-    let line = match tokens.symbol(b"{") {
-        Ok(line) => line,
-        Err(unread) => return Err(unread),
-    };
-    let statements = match parts(alloc, levels, tokens) {
-        Ok(statements) => statements,
-        Err(unread) => return Err(unread),
-    };
-    match tokens.symbol(b"}") {
-        Ok(_) => Ok(Stmt {
-            what: StmtKind::Block(statements),
-            line,
-        }),
-        Err(unread) => Err(unread),
-    }
+    let line = tokens.symbol(b"{")?;
+    let statements = parts(alloc, levels, tokens)?;
+    tokens.symbol(b"}")?;
+    Ok(Stmt {
+        what: StmtKind::Block(statements),
+        line,
+    })
 }
 
-/// "else" stmt, behind the head of an `if` and its first statement
+/// "else" stmt
 #[cycle(statement)]
-fn with_else(
-    alloc: Global,
-    levels: u32,
-    head: (u32, Expr),
-    then: Stmt,
-    tokens: &mut Cursor<'_>,
-) -> Result<Stmt, Unread>
-    ensures { Gives (read_with_else (read_within levels) head then tokens.old) result tokens.new }
+fn else_branch(alloc: Global, levels: u32, tokens: &mut Cursor<'_>) -> Result<Boxed<Stmt>, Unread>
+    ensures { ReadsAs (read_else (read_within levels) tokens.old) result tokens.new }
 {
-    match keyword(b"else", tokens) {
-        Ok(_) => {}
-        Err(unread) => return Err(unread),
-    }
-    match within(alloc, levels, tokens) {
-        Ok(other) => if_else(alloc, head, then, other),
-        Err(unread) => Err(unread),
-    }
+    keyword(b"else", tokens)?;
+    within(alloc, levels, tokens)
 }
 
 /// [ "else" stmt ], behind the head of an `if` and its first statement
@@ -74,15 +53,23 @@ fn maybe_else(
     alloc: Global,
     levels: u32,
     head: (u32, Expr),
-    then: Stmt,
+    then: Boxed<Stmt>,
     tokens: &mut Cursor<'_>,
 ) -> Result<Stmt, Unread>
-    ensures { Gives (read_maybe_else (read_within levels) head then tokens.old) result tokens.new }
+    ensures { ReadsAs (read_maybe_else (read_within levels) head then tokens.old) result tokens.new }
 {
-    if begins_with_keyword(b"else", tokens) {
-        return with_else(alloc, levels, head, then, tokens);
+    let (line, test) = head;
+    if !begins_with_keyword(b"else", tokens) {
+        return Ok(Stmt {
+            what: StmtKind::If(test, then, None),
+            line,
+        });
     }
-    if_only(alloc, head, then)
+    let other = else_branch(alloc, levels, tokens)?;
+    Ok(Stmt {
+        what: StmtKind::If(test, then, Some(other)),
+        line,
+    })
 }
 
 /// stmt [ "else" stmt ], behind the head of an `if`
@@ -94,56 +81,49 @@ fn branches(
     head: (u32, Expr),
     tokens: &mut Cursor<'_>,
 ) -> Result<Stmt, Unread>
-    ensures { Gives (read_branches (read_within levels) head tokens.old) result tokens.new }
+    ensures { ReadsAs (read_branches (read_within levels) head tokens.old) result tokens.new }
 {
-    match within(alloc, levels, tokens) {
-        Ok(then) => maybe_else(alloc, levels, head, then, tokens),
-        Err(unread) => Err(unread),
-    }
+    let then = within(alloc, levels, tokens)?;
+    maybe_else(alloc, levels, head, then, tokens)
 }
 
 /// "if" "(" expr ")" stmt [ "else" stmt ]
 #[cycle(statement)]
 #[tactic(auto, unfolding(crate::specs::StatementReading::read_if))]
 fn if_statement(alloc: Global, levels: u32, tokens: &mut Cursor<'_>) -> Result<Stmt, Unread>
-    ensures { Gives (read_if read_expression (read_within levels) tokens.old) result tokens.new }
+    ensures { ReadsAs (read_if read_expression (read_within levels) tokens.old) result tokens.new }
 {
-    match head(alloc, b"if", tokens) {
-        Ok(head) => branches(alloc, levels, head, tokens),
-        Err(unread) => Err(unread),
-    }
+    let head = head(alloc, b"if", tokens)?;
+    branches(alloc, levels, head, tokens)
 }
 
 /// "while" "(" expr ")" stmt
 #[cycle(statement)]
 #[tactic(auto, unfolding(crate::specs::StatementReading::read_while))]
 fn while_statement(alloc: Global, levels: u32, tokens: &mut Cursor<'_>) -> Result<Stmt, Unread>
-    ensures { Gives (read_while read_expression (read_within levels) tokens.old) result tokens.new }
+    ensures { ReadsAs (read_while read_expression (read_within levels) tokens.old) result tokens.new }
 {
-    let head = match head(alloc, b"while", tokens) {
-        Ok(head) => head,
-        Err(unread) => return Err(unread),
-    };
-    match within(alloc, levels, tokens) {
-        Ok(body) => while_loop(alloc, head, body),
-        Err(unread) => Err(unread),
-    }
+    let (line, test) = head(alloc, b"while", tokens)?;
+    let body = within(alloc, levels, tokens)?;
+    Ok(Stmt {
+        what: StmtKind::While(test, body),
+        line,
+    })
 }
 
 /// "for" "(" parts ")" stmt
 #[cycle(statement)]
 #[tactic(auto, unfolding(crate::specs::StatementReading::read_for))]
 fn for_statement(alloc: Global, levels: u32, tokens: &mut Cursor<'_>) -> Result<Stmt, Unread>
-    ensures { Gives (read_for read_expression (read_within levels) tokens.old) result tokens.new }
+    ensures { ReadsAs (read_for read_expression (read_within levels) tokens.old) result tokens.new }
 {
-    let head = match for_head(alloc, tokens) {
-        Ok(head) => head,
-        Err(unread) => return Err(unread),
-    };
-    match within(alloc, levels, tokens) {
-        Ok(body) => for_loop(alloc, head, body),
-        Err(unread) => Err(unread),
-    }
+    let (line, parts) = for_head(alloc, tokens)?;
+    let body = within(alloc, levels, tokens)?;
+    let ForParts { first, test, last } = parts;
+    Ok(Stmt {
+        what: StmtKind::For(first, test, last, body),
+        line,
+    })
 }
 
 /// The statement behind the pragma of a task
@@ -154,12 +134,14 @@ fn task_statement(
     mark: TaskMark,
     tokens: &mut Cursor<'_>,
 ) -> Result<Stmt, Unread>
-    ensures { Gives (read_mapped (task_of mark) (read_within levels) tokens.old) result tokens.new }
+    ensures { ReadsAs (read_mapped (task_of mark) (read_within levels) tokens.old) result tokens.new }
 {
-    match within(alloc, levels, tokens) {
-        Ok(body) => task(alloc, mark, body),
-        Err(unread) => Err(unread),
-    }
+    let body = within(alloc, levels, tokens)?;
+    let line = mark.line;
+    Ok(Stmt {
+        what: StmtKind::Task(mark, body),
+        line,
+    })
 }
 
 /// What follows a pragma with this line: a statement behind the pragma of a task.
@@ -172,7 +154,7 @@ fn directed(
     line: u32,
     tokens: &mut Cursor<'_>,
 ) -> Result<Stmt, Unread>
-    ensures { Gives (read_directed (read_within levels) (directive, line) tokens.old) result tokens.new }
+    ensures { ReadsAs (read_directed (read_within levels) (directive, line) tokens.old) result tokens.new }
 {
     match directive {
         Directive::Task(mark) => task_statement(alloc, levels, mark, tokens),
@@ -191,20 +173,18 @@ fn directed(
 #[cycle(statement)]
 #[tactic(auto, unfolding(crate::specs::StatementReading::read_pragma_statement))]
 fn pragma_statement(alloc: Global, levels: u32, tokens: &mut Cursor<'_>) -> Result<Stmt, Unread>
-    ensures { Gives (read_pragma_statement (read_pragma read_expression) (read_within levels) tokens.old) result tokens.new }
+    ensures { ReadsAs (read_pragma_statement (read_pragma read_expression) (read_within levels) tokens.old) result tokens.new }
 {
     let line = first_line(tokens);
-    match pragma(alloc, tokens) {
-        Ok(directive) => directed(alloc, levels, directive, line, tokens),
-        Err(unread) => Err(unread),
-    }
+    let directive = pragma(alloc, tokens)?;
+    directed(alloc, levels, directive, line, tokens)
 }
 
 /// A statement that begins with a keyword or with a pragma.
 #[cycle(statement)]
 #[tactic(auto, unfolding(crate::specs::StatementReading::read_keyword_statement))]
 fn keyword_statement(alloc: Global, levels: u32, tokens: &mut Cursor<'_>) -> Result<Stmt, Unread>
-    ensures { Gives (read_keyword_statement read_expression (read_pragma read_expression) (read_within levels) tokens.old) result tokens.new }
+    ensures { ReadsAs (read_keyword_statement read_expression (read_pragma read_expression) (read_within levels) tokens.old) result tokens.new }
 {
     if begins_with_keyword(b"if", tokens) {
         return if_statement(alloc, levels, tokens);
@@ -234,7 +214,7 @@ fn keyword_statement(alloc: Global, levels: u32, tokens: &mut Cursor<'_>) -> Res
 #[cycle(statement)]
 #[tactic(auto, unfolding(crate::specs::StatementReading::read_statement))]
 fn statement(alloc: Global, levels: u32, tokens: &mut Cursor<'_>) -> Result<Stmt, Unread>
-    ensures { Gives (read_statement read_expression (read_pragma read_expression) (read_parts levels) (read_within levels) tokens.old) result tokens.new }
+    ensures { ReadsAs (read_statement read_expression (read_pragma read_expression) (read_parts levels) (read_within levels) tokens.old) result tokens.new }
 {
     if tokens.begins_with_symbol(b"{") {
         return block(alloc, levels, tokens);
@@ -252,25 +232,18 @@ fn statement(alloc: Global, levels: u32, tokens: &mut Cursor<'_>) -> Result<Stmt
 #[cycle(statement)]
 #[tactic(auto, unfolding(crate::specs::StatementReading::read_item))]
 fn item(alloc: Global, levels: u32, tokens: &mut Cursor<'_>) -> Result<Stmt, Unread>
-    ensures { Gives (read_item read_expression (read_pragma read_expression) (read_parts levels) (read_within levels) tokens.old) result tokens.new }
+    ensures { ReadsAs (read_item read_expression (read_pragma read_expression) (read_parts levels) (read_within levels) tokens.old) result tokens.new }
 {
-    if !begins_with_kind(tokens) {
-        return statement(alloc, levels, tokens);
+    if begins_with_kind(tokens) {
+        return declaration_statement(alloc, tokens);
     }
-    let declaration = match declaration(alloc, tokens) {
-        Ok(declaration) => declaration,
-        Err(unread) => return Err(unread),
-    };
-    match tokens.symbol(b";") {
-        Ok(_) => Ok(declaration),
-        Err(unread) => Err(unread),
-    }
+    statement(alloc, levels, tokens)
 }
 
-/// A statement inside another, with so many levels.
+/// A statement inside another, with so many levels, in a box.
 #[cycle(statement)]
-fn within(alloc: Global, levels: u32, tokens: &mut Cursor<'_>) -> Result<Stmt, Unread>
-    ensures { Gives (read_within levels tokens.old) result tokens.new }
+fn within(alloc: Global, levels: u32, tokens: &mut Cursor<'_>) -> Result<Boxed<Stmt>, Unread>
+    ensures { ReadsAs (read_within levels tokens.old) result tokens.new }
 {
     if levels == 0 {
         return if begins_with_statement(tokens) {
@@ -279,13 +252,14 @@ fn within(alloc: Global, levels: u32, tokens: &mut Cursor<'_>) -> Result<Stmt, U
             Err(Unread::Syntax)
         };
     }
-    statement(alloc, levels - 1, tokens)
+    let inner = statement(alloc, levels - 1, tokens)?;
+    Ok(Boxed::new(alloc, inner)?)
 }
 
 /// decl ";" | stmt, with so many levels
 #[cycle(statement)]
 fn part(alloc: Global, levels: u32, tokens: &mut Cursor<'_>) -> Result<Stmt, Unread>
-    ensures { Gives (read_part levels tokens.old) result tokens.new }
+    ensures { ReadsAs (read_part levels tokens.old) result tokens.new }
 {
     if levels == 0 {
         return if begins_with_item(tokens) {
@@ -300,7 +274,7 @@ fn part(alloc: Global, levels: u32, tokens: &mut Cursor<'_>) -> Result<Stmt, Unr
 /// { decl ";" | stmt }, with so many levels
 #[cycle(statement)]
 fn parts(alloc: Global, levels: u32, tokens: &mut Cursor<'_>) -> Result<List<Stmt>, Unread>
-    ensures { Gives (read_parts levels tokens.old) result tokens.new }
+    ensures { ReadsAs (read_parts levels tokens.old) result tokens.new }
 {
     let mut found = List::new(alloc);
     'parts: while begins_with_item(tokens) {
@@ -308,17 +282,14 @@ fn parts(alloc: Global, levels: u32, tokens: &mut Cursor<'_>) -> Result<List<Stm
             Ok(next) => next,
             Err(unread) => return Err(unread),
         };
-        match found.push(next) {
-            Ok(()) => {}
-            Err(e) => return Err(Unread::Memory(e)),
-        }
+        found.push(next)?;
     }
     Ok(found)
 }
 
 /// { decl ";" | stmt }, with at most 64 levels
 pub fn body(alloc: Global, tokens: &mut Cursor<'_>) -> Result<List<Stmt>, Unread>
-    ensures { Gives (read_body tokens.old) result tokens.new }
+    ensures { ReadsAs (read_body tokens.old) result tokens.new }
 {
     parts(alloc, MOST_LEVELS, tokens)
 }

@@ -1,82 +1,17 @@
 //! Single tokens, as a reader of programs takes them from a cursor.
 
-ghost use Rattle.std.specs.Prelude.{◌≡◌, is_some};
-ghost use Rattle.oss_grammar.specs.OneToken.{is_keyword, is_symbol};
+ghost use Rattle.std.specs.Prelude.{◌≡◌};
 ghost use Rattle.oss_grammar.specs.Reading.{begins, has, read_one};
 ghost use Rattle.oss_grammar.specs.SimpleStatements.{assignment_of, first_line, step_of};
-ghost use Rattle.oss_pragma.specs.TokenValues.{keyword_at, name_at, named_in, start_at, start_in};
-ghost use Rattle.oss_pragma.specs.Told.{Gives, Makes};
+ghost use Rattle.oss_pragma.specs.TokenValues.{keyword_at, name_at, start_at};
+ghost use Rattle.oss_pragma.specs.Told.{ReadsAs, Makes};
 ghost use Rattle.oss_parse.specs.ProgramReading.{value_at, value_in};
 ghost use Rattle.oss_parse.specs.SimpleReading.{assignment_at, single_kind_at, step_at};
 ghost use Rattle.oss_parse.specs.StatementReading.{text_at, text_in};
 
-use oss_pragma::reading::{Cursor, Unread};
+use oss_pragma::reading::{Cursor, Unread, is_name, is_start, keyword_is, symbol_is};
 use oss_syntax::{BinOp, Bytes, NumKind, Token, TokenKind};
 use std::alloc::Global;
-
-/// Whether this is the punctuator with these bytes.
-pub fn symbol_is(symbol: &[u8], what: &TokenKind) -> bool
-    ensures { result ≡ is_symbol symbol.now what.now }
-{
-    match what {
-        TokenKind::Symbol(word) => word.as_slice() == symbol,
-        TokenKind::Name(_) => false,
-        TokenKind::Keyword(_) => false,
-        TokenKind::Number(_, _) => false,
-        TokenKind::Text(_) => false,
-        TokenKind::PragmaOss => false,
-        TokenKind::PragmaEnd => false,
-        TokenKind::Directive => false,
-    }
-}
-
-/// Whether this is the keyword with these bytes.
-pub fn keyword_is(keyword: &[u8], what: &TokenKind) -> bool
-    ensures { result ≡ is_keyword keyword.now what.now }
-{
-    match what {
-        TokenKind::Keyword(word) => word.as_slice() == keyword,
-        TokenKind::Name(_) => false,
-        TokenKind::Symbol(_) => false,
-        TokenKind::Number(_, _) => false,
-        TokenKind::Text(_) => false,
-        TokenKind::PragmaOss => false,
-        TokenKind::PragmaEnd => false,
-        TokenKind::Directive => false,
-    }
-}
-
-/// Whether this is a name.
-pub fn is_name(what: &TokenKind) -> bool
-    ensures { result ≡ is_some (named_in what.now 0) }
-{
-    match what {
-        TokenKind::Name(_) => true,
-        TokenKind::Keyword(_) => false,
-        TokenKind::Symbol(_) => false,
-        TokenKind::Number(_, _) => false,
-        TokenKind::Text(_) => false,
-        TokenKind::PragmaOss => false,
-        TokenKind::PragmaEnd => false,
-        TokenKind::Directive => false,
-    }
-}
-
-/// Whether this is the first token of a pragma.
-pub fn is_start(what: &TokenKind) -> bool
-    ensures { result ≡ is_some (start_in what.now 0) }
-{
-    match what {
-        TokenKind::PragmaOss => true,
-        TokenKind::Name(_) => false,
-        TokenKind::Keyword(_) => false,
-        TokenKind::Symbol(_) => false,
-        TokenKind::Number(_, _) => false,
-        TokenKind::Text(_) => false,
-        TokenKind::PragmaEnd => false,
-        TokenKind::Directive => false,
-    }
-}
 
 /// The value of the number that this is.
 fn value_of(what: &TokenKind) -> Option<u64>
@@ -84,13 +19,7 @@ fn value_of(what: &TokenKind) -> Option<u64>
 {
     match what {
         TokenKind::Number(value, _) => Some(*value),
-        TokenKind::Name(_) => None,
-        TokenKind::Keyword(_) => None,
-        TokenKind::Symbol(_) => None,
-        TokenKind::Text(_) => None,
-        TokenKind::PragmaOss => None,
-        TokenKind::PragmaEnd => None,
-        TokenKind::Directive => None,
+        _ => None,
     }
 }
 
@@ -99,17 +28,8 @@ fn text_of(alloc: Global, what: &TokenKind) -> Result<Bytes, Unread>
     ensures { Makes (text_in what.now) result }
 {
     match what {
-        TokenKind::Text(text) => match Bytes::from_slice(alloc, text.as_slice()) {
-            Ok(bytes) => Ok(bytes),
-            Err(e) => Err(Unread::Memory(e)),
-        },
-        TokenKind::Name(_) => Err(Unread::Syntax),
-        TokenKind::Keyword(_) => Err(Unread::Syntax),
-        TokenKind::Symbol(_) => Err(Unread::Syntax),
-        TokenKind::Number(_, _) => Err(Unread::Syntax),
-        TokenKind::PragmaOss => Err(Unread::Syntax),
-        TokenKind::PragmaEnd => Err(Unread::Syntax),
-        TokenKind::Directive => Err(Unread::Syntax),
+        TokenKind::Text(text) => Ok(Bytes::from_slice(alloc, text.as_slice())?),
+        _ => Err(Unread::Syntax),
     }
 }
 
@@ -184,7 +104,7 @@ pub fn first_line(tokens: &Cursor<'_>) -> u32
 
 /// Takes this keyword, and answers its line.
 pub fn keyword(keyword: &[u8], tokens: &mut Cursor<'_>) -> Result<u32, Unread>
-    ensures { Gives (read_one (keyword_at keyword.now) tokens.old) result tokens.new }
+    ensures { ReadsAs (read_one (keyword_at keyword.now) tokens.old) result tokens.new }
 {
     let Some((token, rest)) = tokens.left().split_first() else {
         return Err(Unread::Syntax);
@@ -198,7 +118,7 @@ pub fn keyword(keyword: &[u8], tokens: &mut Cursor<'_>) -> Result<u32, Unread>
 
 /// Takes an assignment's operator.
 pub fn assignment(tokens: &mut Cursor<'_>) -> Result<Option<BinOp>, Unread>
-    ensures { Gives (read_one assignment_at tokens.old) result tokens.new }
+    ensures { ReadsAs (read_one assignment_at tokens.old) result tokens.new }
 {
     let Some((token, rest)) = tokens.left().split_first() else {
         return Err(Unread::Syntax);
@@ -212,7 +132,7 @@ pub fn assignment(tokens: &mut Cursor<'_>) -> Result<Option<BinOp>, Unread>
 
 /// Takes a step, and answers its operator and its line.
 pub fn step(tokens: &mut Cursor<'_>) -> Result<(BinOp, u32), Unread>
-    ensures { Gives (read_one step_at tokens.old) result tokens.new }
+    ensures { ReadsAs (read_one step_at tokens.old) result tokens.new }
 {
     let Some((token, rest)) = tokens.left().split_first() else {
         return Err(Unread::Syntax);
@@ -226,7 +146,7 @@ pub fn step(tokens: &mut Cursor<'_>) -> Result<(BinOp, u32), Unread>
 
 /// Takes a type of one word, and answers its line too.
 pub fn single_kind(tokens: &mut Cursor<'_>) -> Result<(NumKind, u32), Unread>
-    ensures { Gives (read_one single_kind_at tokens.old) result tokens.new }
+    ensures { ReadsAs (read_one single_kind_at tokens.old) result tokens.new }
 {
     let Some((token, rest)) = tokens.left().split_first() else {
         return Err(Unread::Syntax);
@@ -240,7 +160,7 @@ pub fn single_kind(tokens: &mut Cursor<'_>) -> Result<(NumKind, u32), Unread>
 
 /// Takes a number, and answers its value.
 pub fn value(tokens: &mut Cursor<'_>) -> Result<u64, Unread>
-    ensures { Gives (read_one value_at tokens.old) result tokens.new }
+    ensures { ReadsAs (read_one value_at tokens.old) result tokens.new }
 {
     let Some((token, rest)) = tokens.left().split_first() else {
         return Err(Unread::Syntax);
@@ -254,15 +174,12 @@ pub fn value(tokens: &mut Cursor<'_>) -> Result<u64, Unread>
 
 /// Takes a string, and answers its bytes.
 pub fn text(alloc: Global, tokens: &mut Cursor<'_>) -> Result<Bytes, Unread>
-    ensures { Gives (read_one text_at tokens.old) result tokens.new }
+    ensures { ReadsAs (read_one text_at tokens.old) result tokens.new }
 {
     let Some((token, rest)) = tokens.left().split_first() else {
         return Err(Unread::Syntax);
     };
-    let text = match text_of(alloc, &token.what) {
-        Ok(text) => text,
-        Err(unread) => return Err(unread),
-    };
+    let text = text_of(alloc, &token.what)?;
     tokens.go_to(rest);
     Ok(text)
 }

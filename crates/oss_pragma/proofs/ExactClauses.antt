@@ -29,8 +29,8 @@ use Rattle.oss_grammar.specs.Reading.{Reader, begins, has, one_of, never, read_o
 use Rattle.oss_grammar.proofs.Parts.{Exact, Begun, exact_as}
 use Rattle.oss_grammar.proofs.PartLemmas.{Nowhere, nowhere, exact_one, begun_one, exact_mapped, begun_mapped, EitherDeep, begun_either}
 use Rattle.oss_grammar.proofs.PartLemmas.EitherDeep.{one_deep, other_deep}
-use Rattle.oss_pragma.specs.ExpressionReading.{latter}
-use Rattle.oss_pragma.specs.PragmaReading.{read_sections, read_bracketed_sections, read_bracketed_expression, read_depend, dependency_of, read_folded, read_reduction, reduction_of_parts, read_single, read_label, read_waiting, read_clause}
+use Rattle.oss_pragma.specs.ExpressionReading.{latter, read_brackets}
+use Rattle.oss_pragma.specs.PragmaReading.{read_sections, read_bracketed_sections, read_depend, dependency_of, read_folded, read_reduction, reduction_of_parts, read_single, read_label, read_waiting, read_clause}
 use Rattle.oss_pragma.specs.TokenValues.{symbol_at, access_at, reduction_at, fold_at, label_in, label_at, stands, is_single_word, single_at, begins_expression}
 use Rattle.oss_pragma.proofs.ExactPairs.{Headed, HeadedDeep, exact_headed, begun_headed, Bracketed, BracketedDeep, read_bracketed, exact_bracketed, bracketed_viable, read_behind, Behind, exact_behind, exact_or, or_apart, Failing, Perhaps, exact_or_perhaps, perhaps_either}
 use Rattle.oss_pragma.proofs.ExactPairs.Perhaps.{exactly, fails_at_once}
@@ -256,9 +256,9 @@ module _ {expression : Reader Expr} {X : List Token → Token → Type 0} (part_
   abbrev LoneDeep : Single → List Clause → List Token → Token → Type 0
   LoneDeep s found = HeadedDeep (single_at s found) (BracketedDeep (codes "(") X)
 
-  exact_bracketed_expression : Exact (read_bracketed_expression expression) (Bracketed (codes "(") (codes ")") IsWhole) (BracketedDeep (codes "(") X) never
-  unfolding read_bracketed_expression
-  exact_bracketed_expression = exact_bracketed (codes "(") (codes ")") part_of whole_viable bracket_apart refl refl
+  exact_brackets : Exact (read_brackets expression) (Bracketed (codes "(") (codes ")") IsWhole) (BracketedDeep (codes "(") X) never
+  unfolding read_brackets
+  exact_brackets = exact_bracketed (codes "(") (codes ")") part_of whole_viable bracket_apart refl refl
 
   none_begins : (starts : Token → Bool) → ((t : Token) → starts t ≡ false) → (ts : List Token) → begins starts ts ≡ false
   none_begins starts none [] = refl
@@ -269,12 +269,12 @@ module _ {expression : Reader Expr} {X : List Token → Token → Type 0} (part_
 
   begun_lone : (s : Single) (found : List Clause) (make : Expr → Clause) → Begun (read_single expression s found make) (has (single_at s found))
   unfolding read_single
-  begun_lone s found make = begun_mapped make (begun_mapped latter (begun_headed (single_at s found) exact_bracketed_expression))
+  begun_lone s found make = begun_mapped make (begun_mapped latter (begun_headed (single_at s found) exact_brackets))
 
   exact_lone : (s : Single) (found : List Clause) (make : Expr → Clause) (word : Token) → is_single_word s word.what ≡ true → stands s found ≡ false → Exact (read_single expression s found make) (Lone s found make) (LoneDeep s found) never
   unfolding read_single
   exact_lone s found make word is free = exact_mapped make (exact_mapped latter
-      (exact_headed (single_at s found) exact_bracketed_expression word word.line (tells_single s found word is free) (bracketed_viable (codes "(") (codes ")") refl refl whole_viable)))
+      (exact_headed (single_at s found) exact_brackets word word.line (tells_single s found word is free) (bracketed_viable (codes "(") (codes ")") refl refl whole_viable)))
 
   failing_lone : (s : Single) (found : List Clause) (make : Expr → Clause) → stands s found ≡ true → Failing (read_single expression s found make) (Lone s found make) (LoneDeep s found)
   failing_lone s found make e = record {

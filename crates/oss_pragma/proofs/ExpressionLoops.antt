@@ -9,15 +9,15 @@ use Rattle.oss_pragma.specs.Operands.{read_operand, read_above}
 use Rattle.oss_pragma.specs.declared.cursor.Named.{Named}
 use Rattle.oss_pragma.specs.declared.cursor.Unread.{Unread}
 use Rattle.oss_pragma.specs.declared.cursor.Unread.TheVariants as unread
-use Rattle.oss_pragma.specs.Told.{Gives}
+use Rattle.oss_pragma.specs.Told.{ReadsAs}
 use Rattle.oss_pragma.proofs.StepLoops.{Takes, Keeps, keeps, takes_one, keeps_nothing, takes_mapped, takes_then, takes_both, takes_either, keeps_either, keeps_steps, too_deep, Repeats, repeats}
 
 -- a part that stops reading stops the whole at the same place
-pub gives_err : {A B : Type 0} (part : Result (A × List Token) Stop) (whole : Result (B × List Token) Stop) (u : Unread) (rest : List Token)
-    → Gives part (Err u) rest → ((why : Stop) → part ≡ Err why → whole ≡ Err why) → Gives whole (Err u) rest
-gives_err part whole unread.Syntax rest fault hence = hence (Stop.Syntax rest) fault
-gives_err part whole unread.Deep rest fault hence = hence (Stop.Deep rest) fault
-gives_err part whole (unread.Memory e) rest fault hence = tt
+pub reads_as_err : {A B : Type 0} (part : Result (A × List Token) Stop) (whole : Result (B × List Token) Stop) (u : Unread) (rest : List Token)
+    → ReadsAs part (Err u) rest → ((why : Stop) → part ≡ Err why → whole ≡ Err why) → ReadsAs whole (Err u) rest
+reads_as_err part whole unread.Syntax rest fault hence = hence (Stop.Syntax rest) fault
+reads_as_err part whole unread.Deep rest fault hence = hence (Stop.Deep rest) fault
+reads_as_err part whole (unread.Memory e) rest fault hence = tt
 
 pub takes_next : {A : Type 0} {f : Reader A} → Takes f → Takes (read_next f)
 takes_next part = takes_mapped latter (takes_both (takes_one (symbol_at (codes ","))) (keeps part))
@@ -47,7 +47,7 @@ module _ {inner : Reader Expr} (takes : Takes inner) where
   takes_named = takes_then (λ name. read_either (has (symbol_at (codes "("))) (read_call inner name) (read_nothing (named_expression name))) (takes_one name_at)
       (λ name. keeps_either (has (symbol_at (codes "("))) (keeps (takes_call name)) (keeps_nothing (named_expression name)))
 
-  takes_brackets : Takes (read_brackets inner)
+  pub takes_brackets : Takes (read_brackets inner)
   unfolding read_brackets
   takes_brackets = takes_mapped middle (takes_both (takes_one (symbol_at (codes "("))) (keeps (takes_both takes (keeps (takes_one (symbol_at (codes ")")))))))
 

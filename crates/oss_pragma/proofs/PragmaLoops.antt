@@ -11,10 +11,10 @@ use Rattle.oss_grammar.specs.Reading.{Reader, has, read_nothing, read_either}
 use Rattle.oss_pragma.specs.TokenValues.{symbol_at, name_at, access_at, reduction_at, fold_at, label_at, single_at, begins_expression}
 use Rattle.oss_grammar.specs.Levels.{is_operator}
 use Rattle.oss_pragma.specs.ExpressionReading.{latter, middle, and_then, read_next, read_expression}
-use Rattle.oss_pragma.specs.PragmaReading.{read_upper, read_span, read_length, read_inner_from, read_inner, whole_section, pointed_section, shape_section, part_section, read_pointed, read_shape, read_part, read_based, read_section, read_sections, read_bracketed_sections, read_bracketed_expression, dependency_of, read_depend, read_folded, reduction_of_parts, read_reduction, read_single, read_label, read_waiting, read_clause, read_after_comma, goes_on_with_clause, goes_on_with_depend}
+use Rattle.oss_pragma.specs.PragmaReading.{read_upper, read_span, read_length, read_inner_from, read_inner, whole_section, pointed_section, shape_section, part_section, read_pointed, read_shape, read_part, read_based, read_section, read_sections, read_bracketed_sections, dependency_of, read_depend, read_folded, reduction_of_parts, read_reduction, read_single, read_label, read_waiting, read_clause, read_after_comma, goes_on_with_clause, goes_on_with_depend}
 use Rattle.oss_pragma.specs.declared.cursor.Named.{Named}
 use Rattle.oss_pragma.proofs.StepLoops.{Takes, Keeps, keeps, takes_one, keeps_nothing, takes_mapped, takes_then, takes_both, takes_either, keeps_either, Repeats, repeats}
-use Rattle.oss_pragma.proofs.ExpressionLoops.{takes_whole, takes_next, takes_list, repeats_more}
+use Rattle.oss_pragma.proofs.ExpressionLoops.{takes_brackets, takes_whole, takes_next, takes_list, repeats_more}
 use Rattle.oss_pragma.proofs.SightLemmas.{takes_counted}
 
 takes_after_comma : {A : Type 0} {f : Reader A} → Takes f → Takes (read_after_comma f)
@@ -73,10 +73,6 @@ module _ {expression : Reader Expr} (takes : Takes expression) where
   unfolding read_bracketed_sections
   takes_bracketed_sections = takes_mapped middle (takes_both (takes_one (symbol_at (codes "("))) (keeps (takes_both takes_sections (keeps (takes_one (symbol_at (codes ")")))))))
 
-  takes_bracketed_expression : Takes (read_bracketed_expression expression)
-  unfolding read_bracketed_expression
-  takes_bracketed_expression = takes_mapped middle (takes_both (takes_one (symbol_at (codes "("))) (keeps (takes_both takes (keeps (takes_one (symbol_at (codes ")")))))))
-
   takes_depend : Takes (read_depend expression)
   unfolding read_depend
   takes_depend = takes_mapped dependency_of (takes_both (takes_one access_at) (keeps takes_bracketed_sections))
@@ -91,7 +87,7 @@ module _ {expression : Reader Expr} (takes : Takes expression) where
 
   takes_single : (s : Single) (found : List Clause) (make : Expr → Clause) → Takes (read_single expression s found make)
   unfolding read_single
-  takes_single s found make = takes_mapped make (takes_mapped latter (takes_both (takes_one (single_at s found)) (keeps takes_bracketed_expression)))
+  takes_single s found make = takes_mapped make (takes_mapped latter (takes_both (takes_one (single_at s found)) (keeps (takes_brackets takes))))
 
   takes_label : (found : List Clause) → Takes (read_label found)
   unfolding read_label

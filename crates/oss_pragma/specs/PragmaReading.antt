@@ -17,7 +17,7 @@ use Rattle.oss_grammar.specs.Pragmas.{Single}
 use Rattle.oss_grammar.specs.Pragmas.Single.{once_if, once_final, once_wait, once_label, once_priority}
 use Rattle.oss_grammar.specs.Reading.{Reader, has, read_one, read_then, read_nothing, read_mapped, read_both, read_either, read_steps}
 use Rattle.oss_pragma.specs.TokenValues.{symbol_at, word_at, start_at, end_at, name_at, access_at, reduction_at, fold_at, label_at, single_at, begins_expression}
-use Rattle.oss_pragma.specs.ExpressionReading.{latter, middle, and_then, read_next, read_list}
+use Rattle.oss_pragma.specs.ExpressionReading.{latter, middle, and_then, read_next, read_list, read_brackets}
 use Rattle.oss_pragma.specs.declared.cursor.Named.{Named}
 
 -- [ expr ] behind `:`
@@ -85,10 +85,6 @@ read_sections expression = read_list (read_section expression)
 unfoldable pub read_bracketed_sections : Reader Expr → Reader (List Section)
 read_bracketed_sections expression = read_mapped middle (read_both (read_one (symbol_at (codes "("))) (read_both (read_sections expression) (read_one (symbol_at (codes ")")))))
 
--- "(" expr ")"
-unfoldable pub read_bracketed_expression : Reader Expr → Reader Expr
-read_bracketed_expression expression = read_mapped middle (read_both (read_one (symbol_at (codes "("))) (read_both expression (read_one (symbol_at (codes ")")))))
-
 abbrev pub dependency_of : (Mode × Bool) × List Section → Clause
 dependency_of p = clause.Depend p.0.0 p.0.1 p.1
 
@@ -110,7 +106,7 @@ read_reduction expression = read_mapped reduction_of_parts (read_both (read_one 
 
 -- The word of a clause that stands once at most, which stands in none of those that were found, and its expression.
 unfoldable pub read_single : Reader Expr → Single → List Clause → (Expr → Clause) → Reader Clause
-read_single expression s found make = read_mapped make (read_mapped latter (read_both (read_one (single_at s found)) (read_bracketed_expression expression)))
+read_single expression s found make = read_mapped make (read_mapped latter (read_both (read_one (single_at s found)) (read_brackets expression)))
 
 -- "label" "(" ( name | string ) ")"
 unfoldable pub read_label : List Clause → Reader Clause

@@ -1,4 +1,5 @@
--- What calls tell that read from a place in a list of tokens: the value and the place behind it, or the refusal.
+-- What calls tell that read from a place in a list of tokens: the value and the place behind it, or the refusal. Read against: of the four
+-- tokens `a + ) ;`, read from place 0, reading stops with `) ;` left, so the refusal is `Syntax` with the line of `)` and 2 tokens before it.
 use Rattle.std.specs.Prelude.{◌≡◌, ℕ, ◌-◌, List, [], ◌∷◌, length, take, drop, Result, Ok, Err}
 use Rattle.oss_syntax.specs.declared.token.Token.{Token}
 use Rattle.oss_syntax.specs.declared.refusal.Refusal.{Refusal}
@@ -38,8 +39,8 @@ IsToldAt read ts at (Ok found) = placed_in ts (read (drop at ts)) ≡ Ok found
 IsToldAt read ts at (Err (refusal.Refused refused)) = placed_in ts (read (drop at ts)) ≡ Err refused
 IsToldAt read ts at (Err (refusal.Memory error)) = Unit {0}
 
--- The refusal of tokens of which these were left where nothing was read.
-abbrev pub Tells : Unread → List Token → List Token → Refusal → Type 0
-Tells unread.Syntax ts left told = told ≡ refusal.Refused (refused_at ts (Syntax left))
-Tells unread.Deep ts left told = told ≡ refusal.Refused (refused_at ts (Deep left))
-Tells (unread.Memory error) ts left told = told ≡ refusal.Memory error
+-- This is the refusal of all tokens where these were left and nothing was read, for this reason.
+abbrev pub IsRefusalFor : Unread → List Token → List Token → Refusal → Type 0
+IsRefusalFor unread.Syntax ts left told = told ≡ refusal.Refused (refused_at ts (Syntax left))
+IsRefusalFor unread.Deep ts left told = told ≡ refusal.Refused (refused_at ts (Deep left))
+IsRefusalFor (unread.Memory error) ts left told = told ≡ refusal.Memory error

@@ -4,73 +4,49 @@ ghost use Rattle.std.specs.Prelude.{◌≡◌, []};
 ghost use Rattle.oss_syntax.specs.declared.tree.pragma.Clause.TheVariants as clauses;
 ghost use Rattle.oss_grammar.specs.Pragmas.Single.{once_final, once_if, once_priority};
 ghost use Rattle.oss_grammar.specs.Reading.{begins, read_both, read_mapped, read_one};
-ghost use Rattle.oss_pragma.specs.ExpressionReading.{latter, read_expression};
-ghost use Rattle.oss_pragma.specs.PragmaReading.{goes_on_with_clause, read_after_comma, read_bracketed_expression, read_clause, read_clauses, read_depend, read_folded, read_label, read_reduction, read_single, read_waiting};
+ghost use Rattle.oss_pragma.specs.ExpressionReading.{latter, read_brackets, read_expression};
+ghost use Rattle.oss_pragma.specs.PragmaReading.{goes_on_with_clause, read_after_comma, read_clause, read_clauses, read_depend, read_folded, read_label, read_reduction, read_single, read_waiting};
 ghost use Rattle.oss_pragma.specs.Singles.{single_of, single_unless};
-ghost use Rattle.oss_pragma.specs.Told.{Gives};
+ghost use Rattle.oss_pragma.specs.Told.{ReadsAs};
 
 use crate::cursor::{Cursor, Unread};
 use crate::found::Found;
 use crate::kinds::{Once, access, reduction, symbol_is};
-use crate::sections::{bracketed_expression, bracketed_sections, sections};
+use crate::sections::{bracketed_sections, brackets, sections};
 use oss_syntax::{Clause, Expr, List, Mode, Op, Section, Token};
 use std::alloc::Global;
 
 /// The word of an access, and its sections.
 #[tactic(auto, unfolding(crate::specs::PragmaReading::read_depend))]
 pub fn depend(alloc: Global, tokens: &mut Cursor<'_>) -> Result<Clause, Unread>
-    ensures { Gives (read_depend read_expression tokens.old) result tokens.new }
+    ensures { ReadsAs (read_depend read_expression tokens.old) result tokens.new }
 {
-    let (mode, strong) = match tokens.access() {
-        Ok(access) => access,
-        Err(unread) => return Err(unread),
-    };
-    match bracketed_sections(alloc, tokens) {
-        Ok(sections) => Ok(Clause::Depend(mode, strong, sections)),
-        Err(unread) => Err(unread),
-    }
+    let (mode, strong) = tokens.access()?;
+    let sections = bracketed_sections(alloc, tokens)?;
+    Ok(Clause::Depend(mode, strong, sections))
 }
 
 /// op ":" sections ")"
 #[tactic(auto, unfolding(crate::specs::PragmaReading::read_folded))]
 fn folded(alloc: Global, tokens: &mut Cursor<'_>) -> Result<(Op, List<Section>), Unread>
-    ensures { Gives (read_folded read_expression tokens.old) result tokens.new }
+    ensures { ReadsAs (read_folded read_expression tokens.old) result tokens.new }
 {
-    let operator = match tokens.fold() {
-        Ok(operator) => operator,
-        Err(unread) => return Err(unread),
-    };
-    match tokens.symbol(b":") {
-        Ok(_) => {}
-        Err(unread) => return Err(unread),
-    }
-    let sections = match sections(alloc, tokens) {
-        Ok(sections) => sections,
-        Err(unread) => return Err(unread),
-    };
-    match tokens.symbol(b")") {
-        Ok(_) => Ok((operator, sections)),
-        Err(unread) => Err(unread),
-    }
+    let operator = tokens.fold()?;
+    tokens.symbol(b":")?;
+    let sections = sections(alloc, tokens)?;
+    tokens.symbol(b")")?;
+    Ok((operator, sections))
 }
 
 /// The word of a reduction, and "(" op ":" sections ")"
 #[tactic(auto, unfolding(crate::specs::PragmaReading::read_reduction))]
 fn fold_clause(alloc: Global, tokens: &mut Cursor<'_>) -> Result<Clause, Unread>
-    ensures { Gives (read_reduction read_expression tokens.old) result tokens.new }
+    ensures { ReadsAs (read_reduction read_expression tokens.old) result tokens.new }
 {
-    let strong = match tokens.reduction() {
-        Ok(strong) => strong,
-        Err(unread) => return Err(unread),
-    };
-    match tokens.symbol(b"(") {
-        Ok(_) => {}
-        Err(unread) => return Err(unread),
-    }
-    match folded(alloc, tokens) {
-        Ok((operator, sections)) => Ok(Clause::Depend(Mode::Fold(operator), strong, sections)),
-        Err(unread) => Err(unread),
-    }
+    let strong = tokens.reduction()?;
+    tokens.symbol(b"(")?;
+    let (operator, sections) = folded(alloc, tokens)?;
+    Ok(Clause::Depend(Mode::Fold(operator), strong, sections))
 }
 
 /// The word of a clause that stands once at most, where it does not stand already, and "(" expr ")"
@@ -80,85 +56,64 @@ fn once_expression(
     already: bool,
     tokens: &mut Cursor<'_>,
 ) -> Result<Expr, Unread>
-    ensures { Gives (read_mapped latter (read_both (read_one (single_unless already (single_of once))) (read_bracketed_expression read_expression)) tokens.old) result tokens.new }
+    ensures { ReadsAs (read_mapped latter (read_both (read_one (single_unless already (single_of once))) (read_brackets read_expression)) tokens.old) result tokens.new }
 {
-    match tokens.once(once, already) {
-        Ok(_) => bracketed_expression(alloc, tokens),
-        Err(unread) => Err(unread),
-    }
+    tokens.once(once, already)?;
+    brackets(alloc, tokens)
 }
 
 /// "if" "(" expr ")"
 #[tactic(auto, unfolding(crate::specs::PragmaReading::read_single))]
 fn condition(alloc: Global, found: &Found, tokens: &mut Cursor<'_>) -> Result<Clause, Unread>
-    ensures { Gives (read_single read_expression once_if found.now clauses.If tokens.old) result tokens.new }
+    ensures { ReadsAs (read_single read_expression once_if found.now clauses.If tokens.old) result tokens.new }
 {
-    match once_expression(alloc, Once::If, found.has(Once::If), tokens) {
-        Ok(condition) => Ok(Clause::If(condition)),
-        Err(unread) => Err(unread),
-    }
+    let condition = once_expression(alloc, Once::If, found.has(Once::If), tokens)?;
+    Ok(Clause::If(condition))
 }
 
 /// "final" "(" expr ")"
 #[tactic(auto, unfolding(crate::specs::PragmaReading::read_single))]
 fn final_clause(alloc: Global, found: &Found, tokens: &mut Cursor<'_>) -> Result<Clause, Unread>
-    ensures { Gives (read_single read_expression once_final found.now clauses.Final tokens.old) result tokens.new }
+    ensures { ReadsAs (read_single read_expression once_final found.now clauses.Final tokens.old) result tokens.new }
 {
-    match once_expression(alloc, Once::Final, found.has(Once::Final), tokens) {
-        Ok(condition) => Ok(Clause::Final(condition)),
-        Err(unread) => Err(unread),
-    }
+    let condition = once_expression(alloc, Once::Final, found.has(Once::Final), tokens)?;
+    Ok(Clause::Final(condition))
 }
 
 /// "priority" "(" expr ")"
 #[tactic(auto, unfolding(crate::specs::PragmaReading::read_single))]
 fn priority(alloc: Global, found: &Found, tokens: &mut Cursor<'_>) -> Result<Clause, Unread>
-    ensures { Gives (read_single read_expression once_priority found.now clauses.Priority tokens.old) result tokens.new }
+    ensures { ReadsAs (read_single read_expression once_priority found.now clauses.Priority tokens.old) result tokens.new }
 {
-    match once_expression(alloc, Once::Priority, found.has(Once::Priority), tokens) {
-        Ok(priority) => Ok(Clause::Priority(priority)),
-        Err(unread) => Err(unread),
-    }
+    let priority = once_expression(alloc, Once::Priority, found.has(Once::Priority), tokens)?;
+    Ok(Clause::Priority(priority))
 }
 
 /// "wait"
 #[tactic(auto, unfolding(crate::specs::PragmaReading::read_waiting))]
 fn waiting(found: &Found, tokens: &mut Cursor<'_>) -> Result<Clause, Unread>
-    ensures { Gives (read_waiting found.now tokens.old) result tokens.new }
+    ensures { ReadsAs (read_waiting found.now tokens.old) result tokens.new }
 {
-    match tokens.once(Once::Wait, found.has(Once::Wait)) {
-        Ok(_) => Ok(Clause::Wait),
-        Err(unread) => Err(unread),
-    }
+    tokens.once(Once::Wait, found.has(Once::Wait))?;
+    Ok(Clause::Wait)
 }
 
 /// "label" "(" ( name | string ) ")"
 #[tactic(auto, unfolding(crate::specs::PragmaReading::read_label))]
 fn label(alloc: Global, found: &Found, tokens: &mut Cursor<'_>) -> Result<Clause, Unread>
-    ensures { Gives (read_label found.now tokens.old) result tokens.new }
+    ensures { ReadsAs (read_label found.now tokens.old) result tokens.new }
 {
-    match tokens.once(Once::Label, found.has(Once::Label)) {
-        Ok(_) => {}
-        Err(unread) => return Err(unread),
-    }
-    match tokens.symbol(b"(") {
-        Ok(_) => {}
-        Err(unread) => return Err(unread),
-    }
-    let label = match tokens.label(alloc) {
-        Ok(label) => label,
-        Err(unread) => return Err(unread),
-    };
-    match tokens.symbol(b")") {
-        Ok(_) => Ok(Clause::Label(label)),
-        Err(unread) => Err(unread),
-    }
+    tokens.once(Once::Label, found.has(Once::Label))?;
+    tokens.symbol(b"(")?;
+    let label = tokens.label(alloc)?;
+    tokens.symbol(b")")?;
+    Ok(Clause::Label(label))
 }
 
 /// A clause of a task, behind those that were found.
 #[tactic(auto, unfolding(crate::specs::PragmaReading::read_clause))]
 fn clause(alloc: Global, found: &Found, tokens: &mut Cursor<'_>) -> Result<Clause, Unread>
-    ensures { Gives (read_clause read_expression found.now tokens.old) result tokens.new }
+    ensures { ReadsAs (read_clause read_expression found.now tokens.old) result tokens.new }
 {
     if tokens.begins_with_access() {
         return depend(alloc, tokens);
@@ -183,13 +138,11 @@ fn clause(alloc: Global, found: &Found, tokens: &mut Cursor<'_>) -> Result<Claus
 
 /// [ "," ] clause
 fn next_clause(alloc: Global, found: &Found, tokens: &mut Cursor<'_>) -> Result<Clause, Unread>
-    ensures { Gives (read_after_comma (read_clause read_expression found.now) tokens.old) result tokens.new }
+    ensures { ReadsAs (read_after_comma (read_clause read_expression found.now) tokens.old) result tokens.new }
 {
     if tokens.begins_with_symbol(b",") {
-        return match tokens.symbol(b",") {
-            Ok(_) => clause(alloc, found, tokens),
-            Err(unread) => Err(unread),
-        };
+        tokens.symbol(b",")?;
+        return clause(alloc, found, tokens);
     }
     clause(alloc, found, tokens)
 }
@@ -220,7 +173,7 @@ fn goes_on(found: &Found, tokens: &Cursor<'_>) -> bool
 
 /// { [ "," ] clause }
 pub fn clauses(alloc: Global, tokens: &mut Cursor<'_>) -> Result<List<Clause>, Unread>
-    ensures { Gives (read_clauses read_expression [] tokens.old) result tokens.new }
+    ensures { ReadsAs (read_clauses read_expression [] tokens.old) result tokens.new }
 {
     let mut found = Found::new(alloc);
     'clauses: while goes_on(&found, tokens) {
@@ -228,10 +181,7 @@ pub fn clauses(alloc: Global, tokens: &mut Cursor<'_>) -> Result<List<Clause>, U
             Ok(next) => next,
             Err(unread) => return Err(unread),
         };
-        match found.push(next) {
-            Ok(()) => {}
-            Err(e) => return Err(Unread::Memory(e)),
-        }
+        found.push(next)?;
     }
     Ok(found.into_list())
 }

@@ -3,7 +3,7 @@ ghost use Rattle.oss_grammar.specs.Reading.{begins, has, read_one};
 ghost use Rattle.oss_grammar.specs.Levels.{is_operator};
 ghost use Rattle.oss_pragma.specs.Sights.{Sight, sight_of};
 ghost use Rattle.oss_pragma.specs.TokenValues.{begins_expression, name_at, number_at, operator_at, prefix_at, symbol_at};
-ghost use Rattle.oss_pragma.specs.Told.{Gives};
+ghost use Rattle.oss_pragma.specs.Told.{ReadsAs};
 
 use crate::cursor::{Named, Unread};
 use crate::kinds::{
@@ -85,7 +85,7 @@ impl<'t> Counted<'t> {
 
     /// Takes this symbol, and answers its line.
     pub fn symbol(&mut self, symbol: &[u8]) -> Result<u32, Unread>
-        ensures value { Gives (read_one (symbol_at symbol.now) self.old.seen) result self.new.seen }
+        ensures value { ReadsAs (read_one (symbol_at symbol.now) self.old.seen) result self.new.seen }
         ensures behind { self.new.behind ≡ self.old.behind }
     {
         let Some((token, rest)) = self.split() else {
@@ -100,23 +100,20 @@ impl<'t> Counted<'t> {
 
     /// Takes a name.
     pub fn name(&mut self, alloc: Global) -> Result<Named, Unread>
-        ensures value { Gives (read_one name_at self.old.seen) result self.new.seen }
+        ensures value { ReadsAs (read_one name_at self.old.seen) result self.new.seen }
         ensures behind { self.new.behind ≡ self.old.behind }
     {
         let Some((token, rest)) = self.split() else {
             return Err(Unread::Syntax);
         };
-        let named = match named(alloc, &token.what, token.line) {
-            Ok(named) => named,
-            Err(unread) => return Err(unread),
-        };
+        let named = named(alloc, &token.what, token.line)?;
         *self = rest;
         Ok(named)
     }
 
     /// Takes a number.
     pub fn number(&mut self) -> Result<Expr, Unread>
-        ensures value { Gives (read_one number_at self.old.seen) result self.new.seen }
+        ensures value { ReadsAs (read_one number_at self.old.seen) result self.new.seen }
         ensures behind { self.new.behind ≡ self.old.behind }
     {
         let Some((token, rest)) = self.split() else {
@@ -131,7 +128,7 @@ impl<'t> Counted<'t> {
 
     /// Takes a prefix operator, and answers it with its line.
     pub fn prefix(&mut self) -> Result<(UnOp, u32), Unread>
-        ensures value { Gives (read_one prefix_at self.old.seen) result self.new.seen }
+        ensures value { ReadsAs (read_one prefix_at self.old.seen) result self.new.seen }
         ensures behind { self.new.behind ≡ self.old.behind }
     {
         let Some((token, rest)) = self.split() else {
@@ -146,7 +143,7 @@ impl<'t> Counted<'t> {
 
     /// Takes a binary operator of this level.
     pub fn operator(&mut self, level: u32) -> Result<BinOp, Unread>
-        ensures value { Gives (read_one (operator_at level) self.old.seen) result self.new.seen }
+        ensures value { ReadsAs (read_one (operator_at level) self.old.seen) result self.new.seen }
         ensures behind { self.new.behind ≡ self.old.behind }
     {
         let Some((token, rest)) = self.split() else {

@@ -2,7 +2,8 @@ ghost use Rattle.std.specs.Prelude.{◌≡◌, ◌∷◌, [], MatchOption};
 ghost use Rattle.oss_grammar.specs.Reading.{begins, has, read_one};
 ghost use Rattle.oss_pragma.specs.Singles.{single_of, single_unless};
 ghost use Rattle.oss_pragma.specs.TokenValues.{access_at, begins_expression, end_at, fold_at, label_at, name_at, reduction_at, start_at, symbol_at, word_at};
-ghost use Rattle.oss_pragma.specs.Told.{Gives};
+ghost use Rattle.oss_pragma.specs.Told.{ReadsAs};
+ghost use Rattle.oss_pragma.specs.declared.cursor.Unread.TheVariants.{Memory};
 
 use crate::kinds::{
     Once, access, expression_begins, fold, is_end, is_start, label, named, once_is, reduction,
@@ -12,12 +13,23 @@ use oss_syntax::{Bytes, Mode, Name, Op, Token};
 use std::alloc::{AllocError, Global};
 use std::marker::Model;
 
-/// Why nothing was read: at a token that fits nowhere, at one that passes a limit, or since memory is wanting.
+/// Why nothing was read.
 #[derive(Debug, Drop)]
 pub enum Unread {
+    /// At a token that fits nowhere, or at the end of the tokens.
     Syntax,
+    /// At a token that passes a limit.
     Deep,
+    /// For want of memory.
     Memory(AllocError),
+}
+
+impl From<AllocError> for Unread {
+    ghost from_gives = { λ e unread. unread ≡ Memory e };
+
+    fn from(e: AllocError) -> Unread {
+        Unread::Memory(e)
+    }
 }
 
 /// A name, and its line.
@@ -75,7 +87,7 @@ impl<'t> Cursor<'t> {
 
     /// Takes this symbol, and answers its line.
     pub fn symbol(&mut self, symbol: &[u8]) -> Result<u32, Unread>
-        ensures { Gives (read_one (symbol_at symbol.now) self.old) result self.new }
+        ensures { ReadsAs (read_one (symbol_at symbol.now) self.old) result self.new }
     {
         let Some((token, rest)) = self.left.split_first() else {
             return Err(Unread::Syntax);
@@ -89,7 +101,7 @@ impl<'t> Cursor<'t> {
 
     /// Takes the name with these bytes, and answers its line.
     pub fn word(&mut self, word: &[u8]) -> Result<u32, Unread>
-        ensures { Gives (read_one (word_at word.now) self.old) result self.new }
+        ensures { ReadsAs (read_one (word_at word.now) self.old) result self.new }
     {
         let Some((token, rest)) = self.left.split_first() else {
             return Err(Unread::Syntax);
@@ -103,7 +115,7 @@ impl<'t> Cursor<'t> {
 
     /// Takes the first token of a pragma, and answers its line.
     pub fn pragma_start(&mut self) -> Result<u32, Unread>
-        ensures { Gives (read_one start_at self.old) result self.new }
+        ensures { ReadsAs (read_one start_at self.old) result self.new }
     {
         let Some((token, rest)) = self.left.split_first() else {
             return Err(Unread::Syntax);
@@ -117,7 +129,7 @@ impl<'t> Cursor<'t> {
 
     /// Takes the last token of a pragma, and answers its line.
     pub fn pragma_end(&mut self) -> Result<u32, Unread>
-        ensures { Gives (read_one end_at self.old) result self.new }
+        ensures { ReadsAs (read_one end_at self.old) result self.new }
     {
         let Some((token, rest)) = self.left.split_first() else {
             return Err(Unread::Syntax);
@@ -131,37 +143,31 @@ impl<'t> Cursor<'t> {
 
     /// Takes a name.
     pub fn name(&mut self, alloc: Global) -> Result<Named, Unread>
-        ensures { Gives (read_one name_at self.old) result self.new }
+        ensures { ReadsAs (read_one name_at self.old) result self.new }
     {
         let Some((token, rest)) = self.left.split_first() else {
             return Err(Unread::Syntax);
         };
-        let named = match named(alloc, &token.what, token.line) {
-            Ok(named) => named,
-            Err(unread) => return Err(unread),
-        };
+        let named = named(alloc, &token.what, token.line)?;
         self.left = rest;
         Ok(named)
     }
 
     /// Takes what a label is made of.
     pub fn label(&mut self, alloc: Global) -> Result<Bytes, Unread>
-        ensures { Gives (read_one label_at self.old) result self.new }
+        ensures { ReadsAs (read_one label_at self.old) result self.new }
     {
         let Some((token, rest)) = self.left.split_first() else {
             return Err(Unread::Syntax);
         };
-        let label = match label(alloc, &token.what) {
-            Ok(label) => label,
-            Err(unread) => return Err(unread),
-        };
+        let label = label(alloc, &token.what)?;
         self.left = rest;
         Ok(label)
     }
 
     /// Takes the word of a dependency.
     pub fn access(&mut self) -> Result<(Mode, bool), Unread>
-        ensures { Gives (read_one access_at self.old) result self.new }
+        ensures { ReadsAs (read_one access_at self.old) result self.new }
     {
         let Some((token, rest)) = self.left.split_first() else {
             return Err(Unread::Syntax);
@@ -175,7 +181,7 @@ impl<'t> Cursor<'t> {
 
     /// Takes the word of a reduction, and answers whether it is strong.
     pub fn reduction(&mut self) -> Result<bool, Unread>
-        ensures { Gives (read_one reduction_at self.old) result self.new }
+        ensures { ReadsAs (read_one reduction_at self.old) result self.new }
     {
         let Some((token, rest)) = self.left.split_first() else {
             return Err(Unread::Syntax);
@@ -189,7 +195,7 @@ impl<'t> Cursor<'t> {
 
     /// Takes the operator of a reduction.
     pub fn fold(&mut self) -> Result<Op, Unread>
-        ensures { Gives (read_one fold_at self.old) result self.new }
+        ensures { ReadsAs (read_one fold_at self.old) result self.new }
     {
         let Some((token, rest)) = self.left.split_first() else {
             return Err(Unread::Syntax);
@@ -203,7 +209,7 @@ impl<'t> Cursor<'t> {
 
     /// Takes the word of a clause that stands once at most, where it does not stand already, and answers its line.
     pub fn once(&mut self, once: Once, already: bool) -> Result<u32, Unread>
-        ensures { Gives (read_one (single_unless already (single_of once)) self.old) result self.new }
+        ensures { ReadsAs (read_one (single_unless already (single_of once)) self.old) result self.new }
     {
         let Some((token, rest)) = self.left.split_first() else {
             return Err(Unread::Syntax);

@@ -3,7 +3,7 @@
 ghost use Rattle.std.specs.Prelude.{◌≡◌, ◌≤◌, IfOk};
 ghost use Rattle.oss_pragma.specs.ExpressionReading.{indexed, joined_to, prefixed_by, read_arguments, read_brackets, read_call, read_index, read_list, read_more, read_named, read_next, read_operation, read_operations, read_postfix, read_primary, read_unary, read_whole};
 ghost use Rattle.oss_pragma.specs.Operands.{read_above, read_operand};
-ghost use Rattle.oss_pragma.specs.Told.{Gives};
+ghost use Rattle.oss_pragma.specs.Told.{ReadsAs};
 
 use crate::counted::Counted;
 use crate::cursor::{Named, Unread};
@@ -17,40 +17,28 @@ const BINARY_LEVELS: u32 = 10;
 #[cycle(expression)]
 #[tactic(auto, unfolding(crate::specs::ExpressionReading::read_arguments))]
 fn arguments(alloc: Global, levels: u32, tokens: &mut Counted<'_>) -> Result<List<Expr>, Unread>
-    ensures value { Gives (read_arguments (read_whole levels) tokens.old.seen) result tokens.new.seen }
+    ensures value { ReadsAs (read_arguments (read_whole levels) tokens.old.seen) result tokens.new.seen }
     ensures behind { tokens.new.behind ≡ tokens.old.behind }
 {
     if tokens.begins_with_symbol(b")") {
-        return match tokens.symbol(b")") {
-            Ok(_) => Ok(List::new(alloc)),
-            Err(unread) => Err(unread),
-        };
+        tokens.symbol(b")")?;
+        return Ok(List::new(alloc));
     }
-    let values = match values(alloc, levels, tokens) {
-        Ok(values) => values,
-        Err(unread) => return Err(unread),
-    };
-    match tokens.symbol(b")") {
-        Ok(_) => Ok(values),
-        Err(unread) => Err(unread),
-    }
+    let values = values(alloc, levels, tokens)?;
+    tokens.symbol(b")")?;
+    Ok(values)
 }
 
 /// expr { "," expr }
 #[cycle(expression)]
 fn values(alloc: Global, levels: u32, tokens: &mut Counted<'_>) -> Result<List<Expr>, Unread>
-    ensures value { Gives (read_list (read_whole levels) tokens.old.seen) result tokens.new.seen }
+    ensures value { ReadsAs (read_list (read_whole levels) tokens.old.seen) result tokens.new.seen }
     ensures behind { tokens.new.behind ≡ tokens.old.behind }
 {
-    let first = match whole(alloc, levels, tokens) {
-        Ok(first) => first,
-        Err(unread) => return Err(unread),
-    };
+    let first = whole(alloc, levels, tokens)?;
     let mut found = List::new(alloc);
-    match found.push(first) {
-        Ok(()) => more_values(alloc, levels, found, tokens),
-        Err(e) => Err(Unread::Memory(e)),
-    }
+    found.push(first)?;
+    more_values(alloc, levels, found, tokens)
 }
 
 /// { "," expr }, behind the expressions that were found
@@ -61,7 +49,7 @@ fn more_values(
     mut found: List<Expr>,
     tokens: &mut Counted<'_>,
 ) -> Result<List<Expr>, Unread>
-    ensures value { Gives (read_more (read_whole levels) found tokens.old.seen) result tokens.new.seen }
+    ensures value { ReadsAs (read_more (read_whole levels) found tokens.old.seen) result tokens.new.seen }
     ensures behind { tokens.new.behind ≡ tokens.old.behind }
 {
     'values: while tokens.begins_with_symbol(b",") {
@@ -69,10 +57,7 @@ fn more_values(
             Ok(next) => next,
             Err(unread) => return Err(unread),
         };
-        match found.push(next) {
-            Ok(()) => {}
-            Err(e) => return Err(Unread::Memory(e)),
-        }
+        found.push(next)?;
     }
     Ok(found)
 }
@@ -80,46 +65,36 @@ fn more_values(
 /// "," expr
 #[cycle(expression)]
 fn next_value(alloc: Global, levels: u32, tokens: &mut Counted<'_>) -> Result<Expr, Unread>
-    ensures value { Gives (read_next (read_whole levels) tokens.old.seen) result tokens.new.seen }
+    ensures value { ReadsAs (read_next (read_whole levels) tokens.old.seen) result tokens.new.seen }
     ensures behind { tokens.new.behind ≡ tokens.old.behind }
 {
-    match tokens.symbol(b",") {
-        Ok(_) => whole(alloc, levels, tokens),
-        Err(unread) => Err(unread),
-    }
+    tokens.symbol(b",")?;
+    whole(alloc, levels, tokens)
 }
 
 /// "(" arguments, behind the name of a function
 #[cycle(expression)]
 #[tactic(auto, unfolding(crate::specs::ExpressionReading::read_call))]
 fn call(alloc: Global, levels: u32, name: Named, tokens: &mut Counted<'_>) -> Result<Expr, Unread>
-    ensures value { Gives (read_call (read_whole levels) name tokens.old.seen) result tokens.new.seen }
+    ensures value { ReadsAs (read_call (read_whole levels) name tokens.old.seen) result tokens.new.seen }
     ensures behind { tokens.new.behind ≡ tokens.old.behind }
 {
-    match tokens.symbol(b"(") {
-        Ok(_) => {}
-        Err(unread) => return Err(unread),
-    }
-    match arguments(alloc, levels, tokens) {
-        Ok(values) => Ok(Expr {
-            what: ExprKind::Call(name.name, values),
-            line: name.line,
-        }),
-        Err(unread) => Err(unread),
-    }
+    tokens.symbol(b"(")?;
+    let values = arguments(alloc, levels, tokens)?;
+    Ok(Expr {
+        what: ExprKind::Call(name.name, values),
+        line: name.line,
+    })
 }
 
 /// name [ call ]
 #[cycle(expression)]
 #[tactic(auto, unfolding(crate::specs::ExpressionReading::read_named))]
 fn named(alloc: Global, levels: u32, tokens: &mut Counted<'_>) -> Result<Expr, Unread>
-    ensures value { Gives (read_named (read_whole levels) tokens.old.seen) result tokens.new.seen }
+    ensures value { ReadsAs (read_named (read_whole levels) tokens.old.seen) result tokens.new.seen }
     ensures behind { tokens.new.behind ≡ tokens.old.behind }
 {
-    let name = match tokens.name(alloc) {
-        Ok(name) => name,
-        Err(unread) => return Err(unread),
-    };
+    let name = tokens.name(alloc)?;
     if tokens.begins_with_symbol(b"(") {
         return call(alloc, levels, name, tokens);
     }
@@ -133,28 +108,20 @@ fn named(alloc: Global, levels: u32, tokens: &mut Counted<'_>) -> Result<Expr, U
 #[cycle(expression)]
 #[tactic(auto, unfolding(crate::specs::ExpressionReading::read_brackets))]
 fn brackets(alloc: Global, levels: u32, tokens: &mut Counted<'_>) -> Result<Expr, Unread>
-    ensures value { Gives (read_brackets (read_whole levels) tokens.old.seen) result tokens.new.seen }
+    ensures value { ReadsAs (read_brackets (read_whole levels) tokens.old.seen) result tokens.new.seen }
     ensures behind { tokens.new.behind ≡ tokens.old.behind }
 {
-    match tokens.symbol(b"(") {
-        Ok(_) => {}
-        Err(unread) => return Err(unread),
-    }
-    let inner = match whole(alloc, levels, tokens) {
-        Ok(inner) => inner,
-        Err(unread) => return Err(unread),
-    };
-    match tokens.symbol(b")") {
-        Ok(_) => Ok(inner),
-        Err(unread) => Err(unread),
-    }
+    tokens.symbol(b"(")?;
+    let inner = whole(alloc, levels, tokens)?;
+    tokens.symbol(b")")?;
+    Ok(inner)
 }
 
 /// number | name [ call ] | "(" expr ")"
 #[cycle(expression)]
 #[tactic(auto, unfolding(crate::specs::ExpressionReading::read_primary))]
 fn primary(alloc: Global, levels: u32, tokens: &mut Counted<'_>) -> Result<Expr, Unread>
-    ensures value { Gives (read_primary (read_whole levels) tokens.old.seen) result tokens.new.seen }
+    ensures value { ReadsAs (read_primary (read_whole levels) tokens.old.seen) result tokens.new.seen }
     ensures behind { tokens.new.behind ≡ tokens.old.behind }
 {
     if tokens.begins_with_number() {
@@ -170,49 +137,32 @@ fn primary(alloc: Global, levels: u32, tokens: &mut Counted<'_>) -> Result<Expr,
 #[cycle(expression)]
 #[tactic(auto, unfolding(crate::specs::ExpressionReading::read_index))]
 fn index(alloc: Global, levels: u32, tokens: &mut Counted<'_>) -> Result<Expr, Unread>
-    ensures value { Gives (read_index (read_whole levels) tokens.old.seen) result tokens.new.seen }
+    ensures value { ReadsAs (read_index (read_whole levels) tokens.old.seen) result tokens.new.seen }
     ensures behind { tokens.new.behind ≡ tokens.old.behind }
 {
-    match tokens.symbol(b"[") {
-        Ok(_) => {}
-        Err(unread) => return Err(unread),
-    }
-    let inner = match whole(alloc, levels, tokens) {
-        Ok(inner) => inner,
-        Err(unread) => return Err(unread),
-    };
-    match tokens.symbol(b"]") {
-        Ok(_) => Ok(inner),
-        Err(unread) => Err(unread),
-    }
+    tokens.symbol(b"[")?;
+    let inner = whole(alloc, levels, tokens)?;
+    tokens.symbol(b"]")?;
+    Ok(inner)
 }
 
 /// primary [ "[" expr "]" ]
 #[cycle(expression)]
 #[tactic(auto, unfolding(crate::specs::ExpressionReading::read_postfix))]
 fn postfix(alloc: Global, levels: u32, tokens: &mut Counted<'_>) -> Result<Expr, Unread>
-    ensures value { Gives (read_postfix (read_whole levels) tokens.old.seen) result tokens.new.seen }
+    ensures value { ReadsAs (read_postfix (read_whole levels) tokens.old.seen) result tokens.new.seen }
     ensures behind { tokens.new.behind ≡ tokens.old.behind }
 {
-    let base = match primary(alloc, levels, tokens) {
-        Ok(base) => base,
-        Err(unread) => return Err(unread),
-    };
+    let base = primary(alloc, levels, tokens)?;
     if !tokens.begins_with_symbol(b"[") {
         return Ok(base);
     }
-    let at = match index(alloc, levels, tokens) {
-        Ok(at) => at,
-        Err(unread) => return Err(unread),
-    };
-    match element(alloc, base, at) {
-        Ok(element) => Ok(element),
-        Err(e) => Err(Unread::Memory(e)),
-    }
+    let at = index(alloc, levels, tokens)?;
+    Ok(element(alloc, base, at)?)
 }
 
-/// The element of an array at a place.
-fn element(alloc: Global, base: Expr, at: Expr) -> Result<Expr, AllocError>
+/// The element of an array at a place; `Err` only for want of memory.
+pub fn element(alloc: Global, base: Expr, at: Expr) -> Result<Expr, AllocError>
     ensures { IfOk result (λ element. element ≡ indexed base at) }
 {
     let line = base.line;
@@ -226,24 +176,15 @@ fn element(alloc: Global, base: Expr, at: Expr) -> Result<Expr, AllocError>
 #[cycle(expression)]
 #[tactic(auto, unfolding(crate::specs::ExpressionReading::read_prefixed))]
 fn operand(alloc: Global, levels: u32, tokens: &mut Counted<'_>) -> Result<Expr, Unread>
-    ensures value { Gives (read_operand levels tokens.old.seen) result tokens.new.seen }
+    ensures value { ReadsAs (read_operand levels tokens.old.seen) result tokens.new.seen }
     ensures behind { tokens.new.behind ≡ tokens.old.behind }
 {
     if !tokens.begins_with_prefix() {
         return postfix(alloc, levels, tokens);
     }
-    let sign = match tokens.prefix() {
-        Ok(sign) => sign,
-        Err(unread) => return Err(unread),
-    };
-    let behind = match unary(alloc, levels, tokens) {
-        Ok(behind) => behind,
-        Err(unread) => return Err(unread),
-    };
-    match signed(alloc, sign, behind) {
-        Ok(signed) => Ok(signed),
-        Err(e) => Err(Unread::Memory(e)),
-    }
+    let sign = tokens.prefix()?;
+    let behind = unary(alloc, levels, tokens)?;
+    Ok(signed(alloc, sign, behind)?)
 }
 
 /// An operand with a prefix, which stands on a line.
@@ -268,17 +209,12 @@ fn operation(
     tokens: &mut Counted<'_>,
 ) -> Result<(BinOp, Expr), Unread>
     requires { more ≤ 9 }
-    ensures value { Gives (read_operation level (read_above more levels) tokens.old.seen) result tokens.new.seen }
+    ensures value { ReadsAs (read_operation level (read_above more levels) tokens.old.seen) result tokens.new.seen }
     ensures behind { tokens.new.behind ≡ tokens.old.behind }
 {
-    let operator = match tokens.operator(level) {
-        Ok(operator) => operator,
-        Err(unread) => return Err(unread),
-    };
-    match above(alloc, levels, more, tokens) {
-        Ok(right) => Ok((operator, right)),
-        Err(unread) => Err(unread),
-    }
+    let operator = tokens.operator(level)?;
+    let right = above(alloc, levels, more, tokens)?;
+    Ok((operator, right))
 }
 
 /// Operations of a level behind a left side, from left to right.
@@ -292,7 +228,7 @@ fn operations(
     tokens: &mut Counted<'_>,
 ) -> Result<Expr, Unread>
     requires { more ≤ 9 }
-    ensures value { Gives (read_operations level (read_above more levels) left tokens.old.seen) result tokens.new.seen }
+    ensures value { ReadsAs (read_operations level (read_above more levels) left tokens.old.seen) result tokens.new.seen }
     ensures behind { tokens.new.behind ≡ tokens.old.behind }
 {
     let mut value = left;
@@ -301,10 +237,7 @@ fn operations(
             Ok(operation) => operation,
             Err(unread) => return Err(unread),
         };
-        value = match joined(alloc, value, operator, right) {
-            Ok(joined) => joined,
-            Err(e) => return Err(Unread::Memory(e)),
-        };
+        value = joined(alloc, value, operator, right)?;
     }
     Ok(value)
 }
@@ -328,7 +261,7 @@ fn joined(alloc: Global, left: Expr, operator: BinOp, right: Expr) -> Result<Exp
 #[cycle(expression)]
 fn above(alloc: Global, levels: u32, more: u32, tokens: &mut Counted<'_>) -> Result<Expr, Unread>
     requires { more ≤ 10 }
-    ensures value { Gives (read_above more levels tokens.old.seen) result tokens.new.seen }
+    ensures value { ReadsAs (read_above more levels tokens.old.seen) result tokens.new.seen }
     ensures behind { tokens.new.behind ≡ tokens.old.behind }
 {
     if more == 0 {
@@ -344,7 +277,7 @@ fn above(alloc: Global, levels: u32, more: u32, tokens: &mut Counted<'_>) -> Res
 /// What stands behind a prefix, with so many levels.
 #[cycle(expression)]
 fn unary(alloc: Global, levels: u32, tokens: &mut Counted<'_>) -> Result<Expr, Unread>
-    ensures value { Gives (read_unary levels tokens.old.seen) result tokens.new.seen }
+    ensures value { ReadsAs (read_unary levels tokens.old.seen) result tokens.new.seen }
     ensures behind { tokens.new.behind ≡ tokens.old.behind }
 {
     if levels == 0 {
@@ -360,7 +293,7 @@ fn unary(alloc: Global, levels: u32, tokens: &mut Counted<'_>) -> Result<Expr, U
 /// A whole expression, with so many levels.
 #[cycle(expression)]
 pub fn whole(alloc: Global, levels: u32, tokens: &mut Counted<'_>) -> Result<Expr, Unread>
-    ensures value { Gives (read_whole levels tokens.old.seen) result tokens.new.seen }
+    ensures value { ReadsAs (read_whole levels tokens.old.seen) result tokens.new.seen }
     ensures behind { tokens.new.behind ≡ tokens.old.behind }
 {
     if levels == 0 {

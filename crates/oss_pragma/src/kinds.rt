@@ -28,13 +28,7 @@ pub fn symbol_is(symbol: &[u8], what: &TokenKind) -> bool
 {
     match what {
         TokenKind::Symbol(word) => word.as_slice() == symbol,
-        TokenKind::Name(_) => false,
-        TokenKind::Keyword(_) => false,
-        TokenKind::Number(_, _) => false,
-        TokenKind::Text(_) => false,
-        TokenKind::PragmaOss => false,
-        TokenKind::PragmaEnd => false,
-        TokenKind::Directive => false,
+        _ => false,
     }
 }
 
@@ -44,13 +38,7 @@ pub fn keyword_is(keyword: &[u8], what: &TokenKind) -> bool
 {
     match what {
         TokenKind::Keyword(word) => word.as_slice() == keyword,
-        TokenKind::Name(_) => false,
-        TokenKind::Symbol(_) => false,
-        TokenKind::Number(_, _) => false,
-        TokenKind::Text(_) => false,
-        TokenKind::PragmaOss => false,
-        TokenKind::PragmaEnd => false,
-        TokenKind::Directive => false,
+        _ => false,
     }
 }
 
@@ -60,13 +48,7 @@ pub fn word_is(word: &[u8], what: &TokenKind) -> bool
 {
     match what {
         TokenKind::Name(name) => name.as_slice() == word,
-        TokenKind::Keyword(_) => false,
-        TokenKind::Symbol(_) => false,
-        TokenKind::Number(_, _) => false,
-        TokenKind::Text(_) => false,
-        TokenKind::PragmaOss => false,
-        TokenKind::PragmaEnd => false,
-        TokenKind::Directive => false,
+        _ => false,
     }
 }
 
@@ -74,48 +56,21 @@ pub fn word_is(word: &[u8], what: &TokenKind) -> bool
 pub fn is_start(what: &TokenKind) -> bool
     ensures { result ≡ is_some (start_in what.now 0) }
 {
-    match what {
-        TokenKind::PragmaOss => true,
-        TokenKind::Name(_) => false,
-        TokenKind::Keyword(_) => false,
-        TokenKind::Symbol(_) => false,
-        TokenKind::Number(_, _) => false,
-        TokenKind::Text(_) => false,
-        TokenKind::PragmaEnd => false,
-        TokenKind::Directive => false,
-    }
+    matches!(what, TokenKind::PragmaOss)
 }
 
 /// Whether this is the last token of a pragma.
 pub fn is_end(what: &TokenKind) -> bool
     ensures { result ≡ is_some (end_in what.now 0) }
 {
-    match what {
-        TokenKind::PragmaEnd => true,
-        TokenKind::Name(_) => false,
-        TokenKind::Keyword(_) => false,
-        TokenKind::Symbol(_) => false,
-        TokenKind::Number(_, _) => false,
-        TokenKind::Text(_) => false,
-        TokenKind::PragmaOss => false,
-        TokenKind::Directive => false,
-    }
+    matches!(what, TokenKind::PragmaEnd)
 }
 
 /// Whether this is a name.
 pub fn is_name(what: &TokenKind) -> bool
     ensures { result ≡ is_some (named_in what.now 0) }
 {
-    match what {
-        TokenKind::Name(_) => true,
-        TokenKind::Keyword(_) => false,
-        TokenKind::Symbol(_) => false,
-        TokenKind::Number(_, _) => false,
-        TokenKind::Text(_) => false,
-        TokenKind::PragmaOss => false,
-        TokenKind::PragmaEnd => false,
-        TokenKind::Directive => false,
-    }
+    matches!(what, TokenKind::Name(_))
 }
 
 /// The name that this is, with its line.
@@ -123,17 +78,11 @@ pub fn named(alloc: Global, what: &TokenKind, line: u32) -> Result<Named, Unread
     ensures { Makes (named_in what.now line) result }
 {
     match what {
-        TokenKind::Name(name) => match Name::from_slice(alloc, name.as_slice()) {
-            Ok(name) => Ok(Named { name, line }),
-            Err(e) => Err(Unread::Memory(e)),
-        },
-        TokenKind::Keyword(_) => Err(Unread::Syntax),
-        TokenKind::Symbol(_) => Err(Unread::Syntax),
-        TokenKind::Number(_, _) => Err(Unread::Syntax),
-        TokenKind::Text(_) => Err(Unread::Syntax),
-        TokenKind::PragmaOss => Err(Unread::Syntax),
-        TokenKind::PragmaEnd => Err(Unread::Syntax),
-        TokenKind::Directive => Err(Unread::Syntax),
+        TokenKind::Name(name) => Ok(Named {
+            name: Name::from_slice(alloc, name.as_slice())?,
+            line,
+        }),
+        _ => Err(Unread::Syntax),
     }
 }
 
@@ -146,13 +95,7 @@ pub fn number(what: &TokenKind, line: u32) -> Option<Expr>
             what: ExprKind::Number(*value, *unsigned),
             line,
         }),
-        TokenKind::Name(_) => None,
-        TokenKind::Keyword(_) => None,
-        TokenKind::Symbol(_) => None,
-        TokenKind::Text(_) => None,
-        TokenKind::PragmaOss => None,
-        TokenKind::PragmaEnd => None,
-        TokenKind::Directive => None,
+        _ => None,
     }
 }
 
@@ -160,16 +103,7 @@ pub fn number(what: &TokenKind, line: u32) -> Option<Expr>
 pub fn is_number(what: &TokenKind) -> bool
     ensures { result ≡ is_some (number_in what.now 0) }
 {
-    match what {
-        TokenKind::Number(_, _) => true,
-        TokenKind::Name(_) => false,
-        TokenKind::Keyword(_) => false,
-        TokenKind::Symbol(_) => false,
-        TokenKind::Text(_) => false,
-        TokenKind::PragmaOss => false,
-        TokenKind::PragmaEnd => false,
-        TokenKind::Directive => false,
-    }
+    matches!(what, TokenKind::Number(_, _))
 }
 
 /// The bytes of what a label is made of.
@@ -177,20 +111,9 @@ pub fn label(alloc: Global, what: &TokenKind) -> Result<Bytes, Unread>
     ensures { Makes (label_in what.now) result }
 {
     match what {
-        TokenKind::Name(name) => match Bytes::from_slice(alloc, name.as_slice()) {
-            Ok(bytes) => Ok(bytes),
-            Err(e) => Err(Unread::Memory(e)),
-        },
-        TokenKind::Text(text) => match Bytes::from_slice(alloc, text.as_slice()) {
-            Ok(bytes) => Ok(bytes),
-            Err(e) => Err(Unread::Memory(e)),
-        },
-        TokenKind::Keyword(_) => Err(Unread::Syntax),
-        TokenKind::Symbol(_) => Err(Unread::Syntax),
-        TokenKind::Number(_, _) => Err(Unread::Syntax),
-        TokenKind::PragmaOss => Err(Unread::Syntax),
-        TokenKind::PragmaEnd => Err(Unread::Syntax),
-        TokenKind::Directive => Err(Unread::Syntax),
+        TokenKind::Name(name) => Ok(Bytes::from_slice(alloc, name.as_slice())?),
+        TokenKind::Text(text) => Ok(Bytes::from_slice(alloc, text.as_slice())?),
+        _ => Err(Unread::Syntax),
     }
 }
 

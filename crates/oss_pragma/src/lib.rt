@@ -14,8 +14,6 @@ mod pragmas;
 pub mod reading;
 mod refusals;
 mod sections;
-#[cfg(test)]
-mod tests;
 
 pub use calls::{expression, pragma};
 pub use laws::{a_pragma_has_one_answer, an_expression_has_one_answer};

@@ -4,7 +4,7 @@ ghost use Rattle.std.specs.Prelude.{◌≡◌, ◌≤◌, true, false, MatchOpti
 ghost use Rattle.oss_grammar.specs.Reading.{from_count, passed, read_counted};
 ghost use Rattle.oss_grammar.specs.Levels.{is_operator};
 ghost use Rattle.oss_pragma.specs.ExpressionReading.{read_expression, read_whole};
-ghost use Rattle.oss_pragma.specs.Told.{Gives};
+ghost use Rattle.oss_pragma.specs.Told.{ReadsAs};
 
 use crate::counted::{Counted, counts};
 use crate::cursor::{Cursor, Unread};
@@ -20,7 +20,7 @@ const MOST_OPERATORS: u32 = 256;
 
 /// expr, with at most 64 levels and 256 operators
 pub fn expression(alloc: Global, tokens: &mut Cursor<'_>) -> Result<Expr, Unread>
-    ensures { Gives (read_expression tokens.old) result tokens.new }
+    ensures { ReadsAs (read_expression tokens.old) result tokens.new }
 {
     counted(alloc, MOST_LEVELS, MOST_OPERATORS, tokens)
 }
@@ -33,7 +33,7 @@ fn counted(
     tokens: &mut Cursor<'_>,
 ) -> Result<Expr, Unread>
     requires { operators ≤ 1000 }
-    ensures { Gives (read_counted is_operator operators (read_whole levels) tokens.old) result tokens.new }
+    ensures { ReadsAs (read_counted is_operator operators (read_whole levels) tokens.old) result tokens.new }
 {
     let all = tokens.left();
     let mut seen = Counted::new(all, operators + 1);

@@ -5,7 +5,7 @@ ghost use Rattle.oss_grammar.specs.Reading.{begins, read_one, read_then};
 ghost use Rattle.oss_pragma.specs.ExpressionReading.{read_expression};
 ghost use Rattle.oss_pragma.specs.PragmaReading.{goes_on_with_depend, read_after_comma, read_depend, read_depends, read_more_depends, read_on, read_pragma, read_release, read_task, read_taskwait};
 ghost use Rattle.oss_pragma.specs.TokenValues.{start_at};
-ghost use Rattle.oss_pragma.specs.Told.{Gives};
+ghost use Rattle.oss_pragma.specs.Told.{ReadsAs};
 
 use crate::clauses::{clauses, depend};
 use crate::cursor::{Cursor, Unread};
@@ -17,71 +17,46 @@ use std::alloc::Global;
 /// "task" { [ "," ] clause } end, behind the first token of a pragma with this line
 #[tactic(auto, unfolding(crate::specs::PragmaReading::read_task))]
 fn task(alloc: Global, line: u32, tokens: &mut Cursor<'_>) -> Result<Directive, Unread>
-    ensures { Gives (read_task read_expression line tokens.old) result tokens.new }
+    ensures { ReadsAs (read_task read_expression line tokens.old) result tokens.new }
 {
-    match tokens.word(b"task") {
-        Ok(_) => {}
-        Err(unread) => return Err(unread),
-    }
-    let clauses = match clauses(alloc, tokens) {
-        Ok(clauses) => clauses,
-        Err(unread) => return Err(unread),
-    };
-    match tokens.pragma_end() {
-        Ok(_) => Ok(Directive::Task(TaskMark { clauses, line })),
-        Err(unread) => Err(unread),
-    }
+    tokens.word(b"task")?;
+    let clauses = clauses(alloc, tokens)?;
+    tokens.pragma_end()?;
+    Ok(Directive::Task(TaskMark { clauses, line }))
 }
 
 /// "on" "(" sections ")" end
 #[tactic(auto, unfolding(crate::specs::PragmaReading::read_on))]
 fn on(alloc: Global, tokens: &mut Cursor<'_>) -> Result<List<Section>, Unread>
-    ensures { Gives (read_on read_expression tokens.old) result tokens.new }
+    ensures { ReadsAs (read_on read_expression tokens.old) result tokens.new }
 {
-    match tokens.word(b"on") {
-        Ok(_) => {}
-        Err(unread) => return Err(unread),
-    }
-    let sections = match bracketed_sections(alloc, tokens) {
-        Ok(sections) => sections,
-        Err(unread) => return Err(unread),
-    };
-    match tokens.pragma_end() {
-        Ok(_) => Ok(sections),
-        Err(unread) => Err(unread),
-    }
+    tokens.word(b"on")?;
+    let sections = bracketed_sections(alloc, tokens)?;
+    tokens.pragma_end()?;
+    Ok(sections)
 }
 
 /// "taskwait" [ "on" "(" sections ")" ] end
 #[tactic(auto, unfolding(crate::specs::PragmaReading::read_taskwait))]
 fn task_wait(alloc: Global, tokens: &mut Cursor<'_>) -> Result<Directive, Unread>
-    ensures { Gives (read_taskwait read_expression tokens.old) result tokens.new }
+    ensures { ReadsAs (read_taskwait read_expression tokens.old) result tokens.new }
 {
-    match tokens.word(b"taskwait") {
-        Ok(_) => {}
-        Err(unread) => return Err(unread),
-    }
+    tokens.word(b"taskwait")?;
     if tokens.begins_with_word(b"on") {
-        return match on(alloc, tokens) {
-            Ok(sections) => Ok(Directive::TaskWait(Some(sections))),
-            Err(unread) => Err(unread),
-        };
+        let sections = on(alloc, tokens)?;
+        return Ok(Directive::TaskWait(Some(sections)));
     }
-    match tokens.pragma_end() {
-        Ok(_) => Ok(Directive::TaskWait(None)),
-        Err(unread) => Err(unread),
-    }
+    tokens.pragma_end()?;
+    Ok(Directive::TaskWait(None))
 }
 
 /// [ "," ] depend
 fn next_depend(alloc: Global, tokens: &mut Cursor<'_>) -> Result<Clause, Unread>
-    ensures { Gives (read_after_comma (read_depend read_expression) tokens.old) result tokens.new }
+    ensures { ReadsAs (read_after_comma (read_depend read_expression) tokens.old) result tokens.new }
 {
     if tokens.begins_with_symbol(b",") {
-        return match tokens.symbol(b",") {
-            Ok(_) => depend(alloc, tokens),
-            Err(unread) => Err(unread),
-        };
+        tokens.symbol(b",")?;
+        return depend(alloc, tokens);
     }
     depend(alloc, tokens)
 }
@@ -102,17 +77,14 @@ fn more_depends(
     mut found: List<Clause>,
     tokens: &mut Cursor<'_>,
 ) -> Result<List<Clause>, Unread>
-    ensures { Gives (read_more_depends read_expression found tokens.old) result tokens.new }
+    ensures { ReadsAs (read_more_depends read_expression found tokens.old) result tokens.new }
 {
     'depends: while goes_on(&found, tokens) {
         let next = match next_depend(alloc, tokens) {
             Ok(next) => next,
             Err(unread) => return Err(unread),
         };
-        match found.push(next) {
-            Ok(()) => {}
-            Err(e) => return Err(Unread::Memory(e)),
-        }
+        found.push(next)?;
     }
     Ok(found)
 }
@@ -120,47 +92,31 @@ fn more_depends(
 /// depend { [ "," ] depend }
 #[tactic(auto, unfolding(crate::specs::PragmaReading::read_depends))]
 fn depends(alloc: Global, tokens: &mut Cursor<'_>) -> Result<List<Clause>, Unread>
-    ensures { Gives (read_depends read_expression tokens.old) result tokens.new }
+    ensures { ReadsAs (read_depends read_expression tokens.old) result tokens.new }
 {
-    let first = match depend(alloc, tokens) {
-        Ok(first) => first,
-        Err(unread) => return Err(unread),
-    };
+    let first = depend(alloc, tokens)?;
     let mut found = List::new(alloc);
-    match found.push(first) {
-        Ok(()) => more_depends(alloc, found, tokens),
-        Err(e) => Err(Unread::Memory(e)),
-    }
+    found.push(first)?;
+    more_depends(alloc, found, tokens)
 }
 
 /// "release" depend { [ "," ] depend } end
 #[tactic(auto, unfolding(crate::specs::PragmaReading::read_release))]
 fn release(alloc: Global, tokens: &mut Cursor<'_>) -> Result<Directive, Unread>
-    ensures { Gives (read_release read_expression tokens.old) result tokens.new }
+    ensures { ReadsAs (read_release read_expression tokens.old) result tokens.new }
 {
-    match tokens.word(b"release") {
-        Ok(_) => {}
-        Err(unread) => return Err(unread),
-    }
-    let depends = match depends(alloc, tokens) {
-        Ok(depends) => depends,
-        Err(unread) => return Err(unread),
-    };
-    match tokens.pragma_end() {
-        Ok(_) => Ok(Directive::Release(depends)),
-        Err(unread) => Err(unread),
-    }
+    tokens.word(b"release")?;
+    let depends = depends(alloc, tokens)?;
+    tokens.pragma_end()?;
+    Ok(Directive::Release(depends))
 }
 
 /// start ( task | taskwait | release )
 #[tactic(auto, unfolding(crate::specs::PragmaReading::read_pragma))]
 pub fn pragma(alloc: Global, tokens: &mut Cursor<'_>) -> Result<Directive, Unread>
-    ensures { Gives (read_pragma read_expression tokens.old) result tokens.new }
+    ensures { ReadsAs (read_pragma read_expression tokens.old) result tokens.new }
 {
-    let line = match tokens.pragma_start() {
-        Ok(line) => line,
-        Err(unread) => return Err(unread),
-    };
+    let line = tokens.pragma_start()?;
     if tokens.begins_with_word(b"task") {
         return task(alloc, line, tokens);
     }
@@ -172,10 +128,8 @@ pub fn pragma(alloc: Global, tokens: &mut Cursor<'_>) -> Result<Directive, Unrea
 
 /// start "task" { [ "," ] clause } end
 pub fn task_pragma(alloc: Global, tokens: &mut Cursor<'_>) -> Result<Directive, Unread>
-    ensures { Gives (read_then (read_one start_at) (read_task read_expression) tokens.old) result tokens.new }
+    ensures { ReadsAs (read_then (read_one start_at) (read_task read_expression) tokens.old) result tokens.new }
 {
-    match tokens.pragma_start() {
-        Ok(line) => task(alloc, line, tokens),
-        Err(unread) => Err(unread),
-    }
+    let line = tokens.pragma_start()?;
+    task(alloc, line, tokens)
 }

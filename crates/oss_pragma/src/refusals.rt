@@ -4,7 +4,7 @@ ghost use Rattle.std.specs.Prelude.{◌≡◌, ◌≤◌, false, length};
 ghost use Rattle.oss_grammar.specs.Reading.Stop.{Deep, Syntax};
 ghost use Rattle.oss_grammar.specs.Refusals.{is_in_pragma, is_left_out, is_left_out_word, is_open_behind, is_pragma_edge, kind_of, opened_by};
 ghost use Rattle.oss_grammar.specs.Words.{is_left_out_keyword};
-ghost use Rattle.oss_pragma.specs.ToldAt.{Tells, count_before, refused_at};
+ghost use Rattle.oss_pragma.specs.ToldAt.{IsRefusalFor, count_before, refused_at};
 
 use crate::cursor::Unread;
 use crate::kinds::{symbol_is, word_is};
@@ -51,11 +51,7 @@ fn is_left_out(what: &TokenKind) -> bool
         TokenKind::Symbol(_) => {
             symbol_is(b"?", what) || symbol_is(b".", what) || symbol_is(b"->", what)
         }
-        TokenKind::Name(_) => false,
-        TokenKind::Number(_, _) => false,
-        TokenKind::Text(_) => false,
-        TokenKind::PragmaOss => false,
-        TokenKind::PragmaEnd => false,
+        _ => false,
     }
 }
 
@@ -103,16 +99,7 @@ fn kind_of(in_pragma: bool, what: &TokenKind) -> RefusedKind
 fn is_edge(what: &TokenKind) -> bool
     ensures { result ≡ is_pragma_edge what.now }
 {
-    match what {
-        TokenKind::PragmaOss => true,
-        TokenKind::PragmaEnd => true,
-        TokenKind::Name(_) => false,
-        TokenKind::Keyword(_) => false,
-        TokenKind::Number(_, _) => false,
-        TokenKind::Text(_) => false,
-        TokenKind::Symbol(_) => false,
-        TokenKind::Directive => false,
-    }
+    matches!(what, TokenKind::PragmaOss | TokenKind::PragmaEnd)
 }
 
 /// Whether a pragma is open behind a token, where one is open before it or not.
@@ -122,12 +109,7 @@ fn opened_by(what: &TokenKind, open_before: bool) -> bool
     match what {
         TokenKind::PragmaOss => true,
         TokenKind::PragmaEnd => false,
-        TokenKind::Name(_) => open_before,
-        TokenKind::Keyword(_) => open_before,
-        TokenKind::Number(_, _) => open_before,
-        TokenKind::Text(_) => open_before,
-        TokenKind::Symbol(_) => open_before,
-        TokenKind::Directive => open_before,
+        _ => open_before,
     }
 }
 
@@ -197,7 +179,7 @@ fn too_large(left: &[Token]) -> Refused
 /// The refusal of tokens of which these are left where nothing was read.
 pub fn refusal(tokens: &[Token], left: &[Token], unread: Unread) -> Refusal
     requires { length tokens.now ≤ 4294967295 }
-    ensures { Tells unread tokens.now left.now result }
+    ensures { IsRefusalFor unread tokens.now left.now result }
 {
     match unread {
         Unread::Syntax => Refusal::Refused(misfit(tokens, left)),

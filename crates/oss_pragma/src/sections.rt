@@ -1,8 +1,8 @@
 //! The reader of sections.
 
-ghost use Rattle.oss_pragma.specs.ExpressionReading.{read_expression, read_more, read_next};
-ghost use Rattle.oss_pragma.specs.PragmaReading.{read_based, read_bracketed_expression, read_bracketed_sections, read_inner, read_inner_from, read_length, read_part, read_pointed, read_section, read_sections, read_shape, read_span, read_upper};
-ghost use Rattle.oss_pragma.specs.Told.{Gives};
+ghost use Rattle.oss_pragma.specs.ExpressionReading.{read_brackets, read_expression, read_more, read_next};
+ghost use Rattle.oss_pragma.specs.PragmaReading.{read_based, read_bracketed_sections, read_inner, read_inner_from, read_length, read_part, read_pointed, read_section, read_sections, read_shape, read_span, read_upper};
+ghost use Rattle.oss_pragma.specs.Told.{ReadsAs};
 
 use crate::cursor::{Cursor, Named, Unread};
 use crate::limits::expression;
@@ -12,51 +12,39 @@ use std::alloc::Global;
 /// [ expr ], behind ":"
 #[tactic(auto, unfolding(crate::specs::PragmaReading::read_upper))]
 fn upper(alloc: Global, tokens: &mut Cursor<'_>) -> Result<Option<Expr>, Unread>
-    ensures { Gives (read_upper read_expression tokens.old) result tokens.new }
+    ensures { ReadsAs (read_upper read_expression tokens.old) result tokens.new }
 {
     if !tokens.begins_with_expression() {
         return Ok(None);
     }
-    match expression(alloc, tokens) {
-        Ok(last) => Ok(Some(last)),
-        Err(unread) => Err(unread),
-    }
+    let last = expression(alloc, tokens)?;
+    Ok(Some(last))
 }
 
 /// ":" [ expr ], behind a lower end
 #[tactic(auto, unfolding(crate::specs::PragmaReading::read_span))]
 fn span(alloc: Global, first: Option<Expr>, tokens: &mut Cursor<'_>) -> Result<Form, Unread>
-    ensures { Gives (read_span read_expression first tokens.old) result tokens.new }
+    ensures { ReadsAs (read_span read_expression first tokens.old) result tokens.new }
 {
-    match tokens.symbol(b":") {
-        Ok(_) => {}
-        Err(unread) => return Err(unread),
-    }
-    match upper(alloc, tokens) {
-        Ok(last) => Ok(Form::Span(first, last)),
-        Err(unread) => Err(unread),
-    }
+    tokens.symbol(b":")?;
+    let last = upper(alloc, tokens)?;
+    Ok(Form::Span(first, last))
 }
 
 /// ";" expr, behind a first place
 #[tactic(auto, unfolding(crate::specs::PragmaReading::read_length))]
 fn length(alloc: Global, first: Expr, tokens: &mut Cursor<'_>) -> Result<Form, Unread>
-    ensures { Gives (read_length read_expression first tokens.old) result tokens.new }
+    ensures { ReadsAs (read_length read_expression first tokens.old) result tokens.new }
 {
-    match tokens.symbol(b";") {
-        Ok(_) => {}
-        Err(unread) => return Err(unread),
-    }
-    match expression(alloc, tokens) {
-        Ok(count) => Ok(Form::Length(first, count)),
-        Err(unread) => Err(unread),
-    }
+    tokens.symbol(b";")?;
+    let count = expression(alloc, tokens)?;
+    Ok(Form::Length(first, count))
 }
 
 /// What stands behind the first expression between the brackets.
 #[tactic(auto, unfolding(crate::specs::PragmaReading::read_inner_from))]
 fn inner_from(alloc: Global, first: Expr, tokens: &mut Cursor<'_>) -> Result<Form, Unread>
-    ensures { Gives (read_inner_from read_expression first tokens.old) result tokens.new }
+    ensures { ReadsAs (read_inner_from read_expression first tokens.old) result tokens.new }
 {
     if tokens.begins_with_symbol(b";") {
         return length(alloc, first, tokens);
@@ -70,98 +58,69 @@ fn inner_from(alloc: Global, first: Expr, tokens: &mut Cursor<'_>) -> Result<For
 /// expr | expr ";" expr | [ expr ] ":" [ expr ]
 #[tactic(auto, unfolding(crate::specs::PragmaReading::read_inner))]
 fn inner(alloc: Global, tokens: &mut Cursor<'_>) -> Result<Form, Unread>
-    ensures { Gives (read_inner read_expression tokens.old) result tokens.new }
+    ensures { ReadsAs (read_inner read_expression tokens.old) result tokens.new }
 {
     if tokens.begins_with_symbol(b":") {
         return span(alloc, None, tokens);
     }
-    match expression(alloc, tokens) {
-        Ok(first) => inner_from(alloc, first, tokens),
-        Err(unread) => Err(unread),
-    }
+    let first = expression(alloc, tokens)?;
+    inner_from(alloc, first, tokens)
 }
 
 /// "*" name
 #[tactic(auto, unfolding(crate::specs::PragmaReading::read_pointed))]
 fn pointed(alloc: Global, tokens: &mut Cursor<'_>) -> Result<Section, Unread>
-    ensures { Gives (read_pointed tokens.old) result tokens.new }
+    ensures { ReadsAs (read_pointed tokens.old) result tokens.new }
 {
-    let line = match tokens.symbol(b"*") {
-        Ok(line) => line,
-        Err(unread) => return Err(unread),
-    };
-    match tokens.name(alloc) {
-        Ok(base) => Ok(Section {
-            form: Form::Deref,
-            line,
-            base_line: base.line,
-            base: base.name,
-        }),
-        Err(unread) => Err(unread),
-    }
+    let line = tokens.symbol(b"*")?;
+    let base = tokens.name(alloc)?;
+    Ok(Section {
+        form: Form::Deref,
+        line,
+        base_line: base.line,
+        base: base.name,
+    })
 }
 
 /// "[" expr "]" name
 #[tactic(auto, unfolding(crate::specs::PragmaReading::read_shape))]
 fn shape(alloc: Global, tokens: &mut Cursor<'_>) -> Result<Section, Unread>
-    ensures { Gives (read_shape read_expression tokens.old) result tokens.new }
+    ensures { ReadsAs (read_shape read_expression tokens.old) result tokens.new }
 {
-    let line = match tokens.symbol(b"[") {
-        Ok(line) => line,
-        Err(unread) => return Err(unread),
-    };
-    let count = match expression(alloc, tokens) {
-        Ok(count) => count,
-        Err(unread) => return Err(unread),
-    };
-    match tokens.symbol(b"]") {
-        Ok(_) => {}
-        Err(unread) => return Err(unread),
-    }
-    match tokens.name(alloc) {
-        Ok(base) => Ok(Section {
-            form: Form::Shape(count),
-            line,
-            base_line: base.line,
-            base: base.name,
-        }),
-        Err(unread) => Err(unread),
-    }
+    let line = tokens.symbol(b"[")?;
+    let count = expression(alloc, tokens)?;
+    tokens.symbol(b"]")?;
+    let base = tokens.name(alloc)?;
+    Ok(Section {
+        form: Form::Shape(count),
+        line,
+        base_line: base.line,
+        base: base.name,
+    })
 }
 
 /// "[" inner "]", behind a base
 #[tactic(auto, unfolding(crate::specs::PragmaReading::read_part))]
 fn part(alloc: Global, base: Named, tokens: &mut Cursor<'_>) -> Result<Section, Unread>
-    ensures { Gives (read_part read_expression base tokens.old) result tokens.new }
+    ensures { ReadsAs (read_part read_expression base tokens.old) result tokens.new }
 {
-    match tokens.symbol(b"[") {
-        Ok(_) => {}
-        Err(unread) => return Err(unread),
-    }
-    let form = match inner(alloc, tokens) {
-        Ok(form) => form,
-        Err(unread) => return Err(unread),
-    };
-    match tokens.symbol(b"]") {
-        Ok(_) => Ok(Section {
-            form,
-            line: base.line,
-            base_line: base.line,
-            base: base.name,
-        }),
-        Err(unread) => Err(unread),
-    }
+    tokens.symbol(b"[")?;
+    let form = inner(alloc, tokens)?;
+    tokens.symbol(b"]")?;
+    Ok(Section {
+        form,
+        line: base.line,
+        base_line: base.line,
+        base: base.name,
+    })
 }
 
 /// name [ "[" inner "]" ]
 #[tactic(auto, unfolding(crate::specs::PragmaReading::read_based))]
 fn based(alloc: Global, tokens: &mut Cursor<'_>) -> Result<Section, Unread>
-    ensures { Gives (read_based read_expression tokens.old) result tokens.new }
+    ensures { ReadsAs (read_based read_expression tokens.old) result tokens.new }
 {
-    let base = match tokens.name(alloc) {
-        Ok(base) => base,
-        Err(unread) => return Err(unread),
-    };
+    let base = tokens.name(alloc)?;
     if tokens.begins_with_symbol(b"[") {
         return part(alloc, base, tokens);
     }
@@ -176,7 +135,7 @@ fn based(alloc: Global, tokens: &mut Cursor<'_>) -> Result<Section, Unread>
 /// name | "*" name | "[" expr "]" name | name "[" inner "]"
 #[tactic(auto, unfolding(crate::specs::PragmaReading::read_section))]
 fn section(alloc: Global, tokens: &mut Cursor<'_>) -> Result<Section, Unread>
-    ensures { Gives (read_section read_expression tokens.old) result tokens.new }
+    ensures { ReadsAs (read_section read_expression tokens.old) result tokens.new }
 {
     if tokens.begins_with_symbol(b"*") {
         return pointed(alloc, tokens);
@@ -189,12 +148,10 @@ fn section(alloc: Global, tokens: &mut Cursor<'_>) -> Result<Section, Unread>
 
 /// "," section
 fn next_section(alloc: Global, tokens: &mut Cursor<'_>) -> Result<Section, Unread>
-    ensures { Gives (read_next (read_section read_expression) tokens.old) result tokens.new }
+    ensures { ReadsAs (read_next (read_section read_expression) tokens.old) result tokens.new }
 {
-    match tokens.symbol(b",") {
-        Ok(_) => section(alloc, tokens),
-        Err(unread) => Err(unread),
-    }
+    tokens.symbol(b",")?;
+    section(alloc, tokens)
 }
 
 /// { "," section }, behind the sections that were found
@@ -203,17 +160,14 @@ fn more_sections(
     mut found: List<Section>,
     tokens: &mut Cursor<'_>,
 ) -> Result<List<Section>, Unread>
-    ensures { Gives (read_more (read_section read_expression) found tokens.old) result tokens.new }
+    ensures { ReadsAs (read_more (read_section read_expression) found tokens.old) result tokens.new }
 {
     'sections: while tokens.begins_with_symbol(b",") {
         let next = match next_section(alloc, tokens) {
             Ok(next) => next,
             Err(unread) => return Err(unread),
         };
-        match found.push(next) {
-            Ok(()) => {}
-            Err(e) => return Err(Unread::Memory(e)),
-        }
+        found.push(next)?;
     }
     Ok(found)
 }
@@ -221,53 +175,32 @@ fn more_sections(
 /// section { "," section }
 #[tactic(auto, unfolding(crate::specs::PragmaReading::read_sections))]
 pub fn sections(alloc: Global, tokens: &mut Cursor<'_>) -> Result<List<Section>, Unread>
-    ensures { Gives (read_sections read_expression tokens.old) result tokens.new }
+    ensures { ReadsAs (read_sections read_expression tokens.old) result tokens.new }
 {
-    let first = match section(alloc, tokens) {
-        Ok(first) => first,
-        Err(unread) => return Err(unread),
-    };
+    let first = section(alloc, tokens)?;
     let mut found = List::new(alloc);
-    match found.push(first) {
-        Ok(()) => more_sections(alloc, found, tokens),
-        Err(e) => Err(Unread::Memory(e)),
-    }
+    found.push(first)?;
+    more_sections(alloc, found, tokens)
 }
 
 /// "(" sections ")"
 #[tactic(auto, unfolding(crate::specs::PragmaReading::read_bracketed_sections))]
 pub fn bracketed_sections(alloc: Global, tokens: &mut Cursor<'_>) -> Result<List<Section>, Unread>
-    ensures { Gives (read_bracketed_sections read_expression tokens.old) result tokens.new }
+    ensures { ReadsAs (read_bracketed_sections read_expression tokens.old) result tokens.new }
 {
-    match tokens.symbol(b"(") {
-        Ok(_) => {}
-        Err(unread) => return Err(unread),
-    }
-    let sections = match sections(alloc, tokens) {
-        Ok(sections) => sections,
-        Err(unread) => return Err(unread),
-    };
-    match tokens.symbol(b")") {
-        Ok(_) => Ok(sections),
-        Err(unread) => Err(unread),
-    }
+    tokens.symbol(b"(")?;
+    let sections = sections(alloc, tokens)?;
+    tokens.symbol(b")")?;
+    Ok(sections)
 }
 
 /// "(" expr ")"
-#[tactic(auto, unfolding(crate::specs::PragmaReading::read_bracketed_expression))]
-pub fn bracketed_expression(alloc: Global, tokens: &mut Cursor<'_>) -> Result<Expr, Unread>
-    ensures { Gives (read_bracketed_expression read_expression tokens.old) result tokens.new }
+#[tactic(auto, unfolding(crate::specs::ExpressionReading::read_brackets))]
+pub fn brackets(alloc: Global, tokens: &mut Cursor<'_>) -> Result<Expr, Unread>
+    ensures { ReadsAs (read_brackets read_expression tokens.old) result tokens.new }
 {
-    match tokens.symbol(b"(") {
-        Ok(_) => {}
-        Err(unread) => return Err(unread),
-    }
-    let inner = match expression(alloc, tokens) {
-        Ok(inner) => inner,
-        Err(unread) => return Err(unread),
-    };
-    match tokens.symbol(b")") {
-        Ok(_) => Ok(inner),
-        Err(unread) => Err(unread),
-    }
+    tokens.symbol(b"(")?;
+    let inner = expression(alloc, tokens)?;
+    tokens.symbol(b")")?;
+    Ok(inner)
 }

@@ -1,6 +1,6 @@
 use Rattle.std.proofs.Common.{◌≡◌, ◌∙◌, refl, sym, true, false}
 use Rattle.oss_grammar.specs.Reading.{begins}
-use Rattle.oss_pragma.proofs.ExpressionLoops.{gives_err}
+use Rattle.oss_pragma.proofs.ExpressionLoops.{reads_as_err}
 use Rattle.oss_parse.specs.ProgramReading.{begins_program_item, read_program_items}
 use Rattle.oss_parse.proofs.ProgramLoops.{read_items_behind, repeats_items}
 use Rattle.oss_parse.proofs.programs.program_items.Goals as goal
@@ -13,7 +13,7 @@ pub returns-in-Err : goal.returns-in-Err
 unfolding read_items_behind
 returns-in-Err c =
     let starts : begins begins_program_item c.items.tokens ≡ true = sym c.begins_with_program_item.ensures ∙ c.items-test.true in
-    gives_err _ _ c.in-Err.unread _ c.in-Err.ensures (λ why e. sym c.items.invariant ∙ repeats_items.fail c.items.found c.items.tokens why starts e)
+    reads_as_err _ _ c.in-Err.unread _ c.in-Err.ensures (λ why e. sym c.items.invariant ∙ repeats_items.fail c.items.found c.items.tokens why starts e)
 
 pub items-smaller : goal.items-smaller
 items-smaller c = repeats_items.less c.items.found c.items.tokens c.in-Ok.more c.program_item.new.tokens c.in-Ok.ensures
@@ -22,7 +22,7 @@ pub items-preserved : goal.items-preserved
 unfolding read_items_behind
 items-preserved c =
     let starts : begins begins_program_item c.items.tokens ≡ true = sym c.begins_with_program_item.ensures ∙ c.items-test.true in
-    rw c.in-Ok-joined.ensures (sym (repeats_items.go c.items.found c.items.tokens c.in-Ok.more c.program_item.new.tokens starts c.in-Ok.ensures) ∙ c.items.invariant)
+    rw c.in_ok-found.ensures (sym (repeats_items.go c.items.found c.items.tokens c.in-Ok.more c.program_item.new.tokens starts c.in-Ok.ensures) ∙ c.items.invariant)
 
 pub returns : goal.returns
 unfolding read_items_behind

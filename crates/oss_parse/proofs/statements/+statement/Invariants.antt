@@ -15,8 +15,8 @@ decreases-parts l = 64 * l.levels + 1
 abbrev pub decreases-block : goal.decreases-block
 decreases-block l = 64 * l.levels + 2
 
-abbrev pub decreases-with_else : goal.decreases-with_else
-decreases-with_else l = 64 * l.levels + 1
+abbrev pub decreases-else_branch : goal.decreases-else_branch
+decreases-else_branch l = 64 * l.levels + 1
 
 abbrev pub decreases-maybe_else : goal.decreases-maybe_else
 decreases-maybe_else l = 64 * l.levels + 2
