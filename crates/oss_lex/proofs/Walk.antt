@@ -15,7 +15,7 @@ use Rattle.oss_grammar.specs.Tokens.{newlines, Front, IsFront, Tokens, Stops, Is
 use Rattle.oss_grammar.specs.Tokens.IsFront.{newline, pragma_end, gap, token, include, pragma_oss, other_pragma, directive}
 use Rattle.oss_grammar.specs.Tokens.Tokens.{done, step}
 use Rattle.oss_grammar.specs.Tokens.Stops.{here, past}
-use Rattle.oss_lex.specs.Reading.{Fault, at_front, in_head, front, front_at, Refuses, Steps}
+use Rattle.oss_lex.specs.Reading.{Fault, at_front, in_head, front, front_at, RefusesAs, StepsAs}
 use Rattle.oss_lex.proofs.Fronts.{front_fits, faulty}
 use Rattle.oss_lex.proofs.Gaps.{gap_first}
 use Rattle.oss_lex.proofs.TokenWords.{word_some}
@@ -100,7 +100,7 @@ pub left_end : (text : List ℕ) (found : List Token) (part : LinePart) (line : 
 left_end text found part line rest left over = rw append-nil at (left.goes_on [] (done (empty_from_length rest over)))
 
 -- what a refusal says of the text at which it is answered
-refused_at : (part : LinePart) (text : List ℕ) (line : ℕ) (refused : RefusedAt) (answer : Result Front Fault) → text ≢ [] → front_at part text ≡ answer → Refuses answer line refused → Stops part line text refused.kind refused.line × (refused.token ≡ 0)
+refused_at : (part : LinePart) (text : List ℕ) (line : ℕ) (refused : RefusedAt) (answer : Result Front Fault) → text ≢ [] → front_at part text ≡ answer → RefusesAs answer line refused → Stops part line text refused.kind refused.line × (refused.token ≡ 0)
 refused_at part text line refused (Ok told) more read refuses = absurd refuses
 refused_at part text line refused (Err (at_front kind)) more read refuses =
     let is : Stops part line text kind (line + 0) = here 0 (faulty part text (at_front kind) more read) in
@@ -109,7 +109,7 @@ refused_at part text line refused (Err (in_head lines)) more read refuses =
     (rw (refuses.0, refuses.1) (here lines (faulty part text (in_head lines) more read)), refuses.2)
 
 -- The text is refused here.
-pub left_fault : (text : List ℕ) (found : List Token) (part : LinePart) (line : ℕ) (rest : List ℕ) (refusal : Refusal) → IsLeft text found part line rest → (length rest == 0) ≡ false → Steps (front_at part rest) line (Err refusal) → IsReading text (Err refusal)
+pub left_fault : (text : List ℕ) (found : List Token) (part : LinePart) (line : ℕ) (rest : List ℕ) (refusal : Refusal) → IsLeft text found part line rest → (length rest == 0) ≡ false → StepsAs (front_at part rest) line (Err refusal) → IsReading text (Err refusal)
 left_fault text found part line rest (Refused refused) left more gives =
     let refused_there = refused_at part rest line refused (front_at part rest) (some_from_length rest more) refl gives in
     (left.stops refused.kind refused.line refused_there.0, refused_there.1)

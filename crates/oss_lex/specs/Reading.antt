@@ -1,5 +1,7 @@
 -- What the reader's functions answer, as functions on lists. That these are the answers of the definitions of
--- `oss_grammar` is proved of them once, in proofs/.
+-- `oss_grammar` is proved of them once, in proofs/. Read against: at the front of `0x1f;` stands a number, so `token_at` answers
+-- the number 31, signed, with `;` behind it; of `0x;` it answers `Lexical`. At the front of ` a` stands a blank of one byte, so
+-- `front_at` gives no token, no newline and the rest `a`.
 use Rattle.std.specs.Prelude.{◌≡◌, ℕ, zero, suc, ◌+◌, ◌-◌, ◌^◌, Bool, true, false, not, ◌&&◌, ◌||◌, ◌==◌, nat_lt, if◌then◌else◌, List, [], ◌∷◌, ◌++◌, length, take, drop, codes, slice_index, Option, Some, None, Result, Ok, Err}
 use Rattle.std.specs.List.{prefix_len}
 use Rattle.std.specs.Str.{bytes_eq}
@@ -188,24 +190,24 @@ front_at part (b ∷ more) =
     else (if b == 35 && is_beginning part then hash_at more
     else front_behind part (gap_len (b ∷ more)) (b ∷ more))
 
--- a function's result is this answer, at this line
-abbrev pub Gives : Answer → ℕ → Result Taken Refusal → Type 0
-Gives answer line (Ok taken) = answer ≡ Ok (taken.what, taken.rest.now)
-Gives answer line (Err (Refused refused)) = (answer ≡ Err refused.kind) × (refused.line ≡ line) × (refused.token ≡ 0)
-Gives answer line (Err (Memory error)) = Unit {0}
+-- a function answers as a function on lists did, with this line where it refuses the text; want of memory says nothing
+abbrev pub AnswersAs : Answer → ℕ → Result Taken Refusal → Type 0
+AnswersAs answer line (Ok taken) = answer ≡ Ok (taken.what, taken.rest.now)
+AnswersAs answer line (Err (Refused refused)) = (answer ≡ Err refused.kind) × (refused.line ≡ line) × (refused.token ≡ 0)
+AnswersAs answer line (Err (Memory error)) = Unit {0}
 
--- a step is this front
+-- a step shows this front
 abbrev pub Shows : Front → Step → Type 0
 Shows told step = told ≡ front step.what step.part step.lines step.rest.now
 
--- this refusal is that answer, of a text that begins at this line
-abbrev pub Refuses : Result Front Fault → ℕ → RefusedAt → Type 0
-Refuses (Ok told) line refused = ⊥
-Refuses (Err (at_front kind)) line refused = (refused.kind ≡ kind) × (refused.line ≡ line) × (refused.token ≡ 0)
-Refuses (Err (in_head lines)) line refused = (refused.kind ≡ Lexical) × (refused.line ≡ line + lines) × (refused.token ≡ 0)
+-- a refusal is this answer, of a text that begins at this line
+abbrev pub RefusesAs : Result Front Fault → ℕ → RefusedAt → Type 0
+RefusesAs (Ok told) line refused = ⊥
+RefusesAs (Err (at_front kind)) line refused = (refused.kind ≡ kind) × (refused.line ≡ line) × (refused.token ≡ 0)
+RefusesAs (Err (in_head lines)) line refused = (refused.kind ≡ Lexical) × (refused.line ≡ line + lines) × (refused.token ≡ 0)
 
--- a function's result is this front, or its refusal
-abbrev pub Steps : Result Front Fault → ℕ → Result Step Refusal → Type 0
-Steps answer line (Ok step) = answer ≡ Ok (front step.what step.part step.lines step.rest.now)
-Steps answer line (Err (Refused refused)) = Refuses answer line refused
-Steps answer line (Err (Memory error)) = Unit {0}
+-- a function steps over this front, or refuses the text as it is refused there; want of memory says nothing
+abbrev pub StepsAs : Result Front Fault → ℕ → Result Step Refusal → Type 0
+StepsAs answer line (Ok step) = answer ≡ Ok (front step.what step.part step.lines step.rest.now)
+StepsAs answer line (Err (Refused refused)) = RefusesAs answer line refused
+StepsAs answer line (Err (Memory error)) = Unit {0}

@@ -1,5 +1,5 @@
 ghost use Rattle.std.specs.Prelude.{◌≡◌, ◌≤◌, ◌<◌, ◌+◌, ◌^◌, drop, length};
-ghost use Rattle.oss_lex.specs.Reading.{Shows, Steps, front, hash_at, line_len, pragma_at};
+ghost use Rattle.oss_lex.specs.Reading.{Shows, StepsAs, front, hash_at, line_len, pragma_at};
 
 use crate::blanks::{begins_comment, blanks_len, newlines_in};
 use crate::names::word_len;
@@ -32,7 +32,7 @@ fn skip_line(what: Option<TokenKind>, lines: usize, text: &[u8]) -> Step<'_>
 #[tactic(auto, unfolding(crate::specs::Reading::pragma_at, crate::specs::Reading::pragma_behind))]
 fn read_pragma(text: &[u8], line: u32) -> Result<Step<'_>, Refusal>
     requires { line + length text.now < 2 ^ 32 }
-    ensures { Steps (pragma_at text.now) line result }
+    ensures { StepsAs (pragma_at text.now) line result }
 {
     let (blanks, behind) = text.split_at(blanks_len(text));
     let lines = newlines_in(blanks);
@@ -55,7 +55,7 @@ fn read_pragma(text: &[u8], line: u32) -> Result<Step<'_>, Refusal>
 #[tactic(auto, unfolding(crate::specs::Reading::hash_at, crate::specs::Reading::hash_behind))]
 pub fn read_directive(text: &[u8], line: u32) -> Result<Step<'_>, Refusal>
     requires { line + length text.now < 2 ^ 32 }
-    ensures { Steps (hash_at text.now) line result }
+    ensures { StepsAs (hash_at text.now) line result }
 {
     let (word, behind) = text.split_at(word_len(text));
     if word == b"include".as_slice() {

@@ -12,8 +12,6 @@ mod reader;
 mod strings;
 mod symbols;
 mod taken;
-#[cfg(test)]
-mod tests;
 
 pub use laws::a_text_has_one_reading;
 pub use oss_syntax::{Token, TokenKind};

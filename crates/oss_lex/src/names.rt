@@ -1,7 +1,7 @@
 ghost use Rattle.std.specs.Prelude.{◌≡◌, ◌≤◌, length};
 ghost use Rattle.std.specs.List.{prefix_len};
 ghost use Rattle.oss_grammar.specs.Words.{is_name_byte};
-ghost use Rattle.oss_lex.specs.Reading.{Gives, name_at};
+ghost use Rattle.oss_lex.specs.Reading.{AnswersAs, name_at};
 
 use crate::bytes::goes_on_name;
 use crate::keywords::is_reserved;
@@ -20,7 +20,7 @@ pub fn word_len(text: &[u8]) -> usize
 /// The name or keyword at the front of a text that begins with a letter.
 #[tactic(auto, unfolding(crate::specs::Reading::name_at, crate::specs::Reading::name_answer))]
 pub fn read_name(alloc: Global, text: &[u8], line: u32) -> Result<Taken<'_>, Refusal>
-    ensures { Gives (name_at text.now) line result }
+    ensures { AnswersAs (name_at text.now) line result }
 {
     let (word, rest) = text.split_at(word_len(text));
     if is_reserved(word) {

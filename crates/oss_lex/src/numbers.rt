@@ -2,7 +2,7 @@ ghost use Rattle.std.specs.Prelude.{◌≡◌, ◌≤◌, ◌<◌, ◌^◌, ℕ,
 ghost use Rattle.std.specs.List.{prefix_len};
 ghost use Rattle.std.specs.Option.{SomeIff};
 ghost use Rattle.oss_grammar.specs.Words.{digit_of, is_digit_in, is_signed_suffix, is_unsigned_suffix, value_in};
-ghost use Rattle.oss_lex.specs.Reading.{Gives, hexadecimal_of, marked, number_at, number_in, number_of, zero_number_of};
+ghost use Rattle.oss_lex.specs.Reading.{AnswersAs, hexadecimal_of, marked, number_at, number_in, number_of, zero_number_of};
 
 use crate::bytes::{begins_number, first};
 use crate::names::word_len;
@@ -154,7 +154,7 @@ fn number(word: &[u8]) -> Option<(u64, bool)>
 /// The number at the front of a text that begins with a digit.
 #[tactic(auto, unfolding(crate::specs::Reading::number_at, crate::specs::Reading::number_told))]
 pub fn read_number(text: &[u8], line: u32) -> Result<Taken<'_>, Refusal>
-    ensures { Gives (number_at text.now) line result }
+    ensures { AnswersAs (number_at text.now) line result }
 {
     let (word, rest) = text.split_at(word_len(text));
     let Some((value, unsigned)) = number(word) else {

@@ -1,6 +1,6 @@
 ghost use Rattle.std.specs.Prelude.{◌≡◌, ◌≤◌, ◌<◌, ◌+◌, ◌^◌, [], ◌++◌, OnOk, length};
 ghost use Rattle.oss_grammar.specs.Tokens.{IsReading, found_before, part_behind};
-ghost use Rattle.oss_lex.specs.Reading.{Gives, Shows, Steps, front_at, front_behind, gap_len, is_beginning, newline_at, token_at};
+ghost use Rattle.oss_lex.specs.Reading.{AnswersAs, Shows, StepsAs, front_at, front_behind, gap_len, is_beginning, newline_at, token_at};
 
 use crate::blanks::{blank_len, newlines_in};
 use crate::bytes::{begins_name, begins_number, first};
@@ -17,7 +17,7 @@ use std::alloc::{AllocError, Global};
 /// The token at the front of a text that begins on this line.
 #[tactic(auto, unfolding(crate::specs::Reading::token_at))]
 fn read_token(alloc: Global, text: &[u8], line: u32) -> Result<Taken<'_>, Refusal>
-    ensures { Gives (token_at text.now) line result }
+    ensures { AnswersAs (token_at text.now) line result }
 {
     let Some((b, more)) = first(text) else {
         return Err(no_token(line));
@@ -39,9 +39,8 @@ fn end_line(part: LinePart, rest: &[u8]) -> Step<'_>
     ensures { Shows (newline_at part rest.now) result }
 {
     let what = match part {
-        LinePart::Beginning => None,
-        LinePart::Later => None,
         LinePart::Pragma => Some(TokenKind::PragmaEnd),
+        _ => None,
     };
     Step {
         what,
@@ -56,9 +55,8 @@ fn behind_token(part: LinePart) -> LinePart
     ensures { result ≡ part_behind part }
 {
     match part {
-        LinePart::Beginning => LinePart::Later,
-        LinePart::Later => LinePart::Later,
         LinePart::Pragma => LinePart::Pragma,
+        _ => LinePart::Later,
     }
 }
 
@@ -66,17 +64,13 @@ fn behind_token(part: LinePart) -> LinePart
 fn is_first(part: LinePart) -> bool
     ensures { result ≡ is_beginning part }
 {
-    match part {
-        LinePart::Beginning => true,
-        LinePart::Later => false,
-        LinePart::Pragma => false,
-    }
+    matches!(part, LinePart::Beginning)
 }
 
 /// A blank or comment at the front of a text, else a token.
 #[tactic(auto, unfolding(crate::specs::Reading::front_behind, crate::specs::Reading::token_told))]
 fn read_word(alloc: Global, part: LinePart, text: &[u8], line: u32) -> Result<Step<'_>, Refusal>
-    ensures { Steps (front_behind part (gap_len text.now) text.now) line result }
+    ensures { StepsAs (front_behind part (gap_len text.now) text.now) line result }
 {
     let len = blank_len(text);
     if len > 0 {
@@ -88,22 +82,20 @@ fn read_word(alloc: Global, part: LinePart, text: &[u8], line: u32) -> Result<St
             rest,
         });
     }
-    match read_token(alloc, text, line) {
-        Ok(Taken { what, rest }) => Ok(Step {
-            what: Some(what),
-            part: behind_token(part),
-            lines: 0,
-            rest,
-        }),
-        Err(refusal) => Err(refusal),
-    }
+    let Taken { what, rest } = read_token(alloc, text, line)?;
+    Ok(Step {
+        what: Some(what),
+        part: behind_token(part),
+        lines: 0,
+        rest,
+    })
 }
 
 /// What stands at the front of a text.
 #[tactic(auto, unfolding(crate::specs::Reading::front_at))]
 fn read_front(alloc: Global, part: LinePart, text: &[u8], line: u32) -> Result<Step<'_>, Refusal>
     requires { line + length text.now < 2 ^ 32 }
-    ensures { Steps (front_at part text.now) line result }
+    ensures { StepsAs (front_at part text.now) line result }
 {
     let Some((b, more)) = first(text) else {
         return Err(no_token(line));

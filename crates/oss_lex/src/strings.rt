@@ -1,6 +1,6 @@
 ghost use Rattle.std.specs.Prelude.{◌≡◌, [], ◌∷◌, ◌++◌, false, OnOk};
 ghost use Rattle.oss_grammar.specs.Words.{escaped, is_escape, is_plain};
-ghost use Rattle.oss_lex.specs.Reading.{Gives, string_at};
+ghost use Rattle.oss_lex.specs.Reading.{AnswersAs, string_at};
 
 use crate::bytes::first;
 use crate::taken::{Taken, no_token};
@@ -48,7 +48,7 @@ fn add(bytes: &mut Vec<u8>, b: u8) -> Result<(), AllocError>
 /// The string behind an opening quote.
 #[tactic(auto, unfolding(crate::specs::Reading::string_at))]
 pub fn read_string(alloc: Global, text: &[u8], line: u32) -> Result<Taken<'_>, Refusal>
-    ensures { Gives (string_at false [] text.now) line result }
+    ensures { AnswersAs (string_at false [] text.now) line result }
 {
     let mut bytes = Vec::new(alloc);
     let mut rest = text;

@@ -1,6 +1,6 @@
 ghost use Rattle.std.specs.Prelude.{◌≡◌, ◌≤◌, length};
 ghost use Rattle.oss_grammar.specs.Words.{is_one, is_three, is_two};
-ghost use Rattle.oss_lex.specs.Reading.{Gives, symbol_at, symbol_len};
+ghost use Rattle.oss_lex.specs.Reading.{AnswersAs, symbol_at, symbol_len};
 
 use crate::blanks::begins_comment;
 use crate::bytes::byte_at;
@@ -92,7 +92,7 @@ fn longest_symbol(text: &[u8]) -> usize
 /// begins there, whether it ends or not, the answer is a refusal.
 #[tactic(auto, using(crate::proofs::SymbolWords::symbol_len_within), unfolding(crate::specs::Reading::symbol_at, crate::specs::Reading::symbol_told))]
 pub fn read_symbol(alloc: Global, text: &[u8], line: u32) -> Result<Taken<'_>, Refusal>
-    ensures { Gives (symbol_at text.now) line result }
+    ensures { AnswersAs (symbol_at text.now) line result }
 {
     if begins_comment(text) {
         return Err(no_token(line));

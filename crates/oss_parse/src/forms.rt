@@ -15,8 +15,8 @@ use oss_pragma::reading::{Cursor, Unread, brackets, expression};
 use oss_syntax::{Boxed, Expr, List, Stmt, StmtKind};
 use std::alloc::Global;
 
-/// The parts between the brackets of a `for`, each of which may be left out. A tree is boxed as soon as it is read, since boxes are
-/// cheap to give back where a later part is refused.
+/// The parts between the brackets of a `for`, each of which may be left out. Its statements are boxed as soon as they are read, as
+/// the tree holds them.
 #[derive(Drop)]
 pub struct ForParts {
     /// What is done before the loop.
