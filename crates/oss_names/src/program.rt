@@ -204,8 +204,7 @@ fn is_int(kind: Kind) -> bool
 {
     match kind {
         Kind::Num(number) => is_of_ints(number),
-        Kind::Pointer(_) => false,
-        Kind::Nothing => false,
+        _ => false,
     }
 }
 
@@ -213,9 +212,8 @@ fn is_nothing(kind: Kind) -> bool
     ensures { result ≡ returns_nothing kind }
 {
     match kind {
-        Kind::Num(_) => false,
-        Kind::Pointer(_) => false,
         Kind::Nothing => true,
+        _ => false,
     }
 }
 
