@@ -78,6 +78,10 @@ module _ {U : Type 0} where
   pub ends-along : (old now : List Local) (j k : Judged) (r : Result U Refusal) → k ≡ j → IsPartChecked old j r now → IsPartChecked old k r now
   ends-along old now j k r e h = subst (λ x. IsPartChecked old x r now) (sym e) h
 
+  -- a refusal that is handed on
+  pub ends-told : (old now : List Local) (j : Judged) (r s : Result U Refusal) → s ≡ r → IsPartChecked old j r now → IsPartChecked old j s now
+  ends-told old now j r s is h = subst (λ x. IsPartChecked old j x now) (sym is) h
+
 -- the statements from one on
 pub statements-left : (all : List Item) (a : Around) (locals : List Local) (ss : List Stmt) (i : ℕ) (s : Stmt) → i < length ss → s ≡ get_or ss i s
     → rules_of_all (drop i ss) all a locals ≡ then_judge (rules_of s all a locals) (λ more. rules_of_all (drop (i + 1) ss) all a more)

@@ -51,22 +51,12 @@ fn is_built_one(statement: &Stmt) -> bool
         StmtKind::Block(list) => all_are_built(list.as_slice()),
         StmtKind::Empty => true,
         StmtKind::Assign(target, None, value) => names(&target.what) && is_sum_of_names(value),
-        StmtKind::Assign(_, Some(_), _) => false,
         StmtKind::Print(_, values) => are_sums(values.as_slice()),
         StmtKind::Task(mark, body) => {
             clauses_are_built(mark.clauses.as_slice()) && is_built_one(body.get())
         }
         StmtKind::TaskWait(None) => true,
-        StmtKind::TaskWait(Some(_)) => false,
-        StmtKind::Declare(_) => false,
-        StmtKind::Call(_, _) => false,
-        StmtKind::If(_, _, _) => false,
-        StmtKind::While(_, _) => false,
-        StmtKind::For(_, _, _, _) => false,
-        StmtKind::Return(_) => false,
-        StmtKind::Break => false,
-        StmtKind::Continue => false,
-        StmtKind::Release(_) => false,
+        _ => false,
     }
 }
 
@@ -88,11 +78,7 @@ fn clause_is_built(clause: &Clause) -> bool
         Clause::Depend(mode, strong, sections) => {
             *strong && is_no_reduction(*mode) && are_whole(sections.as_slice())
         }
-        Clause::If(_) => false,
-        Clause::Final(_) => false,
-        Clause::Wait => false,
-        Clause::Label(_) => false,
-        Clause::Priority(_) => false,
+        _ => false,
     }
 }
 
@@ -100,9 +86,8 @@ fn is_no_reduction(mode: Mode) -> bool
     ensures { result ≡ is_dependency mode }
 {
     match mode {
-        Mode::Read => true,
-        Mode::Write => true,
         Mode::Fold(_) => false,
+        _ => true,
     }
 }
 
@@ -122,11 +107,7 @@ fn names_alone(form: &Form) -> bool
 {
     match form {
         Form::Whole => true,
-        Form::Deref => false,
-        Form::Shape(_) => false,
-        Form::Element(_) => false,
-        Form::Length(_, _) => false,
-        Form::Span(_, _) => false,
+        _ => false,
     }
 }
 
@@ -135,11 +116,7 @@ fn names(target: &ExprKind) -> bool
 {
     match target {
         ExprKind::Name(_) => true,
-        ExprKind::Number(_, _) => false,
-        ExprKind::Index(_, _) => false,
-        ExprKind::Unary(_, _) => false,
-        ExprKind::Binary(_, _, _) => false,
-        ExprKind::Call(_, _) => false,
+        _ => false,
     }
 }
 
@@ -163,9 +140,7 @@ fn is_sum_of_names(expr: &Expr) -> bool
         ExprKind::Binary(op, left, right) => {
             sums(*op) && is_sum_of_names(left.get()) && is_sum_of_names(right.get())
         }
-        ExprKind::Index(_, _) => false,
-        ExprKind::Unary(_, _) => false,
-        ExprKind::Call(_, _) => false,
+        _ => false,
     }
 }
 

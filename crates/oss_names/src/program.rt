@@ -45,10 +45,7 @@ pub fn check(alloc: Global, program: &Program) -> Result<Vec<u32>, Refusal>
                 }
                 cells = behind(cells, global.cells);
             }
-            Item::Function(function) => match check_function(alloc, &globals, place, function) {
-                Ok(()) => {}
-                Err(refusal) => return Err(refusal),
-            },
+            Item::Function(function) => check_function(alloc, &globals, place, function)?,
         }
         place += 1;
     }
@@ -136,10 +133,7 @@ fn check_function<'p>(
         None => {}
     }
     let mut locals = Locals::none(alloc);
-    match declare(globals, 0, function.params.as_slice(), &mut locals) {
-        Ok(()) => {}
-        Err(refusal) => return Err(refusal),
-    }
+    declare(globals, 0, function.params.as_slice(), &mut locals)?;
     let around = around_body(function.result);
     statements(globals, around, function.body.as_slice(), &mut locals)
 }
@@ -204,8 +198,7 @@ fn is_int(kind: Kind) -> bool
 {
     match kind {
         Kind::Num(number) => is_of_ints(number),
-        Kind::Pointer(_) => false,
-        Kind::Nothing => false,
+        _ => false,
     }
 }
 
@@ -213,9 +206,8 @@ fn is_nothing(kind: Kind) -> bool
     ensures { result ≡ returns_nothing kind }
 {
     match kind {
-        Kind::Num(_) => false,
-        Kind::Pointer(_) => false,
         Kind::Nothing => true,
+        _ => false,
     }
 }
 

@@ -33,11 +33,7 @@ fn sections_of(clause: &Clause) -> usize
 {
     match clause {
         Clause::Depend(_, _, sections) => sections.len(),
-        Clause::If(_) => 0,
-        Clause::Final(_) => 0,
-        Clause::Wait => 0,
-        Clause::Label(_) => 0,
-        Clause::Priority(_) => 0,
+        _ => 0,
     }
 }
 
@@ -135,10 +131,7 @@ fn is_unknown(named: Named) -> bool
 {
     match named {
         Named::Missing => true,
-        Named::Local(_) => false,
-        Named::Scalar(_) => false,
-        Named::Array(_) => false,
-        Named::Function => false,
+        _ => false,
     }
 }
 
@@ -147,12 +140,9 @@ fn begins(form: &Form) -> bool
     ensures { result ≡ begins_with_base form.now }
 {
     match form {
-        Form::Whole => true,
         Form::Deref => false,
         Form::Shape(_) => false,
-        Form::Element(_) => true,
-        Form::Length(_, _) => true,
-        Form::Span(_, _) => true,
+        _ => true,
     }
 }
 
@@ -214,10 +204,7 @@ fn is_wrong(fold: bool, form: &Form, named: Named) -> bool
 {
     match named {
         Named::Missing => false,
-        Named::Local(_) => !fits(form, named) || (fold && names_ints(named)),
-        Named::Scalar(_) => !fits(form, named) || (fold && names_ints(named)),
-        Named::Array(_) => !fits(form, named) || (fold && names_ints(named)),
-        Named::Function => !fits(form, named) || (fold && names_ints(named)),
+        _ => !fits(form, named) || (fold && names_ints(named)),
     }
 }
 
@@ -227,11 +214,7 @@ fn fits(form: &Form, named: Named) -> bool
     match form {
         Form::Whole => is_a_global(named),
         Form::Span(_, None) => is_an_array(named),
-        Form::Span(_, Some(_)) => names_elements(named),
-        Form::Deref => names_elements(named),
-        Form::Shape(_) => names_elements(named),
-        Form::Element(_) => names_elements(named),
-        Form::Length(_, _) => names_elements(named),
+        _ => names_elements(named),
     }
 }
 
@@ -239,11 +222,9 @@ fn is_a_global(named: Named) -> bool
     ensures { result ≡ is_global named }
 {
     match named {
-        Named::Missing => false,
-        Named::Local(_) => false,
         Named::Scalar(_) => true,
         Named::Array(_) => true,
-        Named::Function => false,
+        _ => false,
     }
 }
 
@@ -251,11 +232,8 @@ fn is_an_array(named: Named) -> bool
     ensures { result ≡ is_array named }
 {
     match named {
-        Named::Missing => false,
-        Named::Local(_) => false,
-        Named::Scalar(_) => false,
         Named::Array(_) => true,
-        Named::Function => false,
+        _ => false,
     }
 }
 
@@ -263,13 +241,9 @@ fn names_elements(named: Named) -> bool
     ensures { result ≡ has_elements named }
 {
     match named {
-        Named::Missing => false,
-        Named::Local(Kind::Pointer(_)) => true,
-        Named::Local(Kind::Num(_)) => false,
-        Named::Local(Kind::Nothing) => false,
-        Named::Scalar(_) => false,
         Named::Array(_) => true,
-        Named::Function => false,
+        Named::Local(Kind::Pointer(_)) => true,
+        _ => false,
     }
 }
 
@@ -277,13 +251,10 @@ fn names_ints(named: Named) -> bool
     ensures { result ≡ has_ints named }
 {
     match named {
-        Named::Missing => false,
-        Named::Local(Kind::Pointer(number)) => is_of_ints(number),
-        Named::Local(Kind::Num(_)) => false,
-        Named::Local(Kind::Nothing) => false,
         Named::Scalar(number) => is_of_ints(number),
         Named::Array(number) => is_of_ints(number),
-        Named::Function => false,
+        Named::Local(Kind::Pointer(number)) => is_of_ints(number),
+        _ => false,
     }
 }
 

@@ -52,10 +52,7 @@ fn wanted_by_target(op: Option<BinOp>, kind: ValueKind, object: Object) -> Optio
 {
     match kind {
         ValueKind::Unknown => Some(Wanted::Anything),
-        ValueKind::Signed => wanted_by_object(op, object),
-        ValueKind::Unsigned => wanted_by_object(op, object),
-        ValueKind::Pointer(_) => wanted_by_object(op, object),
-        ValueKind::Nothing => wanted_by_object(op, object),
+        _ => wanted_by_object(op, object),
     }
 }
 
@@ -76,26 +73,9 @@ fn wanted_by_pointer(op: Option<BinOp>, number: NumKind) -> Option<Wanted>
 {
     match op {
         None => Some(Wanted::PointerTo(number)),
-        Some(op) => match op {
-            BinOp::Add => Some(Wanted::Number),
-            BinOp::Sub => Some(Wanted::Number),
-            BinOp::OrElse => None,
-            BinOp::AndAlso => None,
-            BinOp::Or => None,
-            BinOp::Xor => None,
-            BinOp::And => None,
-            BinOp::Equal => None,
-            BinOp::Differ => None,
-            BinOp::Less => None,
-            BinOp::LessEqual => None,
-            BinOp::More => None,
-            BinOp::MoreEqual => None,
-            BinOp::Left => None,
-            BinOp::Right => None,
-            BinOp::Mul => None,
-            BinOp::Div => None,
-            BinOp::Rem => None,
-        },
+        Some(BinOp::Add) => Some(Wanted::Number),
+        Some(BinOp::Sub) => Some(Wanted::Number),
+        Some(_) => None,
     }
 }
 

@@ -37,10 +37,7 @@ pub fn declare<'p>(
     ensures { IsPartChecked locals.old (declare_all globals.now start declared.now locals.old) result locals.new }
 {
     for local in declared {
-        match declare_local(globals, start, local, locals) {
-            Ok(()) => {}
-            Err(refusal) => return Err(refusal),
-        }
+        declare_local(globals, start, local, locals)?;
     }
     Ok(())
 }
@@ -92,10 +89,7 @@ pub fn statements<'p>(
     ensures { IsPartChecked locals.old (rules_of_all list.now globals.now around locals.old) result locals.new }
 {
     for one in list {
-        match statement(globals, around, one, locals) {
-            Ok(()) => {}
-            Err(refusal) => return Err(refusal),
-        }
+        statement(globals, around, one, locals)?;
     }
     Ok(())
 }
@@ -250,14 +244,9 @@ fn branches<'p>(
 ) -> Result<(), Refusal>
     ensures { IsPartChecked locals.old (then_judge (judged (value_rules globals.now locals.old Wanted.Number test.now) locals.old) (λ ls. then_judge (inner (rules_of then_part.now) globals.now around ls) (λ ms. inner_part (option_map rules_of else_part.now) globals.now around ms))) result locals.new }
 {
-    match told(value(globals, locals, Wanted::Number, test)) {
-        Ok(()) => {}
-        Err(refusal) => return Err(refusal),
-    }
-    match inside(globals, around, then_part, locals) {
-        Ok(()) => inside_part(globals, around, else_part, locals),
-        Err(refusal) => Err(refusal),
-    }
+    told(value(globals, locals, Wanted::Number, test))?;
+    inside(globals, around, then_part, locals)?;
+    inside_part(globals, around, else_part, locals)
 }
 
 /// Checks the test and the body of a `while`.
@@ -271,10 +260,8 @@ fn while_loop<'p>(
 ) -> Result<(), Refusal>
     ensures { IsPartChecked locals.old (then_judge (judged (value_rules globals.now locals.old Wanted.Number test.now) locals.old) (λ ls. inner (rules_of body.now) globals.now (in_a_loop around) ls)) result locals.new }
 {
-    match told(value(globals, locals, Wanted::Number, test)) {
-        Ok(()) => inside(globals, looping(around), body, locals),
-        Err(refusal) => Err(refusal),
-    }
+    told(value(globals, locals, Wanted::Number, test))?;
+    inside(globals, looping(around), body, locals)
 }
 
 /// Checks a `for`, which is a scope of its own.
@@ -317,18 +304,10 @@ fn for_loop<'p>(
 ) -> Result<(), Refusal>
     ensures { IsPartChecked locals.old (for_rules (option_map rules_of start.now) test.now (option_map rules_of step.now) (rules_of body.now) globals.now around locals.old) result locals.new }
 {
-    match part(globals, around, start, locals) {
-        Ok(()) => {}
-        Err(refusal) => return Err(refusal),
-    }
-    match told(optional(globals, locals, test)) {
-        Ok(()) => {}
-        Err(refusal) => return Err(refusal),
-    }
-    match inside_part(globals, around, step, locals) {
-        Ok(()) => inside(globals, looping(around), body, locals),
-        Err(refusal) => Err(refusal),
-    }
+    part(globals, around, start, locals)?;
+    told(optional(globals, locals, test))?;
+    inside_part(globals, around, step, locals)?;
+    inside(globals, looping(around), body, locals)
 }
 
 /// Checks the pragma of a task and its statement.
@@ -342,8 +321,6 @@ fn task<'p>(
 ) -> Result<(), Refusal>
     ensures { IsPartChecked locals.old (then_judge (judged (clauses_rules globals.now locals.old 0 mark.now.clauses) locals.old) (λ ls. inner (rules_of body.now) globals.now (in_a_task around) ls)) result locals.new }
 {
-    match told(clauses(globals, locals, mark.clauses.as_slice())) {
-        Ok(()) => inside(globals, tasking(around), body, locals),
-        Err(refusal) => Err(refusal),
-    }
+    told(clauses(globals, locals, mark.clauses.as_slice()))?;
+    inside(globals, tasking(around), body, locals)
 }

@@ -1,17 +1,17 @@
 use Rattle.std.proofs.lemmas.Grind.{common_steps}
-use Rattle.std.proofs.Common.{◌≡◌, ◌+◌, ◌++◌, ◌∙◌, [], ◌∷◌, Some, None, Err, ap, arith, drop, subst, sym}
+use Rattle.std.proofs.Common.{◌≡◌, ◌+◌, ◌++◌, ◌∙◌, [], ◌∷◌, Some, None, Err, ap, arith, drop, rules, subst, sym}
 use Rattle.oss_syntax.specs.declared.refusal.Refusal.TheVariants as refusal
 use Rattle.oss_grammar.specs.Broken.{first}
 use Rattle.oss_grammar.specs.Layout.{cells_of, sizes_of}
 use Rattle.oss_grammar.specs.ProgramRules.{function_rules, global_rules, has_main, items_rules}
 use Rattle.oss_grammar.specs.Scopes.{or_else}
 use Rattle.oss_names.specs.PartChecks.{TellsFirst}
-use Rattle.oss_names.specs.Resolved.{bounds_of}
+use Rattle.oss_names.specs.Resolved.{IsChecked, bounds_of}
 use Rattle.oss_names.proofs.EndLemmas.{tells-before}
 use Rattle.oss_kinds.proofs.Firsts.{first-append, part-whole}
 use Rattle.oss_names.proofs.ProgramLemmas.{all-well, bounds-more, checked-err, function-left, global-cells, global-left, main-missing, sizes-function, sizes-global}
 use Rattle.oss_names.proofs.program.check.Goals as goal
-use Rattle.oss_names.proofs.program.check.Goals.{in-Global+in-None+in-Ok-note, in-Function+in-Ok-check_function}
+use Rattle.oss_names.proofs.program.check.Goals.{in-Global+in-None+in-Ok-note, in-Function+in_ok-check_function-in-Function}
 
 pub returns-in-Some : goal.returns-in-Some
 returns-in-Some c =
@@ -27,20 +27,21 @@ returns-in-Some c =
     first-append (global_rules xs p n g) rest ∙ sym (global-left xs xs p n i c.item-item.result c.loop-item-test.true c.item-item.is g c.in-Global.is) ∙ c.loop-item.invariant.same ∙ ap (λ ys. first (items_rules ys 0 0 ys)) c.as_slice-items.ensures in
     checked-err q (refusal.Refused c.in-Some.broken) (global_rules xs p n g ++ rest) same (first-append (global_rules xs p n g) rest ∙ ap (λ o. or_else o (first rest)) here)
 
-pub returns-in-Err-check_function : goal.returns-in-Err-check_function
-returns-in-Err-check_function c =
+pub returns-in_err-check_function-in-Function : goal.returns-in_err-check_function-in-Function
+returns-in_err-check_function-in-Function c =
     let q = c.args.program.now in
     let xs = c.as_slice-items.result.now in
     let p = c.loop-item.place in
     let n = c.loop-item.cells in
     let i = c.loop-item.item-index in
     let f = c.in-Function.function in
-    let e = c.in-Err-check_function.refusal in
-    let here : TellsFirst {U = Unit {0}} (function_rules xs p f) (Err e) = subst (λ all. TellsFirst {U = Unit {0}} (function_rules all p f) (Err e)) c.in-Ok.ensures c.in-Err-check_function.ensures in
+    let e = c.in_err-check_function-in-Function.field-0.0 in
+    let handed : c.from_residual.result ≡ Err e = search rules in
+    let here : TellsFirst {U = Unit {0}} (function_rules xs p f) (Err e) = subst (λ all. TellsFirst {U = Unit {0}} (function_rules all p f) (Err e)) c.in-Ok.ensures c.in_err-check_function-in-Function.ensures in
     let rest = items_rules xs (p + 1) n (drop (i + 1) xs) in
     let same : first (function_rules xs p f ++ rest) ≡ first (items_rules q.items 0 0 q.items) =
     ap first (sym (function-left xs xs p n i c.item-item.result c.loop-item-test.true c.item-item.is f c.in-Function.is)) ∙ c.loop-item.invariant.same ∙ ap (λ ys. first (items_rules ys 0 0 ys)) c.as_slice-items.ensures in
-    checked-err q e (function_rules xs p f ++ rest) same (tells-before (Unit {0}) (Unit {0}) (function_rules xs p f) rest e here)
+    subst (IsChecked q) (sym handed) (checked-err q e (function_rules xs p f ++ rest) same (tells-before (Unit {0}) (Unit {0}) (function_rules xs p f) rest e here))
 
 pub loop-item-preserved : goal.loop-item-preserved
 loop-item-preserved c =
@@ -70,10 +71,10 @@ loop-item-preserved c =
             counted = ap (λ k. k + 1) c.loop-item.invariant.counted;
             few = let small = (global-cells xs p n g none).1 in omega (arith, small, more);
           }
-      | in-Function+in-Ok-check_function w ↦
+      | in-Function+in_ok-check_function-in-Function w ↦
           let f = w.in-Function.function in
           let rest = drop (i + 1) xs in
-          let none : first (function_rules xs p f) ≡ None = ap (λ all. first (function_rules all p f)) (sym c.in-Ok.ensures) ∙ w.in-Ok-check_function.ensures in
+          let none : first (function_rules xs p f) ≡ None = ap (λ all. first (function_rules all p f)) (sym c.in-Ok.ensures) ∙ w.in_ok-check_function-in-Function.ensures in
           record {
             same = ap (λ k. first (items_rules xs (p + 1) k rest)) w.cells-is
                 ∙ part-whole whole left (first (function_rules xs p f)) (first (items_rules xs (p + 1) n rest)) c.loop-item.invariant.same

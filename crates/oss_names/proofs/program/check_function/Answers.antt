@@ -1,4 +1,4 @@
-use Rattle.std.proofs.Common.{◌≡◌, ◌++◌, ◌∙◌, [], None, Err, ap, subst, sym}
+use Rattle.std.proofs.Common.{◌≡◌, ◌++◌, ◌∙◌, [], None, Err, ap, rules, subst, sym}
 use Rattle.oss_grammar.specs.declared.kinds.Around.{Around}
 use Rattle.oss_syntax.specs.declared.refusal.RefusedKind.TheVariants as refused
 use Rattle.oss_grammar.specs.Broken.{first, where_so}
@@ -27,8 +27,8 @@ returns-in-Some c =
     c.before-3.ensures ∙ ap (λ o. or_else o c.before-2.result) mark ∙ ap (or_else (first a)) (c.before-2.ensures ∙ ap (λ o. or_else o c.refused_if-unlike.result) twice ∙ ap (or_else (first b)) unlike) in
     front-broken a b d (j.broken ++ e) c.in-Some.broken (sym told ∙ c.in-Some.is)
 
-pub returns-in-Err-declare : goal.returns-in-Err-declare
-returns-in-Err-declare c =
+pub returns-in_err-declare : goal.returns-in_err-declare
+returns-in_err-declare c =
     let all = c.args.globals.now in
     let f = c.args.function.now in
     let j : Judged = declare_all all 0 f.params [] in
@@ -43,8 +43,11 @@ returns-in-Err-declare c =
     let mark : c.in-Ok.mark ≡ first a = c.in-Ok.ensures in
     let told : c.before-3.result ≡ or_else (first a) (or_else (first b) (first d)) =
     c.before-3.ensures ∙ ap (λ o. or_else o c.before-2.result) mark ∙ ap (or_else (first a)) (c.before-2.ensures ∙ ap (λ o. or_else o c.refused_if-unlike.result) twice ∙ ap (or_else (first b)) unlike) in
-    let params : TellsFirst {U = Unit {0}} j.broken (Err c.in-Err-declare.refusal) = subst (λ x. TellsFirst {U = Unit {0}} x.broken (Err c.in-Err-declare.refusal)) same c.in-Err-declare.ensures.tells in
-    front-whole a b d (j.broken ++ e) (Err c.in-Err-declare.refusal) (sym told ∙ c.in-None.is) (tells-before (Unit {0}) (Unit {0}) j.broken e c.in-Err-declare.refusal params)
+    let refusal = c.in_err-declare.field-0.0 in
+    let handed : c.from_residual.result ≡ Err refusal = search rules in
+    let params : TellsFirst {U = Unit {0}} j.broken (Err refusal) = subst (λ x. TellsFirst {U = Unit {0}} x.broken (Err refusal)) same c.in_err-declare.ensures.tells in
+    subst (λ r. TellsFirst (a ++ (b ++ (d ++ (j.broken ++ e)))) r) (sym handed)
+    (front-whole a b d (j.broken ++ e) (Err refusal) (sym told ∙ c.in-None.is) (tells-before (Unit {0}) (Unit {0}) j.broken e refusal params))
 
 pub returns : goal.returns
 returns c =
@@ -63,8 +66,8 @@ returns c =
     let mark : c.in-Ok.mark ≡ first a = c.in-Ok.ensures in
     let told : c.before-3.result ≡ or_else (first a) (or_else (first b) (first d)) =
     c.before-3.ensures ∙ ap (λ o. or_else o c.before-2.result) mark ∙ ap (or_else (first a)) (c.before-2.ensures ∙ ap (λ o. or_else o c.refused_if-unlike.result) twice ∙ ap (or_else (first b)) unlike) in
-    let none : first j.broken ≡ None = subst (λ x. first x.broken ≡ None) same c.in-Ok-declare.ensures.tells in
-    let locals : c.declare.new.locals ≡ j.locals = c.in-Ok-declare.ensures.leaves.0 ∙ ap (λ x. x.locals) same in
+    let none : first j.broken ≡ None = subst (λ x. first x.broken ≡ None) same c.in_ok-declare.ensures.tells in
+    let locals : c.declare.new.locals ≡ j.locals = c.in_ok-declare.ensures.leaves.0 ∙ ap (λ x. x.locals) same in
     let whole : (rules_of_all c.as_slice-3.result.now all c.around_body-around.result c.declare.new.locals).broken ≡ e =
     ap (λ x. x.broken) (ap (λ ss. rules_of_all ss all c.around_body-around.result c.declare.new.locals) c.as_slice-3.ensures ∙ ap (rules_of_all f.body all c.around_body-around.result) locals ∙ ap body c.around_body-around.ensures) in
     front-whole a b d (j.broken ++ e) c.statements.result (sym told ∙ c.in-None.is)

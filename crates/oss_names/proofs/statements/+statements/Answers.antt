@@ -1,5 +1,5 @@
 use Rattle.std.proofs.lemmas.Grind.{common_steps}
-use Rattle.std.proofs.Common.{◌≡◌, ◌+◌, ◌≤◌, ◌∙◌, Ok, Err, List, [], ap, arith, drop, map, not, option_map, refl, subst, sym, true}
+use Rattle.std.proofs.Common.{◌≡◌, ◌+◌, ◌≤◌, ◌∙◌, Ok, Err, List, [], ap, arith, drop, map, not, option_map, refl, rules, subst, sym, true}
 use Rattle.oss_syntax.specs.declared.tree.program.Local.{Local}
 use Rattle.oss_grammar.specs.declared.kinds.Wanted.TheVariants as wanted
 use Rattle.oss_syntax.specs.declared.refusal.RefusedKind.TheVariants as refused
@@ -8,22 +8,24 @@ use Rattle.oss_grammar.specs.ExpressionRules.{call_findings, findings, value_rul
 use Rattle.oss_grammar.specs.Kinds.{all_of}
 use Rattle.oss_grammar.specs.SectionRules.{clauses_rules, optional_rules}
 use Rattle.oss_grammar.specs.StaticRules.{Judged, assign_rules, in_a_loop, in_a_task, inner, inner_part, judged, part_rules, print_rules, return_rules, rules_of, rules_of_all, then_judge, wait_rules}
-use Rattle.oss_names.proofs.EndLemmas.{ends-along, ends-stop, ends-then, prefix-same, statements-left}
+use Rattle.oss_names.proofs.EndLemmas.{ends-along, ends-stop, ends-then, ends-told, prefix-same, statements-left}
 use Rattle.oss_names.proofs.StatementLemmas.{rules-assign, rules-break, rules-call, rules-continue, rules-empty, rules-print, rules-release, rules-return, rules-wait}
 use Rattle.oss_names.proofs.Weights.{weight, weight-one, weights}
 use Rattle.oss_names.proofs.statements.+statements.Goals as goal
 
-pub branches-returns-in-Err : goal.branches-returns-in-Err
-branches-returns-in-Err t c =
+pub branches-returns-in_err-told : goal.branches-returns-in_err-told
+branches-returns-in_err-told t c =
     let all = c.args.globals.now in
     let a = c.args.around in
     let ls = c.args.locals.now in
     let test = value_rules all ls wanted.Number c.args.test.now in
     let behind : List Local → Judged = λ ms. then_judge (inner (rules_of c.args.then_part.now) all a ms) (λ ns. inner_part (option_map rules_of c.args.else_part.now) all a ns) in
-    ends-stop {U = Unit {0}} {V = Unit {0}} ls ls ls (judged test ls) behind c.in-Err.refusal (c.in-Err.ensures test ls c.value.ensures)
+    let refusal = c.in_err-told.field-0.0 in
+    let handed : c.from_residual.result ≡ Err refusal = search rules in
+    ends-told ls ls _ (Err refusal) _ handed (ends-stop {U = Unit {0}} {V = Unit {0}} ls ls ls (judged test ls) behind refusal (c.in_err-told.ensures test ls c.value.ensures))
 
-pub branches-returns-in-Err-inside : goal.branches-returns-in-Err-inside
-branches-returns-in-Err-inside t c =
+pub branches-returns-in_err-inside : goal.branches-returns-in_err-inside
+branches-returns-in_err-inside t c =
     let all = c.args.globals.now in
     let a = c.args.around in
     let ls = c.args.locals.now in
@@ -31,27 +33,35 @@ branches-returns-in-Err-inside t c =
     let test = value_rules all ls wanted.Number c.args.test.now in
     let last : List Local → Judged = λ ns. inner_part (option_map rules_of c.args.else_part.now) all a ns in
     let behind : List Local → Judged = λ ms. then_judge (inner (rules_of c.args.then_part.now) all a ms) last in
-    ends-then {U = Unit {0}} {V = Unit {0}} ls ls now (judged test ls) behind c.in-Ok.field-0 (Err c.in-Err-inside.refusal) (c.in-Ok.ensures test ls c.value.ensures)
-    (ends-stop {U = Unit {0}} {V = Unit {0}} ls now now (inner (rules_of c.args.then_part.now) all a ls) last c.in-Err-inside.refusal c.in-Err-inside.ensures)
+    let refusal = c.in_err-inside.field-0.0 in
+    let handed : c.from_residual-in_err-inside.result ≡ Err refusal = search rules in
+    ends-told ls now _ (Err refusal) _ handed
+    (ends-then {U = Unit {0}} {V = Unit {0}} ls ls now (judged test ls) behind tt (Err refusal) (c.in_ok-told.ensures test ls c.value.ensures)
+    (ends-stop {U = Unit {0}} {V = Unit {0}} ls now now (inner (rules_of c.args.then_part.now) all a ls) last refusal c.in_err-inside.ensures))
 
-pub while_loop-returns-in-Err : goal.while_loop-returns-in-Err
-while_loop-returns-in-Err t c =
+pub while_loop-returns-in_err-told : goal.while_loop-returns-in_err-told
+while_loop-returns-in_err-told t c =
     let all = c.args.globals.now in
     let ls = c.args.locals.now in
     let test = value_rules all ls wanted.Number c.args.test.now in
     let behind : List Local → Judged = λ ms. inner (rules_of c.args.body.now) all (in_a_loop c.args.around) ms in
-    ends-stop {U = Unit {0}} {V = Unit {0}} ls ls ls (judged test ls) behind c.in-Err.refusal (c.in-Err.ensures test ls c.value.ensures)
+    let refusal = c.in_err-told.field-0.0 in
+    let handed : c.from_residual.result ≡ Err refusal = search rules in
+    ends-told ls ls _ (Err refusal) _ handed (ends-stop {U = Unit {0}} {V = Unit {0}} ls ls ls (judged test ls) behind refusal (c.in_err-told.ensures test ls c.value.ensures))
 
-pub task-returns-in-Err : goal.task-returns-in-Err
-task-returns-in-Err t c =
+pub task-returns-in_err-told : goal.task-returns-in_err-told
+task-returns-in_err-told t c =
     let all = c.args.globals.now in
     let ls = c.args.locals.now in
     let mark = clauses_rules all ls 0 c.args.mark.now.clauses in
     let behind : List Local → Judged = λ ms. inner (rules_of c.args.body.now) all (in_a_task c.args.around) ms in
-    ends-stop {U = Unit {0}} {V = Unit {0}} ls ls ls (judged mark ls) behind c.in-Err.refusal (c.in-Err.ensures mark ls (c.clauses.ensures ∙ ap (λ cs. first (clauses_rules all ls 0 cs)) c.as_slice.ensures))
+    let refusal = c.in_err-told.field-0.0 in
+    let handed : c.from_residual.result ≡ Err refusal = search rules in
+    ends-told ls ls _ (Err refusal) _ handed
+    (ends-stop {U = Unit {0}} {V = Unit {0}} ls ls ls (judged mark ls) behind refusal (c.in_err-told.ensures mark ls (c.clauses.ensures ∙ ap (λ cs. first (clauses_rules all ls 0 cs)) c.as_slice.ensures)))
 
-pub for_loop-returns-in-Err-told : goal.for_loop-returns-in-Err-told
-for_loop-returns-in-Err-told t c =
+pub for_loop-returns-in_err-told : goal.for_loop-returns-in_err-told
+for_loop-returns-in_err-told t c =
     let all = c.args.globals.now in
     let a = c.args.around in
     let ls = c.args.locals.now in
@@ -59,8 +69,11 @@ for_loop-returns-in-Err-told t c =
     let test = optional_rules all now c.args.test.now in
     let last : List Local → Judged = λ ms. then_judge (inner_part (option_map rules_of c.args.step.now) all a ms) (λ ns. inner (rules_of c.args.body.now) all (in_a_loop a) ns) in
     let behind : List Local → Judged = λ ms. then_judge (judged (optional_rules all ms c.args.test.now) ms) last in
-    ends-then {U = Unit {0}} {V = Unit {0}} ls now now (part_rules (option_map rules_of c.args.start.now) all a ls) behind c.in-Ok.field-0 (Err c.in-Err-told.refusal) c.in-Ok.ensures
-    (ends-stop {U = Unit {0}} {V = Unit {0}} now now now (judged test now) last c.in-Err-told.refusal (c.in-Err-told.ensures test now c.optional.ensures))
+    let refusal = c.in_err-told.field-0.0 in
+    let handed : c.from_residual-in_err-told.result ≡ Err refusal = search rules in
+    ends-told ls now _ (Err refusal) _ handed
+    (ends-then {U = Unit {0}} {V = Unit {0}} ls now now (part_rules (option_map rules_of c.args.start.now) all a ls) behind tt (Err refusal) c.in_ok-part.ensures
+    (ends-stop {U = Unit {0}} {V = Unit {0}} now now now (judged test now) last refusal (c.in_err-told.ensures test now c.optional.ensures)))
 
 pub inside_part-returns-in-None : goal.inside_part-returns-in-None
 inside_part-returns-in-None t c = rw c.in-None.is (c.told.ensures [] c.args.locals.now refl)
@@ -123,8 +136,8 @@ statements-statement-requires t c =
     let smaller : weight s ≤ weights ss = subst (λ x. weight x ≤ weights ss) (sym c.one-item.is) (weight-one ss c.loop-one.one-index s c.loop-one-test.true) in
     omega arith
 
-pub statements-returns-in-Err : goal.statements-returns-in-Err
-statements-returns-in-Err t c =
+pub statements-returns-in_err-statement : goal.statements-returns-in_err-statement
+statements-returns-in_err-statement t c =
     let all = c.args.globals.now in
     let a = c.args.around in
     let ls = c.loop-one.locals in
@@ -133,9 +146,12 @@ statements-returns-in-Err t c =
     let i = c.loop-one.one-index in
     let s = c.one-item.result in
     let behind : List Local → Judged = λ ms. rules_of_all (drop (i + 1) ss) all a ms in
-    c.loop-one.invariant (Err c.in-Err.refusal) now
-    (ends-along ls now (then_judge (rules_of s all a ls) behind) _ (Err c.in-Err.refusal) (statements-left all a ls ss i s c.loop-one-test.true c.one-item.is)
-    (ends-stop {U = Unit {0}} {V = Unit {0}} ls now now (rules_of s all a ls) behind c.in-Err.refusal c.in-Err.ensures))
+    let refusal = c.in_err-statement.field-0.0 in
+    let handed : c.from_residual.result ≡ Err refusal = search rules in
+    c.loop-one.invariant c.from_residual.result now
+    (ends-told ls now _ (Err refusal) _ handed
+    (ends-along ls now (then_judge (rules_of s all a ls) behind) _ (Err refusal) (statements-left all a ls ss i s c.loop-one-test.true c.one-item.is)
+    (ends-stop {U = Unit {0}} {V = Unit {0}} ls now now (rules_of s all a ls) behind refusal c.in_err-statement.ensures)))
 
 pub statements-loop-one-preserved : goal.statements-loop-one-preserved
 statements-loop-one-preserved t c =
@@ -149,7 +165,7 @@ statements-loop-one-preserved t c =
     let behind : List Local → Judged = λ ms. rules_of_all (drop (i + 1) ss) all a ms in
     λ r now h. c.loop-one.invariant r now
     (ends-along ls now (then_judge (rules_of s all a ls) behind) _ r (statements-left all a ls ss i s c.loop-one-test.true c.one-item.is)
-    (ends-then {U = Unit {0}} {V = Unit {0}} ls mid now (rules_of s all a ls) behind c.in-Ok.field-0 r c.in-Ok.ensures h))
+    (ends-then {U = Unit {0}} {V = Unit {0}} ls mid now (rules_of s all a ls) behind tt r c.in_ok-statement.ensures h))
 
 pub statements-returns : goal.statements-returns
 statements-returns t c =

@@ -1,12 +1,12 @@
 use Rattle.std.proofs.lemmas.Grind.{common_steps}
-use Rattle.std.proofs.Common.{◌≡◌, ◌+◌, Ok, Err, List, [], ap, arith, drop, refl}
+use Rattle.std.proofs.Common.{◌≡◌, ◌+◌, Ok, Err, List, [], ap, arith, drop, refl, rules}
 use Rattle.oss_syntax.specs.declared.tree.program.Local.{Local}
 use Rattle.oss_grammar.specs.StaticRules.{Judged, declare_all, declare_one, judged, then_judge}
-use Rattle.oss_names.proofs.EndLemmas.{declared-left, ends-along, ends-stop, ends-then, prefix-same}
+use Rattle.oss_names.proofs.EndLemmas.{declared-left, ends-along, ends-stop, ends-then, ends-told, prefix-same}
 use Rattle.oss_names.proofs.statements.declare.Goals as goal
 
-pub returns-in-Err : goal.returns-in-Err
-returns-in-Err c =
+pub returns-in_err-declare_local : goal.returns-in_err-declare_local
+returns-in_err-declare_local c =
     let all = c.args.globals.now in
     let start = c.args.start in
     let ls = c.loop-local.locals in
@@ -15,9 +15,12 @@ returns-in-Err c =
     let i = c.loop-local.local-index in
     let d = c.local-item.result in
     let behind : List Local → Judged = λ ms. declare_all all start (drop (i + 1) ds) ms in
-    c.loop-local.invariant (Err c.in-Err.refusal) now
-    (ends-along ls now (then_judge (declare_one all start d ls) behind) _ (Err c.in-Err.refusal) (declared-left all start ls ds i d c.loop-local-test.true c.local-item.is)
-    (ends-stop {U = Unit {0}} {V = Unit {0}} ls now now (declare_one all start d ls) behind c.in-Err.refusal c.in-Err.ensures))
+    let refusal = c.in_err-declare_local.field-0.0 in
+    let told : c.from_residual.result ≡ Err refusal = search rules in
+    c.loop-local.invariant c.from_residual.result now
+    (ends-told ls now _ (Err refusal) _ told
+    (ends-along ls now (then_judge (declare_one all start d ls) behind) _ (Err refusal) (declared-left all start ls ds i d c.loop-local-test.true c.local-item.is)
+    (ends-stop {U = Unit {0}} {V = Unit {0}} ls now now (declare_one all start d ls) behind refusal c.in_err-declare_local.ensures)))
 
 pub loop-local-preserved : goal.loop-local-preserved
 loop-local-preserved c =
@@ -31,7 +34,7 @@ loop-local-preserved c =
     let behind : List Local → Judged = λ ms. declare_all all start (drop (i + 1) ds) ms in
     λ r now h. c.loop-local.invariant r now
     (ends-along ls now (then_judge (declare_one all start d ls) behind) _ r (declared-left all start ls ds i d c.loop-local-test.true c.local-item.is)
-    (ends-then {U = Unit {0}} {V = Unit {0}} ls mid now (declare_one all start d ls) behind c.in-Ok.field-0 r c.in-Ok.ensures h))
+    (ends-then {U = Unit {0}} {V = Unit {0}} ls mid now (declare_one all start d ls) behind tt r c.in_ok-declare_local.ensures h))
 
 pub returns : goal.returns
 returns c =
