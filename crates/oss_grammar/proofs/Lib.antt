@@ -3,6 +3,7 @@ pub mod CountedLemmas
 pub mod PairLemmas
 pub mod PartLemmas
 pub mod Parts
+pub mod PieceLemmas
 pub mod RefusalLemmas
 pub mod StepLemmas
 pub mod TextLemmas
