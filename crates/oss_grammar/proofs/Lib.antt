@@ -1,9 +1,16 @@
 pub mod AnswerLemmas
+pub mod ClauseKinds
 pub mod CountedLemmas
+pub mod ItemLemmas
+pub mod JumpLemmas
+pub mod KindLemmas
 pub mod PairLemmas
 pub mod PartLemmas
 pub mod Parts
+pub mod PlaceLemmas
 pub mod PieceLemmas
 pub mod RefusalLemmas
+pub mod RuleEquations
 pub mod StepLemmas
 pub mod TextLemmas
+pub mod TreeInduction

@@ -5,11 +5,13 @@ pub mod Expressions
 pub mod Formats
 pub mod Fronts
 pub mod Grammar
+pub mod Jumps
 pub mod Kinds
 pub mod Layout
 pub mod Levels
 pub mod OneToken
 pub mod Parsing
+pub mod Places
 pub mod Pragmas
 pub mod ProgramRules
 pub mod Programs

@@ -1,10 +1,20 @@
 //! Laws of the definitions, with nothing to run: each is the contract of a function with an empty body.
 
 ghost use Rattle.oss_grammar.specs.Formats.{HasItsPiecesAlone};
+ghost use Rattle.oss_grammar.specs.Jumps.{BadJumpsAreTold};
+
+use oss_syntax::Program;
 
 /// A string of `printf` has the pieces that are computed of it, it is their spellings one behind the other, and it has no
 /// other pieces.
 #[tactic(auto, using(crate::proofs::PieceLemmas::its_pieces_alone))]
 pub fn a_string_has_its_pieces_alone(format: &[u8])
     ensures { HasItsPiecesAlone format.now }
+{}
+
+/// BadJump is among the rules that a program breaks, with a line, exactly where a `break` or `continue` stands on that line
+/// outside of every loop of its task or function, or a `return` in a task statement.
+#[tactic(auto, using(crate::proofs::JumpLemmas::bad_jumps_are_told))]
+pub fn bad_jumps_are_told(program: &Program)
+    ensures { BadJumpsAreTold program.now }
 {}
