@@ -7,10 +7,10 @@ use Rattle.oss_syntax.specs.declared.tree.program.GlobalDef.{GlobalDef}
 use Rattle.oss_syntax.specs.declared.tree.program.Item.{Item}
 use Rattle.oss_syntax.specs.declared.tree.program.Item.TheVariants as items
 use Rattle.oss_syntax.specs.declared.tree.program.Local.{Local}
-use Rattle.oss_syntax.specs.declared.tree.program.Program.{Program}
 use Rattle.oss_grammar.specs.Broken.{where_so}
 use Rattle.oss_grammar.specs.Layout.{cells_of}
 use Rattle.oss_grammar.specs.Places.{IsOneOf, scope_behind}
+use Rattle.oss_grammar.specs.Places.IsOneOf.{first_of_them, later_of_them}
 use Rattle.oss_grammar.specs.ProgramRules.{body_around, function_rules, global_rules, is_wrong_function, items_rules, mark_rules}
 use Rattle.oss_grammar.specs.Scopes.{is_again}
 use Rattle.oss_grammar.specs.StaticRules.{declare_all, rules_of_all}
@@ -106,6 +106,11 @@ module _ (all : List Item) (x : Refused) where
   item_told {i = i} {before = before} (behind_global g w) = one_of_right (global_rules all i before g) (item_told w)
   item_told {i = i} (behind_function f w) = one_of_right (function_rules all i f) (item_told w)
 
--- a rule of a program that is not NoMain
-pub record OfItems (p : Program) (x : Refused) : Type 0 where
-  pub part : ItemPart p.items x 0 0 p.items
+-- a rule of a function wherever it stands among the items
+module _ (all : List Item) (x : Refused) (f : Function) (told : (i : ℕ) → FunctionPart all i f x) where
+  pub function_told : (i before : ℕ) (rest : List Item) → IsOneOf (items.Function f) rest → ItemPart all x i before rest
+  function_told i before [] is = none_of is
+  function_told i before (items.Global g ∷ rest) (first_of_them e) = absurd (cc)
+  function_told i before (items.Global g ∷ rest) (later_of_them is) = behind_global g (function_told (i + 1) (before + cells_of g.cells) rest is)
+  function_told i before (items.Function g ∷ rest) (first_of_them e) = at_function g (let same : f ≡ g = cc in subst (λ (h : Function). FunctionPart all i h x) same (told i))
+  function_told i before (items.Function g ∷ rest) (later_of_them is) = behind_function g (function_told (i + 1) before rest is)

@@ -1,5 +1,5 @@
 -- BadJump is told exactly where a jump stands that leaves what it may not.
-use Rattle.std.proofs.Common.{◌≡◌, ℕ, ◌+◌, Bool, true, false, not, List, [], ◌∷◌, ◌++◌, length, refl, sym, ap, subst, ◌⊎◌, inl, inr, rules}
+use Rattle.std.proofs.Common.{◌≡◌, ℕ, Bool, true, false, not, List, [], ◌∷◌, ◌++◌, length, refl, sym, ap, subst, ◌⊎◌, inl, inr, rules}
 use Rattle.oss_syntax.specs.declared.refusal.Refused.{Refused}
 use Rattle.oss_syntax.specs.declared.refusal.RefusedKind.{RefusedKind}
 use Rattle.oss_syntax.specs.declared.refusal.RefusedKind.TheVariants as refused
@@ -19,13 +19,12 @@ use Rattle.oss_grammar.specs.Broken.{broken, where_so}
 use Rattle.oss_grammar.specs.Jumps.{JumpsOut, HasBadJump, BadJumpsAreTold}
 use Rattle.oss_grammar.specs.Jumps.JumpsOut.{break_out, continue_out, return_out}
 use Rattle.oss_grammar.specs.Places.{IsOneOf, locals_behind_part, scope_behind}
-use Rattle.oss_grammar.specs.Layout.{cells_of}
 use Rattle.oss_grammar.specs.ProgramRules.{body_around, has_main, is_wrong_function, items_rules, passes_cells, program_rules}
 use Rattle.oss_grammar.specs.Scopes.{is_again}
 use Rattle.oss_grammar.specs.Places.IsOneOf.{first_of_them, later_of_them}
 use Rattle.oss_grammar.specs.StaticRules.{returned_rules, rules_of_all, is_wrong_return}
 use Rattle.oss_grammar.proofs.ClauseKinds.{only_clauses, only_wait, only_declared, only_mark}
-use Rattle.oss_grammar.proofs.ItemLemmas.{FunctionPart, ItemPart, item_part, item_told}
+use Rattle.oss_grammar.proofs.ItemLemmas.{FunctionPart, ItemPart, function_told, item_part, item_told}
 use Rattle.oss_grammar.proofs.ItemLemmas.FunctionPart.{in_mark, at_name, at_kind, in_params, in_body}
 use Rattle.oss_grammar.proofs.ItemLemmas.ItemPart.{at_global, at_function, behind_global, behind_function}
 use Rattle.oss_grammar.proofs.KindLemmas.{Only, only_two, only_where, only_assign, only_call_statement, only_optional, only_print, only_value, only_returned}
@@ -49,7 +48,7 @@ where_told true kind line (later_of_them w) = none_of w
 pub where_tells : {b : Bool} {m n : ℕ} (kind : RefusedKind) → b ≡ true → m ≡ n → IsOneOf (broken kind n) (where_so b kind m)
 where_tells kind is same = rw is (first_of_them (ap (λ (l : ℕ). broken kind l) same))
 
-same_line : {kind : RefusedKind} {m n : ℕ} → broken kind m ≡ broken kind n → m ≡ n
+pub same_line : {kind : RefusedKind} {m n : ℕ} → broken kind m ≡ broken kind n → m ≡ n
 same_line e = ap (λ (b : Refused). b.line) e
 
 is_false : (b : Bool) → not b ≡ true → b ≡ false
@@ -134,17 +133,6 @@ module _ (all : List Item) (line : ℕ) where
   of_items (behind_global g w) = deeper (items.Global g) (of_items w)
   of_items (behind_function f w) = deeper (items.Function f) (of_items w)
 
-  to_items : (f : Function) (i before : ℕ) (rest : List Item) → IsOneOf (items.Function f) rest
-      → IsOneOf x (rules_of_all f.body all (body_around f.result) (scope_behind 0 f.params [])).broken → ItemPart all x i before rest
-  to_items f i before [] is w = none_of is
-  to_items f i before (items.Global g ∷ rest) (first_of_them e) w = absurd (cc)
-  to_items f i before (items.Global g ∷ rest) (later_of_them is) w = behind_global g (to_items f (i + 1) (before + cells_of g.cells) rest is w)
-  to_items f i before (items.Function g ∷ rest) (first_of_them e) w = at_function g (in_body (moved e w)) where
-    moved : items.Function g ≡ items.Function f → IsOneOf x (rules_of_all f.body all (body_around f.result) (scope_behind 0 f.params [])).broken
-        → IsOneOf x (rules_of_all g.body all (body_around g.result) (scope_behind 0 g.params [])).broken
-    moved same v = let e : g ≡ f = cc in subst (λ (h : Function). IsOneOf x (rules_of_all h.body all (body_around h.result) (scope_behind 0 h.params [])).broken) (sym e) v
-  to_items f i before (items.Function g ∷ rest) (later_of_them is) w = behind_function g (to_items f (i + 1) before rest is w)
-
 module _ (p : Program) (line : ℕ) where
   bad_jump : InBody p.items line p.items → HasBadJump p line
   bad_jump b = put (found_among p.items (broken refused.BadJump line) b.function.body (body_around b.function.result) (scope_behind 0 b.function.params []) b.told) where
@@ -168,8 +156,8 @@ module _ (p : Program) (line : ℕ) where
   ]
 
   is_told : HasBadJump p line → IsOneOf (broken refused.BadJump line) (program_rules p)
-  is_told b = one_of_left _ (item_told p.items (broken refused.BadJump line) (to_items p.items line b.function 0 0 p.items b.stands.is_item
-      (told_among p.items (broken refused.BadJump line) b.stands.stands (jump_told p.items b.around b.visible b.jump line b.out b.on_line))))
+  is_told b = one_of_left _ (item_told p.items (broken refused.BadJump line) (function_told p.items (broken refused.BadJump line) b.function (λ i. in_body
+      (told_among p.items (broken refused.BadJump line) b.stands.stands (jump_told p.items b.around b.visible b.jump line b.out b.on_line))) 0 0 p.items b.stands.is_item))
 
 pub bad_jumps_are_told : (p : Program) → BadJumpsAreTold p
 bad_jumps_are_told p = record { told = λ line b. is_told p line b; only = λ line w. only_told p line w }

@@ -1,9 +1,11 @@
+pub mod AgainLemmas
 pub mod AnswerLemmas
 pub mod ClauseKinds
 pub mod CountedLemmas
 pub mod ItemLemmas
 pub mod JumpLemmas
 pub mod KindLemmas
+pub mod NameLemmas
 pub mod PairLemmas
 pub mod PartLemmas
 pub mod Parts

@@ -16,6 +16,7 @@ pub mod Pragmas
 pub mod ProgramRules
 pub mod Programs
 pub mod Reading
+pub mod Redeclarations
 pub mod Refusals
 pub mod Scopes
 pub mod SectionCells

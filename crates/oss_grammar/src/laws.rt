@@ -2,6 +2,7 @@
 
 ghost use Rattle.oss_grammar.specs.Formats.{HasItsPiecesAlone};
 ghost use Rattle.oss_grammar.specs.Jumps.{BadJumpsAreTold};
+ghost use Rattle.oss_grammar.specs.Redeclarations.{RedeclarationsAreTold};
 
 use oss_syntax::Program;
 
@@ -17,4 +18,11 @@ pub fn a_string_has_its_pieces_alone(format: &[u8])
 #[tactic(auto, using(crate::proofs::JumpLemmas::bad_jumps_are_told))]
 pub fn bad_jumps_are_told(program: &Program)
     ensures { BadJumpsAreTold program.now }
+{}
+
+/// DuplicateName is among the rules that a program breaks, with a line, exactly where the name of an item or a local is declared on
+/// that line and was declared before in the same scope.
+#[tactic(auto, using(crate::proofs::AgainLemmas::redeclarations_are_told))]
+pub fn redeclarations_are_told(program: &Program)
+    ensures { RedeclarationsAreTold program.now }
 {}
