@@ -16,3 +16,7 @@ pub mod RuleEquations
 pub mod StepLemmas
 pub mod TextLemmas
 pub mod TreeInduction
+pub mod UnknownSections
+pub mod UnknownStatements
+pub mod UnknownUses
+pub mod UseLemmas

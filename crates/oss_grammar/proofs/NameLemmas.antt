@@ -43,10 +43,10 @@ pub local_named : {locals : List Local} {name : List ℕ} → NamesLocal locals 
 local_named {locals} {name} n = any_local locals name n.named n.is_listed n.has_name
 
 -- the place of the first item of a name
-abbrev place : List ℕ → List Item → ℕ
+abbrev pub place : List ℕ → List Item → ℕ
 place name all = position_or_len (λ other. bytes_eq other name) (map item_name all)
 
-place_before : (name : List ℕ) (before rest : List Item) (e : Item) → IsOneOf e before → item_name e ≡ name → place name (before ++ rest) < length before
+pub place_before : (name : List ℕ) (before rest : List Item) (e : Item) → IsOneOf e before → item_name e ≡ name → place name (before ++ rest) < length before
 place_before name [] rest e is has = none_of is
 place_before name (x ∷ before) rest e (first_of_them same) has =
     let passes : bytes_eq (item_name x) name ≡ true = bytes_same (item_name x) name (ap item_name same ∙ has) in

@@ -26,5 +26,6 @@ pub mod StatementLimits
 pub mod Statements
 pub mod StaticRules
 pub mod Tokens
+pub mod UnknownNames
 pub mod Values
 pub mod Words

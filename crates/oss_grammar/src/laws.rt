@@ -3,6 +3,7 @@
 ghost use Rattle.oss_grammar.specs.Formats.{HasItsPiecesAlone};
 ghost use Rattle.oss_grammar.specs.Jumps.{BadJumpsAreTold};
 ghost use Rattle.oss_grammar.specs.Redeclarations.{RedeclarationsAreTold};
+ghost use Rattle.oss_grammar.specs.UnknownNames.{UnknownNamesAreTold};
 
 use oss_syntax::Program;
 
@@ -25,4 +26,11 @@ pub fn bad_jumps_are_told(program: &Program)
 #[tactic(auto, using(crate::proofs::AgainLemmas::redeclarations_are_told))]
 pub fn redeclarations_are_told(program: &Program)
     ensures { RedeclarationsAreTold program.now }
+{}
+
+/// UnknownName is among the rules that a program breaks, with a line, exactly where a name is used on that line that is there
+/// neither a local in scope nor a global or a function.
+#[tactic(auto, using(crate::proofs::UnknownStatements::unknown_names_are_told))]
+pub fn unknown_names_are_told(program: &Program)
+    ensures { UnknownNamesAreTold program.now }
 {}
