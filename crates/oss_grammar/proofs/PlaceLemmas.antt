@@ -131,10 +131,10 @@ part_scope all a locals None = refl
 part_scope all a locals (Some s) = rules_scope all a locals s
 
 -- the rules of a `for` behind its first part, with these locals in scope
-abbrev for_behind : List Item → Around → Option Expr → Option Stmt → Stmt → List Local → List Refused
+abbrev pub for_behind : List Item → Around → Option Expr → Option Stmt → Stmt → List Local → List Refused
 for_behind all a test last t ls = optional_rules all ls test ++ ((part_rules (option_map rules_of last) all (scope_in a ls) ls).broken ++ (rules_of t all (scope_in (in_a_loop a) ls) ls).broken)
 
-for_broken : (all : List Item) (a : Around) (locals : List Local) (s : Stmt) (start : Option Stmt) (test : Option Expr) (last : Option Stmt) (t : Stmt) → s.what ≡ stmts.For start test last t
+pub for_broken : (all : List Item) (a : Around) (locals : List Local) (s : Stmt) (start : Option Stmt) (test : Option Expr) (last : Option Stmt) (t : Stmt) → s.what ≡ stmts.For start test last t
     → (rules_of s all a locals).broken ≡ (part_rules (option_map rules_of start) all (scope_in a locals) locals).broken ++ for_behind all a test last t (locals_behind_part (length locals) start locals)
 for_broken all a locals s start test last t is =
     ap (λ (j : Judged). j.broken) (rules-for s all a locals start test last t is)

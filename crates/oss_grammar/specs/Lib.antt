@@ -18,6 +18,7 @@ pub mod Programs
 pub mod Reading
 pub mod Redeclarations
 pub mod Refusals
+pub mod RuleOrder
 pub mod Scopes
 pub mod SectionCells
 pub mod SectionRules

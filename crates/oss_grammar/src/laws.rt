@@ -3,9 +3,10 @@
 ghost use Rattle.oss_grammar.specs.Formats.{HasItsPiecesAlone};
 ghost use Rattle.oss_grammar.specs.Jumps.{BadJumpsAreTold};
 ghost use Rattle.oss_grammar.specs.Redeclarations.{RedeclarationsAreTold};
+ghost use Rattle.oss_grammar.specs.RuleOrder.{RulesRise, RulesOfTextRise};
 ghost use Rattle.oss_grammar.specs.UnknownNames.{UnknownNamesAreTold};
 
-use oss_syntax::Program;
+use oss_syntax::{List, Program, Token};
 
 /// A string of `printf` has the pieces that are computed of it, it is their spellings one behind the other, and it has no
 /// other pieces.
@@ -33,4 +34,17 @@ pub fn redeclarations_are_told(program: &Program)
 #[tactic(auto, using(crate::proofs::UnknownStatements::unknown_names_are_told))]
 pub fn unknown_names_are_told(program: &Program)
     ensures { UnknownNamesAreTold program.now }
+{}
+
+/// Where tokens are a program and their lines rise, the lines of the rules that the program breaks rise too, NoMain aside. So the
+/// first of these rules is broken at the first token at which one is.
+#[tactic(auto, using(crate::proofs::ProgramLines::rules_rise))]
+pub fn rules_rise(tokens: &List<Token>)
+    ensures { RulesRise tokens.now }
+{}
+
+/// The same of the program that a text is.
+#[tactic(auto, using(crate::proofs::ProgramLines::rules_of_text_rise))]
+pub fn rules_of_a_text_rise(text: &[u8])
+    ensures { RulesOfTextRise text.now }
 {}
