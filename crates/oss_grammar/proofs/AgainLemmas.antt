@@ -32,8 +32,7 @@ use Rattle.oss_grammar.proofs.ClauseKinds.{only_clauses, only_mark, only_wait}
 use Rattle.oss_grammar.proofs.ItemLemmas.{FunctionPart, ItemPart, function_told, item_part, item_told}
 use Rattle.oss_grammar.proofs.ItemLemmas.FunctionPart.{in_mark, at_name, at_kind, in_params, in_body}
 use Rattle.oss_grammar.proofs.ItemLemmas.ItemPart.{at_global, at_function, behind_global, behind_function}
-use Rattle.oss_grammar.proofs.JumpLemmas.{where_told, where_tells, same_line}
-use Rattle.oss_grammar.proofs.KindLemmas.{Only, only_two, only_where, only_assign, only_call_statement, only_optional, only_print, only_value, only_returned}
+use Rattle.oss_grammar.proofs.KindLemmas.{Only, only_two, only_where, only_assign, only_call_statement, only_optional, only_print, only_value, only_returned, where_told, where_tells, same_line}
 use Rattle.oss_grammar.proofs.NameLemmas.{again_named, item_is_again, local_named, names_local}
 use Rattle.oss_grammar.proofs.PlaceLemmas.{none_of, one_of_left, one_of_right, one_of_two, own_of, own_rules, stmt_view, FoundAmong, found_among, told_among}
 use Rattle.oss_grammar.proofs.TreeInduction.{StmtParts}

@@ -1,5 +1,5 @@
 -- BadJump is told exactly where a jump stands that leaves what it may not.
-use Rattle.std.proofs.Common.{◌≡◌, ℕ, Bool, true, false, not, List, [], ◌∷◌, ◌++◌, length, refl, sym, ap, subst, ◌⊎◌, inl, inr, rules}
+use Rattle.std.proofs.Common.{◌≡◌, ℕ, Bool, true, false, not, List, [], ◌∷◌, ◌++◌, length, refl, sym, subst, ◌⊎◌, inl, inr, rules}
 use Rattle.oss_syntax.specs.declared.refusal.Refused.{Refused}
 use Rattle.oss_syntax.specs.declared.refusal.RefusedKind.{RefusedKind}
 use Rattle.oss_syntax.specs.declared.refusal.RefusedKind.TheVariants as refused
@@ -16,8 +16,11 @@ use Rattle.oss_syntax.specs.declared.tree.stmt.StmtKind.TheFolds.{the_lemmas as 
 use Rattle.oss_grammar.specs.declared.kinds.Around.{Around}
 use Rattle.oss_grammar.specs.declared.kinds.Wanted.TheVariants as wanted
 use Rattle.oss_grammar.specs.Broken.{broken, where_so}
-use Rattle.oss_grammar.specs.Jumps.{JumpsOut, HasBadJump, BadJumpsAreTold}
-use Rattle.oss_grammar.specs.Jumps.JumpsOut.{break_out, continue_out, return_out}
+use Rattle.oss_grammar.specs.Jumps.{HasBadJump, BadJumpsAreTold}
+use Rattle.oss_grammar.specs.Jumps.HasBadJump.{leaves_function, leaves_a_task}
+use Rattle.oss_grammar.proofs.JumpPlaces.{JumpsOut, Out, OutAmong, JumpsAmong, among, out_among, leaves_jumps, task_leaves_jumps}
+use Rattle.oss_grammar.proofs.JumpPlaces.JumpsOut.{break_out, continue_out, return_out}
+use Rattle.oss_grammar.proofs.JumpPlaces.Out.{leaving, returning, task_leaving}
 use Rattle.oss_grammar.specs.Places.{IsOneOf, locals_behind_part, scope_behind}
 use Rattle.oss_grammar.specs.ProgramRules.{body_around, has_main, is_wrong_function, items_rules, passes_cells, program_rules}
 use Rattle.oss_grammar.specs.Scopes.{is_again}
@@ -27,7 +30,7 @@ use Rattle.oss_grammar.proofs.ClauseKinds.{only_clauses, only_wait, only_declare
 use Rattle.oss_grammar.proofs.ItemLemmas.{FunctionPart, ItemPart, function_told, item_part, item_told}
 use Rattle.oss_grammar.proofs.ItemLemmas.FunctionPart.{in_mark, at_name, at_kind, in_params, in_body}
 use Rattle.oss_grammar.proofs.ItemLemmas.ItemPart.{at_global, at_function, behind_global, behind_function}
-use Rattle.oss_grammar.proofs.KindLemmas.{Only, only_two, only_where, only_assign, only_call_statement, only_optional, only_print, only_value, only_returned}
+use Rattle.oss_grammar.proofs.KindLemmas.{Only, same_line, where_told, where_tells, only_two, only_where, only_assign, only_call_statement, only_optional, only_print, only_value, only_returned}
 use Rattle.oss_grammar.proofs.PlaceLemmas.{none_of, one_of_left, one_of_right, one_of_two, own_of, own_rules, stmt_view, FoundAmong, found_among, told_among}
 use Rattle.oss_grammar.proofs.TreeInduction.{StmtParts}
 use Rattle.oss_grammar.proofs.TreeInduction.StmtParts.{is_block, is_empty, is_declare, is_assign, is_call, is_print, is_if, is_while, is_for, is_return, is_break, is_continue, is_task, is_wait, is_release}
@@ -38,18 +41,6 @@ other_than_jump _ = true
 
 no_jump : {C : Type 0} {xs : List Refused} {line : ℕ} → Only other_than_jump xs → IsOneOf (broken refused.BadJump line) xs → C
 no_jump {line = line} a w = let e : false ≡ true = a.each (broken refused.BadJump line) w in absurd (cc)
-
--- a rule where it is broken
-pub where_told : {x : Refused} (b : Bool) (kind : RefusedKind) (line : ℕ) → IsOneOf x (where_so b kind line) → (b ≡ true) × (broken kind line ≡ x)
-where_told false kind line w = none_of w
-where_told true kind line (first_of_them e) = (refl, e)
-where_told true kind line (later_of_them w) = none_of w
-
-pub where_tells : {b : Bool} {m n : ℕ} (kind : RefusedKind) → b ≡ true → m ≡ n → IsOneOf (broken kind n) (where_so b kind m)
-where_tells kind is same = rw is (first_of_them (ap (λ (l : ℕ). broken kind l) same))
-
-pub same_line : {kind : RefusedKind} {m n : ℕ} → broken kind m ≡ broken kind n → m ≡ n
-same_line e = ap (λ (b : Refused). b.line) e
 
 is_false : (b : Bool) → not b ≡ true → b ≡ false
 is_false true e = absurd (cc)
@@ -106,7 +97,6 @@ module _ (all : List Item) (a : Around) (locals : List Local) (s : Stmt) (line :
       (one_of_right (where_so (is_wrong_return a.result e) refused.WrongKind s.line) (one_of_left (returned_rules all locals a.result e) (where_tells refused.BadJump out same)))
 
 -- the rules of functions and items
--- the rules of functions and items
 module _ (all : List Item) (line : ℕ) where
   abbrev x : Refused
   x = broken refused.BadJump line
@@ -134,20 +124,22 @@ module _ (all : List Item) (line : ℕ) where
   of_items (behind_function f w) = deeper (items.Function f) (of_items w)
 
 module _ (p : Program) (line : ℕ) where
+  abbrev params : Function → List Local
+  params f = scope_behind 0 f.params []
+
+  by_out : (f : Function) → IsOneOf (items.Function f) p.items → OutAmong line (body_around f.result) f.body → HasBadJump p line
+  by_out f is o = put o.out where
+    put : Out line (body_around f.result) o.statement → HasBadJump p line
+    put (leaving free l) = leaves_function f o.statement is o.is_listed l
+    put (returning held r) = absurd (cc)
+    put (task_leaving l) = leaves_a_task f o.statement is o.is_listed l
+
   bad_jump : InBody p.items line p.items → HasBadJump p line
-  bad_jump b = put (found_among p.items (broken refused.BadJump line) b.function.body (body_around b.function.result) (scope_behind 0 b.function.params []) b.told) where
-    put : FoundAmong p.items (broken refused.BadJump line) (body_around b.function.result) (scope_behind 0 b.function.params []) b.function.body → HasBadJump p line
+  bad_jump b = put (found_among p.items (broken refused.BadJump line) b.function.body (body_around b.function.result) (params b.function) b.told) where
+    put : FoundAmong p.items (broken refused.BadJump line) (body_around b.function.result) (params b.function) b.function.body → HasBadJump p line
     put found = whole (jump_by p.items found.around found.visible found.statement line (stmt_view found.statement) found.own) where
       whole : OutAt found.around found.statement line → HasBadJump p line
-      whole at = record {
-        function = b.function;
-        around = found.around;
-        visible = found.visible;
-        jump = found.statement;
-        stands = record { is_item = b.is_item; stands = found.stands };
-        out = at.out;
-        on_line = at.on_line;
-      }
+      whole at = by_out b.function b.is_item (out_among line found.stands at.out at.on_line)
 
   only_told : IsOneOf (broken refused.BadJump line) (program_rules p) → HasBadJump p line
   only_told w = elim (one_of_two (items_rules p.items 0 0 p.items) (where_so (not (has_main p.items)) refused.NoMain 1) w) [
@@ -155,9 +147,13 @@ module _ (p : Program) (line : ℕ) where
     | inr u ↦ no_jump (only_where other_than_jump (not (has_main p.items)) refused.NoMain 1 refl) u
   ]
 
+  jumps_told : (f : Function) → IsOneOf (items.Function f) p.items → JumpsAmong line (body_around f.result) (params f) f.body → IsOneOf (broken refused.BadJump line) (program_rules p)
+  jumps_told f is j = one_of_left _ (item_told p.items (broken refused.BadJump line) (function_told p.items (broken refused.BadJump line) f (λ i. in_body
+      (told_among p.items (broken refused.BadJump line) j.stands (jump_told p.items j.around j.visible j.jump line j.out j.on_line))) 0 0 p.items is))
+
   is_told : HasBadJump p line → IsOneOf (broken refused.BadJump line) (program_rules p)
-  is_told b = one_of_left _ (item_told p.items (broken refused.BadJump line) (function_told p.items (broken refused.BadJump line) b.function (λ i. in_body
-      (told_among p.items (broken refused.BadJump line) b.stands.stands (jump_told p.items b.around b.visible b.jump line b.out b.on_line))) 0 0 p.items b.stands.is_item))
+  is_told (leaves_function f s is listed l) = jumps_told f is (among line (body_around f.result) (params f) f.body listed (λ ms. leaves_jumps line l (body_around f.result) ms refl))
+  is_told (leaves_a_task f s is listed l) = jumps_told f is (among line (body_around f.result) (params f) f.body listed (λ ms. task_leaves_jumps line l (body_around f.result) ms))
 
 pub bad_jumps_are_told : (p : Program) → BadJumpsAreTold p
 bad_jumps_are_told p = record { told = λ line b. is_told p line b; only = λ line w. only_told p line w }

@@ -1,5 +1,5 @@
 -- Which kinds of rules expressions, sections and declarators break.
-use Rattle.std.proofs.Common.{◌≡◌, ℕ, Bool, true, false, not, List, [], ◌∷◌, ◌++◌, length, map, sym, ap, ◌∙◌, ◌⊎◌, inl, inr, Option, Some, None}
+use Rattle.std.proofs.Common.{◌≡◌, ℕ, Bool, true, false, not, List, [], ◌∷◌, ◌++◌, refl, length, map, sym, ap, ◌∙◌, ◌⊎◌, inl, inr, Option, Some, None}
 use Rattle.std.proofs.lemmas.Bool.{cases_Bool}
 use Rattle.std.specs.Prelude.{nat_lt, ◌==◌, ◌&&◌, ◌||◌, is_some}
 use Rattle.oss_syntax.specs.declared.refusal.Refused.{Refused}
@@ -54,6 +54,18 @@ only_two {test} {xs} {ys} a b = record { each = λ x w. either x (one_of_two xs 
 pub only_where : (test : RefusedKind → Bool) (b : Bool) (kind : RefusedKind) (line : ℕ) → test kind ≡ true → Only test (where_so b kind line)
 only_where test false kind line fits = only_none test
 only_where test true kind line fits = only_one test (broken kind line) fits
+
+-- a rule where it is broken
+pub where_told : {x : Refused} (b : Bool) (kind : RefusedKind) (line : ℕ) → IsOneOf x (where_so b kind line) → (b ≡ true) × (broken kind line ≡ x)
+where_told false kind line w = none_of w
+where_told true kind line (first_of_them e) = (refl, e)
+where_told true kind line (later_of_them w) = none_of w
+
+pub where_tells : {b : Bool} {m n : ℕ} (kind : RefusedKind) → b ≡ true → m ≡ n → IsOneOf (broken kind n) (where_so b kind m)
+where_tells kind is same = rw is (first_of_them (ap (λ (l : ℕ). broken kind l) same))
+
+pub same_line : {kind : RefusedKind} {m n : ℕ} → broken kind m ≡ broken kind n → m ≡ n
+same_line e = ap (λ (b : Refused). b.line) e
 
 -- a rule that is put at its place among others
 deeper : {x : Refused} {b : Refused} {rest : List Refused} (c : Refused) → IsOneOf x (b ∷ rest) → IsOneOf x (b ∷ c ∷ rest)

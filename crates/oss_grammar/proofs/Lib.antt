@@ -7,6 +7,7 @@ pub mod CountedLemmas
 pub mod ExpressionLines
 pub mod ItemLemmas
 pub mod JumpLemmas
+pub mod JumpPlaces
 pub mod KindLemmas
 pub mod LineSpans
 pub mod NameLemmas

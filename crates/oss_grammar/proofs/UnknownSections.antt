@@ -24,7 +24,7 @@ use Rattle.oss_grammar.specs.UnknownNames.{InForm, Uses, UsesInSection, UsesInCl
 use Rattle.oss_grammar.specs.UnknownNames.InForm.{of_shape, of_element, of_length_first, of_length_count, of_span_first, of_span_last}
 use Rattle.oss_grammar.specs.UnknownNames.UsesInSection.{as_first_base, as_last_base, in_form}
 use Rattle.oss_grammar.specs.UnknownNames.UsesInClause.{in_section, in_if, in_final, in_priority}
-use Rattle.oss_grammar.proofs.JumpLemmas.{where_told, where_tells, same_line}
+use Rattle.oss_grammar.proofs.KindLemmas.{where_told, where_tells, same_line}
 use Rattle.oss_grammar.proofs.PlaceLemmas.{none_of, one_of_left, one_of_right, one_of_two}
 use Rattle.oss_grammar.proofs.UnknownUses.{UnknownUse, other_kind, value_found, value_told}
 

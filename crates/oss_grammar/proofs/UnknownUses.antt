@@ -21,8 +21,7 @@ use Rattle.oss_grammar.specs.Places.IsOneOf.{first_of_them, later_of_them}
 use Rattle.oss_grammar.specs.Scopes.{function_named, is_main, meaning}
 use Rattle.oss_grammar.specs.UnknownNames.{Uses}
 use Rattle.oss_grammar.specs.UnknownNames.Uses.{as_value, as_callee, in_array, in_index, in_operand, in_left, in_right, in_argument}
-use Rattle.oss_grammar.proofs.JumpLemmas.{where_told, same_line}
-use Rattle.oss_grammar.proofs.KindLemmas.{inserted, still_told}
+use Rattle.oss_grammar.proofs.KindLemmas.{inserted, still_told, where_told, same_line}
 use Rattle.oss_grammar.proofs.PlaceLemmas.{none_of, one_of_left, one_of_right, one_of_two}
 use Rattle.oss_grammar.proofs.RuleEquations.{found-number, found-name, found-index, found-unary, found-binary, found-call}
 use Rattle.oss_grammar.proofs.TreeInduction.{Each, ExprParts, expr_induction}

@@ -36,8 +36,8 @@ pub fn unknown_names_are_told(program: &Program)
     ensures { UnknownNamesAreTold program.now }
 {}
 
-/// Where tokens are a program and their lines rise, the lines of the rules that the program breaks rise too, NoMain aside. So the
-/// first of these rules is broken at the first token at which one is.
+/// Where tokens are a program and their lines rise, the lines of the rules that the program breaks rise too, NoMain aside. So none
+/// of these rules is broken on a line before that of the first.
 #[tactic(auto, using(crate::proofs::ProgramLines::rules_rise))]
 pub fn rules_rise(tokens: &List<Token>)
     ensures { RulesRise tokens.now }
