@@ -1,49 +1,62 @@
 -- Formats: the string of `printf` and what it writes (C11 7.21.6.1), the conversions being %d, %ld, %lu and %%.
--- Read against: %d and %ld of 18446744073709551611 write -5, %lu writes 18446744073709551611; "100%%" writes 100%.
-use Rattle.std.specs.Prelude.{ℕ, ◌+◌, ◌-◌, ◌^◌, ◌==◌, if◌then◌else◌, List, [], ◌∷◌, ◌++◌, Option, Some, None, option_map}
+-- Read against: %d and %ld of 18446744073709551611 write -5, %lu writes 18446744073709551611; "100%%" writes 100%; of "%s" and of
+-- "50%" there are no pieces, and "%d!" has the two pieces that "%ld!" has.
+use Rattle.std.specs.Prelude.{◌≡◌, ℕ, ◌+◌, ◌-◌, ◌^◌, ◌==◌, false, if◌then◌else◌, List, [], ◌∷◌, ◌++◌, Option, Some, None, option_map}
 use Rattle.std.specs.Fmt.{decimal}
 use Rattle.oss_grammar.specs.Values.{is_negative}
 use Rattle.oss_grammar.specs.declared.format.Piece.{Piece}
 use Rattle.oss_grammar.specs.declared.format.Piece.TheVariants as piece
-use Rattle.oss_grammar.specs.declared.format.Stage.{Stage}
-use Rattle.oss_grammar.specs.declared.format.Stage.TheVariants as stage
-use Rattle.oss_grammar.specs.declared.format.Step.{Step}
-use Rattle.oss_grammar.specs.declared.format.Step.TheVariants as step
 
 -- a number of 64 bits in decimal, read as signed
 abbrev pub signed_text : ℕ → List ℕ
 signed_text v = if is_negative v then 45 ∷ decimal (2 ^ 64 - v) else decimal v
 
--- the pieces that a string begins with, and those behind it
+-- How a piece is spelled: a byte that is no `%` as itself, a `%` as `%%`, the place of a signed number as `%d` or `%ld`, and that
+-- of an unsigned one as `%lu`. Nothing else begins with a `%`.
+pub data IsSpelling : Piece → List ℕ → Type 0 where
+  itself : (b : ℕ) → (b == 37) ≡ false → IsSpelling (piece.Plain b) (b ∷ [])
+  percent : IsSpelling (piece.Plain 37) (37 ∷ 37 ∷ [])
+  signed : IsSpelling piece.Signed (37 ∷ 100 ∷ [])
+  long_signed : IsSpelling piece.Signed (37 ∷ 108 ∷ 100 ∷ [])
+  long_unsigned : IsSpelling piece.Unsigned (37 ∷ 108 ∷ 117 ∷ [])
+
+-- A string has these pieces: it is their spellings, one behind the other.
+pub data HasPieces : List ℕ → List Piece → Type 0 where
+  no_piece : {format : List ℕ} → format ≡ [] → HasPieces format []
+  more_pieces : {format : List ℕ} {p : Piece} {more : List Piece} (front back : List ℕ)
+      → format ≡ front ++ back → IsSpelling p front → HasPieces back more → HasPieces format (p ∷ more)
+
+-- a piece, and those behind it
 abbrev pub with_piece : Piece → Option (List Piece) → Option (List Piece)
 with_piece piece pieces = option_map (λ rest. piece ∷ rest) pieces
 
--- what one more byte of a string means, the conversions being %d, %ld, %lu and %%
-abbrev pub step_of : Stage → ℕ → Step
-step_of stage.Before b = if b == 37 then step.Stage stage.Percent else step.Piece (piece.Plain b)
-step_of stage.Percent b =
-    if b == 37 then step.Piece (piece.Plain 37) else if b == 100 then step.Piece piece.Signed else if b == 108 then step.Stage stage.Long else step.Bad
-step_of stage.Long b = if b == 100 then step.Piece piece.Signed else if b == 117 then step.Piece piece.Unsigned else step.Bad
+-- The pieces of a whole string, and of what stands behind a `%` and behind a `%l`; none where a `%` begins something else. `%d!` has
+-- two; of `%s` there are none, since it is refused.
+abbrev mutual
+  pub pieces_of : List ℕ → Option (List Piece)
+  pieces_of [] = Some []
+  pieces_of (b ∷ rest) = if b == 37 then pieces_behind_percent rest else with_piece (piece.Plain b) (pieces_of rest)
 
--- a string may end before a conversion, and not inside one
-abbrev pub at_end : Stage → Option (List Piece)
-at_end stage.Before = Some []
-at_end _ = None
+  pub pieces_behind_percent : List ℕ → Option (List Piece)
+  pieces_behind_percent [] = None
+  pieces_behind_percent (b ∷ rest) =
+      if b == 37 then with_piece (piece.Plain 37) (pieces_of rest)
+      else if b == 100 then with_piece piece.Signed (pieces_of rest)
+      else if b == 108 then pieces_behind_long rest
+      else None
 
--- the pieces of a string from one byte on: its own, if there is one, and those behind it; none where it fits nowhere
-abbrev pub stepped : Step → (Stage → Option (List Piece)) → Option (List Piece)
-stepped (step.Piece p) behind = with_piece p (behind stage.Before)
-stepped (step.Stage s) behind = behind s
-stepped step.Bad behind = None
+  pub pieces_behind_long : List ℕ → Option (List Piece)
+  pieces_behind_long [] = None
+  pieces_behind_long (b ∷ rest) =
+      if b == 100 then with_piece piece.Signed (pieces_of rest)
+      else if b == 117 then with_piece piece.Unsigned (pieces_of rest)
+      else None
 
--- the pieces of a string; none where a % begins something else
-abbrev pub pieces_from : Stage → List ℕ → Option (List Piece)
-pieces_from s [] = at_end s
-pieces_from s (b ∷ rest) = stepped (step_of s b) (λ t. pieces_from t rest)
-
--- the pieces of a whole string: `%d!` has two; of `%s` there are none, since it is refused
-abbrev pub pieces_of : List ℕ → Option (List Piece)
-pieces_of format = pieces_from stage.Before format
+-- The string has the pieces that are computed of it, and no others, and none where none are computed.
+pub record HasItsPiecesAlone (format : List ℕ) : Type 0 where
+  pub computed : (pieces : List Piece) → HasPieces format pieces → pieces_of format ≡ Some pieces
+  pub has : (pieces : List Piece) → pieces_of format ≡ Some pieces → HasPieces format pieces
+  pub alone : (pieces other : List Piece) → HasPieces format pieces → HasPieces format other → pieces ≡ other
 
 -- how many arguments the pieces take
 abbrev pub arguments_of : List Piece → ℕ

@@ -5,16 +5,20 @@ pub mod Expressions
 pub mod Formats
 pub mod Fronts
 pub mod Grammar
+pub mod Jumps
 pub mod Kinds
 pub mod Layout
 pub mod Levels
 pub mod OneToken
 pub mod Parsing
+pub mod Places
 pub mod Pragmas
 pub mod ProgramRules
 pub mod Programs
 pub mod Reading
+pub mod Redeclarations
 pub mod Refusals
+pub mod RuleOrder
 pub mod Scopes
 pub mod SectionCells
 pub mod SectionRules
@@ -23,5 +27,6 @@ pub mod StatementLimits
 pub mod Statements
 pub mod StaticRules
 pub mod Tokens
+pub mod UnknownNames
 pub mod Values
 pub mod Words

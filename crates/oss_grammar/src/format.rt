@@ -1,6 +1,6 @@
-ghost use Rattle.std.specs.Prelude.{◌≡◌, ◌≤◌, ◌∷◌, [], ◌++◌, ◌<◌, ◌^◌, length, IfOk, OnOk, OnErr, All};
+ghost use Rattle.std.specs.Prelude.{◌≡◌, ◌≤◌, ◌<◌, ◌∷◌, [], ◌++◌, None, length, IfOk, OnOk, MatchOption};
 ghost use Rattle.std.specs.Fmt.{decimal};
-ghost use Rattle.oss_grammar.specs.Formats.{conversions_of, step_of, at_end, pieces_of, arguments_of, written_pieces, signed_text};
+ghost use Rattle.oss_grammar.specs.Formats.{conversions_of, with_piece, pieces_of, pieces_behind_percent, pieces_behind_long, arguments_of, written_pieces, signed_text};
 
 use oss_syntax::List;
 use std::alloc::{AllocError, Global};
@@ -14,90 +14,66 @@ pub enum Piece {
     Unsigned,
 }
 
-/// Where the reading of a conversion stands: before it, behind `%`, or behind `%l`.
-#[derive(Clone, Copy)]
-enum Stage {
-    Before,
-    Percent,
-    Long,
-}
-
-/// What one more byte means: a piece, that a conversion goes on, or that the string is refused.
-#[derive(Clone, Copy)]
-enum Step {
-    Piece(Piece),
-    Stage(Stage),
-    Bad,
-}
-
 /// The pieces of a string of `printf` (C11 7.21.6.1), the conversions being `%d`, `%ld`, `%lu` and `%%`; `None` exactly
 /// where a `%` begins something else.
 pub fn pieces(alloc: Global, format: &[u8]) -> Result<Option<List<Piece>>, AllocError>
     ensures { IfOk result (λ found. found ≡ pieces_of format.now) }
 {
     let mut found = Vec::new(alloc);
-    let mut stage = Stage::Before;
-    for byte in format {
-        match next(stage, *byte) {
-            Step::Piece(piece) => {
-                found.push(piece)?;
-                stage = Stage::Before;
-            }
-            Step::Stage(behind) => stage = behind,
-            Step::Bad => return Ok(None),
-        }
+    let mut left = format;
+    while !left.is_empty() {
+        let Some((piece, behind)) = first_piece(left) else {
+            return Ok(None);
+        };
+        found.push(piece)?;
+        left = behind;
     }
-    match stage {
-        Stage::Before => Ok(Some(List::from_vec(found))),
-        Stage::Percent => Ok(None),
-        Stage::Long => Ok(None),
-    }
+    Ok(Some(List::from_vec(found)))
 }
 
-fn next(stage: Stage, byte: u8) -> Step
-    ensures { result ≡ step_of stage byte }
+/// The piece that a string begins with, and what stands behind it; `None` where it begins with none.
+fn first_piece(format: &[u8]) -> Option<(Piece, &[u8])>
+    requires { 0 < length format.now }
+    ensures { MatchOption result (pieces_of format.now ≡ None) (λ x. (pieces_of format.now ≡ with_piece x.0 (pieces_of x.1.now)) × (length x.1.now < length format.now)) }
 {
-    match stage {
-        Stage::Before => before(byte),
-        Stage::Percent => behind_percent(byte),
-        Stage::Long => behind_long(byte),
-    }
-}
-
-fn before(byte: u8) -> Step
-    ensures { result ≡ step_of Stage.Before byte }
-{
+    let (byte, behind) = first_byte(format)?;
     if byte == b'%' {
-        Step::Stage(Stage::Percent)
-    } else {
-        Step::Piece(Piece::Plain(byte))
+        return behind_percent(behind);
+    }
+    Some((Piece::Plain(byte), behind))
+}
+
+/// The piece that a `%` begins with this behind it, and what stands behind the piece.
+fn behind_percent(format: &[u8]) -> Option<(Piece, &[u8])>
+    ensures { MatchOption result (pieces_behind_percent format.now ≡ None) (λ x. (pieces_behind_percent format.now ≡ with_piece x.0 (pieces_of x.1.now)) × (length x.1.now < length format.now)) }
+{
+    let (byte, behind) = first_byte(format)?;
+    match byte {
+        b'%' => Some((Piece::Plain(b'%'), behind)),
+        b'd' => Some((Piece::Signed, behind)),
+        b'l' => behind_long(behind),
+        _ => None,
     }
 }
 
-fn behind_percent(byte: u8) -> Step
-    ensures { result ≡ step_of Stage.Percent byte }
+/// The piece that a `%l` begins with this behind it, and what stands behind the piece.
+fn behind_long(format: &[u8]) -> Option<(Piece, &[u8])>
+    ensures { MatchOption result (pieces_behind_long format.now ≡ None) (λ x. (pieces_behind_long format.now ≡ with_piece x.0 (pieces_of x.1.now)) × (length x.1.now < length format.now)) }
 {
-    if byte == b'%' {
-        Step::Piece(Piece::Plain(b'%'))
-    } else if byte == b'd' {
-        Step::Piece(Piece::Signed)
-    } else if byte == b'l' {
-        Step::Stage(Stage::Long)
-    } else {
-        Step::Bad
+    let (byte, behind) = first_byte(format)?;
+    match byte {
+        b'd' => Some((Piece::Signed, behind)),
+        b'u' => Some((Piece::Unsigned, behind)),
+        _ => None,
     }
 }
 
-fn behind_long(byte: u8) -> Step
-    ensures { result ≡ step_of Stage.Long byte }
+/// The first byte of a text, and those behind it.
+fn first_byte(text: &[u8]) -> Option<(u8, &[u8])>
+    ensures { MatchOption result (text.now ≡ []) (λ x. text.now ≡ x.0 ∷ x.1.now) }
 {
-    if byte == b'd' {
-        Step::Piece(Piece::Signed)
-    } else if byte == b'u' {
-        Step::Piece(Piece::Unsigned)
-    } else {
-        Step::Bad
-    }
+    let (byte, behind) = text.split_first()?;
+    Some((*byte, behind))
 }
 
 /// How many arguments the pieces take.
@@ -120,22 +96,13 @@ pub fn conversions(format: &[u8]) -> Option<usize>
     ensures { result ≡ conversions_of format.now }
 {
     let mut count = 0usize;
-    let mut stage = Stage::Before;
-    for byte in format {
-        match next(stage, *byte) {
-            Step::Piece(piece) => {
-                count += arguments_taken(piece);
-                stage = Stage::Before;
-            }
-            Step::Stage(behind) => stage = behind,
-            Step::Bad => return None,
-        }
+    let mut left = format;
+    while !left.is_empty() {
+        let (piece, behind) = first_piece(left)?;
+        count += arguments_taken(piece);
+        left = behind;
     }
-    match stage {
-        Stage::Before => Some(count),
-        Stage::Percent => None,
-        Stage::Long => None,
-    }
+    Some(count)
 }
 
 fn arguments_taken(piece: Piece) -> usize

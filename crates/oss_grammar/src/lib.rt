@@ -3,6 +3,7 @@
 
 mod format;
 mod kinds;
+pub mod laws;
 mod line_part;
 
 pub use format::{Piece, arguments, conversions, pieces, write_pieces};

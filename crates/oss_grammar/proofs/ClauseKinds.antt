@@ -1,0 +1,71 @@
+-- Which kinds of rules sections, clauses and declarators break.
+use Rattle.std.proofs.Common.{◌≡◌, ℕ, ◌+◌, ◌&&◌, Bool, true, false, not, List, [], ◌∷◌, length, Option, Some, None}
+use Rattle.std.specs.Prelude.{◌==◌, nat_le}
+use Rattle.oss_syntax.specs.declared.refusal.RefusedKind.{RefusedKind}
+use Rattle.oss_syntax.specs.declared.refusal.RefusedKind.TheVariants as refused
+use Rattle.oss_syntax.specs.declared.tree.pragma.Clause.{Clause}
+use Rattle.oss_syntax.specs.declared.tree.pragma.Clause.TheVariants as clause
+use Rattle.oss_syntax.specs.declared.tree.pragma.Form.{Form}
+use Rattle.oss_syntax.specs.declared.tree.pragma.Form.TheVariants as form
+use Rattle.oss_syntax.specs.declared.tree.pragma.Section.{Section}
+use Rattle.oss_syntax.specs.declared.tree.pragma.TaskMark.{TaskMark}
+use Rattle.oss_syntax.specs.declared.tree.program.Item.{Item}
+use Rattle.oss_syntax.specs.declared.tree.program.Local.{Local}
+use Rattle.oss_grammar.specs.declared.kinds.Wanted.TheVariants as wanted
+use Rattle.oss_grammar.specs.ProgramRules.{mark_rules}
+use Rattle.oss_grammar.specs.Scopes.{is_local_again, meaning}
+use Rattle.oss_grammar.specs.SectionRules.{begins_with_base, clause_rules, clauses_rules, form_rules, is_fold, is_missing, is_wrong_section, section_rules, sections_in, sections_rules}
+use Rattle.oss_grammar.specs.StaticRules.{declare_all, wait_rules, with_local}
+use Rattle.oss_grammar.proofs.KindLemmas.{Only, only_none, only_two, only_where, only_optional, only_value, only_returned}
+
+module _ (test : RefusedKind → Bool) (unknown : test refused.UnknownName ≡ true) (wrong : test refused.WrongKind ≡ true) (count : test refused.WrongCount ≡ true) (large : test refused.TooLarge ≡ true)
+    (all : List Item) where
+  module _ (locals : List Local) where
+    only_form : (f : Form) → Only test (form_rules all locals f)
+    only_form form.Whole = only_none test
+    only_form form.Deref = only_none test
+    only_form (form.Shape e) = only_value test unknown wrong count all locals wanted.Number e
+    only_form (form.Element e) = only_value test unknown wrong count all locals wanted.Number e
+    only_form (form.Length e n) = only_two (only_value test unknown wrong count all locals wanted.Number e) (only_value test unknown wrong count all locals wanted.Number n)
+    only_form (form.Span e u) = only_two (only_optional test unknown wrong count all locals e) (only_optional test unknown wrong count all locals u)
+
+    only_section : (fold : Bool) (before : ℕ) (s : Section) → Only test (section_rules all locals fold before s)
+    only_section fold before s =
+        only_two (only_where test (begins_with_base s.form && is_missing (meaning all locals s.base)) refused.UnknownName s.line unknown)
+        (only_two (only_where test (is_wrong_section fold s.form (meaning all locals s.base)) refused.WrongKind s.line wrong)
+        (only_two (only_where test (before == 64) refused.TooLarge s.line large)
+        (only_two (only_form s.form)
+        (only_where test (not (begins_with_base s.form) && is_missing (meaning all locals s.base)) refused.UnknownName s.base_line unknown))))
+
+    only_sections : (fold : Bool) (before : ℕ) (ss : List Section) → Only test (sections_rules all locals fold before ss)
+    only_sections fold before [] = only_none test
+    only_sections fold before (s ∷ rest) = only_two (only_section fold before s) (only_sections fold (before + 1) rest)
+
+    only_clause : (before : ℕ) (c : Clause) → Only test (clause_rules all locals before c)
+    only_clause before (clause.Depend m strong sections) = only_sections (is_fold m) before sections
+    only_clause before (clause.If e) = only_value test unknown wrong count all locals wanted.Number e
+    only_clause before (clause.Final e) = only_value test unknown wrong count all locals wanted.Number e
+    only_clause before clause.Wait = only_none test
+    only_clause before (clause.Label name) = only_none test
+    only_clause before (clause.Priority e) = only_value test unknown wrong count all locals wanted.Number e
+
+    pub only_clauses : (before : ℕ) (cs : List Clause) → Only test (clauses_rules all locals before cs)
+    only_clauses before [] = only_none test
+    only_clauses before (c ∷ rest) = only_two (only_clause before c) (only_clauses (before + length (sections_in c)) rest)
+
+    pub only_wait : (sections : Option (List Section)) → Only test (wait_rules all locals sections)
+    only_wait None = only_none test
+    only_wait (Some sections) = only_sections false 0 sections
+
+    pub only_mark : (mark : Option TaskMark) → Only test (mark_rules all locals mark)
+    only_mark None = only_none test
+    only_mark (Some mark) = only_clauses 0 mark.clauses
+
+  pub only_declared : (again : test refused.DuplicateName ≡ true) (start : ℕ) (ls locals : List Local) → Only test (declare_all all start ls locals).broken
+  only_declared again start [] locals = only_none test
+  only_declared again start (l ∷ rest) locals =
+      only_two
+      (only_two (only_where test (is_local_again start locals l.name) refused.DuplicateName l.line again)
+      (only_two (only_where test (nat_le 255 (length locals)) refused.TooLarge l.line large)
+      (only_returned test unknown wrong count all locals l.kind l.first)))
+      (only_declared again start rest (with_local (is_local_again start locals l.name) l locals))

@@ -1,0 +1,44 @@
+-- The order of broken rules: they stand in the order of the tokens that break them. A tree has the lines of tokens alone; as each token
+-- may stand on a line of its own, the order is said of lines.
+-- Read against: `int main() { b = 1; }` and `long a[0];` on the line behind it: UnknownName on line 1 comes before TooLarge on line
+-- 2. NoMain stands at no token: it is the last, and has line 1.
+use Rattle.std.specs.Prelude.{ℕ, ◌≤◌, List, [], ◌∷◌, map}
+use Rattle.oss_syntax.specs.declared.refusal.Refused.{Refused}
+use Rattle.oss_syntax.specs.declared.refusal.RefusedKind.{RefusedKind}
+use Rattle.oss_syntax.specs.declared.refusal.RefusedKind.TheVariants as refused
+use Rattle.oss_syntax.specs.declared.token.Token.{Token}
+use Rattle.oss_syntax.specs.declared.tree.program.Program.{Program}
+use Rattle.oss_grammar.specs.Parsing.{IsProgramText}
+use Rattle.oss_grammar.specs.ProgramRules.{program_rules}
+use Rattle.oss_grammar.specs.Programs.{IsProgram}
+
+-- No number is less than the one before it, nor the first less than this one: `3, 3, 7` rise from 1.
+pub data RisesFrom : ℕ → List ℕ → Type 0 where
+  no_more : {from : ℕ} → RisesFrom from []
+  next : {from n : ℕ} {rest : List ℕ} → from ≤ n → RisesFrom n rest → RisesFrom from (n ∷ rest)
+
+-- the lines of tokens
+abbrev pub token_lines : List Token → List ℕ
+token_lines tokens = map (λ t. t.line) tokens
+
+-- a rule at a token, and those behind it; NoMain is broken at none
+abbrev pub unless_no_main : RefusedKind → Refused → List Refused → List Refused
+unless_no_main refused.NoMain rule behind = behind
+unless_no_main _ rule behind = rule ∷ behind
+
+-- the rules that are broken at a token
+abbrev pub rules_at_tokens : List Refused → List Refused
+rules_at_tokens [] = []
+rules_at_tokens (rule ∷ behind) = unless_no_main rule.kind rule (rules_at_tokens behind)
+
+-- the lines of the rules that a program breaks at its tokens
+abbrev pub rule_lines : Program → List ℕ
+rule_lines p = map (λ rule. rule.line) (rules_at_tokens (program_rules p))
+
+-- Where tokens whose lines rise from some line are a program, the lines of the rules that it breaks at its tokens rise from there too.
+pub record RulesRise (tokens : List Token) : Type 0 where
+  pub rise : (p : Program) (from : ℕ) → RisesFrom from (token_lines tokens) → IsProgram tokens p → RisesFrom from (rule_lines p)
+
+-- So they do in the program that a text is.
+pub record RulesOfTextRise (text : List ℕ) : Type 0 where
+  pub rise : (p : Program) → IsProgramText text p → RisesFrom 1 (rule_lines p)

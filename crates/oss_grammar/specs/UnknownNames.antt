@@ -1,0 +1,130 @@
+-- Unknown names (C11 6.2.1, 6.5.1): a name that is used where it is neither a local in scope nor a global or a function.
+-- Read against: in `int main() { long x = y + x; { long z; } f(z); }` the names `y`, the `x` behind it, `f` and the `z` of the call are
+-- unknown, each on its line; the label of a pragma is no use of a name.
+use Rattle.std.specs.Prelude.{◌≡◌, ℕ, Bool, true, false, List, [], ◌∷◌, ◌++◌, length, Option, Some}
+use Rattle.oss_syntax.specs.declared.access.Mode.{Mode}
+use Rattle.oss_syntax.specs.declared.refusal.RefusedKind.TheVariants as refused
+use Rattle.oss_syntax.specs.declared.tree.expr.BinOp.{BinOp}
+use Rattle.oss_syntax.specs.declared.tree.expr.UnOp.{UnOp}
+use Rattle.oss_syntax.specs.declared.tree.expr.Expr.{Expr}
+use Rattle.oss_syntax.specs.declared.tree.expr.ExprKind.TheVariants as exprs
+use Rattle.oss_syntax.specs.declared.tree.pragma.Clause.{Clause}
+use Rattle.oss_syntax.specs.declared.tree.pragma.Clause.TheVariants as clause
+use Rattle.oss_syntax.specs.declared.tree.pragma.Form.{Form}
+use Rattle.oss_syntax.specs.declared.tree.pragma.Form.TheVariants as form
+use Rattle.oss_syntax.specs.declared.tree.pragma.Section.{Section}
+use Rattle.oss_syntax.specs.declared.tree.pragma.TaskMark.{TaskMark}
+use Rattle.oss_syntax.specs.declared.tree.program.Function.{Function}
+use Rattle.oss_syntax.specs.declared.tree.program.Item.{Item}
+use Rattle.oss_syntax.specs.declared.tree.program.Item.TheVariants as items
+use Rattle.oss_syntax.specs.declared.tree.program.Local.{Local}
+use Rattle.oss_syntax.specs.declared.tree.program.Program.{Program}
+use Rattle.oss_syntax.specs.declared.tree.stmt.Stmt.{Stmt}
+use Rattle.oss_syntax.specs.declared.tree.stmt.StmtKind.TheVariants as stmts
+use Rattle.oss_grammar.specs.declared.kinds.Around.{Around}
+use Rattle.oss_grammar.specs.Broken.{broken}
+use Rattle.oss_grammar.specs.Places.{IsOneOf, Stands, locals_behind_part, scope_behind}
+use Rattle.oss_grammar.specs.ProgramRules.{program_rules}
+use Rattle.oss_grammar.specs.Redeclarations.{NamesItem, NamesLocal}
+use Rattle.oss_grammar.specs.SectionRules.{begins_with_base}
+
+-- Neither one of the locals nor an item has this name.
+pub record IsUnknown (all : List Item) (visible : List Local) (name : List ℕ) : Type 0 where
+  pub no_local : NamesLocal visible name → ⊥
+  pub no_item : NamesItem all name → ⊥
+
+-- The name is used in an expression, on this line: as a value, as what is called, or in a part.
+pub data Uses (name : List ℕ) (line : ℕ) : Expr → Type 0 where
+  as_value : {e : Expr} → e.what ≡ exprs.Name name → e.line ≡ line → Uses name line e
+  as_callee : {e : Expr} (arguments : List Expr) → e.what ≡ exprs.Call name arguments → e.line ≡ line → Uses name line e
+  in_array : {e : Expr} (array at : Expr) → e.what ≡ exprs.Index array at → Uses name line array → Uses name line e
+  in_index : {e : Expr} (array at : Expr) → e.what ≡ exprs.Index array at → Uses name line at → Uses name line e
+  in_operand : {e : Expr} (o : UnOp) (operand : Expr) → e.what ≡ exprs.Unary o operand → Uses name line operand → Uses name line e
+  in_left : {e : Expr} (o : BinOp) (left right : Expr) → e.what ≡ exprs.Binary o left right → Uses name line left → Uses name line e
+  in_right : {e : Expr} (o : BinOp) (left right : Expr) → e.what ≡ exprs.Binary o left right → Uses name line right → Uses name line e
+  in_argument : {e : Expr} (callee : List ℕ) (arguments : List Expr) (argument : Expr) → e.what ≡ exprs.Call callee arguments → IsOneOf argument arguments
+      → Uses name line argument → Uses name line e
+
+-- The expression is one of those of a section's form.
+pub data InForm (e : Expr) : Form → Type 0 where
+  of_shape : InForm e (form.Shape e)
+  of_element : InForm e (form.Element e)
+  of_length_first : (count : Expr) → InForm e (form.Length e count)
+  of_length_count : (first : Expr) → InForm e (form.Length first e)
+  of_span_first : (last : Option Expr) → InForm e (form.Span (Some e) last)
+  of_span_last : (first : Option Expr) → InForm e (form.Span first (Some e))
+
+-- The name is used in a section: as its base, at its first token or behind all else, or in an expression of its form.
+pub data UsesInSection (name : List ℕ) (line : ℕ) (s : Section) : Type 0 where
+  as_first_base : s.base ≡ name → begins_with_base s.form ≡ true → s.line ≡ line → UsesInSection name line s
+  as_last_base : s.base ≡ name → begins_with_base s.form ≡ false → s.base_line ≡ line → UsesInSection name line s
+  in_form : (e : Expr) → InForm e s.form → Uses name line e → UsesInSection name line s
+
+-- The name is used in a clause of a pragma: in a section, or in its expression.
+pub data UsesInClause (name : List ℕ) (line : ℕ) : Clause → Type 0 where
+  in_section : (mode : Mode) (strong : Bool) (sections : List Section) (s : Section) → IsOneOf s sections → UsesInSection name line s → UsesInClause name line (clause.Depend mode strong sections)
+  in_if : (e : Expr) → Uses name line e → UsesInClause name line (clause.If e)
+  in_final : (e : Expr) → Uses name line e → UsesInClause name line (clause.Final e)
+  in_priority : (e : Expr) → Uses name line e → UsesInClause name line (clause.Priority e)
+
+-- The name is used in one of these clauses.
+pub record UsesInClauses (name : List ℕ) (line : ℕ) (clauses : List Clause) : Type 0 where
+  pub clause : Clause
+  pub is_listed : IsOneOf clause clauses
+  pub uses : UsesInClause name line clause
+
+-- The name is used in one of these sections.
+pub record UsesInSections (name : List ℕ) (line : ℕ) (sections : List Section) : Type 0 where
+  pub section : Section
+  pub is_listed : IsOneOf section sections
+  pub uses : UsesInSection name line section
+
+-- The name is used in one of these expressions.
+pub record UsesInSome (name : List ℕ) (line : ℕ) (es : List Expr) : Type 0 where
+  pub value : Expr
+  pub is_listed : IsOneOf value es
+  pub uses : Uses name line value
+
+-- The name is used in the initial value of a declarator, where these locals are in scope: those before the declarator, so not its own.
+pub record UsesInInitial (start : ℕ) (visible declared : List Local) (scope : List Local) (name : List ℕ) (line : ℕ) : Type 0 where
+  pub before : List Local
+  pub declarator : Local
+  pub behind : List Local
+  pub split : declared ≡ before ++ (declarator ∷ behind)
+  pub value : Expr
+  pub is_initial : declarator.first ≡ Some value
+  pub scope_is : scope_behind start before visible ≡ scope
+  pub uses : Uses name line value
+
+-- The name is used in a statement itself, not in one that stands in it, where these locals are in scope.
+pub data UsesIn (a : Around) (visible : List Local) (s : Stmt) : List Local → List ℕ → ℕ → Type 0 where
+  in_initial : {scope : List Local} {name : List ℕ} {line : ℕ} (declared : List Local) → s.what ≡ stmts.Declare declared → UsesInInitial a.start visible declared scope name line
+      → UsesIn a visible s scope name line
+  in_target : {name : List ℕ} {line : ℕ} (target : Expr) (o : Option BinOp) (value : Expr) → s.what ≡ stmts.Assign target o value → Uses name line target → UsesIn a visible s visible name line
+  in_stored : {name : List ℕ} {line : ℕ} (target : Expr) (o : Option BinOp) (value : Expr) → s.what ≡ stmts.Assign target o value → Uses name line value → UsesIn a visible s visible name line
+  as_called : {name : List ℕ} {line : ℕ} (arguments : List Expr) → s.what ≡ stmts.Call name arguments → s.line ≡ line → UsesIn a visible s visible name line
+  in_passed : {name : List ℕ} {line : ℕ} (callee : List ℕ) (arguments : List Expr) → s.what ≡ stmts.Call callee arguments → UsesInSome name line arguments → UsesIn a visible s visible name line
+  in_printed : {name : List ℕ} {line : ℕ} (format : List ℕ) (arguments : List Expr) → s.what ≡ stmts.Print format arguments → UsesInSome name line arguments → UsesIn a visible s visible name line
+  in_if_test : {name : List ℕ} {line : ℕ} (e : Expr) (branch : Stmt) (other : Option Stmt) → s.what ≡ stmts.If e branch other → Uses name line e → UsesIn a visible s visible name line
+  in_while_test : {name : List ℕ} {line : ℕ} (e : Expr) (body : Stmt) → s.what ≡ stmts.While e body → Uses name line e → UsesIn a visible s visible name line
+  in_for_test : {name : List ℕ} {line : ℕ} (start : Option Stmt) (e : Expr) (last : Option Stmt) (body : Stmt) → s.what ≡ stmts.For start (Some e) last body → Uses name line e
+      → UsesIn a visible s (locals_behind_part (length visible) start visible) name line
+  in_returned : {name : List ℕ} {line : ℕ} (e : Expr) → s.what ≡ stmts.Return (Some e) → Uses name line e → UsesIn a visible s visible name line
+  in_task_clauses : {name : List ℕ} {line : ℕ} (mark : TaskMark) (body : Stmt) → s.what ≡ stmts.Task mark body → UsesInClauses name line mark.clauses → UsesIn a visible s visible name line
+  in_wait_sections : {name : List ℕ} {line : ℕ} (sections : List Section) → s.what ≡ stmts.TaskWait (Some sections) → UsesInSections name line sections → UsesIn a visible s visible name line
+  in_release_clauses : {name : List ℕ} {line : ℕ} (clauses : List Clause) → s.what ≡ stmts.Release clauses → UsesInClauses name line clauses → UsesIn a visible s visible name line
+
+-- On this line of a program a name is used that is unknown there: in the pragma of a function, in the initial value of a parameter,
+-- which no text has, or in a statement.
+pub data UsesUnknown (p : Program) (line : ℕ) : Type 0 where
+  in_pragma : (f : Function) (mark : TaskMark) (name : List ℕ) → IsOneOf (items.Function f) p.items → f.mark ≡ Some mark → UsesInClauses name line mark.clauses
+      → IsUnknown p.items (scope_behind 0 f.params []) name → UsesUnknown p line
+  in_parameter : (f : Function) (scope : List Local) (name : List ℕ) → IsOneOf (items.Function f) p.items → UsesInInitial 0 [] f.params scope name line
+      → IsUnknown p.items scope name → UsesUnknown p line
+  in_statement : (f : Function) (around : Around) (visible : List Local) (s : Stmt) (scope : List Local) (name : List ℕ) → Stands p f around visible s → UsesIn around visible s scope name line
+      → IsUnknown p.items scope name → UsesUnknown p line
+
+-- UnknownName is among the broken rules of a program, with a line, exactly where an unknown name is used on that line.
+pub record UnknownNamesAreTold (p : Program) : Type 0 where
+  pub told : (line : ℕ) → UsesUnknown p line → IsOneOf (broken refused.UnknownName line) (program_rules p)
+  pub only : (line : ℕ) → IsOneOf (broken refused.UnknownName line) (program_rules p) → UsesUnknown p line
