@@ -161,6 +161,9 @@ check "the first call tells of each crate" tells first side low middle nest6
 check "the first crate and how many are left" says first 'nest6: proving side, crate 1 of 4 (3 left)'
 check "the last crate and how many are left" says first 'nest6: proving nest6, crate 4 of 4 (0 left)'
 check "the first call says that the program is built" says first 'nest6: the program is built'
+for document in README.md docs/COMMANDS.md docs/GATE.md; do
+  check "the same time in $document" grep -q -F -e "$(sed -n "s/^measured='\(.*\)'\$/\1/p" "$copy/nest6")" "$top/$document"
+done
 check "the program is built by a run on the stored example" grep -q -x -e 'run -- run data/flow.c' "$work/calls"/*
 check "the log has what rt has written" grep -q -x -e 'fn low::it: proved' "$out/build.log"
 
