@@ -36,8 +36,8 @@ low: thiserror
 side:
 END
 
-# What it does is in the file `does`: `prove`; `fail in CRATE`; `stay in CRATE`, for ever; `wait in CRATE`, for the file `go`. What
-# it has finished it passes over, as rt does.
+# What it does is in the file `does`: `prove`; `fail in CRATE`; `stay in CRATE`, for ever; `wait in CRATE`, for the file `go`;
+# `half`, to leave half a program and stay. What it has finished it passes over, as rt does.
 mkdir "$work/fake" "$work/tools" "$work/calls"
 cat >"$work/fake/rt" <<'END'
 #!/bin/sh
@@ -62,6 +62,11 @@ for crate in side low middle nest6; do
   esac
   : >"../$crate/out/finished"
 done
+if [ "$does" = half ]; then
+  echo '#!/bin/sh' >out/nest6
+  chmod +x out/nest6
+  exec sleep 60
+fi
 cp "$work/program" out/nest6
 chmod +x out/nest6
 END
@@ -69,6 +74,7 @@ chmod +x "$work/fake/rt"
 cat >"$work/program" <<'END'
 #!/bin/sh
 for word in "$@"; do echo "word $word of $(basename "$PWD")"; done
+(true >&9) 2>/dev/null && echo 'the lock'
 echo 'error output' >&2
 exit 7
 END
@@ -240,6 +246,16 @@ echo prove >"$work/does"
 call resumed
 check "the call behind that ends as the program does" ended 7 resumed
 check "the call behind that goes on" tells resumed middle nest6
+
+# The program is gone, and a build is cut off while it writes a new one: the next call builds.
+rm "$out/nest6"
+echo half >"$work/does"
+begin cut
+until [ -x "$out/nest6" ] || is_gone "$begun"; do sleep 0.1; done
+cut TERM
+echo prove >"$work/does"
+call whole
+check "a program that was written by half is built again" ended 7 whole
 
 # Two calls at once: the second waits for the first, and builds nothing.
 fresh 'wait in low'
