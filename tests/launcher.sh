@@ -36,8 +36,8 @@ low: thiserror
 side:
 END
 
-# What it does is in the file `does`: `prove`; `fail in CRATE`; `stay in CRATE`, for ever; `wait in CRATE`, for the file `go`;
-# `half`, to leave half a program and stay. What it has finished it passes over, as rt does.
+# What it does is in the file `does`: `prove`; `fail at once`; `fail in CRATE`; `stay in CRATE`, for ever; `wait in CRATE`, for
+# the file `go`; `half`, to leave half a program and stay. What it has finished it passes over, as rt does.
 mkdir "$work/fake" "$work/tools" "$work/calls"
 cat >"$work/fake/rt" <<'END'
 #!/bin/sh
@@ -46,6 +46,7 @@ work=../../..
 echo "$*" >"$work/calls/$$"
 echo "$$" >"$work/process"
 does=$(cat "$work/does")
+[ "$does" != 'fail at once' ] || exit 1
 echo 'only=0 proved=0'
 for crate in side low middle nest6; do
   mkdir -p "../$crate/out"
@@ -215,6 +216,9 @@ check "a failed build names the crate and the log" says failure "nest6: the buil
 check "a failed build tells of the crates up to there" tells failure side low middle
 check "a failed build leaves no stamp" test ! -e "$out/built-from" -a ! -e "$out/built-from.new"
 check "the log of a failed build" grep -q -x -e 'fn middle::it: not proved' "$out/build.log"
+echo 'fail at once' >"$work/does"
+call early
+check "a build that fails before a crate is begun" says early "nest6: the build failed; its log is $out/build.log"
 echo prove >"$work/does"
 call mended
 check "a mended build ends as the program does" ended 7 mended
