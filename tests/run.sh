@@ -161,6 +161,24 @@ awk 'BEGIN { printf "int main() {"; for (i = 0; i < 1000000; i++) printf ";"; pr
 judge "little memory to check" 6 ../nothing ../nothing $?
 (ulimit -v 60000 && exec "$program" run statements.c) >"$work/out" 2>"$work/err"
 judge "little memory to run" 6 ../nothing ../nothing $?
+# The deepest text that the limits allow: 63 blocks, and in them a call in a call, 63 deep, around 256 operators. `check` of it takes
+# 3.3 MB of memory with 0.63 MB of stack in it, where a text of one line takes 2.7 MB.
+awk 'BEGIN {
+  print "long x;\nlong f(long y) { return y; }\nint main() {"
+  for (i = 0; i < 63; i++) printf "{"
+  printf "x = "
+  for (i = 0; i < 63; i++) printf "f("
+  printf "1"; for (i = 0; i < 256; i++) printf "+1"
+  for (i = 0; i < 63; i++) printf ")"
+  printf ";"
+  for (i = 0; i < 63; i++) printf "}"
+  print "\n}"
+}' >deepest.c
+sed 's/f(/(/g; /return/d' deepest.c >deepest_run.c
+(ulimit -v 5000 && ulimit -s 1000 && exec "$program" check deepest.c) >"$work/out" 2>"$work/err"
+judge "the deepest text to check, on little memory" 0 ok ../nothing $?
+(ulimit -v 5000 && ulimit -s 1000 && exec "$program" run deepest_run.c) >"$work/out" 2>"$work/err"
+judge "the deepest text to run, on little memory" 0 ../nothing ../nothing $?
 if [ -c /dev/full ]; then
   : >"$work/out"
   "$program" run short.c >/dev/full 2>"$work/err"
