@@ -78,6 +78,10 @@ module _ (s : Stmt) (names : List (List ℕ)) (kinds : List NumKind) (st : State
 pub ends_along : {U : Type 0} (e f : Ending) (r : Result U Stop) (now : State) → e ≡ f → EndsAs f r now → EndsAs e r now
 ends_along {U} e f r now is ends = let P : Ending → Type 0 = λ x. EndsAs x r now in subst P (sym is) ends
 
+-- a stop that is handed on
+pub ends_told : {U : Type 0} (e : Ending) (r s : Result U Stop) (now : State) → s ≡ r → EndsAs e r now → EndsAs e s now
+ends_told {U} e r s now is ends = let P : Result U Stop → Type 0 = λ x. EndsAs e x now in subst P (sym is) ends
+
 pub ends_goes : {U : Type 0} (e : Ending) (whole : (State → Ending) → Ending) (r : Result U Stop) (now : State) → e ≡ whole (λ next. Goes next) → GoesOn whole r now → EndsAs e r now
 ends_goes e whole (Ok u) now is goes = is ∙ goes (λ next. Goes next)
 ends_goes e whole (Err (stop.Fault kind line)) now is goes = is ∙ goes (λ next. Goes next)
