@@ -12,9 +12,7 @@ use crate::sections::{clauses, is_of_ints};
 use crate::statements::{declare, statements};
 use oss_grammar::Around;
 use oss_kinds::{Globals, Locals, NameTable, before, is_named_main, refused, refused_if};
-use oss_syntax::{
-    Function, GlobalDef, Item, Kind, Local, Program, Refusal, Refused, RefusedKind,
-};
+use oss_syntax::{Function, GlobalDef, Item, Kind, Local, Program, Refusal, Refused, RefusedKind};
 use std::alloc::{AllocError, Global};
 
 /// The most cells of a program.

@@ -1,11 +1,10 @@
 -- What each statement means, case by case.
-use Rattle.std.proofs.Common.{◌≡◌, ℕ, suc, ◌+◌, ◌<◌, ◌||◌, false, List, [], ◌∷◌, length, get_or, drop, drop-cons, ap, Option, Some, None, Result, Ok, Err, refl, sym, ◌∙◌, subst, rules}
+use Rattle.std.proofs.Common.{◌≡◌, ℕ, suc, ◌+◌, ◌<◌, ◌||◌, false, List, ◌∷◌, length, get_or, drop, drop-cons, ap, Some, None, Result, Ok, Err, refl, sym, ◌∙◌, subst, rules}
 use Rattle.oss_syntax.specs.declared.tree.expr.BinOp.{BinOp}
 use Rattle.oss_syntax.specs.declared.tree.expr.Expr.{Expr}
 use Rattle.oss_syntax.specs.declared.tree.pragma.TaskMark.{TaskMark}
 use Rattle.oss_syntax.specs.declared.tree.program.NumKind.{NumKind}
 use Rattle.oss_syntax.specs.declared.tree.stmt.Stmt.{Stmt}
-use Rattle.oss_syntax.specs.declared.tree.stmt.StmtKind.{StmtKind}
 use Rattle.oss_syntax.specs.declared.tree.stmt.StmtKind.TheVariants as stmts
 use Rattle.oss_syntax.specs.declared.tree.stmt.StmtKind.TheFolds.{the_lemmas as stmt_folds}
 use Rattle.oss_syntax.specs.declared.fault.FaultKind.{FaultKind}
@@ -15,7 +14,7 @@ use Rattle.oss_judge.specs.declared.refused.JudgeRefused.TheVariants as judge
 use Rattle.oss_syntax.specs.declared.access.Access.{Access}
 use Rattle.oss_model.specs.Context.{Context, waited, create_fault, clause_fault, lend}
 use Rattle.oss_model.specs.Rights.{right_from}
-use Rattle.oss_serial.specs.Scalars.{State, Ending, Goes, Stops, Run, assigned, printed_values, task_run, mark_accesses, ticked, run_of, runs_of, entered, left_task}
+use Rattle.oss_serial.specs.Scalars.{State, Ending, Goes, Stops, assigned, printed_values, task_run, mark_accesses, ticked, run_of, runs_of, entered, left_task}
 use Rattle.oss_serial.specs.declared.stop.Stop.{Stop}
 use Rattle.oss_serial.specs.declared.stop.Stop.TheVariants as stop
 use Rattle.oss_serial.specs.Endings.{EndsAs, GoesOn, EntersTask, stop_for}

@@ -1,6 +1,6 @@
 use Rattle.std.proofs.Common.{◌≡◌, ◌∙◌, ap, rules, sym, subst, List, Err}
 use Rattle.oss_syntax.specs.declared.tree.stmt.Stmt.{Stmt}
-use Rattle.oss_serial.specs.Scalars.{State, Ending, Goes, Stops, entered, printed_values, task_run, mark_accesses, run_of, runs_of, in_order, ticked}
+use Rattle.oss_serial.specs.Scalars.{State, Goes, entered, printed_values, task_run, mark_accesses, run_of, runs_of, ticked}
 use Rattle.oss_serial.specs.Endings.{EndsAs, stop_for}
 use Rattle.std.specs.Prelude.{None}
 use Rattle.oss_syntax.specs.declared.access.Access.{Access}
