@@ -21,14 +21,14 @@ position-push p xs y n m false at len e le =
     let more = position_or_len_push p xs y in grind (arith, nat_tests, more, length-append xs (y ∷ []))
 
 -- the place of a name among names and one more
-abbrev with_place : Option ℕ → Bool → ℕ → Option ℕ
+abbrev pub with_place : Option ℕ → Bool → ℕ → Option ℕ
 with_place old is_it place = if is_some old then old else (if is_it then Some place else None)
 
 found-first : (b : Bool) (n m : ℕ) (is_it : Bool) → (if b then Some n else (if is_it then Some m else None)) ≡ with_place (cond b (Some n) None) is_it m
 found-first true n m is_it = refl
 found-first false n m is_it = refl
 
-place-push : (names : List (List ℕ)) (more name : List ℕ) → place_among (names ++ more ∷ []) name ≡ with_place (place_among names name) (bytes_eq more name) (length names)
+pub place-push : (names : List (List ℕ)) (more name : List ℕ) → place_among (names ++ more ∷ []) name ≡ with_place (place_among names name) (bytes_eq more name) (length names)
 place-push names more name =
     let passes : List ℕ → Bool = λ other. bytes_eq other name in
     let before = position_or_len passes names in

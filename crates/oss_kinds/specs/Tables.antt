@@ -1,9 +1,12 @@
 -- Tables of names. A name may stand more than once in a list, and its place is that of the first.
 -- Read against: among `a`, `b`, `a` the place of `a` is 0 and that of `b` is 1, and `c` has none; a table of these names holds two.
-use Rattle.std.specs.Prelude.{◌≡◌, ℕ, List, Option, position}
+use Rattle.std.specs.Prelude.{◌≡◌, ℕ, List, Option, None, Some, option_map, position, slice_get}
 use Rattle.std.specs.Borrow.{Bor}
 use Rattle.std.specs.Str.{bytes_eq}
 use Rattle.indexmap.specs.IndexMap.{IndexMap, get_by}
+use Rattle.oss_syntax.specs.declared.tree.program.Kind.{Kind}
+use Rattle.oss_syntax.specs.declared.tree.program.Local.{Local}
+use Rattle.oss_grammar.specs.Scopes.{local_kind}
 
 -- the place of a name among names
 abbrev pub place_among : List (List ℕ) → List ℕ → Option ℕ
@@ -12,3 +15,12 @@ place_among names name = position (λ other. bytes_eq other name) names
 -- the table has the first place of each of these names, and no other name
 abbrev pub HasFirstPlaces : {S : Type 0} → IndexMap (Bor (List ℕ)) ℕ S → List (List ℕ) → Type 0
 HasFirstPlaces table names = (name : List ℕ) → get_by (λ key. bytes_eq name key.now) table ≡ place_among names name
+
+-- the type of the local at a place, where there is one
+abbrev pub kind_at : List Local → Option ℕ → Option Kind
+kind_at locals None = None
+kind_at locals (Some i) = option_map (λ l. l.kind) (slice_get locals i)
+
+-- the place of a name among these names is that of the local that it stands for
+abbrev pub TellsKinds : List (List ℕ) → List Local → Type 0
+TellsKinds names locals = (name : List ℕ) → local_kind locals name ≡ kind_at locals (place_among names name)

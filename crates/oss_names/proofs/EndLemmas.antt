@@ -1,5 +1,5 @@
 -- How the checks of parts of a text end together.
-use Rattle.std.proofs.Common.{◌≡◌, ℕ, suc, Bool, true, false, ◌+◌, ◌<◌, nat_lt, nat_le, ◌||◌, cond, List, [], ◌∷◌, ◌++◌, length, map, take, drop, get_or, position, Option, Some, None, is_some, Result, Ok, Err, refl, sym, ap, ◌∙◌, subst, arith}
+use Rattle.std.proofs.Common.{◌≡◌, ℕ, suc, Bool, true, false, ◌+◌, ◌<◌, nat_lt, nat_le, ◌||◌, cond, List, [], ◌∷◌, ◌++◌, length, map, take, drop, get_or, position, Some, None, is_some, Result, Ok, Err, refl, sym, ap, ◌∙◌, subst, arith}
 use Rattle.std.specs.List.{list_any, position_or_len}
 use Rattle.std.specs.Str.{bytes_eq}
 use Rattle.std.proofs.lemmas.Bool.Decides.{nat_tests}
@@ -89,13 +89,6 @@ statements-left all a locals ss i s within at =
     ap (λ xs. rules_of_all xs all a locals) (drop_more ss i s within)
     ∙ ap (λ x. rules_of_all (x ∷ drop (i + 1) ss) all a locals) (sym at)
 
--- the locals from one on
-pub declared-left : (all : List Item) (start : ℕ) (locals : List Local) (ds : List Local) (i : ℕ) (d : Local) → i < length ds → d ≡ get_or ds i d
-    → declare_all all start (drop i ds) locals ≡ then_judge (declare_one all start d locals) (λ more. declare_all all start (drop (i + 1) ds) more)
-declared-left all start locals ds i d within at =
-    ap (λ xs. declare_all all start xs locals) (drop_more ds i d within)
-    ∙ ap (λ x. declare_all all start (x ∷ drop (i + 1) ds) locals) (sym at)
-
 -- a local that breaks no rule is new in its scope, and stands behind the others
 prefix-more : (d : Local) (ls : List Local) → take (length ls) (ls ++ d ∷ []) ≡ ls
 prefix-more d [] = refl
@@ -111,48 +104,3 @@ local-declared all start d ls now none is =
       tells = none;
       leaves = (is ∙ ap (λ b. with_local b d ls) (sym fresh), ap (take (length ls)) is ∙ prefix-more d ls);
     }
-
--- the parameters of a function: whether one of the name is among those so far is told by the table of their names
-found : (b : Bool) (n : ℕ) → is_some (cond b (Some n) None) ≡ b
-found true n = refl
-found false n = refl
-
-place-found : {X : Type 0} (p : X → Bool) (xs : List X) → is_some (position p xs) ≡ nat_lt (position_or_len p xs) (length xs)
-place-found p xs = found (nat_lt (position_or_len p xs) (length xs)) (position_or_len p xs)
-
-less-first : (m : ℕ) → nat_lt 0 (suc m) ≡ true
-less-first m = grind (arith, nat_tests)
-
-less-more : (n m : ℕ) → nat_lt (1 + n) (suc m) ≡ nat_lt n m
-less-more n m = grind (arith, nat_tests)
-
-one-more : {X : Type 0} (p : X → Bool) (x : X) (xs : List X) (b : Bool) → p x ≡ b → nat_lt (position_or_len p xs) (length xs) ≡ list_any p xs
-    → nat_lt (position_or_len p (x ∷ xs)) (length (x ∷ xs)) ≡ list_any p (x ∷ xs)
-one-more p x xs true e h = rw e (less-first (length xs))
-one-more p x xs false e h = rw e (less-more (position_or_len p xs) (length xs) ∙ h)
-
-within-any : {X : Type 0} (p : X → Bool) (xs : List X) → nat_lt (position_or_len p xs) (length xs) ≡ list_any p xs
-within-any p [] = refl
-within-any p (x ∷ xs) = one-more p x xs (p x) refl (within-any p xs)
-
-some-place : {X : Type 0} (p : X → Bool) (xs : List X) → is_some (position p xs) ≡ list_any p xs
-some-place p xs = place-found p xs ∙ within-any p xs
-
-any-name : (name : List ℕ) (ls : List Local) → list_any (λ other. bytes_eq other name) (map (λ l. l.name) ls) ≡ list_any (λ l. bytes_eq l.name name) ls
-any-name name [] = refl
-any-name name (l ∷ ls) = ap (λ b. bytes_eq l.name name || b) (any-name name ls)
-
-abbrev pub names_in : List Local → List (List ℕ)
-names_in ls = map (λ l. l.name) ls
-
-pub again-by-table : (ls : List Local) (name : List ℕ) → is_some (place_among (names_in ls) name) ≡ is_local_again 0 ls name
-again-by-table ls name = some-place (λ other. bytes_eq other name) (names_in ls) ∙ any-name name ls
-
-pub declared-next : (all : List Item) (ls : List Local) (ds : List Local) (i : ℕ) (d : Local) → i < length ds → d ≡ get_or ds i d → (b : Bool) → is_local_again 0 ls d.name ≡ b
-    → (declare_all all 0 (drop i ds) ls).locals ≡ (declare_all all 0 (drop (i + 1) ds) (with_local b d ls)).locals
-declared-next all ls ds i d within at b is =
-    ap (λ j. j.locals) (declared-left all 0 ls ds i d within at) ∙ ap (λ x. (declare_all all 0 (drop (i + 1) ds) (with_local x d ls)).locals) is
-
-pub names-more : (ls : List Local) (d : Local) → names_in (ls ++ d ∷ []) ≡ names_in ls ++ d.name ∷ []
-names-more [] d = refl
-names-more (l ∷ ls) d = ap (λ names. l.name ∷ names) (names-more ls d)

@@ -1,6 +1,5 @@
 //! The rules on whole programs.
-ghost use Rattle.std.specs.Prelude.{◌≡◌, ◌∷◌, ◌++◌, ◌+◌, ◌≤◌, List, [], IfOk, OnOk};
-ghost use Rattle.oss_syntax.specs.declared.tree.program.Item.{Item as Declared};
+ghost use Rattle.std.specs.Prelude.{◌≡◌, ◌∷◌, ◌++◌, ◌+◌, ◌≤◌, [], IfOk, OnOk};
 ghost use Rattle.oss_grammar.specs.Broken.{first};
 ghost use Rattle.oss_grammar.specs.Layout.{cells_of};
 ghost use Rattle.oss_grammar.specs.ProgramRules.{body_around, function_rules, global_rules, has_main, is_wrong_function, mark_rules, passes_cells, returns_int, returns_nothing};
@@ -11,10 +10,8 @@ ghost use Rattle.oss_names.specs.Resolved.{IsChecked};
 use crate::sections::{clauses, is_of_ints};
 use crate::statements::{declare, statements};
 use oss_grammar::Around;
-use oss_kinds::{Globals, Locals, NameTable, before, is_named_main, refused, refused_if};
-use oss_syntax::{
-    Function, GlobalDef, Item, Kind, Local, Program, Refusal, Refused, RefusedKind,
-};
+use oss_kinds::{Globals, Locals, before, is_named_main, refused, refused_if};
+use oss_syntax::{Function, GlobalDef, Item, Kind, Program, Refusal, Refused, RefusedKind};
 use std::alloc::{AllocError, Global};
 
 /// The most cells of a program.
@@ -148,27 +145,11 @@ fn refusal_of_mark(
 {
     match &function.mark {
         Some(mark) => {
-            let locals = parameters(alloc, function.params.as_slice())?;
+            let locals = Locals::parameters(alloc, function.params.as_slice())?;
             Ok(clauses(globals, &locals, mark.clauses.as_slice()))
         }
         None => Ok(None),
     }
-}
-
-/// The parameters of a function as they are in scope in its pragma, however many there are: of two of one name the first
-/// counts.
-fn parameters<'p>(alloc: Global, params: &'p [Local]) -> Result<Locals<'p>, AllocError>
-    ensures { IfOk result (λ locals. (all : List Declared) → locals ≡ (declare_all all 0 params.now []).locals) }
-{
-    let mut names = NameTable::new(alloc);
-    let mut locals = Locals::none(alloc);
-    for param in params {
-        if names.place(param.name.as_slice()).is_none() {
-            names.add(param.name.as_slice())?;
-            locals.add(param)?;
-        }
-    }
-    Ok(locals)
 }
 
 /// What stands around the body of a function.

@@ -1,11 +1,10 @@
 -- What each statement means, case by case.
-use Rattle.std.proofs.Common.{◌≡◌, ℕ, suc, ◌+◌, ◌<◌, ◌||◌, false, List, [], ◌∷◌, length, get_or, drop, drop-cons, ap, Option, Some, None, Result, Ok, Err, refl, sym, ◌∙◌, subst, rules}
+use Rattle.std.proofs.Common.{◌≡◌, ℕ, suc, ◌+◌, ◌<◌, ◌||◌, false, List, ◌∷◌, length, get_or, drop, drop-cons, ap, Some, None, Result, Ok, Err, refl, sym, ◌∙◌, subst, rules}
 use Rattle.oss_syntax.specs.declared.tree.expr.BinOp.{BinOp}
 use Rattle.oss_syntax.specs.declared.tree.expr.Expr.{Expr}
 use Rattle.oss_syntax.specs.declared.tree.pragma.TaskMark.{TaskMark}
 use Rattle.oss_syntax.specs.declared.tree.program.NumKind.{NumKind}
 use Rattle.oss_syntax.specs.declared.tree.stmt.Stmt.{Stmt}
-use Rattle.oss_syntax.specs.declared.tree.stmt.StmtKind.{StmtKind}
 use Rattle.oss_syntax.specs.declared.tree.stmt.StmtKind.TheVariants as stmts
 use Rattle.oss_syntax.specs.declared.tree.stmt.StmtKind.TheFolds.{the_lemmas as stmt_folds}
 use Rattle.oss_syntax.specs.declared.fault.FaultKind.{FaultKind}
@@ -15,7 +14,7 @@ use Rattle.oss_judge.specs.declared.refused.JudgeRefused.TheVariants as judge
 use Rattle.oss_syntax.specs.declared.access.Access.{Access}
 use Rattle.oss_model.specs.Context.{Context, waited, create_fault, clause_fault, lend}
 use Rattle.oss_model.specs.Rights.{right_from}
-use Rattle.oss_serial.specs.Scalars.{State, Ending, Goes, Stops, Run, assigned, printed_values, task_run, mark_accesses, ticked, run_of, runs_of, entered, left_task}
+use Rattle.oss_serial.specs.Scalars.{State, Ending, Goes, Stops, assigned, printed_values, task_run, mark_accesses, ticked, run_of, runs_of, entered, left_task}
 use Rattle.oss_serial.specs.declared.stop.Stop.{Stop}
 use Rattle.oss_serial.specs.declared.stop.Stop.TheVariants as stop
 use Rattle.oss_serial.specs.Endings.{EndsAs, GoesOn, EntersTask, stop_for}
@@ -77,6 +76,10 @@ module _ (s : Stmt) (names : List (List ℕ)) (kinds : List NumKind) (st : State
 -- from what a call says to how the run ends
 pub ends_along : {U : Type 0} (e f : Ending) (r : Result U Stop) (now : State) → e ≡ f → EndsAs f r now → EndsAs e r now
 ends_along {U} e f r now is ends = let P : Ending → Type 0 = λ x. EndsAs x r now in subst P (sym is) ends
+
+-- a stop that is handed on
+pub ends_told : {U : Type 0} (e : Ending) (r s : Result U Stop) (now : State) → s ≡ r → EndsAs e r now → EndsAs e s now
+ends_told {U} e r s now is ends = let P : Result U Stop → Type 0 = λ x. EndsAs e x now in subst P (sym is) ends
 
 pub ends_goes : {U : Type 0} (e : Ending) (whole : (State → Ending) → Ending) (r : Result U Stop) (now : State) → e ≡ whole (λ next. Goes next) → GoesOn whole r now → EndsAs e r now
 ends_goes e whole (Ok u) now is goes = is ∙ goes (λ next. Goes next)

@@ -1,6 +1,6 @@
 -- How a call of the run ends, as its meaning says: the run goes on in the state that the call leaves, or a fault on a line stops it
 -- there. Want of memory says nothing.
-use Rattle.std.specs.Prelude.{◌≡◌, ◌||◌, false, ℕ, List, Option, Some, None, Result, Ok, Err}
+use Rattle.std.specs.Prelude.{◌≡◌, ◌||◌, false, ℕ, List, Some, None, Result, Ok, Err}
 use Rattle.std.specs.Global.{Vec}
 use Rattle.oss_judge.specs.declared.refused.JudgeRefused.{JudgeRefused}
 use Rattle.oss_judge.specs.declared.refused.JudgeRefused.TheVariants as judge

@@ -4,7 +4,7 @@
 -- definition is total: what no program of this form has means nothing but its tick.
 -- Read against: with `long a, b;` the statements `a = 41; b = a; printf("hello\n");` leave 41 in both cells and write hello; with
 -- a task `out(x)` that sets x, a task `in(x) out(y)` that sets y to x + 1 and no wait, printing y is the fault Lent.
-use Rattle.std.specs.Prelude.{ℕ, length, map, ◌||◌, ◌+◌, Bool, if◌then◌else◌, List, [], ◌∷◌, ◌++◌, ◌-◌, ◌^◌, false, min, slice_index, slice_index_or, slice_set, position, Option, Some, None, Result, Ok, Err, codes}
+use Rattle.std.specs.Prelude.{ℕ, length, map, ◌||◌, ◌+◌, Bool, if◌then◌else◌, List, [], ◌∷◌, ◌++◌, ◌-◌, ◌^◌, false, min, slice_index, slice_index_or, slice_set, position, Option, Some, None, Result, Ok, Err}
 use Rattle.std.specs.Str.{bytes_eq}
 use Rattle.oss_syntax.specs.declared.tree.expr.BinOp.{BinOp}
 use Rattle.oss_syntax.specs.declared.tree.expr.BinOp.TheVariants as op

@@ -73,10 +73,7 @@ fn run_all(
     ensures { EndsAs (runs_of statements.now variables.now.names variables.now.kinds state.old) result state.new }
 {
     for statement in statements {
-        match run_one(alloc, variables, statement, state) {
-            Ok(()) => {}
-            Err(stop) => return Err(stop),
-        }
+        run_one(alloc, variables, statement, state)?;
     }
     Ok(())
 }
@@ -94,31 +91,29 @@ fn run_one(
     let line = statement.line;
     match &statement.what {
         StmtKind::Block(all) => run_all(alloc, variables, all.as_slice(), state),
-        StmtKind::Assign(target, None, value) => match state.tick(line) {
-            Ok(()) => state.assign(variables, line, target, value),
-            Err(stop) => Err(stop),
-        },
-        StmtKind::Print(format, arguments) => match state.tick(line) {
-            Ok(()) => state.print(
+        StmtKind::Assign(target, None, value) => {
+            state.tick(line)?;
+            state.assign(variables, line, target, value)
+        }
+        StmtKind::Print(format, arguments) => {
+            state.tick(line)?;
+            state.print(
                 alloc,
                 variables,
                 line,
                 format.as_slice(),
                 arguments.as_slice(),
-            ),
-            Err(stop) => Err(stop),
-        },
-        StmtKind::Task(mark, body) => match state.tick(line) {
-            Ok(()) => run_task(alloc, variables, line, mark, body.get(), state),
-            Err(stop) => Err(stop),
-        },
-        StmtKind::TaskWait(None) => match state.tick(line) {
-            Ok(()) => {
-                state.wait();
-                Ok(())
-            }
-            Err(stop) => Err(stop),
-        },
+            )
+        }
+        StmtKind::Task(mark, body) => {
+            state.tick(line)?;
+            run_task(alloc, variables, line, mark, body.get(), state)
+        }
+        StmtKind::TaskWait(None) => {
+            state.tick(line)?;
+            state.wait();
+            Ok(())
+        }
         StmtKind::Assign(_, Some(_), _) => state.tick(line),
         StmtKind::TaskWait(Some(_)) => state.tick(line),
         StmtKind::Empty => state.tick(line),
@@ -158,10 +153,7 @@ fn run_task(
         Ok(creator) => creator,
         Err(refused) => return Err(stop_at(line, refused)),
     };
-    match run_one(alloc, variables, body, state) {
-        Ok(()) => {}
-        Err(stop) => return Err(stop),
-    }
+    run_one(alloc, variables, body, state)?;
     match state.leave(creator, &accesses) {
         Ok(()) => Ok(()),
         Err(full) => Err(Stop::Memory(full)),
