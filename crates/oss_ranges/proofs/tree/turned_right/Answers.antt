@@ -1,0 +1,10 @@
+use Rattle.std.proofs.Common.{◌≡◌, ◌++◌, Some, sym, ◌∙◌, ap, subst, rules, append_assoc}
+use Rattle.oss_ranges.proofs.NodeLemmas.{between_left, between_right}
+use Rattle.oss_ranges.specs.Cells.{Rises}
+use Rattle.oss_ranges.specs.Trees.{IsTree, own, pieces_of}
+use Rattle.oss_ranges.proofs.tree.turned_right.Goals as goal
+
+pub over-requires-else-height : goal.over-requires-else-height
+over-requires-else-height g c =
+    let all = rw (← c.in-Fork.ensures.pieces) at c.requires.1 in
+    (c.requires.0, rw (c.sides-outer.ensures.right, c.deref_mut.ensures.value) (between_right c.in-Fork.high.value.left c.in-Fork.high.value.right c.args.right c.in-Fork.high.value.piece c.args.top.value.piece c.in-Fork.ensures.whole.0 all))

@@ -1,0 +1,8 @@
+//! Range maps: finite maps from cells that are kept by ranges, so that what a change costs does not depend on how many cells it
+//! names.
+#![tactic(auto)]
+
+mod piece;
+mod tree;
+
+pub use piece::Piece;
