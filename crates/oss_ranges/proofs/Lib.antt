@@ -1,2 +1,5 @@
+pub mod AssignLemmas
+pub mod CutLemmas
+pub mod MapLemmas
 pub mod NodeLemmas
 pub mod PieceLemmas

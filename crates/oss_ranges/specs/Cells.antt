@@ -1,6 +1,6 @@
 -- Maps from cells, kept as pieces: neighbouring cells that have one value.
 -- Read against: the pieces `0..2 a`, `2..5 a`, `7..8 b` give a to the cells 0 to 4 and b to 7; they are cut at 2.
-use Rattle.std.specs.Prelude.{◌≡◌, ◌≤◌, ◌<◌, ℕ, Bool, ◌&&◌, nat_le, nat_lt, if◌then◌else◌, List, [], ◌∷◌, Option, Some, None}
+use Rattle.std.specs.Prelude.{◌≡◌, ◌≤◌, ◌<◌, ◌⊎◌, ℕ, Bool, false, ◌&&◌, nat_le, nat_lt, if◌then◌else◌, List, [], ◌∷◌, Option, Some, None}
 use Rattle.oss_ranges.specs.declared.piece.Piece.{Piece}
 
 -- whether a piece has a cell
@@ -31,3 +31,54 @@ inserted p (q ∷ rest) = if nat_lt p.lo q.lo then p ∷ q ∷ rest else q ∷ i
 abbrev pub removed : {T : Type 0} → ℕ → List (Piece T) → List (Piece T)
 removed cell [] = []
 removed cell (p ∷ rest) = if nat_lt cell p.hi then rest else p ∷ removed cell rest
+
+-- What contracts see of a range map: its pieces, and how many nodes it holds in reserve.
+pub record Kept (T : Type 0) : Type 0 where
+  pub pieces : List (Piece T)
+  pub spares : ℕ
+
+-- a cell is one of those from `lo` up to `hi`
+abbrev pub is_within : ℕ → ℕ → ℕ → Bool
+is_within lo hi cell = nat_le lo cell && nat_lt cell hi
+
+-- the cells of a range get this value, and no other cell changes
+abbrev pub Assigns : {T : Type 0} → ℕ → ℕ → Option T → List (Piece T) → List (Piece T) → Type 0
+Assigns lo hi value old new = (cell : ℕ) → value_at new cell ≡ (if is_within lo hi cell then value else value_at old cell)
+
+-- no cell changes its value
+abbrev pub SameMap : {T : Type 0} → List (Piece T) → List (Piece T) → Type 0
+SameMap old new = (cell : ℕ) → value_at new cell ≡ value_at old cell
+
+-- no piece has cells on both sides of this one's front
+abbrev pub IsCut : {T : Type 0} → ℕ → List (Piece T) → Type 0
+IsCut cell [] = Unit {0}
+IsCut cell (p ∷ rest) = ((cell ≤ p.lo) ⊎ (p.hi ≤ cell)) × IsCut cell rest
+
+-- the pieces are cut at this cell, and where they were cut before
+abbrev pub Cuts : {T : Type 0} → ℕ → List (Piece T) → List (Piece T) → Type 0
+Cuts cell old new = IsCut cell new × ((other : ℕ) → IsCut other old → IsCut other new)
+
+-- they are cut at the ends of a range, and where they were cut outside of it
+abbrev pub CutsAround : {T : Type 0} → ℕ → ℕ → List (Piece T) → List (Piece T) → Type 0
+CutsAround lo hi old new = IsCut lo new × IsCut hi new × ((other : ℕ) → (other ≤ lo) ⊎ (hi ≤ other) → IsCut other old → IsCut other new)
+
+-- the piece that has a cell and those before it, in two at the cell
+abbrev pub cut_at : {T : Type 0} → ℕ → List (Piece T) → List (Piece T)
+cut_at cell [] = []
+cut_at cell (p ∷ rest) =
+    if nat_lt cell p.hi then
+      (if nat_lt p.lo cell then record p { hi = cell } ∷ record p { lo = cell } ∷ rest else p ∷ rest)
+    else p ∷ cut_at cell rest
+
+-- the pieces that have no cell of a range
+abbrev pub outside : {T : Type 0} → ℕ → ℕ → List (Piece T) → List (Piece T)
+outside lo hi [] = []
+outside lo hi (p ∷ rest) = if nat_lt lo p.hi && nat_lt p.lo hi then outside lo hi rest else p ∷ outside lo hi rest
+
+-- what the first piece that ends behind a cell tells of it: it has the cell, or begins behind it
+abbrev pub told_by : {T : Type 0} → Piece T → ℕ → Option T
+told_by p cell = if nat_le p.lo cell then Some p.value else None
+
+abbrev pub is_before : {T : Type 0} → Option (Piece T) → ℕ → Bool
+is_before None cell = false
+is_before (Some p) cell = nat_lt p.lo cell

@@ -2,7 +2,9 @@
 //! names.
 #![tactic(auto)]
 
+mod map;
 mod piece;
 mod tree;
 
+pub use map::RangeMap;
 pub use piece::Piece;
