@@ -1,13 +1,12 @@
 -- Pieces in two at a cell.
-use Rattle.std.specs.Prelude.{◌≡◌, ◌≤◌, ◌<◌, ◌+◌, ◌⊎◌, ℕ, Bool, true, false, ◌&&◌, nat_le, nat_lt, if◌then◌else◌, List, [], ◌∷◌, ◌++◌, Option, Some, None, refl}
-use Rattle.std.proofs.Common.{sym, ◌∙◌, ap, arith, append_assoc, inl, inr}
+use Rattle.std.specs.Prelude.{◌≡◌, ◌≤◌, ◌<◌, ◌⊎◌, ℕ, Bool, true, false, nat_lt, if◌then◌else◌, List, [], ◌∷◌, Some, None, refl}
+use Rattle.std.proofs.Common.{sym, ap, arith, inl, inr}
 use Rattle.std.proofs.lemmas.Bool.Decides.{nat_tests}
-use Rattle.oss_ranges.proofs.PieceLemmas.{rises_order, rises_wider}
-use Rattle.oss_ranges.specs.Cells.{cut_at, inserted, IsCut, next_of, removed, Rises, SameMap, value_at}
+use Rattle.oss_ranges.proofs.PieceLemmas.{rises_order}
+use Rattle.oss_ranges.specs.Cells.{cut_at, inserted, IsCut, next_of, removed, Rises, value_at}
 use Rattle.oss_ranges.specs.declared.piece.Piece.{Piece}
 
 module _ {T : Type 0} where
-
   cut_here : (cell : ℕ) (p : Piece T) (rest : List (Piece T)) → p.lo < cell → cell < p.hi → cut_at cell (p ∷ rest) ≡ record p { hi = cell } ∷ record p { lo = cell } ∷ rest
   cut_here cell p rest low high = grind (arith, nat_tests)
 
@@ -15,11 +14,11 @@ module _ {T : Type 0} where
   cut_past cell p rest low = grind (arith, nat_tests)
 
   -- a piece before all others goes in front, and one behind the first is put among the others
-  inserted_front : (m b : ℕ) (p : Piece T) (rest : List (Piece T)) → Rises m rest b → p.lo < m → inserted p rest ≡ p ∷ rest
+  pub inserted_front : (m b : ℕ) (p : Piece T) (rest : List (Piece T)) → Rises m rest b → p.lo < m → inserted p rest ≡ p ∷ rest
   inserted_front m b p [] h low = refl
   inserted_front m b p (q ∷ rest) h low = let e = h.0 in grind (arith, nat_tests)
 
-  inserted_later : (p q : Piece T) (rest : List (Piece T)) → q.lo ≤ p.lo → inserted p (q ∷ rest) ≡ q ∷ inserted p rest
+  pub inserted_later : (p q : Piece T) (rest : List (Piece T)) → q.lo ≤ p.lo → inserted p (q ∷ rest) ≡ q ∷ inserted p rest
   inserted_later p q rest low = grind (arith, nat_tests)
 
   -- where the first piece behind a cell lies
@@ -69,6 +68,7 @@ module _ {T : Type 0} where
     behind : (m : ℕ) (xs : List (Piece T)) → Rises m xs b → cell ≤ m → IsCut cell xs
     behind m [] k low = tt
     behind m (q ∷ more) k low = let e = k.0 in let f = k.1 in (inl (omega arith), behind q.hi more k.2 (omega arith))
+
     by : (t u : Bool) → nat_lt cell p.hi ≡ t → nat_lt p.lo cell ≡ u → IsCut cell (cut_at cell rest)
         → IsCut cell (if t then (if u then record p { hi = cell } ∷ record p { lo = cell } ∷ rest else p ∷ rest) else p ∷ cut_at cell rest)
     by true true e f more = (inr (omega arith), (inl (omega arith), behind p.hi rest h.2 (grind (arith, nat_tests))))
@@ -81,9 +81,11 @@ module _ {T : Type 0} where
     front : ((other ≤ p.lo) ⊎ (p.hi ≤ other)) → cell < p.hi → (other ≤ p.lo) ⊎ (cell ≤ other)
     front (inl low) e = inl low
     front (inr high) e = inr (omega arith)
+
     back : ((other ≤ p.lo) ⊎ (p.hi ≤ other)) → p.lo < cell → (other ≤ cell) ⊎ (p.hi ≤ other)
     back (inl low) e = inl (omega arith)
     back (inr high) e = inr high
+
     by : (t u : Bool) → nat_lt cell p.hi ≡ t → nat_lt p.lo cell ≡ u → IsCut other (cut_at cell rest)
         → IsCut other (if t then (if u then record p { hi = cell } ∷ record p { lo = cell } ∷ rest else p ∷ rest) else p ∷ cut_at cell rest)
     by true true e f more = (front h.0 (grind (arith, nat_tests)), (back h.0 (grind (arith, nat_tests)), h.1))

@@ -1,13 +1,12 @@
 -- The values of cells.
-use Rattle.std.specs.Prelude.{◌≡◌, ◌≤◌, ◌<◌, ◌+◌, ℕ, Bool, true, false, ◌&&◌, nat_le, nat_lt, ◌⊎◌, if◌then◌else◌, List, [], ◌∷◌, ◌++◌, Option, Some, None, refl, length}
-use Rattle.std.proofs.Common.{sym, ◌∙◌, ap, arith, append_assoc}
+use Rattle.std.specs.Prelude.{◌≡◌, ◌≤◌, ◌<◌, ℕ, Bool, true, false, ◌&&◌, nat_le, nat_lt, ◌⊎◌, if◌then◌else◌, List, [], ◌∷◌, Option, Some, None, refl, length}
+use Rattle.std.proofs.Common.{◌∙◌, arith}
 use Rattle.std.proofs.lemmas.Bool.Decides.{nat_tests}
 use Rattle.oss_ranges.proofs.PieceLemmas.{rises_order, rises_wider}
-use Rattle.oss_ranges.specs.Cells.{holds, inserted, is_before, is_within, IsCut, next_of, outside, removed, Rises, value_at}
+use Rattle.oss_ranges.specs.Cells.{inserted, is_before, is_within, IsCut, next_of, outside, removed, Rises, value_at}
 use Rattle.oss_ranges.specs.declared.piece.Piece.{Piece}
 
 module _ {T : Type 0} where
-
   pub value_here : (cell : ℕ) (p : Piece T) (rest : List (Piece T)) → p.lo ≤ cell → cell < p.hi → value_at (p ∷ rest) cell ≡ Some p.value
   value_here cell p rest low high = grind (arith, nat_tests)
 
@@ -84,16 +83,17 @@ module _ {T : Type 0} where
   outside_inserted a b lo hi p [] h l k e f low own high = (omega arith, omega arith, omega arith)
   outside_inserted a b lo hi p (q ∷ rest) h l k e f low own high =
       by (nat_lt lo q.hi && nat_lt q.lo hi) refl (outside_rises q.hi b lo hi rest h.2)
-          (outside_inserted a b lo hi p rest (rises_wider q.hi b a b rest (let i = h.0 in let j = h.1 in omega arith) (omega arith) h.2) l.1 k.1 e f low own high)
-          (λ m. outside_inserted q.hi b lo hi p rest h.2 l.1 k.1 e f m own high) where
-    pick : (t : Bool) → (nat_lt lo q.hi && nat_lt q.lo hi) ≡ false → nat_lt p.lo q.lo ≡ t → Rises q.hi (outside lo hi rest) b → ((q.hi ≤ lo) → Rises q.hi (inserted p (outside lo hi rest)) b)
-        → Rises a (if t then p ∷ q ∷ outside lo hi rest else q ∷ inserted p (outside lo hi rest)) b
-    pick true w t more there = (omega arith, omega arith, ((let j = h.1 in grind (arith, nat_tests)), h.1, more))
-    pick false w t more there = (h.0, h.1, there (let j = h.1 in grind (arith, nat_tests)))
-    by : (t : Bool) → (nat_lt lo q.hi && nat_lt q.lo hi) ≡ t → Rises q.hi (outside lo hi rest) b → Rises a (inserted p (outside lo hi rest)) b → ((q.hi ≤ lo) → Rises q.hi (inserted p (outside lo hi rest)) b)
-        → Rises a (inserted p (if t then outside lo hi rest else q ∷ outside lo hi rest)) b
-    by true w more here there = here
-    by false w more here there = pick (nat_lt p.lo q.lo) w refl more there
+      (outside_inserted a b lo hi p rest (rises_wider q.hi b a b rest (let i = h.0 in let j = h.1 in omega arith) (omega arith) h.2) l.1 k.1 e f low own high)
+      (λ m. outside_inserted q.hi b lo hi p rest h.2 l.1 k.1 e f m own high) where
+        pick : (t : Bool) → (nat_lt lo q.hi && nat_lt q.lo hi) ≡ false → nat_lt p.lo q.lo ≡ t → Rises q.hi (outside lo hi rest) b → ((q.hi ≤ lo) → Rises q.hi (inserted p (outside lo hi rest)) b)
+            → Rises a (if t then p ∷ q ∷ outside lo hi rest else q ∷ inserted p (outside lo hi rest)) b
+        pick true w t more there = (omega arith, omega arith, ((let j = h.1 in grind (arith, nat_tests)), h.1, more))
+        pick false w t more there = (h.0, h.1, there (let j = h.1 in grind (arith, nat_tests)))
+
+        by : (t : Bool) → (nat_lt lo q.hi && nat_lt q.lo hi) ≡ t → Rises q.hi (outside lo hi rest) b → Rises a (inserted p (outside lo hi rest)) b → ((q.hi ≤ lo) → Rises q.hi (inserted p (outside lo hi rest)) b)
+            → Rises a (inserted p (if t then outside lo hi rest else q ∷ outside lo hi rest)) b
+        by true w more here there = here
+        by false w more here there = pick (nat_lt p.lo q.lo) w refl more there
 
   -- the first piece that has a cell of a range, where there is one, goes; where there is none, all pieces stay
   pub outside_removed : (a b lo hi : ℕ) (xs : List (Piece T)) → Rises a xs b → is_before (next_of lo xs) hi ≡ true → outside lo hi (removed lo xs) ≡ outside lo hi xs

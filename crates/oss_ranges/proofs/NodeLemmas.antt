@@ -1,14 +1,12 @@
 -- Nodes with their pieces.
-use Rattle.std.specs.Prelude.{◌≡◌, ◌≤◌, ◌<◌, ◌+◌, ℕ, Bool, true, false, nat_le, nat_lt, if◌then◌else◌, List, [], ◌∷◌, ◌++◌, Option, Some, None, refl, length, is_some}
-use Rattle.std.proofs.Common.{sym, ◌∙◌, ap, subst, arith, append_assoc, length-append}
+use Rattle.std.specs.Prelude.{◌≡◌, ◌≤◌, ◌<◌, ℕ, true, false, List, [], ◌∷◌, ◌++◌, Option, Some, None, refl, length, is_some}
+use Rattle.std.proofs.Common.{sym, ◌∙◌, ap, arith, append_assoc, length-append}
 use Rattle.std.proofs.lemmas.Bool.Decides.{nat_tests}
-use Rattle.oss_ranges.proofs.PieceLemmas.{inserted_left, inserted_right, next_first, next_later, next_left, next_none, next_right, removed_here, removed_left, removed_none, removed_past, removed_right, removed_rises, rises_apart, rises_back, rises_front, rises_join, rises_order, rises_own, rises_wider}
+use Rattle.oss_ranges.proofs.PieceLemmas.{inserted_left, inserted_right, next_first, next_later, next_left, next_none, next_right, removed_here, removed_left, removed_none, removed_past, removed_right, removed_rises, rises_apart, rises_back, rises_front, rises_order, rises_own, rises_wider}
 use Rattle.oss_ranges.specs.Cells.{inserted, next_of, removed, Rises}
-use Rattle.oss_ranges.specs.Trees.{HasPiece, IsBetween, IsTree, or_own, own, pieces_of}
+use Rattle.oss_ranges.specs.Trees.{HasPiece, or_own, own}
 use Rattle.oss_ranges.specs.declared.piece.Piece.{Piece}
 use Rattle.oss_ranges.specs.declared.tree.Node.{Node}
-use Rattle.oss_ranges.specs.declared.tree.Root.{Root}
-use Rattle.oss_ranges.specs.declared.tree.Root.TheVariants.{Leaf, Fork}
 
 some_of : {A : Type 0} (o : Option A) → is_some o ≡ true → (a : A) × (o ≡ Some a)
 some_of None e = cc
@@ -19,7 +17,6 @@ none_of None e = refl
 none_of (Some a) e = cc
 
 module _ {T : Type 0} where
-
   -- the search of a node whose piece ends behind the cell
   pub next_here : (cell : ℕ) (xs ys : List (Piece T)) (p : Piece T) → cell < p.hi → or_own (next_of cell xs) p ≡ next_of cell (xs ++ p ∷ ys)
   next_here cell xs ys p h = by (next_of cell xs) refl where

@@ -1,12 +1,11 @@
 -- Lists of pieces that lie one behind the other.
-use Rattle.std.specs.Prelude.{◌≡◌, ◌≤◌, ◌<◌, ◌+◌, ℕ, Bool, true, false, ◌&&◌, nat_le, nat_lt, if◌then◌else◌, List, [], ◌∷◌, ◌++◌, Option, Some, None, refl}
-use Rattle.std.proofs.Common.{sym, ◌∙◌, ap, arith, append_assoc}
+use Rattle.std.specs.Prelude.{◌≡◌, ◌≤◌, ◌<◌, ℕ, Bool, true, false, nat_lt, if◌then◌else◌, List, [], ◌∷◌, ◌++◌, Some, None, refl}
+use Rattle.std.proofs.Common.{arith}
 use Rattle.std.proofs.lemmas.Bool.Decides.{nat_tests}
-use Rattle.oss_ranges.specs.Cells.{holds, inserted, next_of, removed, Rises, value_at}
+use Rattle.oss_ranges.specs.Cells.{inserted, next_of, removed, Rises}
 use Rattle.oss_ranges.specs.declared.piece.Piece.{Piece}
 
 module _ {T : Type 0} where
-
   pub rises_order : (a b : ℕ) (xs : List (Piece T)) → Rises a xs b → a ≤ b
   rises_order a b [] h = h
   rises_order a b (p ∷ rest) h = let e = rises_order p.hi b rest h.2 in omega arith
@@ -35,7 +34,7 @@ module _ {T : Type 0} where
   pub rises_apart : (a b : ℕ) (xs : List (Piece T)) (p : Piece T) (ys : List (Piece T)) → Rises a (xs ++ p ∷ ys) b → Rises a (xs ++ ys) b
   rises_apart a b xs p ys h =
       rises_join a p.lo b xs ys (rises_front a b xs p ys h)
-          (rises_wider p.hi b p.lo b ys (let own = rises_own a b xs p ys h in omega arith) (omega arith) (rises_back a b xs p ys h))
+      (rises_wider p.hi b p.lo b ys (let own = rises_own a b xs p ys h in omega arith) (omega arith) (rises_back a b xs p ys h))
 
   -- the first piece behind a cell stands in the first list that has one
   pub next_left : (cell : ℕ) (xs ys : List (Piece T)) (p : Piece T) → next_of cell xs ≡ Some p → next_of cell (xs ++ ys) ≡ Some p

@@ -1,6 +1,6 @@
 -- Maps from cells, kept as pieces: neighbouring cells that have one value.
 -- Read against: the pieces `0..2 a`, `2..5 a`, `7..8 b` give a to the cells 0 to 4 and b to 7; they are cut at 2.
-use Rattle.std.specs.Prelude.{◌≡◌, ◌≤◌, ◌<◌, ◌⊎◌, ℕ, Bool, false, ◌&&◌, nat_le, nat_lt, if◌then◌else◌, List, [], ◌∷◌, Option, Some, None}
+use Rattle.std.specs.Prelude.{◌≡◌, ◌≤◌, ◌<◌, ◌⊎◌, ◌==◌, ℕ, Bool, false, ◌&&◌, nat_le, nat_lt, max, min, if◌then◌else◌, List, [], ◌∷◌, Option, Some, None}
 use Rattle.oss_ranges.specs.declared.piece.Piece.{Piece}
 
 -- whether a piece has a cell
@@ -67,7 +67,7 @@ abbrev pub cut_at : {T : Type 0} → ℕ → List (Piece T) → List (Piece T)
 cut_at cell [] = []
 cut_at cell (p ∷ rest) =
     if nat_lt cell p.hi then
-      (if nat_lt p.lo cell then record p { hi = cell } ∷ record p { lo = cell } ∷ rest else p ∷ rest)
+    (if nat_lt p.lo cell then record p { hi = cell } ∷ record p { lo = cell } ∷ rest else p ∷ rest)
     else p ∷ cut_at cell rest
 
 -- the pieces that have no cell of a range
@@ -82,3 +82,41 @@ told_by p cell = if nat_le p.lo cell then Some p.value else None
 abbrev pub is_before : {T : Type 0} → Option (Piece T) → ℕ → Bool
 is_before None cell = false
 is_before (Some p) cell = nat_lt p.lo cell
+
+-- the parts of the pieces that lie from one cell up to another
+abbrev pub clipped : {T : Type 0} → ℕ → ℕ → List (Piece T) → List (Piece T)
+clipped from to [] = []
+clipped from to (p ∷ rest) =
+    if nat_lt (max p.lo from) (min p.hi to) then record { lo = max p.lo from; hi = min p.hi to; value = p.value } ∷ clipped from to rest else clipped from to rest
+
+-- the map on a range: its cells have the values that they had, and no other cell has one
+abbrev pub Restricts : {T : Type 0} → ℕ → ℕ → List (Piece T) → List (Piece T) → Type 0
+Restricts lo hi all part = (cell : ℕ) → value_at part cell ≡ (if is_within lo hi cell then value_at all cell else None)
+
+-- two pieces that touch at a cell and have one value are one piece; the test says which values are one
+abbrev pub union_of : {T : Type 0} → (T → T → Bool) → ℕ → Option (Piece T) → Option (Piece T) → Option (Piece T)
+union_of same cell (Some front) (Some back) = if (front.hi == cell && back.lo == cell) && same front.value back.value then Some (record front { hi = back.hi }) else None
+union_of same cell _ _ = None
+
+abbrev pub front_joined : {T : Type 0} → Option (Piece T) → Piece T → List (Piece T) → List (Piece T) → List (Piece T)
+front_joined (Some whole) p (q ∷ others) more = whole ∷ others
+front_joined _ p rest more = p ∷ more
+
+abbrev pub first_of : {T : Type 0} → List (Piece T) → Option (Piece T)
+first_of [] = None
+first_of (p ∷ rest) = Some p
+
+-- pieces with those joined that touch at a cell
+abbrev pub joined_at : {T : Type 0} → (T → T → Bool) → ℕ → List (Piece T) → List (Piece T)
+joined_at same cell [] = []
+joined_at same cell (p ∷ rest) = front_joined (union_of same cell (Some p) (first_of rest)) p rest (joined_at same cell rest)
+
+-- a piece does not touch the next one, or has another value
+abbrev pub IsApart : {T : Type 0} → (T → T → Bool) → Piece T → List (Piece T) → Type 0
+IsApart same p [] = Unit {0}
+IsApart same p (q ∷ rest) = p.hi ≡ q.lo → same p.value q.value ≡ false
+
+-- no two pieces touch that have one value
+abbrev pub IsMerged : {T : Type 0} → (T → T → Bool) → List (Piece T) → Type 0
+IsMerged same [] = Unit {0}
+IsMerged same (p ∷ rest) = IsApart same p rest × IsMerged same rest

@@ -1,5 +1,5 @@
 -- The sides of a tree have fewer pieces than the tree.
-use Rattle.std.specs.Prelude.{◌≡◌, ◌≤◌, ◌+◌, ℕ, List, [], ◌∷◌, ◌++◌, length, max, Option, Some, None, refl}
+use Rattle.std.specs.Prelude.{◌≤◌, ◌+◌, List, ◌++◌, length, max, Option, Some, None}
 use Rattle.std.proofs.Common.{arith, length-append}
 use Rattle.oss_ranges.specs.Trees.{IsTree, HasPiece, own, pieces_of}
 use Rattle.oss_ranges.specs.declared.piece.Piece.{Piece}

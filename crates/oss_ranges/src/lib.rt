@@ -4,7 +4,9 @@
 
 mod map;
 mod piece;
+mod pieces;
 mod tree;
 
 pub use map::RangeMap;
 pub use piece::Piece;
+pub use pieces::Pieces;

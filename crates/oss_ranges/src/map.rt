@@ -1,7 +1,8 @@
-ghost use Rattle.std.specs.Prelude.{◌≡◌, ◌≤◌, ◌<◌, ◌+◌, ◌*◌, ◌^◌, [], ◌∷◌, ℕ, Some, None, IsOk, OnOk, OnErr, length};
-ghost use Rattle.oss_ranges.specs.Cells.{Assigns, Cuts, CutsAround, Rises, SameMap, cut_at, inserted, is_before, next_of, outside, value_at};
+ghost use Rattle.std.specs.Prelude.{◌≡◌, ◌≤◌, ◌<◌, ◌+◌, ◌*◌, ◌^◌, [], ◌∷◌, ℕ, true, Some, None, is_some, IsOk, OnOk, OnErr, length};
+ghost use Rattle.oss_ranges.specs.Cells.{Assigns, Cuts, CutsAround, IsMerged, Restricts, Rises, SameMap, cut_at, inserted, is_before, joined_at, next_of, outside, removed, union_of, value_at};
 
 use crate::piece::Piece;
+use crate::pieces::Pieces;
 use crate::tree::{Node, Tree};
 use oss_syntax::Range;
 use std::alloc::{AllocError, Global};
@@ -51,6 +52,14 @@ impl<T: Copy + Eq> RangeMap<T> {
             Some(piece) => piece.value_at_or_behind(cell),
             None => None,
         }
+    }
+
+    /// The map on a range: its pieces in rising order, cut at the ends of the range. It takes no memory.
+    pub fn over(&self, range: Range) -> Pieces<'_, T>
+        ensures map { Restricts range.lo range.hi self.now.pieces result }
+        ensures rising { Rises range.lo result range.hi }
+    {
+        Pieces::of(&self.tree, range)
     }
 
     /// Gives all cells of a range this value. After want of memory the map is as it was.
@@ -105,6 +114,28 @@ impl<T: Copy + Eq> RangeMap<T> {
         ensures spares { self.old.spares ≤ self.new.spares }
     {
         self.prepare(NODES * calls as usize)
+    }
+
+    /// Joins the pieces that end and begin at this cell, where they have one value, so that they are one piece. No cell changes
+    /// its value, where equal values are identical. It takes no memory.
+    pub fn join_at(&mut self, cell: u32)
+        requires { (a b : T) → T.eq a b ≡ true → a ≡ b }
+        ensures map { SameMap self.old.pieces self.new.pieces }
+        ensures pieces { self.new.pieces ≡ joined_at T.eq cell self.old.pieces }
+        ensures spares { self.new.spares ≡ self.old.spares }
+    {
+        self.tree = joined(mem::replace(&mut self.tree, Tree::new()), cell);
+    }
+
+    /// Joins all pieces that touch and have one value. No cell changes its value, where equal values are identical. It takes
+    /// no memory.
+    pub fn merge_same(&mut self)
+        requires { (a b : T) → T.eq a b ≡ true → a ≡ b }
+        ensures map { SameMap self.old.pieces self.new.pieces }
+        ensures merged { IsMerged T.eq self.new.pieces }
+        ensures spares { self.new.spares ≡ self.old.spares }
+    {
+        self.tree = merged(mem::replace(&mut self.tree, Tree::new()));
     }
 
     /// Takes nodes into reserve until there are so many.
@@ -163,12 +194,20 @@ impl<T: Copy + Eq> RangeMap<T> {
         ensures pieces { self.new.pieces ≡ outside range.lo range.hi self.old.pieces }
         ensures spares { self.new.spares ≡ self.old.spares }
     {
-        self.tree = without_range(mem::replace(&mut self.tree, Tree::new()), range.lo, range.hi);
+        self.tree = without_range(
+            mem::replace(&mut self.tree, Tree::new()),
+            range.lo,
+            range.hi,
+        );
     }
 }
 
 /// Takes nodes into reserve until there are so many.
-fn stock<T: Copy>(alloc: Global, nodes: usize, spares: &mut Vec<Box<Node<T>>>) -> Result<(), AllocError>
+fn stock<T: Copy>(
+    alloc: Global,
+    nodes: usize,
+    spares: &mut Vec<Box<Node<T>>>,
+) -> Result<(), AllocError>
     ensures ready { OnOk result (nodes ≤ length spares.new.items) }
     ensures room { nodes ≤ length spares.old.items → IsOk result }
     ensures kept { length spares.old.items ≤ length spares.new.items }
@@ -237,6 +276,59 @@ fn without_range<T: Copy>(tree: Tree<T>, lo: u32, hi: u32) -> Tree<T>
     left
 }
 
+/// The tree with the pieces joined that end and begin at a cell, where they have one value.
+fn joined<T: Copy + Eq>(tree: Tree<T>, cell: u32) -> Tree<T>
+    requires { Rises 0 tree 1048576 }
+    ensures { result ≡ joined_at T.eq cell tree }
+{
+    let front = tree.next(cell.saturating_sub(1));
+    match union(front, tree.next(cell), cell) {
+        Some(whole) => as_one(tree, whole),
+        None => tree,
+    }
+}
+
+/// The tree with all pieces joined that touch and have one value.
+fn merged<T: Copy + Eq>(tree: Tree<T>) -> Tree<T>
+    requires rising { Rises 0 tree 1048576 }
+    requires same { (a b : T) → T.eq a b ≡ true → a ≡ b }
+    ensures map { SameMap tree result }
+    ensures merged { IsMerged T.eq result }
+    ensures rising { Rises 0 result 1048576 }
+{
+    let mut left = tree;
+    let mut from = 0;
+    'pieces: while let Some(piece) = left.next(from) {
+        from = piece.hi;
+        left = joined(left, from);
+    }
+    left
+}
+
+/// Two pieces as one, where they touch at a cell and have one value.
+fn union<T: Copy + Eq>(
+    front: Option<Piece<T>>,
+    back: Option<Piece<T>>,
+    cell: u32,
+) -> Option<Piece<T>>
+    ensures { result ≡ union_of T.eq cell front back }
+{
+    match (front, back) {
+        (Some(front), Some(back)) => {
+            if front.hi == cell && back.lo == cell && front.value == back.value {
+                Some(Piece {
+                    lo: front.lo,
+                    hi: back.hi,
+                    value: front.value,
+                })
+            } else {
+                None
+            }
+        }
+        _ => None,
+    }
+}
+
 /// Whether there is a piece, and it begins before a cell.
 fn begins_before<T: Copy>(piece: Option<Piece<T>>, cell: u32) -> bool
     ensures { result ≡ is_before piece cell }
@@ -244,5 +336,19 @@ fn begins_before<T: Copy>(piece: Option<Piece<T>>, cell: u32) -> bool
     match piece {
         Some(piece) => piece.lo < cell,
         None => false,
+    }
+}
+
+/// The tree with this piece in place of the two of which it is made.
+fn as_one<T: Copy>(tree: Tree<T>, whole: Piece<T>) -> Tree<T>
+    requires rising { Rises 0 (inserted whole (removed whole.lo (removed whole.lo tree))) 1048576 }
+    requires found { is_some (next_of whole.lo tree) ≡ true }
+    ensures { result ≡ inserted whole (removed whole.lo (removed whole.lo tree)) }
+{
+    let (node, rest) = tree.without(whole.lo);
+    let (_, rest) = rest.without(whole.lo);
+    match node {
+        Some(node) => rest.with(whole, node),
+        None => unreachable!(),
     }
 }

@@ -99,6 +99,7 @@ fn first_of<T: Copy>(first: Option<Piece<T>>, own: Piece<T>) -> Option<Piece<T>>
         None => Some(own),
     }
 }
+
 impl<T: Copy> Node<T> {
     /// A node that is in no tree.
     pub fn spare() -> Node<T> {

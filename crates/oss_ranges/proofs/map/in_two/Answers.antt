@@ -1,5 +1,4 @@
-use Rattle.std.proofs.Common.{◌≡◌, ◌≤◌, ◌<◌, ◌∷◌, ℕ, length, Some, None, true, false, sym, ◌∙◌, ap, subst, rules, arith}
-use Rattle.oss_ranges.specs.Cells.{cut_at, inserted, is_before, next_of, outside, removed, Rises, value_at}
+use Rattle.oss_ranges.specs.Cells.{inserted, removed}
 use Rattle.oss_ranges.proofs.CutLemmas.{cut_rises, inserted_less, parts_inserted}
 use Rattle.oss_ranges.proofs.map.in_two.Goals as goal
 

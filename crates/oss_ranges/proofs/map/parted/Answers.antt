@@ -1,6 +1,5 @@
-use Rattle.std.proofs.Common.{◌≡◌, ◌≤◌, ◌<◌, ◌∷◌, ℕ, length, Some, None, true, false, sym, ◌∙◌, ap, subst, rules, arith}
-use Rattle.oss_ranges.specs.Cells.{cut_at, inserted, is_before, next_of, outside, removed, Rises, value_at}
-use Rattle.oss_ranges.specs.declared.piece.Piece.{Piece}
+use Rattle.std.proofs.Common.{◌≡◌, Some, None, sym}
+use Rattle.oss_ranges.specs.Cells.{next_of}
 use Rattle.oss_ranges.proofs.CutLemmas.{cut_begin, cut_none}
 use Rattle.oss_ranges.proofs.map.parted.Goals as goal
 

@@ -1,6 +1,5 @@
-use Rattle.std.proofs.Common.{◌≡◌, ◌≤◌, ◌<◌, ◌∷◌, ℕ, length, Some, None, true, false, sym, ◌∙◌, ap, subst, rules, arith}
-use Rattle.oss_ranges.specs.Cells.{cut_at, inserted, is_before, next_of, outside, removed, Rises, value_at}
-use Rattle.oss_ranges.specs.declared.piece.Piece.{Piece}
+use Rattle.std.proofs.Common.{◌≡◌, true, false, sym, ◌∙◌}
+use Rattle.oss_ranges.specs.Cells.{is_before, next_of}
 use Rattle.oss_ranges.proofs.MapLemmas.{outside_none, outside_removed, removed_shorter}
 use Rattle.oss_ranges.proofs.PieceLemmas.{removed_rises}
 use Rattle.oss_ranges.proofs.map.without_range.Goals as goal

@@ -1,7 +1,6 @@
-use Rattle.std.proofs.Common.{◌≡◌, ◌++◌, Some, sym, ◌∙◌, ap, subst, rules, append_assoc}
+use Rattle.std.proofs.Common.{◌++◌}
 use Rattle.oss_ranges.proofs.NodeLemmas.{between_left, between_right}
-use Rattle.oss_ranges.specs.Cells.{Rises}
-use Rattle.oss_ranges.specs.Trees.{IsTree, own, pieces_of}
+use Rattle.oss_ranges.specs.Trees.{own}
 use Rattle.oss_ranges.proofs.tree.raised_from_left.Goals as goal
 
 pub over-requires : goal.over-requires

@@ -1,7 +1,4 @@
-use Rattle.std.proofs.Common.{◌≡◌, ◌++◌, Some, sym, ◌∙◌, ap, subst, rules, append_assoc}
-use Rattle.oss_ranges.proofs.NodeLemmas.{between_left, between_right}
-use Rattle.oss_ranges.specs.Cells.{Rises}
-use Rattle.oss_ranges.specs.Trees.{IsTree, own, pieces_of}
+use Rattle.oss_ranges.proofs.NodeLemmas.{between_right}
 use Rattle.oss_ranges.proofs.tree.turned_right.Goals as goal
 
 pub over-requires-else-height : goal.over-requires-else-height

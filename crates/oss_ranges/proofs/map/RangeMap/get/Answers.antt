@@ -1,7 +1,6 @@
-use Rattle.std.proofs.Common.{◌≡◌, ◌≤◌, ◌<◌, ◌∷◌, ℕ, length, Some, None, true, false, sym, ◌∙◌, ap, subst, rules, arith}
-use Rattle.oss_ranges.specs.Cells.{cut_at, inserted, is_before, next_of, outside, removed, Rises, value_at}
-use Rattle.oss_ranges.specs.declared.piece.Piece.{Piece}
-use Rattle.oss_ranges.proofs.MapLemmas.{told, value_is_told}
+use Rattle.std.proofs.Common.{◌≡◌, Some, None, sym, ◌∙◌, ap}
+use Rattle.oss_ranges.specs.Cells.{next_of, value_at}
+use Rattle.oss_ranges.proofs.MapLemmas.{value_is_told}
 use Rattle.oss_ranges.proofs.map.RangeMap.get.Goals as goal
 
 pub returns-in-Some : goal.returns-in-Some

@@ -1,6 +1,3 @@
-use Rattle.std.proofs.Common.{◌≡◌, ◌≤◌, ◌<◌, ◌∷◌, ℕ, length, Some, None, true, false, sym, ◌∙◌, ap, subst, rules, arith}
-use Rattle.oss_ranges.specs.Cells.{cut_at, inserted, is_before, next_of, outside, removed, Rises, value_at}
-use Rattle.oss_ranges.specs.declared.piece.Piece.{Piece}
 use Rattle.oss_ranges.proofs.CutLemmas.{cut_is_cut, cut_keeps, cut_same}
 use Rattle.oss_ranges.proofs.map.RangeMap.split_at.Goals as goal
 

@@ -1,6 +1,5 @@
-use Rattle.std.proofs.Common.{◌≡◌, ◌++◌, Some, sym, ◌∙◌, ap, subst, rules}
+use Rattle.std.proofs.Common.{◌≡◌, Some, ap, subst}
 use Rattle.oss_ranges.proofs.NodeLemmas.{node_next_here, node_next_past}
-use Rattle.oss_ranges.specs.Cells.{next_of}
 use Rattle.oss_ranges.specs.Trees.{IsTree, pieces_of}
 use Rattle.oss_ranges.proofs.tree.Tree.+next.Goals as goal
 

@@ -1,7 +1,7 @@
-use Rattle.std.proofs.Common.{◌≡◌, ◌∷◌, ◌++◌, ◌<◌, length, Some, None, is_some, sym, ◌∙◌, ap, subst, rules, append_assoc}
+use Rattle.std.proofs.Common.{◌≡◌, ◌<◌, length, Some, rules}
 use Rattle.oss_ranges.proofs.NodeLemmas.{sides_short, with_left, with_right}
 use Rattle.oss_ranges.specs.Cells.{inserted, Rises}
-use Rattle.oss_ranges.specs.Trees.{HasPiece, own, pieces_of}
+use Rattle.oss_ranges.specs.Trees.{HasPiece}
 use Rattle.oss_ranges.proofs.tree.Tree.+with.Goals as goal
 
 pub with-requires : goal.with-requires

@@ -1,6 +1,6 @@
-use Rattle.std.proofs.Common.{◌≡◌, ◌∷◌, ◌++◌, ◌<◌, ◌+◌, ℕ, length, Some, None, true, false, is_some, sym, ◌∙◌, ap, subst, rules, append_assoc}
-use Rattle.oss_ranges.specs.Cells.{next_of, removed, Rises}
-use Rattle.oss_ranges.specs.Trees.{HasPiece, IsParted, own, pieces_of}
+use Rattle.std.proofs.Common.{◌≡◌, Some, true, false, is_some, sym}
+use Rattle.oss_ranges.specs.Cells.{next_of, Rises}
+use Rattle.oss_ranges.specs.Trees.{HasPiece}
 use Rattle.oss_ranges.proofs.NodeLemmas.{without_left, without_own, without_right}
 use Rattle.oss_ranges.proofs.tree.Tree.+without.Goals as goal
 

@@ -1,6 +1,5 @@
-use Rattle.std.proofs.Common.{◌≡◌, ◌∷◌, ◌++◌, ◌<◌, ◌+◌, ℕ, length, Some, None, true, false, is_some, sym, ◌∙◌, ap, subst, rules, append_assoc}
-use Rattle.oss_ranges.specs.Cells.{next_of, removed, Rises}
-use Rattle.oss_ranges.specs.Trees.{HasPiece, IsParted, own, pieces_of}
+use Rattle.std.proofs.Common.{◌≡◌, ◌++◌, sym, ◌∙◌, ap, subst}
+use Rattle.oss_ranges.specs.Trees.{HasPiece, IsParted, own}
 use Rattle.oss_ranges.proofs.NodeLemmas.{parted_left}
 use Rattle.oss_ranges.proofs.tree.Tree.+without_first.Goals as goal
 
