@@ -5,6 +5,8 @@
 mod map;
 mod piece;
 mod pieces;
+#[cfg(test)]
+mod tests;
 mod tree;
 
 pub use map::RangeMap;
