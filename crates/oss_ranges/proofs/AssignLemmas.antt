@@ -1,0 +1,53 @@
+-- What assigning and clearing a range make of the pieces.
+use Rattle.std.specs.Prelude.{◌≡◌, ◌≤◌, ◌<◌, ℕ, Bool, true, false, if◌then◌else◌, List, Some, None, refl}
+use Rattle.std.proofs.Common.{◌∙◌, ap, arith, inl, inr}
+use Rattle.oss_ranges.proofs.CutLemmas.{cut_is_cut, cut_keeps, cut_rises, cut_same}
+use Rattle.oss_ranges.proofs.MapLemmas.{inserted_cut, outside_cut, outside_inserted, value_inserted, value_outside}
+use Rattle.oss_ranges.specs.Cells.{Assigns, cut_at, CutsAround, inserted, is_within, IsCut, outside, Rises, value_at}
+use Rattle.oss_ranges.specs.declared.piece.Piece.{Piece}
+
+module _ {T : Type 0} where
+  -- the pieces without the cells of a range
+  abbrev pub emptied : ℕ → ℕ → List (Piece T) → List (Piece T)
+  emptied lo hi xs = outside lo hi (cut_at hi (cut_at lo xs))
+
+  twice_rises : (lo hi : ℕ) (xs : List (Piece T)) → Rises 0 xs 1048576 → Rises 0 (cut_at hi (cut_at lo xs)) 1048576
+  twice_rises lo hi xs h = cut_rises 0 1048576 hi (cut_at lo xs) (cut_rises 0 1048576 lo xs h)
+
+  twice_low : (lo hi : ℕ) (xs : List (Piece T)) → Rises 0 xs 1048576 → IsCut lo (cut_at hi (cut_at lo xs))
+  twice_low lo hi xs h = cut_keeps hi lo (cut_at lo xs) (cut_is_cut 0 1048576 lo xs h)
+
+  twice_high : (lo hi : ℕ) (xs : List (Piece T)) → Rises 0 xs 1048576 → IsCut hi (cut_at hi (cut_at lo xs))
+  twice_high lo hi xs h = cut_is_cut 0 1048576 hi (cut_at lo xs) (cut_rises 0 1048576 lo xs h)
+
+  pub emptied_map : (lo hi : ℕ) (xs : List (Piece T)) → Rises 0 xs 1048576 → Assigns lo hi None xs (emptied lo hi xs)
+  emptied_map lo hi xs h cell =
+      value_outside 0 1048576 lo hi cell (cut_at hi (cut_at lo xs)) (twice_rises lo hi xs h) (twice_low lo hi xs h) (twice_high lo hi xs h)
+      ∙ ap (λ v. if is_within lo hi cell then None else v) (cut_same hi cell (cut_at lo xs) ∙ cut_same lo cell xs)
+
+  pub emptied_cuts : (lo hi : ℕ) (xs : List (Piece T)) → Rises 0 xs 1048576 → CutsAround lo hi xs (emptied lo hi xs)
+  emptied_cuts lo hi xs h = (
+    outside_cut lo lo hi (cut_at hi (cut_at lo xs)) (twice_low lo hi xs h),
+    outside_cut hi lo hi (cut_at hi (cut_at lo xs)) (twice_high lo hi xs h),
+    λ other out cut. outside_cut other lo hi (cut_at hi (cut_at lo xs)) (cut_keeps hi other (cut_at lo xs) (cut_keeps lo other xs cut)),
+  )
+
+  pub assigned_rises : (p : Piece T) (xs : List (Piece T)) → Rises 0 xs 1048576 → p.lo < p.hi → p.hi ≤ 1048576 → Rises 0 (inserted p (emptied p.lo p.hi xs)) 1048576
+  assigned_rises p xs h own high =
+      outside_inserted 0 1048576 p.lo p.hi p (cut_at p.hi (cut_at p.lo xs)) (twice_rises p.lo p.hi xs h) (twice_low p.lo p.hi xs h) (twice_high p.lo p.hi xs h) refl refl (omega arith) own high
+
+  pub assigned_map : (p : Piece T) (xs : List (Piece T)) → Rises 0 xs 1048576 → p.lo < p.hi → p.hi ≤ 1048576 → Assigns p.lo p.hi (Some p.value) xs (inserted p (emptied p.lo p.hi xs))
+  assigned_map p xs h own high cell =
+      by (is_within p.lo p.hi cell) (value_inserted 0 1048576 cell p (emptied p.lo p.hi xs) (assigned_rises p xs h own high)) (emptied_map p.lo p.hi xs h cell) where
+        by : (t : Bool) → value_at (inserted p (emptied p.lo p.hi xs)) cell ≡ (if t then Some p.value else value_at (emptied p.lo p.hi xs) cell) → value_at (emptied p.lo p.hi xs) cell ≡ (if t then None else value_at xs cell)
+            → value_at (inserted p (emptied p.lo p.hi xs)) cell ≡ (if t then Some p.value else value_at xs cell)
+        by true k m = k
+        by false k m = k ∙ m
+
+  pub assigned_cuts : (p : Piece T) (xs : List (Piece T)) → Rises 0 xs 1048576 → CutsAround p.lo p.hi xs (inserted p (emptied p.lo p.hi xs))
+  assigned_cuts p xs h =
+      let cuts = emptied_cuts p.lo p.hi xs h in (
+        inserted_cut p.lo p (emptied p.lo p.hi xs) (inl (omega arith)) cuts.0,
+        inserted_cut p.hi p (emptied p.lo p.hi xs) (inr (omega arith)) cuts.1,
+        λ other out cut. inserted_cut other p (emptied p.lo p.hi xs) out (cuts.2 other out cut),
+      )

@@ -1,0 +1,12 @@
+use Rattle.oss_ranges.proofs.AssignLemmas.{emptied_cuts, emptied_map}
+use Rattle.oss_ranges.proofs.map.RangeMap.clear.Goals as goal
+
+pub returns-clause-map : goal.returns-clause-map
+returns-clause-map g c =
+    let rising = rw c.in_ok-prepare.ensures.same at c.in_ok-prepare.ensures.rising in
+    rw (c.empty.ensures.pieces, c.in_ok-prepare.ensures.same) (emptied_map c.args.range.lo c.args.range.hi c.args.self.now.pieces rising)
+
+pub returns-clause-cuts : goal.returns-clause-cuts
+returns-clause-cuts g c =
+    let rising = rw c.in_ok-prepare.ensures.same at c.in_ok-prepare.ensures.rising in
+    rw (c.empty.ensures.pieces, c.in_ok-prepare.ensures.same) (emptied_cuts c.args.range.lo c.args.range.hi c.args.self.now.pieces rising)

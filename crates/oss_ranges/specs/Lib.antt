@@ -1,0 +1,4 @@
+pub mod Cells
+pub mod Items
+pub mod TreeFalls
+pub mod Trees

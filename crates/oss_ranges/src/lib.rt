@@ -1,0 +1,14 @@
+//! Range maps: finite maps from cells that are kept by ranges, so that what a change costs does not depend on how many cells it
+//! names.
+#![tactic(auto)]
+
+mod map;
+mod piece;
+mod pieces;
+#[cfg(test)]
+mod tests;
+mod tree;
+
+pub use map::RangeMap;
+pub use piece::Piece;
+pub use pieces::Pieces;

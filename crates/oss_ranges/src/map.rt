@@ -1,0 +1,354 @@
+ghost use Rattle.std.specs.Prelude.{◌≡◌, ◌≤◌, ◌<◌, ◌+◌, ◌*◌, ◌^◌, [], ◌∷◌, ℕ, true, Some, None, is_some, IsOk, OnOk, OnErr, length};
+ghost use Rattle.oss_ranges.specs.Cells.{Assigns, Cuts, CutsAround, IsMerged, Restricts, Rises, SameMap, cut_at, inserted, is_before, joined_at, next_of, outside, removed, union_of, value_at};
+
+use crate::piece::Piece;
+use crate::pieces::Pieces;
+use crate::tree::{Node, Tree};
+use oss_syntax::Range;
+use std::alloc::{AllocError, Global};
+use std::marker::Model;
+use std::mem;
+
+/// How many nodes one call may need that changes the map: two for the cuts at the ends of a range, and one for a new piece.
+const NODES: usize = 3;
+
+/// A finite map from cells to values. Cells that stand side by side and have one value are kept as one piece, so that a call
+/// costs what its pieces cost, however many cells they have.
+#[derive(Drop)]
+pub struct RangeMap<T: Copy + Eq> {
+    alloc: Global,
+    tree: Tree<T>,
+    spares: Vec<Box<Node<T>>>,
+}
+
+impl<T: Copy + Eq> Model for RangeMap<T> {
+    ghost use Rattle.std.specs.Prelude.{length};
+    ghost use Rattle.oss_ranges.specs.Cells.{Kept, Rises};
+
+    ghost Value = { Kept T };
+
+    ghost view = { λ m. record { pieces = m.tree; spares = length m.spares.items } };
+
+    ghost invariant = { λ m. Rises 0 m.tree 1048576 };
+}
+
+impl<T: Copy + Eq> RangeMap<T> {
+    /// The map that gives no cell a value. It takes no memory.
+    pub fn new(alloc: Global) -> RangeMap<T>
+        ensures { result.pieces ≡ [] }
+    {
+        RangeMap {
+            alloc,
+            tree: Tree::new(),
+            spares: Vec::new(alloc),
+        }
+    }
+
+    /// The value of a cell. It takes no memory.
+    pub fn get(&self, cell: u32) -> Option<T>
+        ensures { result ≡ value_at self.now.pieces cell }
+    {
+        match self.tree.next(cell) {
+            Some(piece) => piece.value_at_or_behind(cell),
+            None => None,
+        }
+    }
+
+    /// The map on a range: its pieces in rising order, cut at the ends of the range. It takes no memory.
+    pub fn over(&self, range: Range) -> Pieces<'_, T>
+        ensures map { Restricts range.lo range.hi self.now.pieces result }
+        ensures rising { Rises range.lo result range.hi }
+    {
+        Pieces::of(&self.tree, range)
+    }
+
+    /// Gives all cells of a range this value. After want of memory the map is as it was.
+    pub fn assign(&mut self, range: Range, value: T) -> Result<(), AllocError>
+        ensures map { OnOk result (Assigns range.lo range.hi (Some value) self.old.pieces self.new.pieces) }
+        ensures cuts { OnOk result (CutsAround range.lo range.hi self.old.pieces self.new.pieces) }
+        ensures refused { OnErr result (self.new.pieces ≡ self.old.pieces) }
+        ensures room { 3 ≤ self.old.spares → IsOk result }
+        ensures spares { self.old.spares ≤ self.new.spares + 3 }
+    {
+        self.prepare(NODES)?;
+        self.empty(range);
+        self.insert(Piece {
+            lo: range.lo,
+            hi: range.hi,
+            value,
+        });
+        Ok(())
+    }
+
+    /// Takes the values of all cells of a range away. After want of memory the map is as it was.
+    pub fn clear(&mut self, range: Range) -> Result<(), AllocError>
+        ensures map { OnOk result (Assigns range.lo range.hi None self.old.pieces self.new.pieces) }
+        ensures cuts { OnOk result (CutsAround range.lo range.hi self.old.pieces self.new.pieces) }
+        ensures refused { OnErr result (self.new.pieces ≡ self.old.pieces) }
+        ensures room { 3 ≤ self.old.spares → IsOk result }
+        ensures spares { self.old.spares ≤ self.new.spares + 3 }
+    {
+        self.prepare(NODES)?;
+        self.empty(range);
+        Ok(())
+    }
+
+    /// Cuts the piece that has this cell and the one before it in two, so that no piece has both. No cell changes its value.
+    /// After want of memory the map is as it was.
+    pub fn split_at(&mut self, cell: u32) -> Result<(), AllocError>
+        ensures map { SameMap self.old.pieces self.new.pieces }
+        ensures cuts { OnOk result (Cuts cell self.old.pieces self.new.pieces) }
+        ensures refused { OnErr result (self.new.pieces ≡ self.old.pieces) }
+        ensures room { 3 ≤ self.old.spares → IsOk result }
+        ensures spares { self.old.spares ≤ self.new.spares + 3 }
+    {
+        self.prepare(NODES)?;
+        self.cut(cell);
+        Ok(())
+    }
+
+    /// Makes room: as many calls of `assign`, `clear` and `split_at` succeed from here on. The map stays as it was.
+    pub fn reserve(&mut self, calls: u32) -> Result<(), AllocError>
+        ensures same { self.new.pieces ≡ self.old.pieces }
+        ensures room { OnOk result (3 * calls ≤ self.new.spares) }
+        ensures spares { self.old.spares ≤ self.new.spares }
+    {
+        self.prepare(NODES * calls as usize)
+    }
+
+    /// Joins the pieces that end and begin at this cell, where they have one value, so that they are one piece. No cell changes
+    /// its value, where equal values are identical. It takes no memory.
+    pub fn join_at(&mut self, cell: u32)
+        requires { (a b : T) → T.eq a b ≡ true → a ≡ b }
+        ensures map { SameMap self.old.pieces self.new.pieces }
+        ensures pieces { self.new.pieces ≡ joined_at T.eq cell self.old.pieces }
+        ensures spares { self.new.spares ≡ self.old.spares }
+    {
+        self.tree = joined(mem::replace(&mut self.tree, Tree::new()), cell);
+    }
+
+    /// Joins all pieces that touch and have one value. No cell changes its value, where equal values are identical. It takes
+    /// no memory.
+    pub fn merge_same(&mut self)
+        requires { (a b : T) → T.eq a b ≡ true → a ≡ b }
+        ensures map { SameMap self.old.pieces self.new.pieces }
+        ensures merged { IsMerged T.eq self.new.pieces }
+        ensures spares { self.new.spares ≡ self.old.spares }
+    {
+        self.tree = merged(mem::replace(&mut self.tree, Tree::new()));
+    }
+
+    /// Takes nodes into reserve until there are so many.
+    fn prepare(&mut self, nodes: usize) -> Result<(), AllocError>
+        ensures same { self.new.pieces ≡ self.old.pieces }
+        ensures ready { OnOk result (nodes ≤ self.new.spares) }
+        ensures room { nodes ≤ self.old.spares → IsOk result }
+        ensures spares { self.old.spares ≤ self.new.spares }
+        ensures rising { Rises 0 self.new.pieces 1048576 }
+    {
+        stock(self.alloc, nodes, &mut self.spares)
+    }
+
+    /// Puts a piece where no other is.
+    fn insert(&mut self, piece: Piece<T>)
+        requires room { 0 < self.old.spares }
+        requires rising { Rises 0 (inserted piece self.old.pieces) 1048576 }
+        ensures pieces { self.new.pieces ≡ inserted piece self.old.pieces }
+        ensures spares { self.old.spares ≡ self.new.spares + 1 }
+    {
+        match self.spares.pop() {
+            Some(node) => {
+                self.tree = mem::replace(&mut self.tree, Tree::new()).with(piece, node);
+            }
+            None => unreachable!(),
+        }
+    }
+
+    /// Cuts the piece that has this cell and the one before it.
+    fn cut(&mut self, cell: u32)
+        requires { 0 < self.old.spares }
+        ensures pieces { self.new.pieces ≡ cut_at cell self.old.pieces }
+        ensures spares { self.old.spares ≤ self.new.spares + 1 }
+    {
+        match self.spares.pop() {
+            Some(node) => {
+                self.tree = parted(mem::replace(&mut self.tree, Tree::new()), cell, node);
+            }
+            None => unreachable!(),
+        }
+    }
+
+    /// Takes the values of the cells of a range away.
+    fn empty(&mut self, range: Range)
+        requires { 2 ≤ self.old.spares }
+        ensures pieces { self.new.pieces ≡ outside range.lo range.hi (cut_at range.hi (cut_at range.lo self.old.pieces)) }
+        ensures spares { self.old.spares ≤ self.new.spares + 2 }
+    {
+        self.cut(range.lo);
+        self.cut(range.hi);
+        self.remove(range);
+    }
+
+    /// Removes the pieces that have a cell of a range.
+    fn remove(&mut self, range: Range)
+        ensures pieces { self.new.pieces ≡ outside range.lo range.hi self.old.pieces }
+        ensures spares { self.new.spares ≡ self.old.spares }
+    {
+        self.tree = without_range(
+            mem::replace(&mut self.tree, Tree::new()),
+            range.lo,
+            range.hi,
+        );
+    }
+}
+
+/// Takes nodes into reserve until there are so many.
+fn stock<T: Copy>(
+    alloc: Global,
+    nodes: usize,
+    spares: &mut Vec<Box<Node<T>>>,
+) -> Result<(), AllocError>
+    ensures ready { OnOk result (nodes ≤ length spares.new.items) }
+    ensures room { nodes ≤ length spares.old.items → IsOk result }
+    ensures kept { length spares.old.items ≤ length spares.new.items }
+{
+    for count in spares.len()..nodes {
+        let node = Box::new(alloc, Node::spare())?;
+        match spares.push(node) {
+            Ok(()) => {}
+            Err(full) => return Err(AllocError::from(full)),
+        }
+    }
+    Ok(())
+}
+
+/// The tree with the piece cut that has this cell and the one before it.
+fn parted<T: Copy>(tree: Tree<T>, cell: u32, spare: Box<Node<T>>) -> Tree<T>
+    requires { Rises 0 tree 1048576 }
+    ensures { result ≡ cut_at cell tree }
+{
+    match tree.next(cell) {
+        Some(piece) => {
+            if piece.lo < cell {
+                in_two(tree, piece, cell, spare)
+            } else {
+                tree
+            }
+        }
+        None => tree,
+    }
+}
+
+/// The tree with two parts of a piece in place of it.
+fn in_two<T: Copy>(tree: Tree<T>, piece: Piece<T>, cell: u32, spare: Box<Node<T>>) -> Tree<T>
+    requires rising { Rises 0 tree 1048576 }
+    requires piece { next_of cell tree ≡ Some piece }
+    requires inside { piece.lo < cell }
+    ensures { result ≡ cut_at cell tree }
+{
+    let (node, rest) = tree.without(cell);
+    let front = Piece {
+        lo: piece.lo,
+        hi: cell,
+        value: piece.value,
+    };
+    let back = Piece {
+        lo: cell,
+        hi: piece.hi,
+        value: piece.value,
+    };
+    match node {
+        Some(node) => rest.with(front, node).with(back, spare),
+        None => unreachable!(),
+    }
+}
+
+/// The tree without the pieces that have a cell from `lo` up to `hi`.
+fn without_range<T: Copy>(tree: Tree<T>, lo: u32, hi: u32) -> Tree<T>
+    requires { Rises 0 tree 1048576 }
+    ensures { result ≡ outside lo hi tree }
+{
+    let mut left = tree;
+    while begins_before(left.next(lo), hi) {
+        let (_, rest) = left.without(lo);
+        left = rest;
+    }
+    left
+}
+
+/// The tree with the pieces joined that end and begin at a cell, where they have one value.
+fn joined<T: Copy + Eq>(tree: Tree<T>, cell: u32) -> Tree<T>
+    requires { Rises 0 tree 1048576 }
+    ensures { result ≡ joined_at T.eq cell tree }
+{
+    let front = tree.next(cell.saturating_sub(1));
+    match union(front, tree.next(cell), cell) {
+        Some(whole) => as_one(tree, whole),
+        None => tree,
+    }
+}
+
+/// The tree with all pieces joined that touch and have one value.
+fn merged<T: Copy + Eq>(tree: Tree<T>) -> Tree<T>
+    requires rising { Rises 0 tree 1048576 }
+    requires same { (a b : T) → T.eq a b ≡ true → a ≡ b }
+    ensures map { SameMap tree result }
+    ensures merged { IsMerged T.eq result }
+    ensures rising { Rises 0 result 1048576 }
+{
+    let mut left = tree;
+    let mut from = 0;
+    'pieces: while let Some(piece) = left.next(from) {
+        from = piece.hi;
+        left = joined(left, from);
+    }
+    left
+}
+
+/// Two pieces as one, where they touch at a cell and have one value.
+fn union<T: Copy + Eq>(
+    front: Option<Piece<T>>,
+    back: Option<Piece<T>>,
+    cell: u32,
+) -> Option<Piece<T>>
+    ensures { result ≡ union_of T.eq cell front back }
+{
+    match (front, back) {
+        (Some(front), Some(back)) => {
+            if front.hi == cell && back.lo == cell && front.value == back.value {
+                Some(Piece {
+                    lo: front.lo,
+                    hi: back.hi,
+                    value: front.value,
+                })
+            } else {
+                None
+            }
+        }
+        _ => None,
+    }
+}
+
+/// Whether there is a piece, and it begins before a cell.
+fn begins_before<T: Copy>(piece: Option<Piece<T>>, cell: u32) -> bool
+    ensures { result ≡ is_before piece cell }
+{
+    match piece {
+        Some(piece) => piece.lo < cell,
+        None => false,
+    }
+}
+
+/// The tree with this piece in place of the two of which it is made.
+fn as_one<T: Copy>(tree: Tree<T>, whole: Piece<T>) -> Tree<T>
+    requires rising { Rises 0 (inserted whole (removed whole.lo (removed whole.lo tree))) 1048576 }
+    requires found { is_some (next_of whole.lo tree) ≡ true }
+    ensures { result ≡ inserted whole (removed whole.lo (removed whole.lo tree)) }
+{
+    let (node, rest) = tree.without(whole.lo);
+    let (_, rest) = rest.without(whole.lo);
+    match node {
+        Some(node) => rest.with(whole, node),
+        None => unreachable!(),
+    }
+}

@@ -1,0 +1,67 @@
+ghost use Rattle.std.specs.Prelude.{◌≡◌, ◌≤◌};
+ghost use Rattle.oss_ranges.specs.Cells.{Rises, clipped};
+
+use crate::tree::Tree;
+use oss_syntax::Range;
+use std::marker::Model;
+
+/// The pieces of a map on a range, in rising order: contracts see those that are left, cut at the ends of the range.
+#[derive(Drop)]
+pub struct Pieces<'m, T: Copy> {
+    tree: &'m Tree<T>,
+    from: u32,
+    to: u32,
+}
+
+impl<'m, T: Copy> Model for Pieces<'m, T> {
+    ghost use Rattle.std.specs.Prelude.{◌≤◌, List};
+    ghost use Rattle.oss_ranges.specs.declared.piece.Piece.{Piece};
+    ghost use Rattle.oss_ranges.specs.Cells.{Rises, clipped};
+
+    ghost Value = { List (Piece T) };
+
+    ghost view = { λ s. clipped s.from s.to s.tree.now };
+
+    ghost invariant = { λ s. Rises 0 s.tree.now 1048576 × (s.to ≤ 1048576) };
+}
+
+impl<'m, T: Copy> Pieces<'m, T> {
+    /// The pieces of a tree on a range.
+    pub(crate) fn of(tree: &'m Tree<T>, range: Range) -> Pieces<'m, T>
+        requires { Rises 0 tree.now 1048576 }
+        ensures { result ≡ clipped range.lo range.hi tree.now }
+    {
+        Pieces {
+            tree,
+            from: range.lo,
+            to: range.hi,
+        }
+    }
+}
+
+impl<'m, T: Copy> Iterator for Pieces<'m, T> {
+    ghost use Rattle.std.specs.Iterator.{YieldsFirstBy, item_count};
+    ghost use Rattle.oss_ranges.specs.Items.{piece_of};
+
+    type Item = (Range, T);
+
+    ghost next_gives = { YieldsFirstBy piece_of (λ s. s) };
+
+    ghost remaining = { item_count (λ s. s) };
+
+    fn next(&mut self) -> Option<(Range, T)> {
+        match self.tree.next(self.from) {
+            Some(piece) => {
+                let lo = piece.lo.max(self.from);
+                let hi = piece.hi.min(self.to);
+                if lo < hi {
+                    self.from = hi;
+                    Some((Range { lo, hi }, piece.value))
+                } else {
+                    None
+                }
+            }
+            None => None,
+        }
+    }
+}
