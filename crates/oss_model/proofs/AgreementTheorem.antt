@@ -10,7 +10,7 @@ use Rattle.std.proofs.lemmas.Nat.{or_lt, xor_lt, and_le_l}
 use Rattle.std.proofs.lemmas.List.{get_or_past}
 use Rattle.oss_model.specs.Order.{IsSuffix, IsIn}
 use Rattle.oss_model.specs.Rights.{Right, Holds, Reads, Writes, Folds, touch_fault, is_fold}
-use Rattle.oss_model.specs.Context.{create_fault, tick_fault, release_fault, wait_on_fault, right_of, lent_of}
+use Rattle.oss_model.specs.Context.{create_fault, tick_fault, release_fault, wait_on_fault, right_of, lent_of, mark_of}
 use Rattle.oss_model.specs.Bodies.{Ask, Program, Act, Frame, Start, judged_act, act_of_ask, ask_of, frame_act, stack_act, stack_from, act_of, stage_act, word_of}
 use Rattle.oss_model.specs.Bodies.Act.{Created, WaitedOn, Ticked, Load, Store, Folded, Releases}
 use Rattle.oss_model.specs.Machine.{Task, State, At}
@@ -47,9 +47,9 @@ judged_word f line (Some k) a h = tt
 ask_word : {S : Type 0} (slots : ℕ → Right) (inc : Bool) (f : Frame S) (a : Ask S) (line : ℕ) → IsWordAct (act_of_ask slots inc f a line)
 ask_word slots inc f Ask.Begin line = judged_word f line (create_fault f.context) _ tt
 ask_word slots inc f Ask.Tick line = judged_word f line (tick_fault f.context) Ticked tt
-ask_word slots inc f (Ask.Read c) line = judged_word f line (touch_fault ((right_of f.context) c) ((lent_of f.context) c) Reads) (Load c) tt
-ask_word slots inc f (Ask.Write c v) line = judged_word f line (touch_fault ((right_of f.context) c) ((lent_of f.context) c) Writes) (Store c (word_of v)) (word_is v)
-ask_word slots inc f (Ask.Fold c op v) line = judged_word f line (touch_fault ((right_of f.context) c) ((lent_of f.context) c) (Folds op)) (Folded c op (word_of v) (is_fold (slots c))) (word_is v)
+ask_word slots inc f (Ask.Read c) line = judged_word f line (touch_fault ((right_of f.context) c) ((lent_of f.context) c) ((mark_of f.context) c) Reads) (Load c) tt
+ask_word slots inc f (Ask.Write c v) line = judged_word f line (touch_fault ((right_of f.context) c) ((lent_of f.context) c) ((mark_of f.context) c) Writes) (Store c (word_of v)) (word_is v)
+ask_word slots inc f (Ask.Fold c op v) line = judged_word f line (touch_fault ((right_of f.context) c) ((lent_of f.context) c) ((mark_of f.context) c) (Folds op)) (Folded c op (word_of v) (is_fold (slots c))) (word_is v)
 ask_word slots inc f (Ask.Create o) line = judged_word f line _ (Created o f.context.final) tt
 ask_word slots inc f Ask.Await line = tt
 ask_word slots inc f Ask.Wait line = tt

@@ -8,10 +8,10 @@ use Rattle.oss_syntax.specs.declared.fault.FaultKind.{FaultKind}
 use Rattle.std.specs.Prelude.{◌||◌, if◌then◌else◌}
 use Rattle.oss_model.specs.Order.{IsIn, here, there}
 use Rattle.oss_model.specs.Rights.{Right, NoRight, Released, Holds, Reads, Writes, Folds, covers, touch_fault, in_access, right_from, joined_mode, right_held, joined_right, Free}
-use Rattle.oss_model.specs.Context.{Context, clause_fault, child_context, in_clauses, create_fault, release_fault, wait_on_fault, tick_fault, right_of, lent_of, release, lend_cell, or_else, creation_fault}
+use Rattle.oss_model.specs.Context.{Context, clause_fault, child_context, in_clauses, create_fault, release_fault, wait_on_fault, tick_fault, right_of, lent_of, mark_of, release, lend_cell, or_else, creation_fault}
 use Rattle.oss_model.specs.Bodies.{Order, Ask, Program, Act, Frame, Stack, Start, judged_act, act_of_ask, ask_of, frame_act, stack_act, answered_frame, child_frame, one_more_created, lent_when, frame_after, including_frame, base_after, inner_after, stack_after, past_ask, past_silent, settled_frame, settled_parts, next_stack, start_frame, stack_from, IsHalt}
 use Rattle.oss_model.specs.Bodies.Act.{Ticked, Load, Store, Folded, Created, Awaited, Waited, WaitedOn, Releases, Printed, Ended, Fault, Over}
-use Rattle.oss_model.proofs.ContextLemmas.{same_right, entry_cases, child_right}
+use Rattle.oss_model.proofs.ContextLemmas.{same_right, made_right, wrote_right, entry_cases, child_right}
 use Rattle.oss_model.proofs.JudgeLemmas.{Covered, covers_trans, clauses_covered}
 
 -- the second frame is of the same task, and has lost at most rights
@@ -28,7 +28,7 @@ release_right true r = inr refl
 release_right false r = inl refl
 
 released_right : (clauses : List Access) (x : Context) (c : ℕ) → (right_of (release clauses x) c ≡ right_of x c) ⊎ (right_of (release clauses x) c ≡ Released)
-released_right clauses x c = go (entry_cases (λ d. record { right = if in_clauses clauses d then Released else right_of x d; lent = lent_of x d }) x c) (release_right (in_clauses clauses c) (right_of x c))
+released_right clauses x c = go (entry_cases (λ d. record { right = if in_clauses clauses d then Released else right_of x d; lent = lent_of x d; mark = mark_of x d }) x c) (release_right (in_clauses clauses c) (right_of x c))
   where
     go : (right_of (release clauses x) c ≡ (if in_clauses clauses c then Released else right_of x c)) ⊎ ((right_of (release clauses x) c ≡ NoRight) × (right_of x c ≡ NoRight))
         → ((if in_clauses clauses c then Released else right_of x c) ≡ right_of x c) ⊎ ((if in_clauses clauses c then Released else right_of x c) ≡ Released)
@@ -38,7 +38,7 @@ released_right clauses x c = go (entry_cases (λ d. record { right = if in_claus
     go (inr e) h = inl (e.0 ∙ sym e.1)
 
 lend_when_right : (w : Bool) (given : ℕ → Right) (x : Context) (c : ℕ) → (right_of (lent_when w given x)) c ≡ (right_of x) c
-lend_when_right true given x c = same_right (λ d. record { right = right_of x d; lent = lend_cell (given d) (lent_of x d) }) x c refl
+lend_when_right true given x c = same_right (λ d. record { right = right_of x d; lent = lend_cell (given d) (lent_of x d); mark = mark_of x d }) x c refl
 lend_when_right false given x c = refl
 
 lend_when_final : (w : Bool) (given : ℕ → Right) (x : Context) → (lent_when w given x).final ≡ x.final
@@ -47,15 +47,19 @@ lend_when_final false given x = refl
 
 pub frame_after_kept : {S : Type 0} (act : Act S) (v : ℕ) (f : Frame S) → FrameKept f (frame_after act v f)
 frame_after_kept Ticked v f = record { path = refl; final = refl; right = λ c. inl refl }
+frame_after_kept (Store cell value) v f = record { path = refl; final = refl; right = λ c. inl (wrote_right cell f.context c) }
+frame_after_kept (Folded cell op value slot) v f = record { path = refl; final = refl; right = λ c. inl (wrote_right cell f.context c) }
 frame_after_kept (Created o included) v f =
+    let given = right_of (child_context f.context o.clauses o.last) in
+    let lent = lent_when o.when given (one_more_created f.context) in
     record {
       path = refl;
-      final = lend_when_final o.when (right_of (child_context f.context o.clauses o.last)) (one_more_created f.context);
-      right = λ c. inl (lend_when_right o.when (right_of (child_context f.context o.clauses o.last)) (one_more_created f.context) c);
+      final = lend_when_final o.when given (one_more_created f.context);
+      right = λ c. inl (made_right given lent c ∙ lend_when_right o.when given (one_more_created f.context) c);
     }
 frame_after_kept Awaited v f = record { path = refl; final = refl; right = λ c. inl refl }
-frame_after_kept Waited v f = record { path = refl; final = refl; right = λ c. inl (same_right (λ d. record { right = right_of f.context d; lent = Free }) f.context c refl) }
-frame_after_kept (WaitedOn named) v f = record { path = refl; final = refl; right = λ c. inl (same_right (λ d. record { right = right_of f.context d; lent = if in_clauses named d then Free else lent_of f.context d }) f.context c refl) }
+frame_after_kept Waited v f = record { path = refl; final = refl; right = λ c. inl (same_right (λ d. record { right = right_of f.context d; lent = Free; mark = mark_of f.context d }) f.context c refl) }
+frame_after_kept (WaitedOn named) v f = record { path = refl; final = refl; right = λ c. inl (same_right (λ d. record { right = right_of f.context d; lent = if in_clauses named d then Free else lent_of f.context d; mark = mark_of f.context d }) f.context c refl) }
 frame_after_kept (Releases clauses included) v f = record { path = refl; final = refl; right = λ c. released_right clauses f.context c }
 frame_after_kept _ v f = record { path = refl; final = refl; right = λ c. inl refl }
 
@@ -100,9 +104,9 @@ pub record CreatedBy {S : Type 0} (f : Frame S) (o : Order S) (included : Bool) 
 created_by : {S : Type 0} (slots : ℕ → Right) (inc : Bool) (f : Frame S) (a : Ask S) (line : ℕ) (o : Order S) (i : Bool) → act_of_ask slots inc f a line ≡ Created o i → CreatedBy f o i
 created_by slots inc f Ask.Begin line o i h = let k = judged_goes f line (create_fault f.context) _ (Created o i) h (λ s. s) in cc (k.1)
 created_by slots inc f Ask.Tick line o i h = let k = judged_goes f line (tick_fault f.context) Ticked (Created o i) h (λ s. s) in cc (k.1)
-created_by slots inc f (Ask.Read c) line o i h = let k = judged_goes f line (touch_fault ((right_of f.context) c) ((lent_of f.context) c) Reads) (Load c) (Created o i) h (λ s. s) in cc (k.1)
-created_by slots inc f (Ask.Write c v) line o i h = let k = judged_goes f line (touch_fault ((right_of f.context) c) ((lent_of f.context) c) Writes) _ (Created o i) h (λ s. s) in cc (k.1)
-created_by slots inc f (Ask.Fold c op v) line o i h = let k = judged_goes f line (touch_fault ((right_of f.context) c) ((lent_of f.context) c) (Folds op)) _ (Created o i) h (λ s. s) in cc (k.1)
+created_by slots inc f (Ask.Read c) line o i h = let k = judged_goes f line (touch_fault ((right_of f.context) c) ((lent_of f.context) c) ((mark_of f.context) c) Reads) (Load c) (Created o i) h (λ s. s) in cc (k.1)
+created_by slots inc f (Ask.Write c v) line o i h = let k = judged_goes f line (touch_fault ((right_of f.context) c) ((lent_of f.context) c) ((mark_of f.context) c) Writes) _ (Created o i) h (λ s. s) in cc (k.1)
+created_by slots inc f (Ask.Fold c op v) line o i h = let k = judged_goes f line (touch_fault ((right_of f.context) c) ((lent_of f.context) c) ((mark_of f.context) c) (Folds op)) _ (Created o i) h (λ s. s) in cc (k.1)
 created_by slots inc f (Ask.Create p) line o i h =
     let k = judged_goes f line (creation_fault f.context p.clauses (f.context.final || p.last)) (Created p f.context.final) (Created o i) h (λ s. s) in
     let k0 = creation_clauses (create_fault f.context) (clause_fault f.context p.clauses (f.context.final || p.last)) k.0 in
@@ -197,8 +201,8 @@ final_strong final (a ∷ rest) c m strong f h = split (in_access a c) refl (λ 
     split true e g = joined (right_from final rest c) (rw e at h)
     split false e g = g e
 
-nothing_lost : {S : Type 0} (f : Frame S) → FrameKept f (including_frame f)
-nothing_lost f = record { path = refl; final = refl; right = λ c. inl refl }
+pub nothing_lost : {S : Type 0} (o : Order S) (f : Frame S) → FrameKept f (including_frame o f)
+nothing_lost o f = record { path = refl; final = refl; right = λ c. inl (made_right (right_of (child_context f.context o.clauses o.last)) (one_more_created f.context) c) }
 
 pub or_true : (a b : Bool) → a ≡ true → (a || b) ≡ true
 or_true a b h = rw h refl
@@ -217,7 +221,7 @@ child_ok x f o fin own none cov =
           (final_strong (f.context.final || o.last) o.clauses c m strong (or_true f.context.final o.last fin) h2, record { mode = l.mode; strong = l.strong; holds = l.holds; covers = covers_trans l.mode k.mode m l.covers k.covers });
     }
 
-one_inner : {S : Type 0} {x : Context} {p : List ℕ} {base f g : Frame S} → StackOk x p base [] → FrameKept base g → g.context ≡ one_more_created base.context → InnerOk base.context f → StackOk x p g (f ∷ [])
+one_inner : {S : Type 0} {x : Context} {p : List ℕ} {base f g : Frame S} → StackOk x p base [] → FrameKept base g → ((c : ℕ) → right_of g.context c ≡ right_of base.context c) → InnerOk base.context f → StackOk x p g (f ∷ [])
 one_inner {base = base} {f = f} {g = g} ok k e i =
     let b = base_kept ok k in
     record { path = b.path; final = b.final; right = b.right; inner = λ h j. go h j }
@@ -227,7 +231,7 @@ one_inner {base = base} {f = f} {g = g} ok k e i =
         record {
           final = i.final;
           owner = k.final ∙ i.owner;
-          covered = λ c m strong r. let l = i.covered c m strong r in (l.0, subst (λ (z : Context). Covered ((right_of z) c) m) (sym e) l.1);
+          covered = λ c m strong r. let l = i.covered c m strong r in (l.0, subst (λ (z : Right). Covered z m) (sym (e c)) l.1);
         }
     go h (there j) = elim j [ ]
 
@@ -246,7 +250,7 @@ base_step : {S : Type 0} (P : Program S) (slots : ℕ → Right) (x : Context) (
 base_step P slots x p base over v Ended h ok = ok
 base_step P slots x p base over v (Created o true) h ok =
     let k = base_created P slots base over o true h in
-    one_inner ok (nothing_lost base) refl (child_ok base.context base o (sym k.flag) (sym k.flag) k.fault (λ c m strong r. record { mode = m; strong = strong; holds = r; covers = covers_self m }))
+    one_inner ok (nothing_lost o base) (made_right (right_of (child_context base.context o.clauses o.last)) (one_more_created base.context)) (child_ok base.context base o (sym k.flag) (sym k.flag) k.fault (λ c m strong r. record { mode = m; strong = strong; holds = r; covers = covers_self m }))
   where
     covers_self : (m : Mode) → covers m m ≡ true
     covers_self Read = refl
@@ -273,7 +277,7 @@ inner_step P slots x p base f fs over v Ended h ok = less_inner ok
 inner_step P slots x p base f fs over v (Created o i) h ok =
     let k = inner_created P slots base f fs over o i h in
     let j = ok.inner f here in
-    deeper (top_kept ok (nothing_lost f)) (child_ok base.context f o j.final j.owner k.fault (λ c m strong r. (j.covered c m strong r).1))
+    deeper (top_kept ok (nothing_lost o f)) (child_ok base.context f o j.final j.owner k.fault (λ c m strong r. (j.covered c m strong r).1))
 inner_step P slots x p base f fs over v Ticked h ok = top_kept ok (frame_after_kept Ticked v f)
 inner_step P slots x p base f fs over v (Load c) h ok = top_kept ok (frame_after_kept (Load c) v f)
 inner_step P slots x p base f fs over v (Store c w) h ok = top_kept ok (frame_after_kept (Store c w) v f)

@@ -3,10 +3,10 @@ use Rattle.std.proofs.Common.{◌≡◌, ℕ, zero, suc, ◌+◌, ◌<◌, ◌�
 use Rattle.oss_syntax.specs.declared.access.Access.{Access}
 use Rattle.oss_syntax.specs.declared.access.Mode.{Mode}
 use Rattle.oss_syntax.specs.declared.access.Mode.TheVariants.{Write}
-use Rattle.std.specs.Prelude.{◌||◌}
+use Rattle.std.specs.Prelude.{◌||◌, ◌==◌, if◌then◌else◌}
 use Rattle.std.proofs.lemmas.List.{get_or_past}
-use Rattle.oss_model.specs.Rights.{NoRight, Holds, Free, right_from}
-use Rattle.oss_model.specs.Context.{Entry, Context, no_entry, right_of, lent_of, table_from, with_entries, child_context, main_context}
+use Rattle.oss_model.specs.Rights.{Right, NoRight, Holds, Free, Written, right_from, mark_from}
+use Rattle.oss_model.specs.Context.{Entry, Context, no_entry, right_of, lent_of, mark_of, table_from, with_entries, child_context, main_context, made, made_mark, wrote}
 
 pub tabled_in : {A : Type 0} (f : ℕ → A) (k n c : ℕ) (d : A) → c < n → get_or (table_from f k n) c d ≡ f (k + c)
 unfolding table_from
@@ -43,6 +43,13 @@ same_right f x c h = go (entry_cases f x c)
     go (inl e) = e ∙ h
     go (inr e) = e.0 ∙ sym e.1
 
+-- a mark that a creation or a write sets leaves each right as it is
+pub made_right : (given : ℕ → Right) (x : Context) (c : ℕ) → right_of (made given x) c ≡ right_of x c
+made_right given x c = same_right (λ d. record { right = right_of x d; lent = lent_of x d; mark = made_mark (given d) (mark_of x d) }) x c refl
+
+pub wrote_right : (cell : ℕ) (x : Context) (c : ℕ) → right_of (wrote cell x) c ≡ right_of x c
+wrote_right cell x c = same_right (λ d. record { right = right_of x d; lent = lent_of x d; mark = if d == cell then Written else mark_of x d }) x c refl
+
 pub new_lent : (f : ℕ → Entry) (x : Context) (c : ℕ) → c < length x.entries → lent_of (with_entries f x) c ≡ (f c).lent
 new_lent f x c l = ap (λ (e : Entry). e.lent) (tabled_at f (length x.entries) c no_entry l)
 
@@ -62,7 +69,7 @@ lent_past x c = go (le_or c (length x.entries))
     go (inr l) = inr (ap (λ (e : Entry). e.lent) (get_or_past x.entries c no_entry l))
 
 child_entry : Context → List Access → Bool → ℕ → Entry
-child_entry x clauses last c = record { right = right_from (x.final || last) clauses c; lent = Free }
+child_entry x clauses last c = record { right = right_from (x.final || last) clauses c; lent = Free; mark = mark_from (x.final || last) clauses c }
 
 -- the rights of a new task are those of its clauses
 pub child_right : (x : Context) (clauses : List Access) (last : Bool) (c : ℕ) (m : Mode) (strong : Bool) → right_of (child_context x clauses last) c ≡ Holds m strong → (right_from (x.final || last) clauses c ≡ Holds m strong) × (c < length x.entries)
@@ -74,7 +81,7 @@ child_right x clauses last c m strong h =
     (sym (ap (λ (e : Entry). e.right) (tabled_at (child_entry x clauses last) (length x.entries) c no_entry l)) ∙ h, l)
 
 main_entry : ℕ → Entry
-main_entry c = record { right = Holds Write true; lent = Free }
+main_entry c = record { right = Holds Write true; lent = Free; mark = Written }
 
 -- main has a strong write on each cell, and on no other
 pub main_right : (cells fuel c : ℕ) (m : Mode) (strong : Bool) → right_of (main_context cells fuel) c ≡ Holds m strong → (c < cells) × (m ≡ Write)
@@ -85,3 +92,17 @@ main_right cells fuel c m strong h =
     let l : c < cells = omega arith in
     let e : Holds Write true ≡ Holds m strong = sym (ap (λ (e : Entry). e.right) (tabled_at main_entry cells c no_entry l)) ∙ h in
     (l, cc (e))
+
+-- and what is lent
+same_lent : (f : ℕ → Entry) (x : Context) (c : ℕ) → (f c).lent ≡ lent_of x c → lent_of (with_entries f x) c ≡ lent_of x c
+same_lent f x c h = go (le_or c (length x.entries))
+  where
+    go : (c < length x.entries) ⊎ (length x.entries ≤ c) → lent_of (with_entries f x) c ≡ lent_of x c
+    go (inl l) = new_lent f x c l ∙ h
+    go (inr l) = ap (λ (e : Entry). e.lent) (tabled_past f (length x.entries) c no_entry l) ∙ sym (ap (λ (e : Entry). e.lent) (get_or_past x.entries c no_entry l))
+
+pub made_lent : (given : ℕ → Right) (x : Context) (c : ℕ) → lent_of (made given x) c ≡ lent_of x c
+made_lent given x c = same_lent (λ d. record { right = right_of x d; lent = lent_of x d; mark = made_mark (given d) (mark_of x d) }) x c refl
+
+pub wrote_lent : (cell : ℕ) (x : Context) (c : ℕ) → lent_of (wrote cell x) c ≡ lent_of x c
+wrote_lent cell x c = same_lent (λ d. record { right = right_of x d; lent = lent_of x d; mark = if d == cell then Written else mark_of x d }) x c refl

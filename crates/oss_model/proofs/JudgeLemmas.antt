@@ -9,7 +9,7 @@ use Rattle.oss_syntax.specs.declared.fault.FaultKind.{FaultKind}
 use Rattle.oss_syntax.specs.declared.fault.FaultKind.TheVariants as fault
 use Rattle.std.specs.Prelude.{◌&&◌, ◌||◌, not, if◌then◌else◌, nat_lt, nat_le}
 use Rattle.std.proofs.lemmas.Bool.Decides.{nat_tests}
-use Rattle.oss_model.specs.Rights.{Right, NoRight, Released, Holds, Lending, Free, Reading, Writing, Touch, Reads, Writes, Folds, op_eq, covers, right_covers, touch_fault, in_access, right_from, any_from, any_cell, is_fold, holds_uncovered, is_released, is_mixed}
+use Rattle.oss_model.specs.Rights.{Right, NoRight, Released, Holds, Lending, Free, Reading, Writing, Mark, Touch, Reads, Writes, Folds, op_eq, covers, right_covers, touch_fault, in_access, right_from, any_from, any_cell, is_fold, holds_uncovered, is_released, is_mixed}
 use Rattle.oss_model.specs.Context.{Context, clause_fault, in_clauses, right_of}
 
 pub op_eq_is : (a b : Op) → op_eq a b ≡ true → a ≡ b
@@ -58,27 +58,27 @@ fold_cases : (a b : Op) (l : Lending) (t : Bool) → t ≡ op_eq a b → (if t t
 fold_cases a b l true e h = fold_passes a b l (sym e)
 fold_cases a b l false e h = cc
 
-pub touch_passes : (r : Right) (l : Lending) (t : Touch) → touch_fault r l t ≡ None → Passes r l t
-touch_passes NoRight l t h = cc
-touch_passes Released l t h = cc
-touch_passes (Holds m false) l t h = cc
-touch_passes (Holds Read true) Free Reads h = record { mode = Read; holds = refl; permits = Permits.read; unlent = Unlent.read (λ e. cc) }
-touch_passes (Holds Read true) Reading Reads h = record { mode = Read; holds = refl; permits = Permits.read; unlent = Unlent.read (λ e. cc) }
-touch_passes (Holds Read true) Writing Reads h = cc
-touch_passes (Holds Read true) Free Writes h = cc
-touch_passes (Holds Read true) Free (Folds op) h = cc
-touch_passes (Holds Read true) Reading Writes h = cc
-touch_passes (Holds Read true) Reading (Folds op) h = cc
-touch_passes (Holds Read true) Writing Writes h = cc
-touch_passes (Holds Read true) Writing (Folds op) h = cc
-touch_passes (Holds Write true) Free t h = record { mode = Write; holds = refl; permits = Permits.write; unlent = Unlent.write }
-touch_passes (Holds Write true) Reading Reads h = record { mode = Write; holds = refl; permits = Permits.write; unlent = Unlent.write_read (λ e. cc) }
-touch_passes (Holds Write true) Reading Writes h = cc
-touch_passes (Holds Write true) Reading (Folds op) h = cc
-touch_passes (Holds Write true) Writing t h = cc
-touch_passes (Holds (Fold a) true) l Reads h = cc
-touch_passes (Holds (Fold a) true) l Writes h = cc
-touch_passes (Holds (Fold a) true) l (Folds b) h = fold_cases a b l (op_eq a b) refl h
+pub touch_passes : (r : Right) (l : Lending) (k : Mark) (t : Touch) → touch_fault r l k t ≡ None → Passes r l t
+touch_passes NoRight l k t h = cc
+touch_passes Released l k t h = cc
+touch_passes (Holds m false) l k t h = cc
+touch_passes (Holds Read true) Free k Reads h = record { mode = Read; holds = refl; permits = Permits.read; unlent = Unlent.read (λ e. cc) }
+touch_passes (Holds Read true) Reading k Reads h = record { mode = Read; holds = refl; permits = Permits.read; unlent = Unlent.read (λ e. cc) }
+touch_passes (Holds Read true) Writing k Reads h = cc
+touch_passes (Holds Read true) Free k Writes h = cc
+touch_passes (Holds Read true) Free k (Folds op) h = cc
+touch_passes (Holds Read true) Reading k Writes h = cc
+touch_passes (Holds Read true) Reading k (Folds op) h = cc
+touch_passes (Holds Read true) Writing k Writes h = cc
+touch_passes (Holds Read true) Writing k (Folds op) h = cc
+touch_passes (Holds Write true) Free k t h = record { mode = Write; holds = refl; permits = Permits.write; unlent = Unlent.write }
+touch_passes (Holds Write true) Reading k Reads h = record { mode = Write; holds = refl; permits = Permits.write; unlent = Unlent.write_read (λ e. cc) }
+touch_passes (Holds Write true) Reading k Writes h = cc
+touch_passes (Holds Write true) Reading k (Folds op) h = cc
+touch_passes (Holds Write true) Writing k t h = cc
+touch_passes (Holds (Fold a) true) l k Reads h = cc
+touch_passes (Holds (Fold a) true) l k Writes h = cc
+touch_passes (Holds (Fold a) true) l k (Folds b) h = fold_cases a b l (op_eq a b) refl h
 
 -- a mode that covers another permits what it permits
 pub covers_permits : (held m : Mode) (t : Touch) (slot strong other : Bool) → covers held m ≡ true → Permits m t (is_fold (Holds m other)) → Permits held t (is_fold (Holds held strong))

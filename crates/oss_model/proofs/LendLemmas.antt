@@ -7,10 +7,10 @@ use Rattle.oss_syntax.specs.declared.access.Mode.TheVariants.{Read, Write, Fold}
 use Rattle.std.specs.Prelude.{not, if◌then◌else◌}
 use Rattle.oss_model.specs.Order.{IsSuffix, whole, longer}
 use Rattle.oss_model.specs.Rights.{Right, NoRight, Released, Holds, Lending, Free, Reading, Writing, Touch, Reads}
-use Rattle.oss_model.specs.Context.{Context, child_context, in_clauses, lend_cell, right_of, lent_of, Entry, with_entries, waited_on, lend}
+use Rattle.oss_model.specs.Context.{Context, child_context, in_clauses, lend_cell, right_of, lent_of, mark_of, Entry, with_entries, waited_on, lend, made, wrote}
 use Rattle.oss_model.specs.Bodies.{Order, Program, Act, Frame, Stack, Start, stack_act, lent_when, one_more_created, frame_after, base_after, inner_after, stack_after, settled_frame, settled_parts, next_stack, stack_from, act_of, stage_act}
-use Rattle.oss_model.specs.Bodies.Act.{Created, Awaited, Waited, WaitedOn, Ended, Releases}
-use Rattle.oss_model.proofs.ContextLemmas.{new_lent, lent_past, child_right}
+use Rattle.oss_model.specs.Bodies.Act.{Store, Folded, Created, Awaited, Waited, WaitedOn, Ended, Releases}
+use Rattle.oss_model.proofs.ContextLemmas.{new_lent, made_lent, wrote_lent, lent_past, child_right}
 use Rattle.oss_model.proofs.JudgeLemmas.{Unlent}
 use Rattle.oss_model.proofs.BodyLemmas.{settle_same}
 use Rattle.oss_model.proofs.StageLemmas.{creating}
@@ -58,7 +58,7 @@ lent_kept f x m c h k = go (lent_past x c)
     go (inr e) = absurd (subst (λ (z : Lending). LentFor m z) e h)
 
 lend_when_keeps : (w : Bool) (given : ℕ → Right) (x : Context) (m : Mode) (c : ℕ) → LentFor m (lent_of x c) → LentFor m (lent_of (lent_when w given x) c)
-lend_when_keeps true given x m c h = lent_kept (λ d. record { right = right_of x d; lent = lend_cell (given d) (lent_of x d) }) x m c h (lend_cell_keeps (given c) m (lent_of x c) h)
+lend_when_keeps true given x m c h = lent_kept (λ d. record { right = right_of x d; lent = lend_cell (given d) (lent_of x d); mark = mark_of x d }) x m c h (lend_cell_keeps (given c) m (lent_of x c) h)
 lend_when_keeps false given x m c h = h
 
 waited_on_keeps : (named : List Access) (x : Context) (m : Mode) (c : ℕ) → LentFor m (lent_of x c) → (in_clauses named c ≡ true) ⊎ LentFor m (lent_of (waited_on named x) c)
@@ -66,18 +66,30 @@ waited_on_keeps named x m c h = go (in_clauses named c) refl
   where
     go : (b : Bool) → in_clauses named c ≡ b → (in_clauses named c ≡ true) ⊎ LentFor m (lent_of (waited_on named x) c)
     go true e = inl e
-    go false e = inr (lent_kept (λ d. record { right = right_of x d; lent = if in_clauses named d then Free else lent_of x d }) x m c h (rw e h))
+    go false e = inr (lent_kept (λ d. record { right = right_of x d; lent = if in_clauses named d then Free else lent_of x d; mark = mark_of x d }) x m c h (rw e h))
+
+made_keeps : (given : ℕ → Right) (x : Context) (m : Mode) (c : ℕ) → LentFor m (lent_of x c) → LentFor m (lent_of (made given x) c)
+made_keeps given x m c h = subst (λ (z : Lending). LentFor m z) (sym (made_lent given x c)) h
+
+wrote_keeps : (cell : ℕ) (x : Context) (m : Mode) (c : ℕ) → LentFor m (lent_of x c) → LentFor m (lent_of (wrote cell x) c)
+wrote_keeps cell x m c h = subst (λ (z : Lending). LentFor m z) (sym (wrote_lent cell x c)) h
 
 frame_lent : {S : Type 0} (a : Act S) (v : ℕ) (f : Frame S) (m : Mode) (c : ℕ) → LentFor m (lent_of f.context c) → Clears a c ⊎ LentFor m (lent_of (frame_after a v f).context c)
 frame_lent Waited v f m c h = inl tt
 frame_lent (WaitedOn named) v f m c h = waited_on_keeps named f.context m c h
-frame_lent (Created o i) v f m c h = inr (lend_when_keeps o.when (right_of (child_context f.context o.clauses o.last)) (one_more_created f.context) m c h)
-frame_lent (Releases clauses i) v f m c h = inr (lent_kept (λ d. record { right = if in_clauses clauses d then Released else right_of f.context d; lent = lent_of f.context d }) f.context m c h h)
+frame_lent (Store cell value) v f m c h = inr (wrote_keeps cell f.context m c h)
+frame_lent (Folded cell op value slot) v f m c h = inr (wrote_keeps cell f.context m c h)
+frame_lent (Created o i) v f m c h =
+    let given = right_of (child_context f.context o.clauses o.last) in
+    inr (made_keeps given (lent_when o.when given (one_more_created f.context)) m c (lend_when_keeps o.when given (one_more_created f.context) m c h))
+frame_lent (Releases clauses i) v f m c h = inr (lent_kept (λ d. record { right = if in_clauses clauses d then Released else right_of f.context d; lent = lent_of f.context d; mark = mark_of f.context d }) f.context m c h h)
 frame_lent _ v f m c h = inr h
 
 base_lent : {S : Type 0} (a : Act S) (v : ℕ) (f : Frame S) (m : Mode) (c : ℕ) → LentFor m (lent_of f.context c) → Clears a c ⊎ LentFor m (lent_of (base_after a v f).base.context c)
 base_lent Ended v f m c h = inr h
-base_lent (Created o true) v f m c h = inr h
+base_lent (Created o true) v f m c h = inr (made_keeps (right_of (child_context f.context o.clauses o.last)) (one_more_created f.context) m c h)
+base_lent (Store cell value) v f m c h = frame_lent (Store cell value) v f m c h
+base_lent (Folded cell op value slot) v f m c h = frame_lent (Folded cell op value slot) v f m c h
 base_lent Waited v f m c h = frame_lent Waited v f m c h
 base_lent (WaitedOn named) v f m c h = frame_lent (WaitedOn named) v f m c h
 base_lent (Created o false) v f m c h = frame_lent (Created o false) v f m c h
@@ -138,7 +150,7 @@ stack_create_lends P slots v base [] over o c m strong e a w r =
     let within = (child_right base.context o.clauses o.last c m strong r).1 in
     let given = right_of (child_context base.context o.clauses o.last) in
     let x = one_more_created base.context in
-    let k : lent_of (lend given x) c ≡ lend_cell (given c) (lent_of x c) = new_lent (λ d. record { right = right_of x d; lent = lend_cell (given d) (lent_of x d) }) x c within in
+    let k : lent_of (made given (lend given x)) c ≡ lend_cell (given c) (lent_of x c) = made_lent given (lend given x) c ∙ new_lent (λ d. record { right = right_of x d; lent = lend_cell (given d) (lent_of x d); mark = mark_of x d }) x c within in
     let l : LentFor m (lend_cell (given c) (lent_of x c)) = subst (λ (z : Right). LentFor m (lend_cell z (lent_of x c))) (sym r) (lend_cell_lends m strong (lent_of x c)) in
     settled_lent P n.base n.inner n.ended m c (rw (a, w) (subst (λ (z : Lending). LentFor m z) (sym k) l))
 

@@ -3,7 +3,7 @@ use Rattle.std.proofs.Common.{◌≡◌, ◌≢◌, ℕ, ◌⊎◌, inl, inr, re
 use Rattle.oss_syntax.specs.declared.fault.FaultKind.{FaultKind}
 use Rattle.oss_model.specs.Order.{IsSuffix, IsIn}
 use Rattle.oss_model.specs.Rights.{Right, Reads, Writes, Folds, touch_fault, is_fold}
-use Rattle.oss_model.specs.Context.{create_fault, tick_fault, release_fault, wait_on_fault, right_of, lent_of}
+use Rattle.oss_model.specs.Context.{create_fault, tick_fault, release_fault, wait_on_fault, right_of, lent_of, mark_of}
 use Rattle.oss_model.specs.Bodies.{Ask, Program, Act, Frame, Start, key_of, top_frame, judged_act, act_of_ask, ask_of, frame_act, stack_act, stack_from, act_of, stage_act, stage_key, word_of}
 use Rattle.oss_model.specs.Bodies.Act.{Ticked, Load, Store, Folded, Created, Awaited, Waited, WaitedOn, Releases, Printed, Ended, Fault, Over}
 use Rattle.oss_model.specs.Machine.{Task}
@@ -33,9 +33,9 @@ ask_key : {S : Type 0} (slots : ℕ → Right) (included : Bool) (f : Frame S) (
 unfolding HasKey
 ask_key slots inc f Ask.Begin line = judged_key f line (create_fault f.context) _ refl
 ask_key slots inc f Ask.Tick line = judged_key f line (tick_fault f.context) Ticked tt
-ask_key slots inc f (Ask.Read c) line = judged_key f line (touch_fault (right_of f.context c) (lent_of f.context c) Reads) (Load c) tt
-ask_key slots inc f (Ask.Write c v) line = judged_key f line (touch_fault (right_of f.context c) (lent_of f.context c) Writes) (Store c (word_of v)) tt
-ask_key slots inc f (Ask.Fold c op v) line = judged_key f line (touch_fault (right_of f.context c) (lent_of f.context c) (Folds op)) (Folded c op (word_of v) (is_fold (slots c))) tt
+ask_key slots inc f (Ask.Read c) line = judged_key f line (touch_fault (right_of f.context c) (lent_of f.context c) (mark_of f.context c) Reads) (Load c) tt
+ask_key slots inc f (Ask.Write c v) line = judged_key f line (touch_fault (right_of f.context c) (lent_of f.context c) (mark_of f.context c) Writes) (Store c (word_of v)) tt
+ask_key slots inc f (Ask.Fold c op v) line = judged_key f line (touch_fault (right_of f.context c) (lent_of f.context c) (mark_of f.context c) (Folds op)) (Folded c op (word_of v) (is_fold (slots c))) tt
 ask_key slots inc f (Ask.Create o) line = judged_key f line _ (Created o f.context.final) tt
 ask_key slots inc f Ask.Await line = refl
 ask_key slots inc f Ask.Wait line = tt

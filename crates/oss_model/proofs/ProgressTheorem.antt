@@ -7,7 +7,7 @@ use Rattle.oss_syntax.specs.declared.fault.FaultKind.{FaultKind}
 use Rattle.oss_model.specs.Forest.{IsDone, IsWriteSatisfied, IsReadSatisfied, IsJoinSatisfied, done, write_top, write_child, read_top, read_child, join_top, join_below_fold, join_below_write}
 use Rattle.oss_model.specs.Order.{IsSuffix, whole, IsIn, here, there, IsBefore}
 use Rattle.oss_model.specs.Rights.{Right, NoRight, Released, Holds, covers, Reads, Writes, Folds, touch_fault, is_fold}
-use Rattle.oss_model.specs.Context.{create_fault, tick_fault, release_fault, wait_on_fault, right_of, lent_of}
+use Rattle.oss_model.specs.Context.{create_fault, tick_fault, release_fault, wait_on_fault, right_of, lent_of, mark_of}
 use Rattle.oss_model.specs.Bodies.{Ask, Program, Act, Frame, Start, Body, judged_act, act_of_ask, ask_of, frame_act, stack_act, stack_from, act_of, stage_act, stage_created, word_of, IsHalt, IsFault}
 use Rattle.oss_model.specs.Bodies.Act.{Created, Awaited, Waited, WaitedOn, Over, Ticked, Load, Store, Folded, Releases, Fault}
 use Rattle.oss_model.specs.Machine.{Task, State, At, find, same_path, HasAccess, accesses, is_top, IsChild, is_child, IsEarlier, is_earlier, IsReady, Owes, IsComplete, complete, IsWaitMet}
@@ -131,9 +131,9 @@ judged_stops f line (Some k) a h e = cc
 ask_not_over : {S : Type 0} (slots : ℕ → Right) (inc : Bool) (f : Frame S) (a : Ask S) (line : ℕ) → act_of_ask slots inc f a line ≢ Over
 ask_not_over slots inc f Ask.Begin line e = judged_stops f line (create_fault f.context) _ (λ x. cc) e
 ask_not_over slots inc f Ask.Tick line e = judged_stops f line (tick_fault f.context) Ticked (λ x. cc) e
-ask_not_over slots inc f (Ask.Read c) line e = judged_stops f line (touch_fault ((right_of f.context) c) ((lent_of f.context) c) Reads) (Load c) (λ x. cc) e
-ask_not_over slots inc f (Ask.Write c v) line e = judged_stops f line (touch_fault ((right_of f.context) c) ((lent_of f.context) c) Writes) (Store c (word_of v)) (λ x. cc) e
-ask_not_over slots inc f (Ask.Fold c op v) line e = judged_stops f line (touch_fault ((right_of f.context) c) ((lent_of f.context) c) (Folds op)) (Folded c op (word_of v) (is_fold (slots c))) (λ x. cc) e
+ask_not_over slots inc f (Ask.Read c) line e = judged_stops f line (touch_fault ((right_of f.context) c) ((lent_of f.context) c) ((mark_of f.context) c) Reads) (Load c) (λ x. cc) e
+ask_not_over slots inc f (Ask.Write c v) line e = judged_stops f line (touch_fault ((right_of f.context) c) ((lent_of f.context) c) ((mark_of f.context) c) Writes) (Store c (word_of v)) (λ x. cc) e
+ask_not_over slots inc f (Ask.Fold c op v) line e = judged_stops f line (touch_fault ((right_of f.context) c) ((lent_of f.context) c) ((mark_of f.context) c) (Folds op)) (Folded c op (word_of v) (is_fold (slots c))) (λ x. cc) e
 ask_not_over slots inc f (Ask.Create o) line e = judged_stops f line _ (Created o f.context.final) (λ x. cc) e
 ask_not_over slots inc f Ask.Await line e = cc
 ask_not_over slots inc f Ask.Wait line e = cc

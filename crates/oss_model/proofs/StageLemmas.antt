@@ -5,16 +5,16 @@ use Rattle.oss_syntax.specs.declared.access.Op.{Op}
 use Rattle.std.specs.Prelude.{◌||◌}
 use Rattle.oss_model.specs.Order.{IsSuffix, whole, longer, here}
 use Rattle.oss_model.specs.Rights.{Right, Released, Holds, Touch, Reads, Writes, Folds, touch_fault, is_fold}
-use Rattle.oss_model.specs.Context.{Context, child_context, create_fault, release_fault, wait_on_fault, tick_fault, right_of, lent_of, creation_fault}
+use Rattle.oss_model.specs.Context.{Context, child_context, create_fault, release_fault, wait_on_fault, tick_fault, right_of, lent_of, mark_of, creation_fault}
 use Rattle.oss_model.specs.Bodies.{Order, Ask, Program, Act, Frame, Stack, Start, act_of_ask, ask_of, frame_act, stack_act, one_more_created, lent_when, frame_after, base_after, inner_after, stack_after, settled_parts, next_stack, start_frame, stack_from, act_of, stage_act, stage_created, Touches, load, store, folded, word_of, IsHalt}
 use Rattle.oss_model.specs.Bodies.Act.{Ticked, Load, Store, Folded, Created, Awaited, Waited, WaitedOn, Releases, Printed, Ended, Fault, Over}
 use Rattle.oss_model.proofs.ContextLemmas.{child_right}
 use Rattle.oss_model.proofs.JudgeLemmas.{Covered, clauses_covered, Passes, Permits, touch_passes, covers_permits}
-use Rattle.oss_model.proofs.BodyLemmas.{judged_goes, StackOk, InnerOk, stack_ok, base_created, inner_created, FrameKept, frame_same, frame_after_kept, lost_right, settle_kept, settle_same}
+use Rattle.oss_model.proofs.BodyLemmas.{judged_goes, nothing_lost, StackOk, InnerOk, stack_ok, base_created, inner_created, FrameKept, frame_same, frame_after_kept, lost_right, settle_kept, settle_same}
 
 -- a touch by the top frame passes the judge
 pub record TouchedBy {S : Type 0} (slots : ℕ → Right) (f : Frame S) (c : ℕ) (t : Touch) (slot : Bool) : Type 0 where
-  pub fault : touch_fault ((right_of f.context) c) ((lent_of f.context) c) t ≡ None
+  pub fault : touch_fault ((right_of f.context) c) ((lent_of f.context) c) ((mark_of f.context) c) t ≡ None
   -- a read or a write goes to no slot, and a fold where the body's own right is a fold
   pub flag : (m : Mode) → Permits m t (is_fold (slots c)) → slot ≡ is_fold (slots c)
 
@@ -44,29 +44,29 @@ touched_by : {S : Type 0} (slots : ℕ → Right) (inc : Bool) (f : Frame S) (a 
 touched_by slots inc f Ask.Begin line act c t slot h i = let k = judged_goes f line (create_fault f.context) _ act h (is_touch act c t slot i) in absurd (subst (λ (z : Act _). IsTouch z c t slot) (sym k.1) i)
 touched_by slots inc f Ask.Tick line act c t slot h i = let k = judged_goes f line (tick_fault f.context) Ticked act h (is_touch act c t slot i) in absurd (subst (λ (z : Act _). IsTouch z c t slot) (sym k.1) i)
 touched_by {S = S} slots inc f (Ask.Read d) line act c t slot h i =
-    let k = judged_goes f line (touch_fault ((right_of f.context) d) ((lent_of f.context) d) Reads) (Load d) act h (is_touch act c t slot i) in
+    let k = judged_goes f line (touch_fault ((right_of f.context) d) ((lent_of f.context) d) ((mark_of f.context) d) Reads) (Load d) act h (is_touch act c t slot i) in
     go t k.0 (subst (λ (z : Act _). IsTouch z c t slot) (sym k.1) i)
   where
-    go : (t : Touch) → touch_fault ((right_of f.context) d) ((lent_of f.context) d) Reads ≡ None → IsTouch {S = S} (Load d) c t slot → TouchedBy slots f c t slot
-    go Reads n j = record { fault = subst (λ (z : ℕ). touch_fault ((right_of f.context) z) ((lent_of f.context) z) Reads ≡ None) j.0 n; flag = λ m p. j.1 ∙ same_flag m _ Reads (inl refl) p }
+    go : (t : Touch) → touch_fault ((right_of f.context) d) ((lent_of f.context) d) ((mark_of f.context) d) Reads ≡ None → IsTouch {S = S} (Load d) c t slot → TouchedBy slots f c t slot
+    go Reads n j = record { fault = subst (λ (z : ℕ). touch_fault ((right_of f.context) z) ((lent_of f.context) z) ((mark_of f.context) z) Reads ≡ None) j.0 n; flag = λ m p. j.1 ∙ same_flag m _ Reads (inl refl) p }
     go Writes n j = absurd j
     go (Folds op) n j = absurd j
 touched_by {S = S} slots inc f (Ask.Write d v) line act c t slot h i =
-    let k = judged_goes f line (touch_fault ((right_of f.context) d) ((lent_of f.context) d) Writes) (Store d (word_of v)) act h (is_touch act c t slot i) in
+    let k = judged_goes f line (touch_fault ((right_of f.context) d) ((lent_of f.context) d) ((mark_of f.context) d) Writes) (Store d (word_of v)) act h (is_touch act c t slot i) in
     go t k.0 (subst (λ (z : Act _). IsTouch z c t slot) (sym k.1) i)
   where
-    go : (t : Touch) → touch_fault ((right_of f.context) d) ((lent_of f.context) d) Writes ≡ None → IsTouch {S = S} (Store d (word_of v)) c t slot → TouchedBy slots f c t slot
-    go Writes n j = record { fault = subst (λ (z : ℕ). touch_fault ((right_of f.context) z) ((lent_of f.context) z) Writes ≡ None) j.0 n; flag = λ m p. j.1 ∙ same_flag m _ Writes (inr refl) p }
+    go : (t : Touch) → touch_fault ((right_of f.context) d) ((lent_of f.context) d) ((mark_of f.context) d) Writes ≡ None → IsTouch {S = S} (Store d (word_of v)) c t slot → TouchedBy slots f c t slot
+    go Writes n j = record { fault = subst (λ (z : ℕ). touch_fault ((right_of f.context) z) ((lent_of f.context) z) ((mark_of f.context) z) Writes ≡ None) j.0 n; flag = λ m p. j.1 ∙ same_flag m _ Writes (inr refl) p }
     go Reads n j = absurd j
     go (Folds op) n j = absurd j
 touched_by {S = S} slots inc f (Ask.Fold d op v) line act c t slot h i =
-    let k = judged_goes f line (touch_fault ((right_of f.context) d) ((lent_of f.context) d) (Folds op)) (Folded d op (word_of v) (is_fold (slots d))) act h (is_touch act c t slot i) in
+    let k = judged_goes f line (touch_fault ((right_of f.context) d) ((lent_of f.context) d) ((mark_of f.context) d) (Folds op)) (Folded d op (word_of v) (is_fold (slots d))) act h (is_touch act c t slot i) in
     go t k.0 (subst (λ (z : Act _). IsTouch z c t slot) (sym k.1) i)
   where
-    go : (t : Touch) → touch_fault ((right_of f.context) d) ((lent_of f.context) d) (Folds op) ≡ None → IsTouch {S = S} (Folded d op (word_of v) (is_fold (slots d))) c t slot → TouchedBy slots f c t slot
+    go : (t : Touch) → touch_fault ((right_of f.context) d) ((lent_of f.context) d) ((mark_of f.context) d) (Folds op) ≡ None → IsTouch {S = S} (Folded d op (word_of v) (is_fold (slots d))) c t slot → TouchedBy slots f c t slot
     go (Folds b) n j =
         record {
-          fault = subst (λ (z : ℕ). touch_fault ((right_of f.context) z) ((lent_of f.context) z) (Folds b) ≡ None) j.0 (subst (λ (z : Op). touch_fault ((right_of f.context) d) ((lent_of f.context) d) (Folds z) ≡ None) j.1 n);
+          fault = subst (λ (z : ℕ). touch_fault ((right_of f.context) z) ((lent_of f.context) z) ((mark_of f.context) z) (Folds b) ≡ None) j.0 (subst (λ (z : Op). touch_fault ((right_of f.context) d) ((lent_of f.context) d) ((mark_of f.context) d) (Folds z) ≡ None) j.1 n);
           flag = λ m p. j.2 ∙ ap (λ (z : ℕ). is_fold (slots z)) j.0;
         }
     go Reads n j = absurd j
@@ -102,7 +102,7 @@ still_held x now m strong (inr e) h = cc
 base_touch : {S : Type 0} (x : ℕ → Right) (base : Frame S) (c : ℕ) (t : Touch) (slot : Bool) → ((right_of base.context) c ≡ x c) ⊎ ((right_of base.context) c ≡ Released) → TouchedBy x base c t slot
     → Touching (x c) ((right_of base.context) c) t slot
 base_touch x base c t slot keep k =
-    let p = touch_passes ((right_of base.context) c) ((lent_of base.context) c) t k.fault in
+    let p = touch_passes ((right_of base.context) c) ((lent_of base.context) c) ((mark_of base.context) c) t k.fault in
     let h = still_held (x c) ((right_of base.context) c) p.mode true keep p.holds in
     let q : Permits p.mode t (is_fold (x c)) = subst (λ (r : Right). Permits p.mode t (is_fold r)) (p.holds ∙ sym h) p.permits in
     record { mode = p.mode; holds = h; stands = p.holds; permits = subst (λ (z : Bool). Permits p.mode t z) (sym (k.flag p.mode q)) q }
@@ -110,7 +110,7 @@ base_touch x base c t slot keep k =
 inner_touch : {S : Type 0} (x : Context) (base : Context) (f : Frame S) (c : ℕ) (t : Touch) (slot : Bool) → StartsWell x → base.final ≡ x.final → ((right_of base) c ≡ (right_of x) c) ⊎ ((right_of base) c ≡ Released) → InnerOk base f → TouchedBy (right_of x) f c t slot
     → Touching ((right_of x) c) ((right_of base) c) t slot
 inner_touch x base f c t slot well fin keep ok k =
-    let p = touch_passes ((right_of f.context) c) ((lent_of f.context) c) t k.fault in
+    let p = touch_passes ((right_of f.context) c) ((lent_of f.context) c) ((mark_of f.context) c) t k.fault in
     let v = ok.covered c p.mode true p.holds in
     let h = still_held ((right_of x) c) ((right_of base) c) v.1.mode v.1.strong keep v.1.holds in
     let s = well c v.1.mode v.1.strong (sym fin ∙ ok.owner) h in
@@ -139,7 +139,7 @@ stage_touch P b past c t slot well h =
 -- the own frame of a body after an act
 base_after_kept : {S : Type 0} (a : Act S) (v : ℕ) (base : Frame S) → FrameKept base (base_after a v base).base
 base_after_kept Ended v base = frame_same base
-base_after_kept (Created o true) v base = record { path = refl; final = refl; right = λ c. inl refl }
+base_after_kept (Created o true) v base = nothing_lost o base
 base_after_kept (Created o false) v base = frame_after_kept (Created o false) v base
 base_after_kept Ticked v base = frame_after_kept Ticked v base
 base_after_kept (Load c) v base = frame_after_kept (Load c) v base
@@ -334,7 +334,7 @@ creation_at P b (v ∷ vs) i open_ zero_ h =
 stack_unlent : {S : Type 0} (P : Program S) (x : Context) (p : List ℕ) (base : Frame S) (inner : List (Frame S)) (over : Bool) (c : ℕ) (t : Touch) (slot : Bool) → StackOk x p base inner → x.final ≡ false → IsTouch (stack_act P (right_of x) base inner over) c t slot
     → Passes ((right_of base.context) c) ((lent_of base.context) c) t
 stack_unlent P x p base inner true c t slot ok open_ i = absurd i
-stack_unlent P x p base [] false c t slot ok open_ i = touch_passes ((right_of base.context) c) ((lent_of base.context) c) t (frame_touched P (right_of x) false base base.awaits c t slot i).fault
+stack_unlent P x p base [] false c t slot ok open_ i = touch_passes ((right_of base.context) c) ((lent_of base.context) c) ((mark_of base.context) c) t (frame_touched P (right_of x) false base base.awaits c t slot i).fault
 stack_unlent P x p base (f ∷ fs) false c t slot ok open_ i = let e : true ≡ false = sym (ok.inner f here).owner ∙ (ok.final ∙ open_) in cc
 
 -- a touch by a task that is not final passes the lending of the task itself

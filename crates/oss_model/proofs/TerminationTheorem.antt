@@ -197,7 +197,7 @@ module _ {S : Type 0} (P : Program S) (lively : IsLively P) where
 
           including : stack_from P t.body.start (found_by (act_now P t.body) z.state.cells ∷ t.body.found) ≡ settled_stack P (base_after (Created o true) (found_by (act_now P t.body) z.state.cells) base) → OwnDone P z
           including k =
-              then_ (child_included n deeper base.context.depth (costs.depth o true refl) d nx.stage (after_answer (found_by (act_now P t.body) z.state.cells) t) (including_frame base) (settled_frame P (child_frame base o)) [] here k (settled_depth P (child_frame base o)))
+              then_ (child_included n deeper base.context.depth (costs.depth o true refl) d nx.stage (after_answer (found_by (act_now P t.body) z.state.cells) t) (including_frame o base) (settled_frame P (child_frame base o)) [] here k (settled_depth P (child_frame base o)))
             where
               same : nx.stage.active ≡ z.active
               same = nx.active ∙ active_stay P t z.active (found_by (act_now P t.body) z.state.cells) (λ o2 h. let x : Created o true ≡ Created o2 false = sym e ∙ (sym act_is ∙ h) in cc) (ap (λ (x : Stack S). x.ended) k)
@@ -205,14 +205,14 @@ module _ {S : Type 0} (P : Program S) (lively : IsLively P) where
               here : At nx.stage.state nx.stage.active (after_answer (found_by (act_now P t.body) z.state.cells) t)
               here = subst (λ (w : List ℕ). At nx.stage.state w (after_answer (found_by (act_now P t.body) z.state.cells) t)) (sym same) nx.own
 
-              then_ : IncludedDone P nx.stage (including_frame base) [] → OwnDone P z
+              then_ : IncludedDone P nx.stage (including_frame o base) [] → OwnDone P z
               then_ (included_end x j h) = own_end x (leads_trans (on still nx.runs) j) h
               then_ (included_finished x u j xa hu su ab) =
-                  let b = settled_less P lively (including_frame base) in
+                  let b = settled_less P lively (including_frame o base) in
                   let c = costs.including o true refl in
-                  let e2 = settled_depth P (including_frame base) in
+                  let e2 = settled_depth P (including_frame o base) in
                   own_carry P z x (leads_trans (on still nx.runs) j) (xa ∙ same) (above_trans z nx.stage x same (above_next P z nx.stage nx.runs) ab)
-                  (again x u (settled_frame P (including_frame base)) (subst (λ (w : List ℕ). At x.state w u) (sym xa) hu) su (omega arith) (omega arith))
+                  (again x u (settled_frame P (including_frame o base)) (subst (λ (w : List ℕ). At x.state w u) (sym xa) hu) su (omega arith) (omega arith))
       go a e (creates o false) = creation (after (Created o false) e)
         where
           goes : IsHalt (act_now P t.body) → ⊥
@@ -321,7 +321,7 @@ module _ {S : Type 0} (P : Program S) (lively : IsLively P) where
 
           including : stack_from P t.body.start (found_by (act_now P t.body) z.state.cells ∷ t.body.found) ≡ settled_stack P (inner_after (Created o true) (found_by (act_now P t.body) z.state.cells) base f fs) → IncludedDone P z base fs
           including k =
-              then_ (child_included n deeper f.context.depth (costs.depth o true refl) d nx.stage (after_answer (found_by (act_now P t.body) z.state.cells) t) base (settled_frame P (child_frame f o)) (including_frame f ∷ fs) here k (settled_depth P (child_frame f o)))
+              then_ (child_included n deeper f.context.depth (costs.depth o true refl) d nx.stage (after_answer (found_by (act_now P t.body) z.state.cells) t) base (settled_frame P (child_frame f o)) (including_frame o f ∷ fs) here k (settled_depth P (child_frame f o)))
             where
               same : nx.stage.active ≡ z.active
               same = nx.active ∙ active_stay P t z.active (found_by (act_now P t.body) z.state.cells) (λ o2 h. let x : Created o true ≡ Created o2 false = sym e ∙ (sym act_is ∙ h) in cc) (ap (λ (x : Stack S). x.ended) k)
@@ -329,14 +329,14 @@ module _ {S : Type 0} (P : Program S) (lively : IsLively P) where
               here : At nx.stage.state nx.stage.active (after_answer (found_by (act_now P t.body) z.state.cells) t)
               here = subst (λ (w : List ℕ). At nx.stage.state w (after_answer (found_by (act_now P t.body) z.state.cells) t)) (sym same) nx.own
 
-              then_ : IncludedDone P nx.stage base (including_frame f ∷ fs) → IncludedDone P z base fs
+              then_ : IncludedDone P nx.stage base (including_frame o f ∷ fs) → IncludedDone P z base fs
               then_ (included_end x j h) = included_end x (leads_trans (on still nx.runs) j) h
               then_ (included_finished x u j xa hu su ab) =
-                  let b = settled_less P lively (including_frame f) in
+                  let b = settled_less P lively (including_frame o f) in
                   let c = costs.including o true refl in
-                  let e2 = settled_depth P (including_frame f) in
+                  let e2 = settled_depth P (including_frame o f) in
                   included_carry P z x base fs (leads_trans (on still nx.runs) j) (xa ∙ same) (above_trans z nx.stage x same (above_next P z nx.stage nx.runs) ab)
-                  (again x u base (settled_frame P (including_frame f)) fs (subst (λ (w : List ℕ). At x.state w u) (sym xa) hu) su (omega arith) (omega arith))
+                  (again x u base (settled_frame P (including_frame o f)) fs (subst (λ (w : List ℕ). At x.state w u) (sym xa) hu) su (omega arith) (omega arith))
       go a e (plain ne nc ng eb ei) = going (after a e)
         where
           goes : IsHalt (act_now P t.body) → ⊥

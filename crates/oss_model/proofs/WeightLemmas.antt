@@ -5,8 +5,8 @@ use Rattle.std.proofs.lemmas.Bool.Decides.{nat_tests}
 use Rattle.oss_syntax.specs.declared.fault.FaultKind.{FaultKind}
 use Rattle.oss_syntax.specs.declared.fault.FaultKind.TheVariants as fault
 use Rattle.oss_model.specs.Rights.{Right, Reads, Writes, Folds, touch_fault, is_fold}
-use Rattle.oss_model.specs.Context.{Context, create_fault, tick_fault, creation_fault, clause_fault, or_else, release_fault, wait_on_fault, right_of, lent_of, child_context, waited, waited_on, release}
-use Rattle.oss_model.specs.Bodies.{Order, Ask, Program, Act, Frame, act_of_ask, ask_of, frame_act, answered_frame, one_more_created, lent_when, after_creation, frame_after, including_frame, past_ask, past_silent, settled_frame, word_of, key_of, IsHalt}
+use Rattle.oss_model.specs.Context.{Context, create_fault, tick_fault, creation_fault, clause_fault, or_else, release_fault, wait_on_fault, right_of, lent_of, mark_of, child_context, wrote, waited, waited_on, release}
+use Rattle.oss_model.specs.Bodies.{Order, Ask, Program, Act, Frame, act_of_ask, ask_of, frame_act, answered_frame, one_more_created, lent_when, made_by, after_creation, frame_after, including_frame, past_ask, past_silent, settled_frame, word_of, key_of, IsHalt}
 use Rattle.oss_model.specs.Bodies.Act.{Ticked, Load, Store, Folded, Created, Awaited, Waited, WaitedOn, Releases, Printed, Ended}
 use Rattle.oss_model.specs.Termination.{IsBusy, IsLively}
 use Rattle.oss_model.proofs.BodyLemmas.{judged_goes}
@@ -87,12 +87,12 @@ module _ {S : Type 0} (P : Program S) (lively : IsLively P) where
   unfolding weight one_if
   creation_less o f busy = go o.when
     where
-      go : (w : Bool) → weight (record { script = f.script; context = lent_when w (right_of (child_context f.context o.clauses o.last)) (one_more_created f.context); path = f.path; answers = 0 ∷ f.answers; awaits = not w }) < weight f
+      go : (w : Bool) → weight (record { script = f.script; context = made_by o f (lent_when w (right_of (child_context f.context o.clauses o.last)) (one_more_created f.context)); path = f.path; answers = 0 ∷ f.answers; awaits = not w }) < weight f
       go true = let r = lively.falls f.script f.answers 0 busy in let s = small f.awaits in omega arith
       go false = let r = lively.falls f.script f.answers 0 busy in let s = small f.awaits in omega arith
 
-  pub including_less : (f : Frame S) → IsBusy (ask_of P f).ask → weight (including_frame f) < weight f
-  including_less f busy = answered_less f 0 (one_more_created f.context) refl refl busy
+  pub including_less : (o : Order S) (f : Frame S) → IsBusy (ask_of P f).ask → weight (including_frame o f) < weight f
+  including_less o f busy = answered_less f 0 (made_by o f (one_more_created f.context)) refl refl busy
 
   no_creation_fault : (a b : Option FaultKind) → or_else a b ≡ None → a ≡ None
   no_creation_fault None b h = refl
@@ -108,7 +108,7 @@ module _ {S : Type 0} (P : Program S) (lively : IsLively P) where
   -- what an act tells: it makes what is left less, and a creation is not too deep
   pub record Costs (f : Frame S) (a : Act S) : Type 0 where
     pub less : (v : ℕ) → a ≢ Ended → weight (frame_after a v f) < weight f
-    pub including : (o : Order S) (i : Bool) → a ≡ Created o i → weight (including_frame f) < weight f
+    pub including : (o : Order S) (i : Bool) → a ≡ Created o i → weight (including_frame o f) < weight f
     pub depth : (o : Order S) (i : Bool) → a ≡ Created o i → f.context.depth < 64
 
   plain_costs : (f : Frame S) (a b : Act S) → a ≡ b → ((o : Order S) (i : Bool) → a ≢ Created o i) → ((v : ℕ) → a ≢ Ended → weight (frame_after a v f) < weight f) → Costs f b
@@ -121,19 +121,19 @@ module _ {S : Type 0} (P : Program S) (lively : IsLively P) where
       let k = judged_goes f line (tick_fault f.context) Ticked a h g in
       plain_costs f Ticked a k.1 (λ o i q. cc) (λ v n. tick_less f v (tick_goes f.context k.0))
   ask_costs slots inc f (Ask.Read c) line a e h g =
-      let k = judged_goes f line (touch_fault (right_of f.context c) (lent_of f.context c) Reads) (Load c) a h g in
+      let k = judged_goes f line (touch_fault (right_of f.context c) (lent_of f.context c) (mark_of f.context c) Reads) (Load c) a h g in
       plain_costs f (Load c) a k.1 (λ o i q. cc) (λ v n. answered_less f v f.context refl refl (subst IsBusy (sym e) tt))
   ask_costs slots inc f (Ask.Write c w) line a e h g =
-      let k = judged_goes f line (touch_fault (right_of f.context c) (lent_of f.context c) Writes) (Store c (word_of w)) a h g in
-      plain_costs f (Store c (word_of w)) a k.1 (λ o i q. cc) (λ v n. answered_less f v f.context refl refl (subst IsBusy (sym e) tt))
+      let k = judged_goes f line (touch_fault (right_of f.context c) (lent_of f.context c) (mark_of f.context c) Writes) (Store c (word_of w)) a h g in
+      plain_costs f (Store c (word_of w)) a k.1 (λ o i q. cc) (λ v n. answered_less f v (wrote c f.context) refl refl (subst IsBusy (sym e) tt))
   ask_costs slots inc f (Ask.Fold c op w) line a e h g =
-      let k = judged_goes f line (touch_fault (right_of f.context c) (lent_of f.context c) (Folds op)) (Folded c op (word_of w) (is_fold (slots c))) a h g in
-      plain_costs f (Folded c op (word_of w) (is_fold (slots c))) a k.1 (λ o i q. cc) (λ v n. answered_less f v f.context refl refl (subst IsBusy (sym e) tt))
+      let k = judged_goes f line (touch_fault (right_of f.context c) (lent_of f.context c) (mark_of f.context c) (Folds op)) (Folded c op (word_of w) (is_fold (slots c))) a h g in
+      plain_costs f (Folded c op (word_of w) (is_fold (slots c))) a k.1 (λ o i q. cc) (λ v n. answered_less f v (wrote c f.context) refl refl (subst IsBusy (sym e) tt))
   ask_costs slots inc f (Ask.Create p) line a e h g =
       let k = judged_goes f line (creation_fault f.context p.clauses (f.context.final || p.last)) (Created p f.context.final) a h g in
       let d = shallow f.context (no_creation_fault (create_fault f.context) (clause_fault f.context p.clauses (f.context.final || p.last)) k.0) in
       let busy : IsBusy (ask_of P f).ask = subst IsBusy (sym e) tt in
-      subst (λ (z : Act S). Costs f z) k.1 (record { less = λ v n. creation_less p f busy; including = λ o i q. including_less f busy; depth = λ o i q. d })
+      subst (λ (z : Act S). Costs f z) k.1 (record { less = λ v n. creation_less p f busy; including = λ o i q. including_less o f busy; depth = λ o i q. d })
   ask_costs slots inc f Ask.Await line a e h g = absurd (g (subst IsHalt h tt))
   ask_costs slots inc f Ask.Wait line a e h g =
       plain_costs f Waited a h (λ o i q. cc) (λ v n. answered_less f v (waited f.context) refl refl (subst IsBusy (sym e) tt))

@@ -5,14 +5,15 @@
 -- of a final task is included: it runs in its creator's body (OmpSs-2, task directive, final clause).
 -- Read against: a final task whose statement creates a task that prints, so that the print has a key below the
 -- final task's, though the machine has no task there; and a task of a false if, x = 1, before x = 2, where an
--- await stands between the two stores.
+-- await stands between the two stores. A task with out(x) that stores x and then loads it goes on; one that loads x
+-- first stands before the fault Unwritten.
 use Rattle.std.specs.Prelude.{ℕ, ◌+◌, ◌%◌, ◌^◌, Bool, true, false, ◌||◌, not, if◌then◌else◌, List, [], ◌∷◌, ℤ, Option, Some, None}
 use Rattle.oss_syntax.specs.declared.access.Access.{Access}
 use Rattle.oss_syntax.specs.declared.access.Op.{Op}
 use Rattle.oss_syntax.specs.declared.fault.FaultKind.{FaultKind}
 use Rattle.oss_syntax.specs.declared.fault.FaultKind.TheVariants as fault
 use Rattle.oss_model.specs.Rights.{Right, Touch, Reads, Writes, Folds, touch_fault, is_fold}
-use Rattle.oss_model.specs.Context.{Context, tick_fault, create_fault, creation_fault, release_fault, wait_on_fault, child_context, lend, release, waited_on, right_of, lent_of, waited}
+use Rattle.oss_model.specs.Context.{Context, tick_fault, create_fault, creation_fault, release_fault, wait_on_fault, child_context, lend, made, wrote, release, waited_on, right_of, lent_of, mark_of, waited}
 
 -- What a new task is to run, and the clauses of its creation.
 pub record Order (S : Type 0) : Type 0 where
@@ -119,9 +120,9 @@ word_of v = v % 2 ^ 64
 abbrev pub act_of_ask : {S : Type 0} → (ℕ → Right) → Bool → Frame S → Ask S → ℕ → Act S
 act_of_ask slots included f Begin line = judged_act f line (create_fault f.context) (Fault fault.TooManyTasks line (key_of f))
 act_of_ask slots included f Tick line = judged_act f line (tick_fault f.context) Ticked
-act_of_ask slots included f (Read c) line = judged_act f line (touch_fault (right_of f.context c) (lent_of f.context c) Reads) (Load c)
-act_of_ask slots included f (Write c v) line = judged_act f line (touch_fault (right_of f.context c) (lent_of f.context c) Writes) (Store c (word_of v))
-act_of_ask slots included f (Fold c op v) line = judged_act f line (touch_fault (right_of f.context c) (lent_of f.context c) (Folds op)) (Folded c op (word_of v) (is_fold (slots c)))
+act_of_ask slots included f (Read c) line = judged_act f line (touch_fault (right_of f.context c) (lent_of f.context c) (mark_of f.context c) Reads) (Load c)
+act_of_ask slots included f (Write c v) line = judged_act f line (touch_fault (right_of f.context c) (lent_of f.context c) (mark_of f.context c) Writes) (Store c (word_of v))
+act_of_ask slots included f (Fold c op v) line = judged_act f line (touch_fault (right_of f.context c) (lent_of f.context c) (mark_of f.context c) (Folds op)) (Folded c op (word_of v) (is_fold (slots c)))
 act_of_ask slots included f (Create o) line = judged_act f line (creation_fault f.context o.clauses (f.context.final || o.last)) (Created o f.context.final)
 act_of_ask slots included f Await line = Fault fault.TooManyTasks line (key_of f)
 act_of_ask slots included f Wait line = Waited
@@ -174,11 +175,16 @@ abbrev pub lent_when : Bool → (ℕ → Right) → Context → Context
 lent_when true given x = lend given x
 lent_when false given x = x
 
+-- The context of a creator whose new task has these rights, included or not: what the new task may write counts as
+-- written.
+abbrev pub made_by : {S : Type 0} → Order S → Frame S → Context → Context
+made_by o f x = made (right_of (child_context f.context o.clauses o.last)) x
+
 -- The creator after a creation that is not included. Under a false if it awaits the new task.
 abbrev pub after_creation : {S : Type 0} → Order S → Frame S → Frame S
 after_creation o f = record {
   script = f.script;
-  context = lent_when o.when (right_of (child_context f.context o.clauses o.last)) (one_more_created f.context);
+  context = made_by o f (lent_when o.when (right_of (child_context f.context o.clauses o.last)) (one_more_created f.context));
   path = f.path;
   answers = 0 ∷ f.answers;
   awaits = not o.when;
@@ -187,6 +193,8 @@ after_creation o f = record {
 -- A task after an act that leaves it the one that acts.
 abbrev pub frame_after : {S : Type 0} → Act S → ℕ → Frame S → Frame S
 frame_after Ticked v f = answered_frame v (with_context (record (f.context) { ticks = f.context.ticks + 1 }) f)
+frame_after (Store c value) v f = answered_frame v (with_context (wrote c f.context) f)
+frame_after (Folded c op value slot) v f = answered_frame v (with_context (wrote c f.context) f)
 frame_after (Created o included) v f = after_creation o f
 frame_after Awaited v f = record f { awaits = false }
 frame_after Waited v f = answered_frame v (with_context (waited f.context) f)
@@ -195,19 +203,19 @@ frame_after (Releases clauses included) v f = answered_frame v (with_context (re
 frame_after _ v f = answered_frame v f
 
 -- The creator while an included task runs.
-abbrev pub including_frame : {S : Type 0} → Frame S → Frame S
-including_frame f = answered_frame 0 (with_context (one_more_created f.context) f)
+abbrev pub including_frame : {S : Type 0} → Order S → Frame S → Frame S
+including_frame o f = answered_frame 0 (with_context (made_by o f (one_more_created f.context)) f)
 
 -- A body whose own task acts, after the act.
 abbrev pub base_after : {S : Type 0} → Act S → ℕ → Frame S → Stack S
 base_after Ended v base = record { base = base; inner = []; ended = true }
-base_after (Created o true) v base = record { base = including_frame base; inner = child_frame base o ∷ []; ended = false }
+base_after (Created o true) v base = record { base = including_frame o base; inner = child_frame base o ∷ []; ended = false }
 base_after act v base = record { base = frame_after act v base; inner = []; ended = false }
 
 -- A body in which an included task acts, after the act.
 abbrev pub inner_after : {S : Type 0} → Act S → ℕ → Frame S → Frame S → List (Frame S) → Stack S
 inner_after Ended v base f fs = record { base = base; inner = fs; ended = false }
-inner_after (Created o included) v base f fs = record { base = base; inner = child_frame f o ∷ including_frame f ∷ fs; ended = false }
+inner_after (Created o included) v base f fs = record { base = base; inner = child_frame f o ∷ including_frame o f ∷ fs; ended = false }
 inner_after act v base f fs = record { base = base; inner = frame_after act v f ∷ fs; ended = false }
 
 -- A body after an act.

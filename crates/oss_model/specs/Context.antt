@@ -1,22 +1,25 @@
 -- What one task may do at a moment: its context, and the judge of ticks, creations, releases and waits.
 -- A creation lends the new task's cells (OmpSs-2, task directive), taskwait takes all back and taskwait on
 -- those it names (taskwait directive), release ends a right (release directive, and the early release of Perez,
--- Beltran, Labarta and Ayguadé, IPDPS 2017). The limits and the order of the tests are rules of this language.
+-- Beltran, Labarta and Ayguadé, IPDPS 2017). The limits, the order of the tests and the marks of what is written are
+-- rules of this language.
 -- Read against: a task with inout(a) over two cells that releases a[0] and then creates a task with in(a),
 -- where the creation is the fault Released; and a main that creates 65,534 tasks, where the beginning of a
 -- further creation passes, a function that a clause of it calls creates the 65,535th, and that further creation
--- itself is then the fault TooManyTasks.
-use Rattle.std.specs.Prelude.{ℕ, zero, suc, ◌+◌, nat_lt, nat_le, Bool, true, false, ◌||◌, if◌then◌else◌, List, [], ◌∷◌, length, slice_index_or, Option, Some, None}
+-- itself is then the fault TooManyTasks. And a task with out(x) that creates a task with out(x) of its own, waits for
+-- it and reads x: the creation has marked x as written for the creator, and the wait has taken it back.
+use Rattle.std.specs.Prelude.{ℕ, zero, suc, ◌+◌, nat_lt, nat_le, ◌==◌, Bool, true, false, ◌||◌, if◌then◌else◌, List, [], ◌∷◌, length, slice_index_or, Option, Some, None}
 use Rattle.oss_syntax.specs.declared.access.Access.{Access}
 use Rattle.oss_syntax.specs.declared.access.Mode.TheVariants.{Read, Write}
 use Rattle.oss_syntax.specs.declared.fault.FaultKind.{FaultKind}
 use Rattle.oss_syntax.specs.declared.fault.FaultKind.TheVariants as fault
-use Rattle.oss_model.specs.Rights.{Right, NoRight, Released, Holds, Lending, Free, Reading, Writing, in_access, right_from, is_mixed, any_cell, is_released, holds_uncovered}
+use Rattle.oss_model.specs.Rights.{Right, NoRight, Released, Holds, Lending, Free, Reading, Writing, Mark, Written, in_access, right_from, mark_from, is_mixed, any_cell, is_released, holds_uncovered}
 
--- What a context holds for one cell. Whether a cell was written could stand here too.
+-- What a context holds for one cell.
 pub record Entry : Type 0 where
   pub right : Right
   pub lent : Lending
+  pub mark : Mark
 
 -- What the judge knows of a task.
 pub record Context : Type 0 where
@@ -34,7 +37,7 @@ pub record Context : Type 0 where
 
 -- What holds past the last cell.
 abbrev pub no_entry : Entry
-no_entry = record { right = NoRight; lent = Free }
+no_entry = record { right = NoRight; lent = Free; mark = Written }
 
 -- The right to a cell.
 abbrev pub right_of : Context → ℕ → Right
@@ -43,6 +46,10 @@ right_of x c = (slice_index_or x.entries c no_entry).right
 -- What is lent of a cell.
 abbrev pub lent_of : Context → ℕ → Lending
 lent_of x c = (slice_index_or x.entries c no_entry).lent
+
+-- The mark of a cell.
+abbrev pub mark_of : Context → ℕ → Mark
+mark_of x c = (slice_index_or x.entries c no_entry).mark
 
 -- The values of a function at k and the numbers after it, n of them.
 unfoldable pub table_from : {A : Type 0} → (ℕ → A) → ℕ → ℕ → List A
@@ -53,10 +60,10 @@ table_from f k (suc n) = f k ∷ table_from f (suc k) n
 abbrev pub with_entries : (ℕ → Entry) → Context → Context
 with_entries f x = record x { entries = table_from f 0 (length x.entries) }
 
--- Main may write every cell, and has lent nothing.
+-- Main may write every cell, and has lent nothing. Each cell has its first value.
 abbrev pub main_context : ℕ → ℕ → Context
 main_context cells fuel = record {
-  entries = table_from (λ c. record { right = Holds Write true; lent = Free }) 0 cells;
+  entries = table_from (λ c. record { right = Holds Write true; lent = Free; mark = Written }) 0 cells;
   ticks = 0;
   fuel = fuel;
   created = 0;
@@ -118,7 +125,7 @@ wait_on_fault x named =
 -- The context of a new task.
 abbrev pub child_context : Context → List Access → Bool → Context
 child_context x clauses last = record {
-  entries = table_from (λ c. record { right = right_from (x.final || last) clauses c; lent = Free }) 0 (length x.entries);
+  entries = table_from (λ c. record { right = right_from (x.final || last) clauses c; lent = Free; mark = mark_from (x.final || last) clauses c }) 0 (length x.entries);
   ticks = 0;
   fuel = x.fuel;
   created = 0;
@@ -135,16 +142,29 @@ lend_cell _ old = old
 
 -- The context of a creator after it lent these rights.
 abbrev pub lend : (ℕ → Right) → Context → Context
-lend given x = with_entries (λ c. record { right = right_of x c; lent = lend_cell (given c) (lent_of x c) }) x
+lend given x = with_entries (λ c. record { right = right_of x c; lent = lend_cell (given c) (lent_of x c); mark = mark_of x c }) x
+
+-- The mark of a cell after a child got this right to it: what the child may write counts as written.
+abbrev pub made_mark : Right → Mark → Mark
+made_mark (Holds Write strong) old = Written
+made_mark _ old = old
+
+-- The context of a creator after it gave these rights to a new task.
+abbrev pub made : (ℕ → Right) → Context → Context
+made given x = with_entries (λ c. record { right = right_of x c; lent = lent_of x c; mark = made_mark (given c) (mark_of x c) }) x
+
+-- The context after a write of the cell, or a fold into it.
+abbrev pub wrote : ℕ → Context → Context
+wrote cell x = with_entries (λ c. record { right = right_of x c; lent = lent_of x c; mark = if c == cell then Written else mark_of x c }) x
 
 -- The context after a release: the whole right to each cell is gone.
 abbrev pub release : List Access → Context → Context
-release clauses x = with_entries (λ c. record { right = if in_clauses clauses c then Released else right_of x c; lent = lent_of x c }) x
+release clauses x = with_entries (λ c. record { right = if in_clauses clauses c then Released else right_of x c; lent = lent_of x c; mark = mark_of x c }) x
 
 -- The context after a wait for all children.
 abbrev pub waited : Context → Context
-waited x = with_entries (λ c. record { right = right_of x c; lent = Free }) x
+waited x = with_entries (λ c. record { right = right_of x c; lent = Free; mark = mark_of x c }) x
 
 -- The context after a wait for the children's accesses to these cells.
 abbrev pub waited_on : List Access → Context → Context
-waited_on named x = with_entries (λ c. record { right = right_of x c; lent = if in_clauses named c then Free else lent_of x c }) x
+waited_on named x = with_entries (λ c. record { right = right_of x c; lent = if in_clauses named c then Free else lent_of x c; mark = mark_of x c }) x

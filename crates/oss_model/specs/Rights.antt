@@ -1,9 +1,11 @@
 -- Rights, lending and the judge of touches.
 -- The modes are those of the dependency clauses of OmpSs-2 (task directive: in, out, inout, reduction, and
 -- their weak forms, after Perez, Beltran, Labarta and Ayguadé, IPDPS 2017). Which clauses a creator's right
--- covers, what lending forbids and the order of the tests are rules of this language.
+-- covers, what lending forbids, that a cell of `out` is written first and the order of the tests are rules of this
+-- language.
 -- Read against: a task that writes x under out(x), a task that reads it under in(x), and a read of x in main
--- after a taskwait, which is right; without the taskwait the read in main is Lent.
+-- after a taskwait, which is right; without the taskwait the read in main is Lent. A task with out(x) alone that
+-- begins with x = x + 1 reads x Unwritten; under inout(x), or under in(x) out(x), the same is right.
 use Rattle.std.specs.Prelude.{◌≡◌, ℕ, zero, suc, ◌+◌, ◌-◌, nat_lt, nat_le, Bool, true, false, ◌&&◌, ◌||◌, not, if◌then◌else◌, List, [], ◌∷◌, Option, Some, None}
 use Rattle.oss_syntax.specs.declared.access.Access.{Access}
 use Rattle.oss_syntax.specs.declared.access.Mode.{Mode}
@@ -25,6 +27,11 @@ pub data Lending : Type 0 where
   Free : Lending
   Reading : Lending
   Writing : Lending
+
+-- Whether a cell has a value for the task. A task that names a cell by `out` alone writes it before it reads it.
+pub data Mark : Type 0 where
+  Unwritten : Mark
+  Written : Mark
 
 -- How an act touches a cell.
 pub data Touch : Type 0 where
@@ -60,20 +67,26 @@ abbrev pub right_covers : Right → Mode → Bool
 right_covers (Holds held strong) m = covers held m
 right_covers _ m = false
 
+-- The fault of a touch by what was written: a write needs no value, and a read and a fold need one.
+abbrev pub mark_fault : Mark → Touch → Option FaultKind
+mark_fault Unwritten Reads = Some fault.Unwritten
+mark_fault Unwritten (Folds op) = Some fault.Unwritten
+mark_fault _ _ = None
+
 -- The first fault of a touch of a cell, after OutOfRange; None where there is none. A fold under a strong
--- reduction is never Lent.
-abbrev pub touch_fault : Right → Lending → Touch → Option FaultKind
-touch_fault Released lent touch = Some fault.Released
-touch_fault NoRight lent touch = Some fault.NoRight
-touch_fault (Holds m false) lent touch = Some fault.NoRight
-touch_fault (Holds Read true) Writing Reads = Some fault.Lent
-touch_fault (Holds Read true) _ Reads = None
-touch_fault (Holds Read true) lent _ = Some fault.NoRight
-touch_fault (Holds Write true) Free touch = None
-touch_fault (Holds Write true) Reading Reads = None
-touch_fault (Holds Write true) _ touch = Some fault.Lent
-touch_fault (Holds (Fold a) true) lent (Folds b) = if op_eq a b then None else Some fault.BadReduction
-touch_fault (Holds (Fold a) true) lent touch = Some fault.BadReduction
+-- reduction is never Lent. The mark is the last test, and counts under a right to write alone.
+abbrev pub touch_fault : Right → Lending → Mark → Touch → Option FaultKind
+touch_fault Released lent mark touch = Some fault.Released
+touch_fault NoRight lent mark touch = Some fault.NoRight
+touch_fault (Holds m false) lent mark touch = Some fault.NoRight
+touch_fault (Holds Read true) Writing mark Reads = Some fault.Lent
+touch_fault (Holds Read true) _ mark Reads = None
+touch_fault (Holds Read true) lent mark _ = Some fault.NoRight
+touch_fault (Holds Write true) Free mark touch = mark_fault mark touch
+touch_fault (Holds Write true) Reading mark Reads = mark_fault mark Reads
+touch_fault (Holds Write true) _ mark touch = Some fault.Lent
+touch_fault (Holds (Fold a) true) lent mark (Folds b) = if op_eq a b then None else Some fault.BadReduction
+touch_fault (Holds (Fold a) true) lent mark touch = Some fault.BadReduction
 
 -- The cell is one of the access.
 abbrev pub in_access : Access → ℕ → Bool
@@ -104,6 +117,21 @@ abbrev pub right_from : Bool → List Access → ℕ → Right
 right_from final [] c = NoRight
 right_from final (a ∷ rest) c =
     if in_access a c then joined_right a.mode (final || a.strong) (right_from final rest c) else right_from final rest c
+
+-- Every access that names the cell is of `out` or `weakout`.
+abbrev pub is_fresh : List Access → ℕ → Bool
+is_fresh [] c = true
+is_fresh (a ∷ rest) c = if in_access a c then a.fresh && is_fresh rest c else is_fresh rest c
+
+-- The mark with which a cell starts that has this right: it is unwritten under a right to write that `out` and
+-- `weakout` alone have given.
+abbrev pub first_mark : Right → Bool → Mark
+first_mark (Holds Write strong) true = Unwritten
+first_mark _ _ = Written
+
+-- The mark that the clauses of a new task give to a cell. in(x) out(x) gives x as written, and so does a reduction.
+abbrev pub mark_from : Bool → List Access → ℕ → Mark
+mark_from final clauses c = first_mark (right_from final clauses c) (is_fresh clauses c)
 
 -- Two clauses could not be joined.
 abbrev pub is_no_join : Option Mode → Bool

@@ -21,6 +21,7 @@ fault_word fault.NoRight = codes "NoRight"
 fault_word fault.NotCovered = codes "NotCovered"
 fault_word fault.BadReduction = codes "BadReduction"
 fault_word fault.Lent = codes "Lent"
+fault_word fault.Unwritten = codes "Unwritten"
 
 -- the word for a kind of refusal
 abbrev pub refused_word : RefusedKind → List ℕ

@@ -32,4 +32,7 @@ pub struct Access {
     pub range: Range,
     pub mode: Mode,
     pub strong: bool,
+    /// The cells were named by `out` or `weakout` alone, so the task writes each of them before it reads it. The order of tasks
+    /// asks nothing of it.
+    pub fresh: bool,
 }

@@ -25,4 +25,6 @@ pub enum FaultKind {
     BadReduction,
     /// The cell is lent to a child, and no wait has taken it back.
     Lent,
+    /// The task named the cell by `out` or `weakout` alone, and reads it or folds into it before it was written.
+    Unwritten,
 }

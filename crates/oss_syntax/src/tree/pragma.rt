@@ -32,8 +32,8 @@ pub enum Form {
 /// A clause of a task or of a release.
 #[derive(Debug, Drop)]
 pub enum Clause {
-    /// The mode, whether it is strong, and the sections.
-    Depend(Mode, bool, List<Section>),
+    /// The mode, whether it is strong, whether its word is `out` or `weakout`, and the sections.
+    Depend(Mode, bool, bool, List<Section>),
     If(Expr),
     Final(Expr),
     Wait,
