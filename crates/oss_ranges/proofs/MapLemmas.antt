@@ -1,6 +1,6 @@
 -- The values of cells.
 use Rattle.std.specs.Prelude.{◌≡◌, ◌≤◌, ◌<◌, ℕ, Bool, true, false, ◌&&◌, nat_le, nat_lt, ◌⊎◌, if◌then◌else◌, List, [], ◌∷◌, Option, Some, None, refl, length}
-use Rattle.std.proofs.Common.{◌∙◌, arith}
+use Rattle.std.proofs.Common.{◌∙◌, arith, ap}
 use Rattle.std.proofs.lemmas.Bool.Decides.{nat_tests}
 use Rattle.oss_ranges.proofs.PieceLemmas.{rises_order, rises_wider}
 use Rattle.oss_ranges.specs.Cells.{inserted, is_before, is_within, IsCut, next_of, outside, removed, Rises, value_at}
@@ -111,3 +111,27 @@ module _ {T : Type 0} where
   pub removed_shorter : (cell hi : ℕ) (xs : List (Piece T)) → is_before (next_of cell xs) hi ≡ true → length (removed cell xs) < length xs
   removed_shorter cell hi [] e = cc
   removed_shorter cell hi (p ∷ rest) e = grind (arith, nat_tests, removed_shorter cell hi rest)
+
+  -- the first piece behind a cell is the first behind each cell up to its end
+  pub next_same : (a b from cell : ℕ) (p : Piece T) (xs : List (Piece T)) → Rises a xs b → next_of from xs ≡ Some p → from ≤ cell → cell < p.hi → next_of cell xs ≡ Some p
+  next_same a b from cell p [] h e low high = cc
+  next_same a b from cell p (q ∷ rest) h e low high = by (nat_lt from q.hi) refl e (λ k. next_same q.hi b from cell p rest h.2 k low high) where
+    by : (t : Bool) → nat_lt from q.hi ≡ t → (if t then Some q else next_of from rest) ≡ Some p → (next_of from rest ≡ Some p → next_of cell rest ≡ Some p) → (if nat_lt cell q.hi then Some q else next_of cell rest) ≡ Some p
+    by true w k more = let is : q ≡ p = cc in let inside : cell < q.hi = rw is high in grind (arith, nat_tests)
+    by false w k more = grind (arith, nat_tests, more k)
+
+  pub next_none_on : (from cell : ℕ) (xs : List (Piece T)) → next_of from xs ≡ None → from ≤ cell → next_of cell xs ≡ None
+  next_none_on from cell [] e low = refl
+  next_none_on from cell (q ∷ rest) e low = grind (arith, nat_tests, next_none_on from cell rest)
+
+  -- cells from the front of a piece on have its value, those before it none
+  pub run_value : (b from cell : ℕ) (p : Piece T) (xs : List (Piece T)) → Rises 0 xs b → next_of from xs ≡ Some p → p.lo ≤ from → from ≤ cell → cell < p.hi → value_at xs cell ≡ Some p.value
+  run_value b from cell p xs h e front low high =
+      value_is_told 0 b cell xs h ∙ ap (told cell) (next_same 0 b from cell p xs h e low high) ∙ grind (arith, nat_tests)
+
+  pub run_gap : (b from cell : ℕ) (p : Piece T) (xs : List (Piece T)) → Rises 0 xs b → next_of from xs ≡ Some p → from ≤ cell → cell < p.lo → p.lo < p.hi → value_at xs cell ≡ None
+  run_gap b from cell p xs h e low high own =
+      value_is_told 0 b cell xs h ∙ ap (told cell) (next_same 0 b from cell p xs h e low (omega arith)) ∙ grind (arith, nat_tests)
+
+  pub run_none : (b from cell : ℕ) (xs : List (Piece T)) → Rises 0 xs b → next_of from xs ≡ None → from ≤ cell → value_at xs cell ≡ None
+  run_none b from cell xs h e low = value_is_told 0 b cell xs h ∙ ap (told cell) (next_none_on from cell xs e low)

@@ -54,6 +54,26 @@ impl<T: Copy + Eq> RangeMap<T> {
         }
     }
 
+    /// The value of the cell `from`, if it has one, and the cell up to which all cells are alike: `to` at most. It takes no
+    /// memory.
+    pub fn run_from(&self, from: u32, to: u32) -> (Option<T>, u32)
+        requires { from < to }
+        ensures alike { (cell : ℕ) → from ≤ cell → cell < result.1 → value_at self.now.pieces cell ≡ result.0 }
+        ensures some { from < result.1 }
+        ensures within { result.1 ≤ to }
+    {
+        match self.tree.next(from) {
+            Some(piece) => {
+                if piece.lo <= from {
+                    (Some(piece.value), piece.hi.min(to))
+                } else {
+                    (None, piece.lo.min(to))
+                }
+            }
+            None => (None, to),
+        }
+    }
+
     /// The map on a range: its pieces in rising order, cut at the ends of the range. It takes no memory.
     pub fn over(&self, range: Range) -> Pieces<'_, T>
         ensures map { Restricts range.lo range.hi self.now.pieces result }
