@@ -1,4 +1,1 @@
-pub mod FaultLemmas
-pub mod JoinedLemmas
-pub mod TableLemmas
 pub mod TestLemmas

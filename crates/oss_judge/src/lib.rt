@@ -1,13 +1,11 @@
 //! The judge of one task: what the task may do with each cell, what it has lent, and its limits.
 #![tactic(auto)]
 
-mod checks;
-mod context;
-mod entry;
-mod joined;
+mod lending;
+mod mark;
 mod modes;
 mod refused;
-mod table;
+mod right;
+mod touches;
 
-pub use context::Context;
 pub use refused::JudgeRefused;

@@ -1,7 +1,0 @@
-use Rattle.oss_model.specs.Rights.{Free}
-use Rattle.oss_judge.specs.Table.{Changes}
-use Rattle.oss_judge.proofs.table.take_all_back.Given as goal
-
--- the cells so far were changed
-abbrev pub invariant-loop-cell : goal.invariant-loop-cell
-invariant-loop-cell l = Changes (λ c e. record e { lent = Free }) 0 l.cell l.fn.table l.table
