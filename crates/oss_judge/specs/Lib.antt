@@ -1,3 +1,5 @@
+pub mod Changed
 pub mod Parts
 pub mod Refusal
 pub mod Seen
+pub mod View

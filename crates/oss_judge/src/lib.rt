@@ -1,6 +1,8 @@
 //! The judge of one task: what the task may do with each cell, what it has lent, and its limits.
 #![tactic(auto)]
 
+mod changes;
+mod context;
 mod lending;
 mod mark;
 mod modes;
@@ -8,4 +10,5 @@ mod refused;
 mod right;
 mod touches;
 
+pub use context::Context;
 pub use refused::JudgeRefused;

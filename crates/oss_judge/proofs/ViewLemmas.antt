@@ -1,0 +1,95 @@
+-- A context by the maps that it keeps.
+use Rattle.std.proofs.Common.{◌≡◌, ◌≤◌, ◌<◌, ◌+◌, ℕ, zero, suc, ◌⊎◌, inl, inr, refl, sym, ap, ◌∙◌, List, [], ◌∷◌, length, get_or, arith, Bool, true, false, Option, Some, None, if◌then◌else◌}
+use Rattle.std.specs.Prelude.{◌==◌, slice_index_or}
+use Rattle.std.proofs.lemmas.Bool.Decides.{nat_tests}
+use Rattle.oss_ranges.specs.Cells.{Assigns, is_within, value_at}
+use Rattle.oss_ranges.specs.declared.piece.Piece.{Piece}
+use Rattle.oss_judge.specs.Seen.{entry_at, lending_told, lent_at, mark_at, mark_told, right_at, right_told}
+use Rattle.oss_judge.specs.View.{EndsBefore}
+use Rattle.oss_judge.specs.declared.right.Right.{Right}
+use Rattle.oss_judge.specs.declared.lending.Lending.{Lending}
+use Rattle.oss_judge.specs.declared.mark.Mark.{Mark}
+use Rattle.oss_model.proofs.ContextLemmas.{length-table_from, tabled_at, tabled_past}
+use Rattle.oss_model.specs.Context.{Context, Entry, lent_of, mark_of, no_entry, right_of, table_from, with_entries, wrote, waited}
+use Rattle.oss_model.specs.Rights as model
+use Rattle.oss_model.specs.Rights.{Free, Written}
+
+below_or : (m n : ℕ) → (m < n) ⊎ (n ≤ m)
+below_or m n = grind arith
+
+-- tables of functions that agree on their cells
+same_from : (f g : ℕ → Entry) (k n : ℕ) → ((c : ℕ) → k ≤ c → c < k + n → f c ≡ g c) → table_from f k n ≡ table_from g k n
+unfolding table_from
+same_from f g k zero h = refl
+same_from f g k (suc n) h =
+    ap (λ e. e ∷ table_from f (suc k) n) (h k (omega arith) (omega arith))
+    ∙ ap (λ es. g k ∷ es) (same_from f g (suc k) n (λ c low high. h c (omega arith) (omega arith)))
+
+pub same_table : (f g : ℕ → Entry) (n : ℕ) → ((c : ℕ) → c < n → f c ≡ g c) → table_from f 0 n ≡ table_from g 0 n
+same_table f g n h = same_from f g 0 n (λ c low high. h c (omega arith))
+
+-- the counts of a context, beside its entries
+pub record Counts : Type 0 where
+  pub ticks : ℕ
+  pub fuel : ℕ
+  pub created : ℕ
+  pub depth : ℕ
+  pub final : Bool
+
+module _ (cells : ℕ) (rights : List (Piece Right)) (lent : List (Piece Lending)) (marks : List (Piece Mark)) (n : Counts) where
+  -- the context of these maps
+  abbrev pub seen : Context
+  seen = record { entries = table_from (entry_at rights lent marks) 0 cells; ticks = n.ticks; fuel = n.fuel; created = n.created; depth = n.depth; final = n.final }
+
+  pub seen_entry : EndsBefore cells rights → EndsBefore cells lent → EndsBefore cells marks → (c : ℕ) → get_or (table_from (entry_at rights lent marks) 0 cells) c no_entry ≡ entry_at rights lent marks c
+  seen_entry r l m c = by (below_or c cells) where
+    by : (c < cells) ⊎ (cells ≤ c) → get_or (table_from (entry_at rights lent marks) 0 cells) c no_entry ≡ entry_at rights lent marks c
+    by (inl low) = tabled_at (entry_at rights lent marks) cells c no_entry low
+    by (inr high) = tabled_past (entry_at rights lent marks) cells c no_entry high ∙ past (r c high) (l c high) (m c high) where
+      past : value_at rights c ≡ None → value_at lent c ≡ None → value_at marks c ≡ None → no_entry ≡ entry_at rights lent marks c
+      past e f g = rw (e, f, g) refl
+
+  pub seen_right : EndsBefore cells rights → EndsBefore cells lent → EndsBefore cells marks → (c : ℕ) → right_of seen c ≡ right_at rights c
+  seen_right r l m c = ap (λ (e : Entry). e.right) (seen_entry r l m c)
+
+  pub seen_lent : EndsBefore cells rights → EndsBefore cells lent → EndsBefore cells marks → (c : ℕ) → lent_of seen c ≡ lent_at lent c
+  seen_lent r l m c = ap (λ (e : Entry). e.lent) (seen_entry r l m c)
+
+  pub seen_mark : EndsBefore cells rights → EndsBefore cells lent → EndsBefore cells marks → (c : ℕ) → mark_of seen c ≡ mark_at marks c
+  seen_mark r l m c = ap (λ (e : Entry). e.mark) (seen_entry r l m c)
+
+  -- other entries in their place
+  pub seen_with : (f : ℕ → Entry) (table : List Entry) → table ≡ table_from f 0 cells → record seen { entries = table } ≡ with_entries f seen
+  seen_with f table e = ap (λ es. record seen { entries = es }) (e ∙ ap (table_from f 0) (sym (length-table_from (entry_at rights lent marks) 0 cells)))
+
+-- the maps of a context after a change, whose entries are those of a function
+pub seen_is : (cells : ℕ) (rights : List (Piece Right)) (lent : List (Piece Lending)) (marks : List (Piece Mark)) (r : List (Piece Right)) (l : List (Piece Lending)) (m : List (Piece Mark)) (n : Counts) (f : ℕ → Entry)
+    → ((c : ℕ) → c < cells → entry_at r l m c ≡ f c) → seen cells r l m n ≡ with_entries f (seen cells rights lent marks n)
+seen_is cells rights lent marks r l m n f h = seen_with cells rights lent marks n f (table_from (entry_at r l m) 0 cells) (same_table (entry_at r l m) f cells h)
+
+pub entry_is : (r s : model.Right) (l k : model.Lending) (m o : model.Mark) → r ≡ s → l ≡ k → m ≡ o → ◌≡◌ {A = Entry} (record { right = r; lent = l; mark = m }) (record { right = s; lent = k; mark = o })
+entry_is r s l k m o e f g = rw (e, f, g) refl
+
+module _ (cells : ℕ) (rights : List (Piece Right)) (lent : List (Piece Lending)) (marks : List (Piece Mark)) (n : Counts) (r : EndsBefore cells rights) (l : EndsBefore cells lent) (m : EndsBefore cells marks) where
+  -- the context before a change
+  abbrev before : Context
+  before = seen cells rights lent marks n
+
+  -- a change of the rights, of what is lent, and of the marks alone
+  pub rights_changed : (now : List (Piece Right)) (f : ℕ → model.Right → model.Right) → ((c : ℕ) → c < cells → right_at now c ≡ f c (right_at rights c))
+      → seen cells now lent marks n ≡ with_entries (λ c. record { right = f c (right_of before c); lent = lent_of before c; mark = mark_of before c }) before
+  rights_changed now f h = seen_is cells rights lent marks now lent marks n _ (λ c low.
+      entry_is (right_at now c) (f c (right_of before c)) (lent_at lent c) (lent_of before c) (mark_at marks c) (mark_of before c)
+      (h c low ∙ ap (f c) (sym (seen_right cells rights lent marks n r l m c))) (sym (seen_lent cells rights lent marks n r l m c)) (sym (seen_mark cells rights lent marks n r l m c)))
+
+  pub lent_changed : (now : List (Piece Lending)) (f : ℕ → model.Lending → model.Lending) → ((c : ℕ) → c < cells → lent_at now c ≡ f c (lent_at lent c))
+      → seen cells rights now marks n ≡ with_entries (λ c. record { right = right_of before c; lent = f c (lent_of before c); mark = mark_of before c }) before
+  lent_changed now f h = seen_is cells rights lent marks rights now marks n _ (λ c low.
+      entry_is (right_at rights c) (right_of before c) (lent_at now c) (f c (lent_of before c)) (mark_at marks c) (mark_of before c)
+      (sym (seen_right cells rights lent marks n r l m c)) (h c low ∙ ap (f c) (sym (seen_lent cells rights lent marks n r l m c))) (sym (seen_mark cells rights lent marks n r l m c)))
+
+  pub marks_changed : (now : List (Piece Mark)) (f : ℕ → model.Mark → model.Mark) → ((c : ℕ) → c < cells → mark_at now c ≡ f c (mark_at marks c))
+      → seen cells rights lent now n ≡ with_entries (λ c. record { right = right_of before c; lent = lent_of before c; mark = f c (mark_of before c) }) before
+  marks_changed now f h = seen_is cells rights lent marks rights lent now n _ (λ c low.
+      entry_is (right_at rights c) (right_of before c) (lent_at lent c) (lent_of before c) (mark_at now c) (f c (mark_of before c))
+      (sym (seen_right cells rights lent marks n r l m c)) (sym (seen_lent cells rights lent marks n r l m c)) (h c low ∙ ap (f c) (sym (seen_mark cells rights lent marks n r l m c))))
