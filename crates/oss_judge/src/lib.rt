@@ -1,6 +1,7 @@
 //! The judge of one task: what the task may do with each cell, what it has lent, and its limits.
 #![tactic(auto)]
 
+mod joined;
 mod lending;
 mod mark;
 mod modes;
