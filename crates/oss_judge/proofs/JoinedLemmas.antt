@@ -1,13 +1,13 @@
 -- Accesses in rising order, and one access more.
 use Rattle.std.proofs.Common.{◌≡◌, ℕ, ◌≤◌, ◌<◌, ◌⊎◌, inl, inr, refl, sym, ap, ◌∙◌, List, [], ◌∷◌, ◌++◌, arith, Bool, true, false, nat_lt, if◌then◌else◌, true≢false, subst}
-use Rattle.std.specs.Prelude.{◌||◌, ◌&&◌, Option, Some, None}
+use Rattle.std.specs.Prelude.{◌||◌, ◌&&◌, Some, None}
 use Rattle.std.proofs.lemmas.Bool.Decides.{nat_tests}
 use Rattle.oss_syntax.specs.declared.access.Access.{Access}
 use Rattle.oss_syntax.specs.declared.access.Mode.{Mode}
 use Rattle.oss_model.specs.Rights.{Right, NoRight, Released, Holds, Mark, Written, first_mark, in_access, is_fresh, joined_right, mark_from, right_from}
 use Rattle.oss_model.specs.Context.{in_clauses}
 use Rattle.oss_judge.specs.Joined.{Adds, Continues, Follows, IsBelow, IsRising, IsRun, held_mark, held_right}
-use Rattle.oss_judge.proofs.TestLemmas.{either}
+use Rattle.oss_judge.proofs.TestLemmas.{access_low, either}
 
 or_false : (a b : Bool) → a ≡ false → b ≡ false → (a || b) ≡ false
 or_false a b g h = ap (λ x. x || b) g ∙ h
@@ -26,9 +26,6 @@ bool_or false = inr refl
 
 past_access : (a : Access) (c : ℕ) → a.range.hi ≤ c → in_access a c ≡ false
 past_access a c l = grind (arith, nat_tests)
-
-access_low : (a : Access) (c : ℕ) → in_access a c ≡ true → a.range.lo ≤ c
-access_low a c h = grind (arith, nat_tests)
 
 access_high : (a : Access) (c : ℕ) → in_access a c ≡ true → c < a.range.hi
 access_high a c h = grind (arith, nat_tests)
@@ -232,22 +229,22 @@ module _ (own : ℕ → Right) (marked : ℕ → Mark) where
   gives_more a from to old new run before more = record {
     rights = λ c. either (bool_or (in_access a c))
         (λ e. let low : from ≤ c = (let l = access_low a c e in let s = run.0 in omega arith) in
-            let high : c < to = (let h = access_high a c e in let s = run.1 in omega arith) in
-            more.rights c ∙ ap (λ b. if b then Holds a.mode a.strong else right_from false old c) e ∙ sym (run.2 c low high).0
-            ∙ sym (ap (λ b. if b then held_right (own c) else NoRight) (is_below c to high)))
+        let high : c < to = (let h = access_high a c e in let s = run.1 in omega arith) in
+        more.rights c ∙ ap (λ b. if b then Holds a.mode a.strong else right_from false old c) e ∙ sym (run.2 c low high).0
+        ∙ sym (ap (λ b. if b then held_right (own c) else NoRight) (is_below c to high)))
         (λ e. more.rights c ∙ ap (λ b. if b then Holds a.mode a.strong else right_from false old c) e ∙ before.rights c
-            ∙ ap (λ b. if b then held_right (own c) else NoRight) (outside_run a from to c run.0 run.1 e));
+        ∙ ap (λ b. if b then held_right (own c) else NoRight) (outside_run a from to c run.0 run.1 e));
     marks = λ c. either (bool_or (in_access a c))
         (λ e. let low : from ≤ c = (let l = access_low a c e in let s = run.0 in omega arith) in
-            let high : c < to = (let h = access_high a c e in let s = run.1 in omega arith) in
-            ap (λ r. first_mark r (is_fresh new c)) (more.rights c ∙ ap (λ b. if b then Holds a.mode a.strong else right_from false old c) e)
-            ∙ ap (λ f. first_mark (Holds a.mode a.strong) f) (more.marks c ∙ ap (λ b. if b then a.fresh else is_fresh old c) e)
-            ∙ (run.2 c low high).1
-            ∙ sym (ap (λ b. if b then held_mark (own c) (marked c) else Written) (is_below c to high)))
+        let high : c < to = (let h = access_high a c e in let s = run.1 in omega arith) in
+        ap (λ r. first_mark r (is_fresh new c)) (more.rights c ∙ ap (λ b. if b then Holds a.mode a.strong else right_from false old c) e)
+        ∙ ap (λ f. first_mark (Holds a.mode a.strong) f) (more.marks c ∙ ap (λ b. if b then a.fresh else is_fresh old c) e)
+        ∙ (run.2 c low high).1
+        ∙ sym (ap (λ b. if b then held_mark (own c) (marked c) else Written) (is_below c to high)))
         (λ e. ap (λ r. first_mark r (is_fresh new c)) (more.rights c ∙ ap (λ b. if b then Holds a.mode a.strong else right_from false old c) e)
-            ∙ ap (λ f. first_mark (right_from false old c) f) (more.marks c ∙ ap (λ b. if b then a.fresh else is_fresh old c) e)
-            ∙ before.marks c
-            ∙ ap (λ b. if b then held_mark (own c) (marked c) else Written) (outside_run a from to c run.0 run.1 e));
+        ∙ ap (λ f. first_mark (right_from false old c) f) (more.marks c ∙ ap (λ b. if b then a.fresh else is_fresh old c) e)
+        ∙ before.marks c
+        ∙ ap (λ b. if b then held_mark (own c) (marked c) else Written) (outside_run a from to c run.0 run.1 e));
     below = subst (λ (n : ℕ). IsBelow n new) run.1 more.below;
     rising = more.rising;
   }
@@ -266,11 +263,11 @@ module _ (own : ℕ → Right) (marked : ℕ → Mark) where
     rights = λ c. either (below_or c from to l)
         (λ e. before.rights c ∙ ap (λ b. if b then held_right (own c) else NoRight) e)
         (λ e. before.rights c ∙ ap (λ b. if b then held_right (own c) else NoRight) (is_not_below c from e.0) ∙ sym (run c e.0 e.1)
-            ∙ sym (ap (λ b. if b then held_right (own c) else NoRight) (is_below c to e.1)));
+        ∙ sym (ap (λ b. if b then held_right (own c) else NoRight) (is_below c to e.1)));
     marks = λ c. either (below_or c from to l)
         (λ e. before.marks c ∙ ap (λ b. if b then held_mark (own c) (marked c) else Written) e)
         (λ e. before.marks c ∙ ap (λ b. if b then held_mark (own c) (marked c) else Written) (is_not_below c from e.0) ∙ sym (no_mark (own c) (marked c) (run c e.0 e.1))
-            ∙ sym (ap (λ b. if b then held_mark (own c) (marked c) else Written) (is_below c to e.1)));
+        ∙ sym (ap (λ b. if b then held_mark (own c) (marked c) else Written) (is_below c to e.1)));
     below = below_more from to xs l before.below;
     rising = before.rising;
   }

@@ -1,7 +1,7 @@
 -- The accesses of a task, each cell once and in rising order.
 -- Read against: a task that writes the cells 0 to 7 and has released 4 has two accesses, `0..4` and `5..8`. Of a task under
 -- `out(0..8)` that has written the cells 0 to 3 they are `0..4`, and `4..8` with the flag that its cells are written first.
-use Rattle.std.specs.Prelude.{◌≡◌, ℕ, ◌≤◌, ◌<◌, Bool, true, false, if◌then◌else◌, List, [], ◌∷◌, Option, Some, None}
+use Rattle.std.specs.Prelude.{◌≡◌, ℕ, ◌≤◌, ◌<◌, false, if◌then◌else◌, List, [], ◌∷◌, Option, Some, None}
 use Rattle.oss_syntax.specs.declared.access.Access.{Access}
 use Rattle.oss_syntax.specs.declared.access.Mode.TheVariants.{Write}
 use Rattle.oss_model.specs.Rights.{Right, NoRight, Holds, Mark, Written, first_mark, in_access, is_fresh, right_from}

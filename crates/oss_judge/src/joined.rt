@@ -26,28 +26,30 @@ pub(crate) fn accesses_of(
     let mut accesses = Vec::new(alloc);
     let mut from = 0;
     'runs: while from < CELLS {
-        let (run, end) = run_at(rights, marks, from);
-        match run {
+        let run = run_at(rights, marks, from);
+        match run.access {
             Some(access) => add(&mut accesses, access)?,
             None => {}
         }
-        from = end;
+        from = run.end;
     }
     Ok(accesses)
 }
 
-/// The access to the cells from `from` on that are alike, if the task has a right to them, and the cell up to which they are.
-/// Only where there is a right the marks are asked, so that all runs together cost what the runs of the rights cost and those
-/// of the marks inside of them.
-fn run_at(
-    rights: &RangeMap<Right>,
-    marks: &RangeMap<Mark>,
-    from: u32,
-) -> (Option<Access>, u32)
+/// Cells that stand side by side and are alike: the access to them, if the task has a right to them, and the cell behind them.
+#[derive(Clone, Copy)]
+struct Run {
+    access: Option<Access>,
+    end: u32,
+}
+
+/// The run of cells that begins with `from`. Only where there is a right the marks are asked, so that all runs together cost
+/// what the runs of the rights cost and those of the marks inside of them.
+fn run_at(rights: &RangeMap<Right>, marks: &RangeMap<Mark>, from: u32) -> Run
     requires { from < 1048576 }
-    ensures run { IsRun (right_at rights.now.pieces) (mark_at marks.now.pieces) from result.1 result.0 }
-    ensures some { from < result.1 }
-    ensures within { result.1 ≤ 1048576 }
+    ensures run { IsRun (right_at rights.now.pieces) (mark_at marks.now.pieces) from result.end result.access }
+    ensures some { from < result.end }
+    ensures within { result.end ≤ 1048576 }
     ensures bounded { (c : ℕ) → 1048576 ≤ c → right_at rights.now.pieces c ≡ NoRight }
 {
     let (own, end) = rights.run_from(from, CELLS);
@@ -60,9 +62,12 @@ fn run_at(
                 strong,
                 fresh: is_written_first(mode, mark::told(mark)),
             };
-            (Some(access), end)
+            Run {
+                access: Some(access),
+                end,
+            }
         }
-        None => (None, end),
+        None => Run { access: None, end },
     }
 }
 

@@ -1,4 +1,4 @@
-use Rattle.std.proofs.Common.{◌≡◌, refl, rules}
+use Rattle.std.proofs.Common.{rules}
 use Rattle.oss_judge.specs.Joined.{Continues}
 use Rattle.oss_judge.proofs.JoinedLemmas.{adds_behind, adds_on}
 use Rattle.oss_judge.proofs.joined.add.Goals as goal
