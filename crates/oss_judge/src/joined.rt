@@ -50,7 +50,7 @@ fn run_at(rights: &RangeMap<Right>, marks: &RangeMap<Mark>, from: u32) -> Run
     ensures run { IsRun (right_at rights.now.pieces) (mark_at marks.now.pieces) from result.end result.access }
     ensures some { from < result.end }
     ensures within { result.end ≤ 1048576 }
-    ensures bounded { (c : ℕ) → 1048576 ≤ c → right_at rights.now.pieces c ≡ NoRight }
+    ensures past { (c : ℕ) → 1048576 ≤ c → right_at rights.now.pieces c ≡ NoRight }
 {
     let (own, end) = rights.run_from(from, CELLS);
     match right::told(own).held() {

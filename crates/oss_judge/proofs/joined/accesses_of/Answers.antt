@@ -15,5 +15,5 @@ runs-preserved c =
     record {
       gives = gives_past own marked c.runs.from end c.runs.accesses.items (let some = c.run_at-run.ensures.some in omega arith) run c.runs.invariant.gives;
       within = c.run_at-run.ensures.within;
-      bounded = λ some. c.run_at-run.ensures.bounded;
+      past = λ some. c.run_at-run.ensures.past;
     }

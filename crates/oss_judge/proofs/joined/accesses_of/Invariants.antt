@@ -9,7 +9,7 @@ abbrev pub invariant-runs : goal.invariant-runs
 invariant-runs l = record {
   gives : Gives (right_at l.rights.pieces) (mark_at l.marks.pieces) l.from l.accesses.items;
   within : l.from ≤ 1048576;
-  bounded : 0 < l.from → (c : ℕ) → 1048576 ≤ c → right_at l.rights.pieces c ≡ NoRight;
+  past : 0 < l.from → (c : ℕ) → 1048576 ≤ c → right_at l.rights.pieces c ≡ NoRight;
 }
 
 abbrev pub decreases-runs : goal.decreases-runs
