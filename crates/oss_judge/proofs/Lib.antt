@@ -1,2 +1,3 @@
+pub mod JoinedLemmas
 pub mod TestLemmas
 pub mod ViewLemmas

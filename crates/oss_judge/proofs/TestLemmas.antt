@@ -75,7 +75,7 @@ any_from_found test low (suc n) h =
 within_access : (a : Access) (c : ℕ) → a.range.lo ≤ c → c < a.range.lo + (a.range.hi - a.range.lo) → in_access a c ≡ true
 within_access a c l k = grind (arith, nat_tests)
 
-access_low : (a : Access) (c : ℕ) → in_access a c ≡ true → a.range.lo ≤ c
+pub access_low : (a : Access) (c : ℕ) → in_access a c ≡ true → a.range.lo ≤ c
 access_low a c h = grind (arith, nat_tests)
 
 access_high : (a : Access) (c : ℕ) → in_access a c ≡ true → c < a.range.lo + (a.range.hi - a.range.lo)

@@ -3,6 +3,7 @@
 
 mod changes;
 mod context;
+mod joined;
 mod lending;
 mod mark;
 mod modes;

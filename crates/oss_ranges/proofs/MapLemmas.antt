@@ -22,6 +22,12 @@ module _ {T : Type 0} where
   none_before a b cell (p ∷ rest) h low =
       value_before cell p rest (let e = h.0 in omega arith) ∙ none_before p.hi b cell rest h.2 (let e = h.0 in let f = h.1 in omega arith)
 
+  -- pieces have no cell behind their last
+  pub none_past : (a b cell : ℕ) (xs : List (Piece T)) → Rises a xs b → b ≤ cell → value_at xs cell ≡ None
+  none_past a b cell [] h far = refl
+  none_past a b cell (p ∷ rest) h far =
+      value_behind cell p rest (let ends = rises_order p.hi b rest h.2 in omega arith) ∙ none_past p.hi b cell rest h.2 far
+
   -- what the first piece behind a cell tells of it
   abbrev pub told : ℕ → Option (Piece T) → Option T
   told cell None = None

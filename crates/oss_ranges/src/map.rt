@@ -54,13 +54,14 @@ impl<T: Copy + Eq> RangeMap<T> {
         }
     }
 
-    /// The value of the cell `from`, if it has one, and the cell up to which all cells are alike: `to` at most. It takes no
-    /// memory.
+    /// The value of the cell `from`, if it has one, and the cell up to which all cells are alike: `to` at most. No cell from
+    /// 1,048,576 on has a value. It takes no memory.
     pub fn run_from(&self, from: u32, to: u32) -> (Option<T>, u32)
         requires { from < to }
         ensures alike { (cell : ℕ) → from ≤ cell → cell < result.1 → value_at self.now.pieces cell ≡ result.0 }
         ensures some { from < result.1 }
         ensures within { result.1 ≤ to }
+        ensures past { (cell : ℕ) → 1048576 ≤ cell → value_at self.now.pieces cell ≡ None }
     {
         match self.tree.next(from) {
             Some(piece) => {

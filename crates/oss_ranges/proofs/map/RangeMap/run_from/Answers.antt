@@ -1,6 +1,6 @@
 use Rattle.std.proofs.Common.{◌≡◌, ◌≤◌, ◌<◌, ℕ, Some, None, sym, ◌∙◌, ap, arith}
 use Rattle.oss_ranges.proofs.CutLemmas.{next_within}
-use Rattle.oss_ranges.proofs.MapLemmas.{run_gap, run_none, run_value}
+use Rattle.oss_ranges.proofs.MapLemmas.{none_past, run_gap, run_none, run_value}
 use Rattle.oss_ranges.specs.Cells.{next_of, value_at}
 use Rattle.oss_ranges.proofs.map.RangeMap.run_from.Goals as goal
 
@@ -31,3 +31,18 @@ returns-in-None-clause-alike g c = λ cell low high.
     let found : next_of c.args.from c.self.inside.tree ≡ None = sym c.next.ensures ∙ c.in-None.is in
     let same : c.self.inside.tree ≡ c.args.self.now.pieces = ap (λ k. k.pieces) c.self.view_is in
     sym (ap (λ xs. value_at xs cell) same) ∙ run_none 1048576 c.args.from cell c.self.inside.tree c.self.invariant found low
+
+pub returns-then-piece-from-clause-past : goal.returns-then-piece-from-clause-past
+returns-then-piece-from-clause-past g c = λ cell far.
+    let same : c.self.inside.tree ≡ c.args.self.now.pieces = ap (λ k. k.pieces) c.self.view_is in
+    sym (ap (λ xs. value_at xs cell) same) ∙ none_past 0 1048576 cell c.self.inside.tree c.self.invariant far
+
+pub returns-else-piece-from-clause-past : goal.returns-else-piece-from-clause-past
+returns-else-piece-from-clause-past g c = λ cell far.
+    let same : c.self.inside.tree ≡ c.args.self.now.pieces = ap (λ k. k.pieces) c.self.view_is in
+    sym (ap (λ xs. value_at xs cell) same) ∙ none_past 0 1048576 cell c.self.inside.tree c.self.invariant far
+
+pub returns-in-None-clause-past : goal.returns-in-None-clause-past
+returns-in-None-clause-past g c = λ cell far.
+    let same : c.self.inside.tree ≡ c.args.self.now.pieces = ap (λ k. k.pieces) c.self.view_is in
+    sym (ap (λ xs. value_at xs cell) same) ∙ none_past 0 1048576 cell c.self.inside.tree c.self.invariant far
