@@ -1,3 +1,4 @@
+pub mod ChangeLemmas
 pub mod JoinedLemmas
 pub mod TestLemmas
 pub mod ViewLemmas

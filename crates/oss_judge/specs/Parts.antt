@@ -2,7 +2,7 @@
 use Rattle.std.specs.Prelude.{ℕ, Bool, true, false, if◌then◌else◌, List, Option, Some, None}
 use Rattle.oss_syntax.specs.declared.access.Access.{Access}
 use Rattle.oss_syntax.specs.declared.access.Mode.{Mode}
-use Rattle.oss_syntax.specs.declared.access.Mode.TheVariants.{Read, Fold}
+use Rattle.oss_syntax.specs.declared.access.Mode.TheVariants.{Read, Write, Fold}
 use Rattle.oss_syntax.specs.declared.access.Op.{Op}
 use Rattle.oss_syntax.specs.declared.access.Range.{Range}
 use Rattle.oss_syntax.specs.declared.fault.FaultKind.{FaultKind}
@@ -14,6 +14,11 @@ use Rattle.oss_model.specs.Context.{lacks_right}
 abbrev pub held_part : Right → Option (Mode × Bool)
 held_part (Holds mode strong) = Some (mode, strong)
 held_part _ = None
+
+-- The right is one to write.
+abbrev pub is_write : Right → Bool
+is_write (Holds Write strong) = true
+is_write _ = false
 
 -- The operator, where the right is that of a reduction.
 abbrev pub fold_part : Right → Option Op

@@ -1,11 +1,18 @@
 //! Changes of a range map that all happen, or none where memory is wanting.
-ghost use Rattle.std.specs.Prelude.{◌≡◌, ◌≤◌, ◌<◌, ◌*◌, ◌^◌, ℕ, Some, None, IsOk, OnOk, OnErr, length, ◌+◌};
+ghost use Rattle.std.specs.Prelude.{◌≡◌, ◌≤◌, ◌<◌, ◌*◌, ◌^◌, ℕ, Some, None, IsOk, IfOk, OnOk, OnErr, length, ◌+◌, map, if◌then◌else◌};
 ghost use Rattle.oss_ranges.specs.Cells.{Assigns, value_at};
 ghost use Rattle.oss_judge.specs.Changed.{overlaid};
+ghost use Rattle.oss_judge.specs.Parts.{reading};
+ghost use Rattle.oss_judge.specs.Seen.{lending_told, lent_at, mark_at, mark_told, right_at, right_told};
+ghost use Rattle.oss_model.specs.Context.{in_clauses, lend_cell, made_mark};
+ghost use Rattle.oss_model.specs.Rights.{Free, Released};
 
+use crate::lending::{self, Lending};
+use crate::mark::Mark;
+use crate::right::{self, Right};
 use oss_ranges::RangeMap;
-use oss_syntax::Range;
-use std::alloc::AllocError;
+use oss_syntax::{Access, Mode, Range};
+use std::alloc::{AllocError, Global};
 
 /// The value that all cells of a range get, or none.
 #[derive(Clone, Copy, Debug)]
@@ -19,11 +26,10 @@ pub(crate) fn change_all<T: Copy + Eq>(
     map: &mut RangeMap<T>,
     changes: &[Change<T>],
 ) -> Result<(), AllocError>
-    requires { length changes.now < 2 ^ 32 }
     ensures ok { OnOk result ((cell : ℕ) → value_at map.new.pieces cell ≡ overlaid changes.now cell (value_at map.old.pieces cell)) }
     ensures err { OnErr result (map.new.pieces ≡ map.old.pieces) }
 {
-    map.reserve(changes.len() as u32)?;
+    map.reserve_all(changes.len())?;
     for change in changes {
         match one_change(map, *change) {
             Ok(()) => {}
@@ -44,4 +50,108 @@ fn one_change<T: Copy + Eq>(map: &mut RangeMap<T>, change: Change<T>) -> Result<
         Some(value) => map.assign(change.range, value),
         None => map.clear(change.range),
     }
+}
+
+/// What a creation changes of what is lent of the first `cells` cells, where the new task gets these rights.
+pub(crate) fn lendings(
+    alloc: Global,
+    lent: &RangeMap<Lending>,
+    given: &RangeMap<Right>,
+    cells: u32,
+) -> Result<Vec<Change<Lending>>, AllocError>
+    requires { cells ≤ 1048576 }
+    ensures few { IfOk result (λ changes. length changes.items ≤ cells) }
+    ensures here { IfOk result (λ changes. (c : ℕ) → c < cells → lending_told (overlaid changes.items c (value_at lent.now.pieces c)) ≡ lend_cell (right_at given.now.pieces c) (lent_at lent.now.pieces c)) }
+    ensures past { IfOk result (λ changes. (c : ℕ) (value : _) → cells ≤ c → overlaid changes.items c value ≡ value) }
+{
+    let mut changes = Vec::new(alloc);
+    let mut from = 0;
+    'runs: while from < cells {
+        let (wanted, end) = given.run_from(from, cells);
+        match wanted {
+            None => from = end,
+            Some(wanted) => {
+                let (own, end) = lent.run_from(from, end);
+                changes.push(Change {
+                    range: Range { lo: from, hi: end },
+                    value: Some(lending::told(own).lent_to(wanted)),
+                })?;
+                from = end;
+            }
+        }
+    }
+    Ok(changes)
+}
+
+/// What a creation changes of the marks of the first `cells` cells, where the new task gets these rights.
+pub(crate) fn writings(
+    alloc: Global,
+    marks: &RangeMap<Mark>,
+    given: &RangeMap<Right>,
+    cells: u32,
+) -> Result<Vec<Change<Mark>>, AllocError>
+    requires { cells ≤ 1048576 }
+    ensures here { IfOk result (λ changes. (c : ℕ) → c < cells → mark_told (overlaid changes.items c (value_at marks.now.pieces c)) ≡ made_mark (right_at given.now.pieces c) (mark_at marks.now.pieces c)) }
+    ensures past { IfOk result (λ changes. (c : ℕ) (value : _) → cells ≤ c → overlaid changes.items c value ≡ value) }
+{
+    let mut changes = Vec::new(alloc);
+    let mut from = 0;
+    'runs: while from < cells {
+        let (wanted, end) = given.run_from(from, cells);
+        if !right::told(wanted).is_write() {
+            from = end;
+            continue;
+        }
+        let (mark, end) = marks.run_from(from, end);
+        if mark.is_some() {
+            changes.push(Change {
+                range: Range { lo: from, hi: end },
+                value: None,
+            })?;
+        }
+        from = end;
+    }
+    Ok(changes)
+}
+
+/// What a release of these clauses changes of the rights to the first `cells` cells.
+pub(crate) fn endings(
+    alloc: Global,
+    clauses: &[Access],
+    cells: u32,
+) -> Result<Vec<Change<Right>>, AllocError>
+    ensures here { IfOk result (λ changes. (c : ℕ) (value : _) → c < cells → right_told (overlaid changes.items c value) ≡ (if in_clauses clauses.now c then Released else right_told value)) }
+    ensures past { IfOk result (λ changes. (c : ℕ) (value : _) → cells ≤ c → overlaid changes.items c value ≡ value) }
+{
+    let mut changes = Vec::new(alloc);
+    for clause in clauses {
+        if clause.range.lo < cells {
+            changes.push(Change {
+                range: Range {
+                    lo: clause.range.lo,
+                    hi: clause.range.hi.min(cells),
+                },
+                value: Some(Right::Released),
+            })?;
+        }
+    }
+    Ok(changes)
+}
+
+/// What a wait for the cells of these ranges changes of what is lent.
+pub(crate) fn takings(
+    alloc: Global,
+    named: &[Range],
+) -> Result<Vec<Change<Lending>>, AllocError>
+    ensures here { IfOk result (λ changes. (c : ℕ) (value : _) → lending_told (overlaid changes.items c value) ≡ (if in_clauses (map reading named.now) c then Free else lending_told value)) }
+    ensures none { IfOk result (λ changes. (c : ℕ) → overlaid changes.items c None ≡ None) }
+{
+    let mut changes = Vec::new(alloc);
+    for range in named {
+        changes.push(Change {
+            range: *range,
+            value: None,
+        })?;
+    }
+    Ok(changes)
 }

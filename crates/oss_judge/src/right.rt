@@ -1,7 +1,7 @@
 ghost use Rattle.std.specs.Prelude.{◌≡◌};
 ghost use Rattle.oss_model.specs.Rights.{holds_uncovered, is_fold, is_released, is_unjoinable, joined_right, right_covers};
 ghost use Rattle.oss_model.specs.Context.{lacks_right};
-ghost use Rattle.oss_judge.specs.Parts.{fold_part, held_part};
+ghost use Rattle.oss_judge.specs.Parts.{fold_part, held_part, is_write};
 ghost use Rattle.oss_judge.specs.Seen.{right_seen, right_told};
 
 use crate::modes::{is_covered, join_modes};
@@ -46,6 +46,19 @@ impl Right {
             Right::Nothing => true,
             Right::Released => false,
             Right::Holds(_, _) => false,
+        }
+    }
+
+    /// The right is one to write.
+    pub(crate) fn is_write(self) -> bool
+        ensures { result ≡ is_write (right_seen self) }
+    {
+        match self {
+            Right::Holds(Mode::Write, _) => true,
+            Right::Holds(Mode::Read, _) => false,
+            Right::Holds(Mode::Fold(_), _) => false,
+            Right::Nothing => false,
+            Right::Released => false,
         }
     }
 

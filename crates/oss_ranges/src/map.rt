@@ -137,6 +137,18 @@ impl<T: Copy + Eq> RangeMap<T> {
         self.prepare(NODES * calls as usize)
     }
 
+    /// The same for any number of calls. More calls than memory can have nodes for want memory.
+    pub fn reserve_all(&mut self, calls: usize) -> Result<(), AllocError>
+        ensures same { self.new.pieces ≡ self.old.pieces }
+        ensures room { OnOk result (3 * calls ≤ self.new.spares) }
+        ensures spares { self.old.spares ≤ self.new.spares }
+    {
+        match calls.checked_mul(NODES) {
+            Some(nodes) => self.prepare(nodes),
+            None => Err(AllocError),
+        }
+    }
+
     /// Joins the pieces that end and begin at this cell, where they have one value, so that they are one piece. No cell changes
     /// its value, where equal values are identical. It takes no memory.
     pub fn join_at(&mut self, cell: u32)
