@@ -1,6 +1,8 @@
 //! The judge of one task: what the task may do with each cell, what it has lent, and its limits.
 #![tactic(auto)]
 
+mod checks;
+mod given;
 mod lending;
 mod mark;
 mod modes;
