@@ -1,13 +1,13 @@
--- Loops by runs: the cells of a run are alike, so they pass a test together or fail it together.
+-- Loops by runs: the cells of a run are alike, so a test fails at each of them or at none. Where it passes, it passes at the
+-- first.
 use Rattle.std.proofs.Common.{◌≡◌, ℕ, zero, suc, ◌+◌, ◌-◌, ◌<◌, ◌≤◌, sym, ap, ◌∙◌, List, arith, Bool, true, false, Option}
-use Rattle.std.specs.Prelude.{◌||◌}
 use Rattle.oss_ranges.specs.Cells.{value_at}
 use Rattle.oss_ranges.specs.declared.piece.Piece.{Piece}
 use Rattle.oss_model.specs.Rights as rights
 use Rattle.oss_model.specs.Rights.{any_from}
 use Rattle.oss_judge.specs.Seen.{right_at, right_seen, right_told}
 use Rattle.oss_judge.specs.declared.right.Right.{Right}
-use Rattle.oss_judge.proofs.TestLemmas.{any_from-later, any_from-now}
+use Rattle.oss_judge.proofs.TestLemmas.{any_from-later}
 
 fails_on : (test : ℕ → Bool) (n i hi : ℕ) → i + n ≤ hi → ((c : ℕ) → i ≤ c → c < i + n → test c ≡ false)
     → any_from test (i + n) (hi - (i + n)) ≡ any_from test i (hi - i)
@@ -32,20 +32,14 @@ module _ (test : rights.Right → Bool) (pieces : List (Piece Right)) (run : Opt
       run-fails (λ c. test (right_at pieces c)) i end_cell hi (omega arith) high
       (λ c l k. ap (λ v. test (right_told v)) (alike c l k) ∙ sym (ap test told) ∙ fails)
 
-  pub right-passes : (i end_cell hi : ℕ) → i < end_cell → end_cell ≤ hi → ((c : ℕ) → i ≤ c → c < end_cell → value_at pieces c ≡ run) → test (right_seen right) ≡ true
-      → true ≡ any_from (λ c. test (right_at pieces c)) i (hi - i)
-  right-passes i end_cell hi low high alike passes =
-      sym (any_from-now (λ c. test (right_at pieces c)) i hi (omega arith)
-      (ap (λ v. test (right_told v)) (alike i (omega arith) low) ∙ sym (ap test told) ∙ passes))
-
 -- two maps: the run of the second one lies within that of the first
 module _ (test : rights.Right → rights.Right → Bool) (pieces others : List (Piece Right)) (run other : Option Right) (right wanted : Right)
     (told : right_seen right ≡ right_told run) (also : right_seen wanted ≡ right_told other) where
   abbrev both : ℕ → Bool
   both c = test (right_at pieces c) (right_at others c)
 
-  both-at : (answer : Bool) (c : ℕ) → value_at pieces c ≡ run → value_at others c ≡ other → test (right_seen right) (right_seen wanted) ≡ answer → both c ≡ answer
-  both-at answer c here there is =
+  fails-at : (c : ℕ) → value_at pieces c ≡ run → value_at others c ≡ other → test (right_seen right) (right_seen wanted) ≡ false → both c ≡ false
+  fails-at c here there is =
       ap (λ v. test (right_told v) (right_at others c)) here ∙ ap (λ v. test (right_told run) (right_told v)) there
       ∙ sym (ap (λ r. test r (right_told other)) told) ∙ sym (ap (test (right_seen right)) also) ∙ is
 
@@ -54,11 +48,4 @@ module _ (test : rights.Right → rights.Right → Bool) (pieces others : List (
       → test (right_seen right) (right_seen wanted) ≡ false
       → any_from both end_cell (hi - end_cell) ≡ any_from both i (hi - i)
   both-fail i mid end_cell hi low inner high alike like fails =
-      run-fails both i end_cell hi (omega arith) (omega arith) (λ c l k. both-at false c (alike c l (omega arith)) (like c l k) fails)
-
-  pub both-pass : (i mid end_cell hi : ℕ) → i < end_cell → end_cell ≤ mid → mid ≤ hi
-      → ((c : ℕ) → i ≤ c → c < mid → value_at pieces c ≡ run) → ((c : ℕ) → i ≤ c → c < end_cell → value_at others c ≡ other)
-      → test (right_seen right) (right_seen wanted) ≡ true
-      → true ≡ any_from both i (hi - i)
-  both-pass i mid end_cell hi low inner high alike like passes =
-      sym (any_from-now both i hi (omega arith) (both-at true i (alike i (omega arith) (omega arith)) (like i (omega arith) low) passes))
+      run-fails both i end_cell hi (omega arith) (omega arith) (λ c l k. fails-at c (alike c l (omega arith)) (like c l k) fails)

@@ -14,10 +14,6 @@ any_from-step test i hi l = ap (any_from test i) (let e : hi - i ≡ suc (hi - (
 pub any_from-later : (test : ℕ → Bool) (i hi : ℕ) → i < hi → test i ≡ false → any_from test (i + 1) (hi - (i + 1)) ≡ any_from test i (hi - i)
 any_from-later test i hi l fails = sym (any_from-step test i hi l ∙ ap (λ b. b || any_from test (i + 1) (hi - (i + 1))) fails)
 
--- a cell that passes
-pub any_from-now : (test : ℕ → Bool) (i hi : ℕ) → i < hi → test i ≡ true → any_from test i (hi - i) ≡ true
-any_from-now test i hi l passes = any_from-step test i hi l ∙ ap (λ b. b || any_from test (i + 1) (hi - (i + 1))) passes
-
 pub or_true : (a b : Bool) → (a || b) ≡ true → (a ≡ true) ⊎ (b ≡ true)
 or_true true b h = inl refl
 or_true false b h = inr h

@@ -7,7 +7,7 @@ ghost use Rattle.oss_model.specs.Context.{lacks_right};
 ghost use Rattle.oss_judge.specs.Parts.{cover_fault, reading, wait_fault};
 ghost use Rattle.oss_judge.specs.Seen.{right_at};
 
-use crate::right::{told, Right};
+use crate::right::{Right, told};
 use oss_model::FaultKind;
 use oss_ranges::RangeMap;
 use oss_syntax::{Access, Range};
@@ -79,11 +79,7 @@ fn is_any_released(own: &RangeMap<Right>, clauses: &[Access]) -> bool
 }
 
 /// The task has no right that covers the one that clauses give to a cell.
-fn is_any_uncovered(
-    own: &RangeMap<Right>,
-    given: &RangeMap<Right>,
-    clauses: &[Access],
-) -> bool
+fn is_any_uncovered(own: &RangeMap<Right>, given: &RangeMap<Right>, clauses: &[Access]) -> bool
     ensures { result ≡ any_cell (λ c. holds_uncovered (right_at own.now.pieces c) (right_at given.now.pieces c)) clauses.now }
 {
     for clause in clauses {

@@ -6,7 +6,7 @@ ghost use Rattle.oss_model.specs.Rights.{any_cell, any_from, Written, first_mark
 ghost use Rattle.oss_judge.specs.Seen.{mark_at, mark_seen, right_at, right_seen};
 
 use crate::mark::Mark;
-use crate::right::{told, Right};
+use crate::right::{Right, told};
 use oss_ranges::RangeMap;
 use oss_syntax::{Access, Mode, Range};
 use std::alloc::{AllocError, Global};
@@ -14,7 +14,8 @@ use std::alloc::{AllocError, Global};
 /// A program has no cell from here on.
 const CELLS: u32 = 1_048_576;
 
-/// A cell has a value when the task begins: some clause names it that is neither `out` nor `weakout`.
+/// What is kept of a cell that some clause names that is neither `out` nor `weakout`: its value is an old one, which the task may
+/// read.
 #[derive(Clone, Copy, Debug, PartialEq, Eq)]
 enum Stale {
     Named,
@@ -32,11 +33,7 @@ pub(crate) struct Given {
 
 impl Given {
     /// What clauses give. A weak access counts as strong where the task is final.
-    pub(crate) fn of(
-        alloc: Global,
-        clauses: &[Access],
-        is_final: bool,
-    ) -> Result<Given, AllocError>
+    pub(crate) fn of(alloc: Global, clauses: &[Access], is_final: bool) -> Result<Given, AllocError>
         ensures rights { IfOk result (λ given. (c : ℕ) → right_at given.rights.pieces c ≡ right_from is_final clauses.now c) }
         ensures stale { IfOk result (λ given. (c : ℕ) → is_none (value_at given.stale.pieces c) ≡ is_fresh clauses.now c) }
         ensures mixed { IfOk result (λ given. given.is_mixed ≡ any_cell (is_mixed is_final clauses.now) clauses.now) }
@@ -60,7 +57,11 @@ impl Given {
         while from < CELLS {
             let (right, right_end) = self.rights.run_from(from, CELLS);
             let (stale, end) = self.stale.run_from(from, right_end);
-            start(&mut marks, Range { lo: from, hi: end }, first_of(told(right), stale))?;
+            start(
+                &mut marks,
+                Range { lo: from, hi: end },
+                first_of(told(right), stale),
+            )?;
             from = end;
         }
         Ok(marks)

@@ -1,4 +1,4 @@
-use Rattle.std.proofs.Common.{◌≡◌, ◌∷◌, ◌<◌, ◌-◌, ℕ, Bool, suc, sym, ap, ◌∙◌, subst, length, drop, arith}
+use Rattle.std.proofs.Common.{◌≡◌, ◌∷◌, ◌<◌, ◌-◌, ℕ, suc, sym, ap, ◌∙◌, subst, length, drop, arith}
 use Rattle.std.specs.Prelude.{◌||◌}
 use Rattle.std.proofs.Math.Seq.{drop-cons}
 use Rattle.oss_model.specs.Rights.{any_cell, any_from, is_mixed, is_unjoinable, right_from}

@@ -1,9 +1,6 @@
-use Rattle.std.proofs.Common.{◌≡◌, ◌<◌, ◌≤◌, ◌⊎◌, inl, inr, ℕ, Bool, true, false, sym, ap, ◌∙◌, arith, if◌then◌else◌}
-use Rattle.std.specs.Prelude.{is_none, nat_lt}
-use Rattle.std.proofs.lemmas.Bool.Decides.{nat_tests}
+use Rattle.std.proofs.Common.{◌<◌, ◌≤◌, ◌∙◌, arith}
+use Rattle.std.specs.Prelude.{is_none}
 use Rattle.oss_ranges.specs.Cells.{value_at}
-use Rattle.oss_model.specs.Rights.{Written, first_mark}
-use Rattle.oss_judge.specs.Seen.{right_at, right_told}
 use Rattle.oss_judge.proofs.GivenLemmas.{marks-past}
 use Rattle.oss_judge.proofs.given.Given.marks.Goals as goal
 
