@@ -1,6 +1,6 @@
 -- Loops by runs: the cells of a run are alike, so a test fails at each of them or at none. Where it passes, it passes at the
 -- first.
-use Rattle.std.proofs.Common.{◌≡◌, ℕ, zero, suc, ◌+◌, ◌-◌, ◌<◌, ◌≤◌, sym, ap, ◌∙◌, List, arith, Bool, true, false, Option}
+use Rattle.std.proofs.Common.{◌≡◌, ℕ, zero, suc, ◌+◌, ◌-◌, ◌<◌, ◌≤◌, sym, ap, ◌∙◌, List, arith, Bool, false, Option}
 use Rattle.oss_ranges.specs.Cells.{value_at}
 use Rattle.oss_ranges.specs.declared.piece.Piece.{Piece}
 use Rattle.oss_model.specs.Rights as rights
