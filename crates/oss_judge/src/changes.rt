@@ -5,7 +5,8 @@ ghost use Rattle.oss_judge.specs.Changed.{overlaid};
 ghost use Rattle.oss_judge.specs.Parts.{reading};
 ghost use Rattle.oss_judge.specs.Seen.{lending_told, lent_at, mark_at, mark_told, right_at, right_told};
 ghost use Rattle.oss_model.specs.Context.{in_clauses, lend_cell, made_mark};
-ghost use Rattle.oss_model.specs.Rights.{Free, Released};
+ghost use Rattle.oss_model.specs.Rights.{Free, Released, in_access};
+ghost use Rattle.oss_judge.specs.declared.right.Right.TheVariants as RightKept;
 
 use crate::lending::{self, Lending};
 use crate::mark::Mark;
@@ -125,17 +126,31 @@ pub(crate) fn endings(
 {
     let mut changes = Vec::new(alloc);
     for clause in clauses {
-        if clause.range.lo < cells {
-            changes.push(Change {
-                range: Range {
-                    lo: clause.range.lo,
-                    hi: clause.range.hi.min(cells),
-                },
-                value: Some(Right::Released),
-            })?;
-        }
+        add_ending(&mut changes, clause, cells)?;
     }
     Ok(changes)
+}
+
+/// Adds that the rights to the cells of a clause end.
+fn add_ending(
+    changes: &mut Vec<Change<Right>>,
+    clause: &Access,
+    cells: u32,
+) -> Result<(), AllocError>
+    ensures here { OnOk result ((c : ℕ) (value : _) → c < cells → overlaid changes.new.items c value ≡ (if in_access clause.now c then Some RightKept.Released else overlaid changes.old.items c value)) }
+    ensures past { OnOk result ((c : ℕ) (value : _) → cells ≤ c → overlaid changes.new.items c value ≡ overlaid changes.old.items c value) }
+{
+    if cells <= clause.range.lo {
+        return Ok(());
+    }
+    changes.push(Change {
+        range: Range {
+            lo: clause.range.lo,
+            hi: clause.range.hi.min(cells),
+        },
+        value: Some(Right::Released),
+    })?;
+    Ok(())
 }
 
 /// What a wait for the cells of these ranges changes of what is lent.

@@ -2,7 +2,9 @@
 #![tactic(auto)]
 
 mod changes;
+mod checks;
 mod context;
+mod given;
 mod joined;
 mod lending;
 mod mark;

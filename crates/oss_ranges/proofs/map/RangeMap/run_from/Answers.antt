@@ -1,4 +1,4 @@
-use Rattle.std.proofs.Common.{◌≡◌, ◌≤◌, ◌<◌, ℕ, Some, None, sym, ◌∙◌, ap, arith}
+use Rattle.std.proofs.Common.{◌≡◌, Some, None, sym, ◌∙◌, ap, arith}
 use Rattle.oss_ranges.proofs.CutLemmas.{next_within}
 use Rattle.oss_ranges.proofs.MapLemmas.{none_past, run_gap, run_none, run_value}
 use Rattle.oss_ranges.specs.Cells.{next_of, value_at}
