@@ -1,4 +1,5 @@
 pub mod ChangeLemmas
+pub mod FaultLemmas
 pub mod GivenLemmas
 pub mod JoinedLemmas
 pub mod RunLemmas

@@ -1,18 +1,19 @@
 -- A context by the maps that it keeps.
 use Rattle.std.proofs.Common.{◌≡◌, ◌≤◌, ◌<◌, ◌+◌, ℕ, zero, suc, ◌⊎◌, inl, inr, refl, sym, ap, ◌∙◌, List, [], ◌∷◌, length, get_or, arith, Bool, true, false, Option, Some, None, if◌then◌else◌}
-use Rattle.std.specs.Prelude.{◌==◌, slice_index_or}
+use Rattle.std.specs.Prelude.{◌||◌, ◌==◌, slice_index_or}
 use Rattle.std.proofs.lemmas.Bool.Decides.{nat_tests}
 use Rattle.oss_ranges.specs.Cells.{Assigns, is_within, value_at}
 use Rattle.oss_ranges.specs.declared.piece.Piece.{Piece}
 use Rattle.oss_judge.specs.Seen.{entry_at, lending_told, lent_at, mark_at, mark_told, right_at, right_told}
-use Rattle.oss_judge.specs.View.{EndsBefore}
+use Rattle.oss_judge.specs.View.{EndsBefore, start_context}
 use Rattle.oss_judge.specs.declared.right.Right.{Right}
 use Rattle.oss_judge.specs.declared.lending.Lending.{Lending}
 use Rattle.oss_judge.specs.declared.mark.Mark.{Mark}
 use Rattle.oss_model.proofs.ContextLemmas.{length-table_from, tabled_at, tabled_past}
-use Rattle.oss_model.specs.Context.{Context, Entry, lent_of, mark_of, no_entry, right_of, table_from, with_entries, wrote, waited}
+use Rattle.oss_model.specs.Context.{Context, Entry, child_context, lend, lend_cell, lent_of, made, made_mark, mark_of, no_entry, right_of, table_from, with_entries, wrote, waited}
 use Rattle.oss_model.specs.Rights as model
-use Rattle.oss_model.specs.Rights.{Free, Written}
+use Rattle.oss_model.specs.Rights.{Free, Written, first_mark, is_fresh, mark_from, right_from}
+use Rattle.oss_syntax.specs.declared.access.Access.{Access}
 
 below_or : (m n : ℕ) → (m < n) ⊎ (n ≤ m)
 below_or m n = grind arith
@@ -93,3 +94,34 @@ module _ (cells : ℕ) (rights : List (Piece Right)) (lent : List (Piece Lending
   marks_changed now f h = seen_is cells rights lent marks rights lent now n _ (λ c low.
       entry_is (right_at rights c) (right_of before c) (lent_at lent c) (lent_of before c) (mark_at now c) (f c (mark_of before c))
       (sym (seen_right cells rights lent marks n r l m c)) (sym (seen_lent cells rights lent marks n r l m c)) (h c low ∙ ap (f c) (sym (seen_mark cells rights lent marks n r l m c))))
+
+-- a creation lends and marks by the rights alone, however they are told
+pub lend_same : (f g : ℕ → model.Right) (x : Context) → ((c : ℕ) → f c ≡ g c) → lend f x ≡ lend g x
+lend_same f g x h = ap (λ es. record x { entries = es })
+    (same_table (λ c. record { right = right_of x c; lent = lend_cell (f c) (lent_of x c); mark = mark_of x c }) (λ c. record { right = right_of x c; lent = lend_cell (g c) (lent_of x c); mark = mark_of x c }) (length x.entries)
+      (λ c low. ap (λ r. record { right = right_of x c; lent = lend_cell r (lent_of x c); mark = mark_of x c }) (h c)))
+
+pub made_same : (f g : ℕ → model.Right) (x : Context) → ((c : ℕ) → f c ≡ g c) → made f x ≡ made g x
+made_same f g x h = ap (λ es. record x { entries = es })
+    (same_table (λ c. record { right = right_of x c; lent = lent_of x c; mark = made_mark (f c) (mark_of x c) }) (λ c. record { right = right_of x c; lent = lent_of x c; mark = made_mark (g c) (mark_of x c) }) (length x.entries)
+      (λ c low. ap (λ r. record { right = right_of x c; lent = lent_of x c; mark = made_mark r (mark_of x c) }) (h c)))
+
+-- a new task by what its clauses give
+pub child_is : (x : Context) (clauses : List Access) (last : Bool) (final : Bool) (given : ℕ → model.Right) (fresh : ℕ → Bool) → final ≡ (x.final || last)
+    → ((c : ℕ) → given c ≡ right_from final clauses c) → ((c : ℕ) → fresh c ≡ is_fresh clauses c)
+    → start_context x given (λ c. first_mark (given c) (fresh c)) final ≡ child_context x clauses last
+child_is x clauses last final given fresh kept like new =
+    ap (λ es. record { entries = es; ticks = 0; fuel = x.fuel; created = 0; depth = x.depth + 1; final = final })
+      (same_table (λ c. record { right = given c; lent = Free; mark = first_mark (given c) (fresh c) }) (λ c. record { right = right_from final clauses c; lent = Free; mark = mark_from final clauses c }) (length x.entries)
+        (λ c low. ap (λ r. record { right = r; lent = Free; mark = first_mark r (fresh c) }) (like c) ∙ ap (λ b. record { right = right_from final clauses c; lent = Free; mark = first_mark (right_from final clauses c) b }) (new c)))
+    ∙ ap (λ f. record { entries = table_from (λ c. record { right = right_from f clauses c; lent = Free; mark = mark_from f clauses c }) 0 (length x.entries); ticks = 0; fuel = x.fuel; created = 0; depth = x.depth + 1; final = f }) kept
+
+-- the maps with which a new task starts
+pub start_is : (cells : ℕ) (rights : List (Piece Right)) (marks : List (Piece Mark)) (x : Context) (right : ℕ → model.Right) (mark : ℕ → model.Mark) (final : Bool) → cells ≡ length x.entries
+    → ((c : ℕ) → c < cells → right_at rights c ≡ right c) → ((c : ℕ) → c < cells → mark_at marks c ≡ mark c)
+    → seen cells rights [] marks (record { ticks = 0; fuel = x.fuel; created = 0; depth = x.depth + 1; final = final }) ≡ start_context x right mark final
+start_is cells rights marks x right mark final size same like =
+    ap (λ es. record { entries = es; ticks = 0; fuel = x.fuel; created = 0; depth = x.depth + 1; final = final })
+      (same_table (entry_at rights [] marks) (λ c. record { right = right c; lent = Free; mark = mark c }) cells
+        (λ c low. entry_is (right_at rights c) (right c) Free Free (mark_at marks c) (mark c) (same c low) refl (like c low))
+       ∙ ap (table_from (λ c. record { right = right c; lent = Free; mark = mark c }) 0) size)

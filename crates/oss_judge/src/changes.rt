@@ -163,10 +163,15 @@ pub(crate) fn takings(
 {
     let mut changes = Vec::new(alloc);
     for range in named {
-        changes.push(Change {
-            range: *range,
-            value: None,
-        })?;
+        add_taking(&mut changes, *range)?;
     }
     Ok(changes)
+}
+
+/// Adds that what is lent of the cells of a range is taken back.
+fn add_taking(changes: &mut Vec<Change<Lending>>, range: Range) -> Result<(), AllocError>
+    ensures { OnOk result ((c : ℕ) (value : _) → overlaid changes.new.items c value ≡ (if in_access (reading range) c then None else overlaid changes.old.items c value)) }
+{
+    changes.push(Change { range, value: None })?;
+    Ok(())
 }

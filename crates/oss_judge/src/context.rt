@@ -1,20 +1,28 @@
-ghost use Rattle.std.specs.Prelude.{◌≡◌, ℕ, ◌+◌, ◌<◌, ◌≤◌, ◌||◌, false, true, map, None, IfErr, IfOk, OnErr, OnOk};
+ghost use Rattle.std.specs.Prelude.{◌≡◌, ℕ, ◌+◌, ◌<◌, ◌≤◌, ◌||◌, false, true, if◌then◌else◌, is_none, map, Some, None, IfErr, IfOk, OnErr, OnOk};
 ghost use Rattle.std.specs.Result.{result_err};
-ghost use Rattle.oss_model.specs.Rights.{Folds, Holds, Reads, Writes, right_from, touch_fault};
+ghost use Rattle.oss_model.specs.Rights.{Folds, Holds, Reads, Writes, first_mark, is_fresh, mark_from, right_from, touch_fault};
 ghost use Rattle.oss_model.specs.Context.{child_context, clause_fault, create_fault, lend, lent_of, made, main_context, mark_of, release, release_fault, right_of, tick_fault, wait_on_fault, waited, waited_on, wrote};
-ghost use Rattle.oss_judge.specs.Parts.{fold_part, reading};
+ghost use Rattle.oss_judge.specs.Joined.{IsRising, held_mark, held_right};
+ghost use Rattle.oss_judge.specs.Parts.{cover_fault, fold_part, reading};
 ghost use Rattle.oss_judge.specs.Refusal.{IsRefusal};
 ghost use Rattle.oss_judge.specs.Seen.{lending_seen, mark_seen, right_at, right_seen};
-ghost use Rattle.oss_judge.specs.View.{EndsBefore};
+ghost use Rattle.oss_judge.specs.View.{EndsBefore, start_context};
+ghost use Rattle.oss_ranges.specs.Cells.{value_at};
 ghost use Rattle.oss_syntax.specs.declared.access.Mode.TheVariants as Mode;
+ghost use Rattle.oss_syntax.specs.declared.fault.FaultKind.TheVariants as fault;
 
+use crate::changes::{change_all, endings, lendings, takings, writings};
+use crate::checks::{check_covered, check_waited_on};
+use crate::given::Given;
+use crate::joined::accesses_of;
 use crate::lending::{self, Lending};
 use crate::mark::{self, Mark};
+use crate::refused::JudgeRefused;
 use crate::right::{self, Right};
 use crate::touches;
 use oss_model::FaultKind;
 use oss_ranges::RangeMap;
-use oss_syntax::{Mode, Op, Range};
+use oss_syntax::{Access, List, Mode, Op, Range};
 use std::alloc::{AllocError, Global};
 use std::marker::Model;
 
@@ -177,6 +185,82 @@ impl Context {
         Ok(())
     }
 
+    /// The fault of a creation with these clauses, after its beginning. The new task is final where this one is, or where it is
+    /// the last that is not included.
+    pub fn may_give(&self, clauses: &List<Access>, last: bool) -> Result<(), JudgeRefused>
+        ensures allowed { OnOk result (clause_fault self.now clauses.now (self.now.final || last) ≡ None) }
+        ensures refused { IfErr result (IsRefusal (clause_fault self.now clauses.now (self.now.final || last))) }
+    {
+        self.given(clauses.as_slice(), self.is_child_final(last))?;
+        Ok(())
+    }
+
+    /// The context of a new task with these clauses. It is final where its creator is, or where it is the last that is not
+    /// included.
+    pub fn child(&self, clauses: &List<Access>, last: bool) -> Result<Context, JudgeRefused>
+        requires { create_fault self.now ≡ None }
+        ensures ok { IfOk result (λ child. child ≡ child_context self.now clauses.now last) }
+        ensures allowed { OnOk result (clause_fault self.now clauses.now (self.now.final || last) ≡ None) }
+        ensures refused { IfErr result (IsRefusal (clause_fault self.now clauses.now (self.now.final || last))) }
+    {
+        let is_final = self.is_child_final(last);
+        let given = self.given(clauses.as_slice(), is_final)?;
+        let child = self.started(given, is_final)?;
+        Ok(child)
+    }
+
+    /// A new task is final.
+    fn is_child_final(&self, last: bool) -> bool
+        ensures { result ≡ (self.now.final || last) }
+    {
+        self.is_final || last
+    }
+
+    /// What these clauses give to a new task.
+    fn given(&self, clauses: &[Access], is_final: bool) -> Result<Given, JudgeRefused>
+        ensures rights { IfOk result (λ given. (c : ℕ) → right_at given.rights.pieces c ≡ right_from is_final clauses.now c) }
+        ensures stale { IfOk result (λ given. (c : ℕ) → is_none (value_at given.stale.pieces c) ≡ is_fresh clauses.now c) }
+        ensures allowed { OnOk result (clause_fault self.now clauses.now is_final ≡ None) }
+        ensures refused { IfErr result (IsRefusal (clause_fault self.now clauses.now is_final)) }
+    {
+        let given = Given::of(self.alloc, clauses, is_final)?;
+        self.check_given(&given, clauses)?;
+        Ok(given)
+    }
+
+    /// The fault where clauses give what they give.
+    fn check_given(&self, given: &Given, clauses: &[Access]) -> Result<(), FaultKind>
+        ensures { result_err result ≡ (if given.now.is_mixed then Some fault.MixedAccess else cover_fault (right_of self.now) (right_at given.now.rights.pieces) clauses.now) }
+    {
+        if given.is_mixed {
+            return Err(FaultKind::MixedAccess);
+        }
+        check_covered(&self.rights, &given.rights, clauses)
+    }
+
+    /// The context in which a new task starts to which so much is given.
+    fn started(&self, given: Given, is_final: bool) -> Result<Context, AllocError>
+        requires { self.now.depth < 64 }
+        ensures { IfOk result (λ child. child ≡ start_context self.now (right_at given.rights.pieces) (λ c. first_mark (right_at given.rights.pieces c) (is_none (value_at given.stale.pieces c))) is_final) }
+    {
+        let mut marks = given.marks(self.alloc)?;
+        end_at(&mut marks, self.cells)?;
+        let mut rights = given.rights;
+        end_at(&mut rights, self.cells)?;
+        Ok(Context {
+            alloc: self.alloc,
+            cells: self.cells,
+            rights,
+            lent: RangeMap::new(self.alloc),
+            marks,
+            ticks: 0,
+            fuel: self.fuel,
+            created: 0,
+            depth: self.depth + 1,
+            is_final,
+        })
+    }
+
     /// Notes that the task has created one more.
     pub fn created(&mut self)
         requires { self.old.created < 65535 }
@@ -185,11 +269,160 @@ impl Context {
         self.created += 1;
     }
 
+    /// Lends the cells of a child's accesses to it. Where memory is wanting the context stays.
+    pub fn lend(&mut self, accesses: &List<Access>) -> Result<(), AllocError>
+        ensures ok { OnOk result (self.new ≡ lend (right_from false accesses.now) self.old) }
+        ensures err { OnErr result (self.new ≡ self.old) }
+    {
+        let given = Given::of(self.alloc, accesses.as_slice(), false)?;
+        self.lend_rights(&given.rights)
+    }
+
+    /// Lends the cells of a child to it, with the right that it has to each. Where memory is wanting the context stays.
+    pub fn lend_to(&mut self, child: &Context) -> Result<(), AllocError>
+        ensures ok { OnOk result (self.new ≡ lend (right_of child.now) self.old) }
+        ensures err { OnErr result (self.new ≡ self.old) }
+    {
+        self.lend_rights(&child.rights)
+    }
+
+    /// Lends cells by these rights to them.
+    fn lend_rights(&mut self, given: &RangeMap<Right>) -> Result<(), AllocError>
+        ensures ok { OnOk result (self.new ≡ lend (right_at given.now.pieces) self.old) }
+        ensures err { OnErr result (self.new ≡ self.old) }
+    {
+        let changes = lendings(self.alloc, &self.lent, given, self.cells)?;
+        change_all(&mut self.lent, changes.as_slice())
+    }
+
+    /// Marks the cells as written that a child's accesses give it to write. Where memory is wanting the context stays.
+    pub fn made(&mut self, accesses: &List<Access>) -> Result<(), AllocError>
+        ensures ok { OnOk result (self.new ≡ made (right_from false accesses.now) self.old) }
+        ensures err { OnErr result (self.new ≡ self.old) }
+    {
+        let given = Given::of(self.alloc, accesses.as_slice(), false)?;
+        self.mark_rights(&given.rights)
+    }
+
+    /// Marks the cells as written that a child has a right to write. Where memory is wanting the context stays.
+    pub fn made_by(&mut self, child: &Context) -> Result<(), AllocError>
+        ensures ok { OnOk result (self.new ≡ made (right_of child.now) self.old) }
+        ensures err { OnErr result (self.new ≡ self.old) }
+    {
+        self.mark_rights(&child.rights)
+    }
+
+    /// Marks the cells as written that these rights give to write.
+    fn mark_rights(&mut self, given: &RangeMap<Right>) -> Result<(), AllocError>
+        ensures ok { OnOk result (self.new ≡ made (right_at given.now.pieces) self.old) }
+        ensures err { OnErr result (self.new ≡ self.old) }
+    {
+        let changes = writings(self.alloc, &self.marks, given, self.cells)?;
+        change_all(&mut self.marks, changes.as_slice())
+    }
+
+    /// The fault of a release of the cells of these clauses.
+    pub fn may_release(&self, clauses: &List<Access>) -> Result<(), JudgeRefused>
+        ensures allowed { OnOk result (release_fault self.now clauses.now ≡ None) }
+        ensures refused { IfErr result (IsRefusal (release_fault self.now clauses.now)) }
+    {
+        let given = Given::of(self.alloc, clauses.as_slice(), false)?;
+        check_covered(&self.rights, &given.rights, clauses.as_slice())?;
+        Ok(())
+    }
+
+    /// Ends the right to the cells of these clauses, of which it was tested that they may be released. Where memory is wanting
+    /// the context stays.
+    pub fn released(&mut self, clauses: &List<Access>) -> Result<(), AllocError>
+        ensures ok { OnOk result (self.new ≡ release clauses.now self.old) }
+        ensures err { OnErr result (self.new ≡ self.old) }
+    {
+        let changes = endings(self.alloc, clauses.as_slice(), self.cells)?;
+        change_all(&mut self.rights, changes.as_slice())
+    }
+
+    /// Ends the right to the cells of these clauses. Where it is refused the context stays.
+    pub fn release(&mut self, clauses: &List<Access>) -> Result<(), JudgeRefused>
+        ensures ok { OnOk result (self.new ≡ release clauses.now self.old) }
+        ensures allowed { OnOk result (release_fault self.old clauses.now ≡ None) }
+        ensures refused { IfErr result (IsRefusal (release_fault self.old clauses.now)) }
+        ensures err { OnErr result (self.new ≡ self.old) }
+    {
+        self.may_release(clauses)?;
+        self.released(clauses)?;
+        Ok(())
+    }
+
     /// Takes back all that is lent, after a wait for the children. It takes no memory.
     pub fn waited(&mut self)
         ensures { self.new ≡ waited self.old }
     {
         self.lent = RangeMap::new(self.alloc);
+    }
+
+    /// The fault of a wait for the children's accesses to the cells of these ranges: `Released` where the task has released one of
+    /// the cells, and else `NotCovered` where it never had a right to one of them. It takes no memory.
+    pub fn may_wait_on(&self, named: &List<Range>) -> Result<(), FaultKind>
+        ensures { result_err result ≡ wait_on_fault self.now (map reading named.now) }
+    {
+        check_waited_on(&self.rights, named.as_slice())
+    }
+
+    /// Takes back what is lent of the cells of these ranges, of which it was tested that the task may wait for them. Where memory
+    /// is wanting the context stays.
+    pub fn took_back(&mut self, named: &List<Range>) -> Result<(), AllocError>
+        ensures ok { OnOk result (self.new ≡ waited_on (map reading named.now) self.old) }
+        ensures err { OnErr result (self.new ≡ self.old) }
+    {
+        let changes = takings(self.alloc, named.as_slice())?;
+        change_all(&mut self.lent, changes.as_slice())
+    }
+
+    /// Takes back what is lent of the cells of these ranges, after a wait for the children's accesses to them. `Ok` means that
+    /// the wait has no fault and that this is done. Otherwise the context stays as it was: the fault is `Released` where the
+    /// task has released one of the cells, and else `NotCovered` where it never had a right to one of them. Want of memory may
+    /// come in place of each of these answers.
+    pub fn waited_on(&mut self, named: &List<Range>) -> Result<(), JudgeRefused>
+        ensures ok { OnOk result (self.new ≡ waited_on (map reading named.now) self.old) }
+        ensures allowed { OnOk result (wait_on_fault self.old (map reading named.now) ≡ None) }
+        ensures refused { IfErr result (IsRefusal (wait_on_fault self.old (map reading named.now))) }
+        ensures err { OnErr result (self.new ≡ self.old) }
+    {
+        self.may_wait_on(named)?;
+        self.took_back(named)?;
+        Ok(())
+    }
+
+    /// The accesses of the task: they give the rights that it holds and the marks of the cells that it may write, each cell once,
+    /// in rising order and as few as can be.
+    pub fn accesses(&self) -> Result<List<Access>, AllocError>
+        ensures rights { IfOk result (λ accesses. (c : ℕ) → right_from false accesses c ≡ held_right (right_of self.now c)) }
+        ensures marks { IfOk result (λ accesses. (c : ℕ) → mark_from false accesses c ≡ held_mark (right_of self.now c) (mark_of self.now c)) }
+        ensures rising { IfOk result (λ accesses. IsRising accesses) }
+    {
+        let accesses = accesses_of(self.alloc, &self.rights, &self.marks)?;
+        Ok(List::from_vec(accesses))
+    }
+
+    /// A copy of the context.
+    pub fn copy(&self) -> Result<Context, AllocError>
+        ensures { IfOk result (λ copy. copy ≡ self.now) }
+    {
+        let rights = self.rights.copy()?;
+        let lent = self.lent.copy()?;
+        let marks = self.marks.copy()?;
+        Ok(Context {
+            alloc: self.alloc,
+            cells: self.cells,
+            rights,
+            lent,
+            marks,
+            ticks: self.ticks,
+            fuel: self.fuel,
+            created: self.created,
+            depth: self.depth,
+            is_final: self.is_final,
+        })
     }
 
     /// How many tasks stand above this one: 64 at most.
@@ -228,3 +461,21 @@ fn all_rights(alloc: Global, cells: u32) -> Result<RangeMap<Right>, AllocError>
     rights.assign(Range { lo: 0, hi: cells }, Right::Holds(Mode::Write, true))?;
     Ok(rights)
 }
+
+/// Takes the values of the cells from this one on away.
+fn end_at<T: Copy + Eq>(map: &mut RangeMap<T>, cells: u32) -> Result<(), AllocError>
+    requires { cells ≤ 1048576 }
+    ensures here { OnOk result ((c : ℕ) → c < cells → value_at map.new.pieces c ≡ value_at map.old.pieces c) }
+    ensures past { OnOk result (EndsBefore cells map.new.pieces) }
+{
+    if cells == 1_048_576 {
+        return Ok(());
+    }
+    map.clear(Range {
+        lo: cells,
+        hi: 1_048_576,
+    })
+}
+
+#[cfg(test)]
+mod tests;

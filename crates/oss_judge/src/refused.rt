@@ -1,3 +1,6 @@
+ghost use Rattle.std.specs.Prelude.{◌≡◌};
+ghost use Rattle.oss_judge.specs.declared.refused.JudgeRefused.TheVariants.{Fault, Memory};
+
 use oss_model::FaultKind;
 use std::alloc::AllocError;
 use thiserror::Error;
@@ -11,4 +14,20 @@ pub enum JudgeRefused {
     /// Memory is wanting.
     #[error("out of memory")]
     Memory(AllocError),
+}
+
+impl From<AllocError> for JudgeRefused {
+    ghost from_gives = { λ full refused. refused ≡ Memory full };
+
+    fn from(full: AllocError) -> JudgeRefused {
+        JudgeRefused::Memory(full)
+    }
+}
+
+impl From<FaultKind> for JudgeRefused {
+    ghost from_gives = { λ kind refused. refused ≡ Fault kind };
+
+    fn from(kind: FaultKind) -> JudgeRefused {
+        JudgeRefused::Fault(kind)
+    }
 }

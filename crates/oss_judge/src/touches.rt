@@ -23,8 +23,7 @@ pub(crate) fn may_read(right: Right, lent: Lending, mark: Mark) -> Result<(), Fa
         Right::Holds(Mode::Read, true) => unless_lent_for_writing(lent),
         Right::Holds(Mode::Write, true) => match lent {
             Lending::Writing => Err(FaultKind::Lent),
-            Lending::Free => unless_unwritten(mark),
-            Lending::Reading => unless_unwritten(mark),
+            Lending::Free | Lending::Reading => unless_unwritten(mark),
         },
         Right::Holds(Mode::Fold(_), true) => Err(FaultKind::BadReduction),
     }

@@ -1,5 +1,6 @@
 pub mod AssignLemmas
 pub mod ClipLemmas
+pub mod CopyLemmas
 pub mod CutLemmas
 pub mod JoinLemmas
 pub mod MapLemmas

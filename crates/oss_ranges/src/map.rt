@@ -1,4 +1,4 @@
-ghost use Rattle.std.specs.Prelude.{◌≡◌, ◌≤◌, ◌<◌, ◌+◌, ◌*◌, ◌^◌, [], ◌∷◌, ℕ, true, Some, None, is_some, IsOk, OnOk, OnErr, length};
+ghost use Rattle.std.specs.Prelude.{◌≡◌, ◌≤◌, ◌<◌, ◌+◌, ◌*◌, ◌^◌, [], ◌∷◌, ℕ, true, Some, None, is_some, IfOk, IsOk, OnOk, OnErr, length};
 ghost use Rattle.oss_ranges.specs.Cells.{Assigns, Cuts, CutsAround, IsMerged, Restricts, Rises, SameMap, cut_at, inserted, is_before, joined_at, next_of, outside, removed, union_of, value_at};
 
 use crate::piece::Piece;
@@ -169,6 +169,20 @@ impl<T: Copy + Eq> RangeMap<T> {
         ensures spares { self.new.spares ≡ self.old.spares }
     {
         self.tree = merged(mem::replace(&mut self.tree, Tree::new()));
+    }
+
+    /// A copy of the map. It takes memory for its pieces.
+    pub fn copy(&self) -> Result<RangeMap<T>, AllocError>
+        ensures { IfOk result (λ copy. copy.pieces ≡ self.now.pieces) }
+    {
+        let mut copy = RangeMap::new(self.alloc);
+        let mut from = 0;
+        'pieces: while let Some(piece) = self.tree.next(from) {
+            copy.prepare(1)?;
+            copy.insert(piece);
+            from = piece.hi;
+        }
+        Ok(copy)
     }
 
     /// Takes nodes into reserve until there are so many.
