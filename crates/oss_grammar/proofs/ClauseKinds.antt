@@ -42,7 +42,7 @@ module _ (test : RefusedKind → Bool) (unknown : test refused.UnknownName ≡ t
     only_sections fold before (s ∷ rest) = only_two (only_section fold before s) (only_sections fold (before + 1) rest)
 
     only_clause : (before : ℕ) (c : Clause) → Only test (clause_rules all locals before c)
-    only_clause before (clause.Depend m strong sections) = only_sections (is_fold m) before sections
+    only_clause before (clause.Depend m strong fresh sections) = only_sections (is_fold m) before sections
     only_clause before (clause.If e) = only_value test unknown wrong count all locals wanted.Number e
     only_clause before (clause.Final e) = only_value test unknown wrong count all locals wanted.Number e
     only_clause before clause.Wait = only_none test

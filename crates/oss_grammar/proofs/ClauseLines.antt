@@ -89,7 +89,7 @@ module _ (all : List Item) (locals : List Local) where
       (let q = cut front (comma ∷ back) (span_of split w) in within_both (one_section fold before d q.before) (sections_lie fold (before + 1) more (skip q.behind)))
 
   depend_lies : {ts : List Token} {c : Clause} {high low : ℕ} (before : ℕ) → IsDepend ts c → Span high low ts → Within high low (clause_rules all locals before c)
-  depend_lies before (depend t opened inner closed mode strong split is o c d) w =
+  depend_lies before (depend t opened inner closed mode strong fresh split is o c d) w =
       (let i = between inner closed [] (skip (skip (span_of split w))) in within_higher i.ends (sections_lie (is_fold mode) before d i.span))
 
   in_brackets : {e : Expr} {high low : ℕ} (inner : List Token) (closed : Token) → IsExpr loosest_level inner e → Span high low (inner ++ (closed ∷ [])) → Within high low (value_rules all locals wanted.Number e)

@@ -199,9 +199,9 @@ module _ (line : ℕ) (all : List Item) (locals : List Local) where
   sections_told fold before (t ∷ rest) s (later_of_them is) m u = one_of_right (section_rules all locals fold before t) (sections_told fold (before + 1) rest s is m u)
 
   clause_found : (before : ℕ) (c : Clause) → IsOneOf x (clause_rules all locals before c) → ClauseUse c
-  clause_found before (clause.Depend mode strong ss) w = put (sections_found (is_fold mode) before ss w) where
-    put : SectionsUse ss → ClauseUse (clause.Depend mode strong ss)
-    put u = record { name = u.use_in.name; uses = in_section mode strong ss u.section u.is_listed u.use_in.uses; means = u.use_in.means }
+  clause_found before (clause.Depend mode strong fresh ss) w = put (sections_found (is_fold mode) before ss w) where
+    put : SectionsUse ss → ClauseUse (clause.Depend mode strong fresh ss)
+    put u = record { name = u.use_in.name; uses = in_section mode strong fresh ss u.section u.is_listed u.use_in.uses; means = u.use_in.means }
   clause_found before (clause.If e) w = put (value_found line all locals wanted.Number e w) where
     put : UnknownUse line all locals e → ClauseUse (clause.If e)
     put u = record { name = u.name; uses = in_if e u.uses; means = u.means }
@@ -215,7 +215,7 @@ module _ (line : ℕ) (all : List Item) (locals : List Local) where
     put u = record { name = u.name; uses = in_priority e u.uses; means = u.means }
 
   clause_told : {name : List ℕ} {c : Clause} (before : ℕ) → meaning all locals name ≡ named.Missing → UsesInClause name line c → IsOneOf x (clause_rules all locals before c)
-  clause_told before m (in_section mode strong ss s is u) = sections_told (is_fold mode) before ss s is m u
+  clause_told before m (in_section mode strong fresh ss s is u) = sections_told (is_fold mode) before ss s is m u
   clause_told before m (in_if e u) = value_told line all locals wanted.Number e m u
   clause_told before m (in_final e u) = value_told line all locals wanted.Number e m u
   clause_told before m (in_priority e u) = value_told line all locals wanted.Number e m u

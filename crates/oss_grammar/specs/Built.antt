@@ -59,7 +59,7 @@ is_dependency (mode.Fold o) = false
 is_dependency _ = true
 
 abbrev pub is_built_clause : Clause → Bool
-is_built_clause (clause.Depend m strong sections) = (strong && is_dependency m) && every (map (λ s. is_whole s.form) sections)
+is_built_clause (clause.Depend m strong fresh sections) = (strong && is_dependency m) && every (map (λ s. is_whole s.form) sections)
 is_built_clause _ = false
 
 -- assignments and prints of sums, blocks, empty statements, tasks and waits for all of them

@@ -88,8 +88,8 @@ pub data OpensSections : List Token → Type 0 where
 
 -- The same in a dependency: in its sections.
 pub data OpensDepend (xs : List Token) : Type 0 where
-  depend_sections : (t opened : Token) (mode : Mode) (strong : Bool) (inner : List Token)
-      → xs ≡ t ∷ opened ∷ inner → access_of t.what ≡ Some (mode, strong) → IsOpen opened → OpensSections inner → OpensDepend xs
+  depend_sections : (t opened : Token) (mode : Mode) (strong fresh : Bool) (inner : List Token)
+      → xs ≡ t ∷ opened ∷ inner → access_of t.what ≡ Some (mode, strong, fresh) → IsOpen opened → OpensSections inner → OpensDepend xs
 
 -- The same in a clause of a task, behind the clauses that were there: in its sections, or behind the bracket of a clause with an
 -- expression, of whose kind none was there.

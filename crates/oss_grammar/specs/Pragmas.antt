@@ -22,15 +22,18 @@ use Rattle.oss_syntax.specs.declared.tree.pragma.Section.{Section}
 use Rattle.oss_grammar.specs.Expressions.{IsWhole}
 use Rattle.oss_grammar.specs.OneToken.{is_symbol, is_word, IsSymbol, IsKeyword, IsWord, IsOpen, IsClose, IsIndexOpen, IsIndexClose, IsComma}
 
--- How a clause uses its sections, and whether it is strong (OmpSs-2, data dependencies): `in` reads, `out` and `inout` write,
--- and the forms with `weak` say the same of descendants alone. `weakout` is a weak write; `on` is no such word.
-unfoldable pub access_of : TokenKind → Option (Mode × Bool)
+-- How a clause uses its sections, whether it is strong, and whether its word is `out` or `weakout` (OmpSs-2, data
+-- dependencies): `in` reads, `out` and `inout` write, and the forms with `weak` say the same of descendants alone. `weakout` is a
+-- weak write of cells that are written first, `weakinout` one of cells that have a value; `on` is no such word.
+unfoldable pub access_of : TokenKind → Option (Mode × Bool × Bool)
 access_of k =
-    if is_word (codes "in") k then Some (Read, true)
-    else (if is_word (codes "out") k || is_word (codes "inout") k then Some (Write, true)
-    else (if is_word (codes "weakin") k then Some (Read, false)
-    else (if is_word (codes "weakout") k || is_word (codes "weakinout") k then Some (Write, false)
-    else None)))
+    if is_word (codes "in") k then Some (Read, true, false)
+    else (if is_word (codes "out") k then Some (Write, true, true)
+    else (if is_word (codes "inout") k then Some (Write, true, false)
+    else (if is_word (codes "weakin") k then Some (Read, false, false)
+    else (if is_word (codes "weakout") k then Some (Write, false, true)
+    else (if is_word (codes "weakinout") k then Some (Write, false, false)
+    else None)))))
 
 -- The words of a reduction, and whether it is strong (OmpSs-2, reductions): `weakreduction` is not.
 unfoldable pub reduction_of : TokenKind → Option Bool
@@ -90,10 +93,10 @@ pub data IsSections : List Token → List Section → Type 0 where
 
 -- The tokens are a dependency (OmpSs-2, data dependencies): its word, and its sections in brackets. `weakinout(x, a[0;2])`.
 pub data IsDepend : List Token → Clause → Type 0 where
-  depend : {ts : List Token} {sections : List Section} (t opened : Token) (inner : List Token) (closed : Token) (mode : Mode) (strong : Bool)
-      → ts ≡ t ∷ opened ∷ (inner ++ closed ∷ []) → access_of t.what ≡ Some (mode, strong) → IsOpen opened → IsClose closed
+  depend : {ts : List Token} {sections : List Section} (t opened : Token) (inner : List Token) (closed : Token) (mode : Mode) (strong fresh : Bool)
+      → ts ≡ t ∷ opened ∷ (inner ++ closed ∷ []) → access_of t.what ≡ Some (mode, strong, fresh) → IsOpen opened → IsClose closed
       → IsSections inner sections
-      → IsDepend ts (clause.Depend mode strong sections)
+      → IsDepend ts (clause.Depend mode strong fresh sections)
 
 -- The token is what a label is made of, with its bytes: a name, which is looked up nowhere, or a string. `label(x)`, `label("x")`.
 pub data IsLabel : Token → List ℕ → Type 0 where
@@ -108,7 +111,7 @@ pub data IsClause : List Token → Clause → Type 0 where
       → ts ≡ t ∷ opened ∷ o ∷ colon ∷ (inner ++ closed ∷ [])
       → reduction_of t.what ≡ Some strong → IsOpen opened → fold_of o.what ≡ Some operator → IsSymbol (codes ":") colon → IsClose closed
       → IsSections inner sections
-      → IsClause ts (clause.Depend (Fold operator) strong sections)
+      → IsClause ts (clause.Depend (Fold operator) strong false sections)
   condition : {ts : List Token} {e : Expr} (t opened : Token) (inner : List Token) (closed : Token)
       → ts ≡ t ∷ opened ∷ (inner ++ closed ∷ []) → IsKeyword (codes "if") t → IsOpen opened → IsClose closed
       → IsWhole inner e → IsClause ts (clause.If e)

@@ -106,12 +106,12 @@ is_fold mode.Write = false
 is_fold (mode.Fold o) = true
 
 abbrev pub sections_in : Clause → List Section
-sections_in (clause.Depend m strong sections) = sections
+sections_in (clause.Depend m strong fresh sections) = sections
 sections_in _ = []
 
 -- the rules that a clause breaks behind so many sections of its pragma
 abbrev pub clause_rules : List Item → List Local → ℕ → Clause → List Refused
-clause_rules all locals before (clause.Depend m strong sections) = sections_rules all locals (is_fold m) before sections
+clause_rules all locals before (clause.Depend m strong fresh sections) = sections_rules all locals (is_fold m) before sections
 clause_rules all locals before (clause.If e) = value_rules all locals wanted.Number e
 clause_rules all locals before (clause.Final e) = value_rules all locals wanted.Number e
 clause_rules all locals before clause.Wait = []

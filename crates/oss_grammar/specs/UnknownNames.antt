@@ -62,7 +62,7 @@ pub data UsesInSection (name : List ℕ) (line : ℕ) (s : Section) : Type 0 whe
 
 -- The name is used in a clause of a pragma: in a section, or in its expression.
 pub data UsesInClause (name : List ℕ) (line : ℕ) : Clause → Type 0 where
-  in_section : (mode : Mode) (strong : Bool) (sections : List Section) (s : Section) → IsOneOf s sections → UsesInSection name line s → UsesInClause name line (clause.Depend mode strong sections)
+  in_section : (mode : Mode) (strong fresh : Bool) (sections : List Section) (s : Section) → IsOneOf s sections → UsesInSection name line s → UsesInClause name line (clause.Depend mode strong fresh sections)
   in_if : (e : Expr) → Uses name line e → UsesInClause name line (clause.If e)
   in_final : (e : Expr) → Uses name line e → UsesInClause name line (clause.Final e)
   in_priority : (e : Expr) → Uses name line e → UsesInClause name line (clause.Priority e)

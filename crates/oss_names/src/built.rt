@@ -75,7 +75,7 @@ fn clause_is_built(clause: &Clause) -> bool
     ensures { result ≡ is_built_clause clause.now }
 {
     match clause {
-        Clause::Depend(mode, strong, sections) => {
+        Clause::Depend(mode, strong, _, sections) => {
             *strong && is_no_reduction(*mode) && are_whole(sections.as_slice())
         }
         _ => false,

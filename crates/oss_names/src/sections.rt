@@ -32,7 +32,7 @@ fn sections_of(clause: &Clause) -> usize
     ensures { result ≡ length (sections_in clause.now) }
 {
     match clause {
-        Clause::Depend(_, _, sections) => sections.len(),
+        Clause::Depend(_, _, _, sections) => sections.len(),
         _ => 0,
     }
 }
@@ -49,7 +49,7 @@ fn clause(
     ensures few { result ≡ None → before + length (sections_in clause.now) ≤ 64 }
 {
     match clause {
-        Clause::Depend(mode, _, list) => {
+        Clause::Depend(mode, _, _, list) => {
             sections(globals, locals, folds(*mode), before, list.as_slice())
         }
         Clause::If(expr) => value(globals, locals, Wanted::Number, expr),

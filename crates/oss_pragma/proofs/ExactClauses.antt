@@ -162,11 +162,11 @@ module _ {expression : Reader Expr} {X : List Token → Token → Type 0} (part_
 
   depend_into : (xs : List Token) (c : Clause) → Depending xs c → IsDepend xs c
   depend_into xs c w = let h = w.whole in let b = h.behind in
-      subst (λ c. IsDepend xs c) w.made (depend h.token b.opened b.inner b.closed w.part.0.0 w.part.0.1 (h.split ∙ ap (λ ys. h.token ∷ ys) b.split) h.passes b.opens b.closes b.inside)
+      subst (λ c. IsDepend xs c) w.made (depend h.token b.opened b.inner b.closed w.part.0.0 w.part.0.1 w.part.0.2 (h.split ∙ ap (λ ys. h.token ∷ ys) b.split) h.passes b.opens b.closes b.inside)
 
   depend_back : (xs : List Token) (c : Clause) → IsDepend xs c → Depending xs c
-  depend_back xs c (depend {sections = sections} t opened inner closed mode strong e a o m w) = record {
-    part = ((mode, strong), sections);
+  depend_back xs c (depend {sections = sections} t opened inner closed mode strong fresh e a o m w) = record {
+    part = ((mode, strong, fresh), sections);
     made = refl;
     whole = record { token = t; back = opened ∷ (inner ++ (closed ∷ [])); split = e; passes = a; behind = record { opened = opened; inner = inner; closed = closed; split = refl; opens = o; closes = m; inside = w } };
   }
@@ -176,15 +176,15 @@ module _ {expression : Reader Expr} {X : List Token → Token → Type 0} (part_
     front = d.token ∷ b.opened ∷ x.front;
     inner = x.inner;
     split = d.split ∙ ap (λ ys. d.token ∷ ys) (b.split ∙ ap (λ ys. b.opened ∷ ys) x.split);
-    opens = depend_sections d.token b.opened d.value.0 d.value.1 x.front refl d.passes b.opens x.opens;
+    opens = depend_sections d.token b.opened d.value.0 d.value.1 d.value.2 x.front refl d.passes b.opens x.opens;
     excess = x.excess;
   }
 
   depend_upper_by : (xs before inner : List Token) (t : Token) → xs ≡ before ++ inner → X inner t → OpensDepend before → DependingDeep xs t
-  depend_upper_by xs before inner t e x (depend_sections p opened mode strong front s a o i) = record {
+  depend_upper_by xs before inner t e x (depend_sections p opened mode strong fresh front s a o i) = record {
     token = p;
     back = opened ∷ (front ++ inner);
-    value = (mode, strong);
+    value = (mode, strong, fresh);
     split = e ∙ ap (λ ys. ys ++ inner) s;
     passes = a;
     deep = record { opened = opened; inner = front ++ inner; split = refl; opens = o; deep = record { front = front; inner = inner; split = refl; opens = i; excess = x } };
@@ -196,7 +196,7 @@ module _ {expression : Reader Expr} {X : List Token → Token → Type 0} (part_
   pub exact_depend : Exact (read_depend expression) IsDepend (IsExcessBehind OpensDepend X) never
   unfolding read_depend access_of
   exact_depend = exact_as depend_into depend_back depend_deeper depend_upper
-      (exact_mapped dependency_of (exact_headed access_at exact_bracketed_sections (record { what = kinds.Name (codes "in"); line = 0 }) (Read, true) refl
+      (exact_mapped dependency_of (exact_headed access_at exact_bracketed_sections (record { what = kinds.Name (codes "in"); line = 0 }) (Read, true, false) refl
       (bracketed_viable (codes "(") (codes ")") refl refl sections_viable)))
 
   pub begun_depend : Begun (read_depend expression) (has access_at)
@@ -430,8 +430,8 @@ module _ {expression : Reader Expr} {X : List Token → Token → Type 0} (part_
   begun_clause found = begun_either (has access_at) begun_depend (begun_reduction_on found)
 
   depend_is_new : (found : List Clause) (xs : List Token) (c : Clause) → IsDepend xs c → NewClause found xs c
-  depend_is_new found xs c (depend {sections = sections} t opened inner closed mode strong e a o m w) =
-      record { is = dependency (depend t opened inner closed mode strong e a o m w); new = depend_new found mode strong sections }
+  depend_is_new found xs c (depend {sections = sections} t opened inner closed mode strong fresh e a o m w) =
+      record { is = dependency (depend t opened inner closed mode strong fresh e a o m w); new = depend_new found mode strong fresh sections }
 
   if_into : (found : List Clause) (xs : List Token) (c : Clause) → Lone once_if found clause.If xs c → NewClause found xs c
   if_into found xs c w = let h = w.whole.whole in let b = h.behind in let told = single_told once_if found h.token w.whole.part.0 h.passes in
@@ -471,7 +471,7 @@ module _ {expression : Reader Expr} {X : List Token → Token → Type 0} (part_
       subst (λ c. NewClause found xs c) w.made (record {
         is = reduction h.token o.mark f.token b.opened b.inner b.closed w.part.0 w.part.1.0
             (h.split ∙ ap (λ ys. h.token ∷ ys) (o.split ∙ ap (λ ys. o.mark ∷ ys) (f.split ∙ ap (λ ys. f.token ∷ ys) b.split))) h.passes o.marks f.passes b.opens b.closes b.inside;
-        new = depend_new found (Fold w.part.1.0) w.part.0 w.part.1.1;
+        new = depend_new found (Fold w.part.1.0) w.part.0 false w.part.1.1;
       })
 
   clause_into : (found : List Clause) (xs : List Token) (c : Clause) → Claused found xs c → NewClause found xs c
@@ -626,12 +626,12 @@ pub depend_viable : Viable IsDepend []
 unfolding access_of
 depend_viable = let v = sections_viable in record {
   more = record { what = kinds.Name (codes "in"); line = 0 } ∷ record { what = kinds.Symbol (codes "("); line = 0 } ∷ (v.more ++ (record { what = kinds.Symbol (codes ")"); line = 0 } ∷ []));
-  value = clause.Depend Read true v.value;
-  member = depend (record { what = kinds.Name (codes "in"); line = 0 }) (record { what = kinds.Symbol (codes "("); line = 0 }) v.more (record { what = kinds.Symbol (codes ")"); line = 0 }) Read true refl refl refl refl v.member;
+  value = clause.Depend Read true false v.value;
+  member = depend (record { what = kinds.Name (codes "in"); line = 0 }) (record { what = kinds.Symbol (codes "("); line = 0 }) v.more (record { what = kinds.Symbol (codes ")"); line = 0 }) Read true false refl refl refl refl v.member;
 }
 
 pub clause_viable : (found : List Clause) → Viable (NewClause found) []
 clause_viable found = let v = depend_viable in record { more = v.more; value = v.value; member = new_member v.more v.value v.member } where
   new_member : (xs : List Token) (c : Clause) → IsDepend xs c → NewClause found xs c
-  new_member xs c (depend {sections = sections} t opened inner closed mode strong e a o m w) =
-      record { is = dependency (depend t opened inner closed mode strong e a o m w); new = depend_new found mode strong sections }
+  new_member xs c (depend {sections = sections} t opened inner closed mode strong fresh e a o m w) =
+      record { is = dependency (depend t opened inner closed mode strong fresh e a o m w); new = depend_new found mode strong fresh sections }

@@ -65,12 +65,12 @@ module _ {A : Type 0} (counts : A → Bool) where
 abbrev pub IsNew : List Clause → Clause → Type 0
 IsNew found c = (s : Single) → is_single s c ≡ true → stands s found ≡ false
 
-pub depend_new : (found : List Clause) (mode : Mode) (strong : Bool) (sections : List Section) → IsNew found (clause.Depend mode strong sections)
-depend_new found mode strong sections once_if e = absurd (cc)
-depend_new found mode strong sections once_final e = absurd (cc)
-depend_new found mode strong sections once_wait e = absurd (cc)
-depend_new found mode strong sections once_label e = absurd (cc)
-depend_new found mode strong sections once_priority e = absurd (cc)
+pub depend_new : (found : List Clause) (mode : Mode) (strong fresh : Bool) (sections : List Section) → IsNew found (clause.Depend mode strong fresh sections)
+depend_new found mode strong fresh sections once_if e = absurd (cc)
+depend_new found mode strong fresh sections once_final e = absurd (cc)
+depend_new found mode strong fresh sections once_wait e = absurd (cc)
+depend_new found mode strong fresh sections once_label e = absurd (cc)
+depend_new found mode strong fresh sections once_priority e = absurd (cc)
 
 pub if_new : (found : List Clause) (v : Expr) → stands once_if found ≡ false → IsNew found (clause.If v)
 if_new found v free once_if e = free

@@ -1,6 +1,6 @@
 -- How a pragma is read from its tokens, from left to right, by a reader of expressions. Each reader stands
 -- for the part of the grammar of the same name.
-use Rattle.std.specs.Prelude.{ℕ, Bool, ◌||◌, List, [], ◌∷◌, codes, Option, Some, None}
+use Rattle.std.specs.Prelude.{ℕ, Bool, false, ◌||◌, List, [], ◌∷◌, codes, Option, Some, None}
 use Rattle.oss_syntax.specs.declared.access.Mode.{Mode}
 use Rattle.oss_syntax.specs.declared.access.Mode.TheVariants.{Fold}
 use Rattle.oss_syntax.specs.declared.access.Op.{Op}
@@ -85,8 +85,8 @@ read_sections expression = read_list (read_section expression)
 unfoldable pub read_bracketed_sections : Reader Expr → Reader (List Section)
 read_bracketed_sections expression = read_mapped middle (read_both (read_one (symbol_at (codes "("))) (read_both (read_sections expression) (read_one (symbol_at (codes ")")))))
 
-abbrev pub dependency_of : (Mode × Bool) × List Section → Clause
-dependency_of p = clause.Depend p.0.0 p.0.1 p.1
+abbrev pub dependency_of : (Mode × Bool × Bool) × List Section → Clause
+dependency_of p = clause.Depend p.0.0 p.0.1 p.0.2 p.1
 
 -- The word of an access, and its sections.
 unfoldable pub read_depend : Reader Expr → Reader Clause
@@ -98,7 +98,7 @@ read_folded expression =
     read_both (read_one fold_at) (read_mapped middle (read_both (read_one (symbol_at (codes ":"))) (read_both (read_sections expression) (read_one (symbol_at (codes ")"))))))
 
 abbrev pub reduction_of_parts : Bool × (Op × List Section) → Clause
-reduction_of_parts p = clause.Depend (Fold p.1.0) p.0 p.1.1
+reduction_of_parts p = clause.Depend (Fold p.1.0) p.0 false p.1.1
 
 -- The word of a reduction, its operator and its sections.
 unfoldable pub read_reduction : Reader Expr → Reader Clause

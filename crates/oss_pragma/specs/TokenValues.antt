@@ -80,7 +80,7 @@ abbrev pub begins_expression : Token → Bool
 begins_expression t = is_some (number_at t) || (is_some (name_at t) || (is_symbol (codes "(") t.what || is_some (prefix_at t)))
 
 -- The word of an access, of a reduction, and the operator of a reduction.
-abbrev pub access_at : Token → Option (Mode × Bool)
+abbrev pub access_at : Token → Option (Mode × Bool × Bool)
 access_at t = access_of t.what
 
 abbrev pub reduction_at : Token → Option Bool

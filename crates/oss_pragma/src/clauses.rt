@@ -21,9 +21,9 @@ use std::alloc::Global;
 pub fn depend(alloc: Global, tokens: &mut Cursor<'_>) -> Result<Clause, Unread>
     ensures { ReadsAs (read_depend read_expression tokens.old) result tokens.new }
 {
-    let (mode, strong) = tokens.access()?;
+    let (mode, strong, fresh) = tokens.access()?;
     let sections = bracketed_sections(alloc, tokens)?;
-    Ok(Clause::Depend(mode, strong, sections))
+    Ok(Clause::Depend(mode, strong, fresh, sections))
 }
 
 /// op ":" sections ")"
@@ -46,7 +46,7 @@ fn fold_clause(alloc: Global, tokens: &mut Cursor<'_>) -> Result<Clause, Unread>
     let strong = tokens.reduction()?;
     tokens.symbol(b"(")?;
     let (operator, sections) = folded(alloc, tokens)?;
-    Ok(Clause::Depend(Mode::Fold(operator), strong, sections))
+    Ok(Clause::Depend(Mode::Fold(operator), strong, false, sections))
 }
 
 /// The word of a clause that stands once at most, where it does not stand already, and "(" expr ")"

@@ -166,7 +166,7 @@ impl<'t> Cursor<'t> {
     }
 
     /// Takes the word of a dependency.
-    pub fn access(&mut self) -> Result<(Mode, bool), Unread>
+    pub fn access(&mut self) -> Result<(Mode, bool, bool), Unread>
         ensures { ReadsAs (read_one access_at self.old) result self.new }
     {
         let Some((token, rest)) = self.left.split_first() else {

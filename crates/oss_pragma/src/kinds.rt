@@ -185,19 +185,23 @@ pub fn operator(what: &TokenKind) -> Option<(u32, BinOp)>
     }
 }
 
-/// How a dependency with this word uses its cells, and whether it is strong.
+/// How a dependency with this word uses its cells, whether it is strong, and whether the word is `out` or `weakout`.
 #[tactic(auto, unfolding(oss_grammar::specs::Pragmas::access_of))]
-pub fn access(what: &TokenKind) -> Option<(Mode, bool)>
+pub fn access(what: &TokenKind) -> Option<(Mode, bool, bool)>
     ensures { result ≡ access_of what.now }
 {
     if word_is(b"in", what) {
-        Some((Mode::Read, true))
-    } else if word_is(b"out", what) || word_is(b"inout", what) {
-        Some((Mode::Write, true))
+        Some((Mode::Read, true, false))
+    } else if word_is(b"out", what) {
+        Some((Mode::Write, true, true))
+    } else if word_is(b"inout", what) {
+        Some((Mode::Write, true, false))
     } else if word_is(b"weakin", what) {
-        Some((Mode::Read, false))
-    } else if word_is(b"weakout", what) || word_is(b"weakinout", what) {
-        Some((Mode::Write, false))
+        Some((Mode::Read, false, false))
+    } else if word_is(b"weakout", what) {
+        Some((Mode::Write, false, true))
+    } else if word_is(b"weakinout", what) {
+        Some((Mode::Write, false, false))
     } else {
         None
     }

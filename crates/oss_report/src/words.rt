@@ -22,6 +22,7 @@ pub fn word_of_fault(kind: FaultKind) -> &'static [u8]
         FaultKind::NotCovered => b"NotCovered",
         FaultKind::BadReduction => b"BadReduction",
         FaultKind::Lent => b"Lent",
+        FaultKind::Unwritten => b"Unwritten",
     }
 }
 

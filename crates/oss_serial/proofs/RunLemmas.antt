@@ -12,7 +12,7 @@ use Rattle.oss_judge.specs.Refusal.{IsRefusal}
 use Rattle.oss_judge.specs.declared.refused.JudgeRefused.{JudgeRefused}
 use Rattle.oss_judge.specs.declared.refused.JudgeRefused.TheVariants as judge
 use Rattle.oss_syntax.specs.declared.access.Access.{Access}
-use Rattle.oss_model.specs.Context.{Context, waited, create_fault, clause_fault, lend}
+use Rattle.oss_model.specs.Context.{Context, waited, create_fault, clause_fault, lend, made}
 use Rattle.oss_model.specs.Rights.{right_from}
 use Rattle.oss_serial.specs.Scalars.{State, Ending, Goes, Stops, assigned, printed_values, task_run, mark_accesses, ticked, run_of, runs_of, entered, left_task}
 use Rattle.oss_serial.specs.declared.stop.Stop.{Stop}
@@ -116,9 +116,9 @@ module _ (accesses : List Access) (line : ℕ) (body : State → Ending) (st : S
   task-stops kind at now allowed stops = rw (begins, allowed, stops) refl
 
   pub task-goes : (end now : State) (creator : Context) → clause_fault st.context accesses (st.context.final || false) ≡ None → body (entered accesses st) ≡ Goes end → creator ≡ st.context
-      → now ≡ record end { context = lend (right_from false accesses) (record creator { created = creator.created + 1 }) } → task_run accesses line body st ≡ Goes now
+      → now ≡ record end { context = made (right_from false accesses) (lend (right_from false accesses) (record creator { created = creator.created + 1 })) } → task_run accesses line body st ≡ Goes now
   task-goes end now creator allowed goes same is =
-      let left : now ≡ left_task accesses st end = is ∙ ap (λ (x : Context). record end { context = lend (right_from false accesses) (record x { created = x.created + 1 }) }) same in
+      let left : now ≡ left_task accesses st end = is ∙ ap (λ (x : Context). record end { context = made (right_from false accesses) (lend (right_from false accesses) (record x { created = x.created + 1 })) }) same in
       rw (begins, allowed, goes) (ap Goes (sym left))
 
 pub enter-refused : (accesses : List Access) (st : State) (why : JudgeRefused) → IsRefusal (clause_fault st.context accesses (st.context.final || false)) why → EntersTask accesses st (Err why) st

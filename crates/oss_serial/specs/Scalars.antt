@@ -3,7 +3,8 @@
 -- after its end; the judge says of each touch of a global, and of each creation, whether the declared accesses allow it. The
 -- definition is total: what no program of this form has means nothing but its tick.
 -- Read against: with `long a, b;` the statements `a = 41; b = a; printf("hello\n");` leave 41 in both cells and write hello; with
--- a task `out(x)` that sets x, a task `in(x) out(y)` that sets y to x + 1 and no wait, printing y is the fault Lent.
+-- a task `out(x)` that sets x, a task `in(x) out(y)` that sets y to x + 1 and no wait, printing y is the fault Lent; and a task
+-- `out(x)` of `x = x + 1;` alone is the fault Unwritten.
 use Rattle.std.specs.Prelude.{ℕ, length, map, ◌||◌, ◌+◌, Bool, if◌then◌else◌, List, [], ◌∷◌, ◌++◌, ◌-◌, ◌^◌, false, min, slice_index, slice_index_or, slice_set, position, Option, Some, None, Result, Ok, Err}
 use Rattle.std.specs.Str.{bytes_eq}
 use Rattle.oss_syntax.specs.declared.tree.expr.BinOp.{BinOp}
@@ -29,7 +30,7 @@ use Rattle.oss_syntax.specs.declared.tree.stmt.StmtKind.TheOpen.{StmtKind-F, Stm
 use Rattle.oss_syntax.specs.declared.tree.stmt.StmtKind.TheOpen as open_stmt
 use Rattle.oss_syntax.specs.declared.tree.stmt.StmtKind.TheFolds.{fold-Stmt}
 use Rattle.oss_model.specs.Cells.{cell_range}
-use Rattle.oss_model.specs.Context.{Context, right_of, lent_of, main_context, tick_fault, create_fault, clause_fault, child_context, lend, waited}
+use Rattle.oss_model.specs.Context.{Context, right_of, lent_of, mark_of, main_context, tick_fault, create_fault, clause_fault, child_context, lend, made, wrote, waited}
 use Rattle.oss_model.specs.Rights.{Reads, Writes, right_from, touch_fault}
 use Rattle.oss_grammar.specs.Layout.{names_of}
 use Rattle.oss_grammar.specs.Scopes.{is_main}
@@ -80,7 +81,7 @@ judged_value (Some kind) v = Err kind
 -- the value of a cell, where the judge allows its load
 abbrev pub loaded : List ℕ → Context → Option ℕ → Result ℕ FaultKind
 loaded cells x None = Ok 0
-loaded cells x (Some c) = judged_value (touch_fault (right_of x c) (lent_of x c) Reads) (slice_index cells c)
+loaded cells x (Some c) = judged_value (touch_fault (right_of x c) (lent_of x c) (mark_of x c) Reads) (slice_index cells c)
 
 -- a value is needed to go on; a fault stays
 abbrev pub and_then : {A B : Type 0} → Result A FaultKind → (A → Result B FaultKind) → Result B FaultKind
@@ -139,10 +140,10 @@ with_value (Err kind) line st go = Stops kind line st
 abbrev pub cells_with : List ℕ → List NumKind → ℕ → ℕ → List ℕ
 cells_with cells kinds c v = slice_set cells c (kept (slice_index_or kinds c num.Long) v)
 
--- a value is stored, where the judge allows it
+-- a value is stored, where the judge allows it, and the cell is written then
 abbrev pub stored : List NumKind → ℕ → Option ℕ → ℕ → State → Ending
 stored kinds line None v st = Goes st
-stored kinds line (Some c) v st = unless_fault (touch_fault (right_of st.context c) (lent_of st.context c) Writes) line st (Goes (record st { cells = cells_with st.cells kinds c v }))
+stored kinds line (Some c) v st = unless_fault (touch_fault (right_of st.context c) (lent_of st.context c) (mark_of st.context c) Writes) line st (Goes (record st { cells = cells_with st.cells kinds c v; context = wrote c st.context }))
 
 -- the name that an expression is, if it is one
 abbrev pub named_by : ExprKind → Option (List ℕ)
@@ -164,18 +165,18 @@ printed_values names line format es st =
     with_value (values_of es names st.cells st.context) line st (λ vs. Goes (record st { output = st.output ++ printed format vs }))
 
 -- the access to the cell of a global that a section names
-abbrev pub cell_access : Mode → Bool → Option ℕ → List Access
-cell_access mode strong None = []
-cell_access mode strong (Some c) = record { range = cell_range c; mode = mode; strong = strong } ∷ []
+abbrev pub cell_access : Mode → Bool → Bool → Option ℕ → List Access
+cell_access mode strong fresh None = []
+cell_access mode strong fresh (Some c) = record { range = cell_range c; mode = mode; strong = strong; fresh = fresh } ∷ []
 
--- the accesses to the cells of several sections, all of one mode
-abbrev pub section_accesses : List (List ℕ) → Mode → Bool → List Section → List Access
-section_accesses names mode strong [] = []
-section_accesses names mode strong (s ∷ rest) = cell_access mode strong (place_of names s.base) ++ section_accesses names mode strong rest
+-- the accesses to the cells of several sections, all of one word
+abbrev pub section_accesses : List (List ℕ) → Mode → Bool → Bool → List Section → List Access
+section_accesses names mode strong fresh [] = []
+section_accesses names mode strong fresh (s ∷ rest) = cell_access mode strong fresh (place_of names s.base) ++ section_accesses names mode strong fresh rest
 
 -- the accesses that one clause declares: `in(x, y)` of two globals declares two, and a clause without sections none
 abbrev pub clause_accesses : List (List ℕ) → Clause → List Access
-clause_accesses names (clauses.Depend mode strong sections) = section_accesses names mode strong sections
+clause_accesses names (clauses.Depend mode strong fresh sections) = section_accesses names mode strong fresh sections
 clause_accesses names _ = []
 
 -- the accesses that the clauses of a task declare, in text order
@@ -191,10 +192,11 @@ one_more_task n = min (n + 1) (2 ^ 64 - 1)
 abbrev pub entered : List Access → State → State
 entered accesses st = record st { context = child_context st.context accesses false; tasks = one_more_task st.tasks }
 
--- and behind its end its creator, which was in this state, has one more child and has lent it its cells, strong or weak alike
+-- and behind its end its creator, which was in this state, has one more child and has lent it its cells, strong or weak alike;
+-- what the child may write is written for the creator
 abbrev pub left_task : List Access → State → State → State
 left_task accesses creator st =
-    record st { context = lend (right_from false accesses) (record (creator.context) { created = creator.context.created + 1 }) }
+    record st { context = made (right_from false accesses) (lend (right_from false accesses) (record (creator.context) { created = creator.context.created + 1 })) }
 
 -- a task runs where it is created
 abbrev pub task_run : List Access → ℕ → (State → Ending) → State → Ending

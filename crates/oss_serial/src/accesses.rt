@@ -30,9 +30,14 @@ fn add_clause(
     ensures { OnOk result (accesses.new ≡ accesses.old ++ clause_accesses variables.now.names clause.now) }
 {
     match clause {
-        Clause::Depend(mode, strong, sections) => {
-            add_sections(variables, *mode, *strong, sections.as_slice(), accesses)
-        }
+        Clause::Depend(mode, strong, fresh, sections) => add_sections(
+            variables,
+            *mode,
+            *strong,
+            *fresh,
+            sections.as_slice(),
+            accesses,
+        ),
         _ => Ok(()),
     }
 }
@@ -42,15 +47,17 @@ fn add_sections(
     variables: &Variables<'_>,
     mode: Mode,
     strong: bool,
+    fresh: bool,
     sections: &[Section],
     accesses: &mut List<Access>,
 ) -> Result<(), AllocError>
-    ensures { OnOk result (accesses.new ≡ accesses.old ++ section_accesses variables.now.names mode strong sections.now) }
+    ensures { OnOk result (accesses.new ≡ accesses.old ++ section_accesses variables.now.names mode strong fresh sections.now) }
 {
     for section in sections {
         add_cell(
             mode,
             strong,
+            fresh,
             variables.place(section.base.as_slice()),
             accesses,
         )?;
@@ -62,17 +69,19 @@ fn add_sections(
 fn add_cell(
     mode: Mode,
     strong: bool,
+    fresh: bool,
     place: Option<u32>,
     accesses: &mut List<Access>,
 ) -> Result<(), AllocError>
     requires { IfSome place (λ cell. cell < 1048576) }
-    ensures { OnOk result (accesses.new ≡ accesses.old ++ cell_access mode strong place) }
+    ensures { OnOk result (accesses.new ≡ accesses.old ++ cell_access mode strong fresh place) }
 {
     match place {
         Some(cell) => accesses.push(Access {
             range: range_of(cell),
             mode,
             strong,
+            fresh,
         }),
         None => Ok(()),
     }

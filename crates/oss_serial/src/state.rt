@@ -1,8 +1,8 @@
 ghost use Rattle.std.specs.Prelude.{◌≡◌, ◌+◌, ◌++◌, ◌<◌, ◌≤◌, false, None, length, IfOk, OnOk};
 ghost use Rattle.std.specs.Result.{result_err};
-ghost use Rattle.oss_model.specs.Context.{create_fault, lend, waited};
+ghost use Rattle.oss_model.specs.Context.{create_fault, lend, made, waited, wrote};
 ghost use Rattle.oss_model.specs.Rights.{right_from};
-ghost use Rattle.oss_serial.specs.Scalars.{assigned, first_cells, opening, printed_values, stored, ticked};
+ghost use Rattle.oss_serial.specs.Scalars.{assigned, cells_with, first_cells, opening, printed_values, stored, ticked};
 ghost use Rattle.oss_grammar.specs.Formats.{printed};
 ghost use Rattle.oss_model.specs.declared.answer.Answer.TheVariants as Answer;
 ghost use Rattle.oss_serial.specs.Endings.{EndsAs, EntersTask, GoesOn};
@@ -88,14 +88,28 @@ impl State {
     {
         match cell {
             Some(cell) => match self.context.may_write(cell) {
-                Ok(()) => {
-                    variables.store(cell, value, self.cells.as_mut_slice());
-                    Ok(())
-                }
+                Ok(()) => match self.written(variables, cell, value) {
+                    Ok(()) => Ok(()),
+                    Err(full) => Err(Stop::Memory(full)),
+                },
                 Err(kind) => Err(Stop::Fault(kind, line)),
             },
             None => Ok(()),
         }
+    }
+
+    /// Keeps a value in a cell, which is written then. After want of memory the run is given up.
+    fn written(
+        &mut self,
+        variables: &Variables<'_>,
+        cell: u32,
+        value: u64,
+    ) -> Result<(), AllocError>
+        ensures { OnOk result (self.new ≡ record self.old { cells = cells_with self.old.cells variables.now.kinds cell value; context = wrote cell self.old.context }) }
+    {
+        self.context.wrote(cell)?;
+        variables.store(cell, value, self.cells.as_mut_slice());
+        Ok(())
     }
 
     /// Prints the values of expressions in the places of a string.
@@ -152,13 +166,14 @@ impl State {
     }
 
     /// Goes on with the creator of a task whose body has run: counts the task among those that the creator has created, and
-    /// lends it these accesses. After want of memory the run is given up.
+    /// lends it these accesses; what the task may write is written then. After want of memory the run is given up.
     pub fn leave(&mut self, mut creator: Context, accesses: &List<Access>) -> Result<(), AllocError>
         requires { creator.created < 65535 }
-        ensures { OnOk result (self.new ≡ record self.old { context = lend (right_from false accesses.now) (record creator { created = creator.created + 1 }) }) }
+        ensures { OnOk result (self.new ≡ record self.old { context = made (right_from false accesses.now) (lend (right_from false accesses.now) (record creator { created = creator.created + 1 })) }) }
     {
         creator.created();
         creator.lend(accesses)?;
+        creator.made(accesses)?;
         self.context = creator;
         Ok(())
     }
