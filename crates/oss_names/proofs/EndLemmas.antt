@@ -1,8 +1,5 @@
 -- How the checks of parts of a text end together.
-use Rattle.std.proofs.Common.{◌≡◌, ℕ, suc, Bool, true, false, ◌+◌, ◌<◌, nat_lt, nat_le, ◌||◌, cond, List, [], ◌∷◌, ◌++◌, length, map, take, drop, get_or, position, Some, None, is_some, Result, Ok, Err, refl, sym, ap, ◌∙◌, subst, arith}
-use Rattle.std.specs.List.{list_any, position_or_len}
-use Rattle.std.specs.Str.{bytes_eq}
-use Rattle.std.proofs.lemmas.Bool.Decides.{nat_tests}
+use Rattle.std.proofs.Common.{◌≡◌, ℕ, false, ◌+◌, ◌<◌, nat_le, List, [], ◌∷◌, ◌++◌, length, take, drop, get_or, None, Result, Ok, Err, refl, sym, ap, ◌∙◌, subst}
 use Rattle.std.proofs.lemmas.List.{drop_more}
 use Rattle.oss_syntax.specs.declared.tree.program.Item.{Item}
 use Rattle.oss_syntax.specs.declared.tree.program.Local.{Local}
@@ -14,9 +11,8 @@ use Rattle.oss_syntax.specs.declared.refusal.Refused.{Refused}
 use Rattle.oss_syntax.specs.declared.refusal.RefusedKind.TheVariants as refused
 use Rattle.oss_grammar.specs.Broken.{first, where_so}
 use Rattle.oss_grammar.specs.Scopes.{or_else}
-use Rattle.oss_grammar.specs.StaticRules.{Judged, alone, declare_all, declare_one, first_rules, local_rules, rules_of, rules_of_all, then_judge, with_local}
+use Rattle.oss_grammar.specs.StaticRules.{Judged, alone, declare_one, first_rules, local_rules, rules_of, rules_of_all, then_judge, with_local}
 use Rattle.oss_grammar.specs.Scopes.{is_local_again}
-use Rattle.oss_kinds.specs.Tables.{place_among}
 use Rattle.oss_names.specs.PartChecks.{IsPartChecked, LeavesInScope, TellsFirst}
 use Rattle.oss_kinds.proofs.Firsts.{first-append}
 use Rattle.oss_names.proofs.Parts.{append-left, not-so}
