@@ -5,6 +5,7 @@ pub mod ClauseKinds
 pub mod ClauseLines
 pub mod CountedLemmas
 pub mod ExpressionLines
+pub mod FirstRule
 pub mod ItemLemmas
 pub mod JumpLemmas
 pub mod JumpPlaces
