@@ -1,4 +1,5 @@
 pub mod AgainLemmas
+pub mod AgainPlaces
 pub mod AnswerLemmas
 pub mod BodyLines
 pub mod ClauseKinds
@@ -20,6 +21,8 @@ pub mod PieceLemmas
 pub mod ProgramLines
 pub mod RefusalLemmas
 pub mod RuleEquations
+pub mod ScopedPlaces
+pub mod ScopedUses
 pub mod StatementLines
 pub mod StepLemmas
 pub mod TextLemmas
@@ -28,3 +31,5 @@ pub mod UnknownSections
 pub mod UnknownStatements
 pub mod UnknownUses
 pub mod UseLemmas
+pub mod UsePlaces
+pub mod VisibleLemmas
