@@ -11,7 +11,7 @@ use Rattle.oss_grammar.specs.declared.kinds.Wanted.TheVariants as wanted
 use Rattle.oss_grammar.specs.Broken.{where_so}
 use Rattle.oss_grammar.specs.Formats.{conversions_of}
 use Rattle.oss_grammar.specs.Kinds.{wanted_by}
-use Rattle.oss_grammar.specs.Places.{locals_behind_part}
+use Rattle.oss_grammar.proofs.ScopedPlaces.{locals_behind_part}
 use Rattle.oss_grammar.specs.SectionRules.{optional_rules}
 use Rattle.oss_grammar.specs.Statements.{IsMaybeWhole, IsMaybeSimple, IsForFirst, IsPrinted, IsStmt, IsItems}
 use Rattle.oss_grammar.specs.Statements.IsMaybeWhole.{no_expression, some_expression}

@@ -27,7 +27,7 @@ use Rattle.oss_grammar.specs.Programs.IsFunction.{function}
 use Rattle.oss_grammar.specs.Programs.IsItem.{globals, one_function}
 use Rattle.oss_grammar.specs.Programs.IsProgramItems.{no_items, more_items}
 use Rattle.oss_grammar.specs.Programs.IsProgram.{program}
-use Rattle.oss_grammar.specs.RuleOrder.{RisesFrom, RulesRise, RulesOfTextRise, rule_lines, rules_at_tokens, token_lines, unless_no_main}
+use Rattle.oss_grammar.specs.RuleOrder.{FirstIsLeast, RisesFrom, RulesRise, RulesOfTextRise, rule_lines, rules_at_tokens, token_lines, unless_no_main}
 use Rattle.oss_grammar.specs.RuleOrder.RisesFrom.{no_more, next}
 use Rattle.oss_grammar.specs.Scopes.{is_again, is_local_again}
 use Rattle.oss_grammar.specs.StaticRules.{declare_all, local_rules, with_local}
@@ -37,6 +37,7 @@ use Rattle.oss_grammar.specs.declared.line_part.LinePart.{LinePart}
 use Rattle.oss_grammar.proofs.BodyLines.{items_lie}
 use Rattle.oss_grammar.proofs.ClauseLines.{pragma_lies}
 use Rattle.oss_grammar.proofs.ExpressionLines.{between}
+use Rattle.oss_grammar.proofs.FirstRule.{before_main}
 use Rattle.oss_grammar.proofs.LineSpans.{Span, Within, behind_first, cut, first_on, on_both, on_then, on_where, skip, span_of, span_order, spans, where_then, within_both, within_higher, within_lower, within_rises}
 use Rattle.oss_grammar.proofs.LineSpans.Within.{within_end, within_next}
 use Rattle.oss_grammar.proofs.StatementLines.{declared_from, declared_to, local_then}
@@ -148,8 +149,17 @@ program_lies {p = p} {high = high} {low = low} (program d) w =
 from_tokens : (tokens : List Token) (p : Program) (from : ℕ) → RisesFrom from (token_lines tokens) → IsProgram tokens p → RisesFrom from (rule_lines p)
 from_tokens tokens p from rises is = (let s = spans tokens rises in within_rises (program_lies is s.span))
 
+least_told : {ts : List Token} {p : Program} {high low : ℕ} → IsProgram ts p → Span high low ts → FirstIsLeast p
+least_told {p = p} (program d) w told rule is listed other = before_main (not (has_main p.items)) told rule (items_rules p.items 0 0 p.items) (items_all_lie p.items d w 0 0) is other listed
+
+least_from : (tokens : List Token) (p : Program) (from : ℕ) → RisesFrom from (token_lines tokens) → IsProgram tokens p → FirstIsLeast p
+least_from tokens p from rises is told rule = (let s = spans tokens rises in least_told is s.span told rule)
+
 pub rules_rise : (tokens : List Token) → RulesRise tokens
-rules_rise tokens = record { rise = λ p from rises is. from_tokens tokens p from rises is }
+rules_rise tokens = record {
+  rise = λ p from rises is. from_tokens tokens p from rises is;
+  least = λ p from rises is told rule. least_from tokens p from rises is told rule;
+}
 
 -- the lines of the tokens of a text rise
 rises_lower : {from lower : ℕ} {xs : List ℕ} → lower ≤ from → RisesFrom from xs → RisesFrom lower xs
@@ -165,4 +175,7 @@ tokens_rise (done end) = no_more
 tokens_rise {line = line} (step front more is rest found) = subst (λ (ts : List Token). RisesFrom line (token_lines ts)) (sym found) (front_rises front.what line front.lines more (tokens_rise rest))
 
 pub rules_of_text_rise : (text : List ℕ) → RulesOfTextRise text
-rules_of_text_rise text = record { rise = λ p is. from_tokens is.tokens p 1 (tokens_rise is.are_tokens) is.is_program }
+rules_of_text_rise text = record {
+  rise = λ p is. from_tokens is.tokens p 1 (tokens_rise is.are_tokens) is.is_program;
+  least = λ p is told rule. least_from is.tokens p 1 (tokens_rise is.are_tokens) is.is_program told rule;
+}
