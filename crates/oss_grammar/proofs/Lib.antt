@@ -16,8 +16,8 @@ pub mod NameLemmas
 pub mod PairLemmas
 pub mod PartLemmas
 pub mod Parts
-pub mod PlaceLemmas
 pub mod PieceLemmas
+pub mod PlaceLemmas
 pub mod ProgramLines
 pub mod RefusalLemmas
 pub mod RuleEquations

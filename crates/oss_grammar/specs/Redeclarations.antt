@@ -63,6 +63,7 @@ mutual
     in_statement : {before : List Local} {s : Stmt} {rest : List Stmt} → AgainInside line s → AgainAmong line before (s ∷ rest)
     behind_statement : {before : List Local} {s : Stmt} {rest : List Stmt} → AgainAmong line (locals_behind s before) rest → AgainAmong line before (s ∷ rest)
 
+  -- the same inside of one statement, in a scope that begins there
   pub data AgainInside (line : ℕ) : Stmt → Type 0 where
     in_block : {s : Stmt} (body : List Stmt) → s.what ≡ stmts.Block body → AgainAmong line [] body → AgainInside line s
     in_then : {s : Stmt} (e : Expr) (branch : Stmt) (other : Option Stmt) → s.what ≡ stmts.If e branch other → AgainAmong line [] (branch ∷ []) → AgainInside line s

@@ -40,12 +40,16 @@ rule_lines p = map (λ rule. rule.line) (rules_at_tokens (program_rules p))
 abbrev pub FirstIsLeast : Program → Type 0
 FirstIsLeast p = (told rule : Refused) → refusal_of p ≡ Some told → IsOneOf rule (program_rules p) → (rule.kind ≡ refused.NoMain → ⊥) → told.line ≤ rule.line
 
--- Where tokens whose lines rise from some line are a program, the lines of the rules that it breaks at its tokens rise from there too.
+-- Where tokens whose lines rise from some line are a program, the lines of the rules that it breaks at its tokens rise from there too,
+-- each of them is on the line of one of the tokens, and the program is refused for one on the least of these lines.
 pub record RulesRise (tokens : List Token) : Type 0 where
   pub rise : (p : Program) (from : ℕ) → RisesFrom from (token_lines tokens) → IsProgram tokens p → RisesFrom from (rule_lines p)
+  pub on_tokens : (p : Program) (from : ℕ) → RisesFrom from (token_lines tokens) → IsProgram tokens p → (rule : Refused) → IsOneOf rule (rules_at_tokens (program_rules p))
+      → IsOneOf rule.line (token_lines tokens)
   pub least : (p : Program) (from : ℕ) → RisesFrom from (token_lines tokens) → IsProgram tokens p → FirstIsLeast p
 
 -- So they do in the program that a text is.
 pub record RulesOfTextRise (text : List ℕ) : Type 0 where
   pub rise : (p : Program) → IsProgramText text p → RisesFrom 1 (rule_lines p)
+  pub on_tokens : (p : Program) (is : IsProgramText text p) (rule : Refused) → IsOneOf rule (rules_at_tokens (program_rules p)) → IsOneOf rule.line (token_lines is.tokens)
   pub least : (p : Program) → IsProgramText text p → FirstIsLeast p

@@ -36,8 +36,8 @@ pub fn unknown_names_are_told(program: &Program)
     ensures { UnknownNamesAreTold program.now }
 {}
 
-/// Where tokens are a program and their lines rise, the lines of the rules that the program breaks rise too, NoMain aside. So a
-/// program is refused for a rule on the least line on which it breaks one.
+/// Where tokens are a program and their lines rise, the lines of the rules that the program breaks rise too, NoMain aside, and each is
+/// the line of a token. So a program is refused for a rule on the least line on which it breaks one.
 #[tactic(auto, using(crate::proofs::ProgramLines::rules_rise))]
 pub fn rules_rise(tokens: &List<Token>)
     ensures { RulesRise tokens.now }
