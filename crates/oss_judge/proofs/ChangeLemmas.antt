@@ -6,7 +6,6 @@ use Rattle.oss_judge.specs.Changed.{overlaid}
 use Rattle.oss_judge.specs.declared.changes.Change.{Change}
 
 module _ {T : Type 0} where
-
   pub overlaid_more : (xs : List (Change T)) (x : Change T) (cell : ℕ) (value : Option T) → overlaid (xs ++ x ∷ []) cell value ≡ (if is_within x.range.lo x.range.hi cell then x.value else overlaid xs cell value)
   overlaid_more [] x cell value = refl
   overlaid_more (y ∷ rest) x cell value = overlaid_more rest x cell (if is_within y.range.lo y.range.hi cell then y.value else value)
@@ -34,6 +33,7 @@ module _ {T : Type 0} where
   } where
     below_or : (m n : ℕ) → (m < n) ⊎ (n ≤ m)
     below_or m n = grind arith
+
     go : (c : ℕ) → c < end → (c < from) ⊎ (from ≤ c) → Is c (overlaid xs c (now c))
     go c high (inl before) = h.here c before
     go c high (inr behind) = subst (Is c) (sym (h.past c (now c) behind)) (is c behind high)
@@ -47,6 +47,7 @@ module _ {T : Type 0} where
   } where
     below_or : (m n : ℕ) → (m < n) ⊎ (n ≤ m)
     below_or m n = grind arith
+
     go : (c : ℕ) → c < end → (c < from) ⊎ (from ≤ c) → Is c (overlaid (xs ++ x ∷ []) c (now c))
     go c high (inl before) = subst (Is c) (sym (overlaid_before xs x c (now c) (omega arith))) (h.here c before)
     go c high (inr behind) = subst (Is c) (sym (overlaid_in xs x c (now c) (omega arith) (omega arith))) (is c behind high)

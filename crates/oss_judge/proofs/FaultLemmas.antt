@@ -11,17 +11,17 @@ pub cover_same : (own other given wanted : ℕ → Right) (clauses : List Access
     → cover_fault own given clauses ≡ cover_fault other wanted clauses
 cover_same own other given wanted clauses same like =
     ap (λ b. if b then Some fault.Released else if any_cell (λ c. holds_uncovered (own c) (given c)) clauses then Some fault.NotCovered else None)
-       (any_cell-same (λ c. is_released (own c)) (λ c. is_released (other c)) clauses (λ c. ap is_released (same c)))
+    (any_cell-same (λ c. is_released (own c)) (λ c. is_released (other c)) clauses (λ c. ap is_released (same c)))
     ∙ ap (λ b. if any_cell (λ c. is_released (other c)) clauses then Some fault.Released else if b then Some fault.NotCovered else None)
-       (any_cell-same (λ c. holds_uncovered (own c) (given c)) (λ c. holds_uncovered (other c) (wanted c)) clauses
-         (λ c. ap (λ r. holds_uncovered r (given c)) (same c) ∙ ap (holds_uncovered (other c)) (like c)))
+    (any_cell-same (λ c. holds_uncovered (own c) (given c)) (λ c. holds_uncovered (other c) (wanted c)) clauses
+    (λ c. ap (λ r. holds_uncovered r (given c)) (same c) ∙ ap (holds_uncovered (other c)) (like c)))
 
 pub wait_same : (own other : ℕ → Right) (named : List Access) → ((c : ℕ) → own c ≡ other c) → wait_fault own named ≡ wait_fault other named
 wait_same own other named same =
     ap (λ b. if b then Some fault.Released else if any_cell (λ c. lacks_right (own c)) named then Some fault.NotCovered else None)
-       (any_cell-same (λ c. is_released (own c)) (λ c. is_released (other c)) named (λ c. ap is_released (same c)))
+    (any_cell-same (λ c. is_released (own c)) (λ c. is_released (other c)) named (λ c. ap is_released (same c)))
     ∙ ap (λ b. if any_cell (λ c. is_released (other c)) named then Some fault.Released else if b then Some fault.NotCovered else None)
-       (any_cell-same (λ c. lacks_right (own c)) (λ c. lacks_right (other c)) named (λ c. ap lacks_right (same c)))
+    (any_cell-same (λ c. lacks_right (own c)) (λ c. lacks_right (other c)) named (λ c. ap lacks_right (same c)))
 
 -- the fault of clauses
 pub clause_is : (x : Context) (clauses : List Access) (final mixed : Bool) (given : ℕ → Right) → mixed ≡ any_cell (is_mixed final clauses) clauses

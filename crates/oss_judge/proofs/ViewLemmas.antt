@@ -63,6 +63,15 @@ module _ (cells : ℕ) (rights : List (Piece Right)) (lent : List (Piece Lending
   pub seen_with : (f : ℕ → Entry) (table : List Entry) → table ≡ table_from f 0 cells → record seen { entries = table } ≡ with_entries f seen
   seen_with f table e = ap (λ es. record seen { entries = es }) (e ∙ ap (table_from f 0) (sym (length-table_from (entry_at rights lent marks) 0 cells)))
 
+-- what the maps of a context tell of a cell is what the context has of it
+pub own_right : (cells : ℕ) (rights : List (Piece Right)) (lent : List (Piece Lending)) (marks : List (Piece Mark)) (n : Counts) → EndsBefore cells rights → EndsBefore cells lent → EndsBefore cells marks
+    → (x : Context) → seen cells rights lent marks n ≡ x → (c : ℕ) → right_at rights c ≡ right_of x c
+own_right cells rights lent marks n r l m x view c = sym (seen_right cells rights lent marks n r l m c) ∙ ap (λ y. right_of y c) view
+
+pub own_mark : (cells : ℕ) (rights : List (Piece Right)) (lent : List (Piece Lending)) (marks : List (Piece Mark)) (n : Counts) → EndsBefore cells rights → EndsBefore cells lent → EndsBefore cells marks
+    → (x : Context) → seen cells rights lent marks n ≡ x → (c : ℕ) → mark_at marks c ≡ mark_of x c
+own_mark cells rights lent marks n r l m x view c = sym (seen_mark cells rights lent marks n r l m c) ∙ ap (λ y. mark_of y c) view
+
 -- the maps of a context after a change, whose entries are those of a function
 pub seen_is : (cells : ℕ) (rights : List (Piece Right)) (lent : List (Piece Lending)) (marks : List (Piece Mark)) (r : List (Piece Right)) (l : List (Piece Lending)) (m : List (Piece Mark)) (n : Counts) (f : ℕ → Entry)
     → ((c : ℕ) → c < cells → entry_at r l m c ≡ f c) → seen cells r l m n ≡ with_entries f (seen cells rights lent marks n)
@@ -99,12 +108,12 @@ module _ (cells : ℕ) (rights : List (Piece Right)) (lent : List (Piece Lending
 pub lend_same : (f g : ℕ → model.Right) (x : Context) → ((c : ℕ) → f c ≡ g c) → lend f x ≡ lend g x
 lend_same f g x h = ap (λ es. record x { entries = es })
     (same_table (λ c. record { right = right_of x c; lent = lend_cell (f c) (lent_of x c); mark = mark_of x c }) (λ c. record { right = right_of x c; lent = lend_cell (g c) (lent_of x c); mark = mark_of x c }) (length x.entries)
-      (λ c low. ap (λ r. record { right = right_of x c; lent = lend_cell r (lent_of x c); mark = mark_of x c }) (h c)))
+    (λ c low. ap (λ r. record { right = right_of x c; lent = lend_cell r (lent_of x c); mark = mark_of x c }) (h c)))
 
 pub made_same : (f g : ℕ → model.Right) (x : Context) → ((c : ℕ) → f c ≡ g c) → made f x ≡ made g x
 made_same f g x h = ap (λ es. record x { entries = es })
     (same_table (λ c. record { right = right_of x c; lent = lent_of x c; mark = made_mark (f c) (mark_of x c) }) (λ c. record { right = right_of x c; lent = lent_of x c; mark = made_mark (g c) (mark_of x c) }) (length x.entries)
-      (λ c low. ap (λ r. record { right = right_of x c; lent = lent_of x c; mark = made_mark r (mark_of x c) }) (h c)))
+    (λ c low. ap (λ r. record { right = right_of x c; lent = lent_of x c; mark = made_mark r (mark_of x c) }) (h c)))
 
 -- a new task by what its clauses give
 pub child_is : (x : Context) (clauses : List Access) (last : Bool) (final : Bool) (given : ℕ → model.Right) (fresh : ℕ → Bool) → final ≡ (x.final || last)
@@ -112,16 +121,16 @@ pub child_is : (x : Context) (clauses : List Access) (last : Bool) (final : Bool
     → start_context x given (λ c. first_mark (given c) (fresh c)) final ≡ child_context x clauses last
 child_is x clauses last final given fresh kept like new =
     ap (λ es. record { entries = es; ticks = 0; fuel = x.fuel; created = 0; depth = x.depth + 1; final = final })
-      (same_table (λ c. record { right = given c; lent = Free; mark = first_mark (given c) (fresh c) }) (λ c. record { right = right_from final clauses c; lent = Free; mark = mark_from final clauses c }) (length x.entries)
-        (λ c low. ap (λ r. record { right = r; lent = Free; mark = first_mark r (fresh c) }) (like c) ∙ ap (λ b. record { right = right_from final clauses c; lent = Free; mark = first_mark (right_from final clauses c) b }) (new c)))
+    (same_table (λ c. record { right = given c; lent = Free; mark = first_mark (given c) (fresh c) }) (λ c. record { right = right_from final clauses c; lent = Free; mark = mark_from final clauses c }) (length x.entries)
+    (λ c low. ap (λ r. record { right = r; lent = Free; mark = first_mark r (fresh c) }) (like c) ∙ ap (λ b. record { right = right_from final clauses c; lent = Free; mark = first_mark (right_from final clauses c) b }) (new c)))
     ∙ ap (λ f. record { entries = table_from (λ c. record { right = right_from f clauses c; lent = Free; mark = mark_from f clauses c }) 0 (length x.entries); ticks = 0; fuel = x.fuel; created = 0; depth = x.depth + 1; final = f }) kept
 
 -- the maps with which a new task starts
-pub start_is : (cells : ℕ) (rights : List (Piece Right)) (marks : List (Piece Mark)) (x : Context) (right : ℕ → model.Right) (mark : ℕ → model.Mark) (final : Bool) → cells ≡ length x.entries
-    → ((c : ℕ) → c < cells → right_at rights c ≡ right c) → ((c : ℕ) → c < cells → mark_at marks c ≡ mark c)
-    → seen cells rights [] marks (record { ticks = 0; fuel = x.fuel; created = 0; depth = x.depth + 1; final = final }) ≡ start_context x right mark final
-start_is cells rights marks x right mark final size same like =
+pub start_is : (cells : ℕ) (rights : List (Piece Right)) (lent : List (Piece Lending)) (marks : List (Piece Mark)) (x : Context) (right : ℕ → model.Right) (mark : ℕ → model.Mark) (final : Bool) → cells ≡ length x.entries
+    → lent ≡ [] → ((c : ℕ) → c < cells → right_at rights c ≡ right c) → ((c : ℕ) → c < cells → mark_at marks c ≡ mark c)
+    → seen cells rights lent marks (record { ticks = 0; fuel = x.fuel; created = 0; depth = x.depth + 1; final = final }) ≡ start_context x right mark final
+start_is cells rights lent marks x right mark final size none same like =
     ap (λ es. record { entries = es; ticks = 0; fuel = x.fuel; created = 0; depth = x.depth + 1; final = final })
-      (same_table (entry_at rights [] marks) (λ c. record { right = right c; lent = Free; mark = mark c }) cells
-        (λ c low. entry_is (right_at rights c) (right c) Free Free (mark_at marks c) (mark c) (same c low) refl (like c low))
+      (same_table (entry_at rights lent marks) (λ c. record { right = right c; lent = Free; mark = mark c }) cells
+        (λ c low. entry_is (right_at rights c) (right c) (lent_at lent c) Free (mark_at marks c) (mark c) (same c low) (ap (λ ps. lent_at ps c) none) (like c low))
        ∙ ap (table_from (λ c. record { right = right c; lent = Free; mark = mark c }) 0) size)

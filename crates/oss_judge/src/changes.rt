@@ -154,10 +154,7 @@ fn add_ending(
 }
 
 /// What a wait for the cells of these ranges changes of what is lent.
-pub(crate) fn takings(
-    alloc: Global,
-    named: &[Range],
-) -> Result<Vec<Change<Lending>>, AllocError>
+pub(crate) fn takings(alloc: Global, named: &[Range]) -> Result<Vec<Change<Lending>>, AllocError>
     ensures here { IfOk result (λ changes. (c : ℕ) (value : _) → lending_told (overlaid changes.items c value) ≡ (if in_clauses (map reading named.now) c then Free else lending_told value)) }
     ensures none { IfOk result (λ changes. (c : ℕ) → overlaid changes.items c None ≡ None) }
 {

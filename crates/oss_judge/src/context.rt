@@ -191,8 +191,10 @@ impl Context {
         ensures allowed { OnOk result (clause_fault self.now clauses.now (self.now.final || last) ≡ None) }
         ensures refused { IfErr result (IsRefusal (clause_fault self.now clauses.now (self.now.final || last))) }
     {
-        self.given(clauses.as_slice(), self.is_child_final(last))?;
-        Ok(())
+        match self.given(clauses, last) {
+            Ok(_) => Ok(()),
+            Err(refused) => Err(refused),
+        }
     }
 
     /// The context of a new task with these clauses. It is final where its creator is, or where it is the last that is not
@@ -203,10 +205,13 @@ impl Context {
         ensures allowed { OnOk result (clause_fault self.now clauses.now (self.now.final || last) ≡ None) }
         ensures refused { IfErr result (IsRefusal (clause_fault self.now clauses.now (self.now.final || last))) }
     {
-        let is_final = self.is_child_final(last);
-        let given = self.given(clauses.as_slice(), is_final)?;
-        let child = self.started(given, is_final)?;
-        Ok(child)
+        match self.given(clauses, last) {
+            Ok(given) => {
+                let child = self.started(given, self.is_child_final(last))?;
+                Ok(child)
+            }
+            Err(refused) => Err(refused),
+        }
     }
 
     /// A new task is final.
@@ -217,25 +222,27 @@ impl Context {
     }
 
     /// What these clauses give to a new task.
-    fn given(&self, clauses: &[Access], is_final: bool) -> Result<Given, JudgeRefused>
-        ensures rights { IfOk result (λ given. (c : ℕ) → right_at given.rights.pieces c ≡ right_from is_final clauses.now c) }
+    fn given(&self, clauses: &List<Access>, last: bool) -> Result<Given, JudgeRefused>
+        ensures rights { IfOk result (λ given. (c : ℕ) → right_at given.rights.pieces c ≡ right_from (self.now.final || last) clauses.now c) }
         ensures stale { IfOk result (λ given. (c : ℕ) → is_none (value_at given.stale.pieces c) ≡ is_fresh clauses.now c) }
-        ensures allowed { OnOk result (clause_fault self.now clauses.now is_final ≡ None) }
-        ensures refused { IfErr result (IsRefusal (clause_fault self.now clauses.now is_final)) }
+        ensures allowed { OnOk result (clause_fault self.now clauses.now (self.now.final || last) ≡ None) }
+        ensures refused { IfErr result (IsRefusal (clause_fault self.now clauses.now (self.now.final || last))) }
     {
-        let given = Given::of(self.alloc, clauses, is_final)?;
-        self.check_given(&given, clauses)?;
-        Ok(given)
+        let given = Given::of(self.alloc, clauses.as_slice(), self.is_child_final(last))?;
+        match self.check_given(&given, clauses) {
+            Ok(()) => Ok(given),
+            Err(kind) => Err(JudgeRefused::Fault(kind)),
+        }
     }
 
     /// The fault where clauses give what they give.
-    fn check_given(&self, given: &Given, clauses: &[Access]) -> Result<(), FaultKind>
+    fn check_given(&self, given: &Given, clauses: &List<Access>) -> Result<(), FaultKind>
         ensures { result_err result ≡ (if given.now.is_mixed then Some fault.MixedAccess else cover_fault (right_of self.now) (right_at given.now.rights.pieces) clauses.now) }
     {
         if given.is_mixed {
             return Err(FaultKind::MixedAccess);
         }
-        check_covered(&self.rights, &given.rights, clauses)
+        check_covered(&self.rights, &given.rights, clauses.as_slice())
     }
 
     /// The context in which a new task starts to which so much is given.
@@ -244,9 +251,9 @@ impl Context {
         ensures { IfOk result (λ child. child ≡ start_context self.now (right_at given.rights.pieces) (λ c. first_mark (right_at given.rights.pieces c) (is_none (value_at given.stale.pieces c))) is_final) }
     {
         let mut marks = given.marks(self.alloc)?;
-        end_at(&mut marks, self.cells)?;
+        marks.truncate(self.cells)?;
         let mut rights = given.rights;
-        end_at(&mut rights, self.cells)?;
+        rights.truncate(self.cells)?;
         Ok(Context {
             alloc: self.alloc,
             cells: self.cells,
@@ -283,7 +290,8 @@ impl Context {
         ensures ok { OnOk result (self.new ≡ lend (right_of child.now) self.old) }
         ensures err { OnErr result (self.new ≡ self.old) }
     {
-        self.lend_rights(&child.rights)
+        self.lend_rights(&child.rights)?;
+        Ok(())
     }
 
     /// Lends cells by these rights to them.
@@ -292,7 +300,8 @@ impl Context {
         ensures err { OnErr result (self.new ≡ self.old) }
     {
         let changes = lendings(self.alloc, &self.lent, given, self.cells)?;
-        change_all(&mut self.lent, changes.as_slice())
+        change_all(&mut self.lent, changes.as_slice())?;
+        Ok(())
     }
 
     /// Marks the cells as written that a child's accesses give it to write. Where memory is wanting the context stays.
@@ -309,7 +318,8 @@ impl Context {
         ensures ok { OnOk result (self.new ≡ made (right_of child.now) self.old) }
         ensures err { OnErr result (self.new ≡ self.old) }
     {
-        self.mark_rights(&child.rights)
+        self.mark_rights(&child.rights)?;
+        Ok(())
     }
 
     /// Marks the cells as written that these rights give to write.
@@ -318,7 +328,8 @@ impl Context {
         ensures err { OnErr result (self.new ≡ self.old) }
     {
         let changes = writings(self.alloc, &self.marks, given, self.cells)?;
-        change_all(&mut self.marks, changes.as_slice())
+        change_all(&mut self.marks, changes.as_slice())?;
+        Ok(())
     }
 
     /// The fault of a release of the cells of these clauses.
@@ -327,8 +338,10 @@ impl Context {
         ensures refused { IfErr result (IsRefusal (release_fault self.now clauses.now)) }
     {
         let given = Given::of(self.alloc, clauses.as_slice(), false)?;
-        check_covered(&self.rights, &given.rights, clauses.as_slice())?;
-        Ok(())
+        match check_covered(&self.rights, &given.rights, clauses.as_slice()) {
+            Ok(()) => Ok(()),
+            Err(kind) => Err(JudgeRefused::Fault(kind)),
+        }
     }
 
     /// Ends the right to the cells of these clauses, of which it was tested that they may be released. Where memory is wanting
@@ -338,7 +351,8 @@ impl Context {
         ensures err { OnErr result (self.new ≡ self.old) }
     {
         let changes = endings(self.alloc, clauses.as_slice(), self.cells)?;
-        change_all(&mut self.rights, changes.as_slice())
+        change_all(&mut self.rights, changes.as_slice())?;
+        Ok(())
     }
 
     /// Ends the right to the cells of these clauses. Where it is refused the context stays.
@@ -375,7 +389,8 @@ impl Context {
         ensures err { OnErr result (self.new ≡ self.old) }
     {
         let changes = takings(self.alloc, named.as_slice())?;
-        change_all(&mut self.lent, changes.as_slice())
+        change_all(&mut self.lent, changes.as_slice())?;
+        Ok(())
     }
 
     /// Takes back what is lent of the cells of these ranges, after a wait for the children's accesses to them. `Ok` means that
@@ -460,21 +475,6 @@ fn all_rights(alloc: Global, cells: u32) -> Result<RangeMap<Right>, AllocError>
     }
     rights.assign(Range { lo: 0, hi: cells }, Right::Holds(Mode::Write, true))?;
     Ok(rights)
-}
-
-/// Takes the values of the cells from this one on away.
-fn end_at<T: Copy + Eq>(map: &mut RangeMap<T>, cells: u32) -> Result<(), AllocError>
-    requires { cells ≤ 1048576 }
-    ensures here { OnOk result ((c : ℕ) → c < cells → value_at map.new.pieces c ≡ value_at map.old.pieces c) }
-    ensures past { OnOk result (EndsBefore cells map.new.pieces) }
-{
-    if cells == 1_048_576 {
-        return Ok(());
-    }
-    map.clear(Range {
-        lo: cells,
-        hi: 1_048_576,
-    })
 }
 
 #[cfg(test)]

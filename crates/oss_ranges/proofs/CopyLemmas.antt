@@ -1,6 +1,6 @@
 -- A copy piece by piece: behind each step it has the pieces that end up to a cell.
 use Rattle.std.specs.Prelude.{◌≡◌, ◌≤◌, ◌<◌, ℕ, Bool, true, false, nat_lt, if◌then◌else◌, List, [], ◌∷◌, Some, None, refl}
-use Rattle.std.proofs.Common.{sym, ap, ◌∙◌, arith}
+use Rattle.std.proofs.Common.{sym, ap, subst, ◌∙◌, arith}
 use Rattle.std.proofs.lemmas.Bool.Decides.{nat_tests}
 use Rattle.oss_ranges.proofs.CutLemmas.{inserted_later, next_within}
 use Rattle.oss_ranges.proofs.PieceLemmas.{rises_order}
@@ -25,6 +25,11 @@ module _ {T : Type 0} where
   front_none a b cell [] h low = refl
   front_none a b cell (p ∷ rest) h low = let some : nat_lt cell p.hi ≡ true = (let f = h.0 in let g = h.1 in grind (arith, nat_tests)) in rw some refl
 
+  front_own : (b : ℕ) (q : Piece T) (rest : List (Piece T)) → Rises q.hi rest b → inserted q [] ≡ front q.hi (q ∷ rest)
+  front_own b q rest h =
+      let past : nat_lt q.hi q.hi ≡ false = grind (arith, nat_tests) in
+      sym (ap (λ t. if t then [] else q ∷ front q.hi rest) past ∙ ap (λ xs. q ∷ xs) (front_none q.hi b q.hi rest h (omega arith)))
+
   -- the next piece is put behind them
   pub front_more : (a b cell : ℕ) (p : Piece T) (xs : List (Piece T)) → Rises a xs b → next_of cell xs ≡ Some p → inserted p (front cell xs) ≡ front p.hi xs
   front_more a b cell p [] h e = cc
@@ -35,8 +40,7 @@ module _ {T : Type 0} where
         → inserted p (if t then [] else q ∷ front cell rest) ≡ front p.hi (q ∷ rest)
     by true w k more at =
         let same : q ≡ p = cc in
-        let past : nat_lt q.hi q.hi ≡ false = grind (arith, nat_tests) in
-        rw (← same) (rw (past, front_none q.hi b q.hi rest h.2 (omega arith)) refl)
+        subst (λ r. inserted r [] ≡ front r.hi (q ∷ rest)) same (front_own b q rest h.2)
     by false w k more at =
         let low = (at k).0 in let some = (at k).1 in let own = h.1 in
         let past : nat_lt p.hi q.hi ≡ false = grind (arith, nat_tests) in

@@ -12,6 +12,9 @@ use std::mem;
 /// How many nodes one call may need that changes the map: two for the cuts at the ends of a range, and one for a new piece.
 const NODES: usize = 3;
 
+/// A program has no cell from here on.
+const CELLS: u32 = 1_048_576;
+
 /// A finite map from cells to values. Cells that stand side by side and have one value are kept as one piece, so that a call
 /// costs what its pieces cost, however many cells they have.
 #[derive(Drop)]
@@ -111,6 +114,22 @@ impl<T: Copy + Eq> RangeMap<T> {
     {
         self.prepare(NODES)?;
         self.empty(range);
+        Ok(())
+    }
+
+    /// Takes the values of the cells from this one on away. After want of memory the map is as it was.
+    pub fn truncate(&mut self, cells: u32) -> Result<(), AllocError>
+        ensures here { OnOk result ((cell : ℕ) → cell < cells → value_at self.new.pieces cell ≡ value_at self.old.pieces cell) }
+        ensures past { OnOk result ((cell : ℕ) → cells ≤ cell → value_at self.new.pieces cell ≡ None) }
+        ensures refused { OnErr result (self.new.pieces ≡ self.old.pieces) }
+    {
+        self.prepare(NODES)?;
+        if cells < CELLS {
+            self.clear(Range {
+                lo: cells,
+                hi: CELLS,
+            })?;
+        }
         Ok(())
     }
 

@@ -16,22 +16,24 @@ runs-init c = (omega arith, rw c.new-changes.ensures.items (record { few = omega
 
 pub runs-preserved-in-None : goal.runs-preserved-in-None
 runs-preserved-in-None c =
-    let some = c.run_from-wanted.ensures.some in
-    (c.run_from-wanted.ensures.within,
-     along_skip (IsLent (right_at c.args.given.now.pieces) (lent_at c.args.lent.now.pieces)) (value_at c.args.lent.now.pieces) c.runs.from c.run_from-wanted.result.1 c.runs.changes.items c.runs.invariant.1 (omega arith)
-       (λ cell low high. sym (ap (λ v. lend_cell (right_told v) (lent_at c.args.lent.now.pieces cell)) (c.run_from-wanted.ensures.alike cell low high ∙ c.in-None.is))))
+    let some = c.run_from-wanted.ensures.some in (
+      c.run_from-wanted.ensures.within,
+      along_skip (IsLent (right_at c.args.given.now.pieces) (lent_at c.args.lent.now.pieces)) (value_at c.args.lent.now.pieces) c.runs.from c.run_from-wanted.result.1 c.runs.changes.items c.runs.invariant.1 (omega arith)
+          (λ cell low high. sym (ap (λ v. lend_cell (right_told v) (lent_at c.args.lent.now.pieces cell)) (c.run_from-wanted.ensures.alike cell low high ∙ c.in-None.is))),
+    )
 
 pub runs-preserved : goal.runs-preserved
 runs-preserved c =
     let within = c.run_from-own.ensures.within in
     let inside = c.run_from-wanted.ensures.within in
-    let some = c.run_from-own.ensures.some in
-    (omega arith,
-     rw c.in_ok-push-in-Some.ensures.items
-       (along_more (IsLent (right_at c.args.given.now.pieces) (lent_at c.args.lent.now.pieces)) (value_at c.args.lent.now.pieces) c.runs.from c.run_from-own.result.1 c.runs.changes.items _ c.runs.invariant.1 refl refl some
-         (λ cell low high.
-           c.lent_to.ensures ∙ ap (λ l. lend_cell (right_seen c.in-Some.wanted) l) (c.told.ensures ∙ ap lending_told (sym (c.run_from-own.ensures.alike cell low high)))
-           ∙ ap (λ v. lend_cell (right_told v) (lent_at c.args.lent.now.pieces cell)) (sym (c.run_from-wanted.ensures.alike cell low (omega arith) ∙ c.in-Some.is)))))
+    let some = c.run_from-own.ensures.some in (
+      omega arith,
+      rw c.in_ok-push-in-Some.ensures.items
+          (along_more (IsLent (right_at c.args.given.now.pieces) (lent_at c.args.lent.now.pieces)) (value_at c.args.lent.now.pieces) c.runs.from c.run_from-own.result.1 c.runs.changes.items _ c.runs.invariant.1 refl refl some
+          (λ cell low high.
+          c.lent_to.ensures ∙ ap (λ l. lend_cell (right_seen c.in-Some.wanted) l) (c.told.ensures ∙ ap lending_told (sym (c.run_from-own.ensures.alike cell low high)))
+          ∙ ap (λ v. lend_cell (right_told v) (lent_at c.args.lent.now.pieces cell)) (sym (c.run_from-wanted.ensures.alike cell low (omega arith) ∙ c.in-Some.is)))),
+    )
 
 pub returns-clause-few : goal.returns-clause-few
 returns-clause-few c = let few = c.runs.invariant.1.few in let all = c.runs.invariant.0 in omega arith

@@ -30,8 +30,8 @@ one_cell cell c = grind (arith, nat_tests)
 pub returns-in_ok-clear-in-Some-clause-ok : goal.returns-in_ok-clear-in-Some-clause-ok
 returns-in_ok-clear-in-Some-clause-ok c = rw (← c.self.view_is) (marks_changed c.self.inside.cells c.self.inside.rights.pieces c.self.inside.lent.pieces c.self.inside.marks.pieces (record { ticks = c.self.inside.ticks; fuel = c.self.inside.fuel; created = c.self.inside.created; depth = c.self.inside.depth; final = c.self.inside.is_final }) c.self.invariant.2 c.self.invariant.3 c.self.invariant.4 c.clear.new.self.pieces (λ cell mark. if cell == c.args.cell then Written else mark)
     (λ cell low. ap mark_told (c.in_ok-clear-in-Some.ensures.map cell) ∙ told (is_within c.args.cell (c.args.cell + 1) cell) (cell == c.args.cell) (value_at c.self.inside.marks.pieces cell) (one_cell c.args.cell cell))) where
-  told : (s t : Bool) (v : _) → s ≡ t → mark_told (if s then None else v) ≡ (if t then Written else mark_told v)
-  told true true v e = refl
-  told false false v e = refl
-  told true false v e = cc
-  told false true v e = cc
+      told : (s t : Bool) (v : _) → s ≡ t → mark_told (if s then None else v) ≡ (if t then Written else mark_told v)
+      told true true v e = refl
+      told false false v e = refl
+      told true false v e = cc
+      told false true v e = cc

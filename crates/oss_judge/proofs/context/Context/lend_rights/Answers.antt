@@ -1,0 +1,11 @@
+use Rattle.std.proofs.Common.{◌≡◌, ℕ, refl, sym, ap, ◌∙◌, map, Some, None, if◌then◌else◌, arith}
+use Rattle.oss_ranges.specs.Cells.{value_at}
+use Rattle.oss_judge.proofs.ViewLemmas.{lent_changed}
+use Rattle.oss_judge.specs.Changed.{overlaid}
+use Rattle.oss_model.specs.Context.{lend_cell}
+use Rattle.oss_judge.specs.Seen.{lending_told, right_at}
+use Rattle.oss_judge.proofs.context.Context.lend_rights.Goals as goal
+
+pub returns-clause-ok : goal.returns-clause-ok
+returns-clause-ok c = rw (← c.self.view_is) (lent_changed c.self.inside.cells c.self.inside.rights.pieces c.self.inside.lent.pieces c.self.inside.marks.pieces (record { ticks = c.self.inside.ticks; fuel = c.self.inside.fuel; created = c.self.inside.created; depth = c.self.inside.depth; final = c.self.inside.is_final }) c.self.invariant.2 c.self.invariant.3 c.self.invariant.4 c.change_all.new.map.pieces (λ cell lent. lend_cell (right_at c.args.given.now.pieces cell) lent)
+    (λ cell low. ap lending_told (c.in_ok-change_all.ensures.ok cell ∙ ap (λ xs. overlaid xs cell (value_at c.self.inside.lent.pieces cell)) c.as_slice.ensures.value) ∙ c.in_ok-changes.ensures.here cell low))
