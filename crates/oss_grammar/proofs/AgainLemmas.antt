@@ -21,11 +21,13 @@ use Rattle.oss_grammar.specs.declared.kinds.Around.{Around}
 use Rattle.oss_grammar.specs.declared.kinds.Wanted.TheVariants as wanted
 use Rattle.oss_grammar.specs.Broken.{broken, where_so}
 use Rattle.oss_grammar.specs.Layout.{cells_of}
-use Rattle.oss_grammar.specs.Places.{IsOneOf, locals_behind_part, scope_behind}
+use Rattle.oss_grammar.specs.Places.{IsOneOf}
+use Rattle.oss_grammar.proofs.ScopedPlaces.{locals_behind_part, scope_behind}
 use Rattle.oss_grammar.specs.Places.IsOneOf.{first_of_them}
 use Rattle.oss_grammar.specs.ProgramRules.{body_around, has_main, is_wrong_function, items_rules, passes_cells, program_rules}
-use Rattle.oss_grammar.specs.Redeclarations.{DeclaresAgain, LocalAgain, RedeclarationsAreTold, item_line}
-use Rattle.oss_grammar.specs.Redeclarations.DeclaresAgain.{item_again, parameter_again, local_again}
+use Rattle.oss_grammar.specs.Redeclarations.{item_line}
+use Rattle.oss_grammar.proofs.ScopedUses.{DeclaresAgain, LocalAgain}
+use Rattle.oss_grammar.proofs.ScopedUses.DeclaresAgain.{item_again, parameter_again, local_again}
 use Rattle.oss_grammar.specs.Scopes.{is_again, is_local_again, item_name}
 use Rattle.oss_grammar.specs.StaticRules.{declare_all, first_rules, is_wrong_return, local_rules, with_local}
 use Rattle.oss_grammar.proofs.ClauseKinds.{only_clauses, only_mark, only_wait}
@@ -161,7 +163,7 @@ module _ (p : Program) (line : ℕ) where
   of_items {i = i} front split at (behind_global {rest = rest} g w) = of_items (front ++ (items.Global g ∷ [])) (step_split front (items.Global g) rest split) (step_at front (items.Global g) i at) w
   of_items {i = i} front split at (behind_function {rest = rest} f w) = of_items (front ++ (items.Function f ∷ [])) (step_split front (items.Function f) rest split) (step_at front (items.Function f) i at) w
 
-  only_told : IsOneOf x (program_rules p) → DeclaresAgain p line
+  pub only_told : IsOneOf x (program_rules p) → DeclaresAgain p line
   only_told w = elim (one_of_two (items_rules p.items 0 0 p.items) (where_so (not (has_main p.items)) refused.NoMain 1) w) [
     | inl u ↦ of_items [] refl refl (item_part p.items x 0 0 p.items u)
     | inr u ↦ nothing_again (only_where other_than_again (not (has_main p.items)) refused.NoMain 1 refl) u
@@ -181,7 +183,7 @@ module _ (p : Program) (line : ℕ) where
       past first (front ++ (item ∷ rest)) i before (λ cells. to_item front item rest (i + 1) cells (
       let e : i + length (first ∷ front) ≡ (i + 1) + length front = omega arith in subst (λ (k : ℕ). is_again p.items k (item_name item) ≡ true) e is) same)
 
-  is_told : DeclaresAgain p line → IsOneOf x (program_rules p)
+  pub is_told : DeclaresAgain p line → IsOneOf x (program_rules p)
   is_told (item_again d) = one_of_left _ (item_told p.items x (subst (λ (all : List Item). ItemPart p.items x 0 0 all) (sym d.split) (to_item d.before d.item d.behind 0 0 again d.on_line))) where
     again : is_again p.items (0 + length d.before) (item_name d.item) ≡ true
     again =
@@ -191,6 +193,3 @@ module _ (p : Program) (line : ℕ) where
   is_told (parameter_again f is d) = one_of_left _ (item_told p.items x (function_told p.items x f (λ i. in_params (declared_again p.items 0 line f.params [] d)) 0 0 p.items is))
   is_told (local_again f around visible s declared stands declares d) =
       one_of_left _ (item_told p.items x (function_told p.items x f (λ i. in_body (told_among p.items x stands.stands (again_told p.items around visible s line declared declares d))) 0 0 p.items stands.is_item))
-
-pub redeclarations_are_told : (p : Program) → RedeclarationsAreTold p
-redeclarations_are_told p = record { told = λ line d. is_told p line d; only = λ line w. only_told p line w }

@@ -11,7 +11,7 @@ use Rattle.oss_grammar.specs.declared.kinds.Wanted.TheVariants as wanted
 use Rattle.oss_grammar.specs.Broken.{where_so}
 use Rattle.oss_grammar.specs.Formats.{conversions_of}
 use Rattle.oss_grammar.specs.Kinds.{wanted_by}
-use Rattle.oss_grammar.specs.Places.{locals_behind_part}
+use Rattle.oss_grammar.proofs.ScopedPlaces.{locals_behind_part}
 use Rattle.oss_grammar.specs.SectionRules.{optional_rules}
 use Rattle.oss_grammar.specs.Statements.{IsMaybeWhole, IsMaybeSimple, IsForFirst, IsPrinted, IsStmt, IsItems}
 use Rattle.oss_grammar.specs.Statements.IsMaybeWhole.{no_expression, some_expression}
@@ -23,7 +23,7 @@ use Rattle.oss_grammar.specs.Statements.IsItems.{no_item, declaration_item, stat
 use Rattle.oss_grammar.specs.StaticRules.{format_rules, in_a_loop, in_a_task, is_wrong_return, numbers_rules, part_rules, returned_rules, rules_of, rules_of_all, scope_in}
 use Rattle.oss_grammar.proofs.ClauseLines.{pragma_lies}
 use Rattle.oss_grammar.proofs.ExpressionLines.{between, value_lies}
-use Rattle.oss_grammar.proofs.LineSpans.{AllOn, Span, Within, behind_first, cut, first_on, on_one, on_then, on_where, skip, span_of, span_order, where_then, within_both, within_higher, within_of}
+use Rattle.oss_grammar.proofs.LineSpans.{AllOn, Span, Within, behind_first, cut, first_is, first_on, on_one, on_then, on_where, skip, span_of, span_order, where_then, within_both, within_higher, within_of}
 use Rattle.oss_grammar.proofs.LineSpans.Within.{within_end, within_next}
 use Rattle.oss_grammar.proofs.PlaceLemmas.{for_broken}
 use Rattle.oss_grammar.proofs.RuleEquations.{rules-block, rules-empty, rules-print, rules-if, rules-while, rules-return, rules-break, rules-continue, rules-task, rules-wait, rules-release}
@@ -33,33 +33,33 @@ on_format : (o : Option ℕ) (n line : ℕ) → AllOn line (format_rules o n lin
 on_format None n line = on_one refused.WrongKind line
 on_format (Some m) n line = on_where (not (m == n)) refused.WrongCount line
 
-where_only : {high low line : ℕ} (b : Bool) → low ≤ line → line ≤ high → Within high low (where_so b refused.BadJump line)
-where_only true le he = within_next le (within_end he)
-where_only false le he = within_end (omega arith)
+where_only : {P : ℕ → Type 0} {high low line : ℕ} (b : Bool) → low ≤ line → line ≤ high → P line → Within P high low (where_so b refused.BadJump line)
+where_only true le he has = within_next le has (within_end he)
+where_only false le he has = within_end (omega arith)
 
 module _ (all : List Item) where
-  maybe_lies : {ts : List Token} {o : Option Expr} {high low : ℕ} (locals : List Local) → IsMaybeWhole ts o → Span high low ts → Within high low (optional_rules all locals o)
+  maybe_lies : {P : ℕ → Type 0} {ts : List Token} {o : Option Expr} {high low : ℕ} (locals : List Local) → IsMaybeWhole ts o → Span P high low ts → Within P high low (optional_rules all locals o)
   maybe_lies locals (no_expression split) w = within_end (span_order w)
   maybe_lies locals (some_expression d) w = value_lies all locals wanted.Number d w
 
-  returned_lies : {ts : List Token} {o : Option Expr} {high low : ℕ} (a : Around) (locals : List Local) → IsMaybeWhole ts o → Span high low ts → Within high low (returned_rules all locals a.result o)
+  returned_lies : {P : ℕ → Type 0} {ts : List Token} {o : Option Expr} {high low : ℕ} (a : Around) (locals : List Local) → IsMaybeWhole ts o → Span P high low ts → Within P high low (returned_rules all locals a.result o)
   returned_lies a locals (no_expression split) w = within_end (span_order w)
   returned_lies a locals (some_expression d) w = value_lies all locals (wanted_by a.result) d w
 
-  maybe_simple : {ts : List Token} {o : Option Stmt} {high low : ℕ} (a : Around) (locals : List Local) → IsMaybeSimple ts o → Span high low ts → Within high low (part_rules (option_map rules_of o) all a locals).broken
+  maybe_simple : {P : ℕ → Type 0} {ts : List Token} {o : Option Stmt} {high low : ℕ} (a : Around) (locals : List Local) → IsMaybeSimple ts o → Span P high low ts → Within P high low (part_rules (option_map rules_of o) all a locals).broken
   maybe_simple a locals (no_simple split) w = within_end (span_order w)
   maybe_simple a locals (some_simple d) w = simple_lies all a locals d w
 
-  first_lies : {ts : List Token} {o : Option Stmt} {high low : ℕ} (a : Around) (locals : List Local) → IsForFirst ts o → Span high low ts → Within high low (part_rules (option_map rules_of o) all a locals).broken
+  first_lies : {P : ℕ → Type 0} {ts : List Token} {o : Option Stmt} {high low : ℕ} (a : Around) (locals : List Local) → IsForFirst ts o → Span P high low ts → Within P high low (part_rules (option_map rules_of o) all a locals).broken
   first_lies a locals (declared_first d) w = declaration_lies all a locals d w
   first_lies a locals (other_first d) w = maybe_simple a locals d w
 
-  printed_lies : {ts : List Token} {values : List Expr} {high low : ℕ} (locals : List Local) → IsPrinted ts values → Span high low ts → Within high low (numbers_rules all locals values)
+  printed_lies : {P : ℕ → Type 0} {ts : List Token} {values : List Expr} {high low : ℕ} (locals : List Local) → IsPrinted ts values → Span P high low ts → Within P high low (numbers_rules all locals values)
   printed_lies locals (nothing_printed split) w = within_end (span_order w)
   printed_lies locals (values_printed comma back split is d) w = numbers_lie all locals d (skip (span_of split w))
 
   mutual
-    pub stmt_lies : {o : Bool} {ts : List Token} {s : Stmt} {high low : ℕ} (a : Around) (locals : List Local) → IsStmt o ts s → Span high low ts → Within high low (rules_of s all a locals).broken
+    pub stmt_lies : {P : ℕ → Type 0} {o : Bool} {ts : List Token} {s : Stmt} {high low : ℕ} (a : Around) (locals : List Local) → IsStmt o ts s → Span P high low ts → Within P high low (rules_of s all a locals).broken
     stmt_lies {s = s} a locals (block {body = body} opened inner closed split o c d) w =
         (let i = between inner closed [] (skip (span_of split w)) in
         within_as (rules-block s all a locals body refl) (within_higher i.ends (items_lie (scope_in a locals) locals d i.span)))
@@ -92,22 +92,22 @@ module _ (all : List Item) where
         (let v = span_of split w in
         let i = between inner mark [] (behind_first v) in
         within_as (rules-return s all a locals o refl)
-        (where_then (is_wrong_return a.result o) refused.WrongKind (first_on v) (where_then a.in_task refused.BadJump (omega arith) (within_higher i.ends (returned_lies a locals d i.span)))))
+        (where_then (is_wrong_return a.result o) refused.WrongKind (first_on v) (first_is v) (where_then a.in_task refused.BadJump (omega arith) (first_is v) (within_higher i.ends (returned_lies a locals d i.span)))))
     stmt_lies {s = s} a locals (break_jump t mark split is1 is2) w =
-        (let v = span_of split w in within_as (rules-break s all a locals refl) (where_only (not a.in_loop) (first_on v) (span_order (behind_first v))))
+        (let v = span_of split w in within_as (rules-break s all a locals refl) (where_only (not a.in_loop) (first_on v) (span_order (behind_first v)) (first_is v)))
     stmt_lies {s = s} a locals (continue_jump t mark split is1 is2) w =
-        (let v = span_of split w in within_as (rules-continue s all a locals refl) (where_only (not a.in_loop) (first_on v) (span_order (behind_first v))))
+        (let v = span_of split w in within_as (rules-continue s all a locals refl) (where_only (not a.in_loop) (first_on v) (span_order (behind_first v)) (first_is v)))
     stmt_lies {s = s} a locals (print {values = values} t opened string bytes inner closed mark split is1 is2 is3 is4 is5 d) w =
         (let v = span_of split w in
         let i = between inner closed (mark ∷ []) (skip (skip (behind_first v))) in
-        within_as (rules-print s all a locals bytes values refl) (on_then (first_on v) (on_format (conversions_of bytes) (length values) t.line) (within_higher i.ends (printed_lies locals d i.span))))
+        within_as (rules-print s all a locals bytes values refl) (on_then (first_on v) (first_is v) (on_format (conversions_of bytes) (length values) t.line) (within_higher i.ends (printed_lies locals d i.span))))
     stmt_lies {s = s} a locals (task {mark = mark} {s = t} front back split d f) w =
         (let q = cut front back (span_of split w) in
         within_as (rules-task s all a locals mark t refl) (within_both (pragma_lies all locals d q.before) (stmt_lies (scope_in (in_a_task a) locals) locals f q.behind)))
     stmt_lies {s = s} a locals (task_wait {sections = sections} d) w = within_as (rules-wait s all a locals sections refl) (pragma_lies all locals d w)
     stmt_lies {s = s} a locals (release {clauses = clauses} d) w = within_as (rules-release s all a locals clauses refl) (pragma_lies all locals d w)
 
-    pub items_lie : {ts : List Token} {body : List Stmt} {high low : ℕ} (a : Around) (locals : List Local) → IsItems ts body → Span high low ts → Within high low (rules_of_all body all a locals).broken
+    pub items_lie : {P : ℕ → Type 0} {ts : List Token} {body : List Stmt} {high low : ℕ} (a : Around) (locals : List Local) → IsItems ts body → Span P high low ts → Within P high low (rules_of_all body all a locals).broken
     items_lie a locals (no_item split) w = within_end (span_order w)
     items_lie a locals (declaration_item {s = s} front mark back split is d more) w =
         (let q = cut front (mark ∷ back) (span_of split w) in

@@ -30,15 +30,15 @@ use Rattle.oss_grammar.specs.Scopes.{meaning}
 use Rattle.oss_grammar.specs.SectionRules.{begins_with_base, clause_rules, clauses_rules, form_rules, is_fold, is_missing, is_wrong_section, optional_rules, section_rules, sections_in, sections_rules}
 use Rattle.oss_grammar.specs.StaticRules.{wait_rules}
 use Rattle.oss_grammar.proofs.ExpressionLines.{between, value_lies}
-use Rattle.oss_grammar.proofs.LineSpans.{Span, Within, behind_first, cut, first_on, skip, span_of, span_order, where_then, within_both, within_higher, within_of}
+use Rattle.oss_grammar.proofs.LineSpans.{Span, Within, behind_first, cut, first_is, first_on, skip, span_of, span_order, where_then, within_both, within_higher, within_of}
 use Rattle.oss_grammar.proofs.LineSpans.Within.{within_end, within_next}
 
 module _ (all : List Item) (locals : List Local) where
-  bound_lies : {ts : List Token} {o : Option Expr} {high low : ℕ} → IsBound ts o → Span high low ts → Within high low (optional_rules all locals o)
+  bound_lies : {P : ℕ → Type 0} {ts : List Token} {o : Option Expr} {high low : ℕ} → IsBound ts o → Span P high low ts → Within P high low (optional_rules all locals o)
   bound_lies (left_out split) w = within_end (span_order w)
   bound_lies (given d) w = value_lies all locals wanted.Number d w
 
-  inner_lies : {ts : List Token} {f : Form} {high low : ℕ} → IsInner ts f → Span high low ts → Within high low (form_rules all locals f)
+  inner_lies : {P : ℕ → Type 0} {ts : List Token} {f : Form} {high low : ℕ} → IsInner ts f → Span P high low ts → Within P high low (form_rules all locals f)
   inner_lies (element d) w = value_lies all locals wanted.Number d w
   inner_lies (counted front mark back split is d e) w =
       (let q = cut front (mark ∷ back) (span_of split w) in within_both (value_lies all locals wanted.Number d q.before) (value_lies all locals wanted.Number e (skip q.behind)))
@@ -53,49 +53,49 @@ module _ (all : List Item) (locals : List Local) where
   abbrev base_last : Section → List Refused
   base_last s = where_so (not (begins_with_base s.form) && is_missing (meaning all locals s.base)) refused.UnknownName s.base_line
 
-  section_lies : {high low : ℕ} (fold : Bool) (before : ℕ) (s : Section) → low ≤ s.line → Within high s.line (form_rules all locals s.form ++ base_last s) → Within high low (section_rules all locals fold before s)
-  section_lies fold before s le w =
-      where_then (begins_with_base s.form && is_missing (meaning all locals s.base)) refused.UnknownName le
-      (where_then (is_wrong_section fold s.form (meaning all locals s.base)) refused.WrongKind (omega arith)
-      (where_then (before == 64) refused.TooLarge (omega arith) w))
+  section_lies : {P : ℕ → Type 0} {high low : ℕ} (fold : Bool) (before : ℕ) (s : Section) → low ≤ s.line → P s.line → Within P high s.line (form_rules all locals s.form ++ base_last s) → Within P high low (section_rules all locals fold before s)
+  section_lies fold before s le has w =
+      where_then (begins_with_base s.form && is_missing (meaning all locals s.base)) refused.UnknownName le has
+      (where_then (is_wrong_section fold s.form (meaning all locals s.base)) refused.WrongKind (omega arith) has
+      (where_then (before == 64) refused.TooLarge (omega arith) has w))
 
-  base_lies : {high low line : ℕ} (b : Bool) → low ≤ line → line ≤ high → Within high low (where_so b refused.UnknownName line)
-  base_lies true le he = within_next le (within_end he)
-  base_lies false le he = within_end (omega arith)
+  base_lies : {P : ℕ → Type 0} {high low line : ℕ} (b : Bool) → low ≤ line → line ≤ high → P line → Within P high low (where_so b refused.UnknownName line)
+  base_lies true le he has = within_next le has (within_end he)
+  base_lies false le he has = within_end (omega arith)
 
-  no_base : {high low : ℕ} (s : Section) → begins_with_base s.form ≡ true → Within high low (form_rules all locals s.form) → Within high low (form_rules all locals s.form ++ base_last s)
-  no_base {high} {low} s is w = let gone : base_last s ≡ [] = rw is refl in within_both w (within_of gone (within_end (omega arith)))
+  no_base : {P : ℕ → Type 0} {high low : ℕ} (s : Section) → begins_with_base s.form ≡ true → Within P high low (form_rules all locals s.form) → Within P high low (form_rules all locals s.form ++ base_last s)
+  no_base s is w = let gone : base_last s ≡ [] = rw is refl in within_both w (within_of gone (within_end (omega arith)))
 
-  one_section : {ts : List Token} {s : Section} {high low : ℕ} (fold : Bool) (before : ℕ) → IsSection ts s → Span high low ts → Within high low (section_rules all locals fold before s)
+  one_section : {P : ℕ → Type 0} {ts : List Token} {s : Section} {high low : ℕ} (fold : Bool) (before : ℕ) → IsSection ts s → Span P high low ts → Within P high low (section_rules all locals fold before s)
   one_section {s = s} fold before (whole t base split is) w =
-      (let v = span_of split w in section_lies fold before s (first_on v) (within_end (span_order (behind_first v))))
+      (let v = span_of split w in section_lies fold before s (first_on v) (first_is v) (within_end (span_order (behind_first v))))
   one_section {s = s} fold before (pointed star t base split o is) w =
       (let v = span_of split w in
       let u = behind_first v in
-      section_lies fold before s (first_on v) (base_lies (is_missing (meaning all locals base)) (first_on u) (span_order (behind_first u))))
+      section_lies fold before s (first_on v) (first_is v) (base_lies (is_missing (meaning all locals base)) (first_on u) (span_order (behind_first u)) (first_is u)))
   one_section {s = s} fold before (shape opened inner closed t base split o c is d) w =
       (let v = span_of split w in
       let q = cut inner (closed ∷ t ∷ []) (behind_first v) in
       let u = skip q.behind in
-      section_lies fold before s (first_on v) (within_both (value_lies all locals wanted.Number d q.before) (base_lies (is_missing (meaning all locals base)) (first_on u) (span_order (behind_first u)))))
+      section_lies fold before s (first_on v) (first_is v) (within_both (value_lies all locals wanted.Number d q.before) (base_lies (is_missing (meaning all locals base)) (first_on u) (span_order (behind_first u)) (first_is u))))
   one_section {s = s} fold before (part t base opened inner closed split is o c d) w =
       (let v = span_of split w in
       let i = between inner closed [] (skip (behind_first v)) in
-      section_lies fold before s (first_on v) (no_base s (begins d) (within_higher i.ends (inner_lies d i.span))))
+      section_lies fold before s (first_on v) (first_is v) (no_base s (begins d) (within_higher i.ends (inner_lies d i.span))))
 
-  pub sections_lie : {ts : List Token} {ss : List Section} {high low : ℕ} (fold : Bool) (before : ℕ) → IsSections ts ss → Span high low ts → Within high low (sections_rules all locals fold before ss)
+  pub sections_lie : {P : ℕ → Type 0} {ts : List Token} {ss : List Section} {high low : ℕ} (fold : Bool) (before : ℕ) → IsSections ts ss → Span P high low ts → Within P high low (sections_rules all locals fold before ss)
   sections_lie fold before (last_section d) w = within_both (one_section fold before d w) (within_end (omega arith))
   sections_lie fold before (next_section front comma back split is d more) w =
       (let q = cut front (comma ∷ back) (span_of split w) in within_both (one_section fold before d q.before) (sections_lie fold (before + 1) more (skip q.behind)))
 
-  depend_lies : {ts : List Token} {c : Clause} {high low : ℕ} (before : ℕ) → IsDepend ts c → Span high low ts → Within high low (clause_rules all locals before c)
+  depend_lies : {P : ℕ → Type 0} {ts : List Token} {c : Clause} {high low : ℕ} (before : ℕ) → IsDepend ts c → Span P high low ts → Within P high low (clause_rules all locals before c)
   depend_lies before (depend t opened inner closed mode strong fresh split is o c d) w =
       (let i = between inner closed [] (skip (skip (span_of split w))) in within_higher i.ends (sections_lie (is_fold mode) before d i.span))
 
-  in_brackets : {e : Expr} {high low : ℕ} (inner : List Token) (closed : Token) → IsExpr loosest_level inner e → Span high low (inner ++ (closed ∷ [])) → Within high low (value_rules all locals wanted.Number e)
+  in_brackets : {P : ℕ → Type 0} {e : Expr} {high low : ℕ} (inner : List Token) (closed : Token) → IsExpr loosest_level inner e → Span P high low (inner ++ (closed ∷ [])) → Within P high low (value_rules all locals wanted.Number e)
   in_brackets inner closed d w = (let i = between inner closed [] w in within_higher i.ends (value_lies all locals wanted.Number d i.span))
 
-  clause_lies : {ts : List Token} {c : Clause} {high low : ℕ} (before : ℕ) → IsClause ts c → Span high low ts → Within high low (clause_rules all locals before c)
+  clause_lies : {P : ℕ → Type 0} {ts : List Token} {c : Clause} {high low : ℕ} (before : ℕ) → IsClause ts c → Span P high low ts → Within P high low (clause_rules all locals before c)
   clause_lies before (dependency d) w = depend_lies before d w
   clause_lies before (reduction t opened o colon inner closed strong operator split is1 is2 is3 is4 is5 d) w =
       (let i = between inner closed [] (skip (skip (skip (skip (span_of split w))))) in within_higher i.ends (sections_lie (is_fold (Fold operator)) before d i.span))
@@ -105,14 +105,14 @@ module _ (all : List Item) (locals : List Local) where
   clause_lies before (labelled t opened inner closed bytes split is1 is2 is3 is4) w = within_end (span_order w)
   clause_lies before (priority t opened inner closed split is1 is2 is3 d) w = in_brackets inner closed d (skip (skip (span_of split w)))
 
-  pub clauses_lie : {ts : List Token} {cs : List Clause} {high low : ℕ} (before : ℕ) → IsClauses ts cs → Span high low ts → Within high low (clauses_rules all locals before cs)
+  pub clauses_lie : {P : ℕ → Type 0} {ts : List Token} {cs : List Clause} {high low : ℕ} (before : ℕ) → IsClauses ts cs → Span P high low ts → Within P high low (clauses_rules all locals before cs)
   clauses_lie before (no_clause split) w = within_end (span_order w)
   clauses_lie before (plain_clause {c = c} front back split d more) w =
       (let q = cut front back (span_of split w) in within_both (clause_lies before d q.before) (clauses_lie (before + length (sections_in c)) more q.behind))
   clauses_lie before (comma_clause {c = c} comma front back split is d more) w =
       (let q = cut front back (skip (span_of split w)) in within_both (clause_lies before d q.before) (clauses_lie (before + length (sections_in c)) more q.behind))
 
-  depends_lie : {ts : List Token} {cs : List Clause} {high low : ℕ} (before : ℕ) → IsMoreDepends ts cs → Span high low ts → Within high low (clauses_rules all locals before cs)
+  depends_lie : {P : ℕ → Type 0} {ts : List Token} {cs : List Clause} {high low : ℕ} (before : ℕ) → IsMoreDepends ts cs → Span P high low ts → Within P high low (clauses_rules all locals before cs)
   depends_lie before (no_depend split) w = within_end (span_order w)
   depends_lie before (plain_depend {c = c} front back split d more) w =
       (let q = cut front back (span_of split w) in within_both (depend_lies before d q.before) (depends_lie (before + length (sections_in c)) more q.behind))
@@ -125,7 +125,7 @@ module _ (all : List Item) (locals : List Local) where
   directive_rules (directive.TaskWait sections) = wait_rules all locals sections
   directive_rules (directive.Release clauses) = clauses_rules all locals 0 clauses
 
-  pub pragma_lies : {ts : List Token} {d : Directive} {high low : ℕ} → IsPragma ts d → Span high low ts → Within high low (directive_rules d)
+  pub pragma_lies : {P : ℕ → Type 0} {ts : List Token} {d : Directive} {high low : ℕ} → IsPragma ts d → Span P high low ts → Within P high low (directive_rules d)
   pragma_lies (task start word inner end split is1 is2 is3 d once) w =
       (let i = between inner end [] (skip (skip (span_of split w))) in within_higher i.ends (clauses_lie 0 d i.span))
   pragma_lies (wait_all start word end split is1 is2 is3) w = within_end (span_order w)

@@ -22,20 +22,20 @@ use Rattle.oss_grammar.specs.Expressions.IsArguments.{no_arguments, arguments}
 use Rattle.oss_grammar.specs.Expressions.IsArgumentList.{last_argument, next_argument}
 use Rattle.oss_grammar.specs.Kinds.{Findings, binary_findings, has_address, index_findings, left_wanted, name_rules, placed, unary_findings}
 use Rattle.oss_grammar.specs.Scopes.{function_named, is_main, meaning}
-use Rattle.oss_grammar.proofs.LineSpans.{AllOn, Cut, Lies, Span, Within, behind_first, cut, first_on, lies_all, lies_higher, lies_of, lies_placed, lies_unless, on_both, on_one, on_where, skip, span_of, span_order, within_both, within_higher}
+use Rattle.oss_grammar.proofs.LineSpans.{AllOn, Cut, Lies, Span, Within, behind_first, cut, first_is, first_on, lies_all, lies_higher, lies_of, lies_placed, lies_unless, on_both, on_one, on_where, skip, span_of, span_order, within_both, within_higher}
 use Rattle.oss_grammar.proofs.LineSpans.AllOn.{on_end}
 use Rattle.oss_grammar.proofs.LineSpans.Within.{within_end}
 use Rattle.oss_grammar.proofs.RuleEquations.{found-number, found-name, found-index, found-unary, found-binary, found-call}
 
 -- what stands between two marks
-pub record Inner (high low : ℕ) (inner : List Token) : Type 0 where
+pub record Inner (P : ℕ → Type 0) (high low : ℕ) (inner : List Token) : Type 0 where
   pub last : ℕ
-  pub span : Span last low inner
+  pub span : Span P last low inner
   pub ends : last ≤ high
 
-pub between : {high low : ℕ} (inner : List Token) (closed : Token) (behind : List Token) → Span high low (inner ++ (closed ∷ behind)) → Inner high low inner
-between {high} {low} inner closed behind w = put (cut inner (closed ∷ behind) w) where
-  put : Cut high low inner (closed ∷ behind) → Inner high low inner
+pub between : {P : ℕ → Type 0} {high low : ℕ} (inner : List Token) (closed : Token) (behind : List Token) → Span P high low (inner ++ (closed ∷ behind)) → Inner P high low inner
+between {P = P} {high = high} {low = low} inner closed behind w = put (cut inner (closed ∷ behind) w) where
+  put : Cut P high low inner (closed ∷ behind) → Inner P high low inner
   put c = record { last = c.middle; span = c.before; ends = span_order c.behind }
 
 pub on_name : (m : Named) (line : ℕ) → AllOn line (name_rules m line)
@@ -54,50 +54,50 @@ on_call (named.Local k) f line as_statement n = on_one refused.WrongKind line
 on_call (named.Scalar k) f line as_statement n = on_one refused.WrongKind line
 on_call (named.Array k) f line as_statement n = on_one refused.WrongKind line
 
-pub lies_unary : {high low line first : ℕ} (o : UnOp) {f : Findings} → low ≤ line → Lies high line first f → Lies high low line (unary_findings line o f)
-lies_unary prefix.Minus {f = f} le l = record { at = refl; low_is = le; first = on_end; behind = lies_all (lies_placed wanted.Number f l) }
-lies_unary prefix.Plus {f = f} le l = record { at = refl; low_is = le; first = on_end; behind = lies_all (lies_placed wanted.Number f l) }
-lies_unary prefix.Invert {f = f} le l = record { at = refl; low_is = le; first = on_end; behind = lies_all (lies_placed wanted.Number f l) }
-lies_unary prefix.Not {f = f} le l = record { at = refl; low_is = le; first = on_end; behind = lies_all (lies_placed wanted.Number f l) }
-lies_unary prefix.Deref {f = f} le l = record { at = refl; low_is = le; first = on_end; behind = lies_all (lies_placed wanted.Pointer f l) }
-lies_unary prefix.Address {f = f} le l = record { at = refl; low_is = le; first = on_end; behind = lies_all (lies_unless (has_address f.kind f.object) f l) }
+pub lies_unary : {P : ℕ → Type 0} {high low line first : ℕ} (o : UnOp) {f : Findings} → low ≤ line → P line → Lies P high line first f → Lies P high low line (unary_findings line o f)
+lies_unary prefix.Minus {f = f} le has l = record { at = refl; low_is = le; has = has; first = on_end; behind = lies_all (lies_placed wanted.Number f l) }
+lies_unary prefix.Plus {f = f} le has l = record { at = refl; low_is = le; has = has; first = on_end; behind = lies_all (lies_placed wanted.Number f l) }
+lies_unary prefix.Invert {f = f} le has l = record { at = refl; low_is = le; has = has; first = on_end; behind = lies_all (lies_placed wanted.Number f l) }
+lies_unary prefix.Not {f = f} le has l = record { at = refl; low_is = le; has = has; first = on_end; behind = lies_all (lies_placed wanted.Number f l) }
+lies_unary prefix.Deref {f = f} le has l = record { at = refl; low_is = le; has = has; first = on_end; behind = lies_all (lies_placed wanted.Pointer f l) }
+lies_unary prefix.Address {f = f} le has l = record { at = refl; low_is = le; has = has; first = on_end; behind = lies_all (lies_unless (has_address f.kind f.object) f l) }
 
 -- one expression behind another
-pub lies_index : {high middle low line first : ℕ} {a e : Findings} → Lies middle low line a → Lies high middle first e → Lies high low line (index_findings line a e)
-lies_index {high} {middle} {low} {line} {first} {a} {e} l m = put (lies_placed wanted.Pointer a l) where
-  put : Lies middle low line (placed wanted.Pointer a) → Lies high low line (index_findings line a e)
-  put p = record { at = refl; low_is = p.low_is; first = p.first; behind = within_both p.behind (lies_all (lies_placed wanted.Number e m)) }
+pub lies_index : {P : ℕ → Type 0} {high middle low line first : ℕ} {a e : Findings} → Lies P middle low line a → Lies P high middle first e → Lies P high low line (index_findings line a e)
+lies_index {P = P} {high = high} {middle = middle} {low = low} {line = line} {a = a} {e = e} l m = put (lies_placed wanted.Pointer a l) where
+  put : Lies P middle low line (placed wanted.Pointer a) → Lies P high low line (index_findings line a e)
+  put p = record { at = refl; low_is = p.low_is; has = p.has; first = p.first; behind = within_both p.behind (lies_all (lies_placed wanted.Number e m)) }
 
-lies_binary : {high middle low line first : ℕ} (o : BinOp) {a e : Findings} → Lies middle low line a → Lies high middle first e → Lies high low line (binary_findings line o a e)
-lies_binary {high} {middle} {low} {line} {first} o {a} {e} l m = put (lies_placed (left_wanted o) a l) where
-  put : Lies middle low line (placed (left_wanted o) a) → Lies high low line (binary_findings line o a e)
-  put p = record { at = refl; low_is = p.low_is; first = p.first; behind = within_both p.behind (lies_all (lies_placed wanted.Number e m)) }
+lies_binary : {P : ℕ → Type 0} {high middle low line first : ℕ} (o : BinOp) {a e : Findings} → Lies P middle low line a → Lies P high middle first e → Lies P high low line (binary_findings line o a e)
+lies_binary {P = P} {high = high} {middle = middle} {low = low} {line = line} o {a = a} {e = e} l m = put (lies_placed (left_wanted o) a l) where
+  put : Lies P middle low line (placed (left_wanted o) a) → Lies P high low line (binary_findings line o a e)
+  put p = record { at = refl; low_is = p.low_is; has = p.has; first = p.first; behind = within_both p.behind (lies_all (lies_placed wanted.Number e m)) }
 
 module _ (all : List Item) (locals : List Local) where
-  abbrev Good : ℕ → ℕ → Expr → Type 0
-  Good high low e = Lies high low e.line (findings all locals e)
+  abbrev Good : (ℕ → Type 0) → ℕ → ℕ → Expr → Type 0
+  Good P high low e = Lies P high low e.line (findings all locals e)
 
-  pub lies_call : {high low : ℕ} (word : List ℕ) (line : ℕ) (as_statement : Bool) (values : List Expr) → low ≤ line
-      → Within high line (argument_rules (parameters_of (meaning all locals word) (function_named all word)) (map (findings all locals) values))
-      → Lies high low line (call_findings all locals word line as_statement (map (findings all locals) values))
-  lies_call word line as_statement values le w =
-      record { at = refl; low_is = le; first = on_call (meaning all locals word) (function_named all word) line as_statement (length (map (findings all locals) values)); behind = w }
+  pub lies_call : {P : ℕ → Type 0} {high low : ℕ} (word : List ℕ) (line : ℕ) (as_statement : Bool) (values : List Expr) → low ≤ line → P line
+      → Within P high line (argument_rules (parameters_of (meaning all locals word) (function_named all word)) (map (findings all locals) values))
+      → Lies P high low line (call_findings all locals word line as_statement (map (findings all locals) values))
+  lies_call word line as_statement values le has w =
+      record { at = refl; low_is = le; has = has; first = on_call (meaning all locals word) (function_named all word) line as_statement (length (map (findings all locals) values)); behind = w }
 
-  indexed : {high low : ℕ} (a e : Expr) (front : List Token) (opened closed : Token) (inner : List Token) (c : Cut high low front (opened ∷ (inner ++ (closed ∷ []))))
-      → Good c.middle low a → (i : Inner high c.middle inner) → Good i.last c.middle e → Good high low (record { what = exprs.Index a e; line = a.line })
-  indexed {high} {low} a e front opened closed inner c l i m =
+  indexed : {P : ℕ → Type 0} {high low : ℕ} (a e : Expr) (front : List Token) (opened closed : Token) (inner : List Token) (c : Cut P high low front (opened ∷ (inner ++ (closed ∷ []))))
+      → Good P c.middle low a → (i : Inner P high c.middle inner) → Good P i.last c.middle e → Good P high low (record { what = exprs.Index a e; line = a.line })
+  indexed a e front opened closed inner c l i m =
       lies_of (found-index all locals (record { what = exprs.Index a e; line = a.line }) a e refl) (lies_index l (lies_higher i.ends m))
 
   mutual
-    pub expr_lies : {k : ℕ} {ts : List Token} {e : Expr} {high low : ℕ} → IsExpr k ts e → Span high low ts → Lies high low e.line (findings all locals e)
+    pub expr_lies : {P : ℕ → Type 0} {k : ℕ} {ts : List Token} {e : Expr} {high low : ℕ} → IsExpr k ts e → Span P high low ts → Lies P high low e.line (findings all locals e)
     expr_lies {e = e} (number t value unsigned split is) w =
-        (let v = span_of split w in lies_of (found-number all locals e value unsigned refl) (record { at = refl; low_is = first_on v; first = on_end; behind = within_end (span_order (behind_first v)) }))
+        (let v = span_of split w in lies_of (found-number all locals e value unsigned refl) (record { at = refl; low_is = first_on v; has = first_is v; first = on_end; behind = within_end (span_order (behind_first v)) }))
     expr_lies {e = e} (name t word split is) w =
-        (let v = span_of split w in lies_of (found-name all locals e word refl) (record { at = refl; low_is = first_on v; first = on_name (meaning all locals word) t.line; behind = within_end (span_order (behind_first v)) }))
+        (let v = span_of split w in lies_of (found-name all locals e word refl) (record { at = refl; low_is = first_on v; has = first_is v; first = on_name (meaning all locals word) t.line; behind = within_end (span_order (behind_first v)) }))
     expr_lies {e = e} (call {values = values} t opened closed word inner split is o c args) w =
         (let v = span_of split w in
         let i = between inner closed [] (skip (behind_first v)) in
-        lies_of (found-call all locals e word values refl) (lies_call word t.line false values (first_on v) (within_higher i.ends (arguments_lie (parameters_of (meaning all locals word) (function_named all word)) args i.span))))
+        lies_of (found-call all locals e word values refl) (lies_call word t.line false values (first_on v) (first_is v) (within_higher i.ends (arguments_lie (parameters_of (meaning all locals word) (function_named all word)) args i.span))))
     expr_lies {e = e} (brackets opened closed inner split o c d) w =
         (let v = span_of split w in let i = between inner closed [] (skip v) in lies_higher i.ends (expr_lies d i.span))
     expr_lies (index {a = a} {e = e} front opened closed inner split o c d f) w =
@@ -105,20 +105,20 @@ module _ (all : List Item) (locals : List Local) where
         let i = between inner closed [] (skip q.behind) in
         indexed a e front opened closed inner q (expr_lies d q.before) i (expr_lies f i.span))
     expr_lies {e = e} (prefixed {e = a} t sign operand split is d) w =
-        (let v = span_of split w in lies_of (found-unary all locals e sign a refl) (lies_unary sign (first_on v) (expr_lies d (behind_first v))))
+        (let v = span_of split w in lies_of (found-unary all locals e sign a refl) (lies_unary sign (first_on v) (first_is v) (expr_lies d (behind_first v))))
     expr_lies {e = e} (joined {a = a} {b = b} front t operator back split is d f) w =
         (let q = cut front (t ∷ back) (span_of split w) in lies_of (found-binary all locals e operator a b refl) (lies_binary operator (expr_lies d q.before) (expr_lies f (skip q.behind))))
     expr_lies (tighter d) w = expr_lies d w
 
-    pub arguments_lie : {ts : List Token} {values : List Expr} {high low : ℕ} (params : List Local) → IsArguments ts values → Span high low ts → Within high low (argument_rules params (map (findings all locals) values))
+    pub arguments_lie : {P : ℕ → Type 0} {ts : List Token} {values : List Expr} {high low : ℕ} (params : List Local) → IsArguments ts values → Span P high low ts → Within P high low (argument_rules params (map (findings all locals) values))
     arguments_lie params (no_arguments split) w = within_end (span_order w)
     arguments_lie params (arguments d) w = list_lies params d w
 
-    pub list_lies : {ts : List Token} {values : List Expr} {high low : ℕ} (params : List Local) → IsArgumentList ts values → Span high low ts → Within high low (argument_rules params (map (findings all locals) values))
+    pub list_lies : {P : ℕ → Type 0} {ts : List Token} {values : List Expr} {high low : ℕ} (params : List Local) → IsArgumentList ts values → Span P high low ts → Within P high low (argument_rules params (map (findings all locals) values))
     list_lies params (last_argument {e = e} d) w = within_both (lies_all (lies_placed (argument_wanted params) (findings all locals e) (expr_lies d w))) (within_end (omega arith))
     list_lies params (next_argument {e = e} front comma back split is d more) w =
         (let q = cut front (comma ∷ back) (span_of split w) in
         within_both (lies_all (lies_placed (argument_wanted params) (findings all locals e) (expr_lies d q.before))) (list_lies (parameters_behind params) more (skip q.behind)))
 
-  pub value_lies : {ts : List Token} {e : Expr} {k high low : ℕ} (w : Wanted) → IsExpr k ts e → Span high low ts → Within high low (value_rules all locals w e)
+  pub value_lies : {P : ℕ → Type 0} {ts : List Token} {e : Expr} {k high low : ℕ} (w : Wanted) → IsExpr k ts e → Span P high low ts → Within P high low (value_rules all locals w e)
   value_lies {e = e} wanted_here d w = lies_all (lies_placed wanted_here (findings all locals e) (expr_lies d w))

@@ -9,7 +9,8 @@ use Rattle.oss_syntax.specs.declared.tree.program.Item.TheVariants as items
 use Rattle.oss_syntax.specs.declared.tree.program.Local.{Local}
 use Rattle.oss_grammar.specs.Broken.{where_so}
 use Rattle.oss_grammar.specs.Layout.{cells_of}
-use Rattle.oss_grammar.specs.Places.{IsOneOf, scope_behind}
+use Rattle.oss_grammar.specs.Places.{IsOneOf}
+use Rattle.oss_grammar.proofs.ScopedPlaces.{scope_behind}
 use Rattle.oss_grammar.specs.Places.IsOneOf.{first_of_them, later_of_them}
 use Rattle.oss_grammar.specs.ProgramRules.{body_around, function_rules, global_rules, is_wrong_function, items_rules, mark_rules}
 use Rattle.oss_grammar.specs.Scopes.{is_again}

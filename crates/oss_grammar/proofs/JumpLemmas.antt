@@ -21,7 +21,8 @@ use Rattle.oss_grammar.specs.Jumps.HasBadJump.{leaves_function, leaves_a_task}
 use Rattle.oss_grammar.proofs.JumpPlaces.{JumpsOut, Out, OutAmong, JumpsAmong, among, out_among, leaves_jumps, task_leaves_jumps}
 use Rattle.oss_grammar.proofs.JumpPlaces.JumpsOut.{break_out, continue_out, return_out}
 use Rattle.oss_grammar.proofs.JumpPlaces.Out.{leaving, returning, task_leaving}
-use Rattle.oss_grammar.specs.Places.{IsOneOf, locals_behind_part, scope_behind}
+use Rattle.oss_grammar.specs.Places.{IsOneOf}
+use Rattle.oss_grammar.proofs.ScopedPlaces.{locals_behind_part, scope_behind}
 use Rattle.oss_grammar.specs.ProgramRules.{body_around, has_main, is_wrong_function, items_rules, passes_cells, program_rules}
 use Rattle.oss_grammar.specs.Scopes.{is_again}
 use Rattle.oss_grammar.specs.Places.IsOneOf.{first_of_them, later_of_them}

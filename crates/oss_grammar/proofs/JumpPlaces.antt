@@ -12,10 +12,11 @@ use Rattle.oss_grammar.specs.Jumps.IsTaskBody.{of_task}
 use Rattle.oss_grammar.specs.Jumps.Leaves.{break_here, continue_here, leaves_part}
 use Rattle.oss_grammar.specs.Jumps.Returns.{return_here, returns_part, returns_loop, returns_task}
 use Rattle.oss_grammar.specs.Jumps.LeavesTask.{leaves_body, returns_body, task_in_part, task_in_loop, task_in_task}
-use Rattle.oss_grammar.specs.Places.{IsOneOf, StandsIn, StandsAmong, locals_behind, locals_behind_part}
+use Rattle.oss_grammar.specs.Places.{IsOneOf}
+use Rattle.oss_grammar.proofs.ScopedPlaces.{StandsIn, StandsAmong, locals_behind, locals_behind_part}
 use Rattle.oss_grammar.specs.Places.IsOneOf.{first_of_them, later_of_them}
-use Rattle.oss_grammar.specs.Places.StandsIn.{itself, in_block, in_then, in_else, in_while, in_for_start, in_for_last, in_for_body, in_task_body}
-use Rattle.oss_grammar.specs.Places.StandsAmong.{in_first, in_rest}
+use Rattle.oss_grammar.proofs.ScopedPlaces.StandsIn.{itself, in_block, in_then, in_else, in_while, in_for_start, in_for_last, in_for_body, in_task_body}
+use Rattle.oss_grammar.proofs.ScopedPlaces.StandsAmong.{in_first, in_rest}
 use Rattle.oss_grammar.specs.StaticRules.{in_a_loop, in_a_task, scope_in}
 
 -- A statement at its place that jumps out of what is around it.

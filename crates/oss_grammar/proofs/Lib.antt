@@ -1,10 +1,12 @@
 pub mod AgainLemmas
+pub mod AgainPlaces
 pub mod AnswerLemmas
 pub mod BodyLines
 pub mod ClauseKinds
 pub mod ClauseLines
 pub mod CountedLemmas
 pub mod ExpressionLines
+pub mod FirstRule
 pub mod ItemLemmas
 pub mod JumpLemmas
 pub mod JumpPlaces
@@ -14,11 +16,13 @@ pub mod NameLemmas
 pub mod PairLemmas
 pub mod PartLemmas
 pub mod Parts
-pub mod PlaceLemmas
 pub mod PieceLemmas
+pub mod PlaceLemmas
 pub mod ProgramLines
 pub mod RefusalLemmas
 pub mod RuleEquations
+pub mod ScopedPlaces
+pub mod ScopedUses
 pub mod StatementLines
 pub mod StepLemmas
 pub mod TextLemmas
@@ -27,3 +31,5 @@ pub mod UnknownSections
 pub mod UnknownStatements
 pub mod UnknownUses
 pub mod UseLemmas
+pub mod UsePlaces
+pub mod VisibleLemmas

@@ -17,10 +17,11 @@ use Rattle.oss_grammar.specs.Broken.{where_so}
 use Rattle.oss_grammar.specs.ExpressionRules.{call_findings, findings, value_rules}
 use Rattle.oss_grammar.specs.Kinds.{all_of}
 use Rattle.oss_grammar.specs.Scopes.{is_local_again}
-use Rattle.oss_grammar.specs.Places.{IsOneOf, StandsIn, StandsAmong, scope_behind, locals_behind, locals_behind_part}
+use Rattle.oss_grammar.specs.Places.{IsOneOf}
+use Rattle.oss_grammar.proofs.ScopedPlaces.{StandsIn, StandsAmong, scope_behind, locals_behind, locals_behind_part}
 use Rattle.oss_grammar.specs.Places.IsOneOf.{first_of_them, later_of_them}
-use Rattle.oss_grammar.specs.Places.StandsIn.{itself, in_block, in_then, in_else, in_while, in_for_start, in_for_last, in_for_body, in_task_body}
-use Rattle.oss_grammar.specs.Places.StandsAmong.{in_first, in_rest}
+use Rattle.oss_grammar.proofs.ScopedPlaces.StandsIn.{itself, in_block, in_then, in_else, in_while, in_for_start, in_for_last, in_for_body, in_task_body}
+use Rattle.oss_grammar.proofs.ScopedPlaces.StandsAmong.{in_first, in_rest}
 use Rattle.oss_grammar.specs.SectionRules.{clauses_rules, optional_rules}
 use Rattle.oss_grammar.specs.StaticRules.{assign_rules, declare_all, in_a_loop, in_a_task, print_rules, return_rules, rules_of, rules_of_all, part_rules, scope_in, Judged, wait_rules, with_local}
 use Rattle.oss_grammar.proofs.RuleEquations.{rules-block, rules-empty, rules-declare, rules-assign, rules-call, rules-print, rules-if, rules-while, rules-for, rules-return, rules-break, rules-continue, rules-task, rules-wait, rules-release}

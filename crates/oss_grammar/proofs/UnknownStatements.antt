@@ -29,15 +29,17 @@ use Rattle.oss_grammar.specs.Broken.{broken, where_so}
 use Rattle.oss_grammar.specs.ExpressionRules.{argument_rules, call_rules, findings, parameters_of, value_rules}
 use Rattle.oss_grammar.specs.Formats.{conversions_of}
 use Rattle.oss_grammar.specs.Kinds.{Findings, all_of, placed, unless, wanted_by}
-use Rattle.oss_grammar.specs.Places.{IsOneOf, locals_behind_part, scope_behind}
+use Rattle.oss_grammar.specs.Places.{IsOneOf}
+use Rattle.oss_grammar.proofs.ScopedPlaces.{locals_behind_part, scope_behind}
 use Rattle.oss_grammar.specs.Places.IsOneOf.{first_of_them, later_of_them}
 use Rattle.oss_grammar.specs.ProgramRules.{body_around, has_main, is_wrong_function, items_rules, mark_rules, passes_cells, program_rules}
 use Rattle.oss_grammar.specs.Scopes.{function_named, is_again, is_local_again, meaning}
 use Rattle.oss_grammar.specs.SectionRules.{optional_rules}
 use Rattle.oss_grammar.specs.StaticRules.{assign_rules, declare_all, first_rules, format_rules, is_wrong_return, local_rules, numbers_rules, or_anything, print_rules, return_rules, returned_rules, target_wanted, wait_rules, with_local}
-use Rattle.oss_grammar.specs.UnknownNames.{UnknownNamesAreTold, Uses, UsesIn, UsesInClauses, UsesInInitial, UsesInSections, UsesInSome, UsesUnknown}
-use Rattle.oss_grammar.specs.UnknownNames.UsesIn.{in_initial, in_target, in_stored, as_called, in_passed, in_printed, in_if_test, in_while_test, in_for_test, in_returned, in_task_clauses, in_wait_sections, in_release_clauses}
-use Rattle.oss_grammar.specs.UnknownNames.UsesUnknown.{in_pragma, in_parameter, in_statement}
+use Rattle.oss_grammar.specs.UnknownNames.{Uses, UsesInClauses, UsesInSections, UsesInSome}
+use Rattle.oss_grammar.proofs.ScopedUses.{UsesIn, UsesInInitial, UsesUnknown}
+use Rattle.oss_grammar.proofs.ScopedUses.UsesIn.{in_initial, in_target, in_stored, as_called, in_passed, in_printed, in_if_test, in_while_test, in_for_test, in_returned, in_task_clauses, in_wait_sections, in_release_clauses}
+use Rattle.oss_grammar.proofs.ScopedUses.UsesUnknown.{in_pragma, in_parameter, in_statement}
 use Rattle.oss_grammar.proofs.ItemLemmas.{FunctionPart, ItemPart, function_told, item_part, item_told}
 use Rattle.oss_grammar.proofs.ItemLemmas.FunctionPart.{in_mark, at_name, at_kind, in_params, in_body}
 use Rattle.oss_grammar.proofs.ItemLemmas.ItemPart.{at_global, at_function, behind_global, behind_function}
@@ -319,7 +321,7 @@ module _ (p : Program) (line : ℕ) where
   of_items up (behind_global g w) = of_items (λ item is. up item (later_of_them is)) w
   of_items up (behind_function f w) = of_items (λ item is. up item (later_of_them is)) w
 
-  only_told : IsOneOf told (program_rules p) → UsesUnknown p line
+  pub only_told : IsOneOf told (program_rules p) → UsesUnknown p line
   only_told w = elim (one_of_two (items_rules p.items 0 0 p.items) (where_so (not (has_main p.items)) refused.NoMain 1) w) [
     | inl u ↦ of_items (λ item is. is) (item_part p.items told 0 0 p.items u)
     | inr u ↦ no_rule (not (has_main p.items)) refused.NoMain 1 refl u
@@ -332,11 +334,8 @@ module _ (p : Program) (line : ℕ) where
   anywhere : (f : Function) → IsItem f → ((i : ℕ) → FunctionPart p.items i f told) → IsOneOf told (program_rules p)
   anywhere f is part = one_of_left _ (item_told p.items told (function_told p.items told f part 0 0 p.items is))
 
-  is_told : UsesUnknown p line → IsOneOf told (program_rules p)
+  pub is_told : UsesUnknown p line → IsOneOf told (program_rules p)
   is_told (in_pragma f mark name is e u unknown) = anywhere f is (λ i. in_mark (mark_told f mark name f.mark e u (unknown_meaning p.items (params f) name unknown)))
   is_told (in_parameter f scope name is u unknown) = anywhere f is (λ i. in_params (initial_told line p.items 0 f.params [] (unknown_meaning p.items scope name unknown) u))
   is_told (in_statement f around visible s scope name stands u unknown) =
       anywhere f stands.is_item (λ i. in_body (told_among p.items told stands.stands (use_is_told line p.items around visible s (unknown_meaning p.items scope name unknown) u)))
-
-pub unknown_names_are_told : (p : Program) → UnknownNamesAreTold p
-unknown_names_are_told p = record { told = λ line u. is_told p line u; only = λ line w. only_told p line w }

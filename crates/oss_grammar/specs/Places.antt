@@ -1,7 +1,8 @@
--- Places: where each statement of a program stands, what stands around it, and which locals are in scope there (C11 6.2.1, 6.8).
--- Read against: in `void f(long n) { long x; while (x) { long y; break; } }` the `break` stands in a loop and in no task, with `n`,
--- `x` and `y` in scope, of which `y` is declared in the innermost scope; the `while` stands in no loop, with `n` and `x` in scope.
-use Rattle.std.specs.Prelude.{◌≡◌, ℕ, List, [], ◌∷◌, length, Option, Some, None}
+-- Places: where each statement of a program stands, and which locals are in scope there (C11 6.2.1, 6.8). Those are in scope that were
+-- declared before the place in a block around it, or are parameters.
+-- Read against: in `void f(long n) { long x; while (x) { long y; break; } x = n; }` the `break` stands where `n`, `x` and `y` are in
+-- scope, and the assignment where `n` and `x` are.
+use Rattle.std.specs.Prelude.{◌≡◌, List, [], ◌∷◌, ◌++◌, Option, Some, None}
 use Rattle.oss_syntax.specs.declared.tree.expr.Expr.{Expr}
 use Rattle.oss_syntax.specs.declared.tree.pragma.TaskMark.{TaskMark}
 use Rattle.oss_syntax.specs.declared.tree.program.Function.{Function}
@@ -13,64 +14,50 @@ use Rattle.oss_syntax.specs.declared.tree.stmt.StmtKind.{StmtKind, out-StmtKind}
 use Rattle.oss_syntax.specs.declared.tree.stmt.StmtKind.TheOpen.{StmtKind-F}
 use Rattle.oss_syntax.specs.declared.tree.stmt.StmtKind.TheOpen as open_stmt
 use Rattle.oss_syntax.specs.declared.tree.stmt.StmtKind.TheVariants as stmts
-use Rattle.oss_grammar.specs.declared.kinds.Around.{Around}
-use Rattle.oss_grammar.specs.ProgramRules.{body_around}
-use Rattle.oss_grammar.specs.Scopes.{is_local_again}
-use Rattle.oss_grammar.specs.StaticRules.{in_a_loop, in_a_task, scope_in, with_local}
 
 -- It is one of these.
 pub data IsOneOf {A : Type 0} (x : A) : List A → Type 0 where
   first_of_them : {y : A} {rest : List A} → y ≡ x → IsOneOf x (y ∷ rest)
   later_of_them : {y : A} {rest : List A} → IsOneOf x rest → IsOneOf x (y ∷ rest)
 
--- The locals in scope behind declarators: each comes into scope behind its own, unless its name is declared in this scope before.
-abbrev pub scope_behind : ℕ → List Local → List Local → List Local
-scope_behind start [] locals = locals
-scope_behind start (l ∷ rest) locals = scope_behind start rest (with_local (is_local_again start locals l.name) l locals)
-
 -- the declarators of a declaration; no other statement has any
 abbrev pub declarators_of : StmtKind-F StmtKind Stmt → List Local
 declarators_of (open_stmt.Declare locals) = locals
 declarators_of _ = []
 
--- the locals in scope behind a statement: only a declaration declares any
-abbrev pub locals_behind : ℕ → Stmt → List Local → List Local
-locals_behind start s locals = scope_behind start (declarators_of (out-StmtKind s.what)) locals
+-- the locals in scope behind a statement
+abbrev pub locals_behind : Stmt → List Local → List Local
+locals_behind s locals = locals ++ declarators_of (out-StmtKind s.what)
 
 -- the same behind the first part of a `for`, which may be left out
-abbrev pub locals_behind_part : ℕ → Option Stmt → List Local → List Local
-locals_behind_part start None locals = locals
-locals_behind_part start (Some s) locals = locals_behind start s locals
+abbrev pub locals_behind_part : Option Stmt → List Local → List Local
+locals_behind_part None locals = locals
+locals_behind_part (Some s) locals = locals_behind s locals
 
--- A statement stands in another, or is it: with these things around it and these locals in scope, if the other has those. Each block
--- is a scope of its own, and so is a branch, the body of a loop or of a task, and a whole `for`, whose first part is in scope
--- in all of it. The body of a loop stands in a loop; the body of a task stands in a task, and in no loop of those around the task.
+-- A statement stands in another, or is it, with these locals in scope there, if those are in scope at the other. The first part of a
+-- `for` is in scope in all of it.
 mutual
-  pub data StandsIn (b : Around) (visible : List Local) (t : Stmt) : Around → List Local → Stmt → Type 0 where
-    itself : StandsIn b visible t b visible t
-    in_block : {a : Around} {locals : List Local} {s : Stmt} (body : List Stmt) → s.what ≡ stmts.Block body
-        → StandsAmong b visible t (scope_in a locals) locals body → StandsIn b visible t a locals s
-    in_then : {a : Around} {locals : List Local} {s : Stmt} (e : Expr) (branch : Stmt) (other : Option Stmt) → s.what ≡ stmts.If e branch other
-        → StandsIn b visible t (scope_in a locals) locals branch → StandsIn b visible t a locals s
-    in_else : {a : Around} {locals : List Local} {s : Stmt} (e : Expr) (branch other : Stmt) → s.what ≡ stmts.If e branch (Some other)
-        → StandsIn b visible t (scope_in a locals) locals other → StandsIn b visible t a locals s
-    in_while : {a : Around} {locals : List Local} {s : Stmt} (e : Expr) (body : Stmt) → s.what ≡ stmts.While e body
-        → StandsIn b visible t (scope_in (in_a_loop a) locals) locals body → StandsIn b visible t a locals s
-    in_for_start : {a : Around} {locals : List Local} {s : Stmt} (start : Stmt) (test : Option Expr) (last : Option Stmt) (body : Stmt) → s.what ≡ stmts.For (Some start) test last body
-        → StandsIn b visible t (scope_in a locals) locals start → StandsIn b visible t a locals s
-    in_for_last : {a : Around} {locals : List Local} {s : Stmt} (start : Option Stmt) (test : Option Expr) (last body : Stmt) → s.what ≡ stmts.For start test (Some last) body
-        → StandsIn b visible t (scope_in a (locals_behind_part (length locals) start locals)) (locals_behind_part (length locals) start locals) last → StandsIn b visible t a locals s
-    in_for_body : {a : Around} {locals : List Local} {s : Stmt} (start : Option Stmt) (test : Option Expr) (last : Option Stmt) (body : Stmt) → s.what ≡ stmts.For start test last body
-        → StandsIn b visible t (scope_in (in_a_loop a) (locals_behind_part (length locals) start locals)) (locals_behind_part (length locals) start locals) body → StandsIn b visible t a locals s
-    in_task_body : {a : Around} {locals : List Local} {s : Stmt} (mark : TaskMark) (body : Stmt) → s.what ≡ stmts.Task mark body
-        → StandsIn b visible t (scope_in (in_a_task a) locals) locals body → StandsIn b visible t a locals s
+  pub data StandsIn (visible : List Local) (t : Stmt) : List Local → Stmt → Type 0 where
+    itself : StandsIn visible t visible t
+    in_block : {locals : List Local} {s : Stmt} (body : List Stmt) → s.what ≡ stmts.Block body → StandsAmong visible t locals body → StandsIn visible t locals s
+    in_then : {locals : List Local} {s : Stmt} (e : Expr) (branch : Stmt) (other : Option Stmt) → s.what ≡ stmts.If e branch other → StandsIn visible t locals branch
+        → StandsIn visible t locals s
+    in_else : {locals : List Local} {s : Stmt} (e : Expr) (branch other : Stmt) → s.what ≡ stmts.If e branch (Some other) → StandsIn visible t locals other → StandsIn visible t locals s
+    in_while : {locals : List Local} {s : Stmt} (e : Expr) (body : Stmt) → s.what ≡ stmts.While e body → StandsIn visible t locals body → StandsIn visible t locals s
+    in_for_start : {locals : List Local} {s : Stmt} (start : Stmt) (test : Option Expr) (last : Option Stmt) (body : Stmt) → s.what ≡ stmts.For (Some start) test last body
+        → StandsIn visible t locals start → StandsIn visible t locals s
+    in_for_last : {locals : List Local} {s : Stmt} (start : Option Stmt) (test : Option Expr) (last body : Stmt) → s.what ≡ stmts.For start test (Some last) body
+        → StandsIn visible t (locals_behind_part start locals) last → StandsIn visible t locals s
+    in_for_body : {locals : List Local} {s : Stmt} (start : Option Stmt) (test : Option Expr) (last : Option Stmt) (body : Stmt) → s.what ≡ stmts.For start test last body
+        → StandsIn visible t (locals_behind_part start locals) body → StandsIn visible t locals s
+    in_task_body : {locals : List Local} {s : Stmt} (mark : TaskMark) (body : Stmt) → s.what ≡ stmts.Task mark body → StandsIn visible t locals body → StandsIn visible t locals s
 
   -- the same of statements in a row: behind a declaration its locals are in scope
-  pub data StandsAmong (b : Around) (visible : List Local) (t : Stmt) : Around → List Local → List Stmt → Type 0 where
-    in_first : {a : Around} {locals : List Local} {s : Stmt} {rest : List Stmt} → StandsIn b visible t a locals s → StandsAmong b visible t a locals (s ∷ rest)
-    in_rest : {a : Around} {locals : List Local} {s : Stmt} {rest : List Stmt} → StandsAmong b visible t a (locals_behind a.start s locals) rest → StandsAmong b visible t a locals (s ∷ rest)
+  pub data StandsAmong (visible : List Local) (t : Stmt) : List Local → List Stmt → Type 0 where
+    in_first : {locals : List Local} {s : Stmt} {rest : List Stmt} → StandsIn visible t locals s → StandsAmong visible t locals (s ∷ rest)
+    in_rest : {locals : List Local} {s : Stmt} {rest : List Stmt} → StandsAmong visible t (locals_behind s locals) rest → StandsAmong visible t locals (s ∷ rest)
 
 -- A statement of a program: it stands in the body of this function, whose parameters are in scope there.
-pub record Stands (p : Program) (f : Function) (b : Around) (visible : List Local) (t : Stmt) : Type 0 where
+pub record Stands (p : Program) (f : Function) (visible : List Local) (t : Stmt) : Type 0 where
   pub is_item : IsOneOf (items.Function f) p.items
-  pub stands : StandsAmong b visible t (body_around f.result) (scope_behind 0 f.params []) f.body
+  pub stands : StandsAmong visible t f.params f.body

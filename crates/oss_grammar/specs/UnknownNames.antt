@@ -1,7 +1,7 @@
 -- Unknown names (C11 6.2.1, 6.5.1): a name that is used where it is neither a local in scope nor a global or a function.
 -- Read against: in `int main() { long x = y + x; { long z; } f(z); }` the names `y`, the `x` behind it, `f` and the `z` of the call are
 -- unknown, each on its line; the label of a pragma is no use of a name.
-use Rattle.std.specs.Prelude.{◌≡◌, ℕ, Bool, true, false, List, [], ◌∷◌, ◌++◌, length, Option, Some}
+use Rattle.std.specs.Prelude.{◌≡◌, ℕ, Bool, true, false, List, [], ◌∷◌, ◌++◌, Option, Some}
 use Rattle.oss_syntax.specs.declared.access.Mode.{Mode}
 use Rattle.oss_syntax.specs.declared.refusal.RefusedKind.TheVariants as refused
 use Rattle.oss_syntax.specs.declared.tree.expr.BinOp.{BinOp}
@@ -21,9 +21,8 @@ use Rattle.oss_syntax.specs.declared.tree.program.Local.{Local}
 use Rattle.oss_syntax.specs.declared.tree.program.Program.{Program}
 use Rattle.oss_syntax.specs.declared.tree.stmt.Stmt.{Stmt}
 use Rattle.oss_syntax.specs.declared.tree.stmt.StmtKind.TheVariants as stmts
-use Rattle.oss_grammar.specs.declared.kinds.Around.{Around}
 use Rattle.oss_grammar.specs.Broken.{broken}
-use Rattle.oss_grammar.specs.Places.{IsOneOf, Stands, locals_behind_part, scope_behind}
+use Rattle.oss_grammar.specs.Places.{IsOneOf, Stands, locals_behind_part}
 use Rattle.oss_grammar.specs.ProgramRules.{program_rules}
 use Rattle.oss_grammar.specs.Redeclarations.{NamesItem, NamesLocal}
 use Rattle.oss_grammar.specs.SectionRules.{begins_with_base}
@@ -86,42 +85,42 @@ pub record UsesInSome (name : List ℕ) (line : ℕ) (es : List Expr) : Type 0 w
   pub uses : Uses name line value
 
 -- The name is used in the initial value of a declarator, where these locals are in scope: those before the declarator, so not its own.
-pub record UsesInInitial (start : ℕ) (visible declared : List Local) (scope : List Local) (name : List ℕ) (line : ℕ) : Type 0 where
+pub record UsesInInitial (visible declared : List Local) (scope : List Local) (name : List ℕ) (line : ℕ) : Type 0 where
   pub before : List Local
   pub declarator : Local
   pub behind : List Local
   pub split : declared ≡ before ++ (declarator ∷ behind)
   pub value : Expr
   pub is_initial : declarator.first ≡ Some value
-  pub scope_is : scope_behind start before visible ≡ scope
+  pub scope_is : visible ++ before ≡ scope
   pub uses : Uses name line value
 
 -- The name is used in a statement itself, not in one that stands in it, where these locals are in scope.
-pub data UsesIn (a : Around) (visible : List Local) (s : Stmt) : List Local → List ℕ → ℕ → Type 0 where
-  in_initial : {scope : List Local} {name : List ℕ} {line : ℕ} (declared : List Local) → s.what ≡ stmts.Declare declared → UsesInInitial a.start visible declared scope name line
-      → UsesIn a visible s scope name line
-  in_target : {name : List ℕ} {line : ℕ} (target : Expr) (o : Option BinOp) (value : Expr) → s.what ≡ stmts.Assign target o value → Uses name line target → UsesIn a visible s visible name line
-  in_stored : {name : List ℕ} {line : ℕ} (target : Expr) (o : Option BinOp) (value : Expr) → s.what ≡ stmts.Assign target o value → Uses name line value → UsesIn a visible s visible name line
-  as_called : {name : List ℕ} {line : ℕ} (arguments : List Expr) → s.what ≡ stmts.Call name arguments → s.line ≡ line → UsesIn a visible s visible name line
-  in_passed : {name : List ℕ} {line : ℕ} (callee : List ℕ) (arguments : List Expr) → s.what ≡ stmts.Call callee arguments → UsesInSome name line arguments → UsesIn a visible s visible name line
-  in_printed : {name : List ℕ} {line : ℕ} (format : List ℕ) (arguments : List Expr) → s.what ≡ stmts.Print format arguments → UsesInSome name line arguments → UsesIn a visible s visible name line
-  in_if_test : {name : List ℕ} {line : ℕ} (e : Expr) (branch : Stmt) (other : Option Stmt) → s.what ≡ stmts.If e branch other → Uses name line e → UsesIn a visible s visible name line
-  in_while_test : {name : List ℕ} {line : ℕ} (e : Expr) (body : Stmt) → s.what ≡ stmts.While e body → Uses name line e → UsesIn a visible s visible name line
+pub data UsesIn (visible : List Local) (s : Stmt) : List Local → List ℕ → ℕ → Type 0 where
+  in_initial : {scope : List Local} {name : List ℕ} {line : ℕ} (declared : List Local) → s.what ≡ stmts.Declare declared → UsesInInitial visible declared scope name line
+      → UsesIn visible s scope name line
+  in_target : {name : List ℕ} {line : ℕ} (target : Expr) (o : Option BinOp) (value : Expr) → s.what ≡ stmts.Assign target o value → Uses name line target → UsesIn visible s visible name line
+  in_stored : {name : List ℕ} {line : ℕ} (target : Expr) (o : Option BinOp) (value : Expr) → s.what ≡ stmts.Assign target o value → Uses name line value → UsesIn visible s visible name line
+  as_called : {name : List ℕ} {line : ℕ} (arguments : List Expr) → s.what ≡ stmts.Call name arguments → s.line ≡ line → UsesIn visible s visible name line
+  in_passed : {name : List ℕ} {line : ℕ} (callee : List ℕ) (arguments : List Expr) → s.what ≡ stmts.Call callee arguments → UsesInSome name line arguments → UsesIn visible s visible name line
+  in_printed : {name : List ℕ} {line : ℕ} (format : List ℕ) (arguments : List Expr) → s.what ≡ stmts.Print format arguments → UsesInSome name line arguments → UsesIn visible s visible name line
+  in_if_test : {name : List ℕ} {line : ℕ} (e : Expr) (branch : Stmt) (other : Option Stmt) → s.what ≡ stmts.If e branch other → Uses name line e → UsesIn visible s visible name line
+  in_while_test : {name : List ℕ} {line : ℕ} (e : Expr) (body : Stmt) → s.what ≡ stmts.While e body → Uses name line e → UsesIn visible s visible name line
   in_for_test : {name : List ℕ} {line : ℕ} (start : Option Stmt) (e : Expr) (last : Option Stmt) (body : Stmt) → s.what ≡ stmts.For start (Some e) last body → Uses name line e
-      → UsesIn a visible s (locals_behind_part (length visible) start visible) name line
-  in_returned : {name : List ℕ} {line : ℕ} (e : Expr) → s.what ≡ stmts.Return (Some e) → Uses name line e → UsesIn a visible s visible name line
-  in_task_clauses : {name : List ℕ} {line : ℕ} (mark : TaskMark) (body : Stmt) → s.what ≡ stmts.Task mark body → UsesInClauses name line mark.clauses → UsesIn a visible s visible name line
-  in_wait_sections : {name : List ℕ} {line : ℕ} (sections : List Section) → s.what ≡ stmts.TaskWait (Some sections) → UsesInSections name line sections → UsesIn a visible s visible name line
-  in_release_clauses : {name : List ℕ} {line : ℕ} (clauses : List Clause) → s.what ≡ stmts.Release clauses → UsesInClauses name line clauses → UsesIn a visible s visible name line
+      → UsesIn visible s (locals_behind_part start visible) name line
+  in_returned : {name : List ℕ} {line : ℕ} (e : Expr) → s.what ≡ stmts.Return (Some e) → Uses name line e → UsesIn visible s visible name line
+  in_task_clauses : {name : List ℕ} {line : ℕ} (mark : TaskMark) (body : Stmt) → s.what ≡ stmts.Task mark body → UsesInClauses name line mark.clauses → UsesIn visible s visible name line
+  in_wait_sections : {name : List ℕ} {line : ℕ} (sections : List Section) → s.what ≡ stmts.TaskWait (Some sections) → UsesInSections name line sections → UsesIn visible s visible name line
+  in_release_clauses : {name : List ℕ} {line : ℕ} (clauses : List Clause) → s.what ≡ stmts.Release clauses → UsesInClauses name line clauses → UsesIn visible s visible name line
 
 -- On this line of a program a name is used that is unknown there: in the pragma of a function, in the initial value of a parameter,
 -- which no text has, or in a statement.
 pub data UsesUnknown (p : Program) (line : ℕ) : Type 0 where
   in_pragma : (f : Function) (mark : TaskMark) (name : List ℕ) → IsOneOf (items.Function f) p.items → f.mark ≡ Some mark → UsesInClauses name line mark.clauses
-      → IsUnknown p.items (scope_behind 0 f.params []) name → UsesUnknown p line
-  in_parameter : (f : Function) (scope : List Local) (name : List ℕ) → IsOneOf (items.Function f) p.items → UsesInInitial 0 [] f.params scope name line
+      → IsUnknown p.items f.params name → UsesUnknown p line
+  in_parameter : (f : Function) (scope : List Local) (name : List ℕ) → IsOneOf (items.Function f) p.items → UsesInInitial [] f.params scope name line
       → IsUnknown p.items scope name → UsesUnknown p line
-  in_statement : (f : Function) (around : Around) (visible : List Local) (s : Stmt) (scope : List Local) (name : List ℕ) → Stands p f around visible s → UsesIn around visible s scope name line
+  in_statement : (f : Function) (visible : List Local) (s : Stmt) (scope : List Local) (name : List ℕ) → Stands p f visible s → UsesIn visible s scope name line
       → IsUnknown p.items scope name → UsesUnknown p line
 
 -- UnknownName is among the broken rules of a program, with a line, exactly where an unknown name is used on that line.

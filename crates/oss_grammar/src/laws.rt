@@ -24,20 +24,20 @@ pub fn bad_jumps_are_told(program: &Program)
 
 /// DuplicateName is among the rules that a program breaks, with a line, exactly where the name of an item or a local is declared on
 /// that line and was declared before in the same scope.
-#[tactic(auto, using(crate::proofs::AgainLemmas::redeclarations_are_told))]
+#[tactic(auto, using(crate::proofs::AgainPlaces::redeclarations_are_told))]
 pub fn redeclarations_are_told(program: &Program)
     ensures { RedeclarationsAreTold program.now }
 {}
 
 /// UnknownName is among the rules that a program breaks, with a line, exactly where a name is used on that line that is there
 /// neither a local in scope nor a global or a function.
-#[tactic(auto, using(crate::proofs::UnknownStatements::unknown_names_are_told))]
+#[tactic(auto, using(crate::proofs::UsePlaces::unknown_names_are_told))]
 pub fn unknown_names_are_told(program: &Program)
     ensures { UnknownNamesAreTold program.now }
 {}
 
-/// Where tokens are a program and their lines rise, the lines of the rules that the program breaks rise too, NoMain aside. So none
-/// of these rules is broken on a line before that of the first.
+/// Where tokens are a program and their lines rise, the lines of the rules that the program breaks rise too, NoMain aside, and each is
+/// the line of a token. So a program is refused for a rule on the least line on which it breaks one.
 #[tactic(auto, using(crate::proofs::ProgramLines::rules_rise))]
 pub fn rules_rise(tokens: &List<Token>)
     ensures { RulesRise tokens.now }

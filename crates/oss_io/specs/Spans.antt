@@ -11,6 +11,7 @@ pub record ShelfSeen : Type 0 where
   pub faults : ℕ
   pub last : List ℕ
 
+-- a shelf before some calls and after them
 pub record ShelfSpan : Type 0 where
   pub before : ShelfSeen
   pub after : ShelfSeen
@@ -20,17 +21,19 @@ pub record SinkSeen : Type 0 where
   pub taken : Option (List ℕ)
   pub faults : ℕ
 
+-- a sink before some calls and after them
 pub record SinkSpan : Type 0 where
   pub before : SinkSeen
   pub after : SinkSeen
 
--- the spans between two moments, by the ghost members of the trait
+-- the span between two moments of a shelf, by the ghost members of its trait
 abbrev pub shelf_span : {S : Type 0} → (S → List ℕ → Option (List ℕ)) → (S → ℕ) → (S → List ℕ) → S → S → ShelfSpan
 shelf_span held faults last old new = record {
   before = record { held = held old; faults = faults old; last = last old };
   after = record { held = held new; faults = faults new; last = last new };
 }
 
+-- the span between two moments of a sink, by the ghost members of its trait
 abbrev pub sink_span : {K : Type 0} → (K → Option (List ℕ)) → (K → ℕ) → K → K → SinkSpan
 sink_span taken faults old new = record {
   before = record { taken = taken old; faults = faults old };

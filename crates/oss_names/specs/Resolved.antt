@@ -1,4 +1,6 @@
 -- What the check of a program tells: that it breaks no rule, and where its globals lie; or the first rule that it breaks.
+-- Read against: `long x, a[3]; int main() { }` is accepted with the bounds 0, 1, 4; of `long x, x;` NoMain is not told, since
+-- DuplicateName comes first.
 use Rattle.std.specs.Prelude.{◌≡◌, ℕ, ◌+◌, List, [], ◌∷◌, Some, Result, Ok, Err}
 use Rattle.std.specs.Global.{Vec}
 use Rattle.oss_syntax.specs.declared.tree.program.Program.{Program}

@@ -17,7 +17,7 @@ use oss_syntax::{Boxed, Expr, Local, Refusal, Refused, RefusedKind, Stmt, StmtKi
 /// The most locals of a function that are in scope at one place.
 const MOST_LOCALS: usize = 255;
 
-/// IsPartChecked a part of a text whose first broken rule this is.
+/// Ends a part of a text whose first broken rule this is.
 fn told(broken: Option<Refused>) -> Result<(), Refusal>
     ensures { (rules : List Broken) → (locals : List Declared) → broken ≡ first rules → IsPartChecked locals (judged rules locals) result locals }
 {

@@ -1,4 +1,5 @@
 -- What is read inside a statement with the readers of expressions and of pragmas, where so many levels of statements may still begin.
+-- Read against: with no level left reading stops at `;` since it is too deep, and at `}` since it fits nowhere.
 use Rattle.std.specs.Prelude.{ℕ, List}
 use Rattle.oss_syntax.specs.declared.tree.stmt.Stmt.{Stmt}
 use Rattle.oss_grammar.specs.Reading.{Reader, read_mapped, read_steps}

@@ -1,4 +1,5 @@
--- How a program is read from its tokens, from left to right. Each reader stands for the part of the grammar of the same name.
+-- How a program is read from its tokens, from left to right. Each reader stands for the part of the grammar of the same name. Read
+-- against: of `int x, y[2]; }` a program of two globals is read and `}` is left; a whole text stops there.
 use Rattle.std.specs.Prelude.{ℕ, Bool, ◌||◌, List, [], ◌∷◌, ◌++◌, map, codes, Option, Some, None, Result, Ok, Err}
 use Rattle.oss_syntax.specs.declared.token.Token.{Token}
 use Rattle.oss_syntax.specs.declared.token.TokenKind.{TokenKind}

@@ -1,5 +1,6 @@
 -- How a simple statement and a declaration are read from their tokens, from left to right, by a reader of expressions. Each reader
--- stands for the part of the grammar of the same name.
+-- stands for the part of the grammar of the same name. Read against: `x += 1 ;` is read as an assignment with the operator `+`, and `;`
+-- is left; of `x ;` reading stops at `;`.
 use Rattle.std.specs.Prelude.{ℕ, Bool, ◌||◌, if◌then◌else◌, List, codes, Option, Some, None}
 use Rattle.oss_syntax.specs.declared.token.Token.{Token}
 use Rattle.oss_syntax.specs.declared.tree.expr.BinOp.{BinOp}

@@ -1,5 +1,6 @@
 -- How a statement is read from its tokens, from left to right, by readers of expressions and of pragmas. Each reader stands for the
--- part of the grammar of the same name.
+-- part of the grammar of the same name. Read against: of `if (a) ; else ; }` a statement is read that has both branches, and `}` is
+-- left; of `if a ;` reading stops at `a`.
 use Rattle.std.specs.Prelude.{ℕ, zero, suc, Bool, ◌||◌, List, [], codes, Option, Some, None, Ok}
 use Rattle.oss_syntax.specs.declared.token.Token.{Token}
 use Rattle.oss_syntax.specs.declared.token.TokenKind.{TokenKind}

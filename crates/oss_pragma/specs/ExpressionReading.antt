@@ -1,5 +1,6 @@
 -- How an expression is read from its tokens, from left to right, where so many levels may still begin in it. Each reader stands
--- for the part of the grammar of the same name.
+-- for the part of the grammar of the same name. Read against: of `a - b - 1 ;` a whole expression is `(a - b) - 1`, and `;` is left;
+-- of `a + )` reading stops at `)`, which fits nowhere.
 use Rattle.std.specs.Prelude.{ℕ, zero, suc, List, [], ◌∷◌, ◌++◌, codes}
 use Rattle.oss_syntax.specs.declared.tree.expr.BinOp.{BinOp}
 use Rattle.oss_syntax.specs.declared.tree.expr.Expr.{Expr}

@@ -1,4 +1,5 @@
--- What stands between two binary operators.
+-- What stands between two binary operators. Read against: of `-a * b` an operand is `-a`, and `* b` is left; with one level of
+-- operators above that, which is that of `*`, all of it is read.
 use Rattle.std.specs.Prelude.{ℕ}
 use Rattle.oss_syntax.specs.declared.tree.expr.Expr.{Expr}
 use Rattle.oss_grammar.specs.Reading.{Reader}

@@ -1,5 +1,6 @@
 -- How a pragma is read from its tokens, from left to right, by a reader of expressions. Each reader stands
--- for the part of the grammar of the same name.
+-- for the part of the grammar of the same name. Read against: the line `#pragma oss task in(x) wait` is read as a task with two
+-- clauses; in `#pragma oss taskwait in(x)` reading stops at `in`, since a wait has no dependencies.
 use Rattle.std.specs.Prelude.{ℕ, Bool, false, ◌||◌, List, [], ◌∷◌, codes, Option, Some, None}
 use Rattle.oss_syntax.specs.declared.access.Mode.{Mode}
 use Rattle.oss_syntax.specs.declared.access.Mode.TheVariants.{Fold}

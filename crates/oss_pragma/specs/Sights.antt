@@ -1,5 +1,5 @@
 -- What is seen of the tokens that are left: those up to the last operator that is allowed, and with it the one too many. The others
--- stand behind them.
+-- stand behind them. Read against: of `a + b - c` up to 2 operators `a + b -` is seen, and `c` stands behind.
 use Rattle.std.specs.Prelude.{ℕ, List}
 use Rattle.oss_syntax.specs.declared.token.Token.{Token}
 use Rattle.oss_grammar.specs.Reading.{shown, unshown}

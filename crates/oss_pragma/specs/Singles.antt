@@ -1,4 +1,5 @@
--- The clauses that a task has once at most, as the code names them.
+-- The clauses that a task has once at most, as the code names them. Read against: a token `wait` on line 3 gives the line 3 where that
+-- clause does not stand already, and nothing where it does.
 use Rattle.std.specs.Prelude.{◌≡◌, ℕ, Bool, ◌&&◌, not, if◌then◌else◌, List, Option, Some, None}
 use Rattle.oss_syntax.specs.declared.token.Token.{Token}
 use Rattle.oss_syntax.specs.declared.tree.pragma.Clause.{Clause}

@@ -1,5 +1,5 @@
--- What calls that read tell. Read against: of `x ) ;` a reader of names reads the name `x` and leaves `) ;`, so a call that reads as it does
--- answers `Ok` of `x` and leaves `) ;`; a reader of numbers stops at `x`, so such a call answers `Err(Syntax)` and leaves `x ) ;`.
+-- What calls that read tell. Read against: of `x ) ;` a reader of names reads the name `x` and leaves `) ;`, so a call that reads as it
+-- does answers `Ok` of `x` and leaves `) ;`; a reader of numbers stops at `x`, so such a call answers `Err(Syntax)` and leaves `x ) ;`.
 use Rattle.std.specs.Prelude.{◌≡◌, List, Option, Some, None, Result, Ok, Err}
 use Rattle.oss_syntax.specs.declared.token.Token.{Token}
 use Rattle.oss_grammar.specs.Reading.{Stop}

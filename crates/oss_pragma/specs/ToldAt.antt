@@ -1,5 +1,6 @@
--- What calls tell that read from a place in a list of tokens: the value and the place behind it, or the refusal. Read against: of the four
--- tokens `a + ) ;`, read from place 0, reading stops with `) ;` left, so the refusal is `Syntax` with the line of `)` and 2 tokens before it.
+-- What calls tell that read from a place in a list of tokens: the value and the place behind it, or the refusal. Read against: of the
+-- four tokens `a + ) ;`, read from place 0, reading stops with `) ;` left, so the refusal is `Syntax` with the line of `)` and 2 tokens
+-- before it.
 use Rattle.std.specs.Prelude.{◌≡◌, ℕ, ◌-◌, List, [], ◌∷◌, length, take, drop, Result, Ok, Err}
 use Rattle.oss_syntax.specs.declared.token.Token.{Token}
 use Rattle.oss_syntax.specs.declared.refusal.Refusal.{Refusal}

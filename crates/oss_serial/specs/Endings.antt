@@ -1,5 +1,7 @@
 -- How a call of the run ends, as its meaning says: the run goes on in the state that the call leaves, or a fault on a line stops it
 -- there. Want of memory says nothing.
+-- Read against: where `x = 5;` on line 3 may write, its call is `Ok` and leaves 5 in the cell of `x`; where it may not, the call is
+-- the fault with line 3, and leaves the cells as they were.
 use Rattle.std.specs.Prelude.{◌≡◌, ◌||◌, false, ℕ, List, Some, None, Result, Ok, Err}
 use Rattle.std.specs.Global.{Vec}
 use Rattle.oss_judge.specs.declared.refused.JudgeRefused.{JudgeRefused}
@@ -11,6 +13,7 @@ use Rattle.oss_serial.specs.Scalars.{Ending, Goes, Stops, State, entered}
 use Rattle.oss_serial.specs.declared.stop.Stop.{Stop}
 use Rattle.oss_serial.specs.declared.stop.Stop.TheVariants as stop
 
+-- a call ends as its meaning does
 abbrev pub EndsAs : {U : Type 0} → Ending → Result U Stop → State → Type 0
 EndsAs ending (Ok u) now = ending ≡ Goes now
 EndsAs ending (Err (stop.Fault kind line)) now = ending ≡ Stops kind line now
