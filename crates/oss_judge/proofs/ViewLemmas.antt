@@ -131,6 +131,6 @@ pub start_is : (cells : ℕ) (rights : List (Piece Right)) (lent : List (Piece L
     → seen cells rights lent marks (record { ticks = 0; fuel = x.fuel; created = 0; depth = x.depth + 1; final = final }) ≡ start_context x right mark final
 start_is cells rights lent marks x right mark final size none same like =
     ap (λ es. record { entries = es; ticks = 0; fuel = x.fuel; created = 0; depth = x.depth + 1; final = final })
-      (same_table (entry_at rights lent marks) (λ c. record { right = right c; lent = Free; mark = mark c }) cells
-        (λ c low. entry_is (right_at rights c) (right c) (lent_at lent c) Free (mark_at marks c) (mark c) (same c low) (ap (λ ps. lent_at ps c) none) (like c low))
-       ∙ ap (table_from (λ c. record { right = right c; lent = Free; mark = mark c }) 0) size)
+    (same_table (entry_at rights lent marks) (λ c. record { right = right c; lent = Free; mark = mark c }) cells
+    (λ c low. entry_is (right_at rights c) (right c) (lent_at lent c) Free (mark_at marks c) (mark c) (same c low) (ap (λ ps. lent_at ps c) none) (like c low))
+    ∙ ap (table_from (λ c. record { right = right c; lent = Free; mark = mark c }) 0) size)

@@ -30,19 +30,21 @@ is_made (Holds (Fold op) strong) m e = cc
 
 pub runs-preserved-then-not-is_write : goal.runs-preserved-then-not-is_write
 runs-preserved-then-not-is_write c =
-    let some = c.run_from-wanted.ensures.some in
-    (c.run_from-wanted.ensures.within,
-     along_skip (IsMade (right_at c.args.given.now.pieces) (mark_at c.args.marks.now.pieces)) (value_at c.args.marks.now.pieces) c.runs.from c.run_from-wanted.result.1 c.runs.changes.items c.runs.invariant.1 (omega arith)
-       (λ cell low high. not_made (right_at c.args.given.now.pieces cell) (mark_at c.args.marks.now.pieces cell)
-         (ap (λ v. is_write (right_told v)) (c.run_from-wanted.ensures.alike cell low high) ∙ sym (ap is_write c.told.ensures) ∙ sym c.is_write.ensures ∙ c.if-not-is_write.true)))
+    let some = c.run_from-wanted.ensures.some in (
+      c.run_from-wanted.ensures.within,
+      along_skip (IsMade (right_at c.args.given.now.pieces) (mark_at c.args.marks.now.pieces)) (value_at c.args.marks.now.pieces) c.runs.from c.run_from-wanted.result.1 c.runs.changes.items c.runs.invariant.1 (omega arith)
+          (λ cell low high. not_made (right_at c.args.given.now.pieces cell) (mark_at c.args.marks.now.pieces cell)
+          (ap (λ v. is_write (right_told v)) (c.run_from-wanted.ensures.alike cell low high) ∙ sym (ap is_write c.told.ensures) ∙ sym c.is_write.ensures ∙ c.if-not-is_write.true)),
+    )
 
 pub runs-preserved-in_ok-push : goal.runs-preserved-in_ok-push
 runs-preserved-in_ok-push c =
     let within = c.run_from-mark.ensures.within in
     let inside = c.run_from-wanted.ensures.within in
-    let some = c.run_from-mark.ensures.some in
-    (omega arith,
-     rw c.in_ok-push.ensures.items
-       (along_more (IsMade (right_at c.args.given.now.pieces) (mark_at c.args.marks.now.pieces)) (value_at c.args.marks.now.pieces) c.runs.from c.run_from-mark.result.1 c.runs.changes.items _ c.runs.invariant.1 refl refl some
-         (λ cell low high. is_made (right_at c.args.given.now.pieces cell) (mark_at c.args.marks.now.pieces cell)
-           (ap (λ v. is_write (right_told v)) (c.run_from-wanted.ensures.alike cell low (omega arith)) ∙ sym (ap is_write c.told.ensures) ∙ sym c.is_write.ensures ∙ c.if-not-is_write.false))))
+    let some = c.run_from-mark.ensures.some in (
+      omega arith,
+      rw c.in_ok-push.ensures.items
+          (along_more (IsMade (right_at c.args.given.now.pieces) (mark_at c.args.marks.now.pieces)) (value_at c.args.marks.now.pieces) c.runs.from c.run_from-mark.result.1 c.runs.changes.items _ c.runs.invariant.1 refl refl some
+          (λ cell low high. is_made (right_at c.args.given.now.pieces cell) (mark_at c.args.marks.now.pieces cell)
+          (ap (λ v. is_write (right_told v)) (c.run_from-wanted.ensures.alike cell low (omega arith)) ∙ sym (ap is_write c.told.ensures) ∙ sym c.is_write.ensures ∙ c.if-not-is_write.false))),
+    )

@@ -15,7 +15,7 @@ insert-requires-clause-rising g c =
     let found : next_of c.pieces.from c.self.inside.tree ≡ Some c.in-Some.piece = sym c.next.ensures ∙ c.in-Some.is in
     let so_far = c.in_ok-prepare.ensures.same ∙ c.pieces.invariant.0 ∙ sym (ap (front c.pieces.from) same) in
     subst (λ xs. Rises 0 xs 1048576) (sym (ap (inserted c.in-Some.piece) so_far ∙ front_more 0 1048576 c.pieces.from c.in-Some.piece c.self.inside.tree c.self.invariant found))
-      (front_rises 0 1048576 c.in-Some.piece.hi c.self.inside.tree c.self.invariant)
+    (front_rises 0 1048576 c.in-Some.piece.hi c.self.inside.tree c.self.invariant)
 
 pub pieces-smaller : goal.pieces-smaller
 pieces-smaller g c =
