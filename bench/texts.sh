@@ -40,10 +40,11 @@ awk 'BEGIN {
   for (i = 0; i < 17000; i++) print "#pragma oss task inout(x)\nx=x+1;\n#pragma oss taskwait"
   print "}"
 }' >tasks.c
-awk 'BEGIN { for (i = 0; i < 32000; i++) printf "void f%06d(long a){a;}\n", i; printf "int main(){}" }' >functions.c
+awk 'BEGIN { for (i = 0; i < 32000; i++) printf "void f%06d(){}\n", i; printf "int main(){}" }' >functions.c
 awk 'BEGIN {
-  for (i = 0; i < 60000; i++) printf "int x%05d;", i
-  print "int main(){"
+  printf "int x"
+  for (i = 0; i < 60000; i++) printf ",x%05d", i
+  print ";int main(){"
   for (i = 0; i < 30000; i++) print "#pragma oss task\n;"
   print "}"
 }' >creations.c
