@@ -476,6 +476,3 @@ fn all_rights(alloc: Global, cells: u32) -> Result<RangeMap<Right>, AllocError>
     rights.assign(Range { lo: 0, hi: cells }, Right::Holds(Mode::Write, true))?;
     Ok(rights)
 }
-
-#[cfg(test)]
-mod tests;
