@@ -1,12 +1,14 @@
 -- What clauses give to a new task, by ranges.
 use Rattle.std.proofs.Common.{◌≡◌, ℕ, ◌≤◌, refl, sym, ap, ◌∙◌, List, ◌∷◌, arith, Bool, true, false, None, if◌then◌else◌}
-use Rattle.std.specs.Prelude.{◌||◌, nat_lt}
+use Rattle.std.specs.Prelude.{◌&&◌, ◌||◌, nat_lt}
 use Rattle.std.proofs.lemmas.Bool.Decides.{nat_tests}
 use Rattle.oss_syntax.specs.declared.access.Access.{Access}
 use Rattle.oss_syntax.specs.declared.access.Mode.{Mode}
+use Rattle.oss_syntax.specs.declared.access.Mode.TheVariants.{Fold, Read, Write}
 use Rattle.oss_ranges.specs.Cells.{is_within, value_at}
 use Rattle.oss_ranges.specs.declared.piece.Piece.{Piece}
-use Rattle.oss_model.specs.Rights.{Written, first_mark, joined_right, right_from}
+use Rattle.oss_model.specs.Rights as model
+use Rattle.oss_model.specs.Rights.{Holds, NoRight, Released, Written, first_mark, joined_right, right_from}
 use Rattle.oss_judge.specs.Seen.{right_at, right_told}
 use Rattle.oss_judge.specs.declared.right.Right.{Right}
 
@@ -28,3 +30,20 @@ marks-past from c rights none end past = by (nat_lt c from) refl
     by : (b : Bool) → nat_lt c from ≡ b → (if b then first_mark (right_at rights c) none else Written) ≡ first_mark (right_at rights c) none
     by true e = refl
     by false e = sym (ap (λ v. first_mark (right_told v) none) (past c (grind (arith, nat_tests))))
+
+-- the marks before any clause was taken into them
+pub first-all : (right : model.Right) (fresh : Bool) → (if fresh then first_mark right true else Written) ≡ first_mark right fresh
+first-all right true = refl
+first-all NoRight false = refl
+first-all Released false = refl
+first-all (Holds Read strong) false = refl
+first-all (Holds Write strong) false = refl
+first-all (Holds (Fold op) strong) false = refl
+
+-- one clause is taken into the marks, of which some are left
+pub marks-more : (inside fresh rest : Bool) (old : model.Mark)
+    → (if rest then (if inside then (if fresh then old else Written) else old) else Written) ≡ (if (if inside then fresh && rest else rest) then old else Written)
+marks-more true true rest old = refl
+marks-more true false true old = refl
+marks-more true false false old = refl
+marks-more false fresh rest old = refl

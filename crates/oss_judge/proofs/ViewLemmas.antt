@@ -1,16 +1,15 @@
 -- A context by the maps that it keeps.
-use Rattle.std.proofs.Common.{◌≡◌, ◌≤◌, ◌<◌, ◌+◌, ℕ, zero, suc, ◌⊎◌, inl, inr, refl, sym, ap, ◌∙◌, List, [], ◌∷◌, length, get_or, arith, Bool, true, false, Option, Some, None, if◌then◌else◌}
-use Rattle.std.specs.Prelude.{◌||◌, ◌==◌, slice_index_or}
-use Rattle.std.proofs.lemmas.Bool.Decides.{nat_tests}
-use Rattle.oss_ranges.specs.Cells.{Assigns, is_within, value_at}
+use Rattle.std.proofs.Common.{◌≡◌, ◌≤◌, ◌<◌, ◌+◌, ℕ, zero, suc, ◌⊎◌, inl, inr, refl, sym, ap, ◌∙◌, List, [], ◌∷◌, length, get_or, arith, Bool, None}
+use Rattle.std.specs.Prelude.{◌||◌}
+use Rattle.oss_ranges.specs.Cells.{value_at}
 use Rattle.oss_ranges.specs.declared.piece.Piece.{Piece}
-use Rattle.oss_judge.specs.Seen.{entry_at, lending_told, lent_at, mark_at, mark_told, right_at, right_told}
+use Rattle.oss_judge.specs.Seen.{entry_at, lent_at, mark_at, right_at}
 use Rattle.oss_judge.specs.View.{EndsBefore, start_context}
 use Rattle.oss_judge.specs.declared.right.Right.{Right}
 use Rattle.oss_judge.specs.declared.lending.Lending.{Lending}
 use Rattle.oss_judge.specs.declared.mark.Mark.{Mark}
 use Rattle.oss_model.proofs.ContextLemmas.{length-table_from, tabled_at, tabled_past}
-use Rattle.oss_model.specs.Context.{Context, Entry, child_context, lend, lend_cell, lent_of, made, made_mark, mark_of, no_entry, right_of, table_from, with_entries, wrote, waited}
+use Rattle.oss_model.specs.Context.{Context, Entry, child_context, lend, lend_cell, lent_of, made, made_mark, mark_of, no_entry, right_of, table_from, with_entries}
 use Rattle.oss_model.specs.Rights as model
 use Rattle.oss_model.specs.Rights.{Free, Written, first_mark, is_fresh, mark_from, right_from}
 use Rattle.oss_syntax.specs.declared.access.Access.{Access}
@@ -72,6 +71,10 @@ pub own_mark : (cells : ℕ) (rights : List (Piece Right)) (lent : List (Piece L
     → (x : Context) → seen cells rights lent marks n ≡ x → (c : ℕ) → mark_at marks c ≡ mark_of x c
 own_mark cells rights lent marks n r l m x view c = sym (seen_mark cells rights lent marks n r l m c) ∙ ap (λ y. mark_of y c) view
 
+-- how many cells a context has
+pub own_length : (cells : ℕ) (rights : List (Piece Right)) (lent : List (Piece Lending)) (marks : List (Piece Mark)) (n : Counts) → (x : Context) → seen cells rights lent marks n ≡ x → cells ≡ length x.entries
+own_length cells rights lent marks n x view = sym (length-table_from (entry_at rights lent marks) 0 cells) ∙ ap (λ (y : Context). length y.entries) view
+
 -- the maps of a context after a change, whose entries are those of a function
 pub seen_is : (cells : ℕ) (rights : List (Piece Right)) (lent : List (Piece Lending)) (marks : List (Piece Mark)) (r : List (Piece Right)) (l : List (Piece Lending)) (m : List (Piece Mark)) (n : Counts) (f : ℕ → Entry)
     → ((c : ℕ) → c < cells → entry_at r l m c ≡ f c) → seen cells r l m n ≡ with_entries f (seen cells rights lent marks n)
@@ -115,22 +118,21 @@ made_same f g x h = ap (λ es. record x { entries = es })
     (same_table (λ c. record { right = right_of x c; lent = lent_of x c; mark = made_mark (f c) (mark_of x c) }) (λ c. record { right = right_of x c; lent = lent_of x c; mark = made_mark (g c) (mark_of x c) }) (length x.entries)
     (λ c low. ap (λ r. record { right = right_of x c; lent = lent_of x c; mark = made_mark r (mark_of x c) }) (h c)))
 
--- a new task by what its clauses give
-pub child_is : (x : Context) (clauses : List Access) (last : Bool) (final : Bool) (given : ℕ → model.Right) (fresh : ℕ → Bool) → final ≡ (x.final || last)
-    → ((c : ℕ) → given c ≡ right_from final clauses c) → ((c : ℕ) → fresh c ≡ is_fresh clauses c)
-    → start_context x given (λ c. first_mark (given c) (fresh c)) final ≡ child_context x clauses last
-child_is x clauses last final given fresh kept like new =
+-- a new task by its rights and marks, which are those of its clauses
+pub child_is : (x : Context) (clauses : List Access) (last : Bool) (final : Bool) (right : ℕ → model.Right) (mark : ℕ → model.Mark) → final ≡ (x.final || last)
+    → ((c : ℕ) → c < length x.entries → right c ≡ right_from (x.final || last) clauses c) → ((c : ℕ) → c < length x.entries → mark c ≡ mark_from (x.final || last) clauses c)
+    → start_context x right mark final ≡ child_context x clauses last
+child_is x clauses last final right mark kept same like =
     ap (λ es. record { entries = es; ticks = 0; fuel = x.fuel; created = 0; depth = x.depth + 1; final = final })
-    (same_table (λ c. record { right = given c; lent = Free; mark = first_mark (given c) (fresh c) }) (λ c. record { right = right_from final clauses c; lent = Free; mark = mark_from final clauses c }) (length x.entries)
-    (λ c low. ap (λ r. record { right = r; lent = Free; mark = first_mark r (fresh c) }) (like c) ∙ ap (λ b. record { right = right_from final clauses c; lent = Free; mark = first_mark (right_from final clauses c) b }) (new c)))
-    ∙ ap (λ f. record { entries = table_from (λ c. record { right = right_from f clauses c; lent = Free; mark = mark_from f clauses c }) 0 (length x.entries); ticks = 0; fuel = x.fuel; created = 0; depth = x.depth + 1; final = f }) kept
+    (same_table (λ c. record { right = right c; lent = Free; mark = mark c }) (λ c. record { right = right_from (x.final || last) clauses c; lent = Free; mark = mark_from (x.final || last) clauses c }) (length x.entries)
+    (λ c low. entry_is (right c) (right_from (x.final || last) clauses c) Free Free (mark c) (mark_from (x.final || last) clauses c) (same c low) refl (like c low)))
+    ∙ ap (λ f. record { entries = table_from (λ c. record { right = right_from (x.final || last) clauses c; lent = Free; mark = mark_from (x.final || last) clauses c }) 0 (length x.entries); ticks = 0; fuel = x.fuel; created = 0; depth = x.depth + 1; final = f }) kept
 
 -- the maps with which a new task starts
-pub start_is : (cells : ℕ) (rights : List (Piece Right)) (lent : List (Piece Lending)) (marks : List (Piece Mark)) (x : Context) (right : ℕ → model.Right) (mark : ℕ → model.Mark) (final : Bool) → cells ≡ length x.entries
-    → lent ≡ [] → ((c : ℕ) → c < cells → right_at rights c ≡ right c) → ((c : ℕ) → c < cells → mark_at marks c ≡ mark c)
-    → seen cells rights lent marks (record { ticks = 0; fuel = x.fuel; created = 0; depth = x.depth + 1; final = final }) ≡ start_context x right mark final
-start_is cells rights lent marks x right mark final size none same like =
+pub start_is : (cells : ℕ) (rights : List (Piece Right)) (lent : List (Piece Lending)) (marks : List (Piece Mark)) (x : Context) (final : Bool) → cells ≡ length x.entries → lent ≡ []
+    → seen cells rights lent marks (record { ticks = 0; fuel = x.fuel; created = 0; depth = x.depth + 1; final = final }) ≡ start_context x (right_at rights) (mark_at marks) final
+start_is cells rights lent marks x final size none =
     ap (λ es. record { entries = es; ticks = 0; fuel = x.fuel; created = 0; depth = x.depth + 1; final = final })
-    (same_table (entry_at rights lent marks) (λ c. record { right = right c; lent = Free; mark = mark c }) cells
-    (λ c low. entry_is (right_at rights c) (right c) (lent_at lent c) Free (mark_at marks c) (mark c) (same c low) (ap (λ ps. lent_at ps c) none) (like c low))
-    ∙ ap (table_from (λ c. record { right = right c; lent = Free; mark = mark c }) 0) size)
+    (same_table (entry_at rights lent marks) (λ c. record { right = right_at rights c; lent = Free; mark = mark_at marks c }) cells
+    (λ c low. entry_is (right_at rights c) (right_at rights c) (lent_at lent c) Free (mark_at marks c) (mark_at marks c) refl (ap (λ ps. lent_at ps c) none) refl)
+    ∙ ap (table_from (λ c. record { right = right_at rights c; lent = Free; mark = mark_at marks c }) 0) size)

@@ -7,7 +7,7 @@ use Rattle.oss_syntax.specs.declared.access.Op.{Op}
 use Rattle.oss_syntax.specs.declared.access.Range.{Range}
 use Rattle.oss_syntax.specs.declared.fault.FaultKind.{FaultKind}
 use Rattle.oss_syntax.specs.declared.fault.FaultKind.TheVariants as fault
-use Rattle.oss_model.specs.Rights.{Right, Holds, Lending, Free, Writing, Mark, Unwritten, any_cell, is_released, holds_uncovered}
+use Rattle.oss_model.specs.Rights.{Right, Holds, Mark, Unwritten, any_cell, is_released, holds_uncovered}
 use Rattle.oss_model.specs.Context.{lacks_right}
 
 -- The mode of a right, and whether it is strong.
@@ -25,16 +25,6 @@ abbrev pub fold_part : Right → Option Op
 fold_part (Holds (Fold op) strong) = Some op
 fold_part _ = None
 
--- The fault where the cell is lent for writing.
-abbrev pub written_fault : Lending → Option FaultKind
-written_fault Writing = Some fault.Lent
-written_fault _ = None
-
--- The fault where the cell is lent.
-abbrev pub lent_fault : Lending → Option FaultKind
-lent_fault Free = None
-lent_fault _ = Some fault.Lent
-
 -- The fault where the cell was not written.
 abbrev pub unwritten_fault : Mark → Option FaultKind
 unwritten_fault Unwritten = Some fault.Unwritten
@@ -46,6 +36,10 @@ cover_fault own given clauses =
     if any_cell (λ c. is_released (own c)) clauses then Some fault.Released
     else if any_cell (λ c. holds_uncovered (own c) (given c)) clauses then Some fault.NotCovered
     else None
+
+-- The fault of clauses that give these rights, where two of them cannot be joined or all can.
+abbrev pub given_fault : Bool → (ℕ → Right) → (ℕ → Right) → List Access → Option FaultKind
+given_fault mixed own given clauses = if mixed then Some fault.MixedAccess else cover_fault own given clauses
 
 -- The fault of a wait for the children's accesses to these cells.
 abbrev pub wait_fault : (ℕ → Right) → List Access → Option FaultKind

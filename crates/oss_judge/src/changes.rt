@@ -16,7 +16,7 @@ use oss_syntax::{Access, Mode, Range};
 use std::alloc::{AllocError, Global};
 
 /// The value that all cells of a range get, or none.
-#[derive(Clone, Copy, Debug)]
+#[derive(Clone, Copy)]
 pub(crate) struct Change<T> {
     pub(crate) range: Range,
     pub(crate) value: Option<T>,

@@ -1,19 +1,17 @@
-ghost use Rattle.std.specs.Prelude.{◌≡◌, ℕ, ◌+◌, ◌<◌, ◌≤◌, ◌||◌, false, true, if◌then◌else◌, is_none, map, Some, None, IfErr, IfOk, OnErr, OnOk};
+ghost use Rattle.std.specs.Prelude.{◌≡◌, ℕ, ◌+◌, ◌<◌, ◌≤◌, ◌||◌, false, true, if◌then◌else◌, [], length, map, Some, None, IfErr, IfOk, OnErr, OnOk};
 ghost use Rattle.std.specs.Result.{result_err};
-ghost use Rattle.oss_model.specs.Rights.{Folds, Holds, Reads, Writes, first_mark, is_fresh, mark_from, right_from, touch_fault};
+ghost use Rattle.oss_model.specs.Rights.{Folds, Holds, Reads, Writes, mark_from, right_from, touch_fault};
 ghost use Rattle.oss_model.specs.Context.{child_context, clause_fault, create_fault, lend, lent_of, made, main_context, mark_of, release, release_fault, right_of, tick_fault, wait_on_fault, waited, waited_on, wrote};
 ghost use Rattle.oss_judge.specs.Joined.{IsRising, held_mark, held_right};
-ghost use Rattle.oss_judge.specs.Parts.{cover_fault, fold_part, reading};
+ghost use Rattle.oss_judge.specs.Parts.{fold_part, given_fault, reading};
 ghost use Rattle.oss_judge.specs.Refusal.{IsRefusal};
-ghost use Rattle.oss_judge.specs.Seen.{lending_seen, mark_seen, right_at, right_seen};
+ghost use Rattle.oss_judge.specs.Seen.{lending_seen, mark_at, mark_seen, right_at, right_seen};
 ghost use Rattle.oss_judge.specs.View.{EndsBefore, start_context};
-ghost use Rattle.oss_ranges.specs.Cells.{value_at};
 ghost use Rattle.oss_syntax.specs.declared.access.Mode.TheVariants as Mode;
-ghost use Rattle.oss_syntax.specs.declared.fault.FaultKind.TheVariants as fault;
 
 use crate::changes::{change_all, endings, lendings, takings, writings};
 use crate::checks::{check_covered, check_waited_on};
-use crate::given::Given;
+use crate::given::{join_all, mark_all, rights_of};
 use crate::joined::accesses_of;
 use crate::lending::{self, Lending};
 use crate::mark::{self, Mark};
@@ -110,7 +108,7 @@ impl Context {
     pub fn may_write(&self, cell: u32) -> Result<(), FaultKind>
         ensures { result_err result ≡ touch_fault (right_of self.now cell) (lent_of self.now cell) (mark_of self.now cell) Writes }
     {
-        touches::may_write(self.right(cell), self.lending(cell), self.mark(cell))
+        touches::may_write(self.right(cell), self.lending(cell))
     }
 
     /// The fault of a fold into a cell. It takes no memory.
@@ -191,10 +189,8 @@ impl Context {
         ensures allowed { OnOk result (clause_fault self.now clauses.now (self.now.final || last) ≡ None) }
         ensures refused { IfErr result (IsRefusal (clause_fault self.now clauses.now (self.now.final || last))) }
     {
-        match self.given(clauses, last) {
-            Ok(_) => Ok(()),
-            Err(refused) => Err(refused),
-        }
+        let mut rights = RangeMap::new(self.alloc);
+        self.give(&mut rights, clauses, last)
     }
 
     /// The context of a new task with these clauses. It is final where its creator is, or where it is the last that is not
@@ -205,11 +201,10 @@ impl Context {
         ensures allowed { OnOk result (clause_fault self.now clauses.now (self.now.final || last) ≡ None) }
         ensures refused { IfErr result (IsRefusal (clause_fault self.now clauses.now (self.now.final || last))) }
     {
-        match self.given(clauses, last) {
-            Ok(given) => {
-                let child = self.started(given, self.is_child_final(last))?;
-                Ok(child)
-            }
+        let mut rights = RangeMap::new(self.alloc);
+        let mut marks = RangeMap::new(self.alloc);
+        match self.fill(&mut rights, &mut marks, clauses, last) {
+            Ok(()) => Ok(self.started(rights, marks, self.is_child_final(last))),
             Err(refused) => Err(refused),
         }
     }
@@ -221,40 +216,73 @@ impl Context {
         self.is_final || last
     }
 
-    /// What these clauses give to a new task.
-    fn given(&self, clauses: &List<Access>, last: bool) -> Result<Given, JudgeRefused>
-        ensures rights { IfOk result (λ given. (c : ℕ) → right_at given.rights.pieces c ≡ right_from (self.now.final || last) clauses.now c) }
-        ensures stale { IfOk result (λ given. (c : ℕ) → is_none (value_at given.stale.pieces c) ≡ is_fresh clauses.now c) }
+    /// Puts the rights that these clauses give to a new task into an empty map, and tells whether they may be given.
+    fn give(
+        &self,
+        rights: &mut RangeMap<Right>,
+        clauses: &List<Access>,
+        last: bool,
+    ) -> Result<(), JudgeRefused>
+        requires { rights.old.pieces ≡ [] }
+        ensures rights { OnOk result ((c : ℕ) → right_at rights.new.pieces c ≡ right_from (self.now.final || last) clauses.now c) }
         ensures allowed { OnOk result (clause_fault self.now clauses.now (self.now.final || last) ≡ None) }
         ensures refused { IfErr result (IsRefusal (clause_fault self.now clauses.now (self.now.final || last))) }
     {
-        let given = Given::of(self.alloc, clauses.as_slice(), self.is_child_final(last))?;
-        match self.check_given(&given, clauses) {
-            Ok(()) => Ok(given),
+        let is_mixed = join_all(rights, clauses.as_slice(), self.is_child_final(last))?;
+        self.check_given(rights, clauses, is_mixed)
+    }
+
+    /// The fault where clauses give these rights.
+    fn check_given(
+        &self,
+        given: &RangeMap<Right>,
+        clauses: &List<Access>,
+        is_mixed: bool,
+    ) -> Result<(), JudgeRefused>
+        ensures allowed { OnOk result (given_fault is_mixed (right_of self.now) (right_at given.now.pieces) clauses.now ≡ None) }
+        ensures refused { IfErr result (IsRefusal (given_fault is_mixed (right_of self.now) (right_at given.now.pieces) clauses.now)) }
+    {
+        if is_mixed {
+            return Err(JudgeRefused::Fault(FaultKind::MixedAccess));
+        }
+        match check_covered(&self.rights, given, clauses.as_slice()) {
+            Ok(()) => Ok(()),
             Err(kind) => Err(JudgeRefused::Fault(kind)),
         }
     }
 
-    /// The fault where clauses give what they give.
-    fn check_given(&self, given: &Given, clauses: &List<Access>) -> Result<(), FaultKind>
-        ensures { result_err result ≡ (if given.now.is_mixed then Some fault.MixedAccess else cover_fault (right_of self.now) (right_at given.now.rights.pieces) clauses.now) }
+    /// Puts the rights and the marks with which a new task starts into empty maps, and tells whether it may start.
+    fn fill(
+        &self,
+        rights: &mut RangeMap<Right>,
+        marks: &mut RangeMap<Mark>,
+        clauses: &List<Access>,
+        last: bool,
+    ) -> Result<(), JudgeRefused>
+        requires rights { rights.old.pieces ≡ [] }
+        requires marks { marks.old.pieces ≡ [] }
+        ensures rights { OnOk result ((c : ℕ) → c < length self.now.entries → right_at rights.new.pieces c ≡ right_from (self.now.final || last) clauses.now c) }
+        ensures marks { OnOk result ((c : ℕ) → c < length self.now.entries → mark_at marks.new.pieces c ≡ mark_from (self.now.final || last) clauses.now c) }
+        ensures rights_end { OnOk result (EndsBefore (length self.now.entries) rights.new.pieces) }
+        ensures marks_end { OnOk result (EndsBefore (length self.now.entries) marks.new.pieces) }
+        ensures allowed { OnOk result (clause_fault self.now clauses.now (self.now.final || last) ≡ None) }
+        ensures refused { IfErr result (IsRefusal (clause_fault self.now clauses.now (self.now.final || last))) }
     {
-        if given.is_mixed {
-            return Err(FaultKind::MixedAccess);
-        }
-        check_covered(&self.rights, &given.rights, clauses.as_slice())
+        self.give(rights, clauses, last)?;
+        mark_all(marks, rights, clauses.as_slice())?;
+        rights.truncate(self.cells)?;
+        marks.truncate(self.cells)?;
+        Ok(())
     }
 
-    /// The context in which a new task starts to which so much is given.
-    fn started(&self, given: Given, is_final: bool) -> Result<Context, AllocError>
-        requires { self.now.depth < 64 }
-        ensures { IfOk result (λ child. child ≡ start_context self.now (right_at given.rights.pieces) (λ c. first_mark (right_at given.rights.pieces c) (is_none (value_at given.stale.pieces c))) is_final) }
+    /// The context in which a new task starts that has these rights and marks.
+    fn started(&self, rights: RangeMap<Right>, marks: RangeMap<Mark>, is_final: bool) -> Context
+        requires depth { self.now.depth < 64 }
+        requires rights { EndsBefore (length self.now.entries) rights.pieces }
+        requires marks { EndsBefore (length self.now.entries) marks.pieces }
+        ensures { result ≡ start_context self.now (right_at rights.pieces) (mark_at marks.pieces) is_final }
     {
-        let mut marks = given.marks(self.alloc)?;
-        marks.truncate(self.cells)?;
-        let mut rights = given.rights;
-        rights.truncate(self.cells)?;
-        Ok(Context {
+        Context {
             alloc: self.alloc,
             cells: self.cells,
             rights,
@@ -265,7 +293,7 @@ impl Context {
             created: 0,
             depth: self.depth + 1,
             is_final,
-        })
+        }
     }
 
     /// Notes that the task has created one more.
@@ -281,8 +309,8 @@ impl Context {
         ensures ok { OnOk result (self.new ≡ lend (right_from false accesses.now) self.old) }
         ensures err { OnErr result (self.new ≡ self.old) }
     {
-        let given = Given::of(self.alloc, accesses.as_slice(), false)?;
-        self.lend_rights(&given.rights)
+        let given = rights_of(self.alloc, accesses.as_slice(), false)?;
+        self.lend_rights(&given)
     }
 
     /// Lends the cells of a child to it, with the right that it has to each. Where memory is wanting the context stays.
@@ -309,8 +337,8 @@ impl Context {
         ensures ok { OnOk result (self.new ≡ made (right_from false accesses.now) self.old) }
         ensures err { OnErr result (self.new ≡ self.old) }
     {
-        let given = Given::of(self.alloc, accesses.as_slice(), false)?;
-        self.mark_rights(&given.rights)
+        let given = rights_of(self.alloc, accesses.as_slice(), false)?;
+        self.mark_rights(&given)
     }
 
     /// Marks the cells as written that a child has a right to write. Where memory is wanting the context stays.
@@ -337,11 +365,8 @@ impl Context {
         ensures allowed { OnOk result (release_fault self.now clauses.now ≡ None) }
         ensures refused { IfErr result (IsRefusal (release_fault self.now clauses.now)) }
     {
-        let given = Given::of(self.alloc, clauses.as_slice(), false)?;
-        match check_covered(&self.rights, &given.rights, clauses.as_slice()) {
-            Ok(()) => Ok(()),
-            Err(kind) => Err(JudgeRefused::Fault(kind)),
-        }
+        let given = rights_of(self.alloc, clauses.as_slice(), false)?;
+        self.check_given(&given, clauses, false)
     }
 
     /// Ends the right to the cells of these clauses, of which it was tested that they may be released. Where memory is wanting
@@ -423,21 +448,27 @@ impl Context {
     pub fn copy(&self) -> Result<Context, AllocError>
         ensures { IfOk result (λ copy. copy ≡ self.now) }
     {
-        let rights = self.rights.copy()?;
-        let lent = self.lent.copy()?;
-        let marks = self.marks.copy()?;
-        Ok(Context {
-            alloc: self.alloc,
-            cells: self.cells,
-            rights,
-            lent,
-            marks,
-            ticks: self.ticks,
-            fuel: self.fuel,
-            created: self.created,
-            depth: self.depth,
-            is_final: self.is_final,
-        })
+        let mut rights = RangeMap::new(self.alloc);
+        let mut lent = RangeMap::new(self.alloc);
+        let mut marks = RangeMap::new(self.alloc);
+        let rights_made = copy_to(&self.rights, &mut rights);
+        let lent_made = copy_to(&self.lent, &mut lent);
+        let marks_made = copy_to(&self.marks, &mut marks);
+        match rights_made.and(lent_made).and(marks_made) {
+            Ok(()) => Ok(Context {
+                alloc: self.alloc,
+                cells: self.cells,
+                rights,
+                lent,
+                marks,
+                ticks: self.ticks,
+                fuel: self.fuel,
+                created: self.created,
+                depth: self.depth,
+                is_final: self.is_final,
+            }),
+            Err(full) => Err(full),
+        }
     }
 
     /// How many tasks stand above this one: 64 at most.
@@ -461,6 +492,14 @@ impl Context {
     {
         self.is_final
     }
+}
+
+/// Puts a copy of a map in the place of another, which it drops.
+fn copy_to<T: Copy + Eq>(map: &RangeMap<T>, copy: &mut RangeMap<T>) -> Result<(), AllocError>
+    ensures { OnOk result (copy.new.pieces ≡ map.now.pieces) }
+{
+    *copy = map.copy()?;
+    Ok(())
 }
 
 /// The rights of main to so many cells.

@@ -1,7 +1,7 @@
 //! What clauses give to a new task, by ranges. A call costs what the runs of alike cells in the ranges of the clauses cost,
 //! however many cells they have.
-ghost use Rattle.std.specs.Prelude.{◌≡◌, ◌≤◌, ◌-◌, ◌&&◌, ℕ, if◌then◌else◌, [], is_none, IfOk, OnOk};
-ghost use Rattle.oss_ranges.specs.Cells.{is_within, value_at};
+ghost use Rattle.std.specs.Prelude.{◌≡◌, ◌≤◌, ◌-◌, ℕ, true, if◌then◌else◌, [], IfOk, OnOk};
+ghost use Rattle.oss_ranges.specs.Cells.{is_within};
 ghost use Rattle.oss_model.specs.Rights.{any_cell, any_from, Written, first_mark, is_fresh, is_mixed, is_unjoinable, joined_right, right_from};
 ghost use Rattle.oss_judge.specs.Seen.{mark_at, mark_seen, right_at, right_seen};
 
@@ -14,89 +14,23 @@ use std::alloc::{AllocError, Global};
 /// A program has no cell from here on.
 const CELLS: u32 = 1_048_576;
 
-/// What is kept of a cell that some clause names that is neither `out` nor `weakout`: its value is an old one, which the task may
-/// read.
-#[derive(Clone, Copy, Debug, PartialEq, Eq)]
-enum Stale {
-    Named,
-}
-
-/// What clauses give to a new task: the rights to cells, and which of them some clause names that is neither `out` nor
-/// `weakout`.
-#[derive(Drop)]
-pub(crate) struct Given {
-    pub(crate) rights: RangeMap<Right>,
-    stale: RangeMap<Stale>,
-    /// Clauses name a cell with modes that cannot be joined.
-    pub(crate) is_mixed: bool,
-}
-
-impl Given {
-    /// What clauses give. A weak access counts as strong where the task is final.
-    pub(crate) fn of(alloc: Global, clauses: &[Access], is_final: bool) -> Result<Given, AllocError>
-        ensures rights { IfOk result (λ given. (c : ℕ) → right_at given.rights.pieces c ≡ right_from is_final clauses.now c) }
-        ensures stale { IfOk result (λ given. (c : ℕ) → is_none (value_at given.stale.pieces c) ≡ is_fresh clauses.now c) }
-        ensures mixed { IfOk result (λ given. given.is_mixed ≡ any_cell (is_mixed is_final clauses.now) clauses.now) }
-    {
-        let mut rights = RangeMap::new(alloc);
-        let is_mixed = join_all(&mut rights, clauses, is_final)?;
-        let stale = stale_of(alloc, clauses)?;
-        Ok(Given {
-            rights,
-            stale,
-            is_mixed,
-        })
-    }
-
-    /// The marks with which the cells of the new task start.
-    pub(crate) fn marks(&self, alloc: Global) -> Result<RangeMap<Mark>, AllocError>
-        ensures { IfOk result (λ marks. (c : ℕ) → mark_at marks.pieces c ≡ first_mark (right_at self.now.rights.pieces c) (is_none (value_at self.now.stale.pieces c))) }
-    {
-        let mut marks = RangeMap::new(alloc);
-        let mut from = 0;
-        while from < CELLS {
-            let (right, right_end) = self.rights.run_from(from, CELLS);
-            let (stale, end) = self.stale.run_from(from, right_end);
-            start(
-                &mut marks,
-                Range { lo: from, hi: end },
-                first_of(told(right), stale),
-            )?;
-            from = end;
-        }
-        Ok(marks)
-    }
-}
-
-/// The mark of a cell with this right, where clauses of `out` and `weakout` alone name it or another does.
-fn first_of(right: Right, stale: Option<Stale>) -> Mark
-    ensures { mark_seen result ≡ first_mark (right_seen right) (is_none stale) }
+/// The rights that clauses give, by a map of their own. A weak access counts as strong where the task is final.
+pub(crate) fn rights_of(
+    alloc: Global,
+    clauses: &[Access],
+    is_final: bool,
+) -> Result<RangeMap<Right>, AllocError>
+    ensures { IfOk result (λ rights. (c : ℕ) → right_at rights.pieces c ≡ right_from is_final clauses.now c) }
 {
-    match right {
-        Right::Nothing => Mark::Written,
-        Right::Released => Mark::Written,
-        Right::Holds(Mode::Read, _) => Mark::Written,
-        Right::Holds(Mode::Fold(_), _) => Mark::Written,
-        Right::Holds(Mode::Write, _) => match stale {
-            Some(_) => Mark::Written,
-            None => Mark::Unwritten,
-        },
-    }
-}
-
-/// Gives the cells of a range their first mark. That they are written is what the map tells by itself.
-fn start(marks: &mut RangeMap<Mark>, range: Range, mark: Mark) -> Result<(), AllocError>
-    requires { (c : ℕ) → range.lo ≤ c → mark_at marks.old.pieces c ≡ Written }
-    ensures { OnOk result ((c : ℕ) → mark_at marks.new.pieces c ≡ (if is_within range.lo range.hi c then mark_seen mark else mark_at marks.old.pieces c)) }
-{
-    match mark {
-        Mark::Unwritten => marks.assign(range, Mark::Unwritten),
-        Mark::Written => Ok(()),
+    let mut rights = RangeMap::new(alloc);
+    match join_all(&mut rights, clauses, is_final) {
+        Ok(_) => Ok(rights),
+        Err(full) => Err(full),
     }
 }
 
 /// Puts the rights that clauses give into an empty map, and says whether two of the clauses cannot be joined.
-fn join_all(
+pub(crate) fn join_all(
     rights: &mut RangeMap<Right>,
     clauses: &[Access],
     is_final: bool,
@@ -151,24 +85,64 @@ fn join(
     Ok(())
 }
 
-/// The cells that some clause names that is neither `out` nor `weakout`.
-fn stale_of(alloc: Global, clauses: &[Access]) -> Result<RangeMap<Stale>, AllocError>
-    ensures { IfOk result (λ stale. (c : ℕ) → is_none (value_at stale.pieces c) ≡ is_fresh clauses.now c) }
+/// Puts the marks with which the cells of a new task start into an empty map. It has the rights that the clauses give.
+pub(crate) fn mark_all(
+    marks: &mut RangeMap<Mark>,
+    rights: &RangeMap<Right>,
+    clauses: &[Access],
+) -> Result<(), AllocError>
+    requires { marks.old.pieces ≡ [] }
+    ensures { OnOk result ((c : ℕ) → mark_at marks.new.pieces c ≡ first_mark (right_at rights.now.pieces c) (is_fresh clauses.now c)) }
 {
-    let mut stale = RangeMap::new(alloc);
+    mark_writes(marks, rights)?;
     for clause in clauses {
-        name(&mut stale, clause.range, clause.fresh)?;
+        name(marks, clause.range, clause.fresh)?;
     }
-    Ok(stale)
+    Ok(())
 }
 
-/// Adds the cells of a clause, unless it is of `out` or `weakout`.
-fn name(stale: &mut RangeMap<Stale>, range: Range, fresh: bool) -> Result<(), AllocError>
-    ensures { OnOk result ((c : ℕ) → is_none (value_at stale.new.pieces c) ≡ (if is_within range.lo range.hi c then fresh && is_none (value_at stale.old.pieces c) else is_none (value_at stale.old.pieces c))) }
+/// Puts the marks into an empty map with which cells start that `out` and `weakout` alone name.
+fn mark_writes(marks: &mut RangeMap<Mark>, rights: &RangeMap<Right>) -> Result<(), AllocError>
+    requires { marks.old.pieces ≡ [] }
+    ensures { OnOk result ((c : ℕ) → mark_at marks.new.pieces c ≡ first_mark (right_at rights.now.pieces c) true) }
 {
-    if fresh {
-        Ok(())
-    } else {
-        stale.assign(range, Stale::Named)
+    let mut from = 0;
+    while from < CELLS {
+        let (right, end) = rights.run_from(from, CELLS);
+        start(marks, Range { lo: from, hi: end }, first_of(told(right)))?;
+        from = end;
     }
+    Ok(())
+}
+
+/// The mark of a cell with this right, where clauses of `out` and `weakout` alone name it.
+fn first_of(right: Right) -> Mark
+    ensures { mark_seen result ≡ first_mark (right_seen right) true }
+{
+    match right {
+        Right::Nothing => Mark::Written,
+        Right::Released => Mark::Written,
+        Right::Holds(Mode::Read, _) => Mark::Written,
+        Right::Holds(Mode::Write, _) => Mark::Unwritten,
+        Right::Holds(Mode::Fold(_), _) => Mark::Written,
+    }
+}
+
+/// Gives the cells of a range their first mark. That they are written is what the map tells by itself.
+fn start(marks: &mut RangeMap<Mark>, range: Range, mark: Mark) -> Result<(), AllocError>
+    requires { (c : ℕ) → range.lo ≤ c → mark_at marks.old.pieces c ≡ Written }
+    ensures { OnOk result ((c : ℕ) → mark_at marks.new.pieces c ≡ (if is_within range.lo range.hi c then mark_seen mark else mark_at marks.old.pieces c)) }
+{
+    match mark {
+        Mark::Unwritten => marks.assign(range, Mark::Unwritten),
+        Mark::Written => Ok(()),
+    }
+}
+
+/// Takes a clause into the marks: unless it is of `out` or `weakout`, its cells have a value, an old one that the task may
+/// read.
+fn name(marks: &mut RangeMap<Mark>, range: Range, fresh: bool) -> Result<(), AllocError>
+    ensures { OnOk result ((c : ℕ) → mark_at marks.new.pieces c ≡ (if is_within range.lo range.hi c then (if fresh then mark_at marks.old.pieces c else Written) else mark_at marks.old.pieces c)) }
+{
+    if fresh { Ok(()) } else { marks.clear(range) }
 }

@@ -6,7 +6,7 @@ use crate::right::Right;
 use oss_syntax::Mode;
 
 /// What a task has lent of a cell to its children, since it last waited for them.
-#[derive(Clone, Copy, Debug, PartialEq, Eq)]
+#[derive(Clone, Copy, PartialEq, Eq)]
 pub(crate) enum Lending {
     Free,
     Reading,

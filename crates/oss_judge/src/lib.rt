@@ -11,6 +11,8 @@ mod mark;
 mod modes;
 mod refused;
 mod right;
+#[cfg(test)]
+mod tests;
 mod touches;
 
 pub use context::Context;

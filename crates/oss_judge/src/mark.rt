@@ -2,7 +2,7 @@ ghost use Rattle.std.specs.Prelude.{◌≡◌};
 ghost use Rattle.oss_judge.specs.Seen.{mark_seen, mark_told};
 
 /// Whether a cell has a value for the task: one that only `out` names has none before it is written.
-#[derive(Clone, Copy, Debug, PartialEq, Eq)]
+#[derive(Clone, Copy, PartialEq, Eq)]
 pub(crate) enum Mark {
     Unwritten,
     Written,

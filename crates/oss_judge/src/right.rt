@@ -8,7 +8,7 @@ use crate::modes::{is_covered, join_modes};
 use oss_syntax::{Mode, Op};
 
 /// What a task may do with a cell: nothing; nothing any more, since it has released the cell; or what its clauses say.
-#[derive(Clone, Copy, Debug, PartialEq, Eq)]
+#[derive(Clone, Copy, PartialEq, Eq)]
 pub(crate) enum Right {
     Nothing,
     Released,

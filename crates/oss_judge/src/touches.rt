@@ -1,8 +1,8 @@
 //! The faults of touches of one cell.
 ghost use Rattle.std.specs.Prelude.{◌≡◌};
 ghost use Rattle.std.specs.Result.{result_err};
-ghost use Rattle.oss_model.specs.Rights.{Folds, Reads, Writes, touch_fault};
-ghost use Rattle.oss_judge.specs.Parts.{lent_fault, unwritten_fault, written_fault};
+ghost use Rattle.oss_model.specs.Rights.{Folds, Mark as Marked, Reads, Writes, touch_fault};
+ghost use Rattle.oss_judge.specs.Parts.{unwritten_fault};
 ghost use Rattle.oss_judge.specs.Seen.{lending_seen, mark_seen, right_seen};
 
 use crate::lending::Lending;
@@ -20,7 +20,11 @@ pub(crate) fn may_read(right: Right, lent: Lending, mark: Mark) -> Result<(), Fa
         Right::Released => Err(FaultKind::Released),
         Right::Nothing => Err(FaultKind::NoRight),
         Right::Holds(_, false) => Err(FaultKind::NoRight),
-        Right::Holds(Mode::Read, true) => unless_lent_for_writing(lent),
+        Right::Holds(Mode::Read, true) => match lent {
+            Lending::Free => Ok(()),
+            Lending::Reading => Ok(()),
+            Lending::Writing => Err(FaultKind::Lent),
+        },
         Right::Holds(Mode::Write, true) => match lent {
             Lending::Writing => Err(FaultKind::Lent),
             Lending::Free | Lending::Reading => unless_unwritten(mark),
@@ -29,17 +33,20 @@ pub(crate) fn may_read(right: Right, lent: Lending, mark: Mark) -> Result<(), Fa
     }
 }
 
-/// A write of a cell.
-pub(crate) fn may_write(right: Right, lent: Lending, mark: Mark) -> Result<(), FaultKind>
-    ensures { result_err result ≡ touch_fault (right_seen right) (lending_seen lent) (mark_seen mark) Writes }
+/// A write of a cell. It needs no value, so the cell may have any mark.
+pub(crate) fn may_write(right: Right, lent: Lending) -> Result<(), FaultKind>
+    ensures { (mark : Marked) → result_err result ≡ touch_fault (right_seen right) (lending_seen lent) mark Writes }
 {
-    let _ = mark;
     match right {
         Right::Released => Err(FaultKind::Released),
         Right::Nothing => Err(FaultKind::NoRight),
         Right::Holds(_, false) => Err(FaultKind::NoRight),
         Right::Holds(Mode::Read, true) => Err(FaultKind::NoRight),
-        Right::Holds(Mode::Write, true) => unless_lent(lent),
+        Right::Holds(Mode::Write, true) => match lent {
+            Lending::Free => Ok(()),
+            Lending::Reading => Err(FaultKind::Lent),
+            Lending::Writing => Err(FaultKind::Lent),
+        },
         Right::Holds(Mode::Fold(_), true) => Err(FaultKind::BadReduction),
     }
 }
@@ -65,26 +72,6 @@ pub(crate) fn may_fold(right: Right, lent: Lending, mark: Mark, op: Op) -> Resul
                 Err(FaultKind::BadReduction)
             }
         }
-    }
-}
-
-fn unless_lent_for_writing(lent: Lending) -> Result<(), FaultKind>
-    ensures { result_err result ≡ written_fault (lending_seen lent) }
-{
-    match lent {
-        Lending::Free => Ok(()),
-        Lending::Reading => Ok(()),
-        Lending::Writing => Err(FaultKind::Lent),
-    }
-}
-
-fn unless_lent(lent: Lending) -> Result<(), FaultKind>
-    ensures { result_err result ≡ lent_fault (lending_seen lent) }
-{
-    match lent {
-        Lending::Free => Ok(()),
-        Lending::Reading => Err(FaultKind::Lent),
-        Lending::Writing => Err(FaultKind::Lent),
     }
 }
 

@@ -1,4 +1,4 @@
-use Rattle.std.proofs.Common.{◌≡◌, ◌≤◌, ◌<◌, ℕ, Bool, Some, ap, ◌∙◌, min, arith, if◌then◌else◌}
+use Rattle.std.proofs.Common.{◌≡◌, ◌<◌, ℕ, Bool, Some, ap, ◌∙◌, min, arith, if◌then◌else◌}
 use Rattle.std.proofs.lemmas.Bool.Decides.{nat_tests}
 use Rattle.oss_ranges.specs.Cells.{is_within}
 use Rattle.oss_judge.proofs.ChangeLemmas.{overlaid_behind, overlaid_more}

@@ -1,7 +1,7 @@
-use Rattle.std.proofs.Common.{◌≡◌, ◌≤◌, ◌<◌, ℕ, Some, None, refl, sym, ap, ◌∙◌, subst, length, [], ◌∷◌, ◌++◌, arith, Option}
+use Rattle.std.proofs.Common.{◌≡◌, ℕ, refl, sym, ap, ◌∙◌, arith, Option}
 use Rattle.oss_ranges.specs.Cells.{value_at}
-use Rattle.oss_judge.proofs.ChangeLemmas.{Along, along_more, along_skip}
-use Rattle.oss_judge.specs.Seen.{lending_seen, lending_told, lent_at, right_at, right_told, right_seen}
+use Rattle.oss_judge.proofs.ChangeLemmas.{along_more, along_skip}
+use Rattle.oss_judge.specs.Seen.{lending_told, lent_at, right_at, right_told, right_seen}
 use Rattle.oss_judge.specs.declared.lending.Lending.{Lending}
 use Rattle.oss_model.specs.Context.{lend_cell}
 use Rattle.oss_model.specs.Rights as model

@@ -1,8 +1,8 @@
-use Rattle.std.proofs.Common.{◌≡◌, ◌≤◌, ◌<◌, ℕ, Some, None, true, false, refl, sym, ap, ◌∙◌, subst, length, arith, Option}
+use Rattle.std.proofs.Common.{◌≡◌, ℕ, true, false, refl, sym, ap, ◌∙◌, arith, Option}
 use Rattle.oss_ranges.specs.Cells.{value_at}
-use Rattle.oss_judge.proofs.ChangeLemmas.{Along, along_more, along_skip}
+use Rattle.oss_judge.proofs.ChangeLemmas.{along_more, along_skip}
 use Rattle.oss_judge.specs.Parts.{is_write}
-use Rattle.oss_judge.specs.Seen.{mark_at, mark_told, right_at, right_told, right_seen}
+use Rattle.oss_judge.specs.Seen.{mark_at, mark_told, right_at, right_told}
 use Rattle.oss_judge.specs.declared.mark.Mark.{Mark}
 use Rattle.oss_model.specs.Context.{made_mark}
 use Rattle.oss_model.specs.Rights as model

@@ -1,4 +1,4 @@
-use Rattle.std.proofs.Common.{◌≡◌, ℕ, refl, sym, ap, ◌∙◌, map, false, Some, None, if◌then◌else◌, arith}
+use Rattle.std.proofs.Common.{ap, ◌∙◌, false}
 use Rattle.oss_judge.proofs.ViewLemmas.{own_mark, own_right}
 use Rattle.oss_judge.specs.Joined.{held_mark, held_right}
 use Rattle.oss_judge.specs.Seen.{mark_at}

@@ -1,4 +1,4 @@
-use Rattle.std.proofs.Common.{◌≡◌, ℕ, refl, sym, ap, ◌∙◌, map, Some, None, if◌then◌else◌, arith}
+use Rattle.std.proofs.Common.{◌∙◌}
 use Rattle.oss_judge.proofs.ViewLemmas.{made_same, own_right}
 use Rattle.oss_judge.specs.Seen.{right_at}
 use Rattle.oss_model.specs.Context.{right_of}

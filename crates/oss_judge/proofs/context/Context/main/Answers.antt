@@ -1,7 +1,6 @@
-use Rattle.std.proofs.Common.{◌≡◌, ◌<◌, ℕ, refl, ap, ◌∙◌, true, false}
+use Rattle.std.proofs.Common.{ap, true, false}
 use Rattle.oss_judge.proofs.ViewLemmas.{entry_is, same_table}
 use Rattle.oss_judge.specs.Seen.{entry_at, lent_at, lending_told, mark_at, mark_told, right_at}
-use Rattle.oss_model.specs.Context.{Context}
 use Rattle.oss_model.specs.Rights.{Free, Holds, Written}
 use Rattle.oss_ranges.specs.Cells.{value_at}
 use Rattle.oss_syntax.specs.declared.access.Mode.TheVariants.{Write}

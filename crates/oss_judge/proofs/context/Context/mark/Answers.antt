@@ -1,11 +1,7 @@
-use Rattle.std.proofs.Common.{◌≡◌, ◌≤◌, ◌<◌, ◌+◌, ℕ, refl, sym, ap, ◌∙◌, List, length, get_or, arith, Bool, true, false, Option, Some, None, if◌then◌else◌}
-use Rattle.std.specs.Prelude.{◌==◌}
-use Rattle.std.proofs.lemmas.Bool.Decides.{nat_tests}
-use Rattle.oss_judge.proofs.ViewLemmas.{Counts, lent_changed, marks_changed, rights_changed, seen, seen_lent, seen_mark, seen_right}
-use Rattle.oss_judge.specs.Seen.{entry_at, lent_at, lending_told, mark_at, mark_told, right_at, right_told}
-use Rattle.oss_model.specs.Context.{Context, lent_of, mark_of, right_of, waited, wrote}
-use Rattle.oss_model.specs.Rights.{Free, Written}
-use Rattle.oss_ranges.specs.Cells.{is_within, value_at}
+use Rattle.std.proofs.Common.{sym, ap, ◌∙◌}
+use Rattle.oss_judge.proofs.ViewLemmas.{seen_mark}
+use Rattle.oss_judge.specs.Seen.{mark_told}
+use Rattle.oss_model.specs.Context.{mark_of}
 use Rattle.oss_judge.proofs.context.Context.mark.Goals as goal
 
 pub returns : goal.returns

@@ -1,4 +1,4 @@
-use Rattle.std.proofs.Common.{◌≡◌, ℕ, refl, sym, ap, ◌∙◌, map, Some, None, if◌then◌else◌, arith}
+use Rattle.std.proofs.Common.{ap, ◌∙◌, map}
 use Rattle.oss_judge.proofs.FaultLemmas.{wait_is}
 use Rattle.oss_judge.proofs.ViewLemmas.{own_right}
 use Rattle.oss_judge.specs.Parts.{reading, wait_fault}

@@ -1,4 +1,4 @@
-use Rattle.std.proofs.Common.{◌≡◌, ℕ, refl, sym, ap, ◌∙◌, map, Some, None, if◌then◌else◌, arith}
+use Rattle.std.proofs.Common.{ap, ◌∙◌, if◌then◌else◌}
 use Rattle.oss_ranges.specs.Cells.{value_at}
 use Rattle.oss_judge.proofs.ViewLemmas.{rights_changed}
 use Rattle.oss_judge.specs.Changed.{overlaid}
