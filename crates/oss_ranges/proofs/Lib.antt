@@ -2,6 +2,7 @@ pub mod AssignLemmas
 pub mod ClipLemmas
 pub mod CopyLemmas
 pub mod CutLemmas
+pub mod EdgeLemmas
 pub mod JoinLemmas
 pub mod MapLemmas
 pub mod MergeLemmas

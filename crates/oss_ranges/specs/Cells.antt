@@ -62,6 +62,15 @@ Cuts cell old new = IsCut cell new × ((other : ℕ) → IsCut other old → IsC
 abbrev pub CutsAround : {T : Type 0} → ℕ → ℕ → List (Piece T) → List (Piece T) → Type 0
 CutsAround lo hi old new = IsCut lo new × IsCut hi new × ((other : ℕ) → (other ≤ lo) ⊎ (hi ≤ other) → IsCut other old → IsCut other new)
 
+-- A piece begins or ends at this cell: the edges of `2..5 a`, `7..8 b` are 2, 5, 7 and 8.
+abbrev pub IsEdge : {T : Type 0} → ℕ → List (Piece T) → Type 0
+IsEdge cell [] = ⊥
+IsEdge cell (p ∷ rest) = (cell ≡ p.lo) ⊎ (cell ≡ p.hi) ⊎ IsEdge cell rest
+
+-- No edge is new but these two cells: `2..5 a` in two at 4 has the new edge 4 alone.
+abbrev pub EdgesFrom : {T : Type 0} → ℕ → ℕ → List (Piece T) → List (Piece T) → Type 0
+EdgesFrom lo hi old new = (cell : ℕ) → IsEdge cell new → (cell ≡ lo) ⊎ (cell ≡ hi) ⊎ IsEdge cell old
+
 -- the piece that has a cell and those before it, in two at the cell
 abbrev pub cut_at : {T : Type 0} → ℕ → List (Piece T) → List (Piece T)
 cut_at cell [] = []

@@ -1,4 +1,6 @@
 -- The sides of a tree have fewer pieces than the tree.
+-- A proof that stands among the definitions: the model of `Tree` names it (`size_decreases`), and an item of src/ may name
+-- nothing of proofs/.
 use Rattle.std.specs.Prelude.{◌≤◌, ◌+◌, List, ◌++◌, length, max, Option, Some, None}
 use Rattle.std.proofs.Common.{arith, length-append}
 use Rattle.oss_ranges.specs.Trees.{IsTree, HasPiece, own, pieces_of}

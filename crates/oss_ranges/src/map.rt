@@ -1,5 +1,5 @@
-ghost use Rattle.std.specs.Prelude.{◌≡◌, ◌≤◌, ◌<◌, ◌+◌, ◌*◌, ◌^◌, [], ◌∷◌, ℕ, true, Some, None, is_some, IfOk, IsOk, OnOk, OnErr, length};
-ghost use Rattle.oss_ranges.specs.Cells.{Assigns, Cuts, CutsAround, IsMerged, Restricts, Rises, SameMap, cut_at, inserted, is_before, joined_at, next_of, outside, removed, union_of, value_at};
+ghost use Rattle.std.specs.Prelude.{◌≡◌, ◌≤◌, ◌<◌, ◌+◌, ◌*◌, ◌^◌, ◌⊎◌, [], ◌∷◌, ℕ, true, Some, None, is_some, IfOk, IsOk, OnOk, OnErr, length};
+ghost use Rattle.oss_ranges.specs.Cells.{Assigns, Cuts, CutsAround, EdgesFrom, IsEdge, IsMerged, Restricts, Rises, SameMap, cut_at, inserted, is_before, joined_at, next_of, outside, removed, union_of, value_at};
 
 use crate::piece::Piece;
 use crate::pieces::Pieces;
@@ -64,6 +64,7 @@ impl<T: Copy + Eq> RangeMap<T> {
         ensures alike { (cell : ℕ) → from ≤ cell → cell < result.1 → value_at self.now.pieces cell ≡ result.0 }
         ensures some { from < result.1 }
         ensures within { result.1 ≤ to }
+        ensures whole { (result.1 ≡ to) ⊎ IsEdge result.1 self.now.pieces }
         ensures past { (cell : ℕ) → 1048576 ≤ cell → value_at self.now.pieces cell ≡ None }
     {
         match self.tree.next(from) {
@@ -90,6 +91,7 @@ impl<T: Copy + Eq> RangeMap<T> {
     pub fn assign(&mut self, range: Range, value: T) -> Result<(), AllocError>
         ensures map { OnOk result (Assigns range.lo range.hi (Some value) self.old.pieces self.new.pieces) }
         ensures cuts { OnOk result (CutsAround range.lo range.hi self.old.pieces self.new.pieces) }
+        ensures edges { OnOk result (EdgesFrom range.lo range.hi self.old.pieces self.new.pieces) }
         ensures refused { OnErr result (self.new.pieces ≡ self.old.pieces) }
         ensures room { 3 ≤ self.old.spares → IsOk result }
         ensures spares { self.old.spares ≤ self.new.spares + 3 }
@@ -108,6 +110,7 @@ impl<T: Copy + Eq> RangeMap<T> {
     pub fn clear(&mut self, range: Range) -> Result<(), AllocError>
         ensures map { OnOk result (Assigns range.lo range.hi None self.old.pieces self.new.pieces) }
         ensures cuts { OnOk result (CutsAround range.lo range.hi self.old.pieces self.new.pieces) }
+        ensures edges { OnOk result (EdgesFrom range.lo range.hi self.old.pieces self.new.pieces) }
         ensures refused { OnErr result (self.new.pieces ≡ self.old.pieces) }
         ensures room { 3 ≤ self.old.spares → IsOk result }
         ensures spares { self.old.spares ≤ self.new.spares + 3 }
@@ -121,7 +124,10 @@ impl<T: Copy + Eq> RangeMap<T> {
     pub fn truncate(&mut self, cells: u32) -> Result<(), AllocError>
         ensures here { OnOk result ((cell : ℕ) → cell < cells → value_at self.new.pieces cell ≡ value_at self.old.pieces cell) }
         ensures past { OnOk result ((cell : ℕ) → cells ≤ cell → value_at self.new.pieces cell ≡ None) }
+        ensures edges { OnOk result (EdgesFrom cells 1048576 self.old.pieces self.new.pieces) }
         ensures refused { OnErr result (self.new.pieces ≡ self.old.pieces) }
+        ensures room { 3 ≤ self.old.spares → IsOk result }
+        ensures spares { self.old.spares ≤ self.new.spares + 3 }
     {
         self.prepare(NODES)?;
         if cells < CELLS {
@@ -138,6 +144,7 @@ impl<T: Copy + Eq> RangeMap<T> {
     pub fn split_at(&mut self, cell: u32) -> Result<(), AllocError>
         ensures map { SameMap self.old.pieces self.new.pieces }
         ensures cuts { OnOk result (Cuts cell self.old.pieces self.new.pieces) }
+        ensures edges { OnOk result (EdgesFrom cell cell self.old.pieces self.new.pieces) }
         ensures refused { OnErr result (self.new.pieces ≡ self.old.pieces) }
         ensures room { 3 ≤ self.old.spares → IsOk result }
         ensures spares { self.old.spares ≤ self.new.spares + 3 }
@@ -147,10 +154,11 @@ impl<T: Copy + Eq> RangeMap<T> {
         Ok(())
     }
 
-    /// Makes room: as many calls of `assign`, `clear` and `split_at` succeed from here on. The map stays as it was.
+    /// Makes room: as many calls of `assign`, `clear`, `truncate` and `split_at` succeed from here on. The map stays as it was.
     pub fn reserve(&mut self, calls: u32) -> Result<(), AllocError>
         ensures same { self.new.pieces ≡ self.old.pieces }
         ensures room { OnOk result (3 * calls ≤ self.new.spares) }
+        ensures enough { 3 * calls ≤ self.old.spares → IsOk result }
         ensures spares { self.old.spares ≤ self.new.spares }
     {
         self.prepare(NODES * calls as usize)

@@ -102,7 +102,9 @@ fn first_of<T: Copy>(first: Option<Piece<T>>, own: Piece<T>) -> Option<Piece<T>>
 
 impl<T: Copy> Node<T> {
     /// A node that is in no tree.
-    pub fn spare() -> Node<T> {
+    pub fn spare() -> Node<T>
+        ensures { result.piece ≡ None }
+    {
         Node {
             left: Tree::new(),
             piece: None,

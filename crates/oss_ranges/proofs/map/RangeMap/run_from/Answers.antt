@@ -1,7 +1,8 @@
-use Rattle.std.proofs.Common.{◌≡◌, Some, None, sym, ◌∙◌, ap, arith}
+use Rattle.std.proofs.Common.{◌≡◌, Some, None, sym, ◌∙◌, ap, subst, arith}
 use Rattle.oss_ranges.proofs.CutLemmas.{next_within}
+use Rattle.oss_ranges.proofs.EdgeLemmas.{edge_least, edges_next}
 use Rattle.oss_ranges.proofs.MapLemmas.{none_past, run_gap, run_none, run_value}
-use Rattle.oss_ranges.specs.Cells.{next_of, value_at}
+use Rattle.oss_ranges.specs.Cells.{IsEdge, next_of, value_at}
 use Rattle.oss_ranges.proofs.map.RangeMap.run_from.Goals as goal
 
 pub returns-then-piece-from-clause-alike : goal.returns-then-piece-from-clause-alike
@@ -46,3 +47,17 @@ pub returns-in-None-clause-past : goal.returns-in-None-clause-past
 returns-in-None-clause-past g c = λ cell far.
     let same : c.self.inside.tree ≡ c.args.self.now.pieces = ap (λ k. k.pieces) c.self.view_is in
     sym (ap (λ xs. value_at xs cell) same) ∙ none_past 0 1048576 cell c.self.inside.tree c.self.invariant far
+
+pub returns-then-piece-from-clause-whole : goal.returns-then-piece-from-clause-whole
+returns-then-piece-from-clause-whole g c =
+    let found : next_of c.args.from c.self.inside.tree ≡ Some c.in-Some.piece = sym c.next.ensures ∙ c.in-Some.is in
+    let same : c.self.inside.tree ≡ c.args.self.now.pieces = ap (λ k. k.pieces) c.self.view_is in
+    let edges = edges_next c.args.from c.in-Some.piece c.self.inside.tree found in
+    rw c.min.ensures (edge_least c.in-Some.piece.hi c.args.to c.args.self.now.pieces (subst (λ xs. IsEdge c.in-Some.piece.hi xs) same edges.1))
+
+pub returns-else-piece-from-clause-whole : goal.returns-else-piece-from-clause-whole
+returns-else-piece-from-clause-whole g c =
+    let found : next_of c.args.from c.self.inside.tree ≡ Some c.in-Some.piece = sym c.next.ensures ∙ c.in-Some.is in
+    let same : c.self.inside.tree ≡ c.args.self.now.pieces = ap (λ k. k.pieces) c.self.view_is in
+    let edges = edges_next c.args.from c.in-Some.piece c.self.inside.tree found in
+    rw c.min-else-piece-from.ensures (edge_least c.in-Some.piece.lo c.args.to c.args.self.now.pieces (subst (λ xs. IsEdge c.in-Some.piece.lo xs) same edges.0))

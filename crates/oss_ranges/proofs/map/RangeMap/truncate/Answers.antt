@@ -17,3 +17,6 @@ returns-in_ok-clear-clause-past g c = λ cell far. c.in_ok-clear.ensures.map cel
 
 pub returns-else-cells-lt-CELLS-clause-past : goal.returns-else-cells-lt-CELLS-clause-past
 returns-else-cells-lt-CELLS-clause-past g c = λ cell far. let high = c.if-cells-lt-CELLS.false in none_past 0 1048576 cell c.prepare.new.self.pieces c.in_ok-prepare.ensures.rising (omega arith)
+
+pub returns-in_ok-clear-clause-edges : goal.returns-in_ok-clear-clause-edges
+returns-in_ok-clear-clause-edges g c = rw c.in_ok-prepare.ensures.same at c.in_ok-clear.ensures.edges
