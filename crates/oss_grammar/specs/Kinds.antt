@@ -168,6 +168,7 @@ abbrev pub joined_kind : ValueKind → ValueKind → ValueKind
 joined_kind value.Signed right = right
 joined_kind value.Unsigned right = unless_unknown right value.Unsigned
 joined_kind (value.Pointer n) right = unless_unknown right (value.Pointer n)
+joined_kind (value.Rows n) right = value.Unknown
 joined_kind value.Nothing right = value.Unknown
 joined_kind value.Unknown right = value.Unknown
 
