@@ -1,7 +1,8 @@
 -- Expressions (C11 6.5): which list of tokens is an expression, and what its tree is. The grammar is C's own, left recursion
 -- and all, and speaks of whole lists: nothing is greedy, and nothing is left over. Where brackets, arguments and operands of a
 -- prefix begin, and where operators stand, is told of each derivation, since a text may not nest too deeply.
--- Read against: `a - b - 1` is `(a - b) - 1`; `- a[i] * 2` is `(-(a[i])) * 2`; `a[1][2]` and `a -` are no expressions.
+-- Read against: `a - b - 1` is `(a - b) - 1`; `- a[i] * 2` is `(-(a[i])) * 2`; `a[1][2]` is the tree of `(a[1])[2]`; `a[1][2][3]` and
+-- `a -` are no expressions.
 use Rattle.std.specs.Prelude.{◌≡◌, ℕ, suc, Bool, if◌then◌else◌, List, [], ◌∷◌, ◌++◌, codes, Option, Some, None}
 use Rattle.oss_syntax.specs.declared.token.Token.{Token}
 use Rattle.oss_syntax.specs.declared.token.TokenKind.{TokenKind}
@@ -14,7 +15,7 @@ use Rattle.oss_syntax.specs.declared.tree.expr.Expr.{Expr}
 use Rattle.oss_syntax.specs.declared.tree.expr.ExprKind.TheVariants as exprs
 use Rattle.oss_grammar.specs.OneToken.{is_symbol, IsOpen, IsClose, IsIndexOpen, IsIndexClose, IsComma}
 
--- How tightly the parts of an expression hold together, from 0: a primary expression, 1 one with an index, 2 one with
+-- How tightly the parts of an expression hold together, from 0: a primary expression, 1 one with an index or two, 2 one with
 -- prefixes, and then the binary operators, from 3, `*`, to 12, `||`, which is a whole expression (C11 6.5.1 to 6.5.14).
 -- `a[i]` is of level 1 and, as each tighter one, of all levels above; `a + b` is of level 4.
 abbrev pub primary_level : ℕ
@@ -70,7 +71,7 @@ operator_of k =
 -- The tokens are an expression of this level with this tree. Its line is that of its first token that is no `(`: so `(a)` is the
 -- same tree as `a`, and `(a) + b` has the line of `a`. `f(1, x)` is a call with two arguments, `f(1,)` and `f(,1)` are none.
 -- Checked on `a - b - 1`, which is `joined` of `a - b` at level 4 and of `1` at level 3, and nothing else, since `b - 1` is not
--- of level 3; and on `- a * b`, `joined` at level 3 of `- a`.
+-- of level 3; on `- a * b`, `joined` at level 3 of `- a`; and on `a[1][2]`, `indexed_again` of `a[1]`, behind which no third index stands.
 mutual
   pub data IsExpr : ℕ → List Token → Expr → Type 0 where
     number : {ts : List Token} (t : Token) (value : ℕ) (unsigned : Bool) → ts ≡ t ∷ [] → t.what ≡ kinds.Number value unsigned
@@ -84,9 +85,10 @@ mutual
     brackets : {ts : List Token} {e : Expr} (opened closed : Token) (inner : List Token)
         → ts ≡ opened ∷ (inner ++ closed ∷ []) → IsOpen opened → IsClose closed
         → IsExpr loosest_level inner e → IsExpr primary_level ts e
-    index : {ts : List Token} {a e : Expr} (front : List Token) (opened closed : Token) (inner : List Token)
+    indexed : {ts : List Token} {e : Expr} → IsIndexed ts e → IsExpr postfix_level ts e
+    indexed_again : {ts : List Token} {a e : Expr} (front : List Token) (opened closed : Token) (inner : List Token)
         → ts ≡ front ++ (opened ∷ (inner ++ closed ∷ [])) → IsIndexOpen opened → IsIndexClose closed
-        → IsExpr primary_level front a → IsExpr loosest_level inner e
+        → IsIndexed front a → IsExpr loosest_level inner e
         → IsExpr postfix_level ts (record { what = exprs.Index a e; line = a.line })
     prefixed : {ts : List Token} {e : Expr} (t : Token) (sign : UnOp) (operand : List Token)
         → ts ≡ t ∷ operand → prefix_of t.what ≡ Some sign
@@ -97,6 +99,13 @@ mutual
         → IsExpr (suc k) front a → IsExpr k back b
         → IsExpr (suc k) ts (record { what = exprs.Binary operator a b; line = a.line })
     tighter : {k : ℕ} {ts : List Token} {e : Expr} → IsExpr k ts e → IsExpr (suc k) ts e
+
+  -- an index behind a primary expression, behind which a second one may stand: `a[1]` is one, `a` is none
+  pub data IsIndexed : List Token → Expr → Type 0 where
+    index : {ts : List Token} {a e : Expr} (front : List Token) (opened closed : Token) (inner : List Token)
+        → ts ≡ front ++ (opened ∷ (inner ++ closed ∷ [])) → IsIndexOpen opened → IsIndexClose closed
+        → IsExpr primary_level front a → IsExpr loosest_level inner e
+        → IsIndexed ts (record { what = exprs.Index a e; line = a.line })
 
   -- the arguments of a call: none, or expressions with a comma between each two (C11 6.5.2)
   pub data IsArguments : List Token → List Expr → Type 0 where

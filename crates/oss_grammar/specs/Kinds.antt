@@ -1,7 +1,8 @@
 -- The kinds of values (C11 6.5), which of them a place allows, and the kinds of names and operators. An expression whose kind its
 -- place does not allow, or which takes its kind from one, has an unknown kind and breaks no further rule.
--- Read against: with `long x, a[2];` the expression `a * 2` breaks a rule at `a`, and `-(a * 2)` breaks no more than that; `a + x`
--- is a pointer; `&x` is a pointer to `long`, and `&(x + 1)` breaks a rule at `x`.
+-- Read against: with `long x, a[2], m[3][4];` the expression `a * 2` breaks a rule at `a`, and `-(a * 2)` breaks no more than that; `a + x`
+-- is a pointer; `&x` is a pointer to `long`, and `&(x + 1)` breaks a rule at `x`; `m[1]` is a pointer, `m[1][2]` a number, `&m[1]` and `m + 1`
+-- break a rule at `m`.
 use Rattle.std.specs.Prelude.{ℕ, Bool, true, false, if◌then◌else◌, List, [], ◌∷◌, ◌++◌}
 use Rattle.oss_syntax.specs.declared.tree.expr.BinOp.{BinOp}
 use Rattle.oss_syntax.specs.declared.tree.expr.BinOp.TheVariants as op
@@ -61,7 +62,10 @@ allows wanted.Pointer (value.Pointer n) = true
 allows wanted.NumberOrPointer value.Signed = true
 allows wanted.NumberOrPointer value.Unsigned = true
 allows wanted.NumberOrPointer (value.Pointer n) = true
+allows wanted.Indexed (value.Pointer n) = true
+allows wanted.Indexed (value.Rows n) = true
 allows (wanted.PointerTo m) (value.Pointer n) = same_number m n
+allows wanted.Anything (value.Rows n) = false
 allows wanted.Anything k = true
 allows _ _ = false
 
@@ -86,7 +90,8 @@ wanted_by kind.Nothing = wanted.Anything
 abbrev pub number_findings : Bool → ℕ → Findings
 number_findings unsigned line = record { line = line; at_first = []; behind = []; kind = if unsigned then value.Unsigned else value.Signed; object = object.ValueOnly }
 
--- a name: a function's name is no value, and an array's is a pointer to its first cell
+-- a name: a function's name is no value, an array's is a pointer to its first cell, and that of an array of two dimensions stands under
+-- an index alone
 abbrev pub name_rules : Named → ℕ → List Refused
 name_rules named.Missing line = broken refused.UnknownName line ∷ []
 name_rules named.Function line = broken refused.WrongKind line ∷ []
@@ -97,6 +102,7 @@ name_kind named.Missing = value.Unknown
 name_kind (named.Local k) = value_kind k
 name_kind (named.Scalar n) = number_kind n
 name_kind (named.Array n) = value.Pointer n
+name_kind (named.Grid n) = value.Rows n
 name_kind named.Function = value.Unknown
 
 abbrev pub name_object : Named → Object
@@ -107,21 +113,22 @@ name_object _ = object.ValueOnly
 abbrev pub name_findings : Named → ℕ → Findings
 name_findings m line = record { line = line; at_first = name_rules m line; behind = []; kind = name_kind m; object = name_object m }
 
--- what a pointer of this kind points to
+-- what a pointer of this kind points to; a row of an array of two dimensions is a pointer to its first cell, and designates no cell
 abbrev pub element_kind : ValueKind → ValueKind
 element_kind (value.Pointer n) = number_kind n
+element_kind (value.Rows n) = value.Pointer n
 element_kind _ = value.Unknown
 
 abbrev pub element_object : ValueKind → Object
 element_object (value.Pointer n) = object.Cell n
 element_object _ = object.ValueOnly
 
--- `a[e]`: a pointer and a number
+-- `a[e]`: a pointer or an array of two dimensions, and a number
 abbrev pub index_of : ℕ → Findings → Findings → Findings
 index_of line a e = record { line = line; at_first = a.at_first; behind = a.behind ++ all_of e; kind = element_kind a.kind; object = element_object a.kind }
 
 abbrev pub index_findings : ℕ → Findings → Findings → Findings
-index_findings line a e = index_of line (placed wanted.Pointer a) (placed wanted.Number e)
+index_findings line a e = index_of line (placed wanted.Indexed a) (placed wanted.Number e)
 
 -- the operand of `&`: what it designates has to be a cell
 abbrev pub address_kind : ValueKind → Object → ValueKind
@@ -161,6 +168,7 @@ abbrev pub joined_kind : ValueKind → ValueKind → ValueKind
 joined_kind value.Signed right = right
 joined_kind value.Unsigned right = unless_unknown right value.Unsigned
 joined_kind (value.Pointer n) right = unless_unknown right (value.Pointer n)
+joined_kind (value.Rows n) right = value.Unknown
 joined_kind value.Nothing right = value.Unknown
 joined_kind value.Unknown right = value.Unknown
 

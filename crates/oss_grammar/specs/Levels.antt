@@ -12,11 +12,12 @@ use Rattle.oss_syntax.specs.declared.tree.expr.BinOp.{BinOp}
 use Rattle.oss_syntax.specs.declared.tree.expr.Expr.{Expr}
 use Rattle.oss_syntax.specs.declared.tree.expr.UnOp.{UnOp}
 use Rattle.oss_syntax.specs.declared.tree.pragma.Clause.{Clause}
+use Rattle.oss_syntax.specs.declared.tree.pragma.Inner.{Inner}
 use Rattle.oss_syntax.specs.declared.tree.pragma.Section.{Section}
-use Rattle.oss_grammar.specs.Expressions.{IsExpr, IsArgumentList, IsWhole, primary_level, postfix_level, prefix_level, loosest_level, prefix_of, operator_of}
+use Rattle.oss_grammar.specs.Expressions.{IsExpr, IsIndexed, IsArgumentList, IsWhole, primary_level, postfix_level, prefix_level, loosest_level, prefix_of, operator_of}
 use Rattle.oss_grammar.specs.Fronts.{Viable}
-use Rattle.oss_grammar.specs.OneToken.{IsSymbol, IsKeyword, IsWord, IsOpen, IsIndexOpen, IsComma}
-use Rattle.oss_grammar.specs.Pragmas.{IsBound, IsSection, IsDepend, IsClauses, IsMoreDepends, HasEachOnce, is_single, access_of, reduction_of, fold_of}
+use Rattle.oss_grammar.specs.OneToken.{IsSymbol, IsKeyword, IsWord, IsOpen, IsIndexOpen, IsIndexClose, IsComma}
+use Rattle.oss_grammar.specs.Pragmas.{IsBound, IsInner, IsSection, IsDepend, IsClauses, IsMoreDepends, HasEachOnce, is_single, access_of, reduction_of, fold_of}
 use Rattle.oss_grammar.specs.Pragmas.Single.{once_if, once_final, once_priority}
 
 -- A thing has at most 64 levels, and a whole expression at most 256 operators.
@@ -31,7 +32,8 @@ most_operators = 256
 -- token begins a part so many levels further in. Each way into brackets of both kinds, into an argument or under a prefix is one
 -- level; the sides of a binary operator have no level of their own.
 -- Checked on `- (a + b)[i]`: behind `-` the token `(` begins a part 1 further in; behind `- (` so does `a` by 2; behind `- (a +`
--- the token `b` begins one 2 further in too, as a side of `+`; behind `- (a + b)[` the token `i` begins one by 2.
+-- the token `b` begins one 2 further in too, as a side of `+`; behind `- (a + b)[` the token `i` begins one by 2, and so does a token
+-- behind `- m[i][`.
 pub data Begins : ℕ → ℕ → List Token → Token → Type 0 where
   at_once : {k : ℕ} {xs : List Token} {t : Token} → xs ≡ [] → Viable (IsExpr k) (t ∷ []) → Begins k 0 xs t
   in_brackets : {n : ℕ} {xs : List Token} {t : Token} (opened : Token) (front : List Token)
@@ -45,6 +47,9 @@ pub data Begins : ℕ → ℕ → List Token → Token → Type 0 where
       → Begins primary_level (suc n) xs t
   in_index : {n : ℕ} {xs : List Token} {t : Token} {base : Expr} (before : List Token) (opened : Token) (front : List Token)
       → xs ≡ before ++ (opened ∷ front) → IsExpr primary_level before base → IsIndexOpen opened → Begins loosest_level n front t
+      → Begins postfix_level (suc n) xs t
+  in_second_index : {n : ℕ} {xs : List Token} {t : Token} {base : Expr} (before : List Token) (opened : Token) (front : List Token)
+      → xs ≡ before ++ (opened ∷ front) → IsIndexed before base → IsIndexOpen opened → Begins loosest_level n front t
       → Begins postfix_level (suc n) xs t
   under_prefix : {n : ℕ} {xs : List Token} {t : Token} (p : Token) (sign : UnOp) (front : List Token)
       → xs ≡ p ∷ front → prefix_of p.what ≡ Some sign → Begins prefix_level n front t
@@ -74,11 +79,14 @@ pub data OpensInner (xs : List Token) : Type 0 where
   inner_last : {first : Option Expr} (front : List Token) (mark : Token)
       → xs ≡ front ++ (mark ∷ []) → IsSymbol (codes ":") mark → IsBound front first → OpensInner xs
 
--- The same in a section: behind `[`, and behind `p[`.
+-- The same in a section: behind `[`, behind `p[`, and behind `m[1:][`.
 pub data OpensSection (xs : List Token) : Type 0 where
   section_shape : (opened : Token) → xs ≡ opened ∷ [] → IsIndexOpen opened → OpensSection xs
   section_part : (t : Token) (base : List ℕ) (opened : Token) (inner : List Token)
       → xs ≡ t ∷ opened ∷ inner → t.what ≡ kinds.Name base → IsIndexOpen opened → OpensInner inner → OpensSection xs
+  section_columns : {rows : Inner} (t : Token) (base : List ℕ) (opened : Token) (first : List Token) (closed again : Token) (inner : List Token)
+      → xs ≡ t ∷ opened ∷ (first ++ (closed ∷ again ∷ inner)) → t.what ≡ kinds.Name base → IsIndexOpen opened → IsInner first rows → IsIndexClose closed
+      → IsIndexOpen again → OpensInner inner → OpensSection xs
 
 -- The same in a list of sections: in the first, or in one behind a comma.
 pub data OpensSections : List Token → Type 0 where

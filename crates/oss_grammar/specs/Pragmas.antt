@@ -18,6 +18,8 @@ use Rattle.oss_syntax.specs.declared.tree.pragma.Directive.{Directive}
 use Rattle.oss_syntax.specs.declared.tree.pragma.Directive.TheVariants as directive
 use Rattle.oss_syntax.specs.declared.tree.pragma.Form.{Form}
 use Rattle.oss_syntax.specs.declared.tree.pragma.Form.TheVariants as form
+use Rattle.oss_syntax.specs.declared.tree.pragma.Inner.{Inner}
+use Rattle.oss_syntax.specs.declared.tree.pragma.Inner.TheVariants as inner_forms
 use Rattle.oss_syntax.specs.declared.tree.pragma.Section.{Section}
 use Rattle.oss_grammar.specs.Expressions.{IsWhole}
 use Rattle.oss_grammar.specs.OneToken.{is_symbol, is_word, IsSymbol, IsKeyword, IsWord, IsOpen, IsClose, IsIndexOpen, IsIndexClose, IsComma}
@@ -58,18 +60,24 @@ pub data IsBound : List Token → Option Expr → Type 0 where
 
 -- The tokens are what stands between the brackets behind a base (OmpSs-2, array sections): `e` one element, `l;n` so many from
 -- there, `l:u` up to and with the other end, each end of which may be left out. `2;0`, `:1`, `1:` and `:` are, `;1` is not.
-pub data IsInner : List Token → Form → Type 0 where
-  element : {ts : List Token} {e : Expr} → IsWhole ts e → IsInner ts (form.Element e)
+pub data IsInner : List Token → Inner → Type 0 where
+  element : {ts : List Token} {e : Expr} → IsWhole ts e → IsInner ts (inner_forms.Element e)
   counted : {ts : List Token} {first count : Expr} (front : List Token) (mark : Token) (back : List Token)
       → ts ≡ front ++ (mark ∷ back) → IsSymbol (codes ";") mark
-      → IsWhole front first → IsWhole back count → IsInner ts (form.Length first count)
+      → IsWhole front first → IsWhole back count → IsInner ts (inner_forms.Length first count)
   ranged : {ts : List Token} {first last : Option Expr} (front : List Token) (mark : Token) (back : List Token)
       → ts ≡ front ++ (mark ∷ back) → IsSymbol (codes ":") mark
-      → IsBound front first → IsBound back last → IsInner ts (form.Span first last)
+      → IsBound front first → IsBound back last → IsInner ts (inner_forms.Span first last)
+
+-- The form of a section with one pair of brackets behind its base, by what stands between them.
+abbrev pub form_of_inner : Inner → Form
+form_of_inner (inner_forms.Element e) = form.Element e
+form_of_inner (inner_forms.Length first count) = form.Length first count
+form_of_inner (inner_forms.Span first last) = form.Span first last
 
 -- The tokens are a section (OmpSs-2, array sections), with the lines of its first token and of its base. `x`, `*q`, `[n]p`, `a[i]`, `a[2;0]` and
--- `b[:1]` are sections; `**q`, `[n]p[0]` and `a[0][1]` are none. Checked on `[n]p`, which is `shape` of the expression `n` and
--- the base `p` alone, with the line of `[`.
+-- `b[:1]` are sections, and so is `m[0:1][1;2]`; `**q`, `[n]p[0]` and `m[0][1][2]` are none. Checked on `[n]p`, which is `shape` of the
+-- expression `n` and the base `p` alone, with the line of `[`.
 pub data IsSection : List Token → Section → Type 0 where
   whole : {ts : List Token} (t : Token) (base : List ℕ) → ts ≡ t ∷ [] → t.what ≡ kinds.Name base
       → IsSection ts (record { base = base; form = form.Whole; line = t.line; base_line = t.line })
@@ -79,10 +87,14 @@ pub data IsSection : List Token → Section → Type 0 where
       → ts ≡ opened ∷ (inner ++ (closed ∷ t ∷ [])) → IsIndexOpen opened → IsIndexClose closed → t.what ≡ kinds.Name base
       → IsWhole inner count
       → IsSection ts (record { base = base; form = form.Shape count; line = opened.line; base_line = t.line })
-  part : {ts : List Token} {cells : Form} (t : Token) (base : List ℕ) (opened : Token) (inner : List Token) (closed : Token)
+  part : {ts : List Token} {cells : Inner} (t : Token) (base : List ℕ) (opened : Token) (inner : List Token) (closed : Token)
       → ts ≡ t ∷ opened ∷ (inner ++ closed ∷ []) → t.what ≡ kinds.Name base → IsIndexOpen opened → IsIndexClose closed
       → IsInner inner cells
-      → IsSection ts (record { base = base; form = cells; line = t.line; base_line = t.line })
+      → IsSection ts (record { base = base; form = form_of_inner cells; line = t.line; base_line = t.line })
+  grid : {ts : List Token} {rows columns : Inner} (t : Token) (base : List ℕ) (opened : Token) (first : List Token) (closed again : Token) (second : List Token) (ended : Token)
+      → ts ≡ t ∷ opened ∷ (first ++ (closed ∷ again ∷ (second ++ ended ∷ []))) → t.what ≡ kinds.Name base → IsIndexOpen opened → IsIndexClose closed
+      → IsIndexOpen again → IsIndexClose ended → IsInner first rows → IsInner second columns
+      → IsSection ts (record { base = base; form = form.Grid rows columns; line = t.line; base_line = t.line })
 
 -- The tokens are sections with a comma between each two, one at least: `x, a[0]`, and not `x,`.
 pub data IsSections : List Token → List Section → Type 0 where

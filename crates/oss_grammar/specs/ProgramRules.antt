@@ -1,6 +1,6 @@
 -- The static rules of whole programs: those of each global and each function in text order, and that there is a function `main`.
 -- Read against: `long x; long x; int main() {}` breaks DuplicateName at the second `x`; `long a[1048576], b; int main() {}` breaks
--- TooLarge at `b`; `void main() {}` breaks WrongKind at `main`; and the empty text breaks NoMain on line 1.
+-- TooLarge at `b`, and `long m[3][0];` at `m`; `void main() {}` breaks WrongKind at `main`; and the empty text breaks NoMain on line 1.
 use Rattle.std.specs.Prelude.{ℕ, ◌+◌, ◌==◌, nat_lt, Bool, true, false, not, ◌&&◌, ◌||◌, List, [], ◌∷◌, ◌++◌, length, Option, Some, None, is_some}
 use Rattle.oss_syntax.specs.declared.tree.pragma.TaskMark.{TaskMark}
 use Rattle.oss_syntax.specs.declared.tree.program.Function.{Function}
@@ -20,7 +20,7 @@ use Rattle.oss_grammar.specs.Scopes.{is_main, is_again}
 use Rattle.oss_grammar.specs.SectionRules.{clauses_rules, is_int}
 use Rattle.oss_grammar.specs.StaticRules.{Judged, declare_all, rules_of_all}
 
--- whether with this global, behind so many cells, an array has no cell or there are too many cells in all
+-- whether with this global, behind so many cells, an array has no cell, as where a dimension is 0, or there are too many cells in all
 abbrev pub passes_cells : ℕ → Option ℕ → Bool
 passes_cells before cells = cells_of cells == 0 || nat_lt 1048576 (before + cells_of cells)
 

@@ -1,6 +1,7 @@
 -- Programs (C11 6.9): which list of tokens is a program text, and what its tree is.
--- Read against: `int a[4], b = -1; int main() { }` is a program of two globals and a function; `int a = 1 + 1;` is none.
-use Rattle.std.specs.Prelude.{◌≡◌, ℕ, Bool, List, [], ◌∷◌, ◌++◌, map, codes, Option, Some, None}
+-- Read against: `int a[4], b = -1; int main() { }` is a program of two globals and a function; `long m[3][4];` has 12 cells in rows of
+-- 4; `int a = 1 + 1;` is none, and `long m[2][3] = 1;` neither.
+use Rattle.std.specs.Prelude.{◌≡◌, ℕ, ◌*◌, ◌-◌, ◌^◌, nat_lt, Bool, if◌then◌else◌, List, [], ◌∷◌, ◌++◌, map, codes, Option, Some, None}
 use Rattle.oss_syntax.specs.declared.token.Token.{Token}
 use Rattle.oss_syntax.specs.declared.token.TokenKind.TheVariants as kinds
 use Rattle.oss_syntax.specs.declared.tree.pragma.Directive.TheVariants as directive
@@ -27,17 +28,27 @@ pub data IsFirstValue : List Token → ℕ → Type 0 where
   negative_value : {ts : List Token} (mark t : Token) (value : ℕ) (unsigned : Bool) → ts ≡ mark ∷ t ∷ [] → IsSymbol (codes "-") mark → t.what ≡ kinds.Number value unsigned
       → IsFirstValue ts (negated value)
 
--- The tokens are the declarator of a global (C11 6.7.6): a scalar, with an initial value or with 0, or an array of zeros. It has
--- the line of its name.
+-- How many cells so many rows of so many columns have, which stays at the greatest number of 64 bits once it is there: 3 rows of 4
+-- have 12.
+unfoldable pub cells_of_rows : ℕ → ℕ → ℕ
+cells_of_rows rows columns = if nat_lt (rows * columns) (2 ^ 64) then rows * columns else 2 ^ 64 - 1
+
+-- The tokens are the declarator of a global (C11 6.7.6): a scalar, with an initial value or with 0, or an array of zeros, of one
+-- dimension or of two. It has the line of its name.
 pub data IsGlobal (numbers : NumKind) : List Token → GlobalDef → Type 0 where
   scalar_global : {ts : List Token} (t : Token) (word : List ℕ) → ts ≡ t ∷ [] → t.what ≡ kinds.Name word
-      → IsGlobal numbers ts (record { name = word; kind = numbers; cells = None; first = 0; line = t.line })
+      → IsGlobal numbers ts (record { name = word; kind = numbers; cells = None; columns = None; first = 0; line = t.line })
   first_global : {ts : List Token} {value : ℕ} (t : Token) (word : List ℕ) (mark : Token) (back : List Token) → ts ≡ t ∷ mark ∷ back → t.what ≡ kinds.Name word → IsSymbol (codes "=") mark
       → IsFirstValue back value
-      → IsGlobal numbers ts (record { name = word; kind = numbers; cells = None; first = value; line = t.line })
+      → IsGlobal numbers ts (record { name = word; kind = numbers; cells = None; columns = None; first = value; line = t.line })
   array_global : {ts : List Token} (t : Token) (word : List ℕ) (opened number : Token) (cells : ℕ) (unsigned : Bool) (closed : Token) → ts ≡ t ∷ opened ∷ number ∷ closed ∷ []
       → t.what ≡ kinds.Name word → IsIndexOpen opened → number.what ≡ kinds.Number cells unsigned → IsIndexClose closed
-      → IsGlobal numbers ts (record { name = word; kind = numbers; cells = Some cells; first = 0; line = t.line })
+      → IsGlobal numbers ts (record { name = word; kind = numbers; cells = Some cells; columns = None; first = 0; line = t.line })
+  grid_global : {ts : List Token} (t : Token) (word : List ℕ) (opened number : Token) (rows : ℕ) (unsigned : Bool) (closed again second : Token) (columns : ℕ) (second_unsigned : Bool) (ended : Token)
+      → ts ≡ t ∷ opened ∷ number ∷ closed ∷ again ∷ second ∷ ended ∷ []
+      → t.what ≡ kinds.Name word → IsIndexOpen opened → number.what ≡ kinds.Number rows unsigned → IsIndexClose closed
+      → IsIndexOpen again → second.what ≡ kinds.Number columns second_unsigned → IsIndexClose ended
+      → IsGlobal numbers ts (record { name = word; kind = numbers; cells = Some (cells_of_rows rows columns); columns = Some columns; first = 0; line = t.line })
 
 -- The tokens are such declarators with a comma between each two, one at least.
 pub data IsGlobals (numbers : NumKind) : List Token → List GlobalDef → Type 0 where

@@ -51,13 +51,15 @@ local_kind (l ∷ rest) name = or_else (local_kind rest name) (if bytes_eq l.nam
 abbrev pub is_local_again : ℕ → List Local → List ℕ → Bool
 is_local_again start locals name = list_any (λ l. bytes_eq l.name name) (drop start locals)
 
-abbrev pub global_meaning : Option ℕ → NumKind → Named
-global_meaning None kind = named.Scalar kind
-global_meaning (Some n) kind = named.Array kind
+-- a global by its numbers of cells and of columns
+abbrev pub global_meaning : Option ℕ → Option ℕ → NumKind → Named
+global_meaning None columns kind = named.Scalar kind
+global_meaning (Some n) None kind = named.Array kind
+global_meaning (Some n) (Some columns) kind = named.Grid kind
 
 abbrev pub item_meaning : Option Item → Named
 item_meaning None = named.Missing
-item_meaning (Some (items.Global g)) = global_meaning g.cells g.kind
+item_meaning (Some (items.Global g)) = global_meaning g.cells g.columns g.kind
 item_meaning (Some (items.Function f)) = named.Function
 
 -- locals hide items

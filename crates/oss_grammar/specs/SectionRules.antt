@@ -1,7 +1,7 @@
 -- The rules on array sections and on the clauses of a pragma: a section has a base that its form allows, its expressions are
 -- numbers, a reduction names numbers of 64 bits, and a pragma has at most 64 sections.
--- Read against: with `long x, a[4];` and a local `long *p` the sections `x`, `a`, `a[1]`, `p[0;2]` and `*p` break no rule; `x[0]`,
--- `p` and `p[1:]` break one each, at their first token.
+-- Read against: with `long x, a[4], m[3][4];` and a local `long *p` the sections `x`, `a`, `a[1]`, `p[0;2]`, `*p`, `m`, `m[1:]` and `m[1][0;2]`
+-- break no rule; `x[0]`, `p`, `p[1:]`, `*m`, `[2]m` and `a[1][2]` break one each, at their first token.
 use Rattle.std.specs.Prelude.{ℕ, ◌+◌, ◌==◌, Bool, true, false, not, ◌&&◌, ◌||◌, List, [], ◌∷◌, ◌++◌, length, Option, Some, None}
 use Rattle.oss_syntax.specs.declared.access.Mode.{Mode}
 use Rattle.oss_syntax.specs.declared.access.Mode.TheVariants as mode
@@ -10,6 +10,8 @@ use Rattle.oss_syntax.specs.declared.tree.pragma.Clause.{Clause}
 use Rattle.oss_syntax.specs.declared.tree.pragma.Clause.TheVariants as clause
 use Rattle.oss_syntax.specs.declared.tree.pragma.Form.{Form}
 use Rattle.oss_syntax.specs.declared.tree.pragma.Form.TheVariants as form
+use Rattle.oss_syntax.specs.declared.tree.pragma.Inner.{Inner}
+use Rattle.oss_syntax.specs.declared.tree.pragma.Inner.TheVariants as inner_forms
 use Rattle.oss_syntax.specs.declared.tree.pragma.Section.{Section}
 use Rattle.oss_syntax.specs.declared.tree.program.Item.{Item}
 use Rattle.oss_syntax.specs.declared.tree.program.Kind.TheVariants as kind
@@ -32,13 +34,19 @@ is_missing _ = false
 abbrev pub is_global : Named → Bool
 is_global (named.Scalar n) = true
 is_global (named.Array n) = true
+is_global (named.Grid n) = true
 is_global _ = false
 
 abbrev pub is_array : Named → Bool
 is_array (named.Array n) = true
+is_array (named.Grid n) = true
 is_array _ = false
 
--- a global array or a local pointer
+abbrev pub is_grid : Named → Bool
+is_grid (named.Grid n) = true
+is_grid _ = false
+
+-- a global array of one dimension or a local pointer
 abbrev pub has_elements : Named → Bool
 has_elements (named.Array n) = true
 has_elements (named.Local (kind.Pointer n)) = true
@@ -53,14 +61,19 @@ is_int num.Ulong = false
 abbrev pub has_ints : Named → Bool
 has_ints (named.Scalar n) = is_int n
 has_ints (named.Array n) = is_int n
+has_ints (named.Grid n) = is_int n
 has_ints (named.Local (kind.Pointer n)) = is_int n
 has_ints _ = false
 
--- whether a form allows a base: a name alone is that of a global, and an upper end is left out of an array alone
+-- whether a form allows a base: a name alone is that of a global, an upper end is left out of an array alone, one pair of brackets
+-- behind an array of two dimensions names whole rows, and no other has two
 abbrev pub fits_base : Form → Named → Bool
 fits_base form.Whole m = is_global m
+fits_base form.Deref m = has_elements m
+fits_base (form.Shape n) m = has_elements m
 fits_base (form.Span lower None) m = is_array m
-fits_base _ m = has_elements m
+fits_base (form.Grid rows columns) m = is_grid m
+fits_base _ m = has_elements m || is_grid m
 
 -- what is wrong with the form of a section whose base is in scope
 abbrev pub is_wrong_section : Bool → Form → Named → Bool
@@ -77,6 +90,12 @@ abbrev pub optional_rules : List Item → List Local → Option Expr → List Re
 optional_rules all locals None = []
 optional_rules all locals (Some e) = value_rules all locals wanted.Number e
 
+-- the rules that the expressions of one dimension break
+abbrev pub inner_rules : List Item → List Local → Inner → List Refused
+inner_rules all locals (inner_forms.Element e) = value_rules all locals wanted.Number e
+inner_rules all locals (inner_forms.Length e n) = value_rules all locals wanted.Number e ++ value_rules all locals wanted.Number n
+inner_rules all locals (inner_forms.Span e u) = optional_rules all locals e ++ optional_rules all locals u
+
 -- the rules that the expressions of a section break
 abbrev pub form_rules : List Item → List Local → Form → List Refused
 form_rules all locals form.Whole = []
@@ -85,6 +104,7 @@ form_rules all locals (form.Shape e) = value_rules all locals wanted.Number e
 form_rules all locals (form.Element e) = value_rules all locals wanted.Number e
 form_rules all locals (form.Length e n) = value_rules all locals wanted.Number e ++ value_rules all locals wanted.Number n
 form_rules all locals (form.Span e u) = optional_rules all locals e ++ optional_rules all locals u
+form_rules all locals (form.Grid rows columns) = inner_rules all locals rows ++ inner_rules all locals columns
 
 -- The rules that a section breaks behind so many others of its pragma. Its base stands at its first token, or behind all else.
 -- Checked on `[y]` and `p` on the next line, neither in scope: UnknownName with the line of `y`, then with that of `p`.

@@ -1,7 +1,8 @@
 -- Assignments, calls and declarations (C11 6.5.16, 6.5.2.2, 6.7): which list of tokens is one, and what its tree is. The relations
 -- speak of whole lists: nothing is greedy, and nothing is left over. A statement has the line of its first token, a local that of
 -- its name.
--- Read against: `a[i] += 1`, `*(p + 1) = 2`, `++x` and `f(1, x)` are simple statements; `1 = x`, `a[1][2] = 3` and `(x) = 1` are none.
+-- Read against: `a[i] += 1`, `*(p + 1) = 2`, `m[1][2] = 3`, `++x` and `f(1, x)` are simple statements; `1 = x`, `a[1][2][3] = 3` and `(x) = 1` are
+-- none.
 use Rattle.std.specs.Prelude.{◌≡◌, ℕ, false, if◌then◌else◌, List, [], ◌∷◌, ◌++◌, codes, Option, Some, None}
 use Rattle.oss_syntax.specs.declared.token.Token.{Token}
 use Rattle.oss_syntax.specs.declared.token.TokenKind.{TokenKind}
@@ -21,14 +22,22 @@ use Rattle.oss_syntax.specs.declared.tree.stmt.StmtKind.TheVariants as stmts
 use Rattle.oss_grammar.specs.Expressions.{IsWhole, IsArguments}
 use Rattle.oss_grammar.specs.OneToken.{is_symbol, IsSymbol, IsKeyword, IsOpen, IsClose, IsIndexOpen, IsIndexClose, IsComma}
 
--- The tokens are what may be assigned to: a name, an element, or what a pointer points to. `x`, `a[i]`, `*p` and `*(p + 1)` are,
--- `**p` and `(x)` are not. An element has the line of its name, `*p` that of the `*`.
+-- The element of this expression with this index: `a[i]`, and `m[i][j]` as that of `m[i]`.
+abbrev pub element_of : Expr → Expr → Expr
+element_of base at = record { what = exprs.Index base at; line = base.line }
+
+-- The tokens are what may be assigned to: a name, an element, or what a pointer points to. `x`, `a[i]`, `m[i][j]`, `*p` and `*(p + 1)`
+-- are, `**p` and `(x)` are not. An element has the line of its name, `*p` that of the `*`.
 pub data IsTarget : List Token → Expr → Type 0 where
   name_target : {ts : List Token} (t : Token) (word : List ℕ) → ts ≡ t ∷ [] → t.what ≡ kinds.Name word
       → IsTarget ts (record { what = exprs.Name word; line = t.line })
   element_target : {ts : List Token} {at : Expr} (t : Token) (word : List ℕ) (opened : Token) (inner : List Token) (closed : Token)
       → ts ≡ t ∷ opened ∷ (inner ++ (closed ∷ [])) → t.what ≡ kinds.Name word → IsIndexOpen opened → IsIndexClose closed → IsWhole inner at
-      → IsTarget ts (record { what = exprs.Index (record { what = exprs.Name word; line = t.line }) at; line = t.line })
+      → IsTarget ts (element_of (record { what = exprs.Name word; line = t.line }) at)
+  grid_target : {ts : List Token} {row column : Expr} (t : Token) (word : List ℕ) (opened : Token) (first : List Token) (closed again : Token) (second : List Token) (ended : Token)
+      → ts ≡ t ∷ opened ∷ (first ++ (closed ∷ again ∷ (second ++ (ended ∷ [])))) → t.what ≡ kinds.Name word → IsIndexOpen opened → IsIndexClose closed
+      → IsIndexOpen again → IsIndexClose ended → IsWhole first row → IsWhole second column
+      → IsTarget ts (element_of (element_of (record { what = exprs.Name word; line = t.line }) row) column)
   pointer_target : {ts : List Token} (star t : Token) (word : List ℕ) → ts ≡ star ∷ t ∷ [] → IsSymbol (codes "*") star → t.what ≡ kinds.Name word
       → IsTarget ts (record { what = exprs.Unary prefix.Deref (record { what = exprs.Name word; line = t.line }); line = star.line })
   pointed_target : {ts : List Token} {e : Expr} (star opened : Token) (inner : List Token) (closed : Token)

@@ -18,15 +18,17 @@ use Rattle.oss_syntax.specs.declared.tree.stmt.Stmt.{Stmt}
 use Rattle.oss_grammar.specs.Expressions.{IsWhole, IsArgumentList}
 use Rattle.oss_grammar.specs.Fronts.{Viable}
 use Rattle.oss_grammar.specs.Levels.{IsExpressionExcess, IsExcessBehind, AfterComma, OpensClause, OpensPragma, most_levels}
-use Rattle.oss_grammar.specs.OneToken.{IsSymbol, IsKeyword, IsWord, IsOpen, IsClose, IsIndexOpen, IsComma}
+use Rattle.oss_grammar.specs.OneToken.{IsSymbol, IsKeyword, IsWord, IsOpen, IsClose, IsIndexOpen, IsIndexClose, IsComma}
 use Rattle.oss_grammar.specs.Pragmas.{IsPragma, IsClauses, HasEachOnce}
 use Rattle.oss_grammar.specs.Programs.{IsMark, IsResult, IsParameters, IsItem}
 use Rattle.oss_grammar.specs.SimpleStatements.{IsTarget, IsNumKind, IsDeclared, IsLocal, IsDeclaration, assignment_of, step_of}
 use Rattle.oss_grammar.specs.Statements.{IsStmt, IsAnyStmt, IsForFirst, IsMaybeWhole, IsMaybeSimple, IsPrinted}
 
--- Behind these tokens of a target a whole expression begins: behind `a[`, and behind `*(`.
+-- Behind these tokens of a target a whole expression begins: behind `a[`, behind `m[i][`, and behind `*(`.
 pub data OpensTarget (xs : List Token) : Type 0 where
   element_place : (t : Token) (word : List ℕ) (opened : Token) → xs ≡ t ∷ opened ∷ [] → t.what ≡ kinds.Name word → IsIndexOpen opened → OpensTarget xs
+  column_place : {row : Expr} (t : Token) (word : List ℕ) (opened : Token) (first : List Token) (closed again : Token)
+      → xs ≡ t ∷ opened ∷ (first ++ (closed ∷ again ∷ [])) → t.what ≡ kinds.Name word → IsIndexOpen opened → IsWhole first row → IsIndexClose closed → IsIndexOpen again → OpensTarget xs
   pointed_place : (star opened : Token) → xs ≡ star ∷ opened ∷ [] → IsSymbol (codes "*") star → IsOpen opened → OpensTarget xs
 
 -- The same in a simple statement: in its target, behind the mark of an assignment, and at the arguments of a call.

@@ -12,6 +12,8 @@ use Rattle.oss_syntax.specs.declared.tree.pragma.Clause.{Clause}
 use Rattle.oss_syntax.specs.declared.tree.pragma.Clause.TheVariants as clause
 use Rattle.oss_syntax.specs.declared.tree.pragma.Form.{Form}
 use Rattle.oss_syntax.specs.declared.tree.pragma.Form.TheVariants as form
+use Rattle.oss_syntax.specs.declared.tree.pragma.Inner.{Inner}
+use Rattle.oss_syntax.specs.declared.tree.pragma.Inner.TheVariants as inner_forms
 use Rattle.oss_syntax.specs.declared.tree.pragma.Section.{Section}
 use Rattle.oss_syntax.specs.declared.tree.pragma.TaskMark.{TaskMark}
 use Rattle.oss_syntax.specs.declared.tree.program.Function.{Function}
@@ -44,6 +46,14 @@ pub data Uses (name : List ℕ) (line : ℕ) : Expr → Type 0 where
   in_argument : {e : Expr} (callee : List ℕ) (arguments : List Expr) (argument : Expr) → e.what ≡ exprs.Call callee arguments → IsOneOf argument arguments
       → Uses name line argument → Uses name line e
 
+-- The expression is one of those of one dimension.
+pub data InInner (e : Expr) : Inner → Type 0 where
+  of_one : InInner e (inner_forms.Element e)
+  of_first : (count : Expr) → InInner e (inner_forms.Length e count)
+  of_count : (first : Expr) → InInner e (inner_forms.Length first e)
+  of_lower : (last : Option Expr) → InInner e (inner_forms.Span (Some e) last)
+  of_upper : (first : Option Expr) → InInner e (inner_forms.Span first (Some e))
+
 -- The expression is one of those of a section's form.
 pub data InForm (e : Expr) : Form → Type 0 where
   of_shape : InForm e (form.Shape e)
@@ -52,6 +62,8 @@ pub data InForm (e : Expr) : Form → Type 0 where
   of_length_count : (first : Expr) → InForm e (form.Length first e)
   of_span_first : (last : Option Expr) → InForm e (form.Span (Some e) last)
   of_span_last : (first : Option Expr) → InForm e (form.Span first (Some e))
+  of_rows : {rows : Inner} (columns : Inner) → InInner e rows → InForm e (form.Grid rows columns)
+  of_columns : {columns : Inner} (rows : Inner) → InInner e columns → InForm e (form.Grid rows columns)
 
 -- The name is used in a section: as its base, at its first token or behind all else, or in an expression of its form.
 pub data UsesInSection (name : List ℕ) (line : ℕ) (s : Section) : Type 0 where

@@ -9,6 +9,8 @@ pub enum ValueKind {
     Unsigned,
     /// A pointer to numbers of this type.
     Pointer(NumKind),
+    /// An array of two dimensions of such numbers, which may stand under an index alone.
+    Rows(NumKind),
     /// A function without a result was called.
     Nothing,
     /// It breaks a rule, or its kind comes from what breaks one. It breaks no further rule.
@@ -24,6 +26,8 @@ pub enum Wanted {
     Pointer,
     /// A number or such a pointer, as on the left of `+`.
     NumberOrPointer,
+    /// What an index may stand behind: such a pointer, or an array of two dimensions.
+    Indexed,
     /// A pointer to numbers of this very type.
     PointerTo(NumKind),
     /// Nothing is asked of the value.
@@ -35,7 +39,7 @@ pub enum Wanted {
 pub enum Object {
     /// A value alone, which can be neither a target nor the operand of `&`.
     ValueOnly,
-    /// A cell of this type: a global scalar, `a[e]`, `p[e]` or `*p`.
+    /// A cell of this type: a global scalar, `a[e]`, `a[e][e]`, `p[e]` or `*p`.
     Cell(NumKind),
     /// A local of this type.
     Variable(Kind),
@@ -50,8 +54,10 @@ pub enum Named {
     Local(Kind),
     /// A global that is one number.
     Scalar(NumKind),
-    /// A global that is an array of such numbers.
+    /// A global that is an array of such numbers, of one dimension.
     Array(NumKind),
+    /// A global that is an array of such numbers, of two dimensions.
+    Grid(NumKind),
     Function,
 }
 

@@ -13,10 +13,11 @@ use Rattle.oss_syntax.specs.declared.tree.expr.Expr.{Expr}
 use Rattle.oss_syntax.specs.declared.tree.expr.ExprKind.TheVariants as exprs
 use Rattle.oss_syntax.specs.declared.tree.expr.UnOp.{UnOp}
 use Rattle.oss_grammar.specs.Expressions.{IsExpr, IsWhole, primary_level, prefix_level, loosest_level, prefix_of, operator_of}
-use Rattle.oss_grammar.specs.Expressions.IsExpr.{number, name, call, brackets, index, prefixed, joined, tighter}
+use Rattle.oss_grammar.specs.Expressions.IsExpr.{number, name, call, brackets, indexed, indexed_again, prefixed, joined, tighter}
+use Rattle.oss_grammar.specs.Expressions.IsIndexed.{index}
 use Rattle.oss_grammar.specs.Fronts.{Viable}
 use Rattle.oss_grammar.specs.Levels.{Begins, IsExpressionExcess, is_operator}
-use Rattle.oss_grammar.specs.Levels.Begins.{at_once, in_brackets, in_first_argument, in_later_argument, in_index, under_prefix, on_the_right, in_tighter}
+use Rattle.oss_grammar.specs.Levels.Begins.{at_once, in_brackets, in_first_argument, in_later_argument, in_index, in_second_index, under_prefix, on_the_right, in_tighter}
 use Rattle.oss_grammar.specs.Levels.IsExpressionExcess.{too_deep, too_long}
 use Rattle.oss_grammar.specs.OneToken.{is_symbol, IsOpen}
 use Rattle.oss_grammar.specs.Reading.{Reader, begins, has, one_of, read_then, read_too_deep}
@@ -111,7 +112,10 @@ first_token k xs e (name t word split is) = ap (begins begins_expression) split 
 first_token k xs e (call t opened closed word inner split is opens closes more) = ap (begins begins_expression) split ∙ ap (λ w. begins_expression (record { what = w; line = t.line })) is
 first_token k xs e (brackets opened closed inner split opens closes w) =
     ap (begins begins_expression) split ∙ or_third (is_some (number_at opened)) (is_some (name_at opened)) (is_symbol (codes "(") opened.what) (is_some (prefix_at opened)) opens
-first_token k xs e (index front opened closed inner split opens closes base w) = ap (begins begins_expression) split ∙ begins_more begins_expression front (opened ∷ (inner ++ (closed ∷ []))) (first_token primary_level front _ base)
+first_token k xs e (indexed (index front opened closed inner split opens closes base w)) = ap (begins begins_expression) split ∙ begins_more begins_expression front (opened ∷ (inner ++ (closed ∷ []))) (first_token primary_level front _ base)
+first_token k xs e (indexed_again front opened closed inner split opens closes (index before one two between cut starts ends base v) w) =
+    ap (begins begins_expression) split ∙ begins_more begins_expression front (opened ∷ (inner ++ (closed ∷ [])))
+    (ap (begins begins_expression) cut ∙ begins_more begins_expression before (one ∷ (between ++ (two ∷ []))) (first_token primary_level before _ base))
 first_token k xs e (prefixed t sign operand split is w) =
     ap (begins begins_expression) split ∙ or_fourth (is_some (number_at t)) (is_some (name_at t)) (is_symbol (codes "(") t.what) (is_some (prefix_at t)) (ap (λ o. is_some (signed_in t.line o)) is)
 first_token k xs e (joined {k = m} front t operator back split is a b) = ap (begins begins_expression) split ∙ begins_more begins_expression front (t ∷ back) (first_token (suc m) front _ a)
@@ -307,6 +311,8 @@ deep_long k n xs t (in_later_argument {n = m} named opened word before mark fron
     let more : m ≤ length front = deep_long loosest_level m front t d in
     let size : length xs ≡ suc (suc (length before + suc (length front))) = ap length e ∙ ap (λ i. suc (suc i)) (length-append before (mark ∷ front)) in omega arith
 deep_long k n xs t (in_index {n = m} before opened front e w opens d) =
+    let more : m ≤ length front = deep_long loosest_level m front t d in let size : length xs ≡ length before + suc (length front) = ap length e ∙ length-append before (opened ∷ front) in omega arith
+deep_long k n xs t (in_second_index {n = m} before opened front e w opens d) =
     let more : m ≤ length front = deep_long loosest_level m front t d in let size : length xs ≡ length before + suc (length front) = ap length e ∙ length-append before (opened ∷ front) in omega arith
 deep_long k n xs t (under_prefix {n = m} p sign front e is d) = let more : m ≤ length front = deep_long prefix_level m front t d in let size : length xs ≡ suc (length front) = ap length e in omega arith
 deep_long k n xs t (on_the_right {k = j} before o operator front e is w d) =

@@ -8,6 +8,8 @@ use Rattle.oss_syntax.specs.declared.tree.expr.Expr.{Expr}
 use Rattle.oss_syntax.specs.declared.tree.expr.ExprKind.TheVariants as exprs
 use Rattle.oss_syntax.specs.declared.tree.pragma.Form.{Form}
 use Rattle.oss_syntax.specs.declared.tree.pragma.Form.TheVariants as form
+use Rattle.oss_syntax.specs.declared.tree.pragma.Inner.{Inner}
+use Rattle.oss_syntax.specs.declared.tree.pragma.Inner.TheVariants as inner_forms
 use Rattle.oss_syntax.specs.declared.tree.pragma.Section.{Section}
 use Rattle.oss_grammar.specs.Expressions.{IsWhole, prefix_of, operator_of}
 use Rattle.oss_grammar.specs.Expressions.IsExpr.{number, tighter}
@@ -16,26 +18,27 @@ use Rattle.oss_grammar.specs.Grammar.{One, Both, Mapped, Either}
 use Rattle.oss_grammar.specs.Grammar.Either.{one_way, other_way}
 use Rattle.oss_grammar.specs.Levels.{IsExcessBehind, OpensInner, OpensSection, OpensSections}
 use Rattle.oss_grammar.specs.Levels.OpensInner.{inner_first, inner_count, inner_last}
-use Rattle.oss_grammar.specs.Levels.OpensSection.{section_shape, section_part}
+use Rattle.oss_grammar.specs.Levels.OpensSection.{section_shape, section_part, section_columns}
 use Rattle.oss_grammar.specs.Levels.OpensSections.{sections_first, sections_later}
-use Rattle.oss_grammar.specs.Pragmas.{IsBound, IsInner, IsSection, IsSections}
+use Rattle.oss_grammar.specs.OneToken.{IsIndexOpen, IsIndexClose}
+use Rattle.oss_grammar.specs.Pragmas.{IsBound, IsInner, IsSection, IsSections, form_of_inner}
 use Rattle.oss_grammar.specs.Pragmas.IsBound.{left_out, given}
 use Rattle.oss_grammar.specs.Pragmas.IsInner.{element, counted, ranged}
-use Rattle.oss_grammar.specs.Pragmas.IsSection.{whole, pointed, shape, part}
+use Rattle.oss_grammar.specs.Pragmas.IsSection.{whole, pointed, shape, part, grid}
 use Rattle.oss_grammar.specs.Pragmas.IsSections.{last_section, next_section}
 use Rattle.oss_grammar.specs.Reading.{Reader, begins, has, one_of, never, read_one, read_then, read_nothing, read_both, read_either}
 use Rattle.oss_grammar.proofs.Parts.{Exact, Begun, exact_as, exact_before, member_begins, deep_begins}
 use Rattle.oss_grammar.proofs.PartLemmas.{Nowhere, nowhere, exact_one, begun_one, Nothing, exact_nothing, exact_mapped, begun_mapped, Then, ThenDeep, exact_then, begun_then, EitherDeep, exact_either, begun_either}
 use Rattle.oss_grammar.proofs.PartLemmas.EitherDeep.{one_deep, other_deep}
 use Rattle.oss_grammar.proofs.StepLemmas.{none_goes, fewer_go}
-use Rattle.oss_pragma.specs.PragmaReading.{read_upper, read_span, read_length, read_inner_from, read_inner, read_pointed, read_shape, read_part, read_based, read_section, read_sections, pointed_section, shape_section, part_section, whole_section}
+use Rattle.oss_pragma.specs.PragmaReading.{read_upper, read_span, read_length, read_inner_from, read_inner, read_pointed, read_shape, read_dimension, read_columns, read_part, read_based, read_section, read_sections, pointed_section, shape_section, part_section, whole_section}
 use Rattle.oss_pragma.specs.TokenValues.{symbol_at, name_at, begins_expression}
 use Rattle.oss_pragma.specs.declared.cursor.Named.{Named}
 use Rattle.oss_pragma.proofs.ExactPairs.{BothDeep, exact_both, Headed, HeadedDeep, exact_headed, begun_headed, Bracketed, BracketedDeep, exact_bracketed, begun_bracketed, Behind, exact_behind, begun_behind, exact_or, symbol_line}
 use Rattle.oss_pragma.proofs.ListLemmas.{comma, Listed, ListedDeep, exact_list, begun_list}
 use Rattle.oss_pragma.proofs.ListLemmas.Listed.{last_part, next_part}
 use Rattle.oss_pragma.proofs.ListLemmas.ListedDeep.{deep_first, deep_later}
-use Rattle.oss_pragma.proofs.PrimaryLemmas.{name_is, name_value}
+use Rattle.oss_pragma.proofs.PrimaryLemmas.{NameIs, name_is, name_value}
 use Rattle.oss_pragma.proofs.TokenLemmas.{begins_never, exact_closed, symbol_token, symbol_value, goes_on, on_symbol, not_symbol, has_symbol}
 
 -- there is an expression
@@ -112,31 +115,31 @@ module _ {expression : Reader Expr} {X : List Token → Token → Type 0} (part_
   bound_viable : Viable IsBound []
   bound_viable = record { more = []; value = None; member = left_out refl }
 
-  exact_span : (before : Option Expr) → Exact (read_span expression before) (Mapped (form.Span before) (Behind (codes ":") IsBound)) (BracketedDeep (codes ":") X) inner_goes
+  exact_span : (before : Option Expr) → Exact (read_span expression before) (Mapped (inner_forms.Span before) (Behind (codes ":") IsBound)) (BracketedDeep (codes ":") X) inner_goes
   unfolding read_span
-  exact_span before = exact_mapped (form.Span before) (exact_behind (codes ":") exact_upper bound_viable refl)
+  exact_span before = exact_mapped (inner_forms.Span before) (exact_behind (codes ":") exact_upper bound_viable refl)
 
   begun_span : (before : Option Expr) → Begun (read_span expression before) (has (symbol_at (codes ":")))
   unfolding read_span
-  begun_span before = begun_mapped (form.Span before) (begun_behind (codes ":") exact_upper bound_viable refl)
+  begun_span before = begun_mapped (inner_forms.Span before) (begun_behind (codes ":") exact_upper bound_viable refl)
 
-  exact_length : (before : Expr) → Exact (read_length expression before) (Mapped (form.Length before) (Behind (codes ";") IsWhole)) (BracketedDeep (codes ";") X) inner_goes
+  exact_length : (before : Expr) → Exact (read_length expression before) (Mapped (inner_forms.Length before) (Behind (codes ";") IsWhole)) (BracketedDeep (codes ";") X) inner_goes
   unfolding read_length
-  exact_length before = exact_mapped (form.Length before) (exact_behind (codes ";") value whole_viable refl)
+  exact_length before = exact_mapped (inner_forms.Length before) (exact_behind (codes ";") value whole_viable refl)
 
   begun_length : (before : Expr) → Begun (read_length expression before) (has (symbol_at (codes ";")))
   unfolding read_length
-  begun_length before = begun_mapped (form.Length before) (begun_behind (codes ";") value whole_viable refl)
+  begun_length before = begun_mapped (inner_forms.Length before) (begun_behind (codes ";") value whole_viable refl)
 
-  abbrev From : Expr → List Token → Form → Type 0
-  From before = Either (Mapped (form.Length before) (Behind (codes ";") IsWhole)) (Either (Mapped (form.Span (Some before)) (Behind (codes ":") IsBound)) (Nothing (form.Element before)))
+  abbrev From : Expr → List Token → Inner → Type 0
+  From before = Either (Mapped (inner_forms.Length before) (Behind (codes ";") IsWhole)) (Either (Mapped (inner_forms.Span (Some before)) (Behind (codes ":") IsBound)) (Nothing (inner_forms.Element before)))
 
   abbrev FromDeep : List Token → Token → Type 0
   FromDeep = EitherDeep (BracketedDeep (codes ";") X) (EitherDeep (BracketedDeep (codes ":") X) Nowhere)
 
   -- what stands behind the first expression begins with a mark, or there is nothing
   span_apart : (test : Token → Bool) → ((t : Token) → has (symbol_at (codes ":")) t ≡ true → test t ≡ false) → ((t : Token) → inner_goes t ≡ false → test t ≡ false)
-      → (before : Expr) (ys : List Token) (c : Form) (rest : List Token) → Either (Mapped (form.Span (Some before)) (Behind (codes ":") IsBound)) (Nothing (form.Element before)) ys c
+      → (before : Expr) (ys : List Token) (c : Inner) (rest : List Token) → Either (Mapped (inner_forms.Span (Some before)) (Behind (codes ":") IsBound)) (Nothing (inner_forms.Element before)) ys c
       → begins inner_goes rest ≡ false → begins test (ys ++ rest) ≡ false
   span_apart test colon free before ys c rest (one_way w) none =
       none_goes (has (symbol_at (codes ":"))) test colon (ys ++ rest) (member_begins (exact_span (Some before)) (begun_span (Some before)) ys c rest w)
@@ -154,13 +157,13 @@ module _ {expression : Reader Expr} {X : List Token → Token → Type 0} (part_
   exact_inner_from : (before : Expr) → Exact (read_inner_from expression before) (From before) FromDeep inner_goes
   unfolding read_inner_from
   exact_inner_from before = exact_either (has (symbol_at (codes ";"))) (exact_length before) (begun_length before)
-      (exact_either (has (symbol_at (codes ":"))) (exact_span (Some before)) (begun_span (Some before)) (exact_nothing (form.Element before) inner_goes)
+      (exact_either (has (symbol_at (codes ":"))) (exact_span (Some before)) (begun_span (Some before)) (exact_nothing (inner_forms.Element before) inner_goes)
       (λ ys b rest w free. ap (λ zs. begins (has (symbol_at (codes ":"))) (zs ++ rest)) w.nothing ∙ fewer_go inner_goes (has (symbol_at (codes ":"))) inner_colon rest free)
       (λ ys t rest d. nowhere ys t d))
       (λ ys b rest w free. span_apart (has (symbol_at (codes ";"))) colon_no_semicolon inner_semicolon before ys b rest w free)
       (λ ys t rest d. span_apart_deep (has (symbol_at (codes ";"))) colon_no_semicolon before ys t rest d)
 
-  from_apart : (before : Expr) (ys : List Token) (c : Form) (rest : List Token) → From before ys c → begins inner_goes rest ≡ false → begins goes_on (ys ++ rest) ≡ false
+  from_apart : (before : Expr) (ys : List Token) (c : Inner) (rest : List Token) → From before ys c → begins inner_goes rest ≡ false → begins goes_on (ys ++ rest) ≡ false
   from_apart before ys c rest (one_way w) none =
       none_goes (has (symbol_at (codes ";"))) goes_on semicolon_apart (ys ++ rest) (member_begins (exact_length before) (begun_length before) ys c rest w)
   from_apart before ys c rest (other_way w) none = span_apart goes_on colon_apart inner_on before ys c rest w none
@@ -171,7 +174,7 @@ module _ {expression : Reader Expr} {X : List Token → Token → Type 0} (part_
   from_apart_deep before ys t rest (other_deep d) = span_apart_deep goes_on colon_apart before ys t rest d
 
   from_viable : (before : Expr) → Viable (From before) []
-  from_viable before = record { more = []; value = form.Element before; member = other_way (other_way (record { nothing = refl; same = refl })) }
+  from_viable before = record { more = []; value = inner_forms.Element before; member = other_way (other_way (record { nothing = refl; same = refl })) }
 
   exact_placed : Exact (read_then expression (read_inner_from expression)) (Then IsWhole From) (ThenDeep X IsWhole (λ before. FromDeep)) inner_goes
   exact_placed = exact_then part_of exact_inner_from from_apart from_apart_deep from_viable
@@ -179,13 +182,13 @@ module _ {expression : Reader Expr} {X : List Token → Token → Type 0} (part_
   begun_placed : Begun (read_then expression (read_inner_from expression)) begins_expression
   begun_placed = begun_then part_of exact_inner_from from_apart from_apart_deep from_viable first
 
-  abbrev Inner : List Token → Form → Type 0
-  Inner = Either (Mapped (form.Span None) (Behind (codes ":") IsBound)) (Then IsWhole From)
+  abbrev InnerParts : List Token → Inner → Type 0
+  InnerParts = Either (Mapped (inner_forms.Span None) (Behind (codes ":") IsBound)) (Then IsWhole From)
 
   abbrev InnerDeep : List Token → Token → Type 0
   InnerDeep = EitherDeep (BracketedDeep (codes ":") X) (ThenDeep X IsWhole (λ before. FromDeep))
 
-  inner_from_into : (xs front back : List Token) (before : Expr) (c : Form) → xs ≡ front ++ back → IsWhole front before → From before back c → IsInner xs c
+  inner_from_into : (xs front back : List Token) (before : Expr) (c : Inner) → xs ≡ front ++ back → IsWhole front before → From before back c → IsInner xs c
   inner_from_into xs front back before c e w (one_way m) =
       subst (λ c. IsInner xs c) m.made (counted front m.whole.mark m.whole.back (e ∙ ap (λ ys. front ++ ys) m.whole.split) m.whole.marks w m.whole.behind)
   inner_from_into xs front back before c e w (other_way (one_way m)) =
@@ -194,11 +197,11 @@ module _ {expression : Reader Expr} {X : List Token → Token → Type 0} (part_
       let same : xs ≡ front = e ∙ (ap (λ ys. front ++ ys) n.nothing ∙ append-nil front) in
       subst (λ c. IsInner xs c) n.same (element (subst (λ ys. IsWhole ys before) (sym same) w))
 
-  inner_into : (xs : List Token) (c : Form) → Inner xs c → IsInner xs c
+  inner_into : (xs : List Token) (c : Inner) → InnerParts xs c → IsInner xs c
   inner_into xs c (one_way m) = subst (λ c. IsInner xs c) m.made (ranged [] m.whole.mark m.whole.back m.whole.split m.whole.marks (left_out refl) m.whole.behind)
   inner_into xs c (other_way w) = inner_from_into xs w.front w.back w.value c w.split w.before w.behind
 
-  inner_back : (xs : List Token) (c : Form) → IsInner xs c → Inner xs c
+  inner_back : (xs : List Token) (c : Inner) → IsInner xs c → InnerParts xs c
   inner_back xs c (element {e = v} w) = other_way (record { front = xs; back = []; value = v; split = sym (append-nil xs); before = w; behind = other_way (other_way (record { nothing = refl; same = refl })) })
   inner_back xs c (counted {first = a} {count = b} front mark back e s v w) = other_way (record {
     front = front;
@@ -259,7 +262,7 @@ module _ {expression : Reader Expr} {X : List Token → Token → Type 0} (part_
       (exact_or (has (symbol_at (codes ":"))) begins_expression (exact_span None) (begun_span None) exact_placed begun_placed begins_no_colon)
 
   inner_viable : Viable IsInner []
-  inner_viable = record { more = whole_viable.more; value = form.Element whole_viable.value; member = element whole_viable.member }
+  inner_viable = record { more = whole_viable.more; value = inner_forms.Element whole_viable.value; member = element whole_viable.member }
 
   abbrev section_goes : Token → Bool
   section_goes = has (symbol_at (codes "["))
@@ -324,19 +327,50 @@ module _ {expression : Reader Expr} {X : List Token → Token → Type 0} (part_
   unfolding operator_of prefix_of
   closed_inner t e = on_symbol inner_goes (codes "]") false (λ line. refl) t (has_symbol (codes "]") t e)
 
+  -- one dimension in its brackets
+  abbrev Dimension : List Token → Inner → Type 0
+  Dimension = Bracketed (codes "[") (codes "]") IsInner
+
+  abbrev DimensionDeep : List Token → Token → Type 0
+  DimensionDeep = BracketedDeep (codes "[") (IsExcessBehind OpensInner X)
+
+  exact_dimension : Exact (read_dimension expression) Dimension DimensionDeep never
+  unfolding read_dimension
+  exact_dimension = exact_bracketed (codes "[") (codes "]") exact_inner inner_viable closed_inner refl refl
+
+  begun_dimension : Begun (read_dimension expression) (has (symbol_at (codes "[")))
+  unfolding read_dimension
+  begun_dimension = begun_bracketed (codes "[") (codes "]") exact_inner inner_viable closed_inner refl refl
+
+  -- behind one, another or none
+  abbrev Columns : Inner → List Token → Form → Type 0
+  Columns rows = Either (Mapped (form.Grid rows) Dimension) (Nothing (form_of_inner rows))
+
+  abbrev ColumnsDeep : Inner → List Token → Token → Type 0
+  ColumnsDeep rows = EitherDeep DimensionDeep Nowhere
+
+  exact_columns : (rows : Inner) → Exact (read_columns expression rows) (Columns rows) (ColumnsDeep rows) section_goes
+  unfolding read_columns
+  exact_columns rows = exact_either (has (symbol_at (codes "["))) (exact_closed section_goes (exact_mapped (form.Grid rows) exact_dimension)) (begun_mapped (form.Grid rows) begun_dimension) (exact_nothing (form_of_inner rows) section_goes)
+      (λ ys b rest w free. ap (λ zs. begins section_goes (zs ++ rest)) w.nothing ∙ free)
+      (λ ys t rest d. nowhere ys t d)
+
+  columns_viable : (rows : Inner) → Viable (Columns rows) []
+  columns_viable rows = record { more = []; value = form_of_inner rows; member = other_way (record { nothing = refl; same = refl }) }
+
   abbrev Part : Named → List Token → Section → Type 0
-  Part base = Mapped (part_section base) (Bracketed (codes "[") (codes "]") IsInner)
+  Part base = Mapped (part_section base) (Then Dimension Columns)
 
   abbrev PartDeep : List Token → Token → Type 0
-  PartDeep = BracketedDeep (codes "[") (IsExcessBehind OpensInner X)
+  PartDeep = ThenDeep DimensionDeep Dimension ColumnsDeep
 
-  exact_part : (base : Named) → Exact (read_part expression base) (Part base) PartDeep never
+  exact_part : (base : Named) → Exact (read_part expression base) (Part base) PartDeep section_goes
   unfolding read_part
-  exact_part base = exact_mapped (part_section base) (exact_bracketed (codes "[") (codes "]") exact_inner inner_viable closed_inner refl refl)
+  exact_part base = exact_mapped (part_section base) (exact_then exact_dimension exact_columns (λ rows ys b rest w free. begins_never (ys ++ rest)) (λ rows ys t rest d. begins_never (ys ++ (t ∷ rest))) columns_viable)
 
   begun_part : (base : Named) → Begun (read_part expression base) (has (symbol_at (codes "[")))
   unfolding read_part
-  begun_part base = begun_mapped (part_section base) (begun_bracketed (codes "[") (codes "]") exact_inner inner_viable closed_inner refl refl)
+  begun_part base = begun_mapped (part_section base) (begun_then exact_dimension exact_columns (λ rows ys b rest w free. begins_never (ys ++ rest)) (λ rows ys t rest d. begins_never (ys ++ (t ∷ rest))) columns_viable begun_dimension)
 
   abbrev Based : Named → List Token → Section → Type 0
   Based base = Either (Part base) (Nothing (whole_section base))
@@ -345,7 +379,7 @@ module _ {expression : Reader Expr} {X : List Token → Token → Type 0} (part_
   BasedDeep base = EitherDeep PartDeep Nowhere
 
   exact_behind_base : (base : Named) → Exact (read_either (has (symbol_at (codes "["))) (read_part expression base) (read_nothing (whole_section base))) (Based base) (BasedDeep base) section_goes
-  exact_behind_base base = exact_either (has (symbol_at (codes "["))) (exact_closed section_goes (exact_part base)) (begun_part base) (exact_nothing (whole_section base) section_goes)
+  exact_behind_base base = exact_either (has (symbol_at (codes "["))) (exact_part base) (begun_part base) (exact_nothing (whole_section base) section_goes)
       (λ ys b rest w free. ap (λ zs. begins section_goes (zs ++ rest)) w.nothing ∙ free)
       (λ ys t rest d. nowhere ys t d)
 
@@ -366,6 +400,22 @@ module _ {expression : Reader Expr} {X : List Token → Token → Type 0} (part_
   abbrev SectionedDeep : List Token → Token → Type 0
   SectionedDeep = EitherDeep (HeadedDeep (symbol_at (codes "*")) Nowhere) (EitherDeep ShapedDeep (ThenDeep Nowhere (One name_at) BasedDeep))
 
+  -- what closes one part may be followed by what opens another
+  closed_before : (opened : Token) (inner : List Token) (closed : Token) (rest : List Token) → (opened ∷ (inner ++ (closed ∷ []))) ++ rest ≡ opened ∷ (inner ++ (closed ∷ rest))
+  closed_before opened inner closed rest = ap (λ ys. opened ∷ ys) (append_assoc inner (closed ∷ []) rest)
+
+  part_into : (xs front back : List Token) (t : Token) (base : Named) (rows : Inner) (cells : Form) → xs ≡ t ∷ (front ++ back) → NameIs t.what t.line base → Dimension front rows → Columns rows back cells
+      → IsSection xs (part_section base cells)
+  part_into xs front back t base rows cells e n d (one_way c) =
+      let all : xs ≡ t ∷ d.opened ∷ (d.inner ++ (d.closed ∷ c.whole.opened ∷ (c.whole.inner ++ (c.whole.closed ∷ []))))
+      = e ∙ ap (λ ys. t ∷ ys) (ap (λ ys. ys ++ back) d.split ∙ (closed_before d.opened d.inner d.closed back ∙ ap (λ ys. d.opened ∷ (d.inner ++ (d.closed ∷ ys))) c.whole.split)) in
+      subst (λ s. IsSection xs s) (ap (λ k. record { base = base.name; form = form.Grid rows c.part; line = k; base_line = k }) (sym n.at) ∙ ap (λ f. part_section base f) c.made)
+      (grid t base.name d.opened d.inner d.closed c.whole.opened c.whole.inner c.whole.closed all n.what d.opens d.closes c.whole.opens c.whole.closes d.inside c.whole.inside)
+  part_into xs front back t base rows cells e n d (other_way c) =
+      let all : xs ≡ t ∷ d.opened ∷ (d.inner ++ (d.closed ∷ [])) = e ∙ ap (λ ys. t ∷ ys) (ap (λ ys. front ++ ys) c.nothing ∙ (append-nil front ∙ d.split)) in
+      subst (λ s. IsSection xs s) (ap (λ k. record { base = base.name; form = form_of_inner rows; line = k; base_line = k }) (sym n.at) ∙ ap (λ f. part_section base f) c.same)
+      (part t base.name d.opened d.inner d.closed all n.what d.opens d.closes d.inside)
+
   section_into : (xs : List Token) (s : Section) → Sectioned xs s → IsSection xs s
   section_into xs s (one_way w) = let n = w.whole.behind in
       subst (λ s. IsSection xs s)
@@ -382,15 +432,16 @@ module _ {expression : Reader Expr} {X : List Token → Token → Type 0} (part_
   section_into xs s (other_way (other_way w)) = based_into xs w.front w.back w.value s w.split w.before w.behind where
     based_into : (xs front back : List Token) (base : Named) (s : Section) → xs ≡ front ++ back → One name_at front base → Based base back s → IsSection xs s
     based_into xs front back base s e n (one_way w) =
-        subst (λ s. IsSection xs s) (ap (λ k. record { base = base.name; form = w.part; line = k; base_line = k }) (sym (name_is n.token.what n.token.line base n.passes).at) ∙ w.made)
-        (part n.token base.name w.whole.opened w.whole.inner w.whole.closed (e ∙ (ap (λ ys. ys ++ back) n.only ∙ ap (λ ys. n.token ∷ ys) w.whole.split)) ((name_is n.token.what n.token.line base n.passes).what)
-        w.whole.opens w.whole.closes w.whole.inside)
+        subst (λ s. IsSection xs s) w.made (part_into xs w.whole.front w.whole.back n.token base w.whole.value w.part (e ∙ (ap (λ ys. ys ++ back) n.only ∙ ap (λ ys. n.token ∷ ys) w.whole.split)) (name_is n.token.what n.token.line base n.passes) w.whole.before w.whole.behind)
     based_into xs front back base s e n (other_way w) =
         subst (λ s. IsSection xs s) (ap (λ k. record { base = base.name; form = form.Whole; line = k; base_line = k }) (sym (name_is n.token.what n.token.line base n.passes).at) ∙ w.same)
         (whole n.token base.name (e ∙ (ap (λ ys. ys ++ back) n.only ∙ ap (λ ys. n.token ∷ ys) w.nothing)) ((name_is n.token.what n.token.line base n.passes).what))
 
   one_name : (t : Token) (base : List ℕ) → t.what ≡ kinds.Name base → One name_at (t ∷ []) (record { name = base; line = t.line })
   one_name t base n = record { token = t; only = refl; passes = name_value t base n }
+
+  dimension_of : (opened : Token) (inner : List Token) (closed : Token) (cells : Inner) → IsIndexOpen opened → IsIndexClose closed → IsInner inner cells → Dimension (opened ∷ (inner ++ (closed ∷ []))) cells
+  dimension_of opened inner closed cells o m w = record { opened = opened; inner = inner; closed = closed; split = refl; opens = o; closes = m; inside = w }
 
   section_back : (xs : List Token) (s : Section) → IsSection xs s → Sectioned xs s
   section_back xs s (whole t base e n) = other_way (other_way (record {
@@ -429,8 +480,57 @@ module _ {expression : Reader Expr} {X : List Token → Token → Type 0} (part_
     value = record { name = base; line = t.line };
     split = e;
     before = one_name t base n;
-    behind = one_way (record { part = c; made = refl; whole = record { opened = opened; inner = inner; closed = closed; split = refl; opens = o; closes = m; inside = w } });
+    behind = one_way (record {
+      part = form_of_inner c;
+      made = refl;
+      whole = record {
+        front = opened ∷ (inner ++ (closed ∷ []));
+        back = [];
+        value = c;
+        split = sym (append-nil (opened ∷ (inner ++ (closed ∷ []))));
+        before = dimension_of opened inner closed c o m w;
+        behind = other_way (record { nothing = refl; same = refl });
+      };
+    });
   }))
+  section_back xs s (grid {rows = c} {columns = d} t base opened first closed again second ended e n o m k l w v) = other_way (other_way (record {
+    front = t ∷ [];
+    back = opened ∷ (first ++ (closed ∷ again ∷ (second ++ (ended ∷ []))));
+    value = record { name = base; line = t.line };
+    split = e;
+    before = one_name t base n;
+    behind = one_way (record {
+      part = form.Grid c d;
+      made = refl;
+      whole = record {
+        front = opened ∷ (first ++ (closed ∷ []));
+        back = again ∷ (second ++ (ended ∷ []));
+        value = c;
+        split = sym (closed_before opened first closed (again ∷ (second ++ (ended ∷ []))));
+        before = dimension_of opened first closed c o m w;
+        behind = one_way (record { part = d; made = refl; whole = dimension_of again second ended d k l v });
+      };
+    });
+  }))
+
+  part_deeper : (xs back : List Token) (t p : Token) (base : Named) → xs ≡ p ∷ back → NameIs p.what p.line base → PartDeep back t → IsExcessBehind OpensSection X xs t
+  part_deeper xs back t p base e n (ThenDeep.in_first d) = let x = d.deep in record {
+    front = p ∷ d.opened ∷ x.front;
+    inner = x.inner;
+    split = e ∙ ap (λ ys. p ∷ ys) (d.split ∙ ap (λ ys. d.opened ∷ ys) x.split);
+    opens = section_part p base.name d.opened x.front refl n.what d.opens x.opens;
+    excess = x.excess;
+  }
+  part_deeper xs back t p base e n (ThenDeep.in_second first rest rows s w (one_deep d)) = let x = d.deep in record {
+    front = p ∷ w.opened ∷ (w.inner ++ (w.closed ∷ d.opened ∷ x.front));
+    inner = x.inner;
+    split = e ∙ ap (λ ys. p ∷ ys)
+        (s ∙ (ap (λ ys. ys ++ rest) w.split ∙ (closed_before w.opened w.inner w.closed rest
+        ∙ ap (λ ys. w.opened ∷ ys) (ap (λ ys. w.inner ++ (w.closed ∷ ys)) (d.split ∙ ap (λ ys. d.opened ∷ ys) x.split) ∙ sym (append_assoc w.inner (w.closed ∷ d.opened ∷ x.front) x.inner)))));
+    opens = section_columns p base.name w.opened w.inner w.closed d.opened x.front refl n.what w.opens w.inside w.closes d.opens x.opens;
+    excess = x.excess;
+  }
+  part_deeper xs back t p base e n (ThenDeep.in_second first rest rows s w (other_deep d)) = nowhere rest t d
 
   section_deeper : (xs : List Token) (t : Token) → SectionedDeep xs t → IsExcessBehind OpensSection X xs t
   section_deeper xs t (one_deep d) = nowhere d.back t d.deep
@@ -439,13 +539,7 @@ module _ {expression : Reader Expr} {X : List Token → Token → Type 0} (part_
     shape_deeper back (ThenDeep.in_first x) e = record { front = d.token ∷ []; inner = back; split = e; opens = section_shape d.token refl (symbol_token (codes "[") d.token d.value d.passes); excess = x }
     shape_deeper back (ThenDeep.in_second front left a s w h) e = nowhere h.back t h.deep
   section_deeper xs t (other_deep (other_deep (ThenDeep.in_first d))) = nowhere xs t d
-  section_deeper xs t (other_deep (other_deep (ThenDeep.in_second front back base e n (one_deep d)))) = let x = d.deep in record {
-    front = n.token ∷ d.opened ∷ x.front;
-    inner = x.inner;
-    split = e ∙ (ap (λ ys. ys ++ back) n.only ∙ ap (λ ys. n.token ∷ ys) (d.split ∙ ap (λ ys. d.opened ∷ ys) x.split));
-    opens = section_part n.token base.name d.opened x.front refl ((name_is n.token.what n.token.line base n.passes).what) d.opens x.opens;
-    excess = x.excess;
-  }
+  section_deeper xs t (other_deep (other_deep (ThenDeep.in_second front back base e n (one_deep d)))) = part_deeper xs back t n.token base (e ∙ ap (λ ys. ys ++ back) n.only) (name_is n.token.what n.token.line base n.passes) d
   section_deeper xs t (other_deep (other_deep (ThenDeep.in_second front back base e n (other_deep d)))) = nowhere back t d
 
   section_upper_by : (xs before inner : List Token) (t : Token) → xs ≡ before ++ inner → X inner t → OpensSection before → SectionedDeep xs t
@@ -453,7 +547,12 @@ module _ {expression : Reader Expr} {X : List Token → Token → Type 0} (part_
       other_deep (one_deep (record { token = opened; back = inner; value = opened.line; split = e ∙ ap (λ ys. ys ++ inner) s; passes = symbol_value (codes "[") opened o; deep = ThenDeep.in_first x }))
   section_upper_by xs before inner t e x (section_part p base opened front s n o i) =
       other_deep (other_deep (ThenDeep.in_second (p ∷ []) (opened ∷ (front ++ inner)) (record { name = base; line = p.line }) (e ∙ ap (λ ys. ys ++ inner) s) (one_name p base n)
-      (one_deep (record { opened = opened; inner = front ++ inner; split = refl; opens = o; deep = record { front = front; inner = inner; split = refl; opens = i; excess = x } }))))
+      (one_deep (ThenDeep.in_first (record { opened = opened; inner = front ++ inner; split = refl; opens = o; deep = record { front = front; inner = inner; split = refl; opens = i; excess = x } })))))
+  section_upper_by xs before inner t e x (section_columns {rows = c} p base opened first closed again front s n o w m k i) =
+      other_deep (other_deep (ThenDeep.in_second (p ∷ []) (opened ∷ ((first ++ (closed ∷ again ∷ front)) ++ inner)) (record { name = base; line = p.line }) (e ∙ ap (λ ys. ys ++ inner) s) (one_name p base n)
+      (one_deep (ThenDeep.in_second (opened ∷ (first ++ (closed ∷ []))) (again ∷ (front ++ inner)) c
+      (ap (λ ys. opened ∷ ys) (append_assoc first (closed ∷ again ∷ front) inner) ∙ sym (closed_before opened first closed (again ∷ (front ++ inner)))) (dimension_of opened first closed c o m w)
+      (one_deep (record { opened = again; inner = front ++ inner; split = refl; opens = k; deep = record { front = front; inner = inner; split = refl; opens = i; excess = x } }))))))
 
   section_upper : (xs : List Token) (t : Token) → IsExcessBehind OpensSection X xs t → SectionedDeep xs t
   section_upper xs t w = section_upper_by xs w.front w.inner t w.split w.excess w.opens

@@ -2,9 +2,9 @@
 use Rattle.std.proofs.Common.{◌≡◌, ℕ, zero, suc, ◌+◌, ◌-◌, ◌<◌, List, [], ◌∷◌, codes, refl, ap, ◌∙◌, arith, Result, Ok, Err}
 use Rattle.oss_syntax.specs.declared.token.Token.{Token}
 use Rattle.oss_syntax.specs.declared.tree.expr.Expr.{Expr}
-use Rattle.oss_grammar.specs.Reading.{Reader, Stop, begins, has, go_on, read_nothing, read_mapped, read_either}
+use Rattle.oss_grammar.specs.Reading.{Reader, Stop, begins, has, go_on, read_then, read_nothing, read_mapped, read_either}
 use Rattle.oss_pragma.specs.TokenValues.{symbol_at, name_at, number_at, prefix_at, operator_at, begins_expression}
-use Rattle.oss_pragma.specs.ExpressionReading.{latter, former, middle, and_then, read_next, read_more, read_list, named_expression, call_of, indexed, prefixed_by, joined_to, read_arguments, read_call, read_named, read_brackets, read_primary, read_index, read_postfix, read_prefixed, read_operation, read_operations, read_levels, binary_levels, read_unary, read_whole}
+use Rattle.oss_pragma.specs.ExpressionReading.{latter, former, middle, and_then, read_next, read_more, read_list, named_expression, call_of, indexed, prefixed_by, joined_to, read_arguments, read_call, read_named, read_brackets, read_primary, read_index, read_second_index, read_postfix, read_prefixed, read_operation, read_operations, read_levels, binary_levels, read_unary, read_whole}
 use Rattle.oss_pragma.specs.Operands.{read_operand, read_above}
 use Rattle.oss_pragma.specs.declared.cursor.Named.{Named}
 use Rattle.oss_pragma.specs.declared.cursor.Unread.{Unread}
@@ -59,10 +59,14 @@ module _ {inner : Reader Expr} (takes : Takes inner) where
   unfolding read_index
   takes_index = takes_mapped middle (takes_both (takes_one (symbol_at (codes "["))) (keeps (takes_both takes (keeps (takes_one (symbol_at (codes "]")))))))
 
+  keeps_second_index : (row : Expr) → Keeps (read_second_index inner row)
+  unfolding read_second_index
+  keeps_second_index row = keeps_either (has (symbol_at (codes "["))) (keeps (takes_mapped (indexed row) takes_index)) (keeps_nothing row)
+
   takes_postfix : Takes (read_postfix inner)
   unfolding read_postfix
-  takes_postfix = takes_then (λ base. read_either (has (symbol_at (codes "["))) (read_mapped (indexed base) (read_index inner)) (read_nothing base)) takes_primary
-      (λ base. keeps_either (has (symbol_at (codes "["))) (keeps (takes_mapped (indexed base) takes_index)) (keeps_nothing base))
+  takes_postfix = takes_then (λ base. read_either (has (symbol_at (codes "["))) (read_then (read_mapped (indexed base) (read_index inner)) (read_second_index inner)) (read_nothing base)) takes_primary
+      (λ base. keeps_either (has (symbol_at (codes "["))) (keeps (takes_then (read_second_index inner) (takes_mapped (indexed base) takes_index) keeps_second_index)) (keeps_nothing base))
 
   pub takes_prefixed : {operand : Reader Expr} → Takes operand → Takes (read_prefixed operand inner)
   unfolding read_prefixed

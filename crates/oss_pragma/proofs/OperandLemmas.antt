@@ -1,5 +1,5 @@
 -- Operands are read exactly, with an index behind them and prefixes before them, if the expressions in them are.
-use Rattle.std.proofs.Common.{◌≡◌, if◌then◌else◌, ℕ, suc, Bool, true, false, ◌||◌, List, [], ◌∷◌, ◌++◌, refl, sym, ap, ◌∙◌, subst, Option, Some, None}
+use Rattle.std.proofs.Common.{◌≡◌, if◌then◌else◌, ℕ, suc, Bool, true, false, ◌||◌, List, [], ◌∷◌, ◌++◌, refl, sym, ap, ◌∙◌, subst, append_assoc, Option, Some, None}
 use Rattle.std.specs.Prelude.{codes, nat_lt}
 use Rattle.std.proofs.lemmas.List.{append-nil}
 use Rattle.oss_syntax.specs.declared.token.Token.{Token}
@@ -11,24 +11,26 @@ use Rattle.oss_syntax.specs.declared.tree.expr.Expr.{Expr}
 use Rattle.oss_syntax.specs.declared.tree.expr.ExprKind.TheVariants as exprs
 use Rattle.oss_syntax.specs.declared.tree.expr.UnOp.{UnOp}
 use Rattle.oss_syntax.specs.declared.tree.expr.UnOp.TheVariants as prefix
-use Rattle.oss_grammar.specs.Expressions.{IsExpr, IsWhole, primary_level, postfix_level, prefix_level, loosest_level, prefix_of, operator_of}
-use Rattle.oss_grammar.specs.Expressions.IsExpr.{index, prefixed, joined, tighter}
+use Rattle.oss_grammar.specs.Expressions.{IsExpr, IsIndexed, IsWhole, primary_level, postfix_level, prefix_level, loosest_level, prefix_of, operator_of}
+use Rattle.oss_grammar.specs.Expressions.IsExpr.{indexed as once_indexed, indexed_again, prefixed, joined, tighter}
+use Rattle.oss_grammar.specs.Expressions.IsIndexed.{index}
 use Rattle.oss_grammar.specs.Fronts.{Viable}
 use Rattle.oss_grammar.specs.Grammar.{One, Both, Mapped, Either}
 use Rattle.oss_grammar.specs.Grammar.Either.{one_way, other_way}
 use Rattle.oss_grammar.specs.Levels.{Begins}
-use Rattle.oss_grammar.specs.Levels.Begins.{in_index, under_prefix, on_the_right, in_tighter}
-use Rattle.oss_grammar.specs.OneToken.{is_symbol}
-use Rattle.oss_grammar.specs.Reading.{Reader, begins, has, never, one_of, read_one, read_mapped, read_both, read_either, read_nothing}
+use Rattle.oss_grammar.specs.Levels.Begins.{in_index, in_second_index, under_prefix, on_the_right, in_tighter}
+use Rattle.oss_grammar.specs.OneToken.{is_symbol, IsIndexOpen, IsIndexClose}
+use Rattle.oss_grammar.specs.Reading.{Reader, begins, has, never, one_of, read_one, read_then, read_mapped, read_both, read_either, read_nothing}
 use Rattle.oss_grammar.proofs.Parts.{Exact, Begun, exact_as, member_begins, deep_begins}
 use Rattle.oss_grammar.proofs.PartLemmas.{Nowhere, nowhere, exact_one, begun_one, exact_nothing, Nothing, exact_mapped, begun_mapped, Then, ThenDeep, exact_then, begun_then, EitherDeep, exact_either, begun_either}
 use Rattle.oss_grammar.proofs.PartLemmas.ThenDeep.{in_first, in_second}
 use Rattle.oss_grammar.proofs.PartLemmas.EitherDeep.{one_deep, other_deep}
-use Rattle.oss_grammar.proofs.PairLemmas.{exact_both, begun_both}
+use Rattle.oss_grammar.proofs.PairLemmas.{some_text, exact_both, begun_both}
 use Rattle.oss_grammar.proofs.StepLemmas.{none_goes, fewer_go}
-use Rattle.oss_pragma.specs.ExpressionReading.{middle, indexed, prefixed_by, read_index, read_postfix, read_prefixed}
-use Rattle.oss_pragma.specs.TokenValues.{symbol_at, name_at, number_at, prefix_at, signed_in, begins_expression}
-use Rattle.oss_pragma.proofs.TokenLemmas.{goes_on, opening, index_opening, index_closing, exact_symbol, exact_closed, one_symbol, symbol_one, has_symbol, on_symbol}
+use Rattle.oss_pragma.specs.ExpressionReading.{indexed, prefixed_by, read_index, read_second_index, read_postfix, read_prefixed}
+use Rattle.oss_pragma.specs.TokenValues.{name_at, number_at, prefix_at, signed_in, begins_expression}
+use Rattle.oss_pragma.proofs.ExactPairs.{Bracketed, BracketedDeep, exact_bracketed, begun_bracketed}
+use Rattle.oss_pragma.proofs.TokenLemmas.{goes_on, opening, index_opening, index_closing, begins_never, exact_closed, has_symbol, on_symbol}
 use Rattle.oss_pragma.proofs.PrimaryLemmas.{exact_primary, begun_primary}
 
 -- a call may go on behind a name, and an index behind a primary expression
@@ -90,100 +92,139 @@ no_level_two : (k : TokenKind) (operator : BinOp) → operator_of k ≡ Some (2,
 unfolding is_loose
 no_level_two k operator e = let loose : is_loose (Some (2, operator)) ≡ true = ap is_loose (sym e) ∙ operators_loose k in absurd (cc)
 
-module _ {inner : Reader Expr} {n : ℕ} (part : Exact inner IsWhole (Begins loosest_level n) goes_on) (first : Begun inner begins_expression) where
-  exact_index_close : Exact (read_one (symbol_at (codes "]"))) (One (symbol_at (codes "]"))) Nowhere never
-  exact_index_close = exact_symbol (codes "]") refl never
+-- what begins with the bracket of an index, or nothing
+module _ {f : Reader Expr} {U : List Token → Expr → Type 0} {D : List Token → Token → Type 0} (base : Expr) (part : Exact f U D tight) (first : Begun f index_opening) where
+  not_opening : (t : Token) → index_opening t ≡ true → opening t ≡ false
+  not_opening t e = on_symbol opening (codes "[") false (λ line. refl) t (has_symbol (codes "[") t e)
 
-  exact_index_open : Exact (read_one (symbol_at (codes "["))) (One (symbol_at (codes "["))) Nowhere never
-  exact_index_open = exact_symbol (codes "[") refl never
+  exact_tail : Exact (read_either index_opening f (read_nothing base)) (Either U (Nothing base)) (EitherDeep D Nowhere) tight
+  exact_tail = exact_either index_opening part first (exact_nothing base tight)
+      (λ ys e rest w free. ap (λ zs. begins index_opening (zs ++ rest)) w.nothing ∙ fewer_go tight index_opening (λ t f. latter_false (opening t) (index_opening t) f) rest free) (λ ys t rest w. nowhere ys t w)
 
+  tail_apart : (ys : List Token) (e : Expr) (rest : List Token) → Either U (Nothing base) ys e → begins tight rest ≡ false → begins opening (ys ++ rest) ≡ false
+  tail_apart ys e rest (one_way w) free = none_goes index_opening opening not_opening (ys ++ rest) (member_begins part first ys e rest w)
+  tail_apart ys e rest (other_way w) free = ap (λ zs. begins opening (zs ++ rest)) w.nothing ∙ fewer_go tight opening (λ t f. former_false (opening t) (index_opening t) f) rest free
+
+  tail_apart_deep : (ys : List Token) (t : Token) (rest : List Token) → EitherDeep D Nowhere ys t → begins opening (ys ++ (t ∷ rest)) ≡ false
+  tail_apart_deep ys t rest (one_deep w) = none_goes index_opening opening not_opening (ys ++ (t ∷ rest)) (deep_begins part first ys t rest w)
+  tail_apart_deep ys t rest (other_deep w) = nowhere ys t w
+
+  some_tail : Viable (Either U (Nothing base)) []
+  some_tail = record { more = []; value = base; member = other_way (record { nothing = refl; same = refl }) }
+
+-- an index in its brackets; behind an index, another or none; and both
+abbrev pub Place : List Token → Expr → Type 0
+Place = Bracketed (codes "[") (codes "]") IsWhole
+
+abbrev pub Row : Expr → List Token → Expr → Type 0
+Row row = Either (Mapped (indexed row) Place) (Nothing row)
+
+abbrev pub Indexes : Expr → List Token → Expr → Type 0
+Indexes base = Then (Mapped (indexed base) Place) Row
+
+-- a limit is passed in one of them
+abbrev pub PlaceDeep : (List Token → Token → Type 0) → List Token → Token → Type 0
+PlaceDeep X = BracketedDeep (codes "[") X
+
+abbrev pub RowDeep : (List Token → Token → Type 0) → Expr → List Token → Token → Type 0
+RowDeep X row = EitherDeep (PlaceDeep X) Nowhere
+
+abbrev pub IndexesDeep : (List Token → Token → Type 0) → Expr → List Token → Token → Type 0
+IndexesDeep X base = ThenDeep (PlaceDeep X) (Mapped (indexed base) Place) (RowDeep X)
+
+module _ {inner : Reader Expr} {X : List Token → Token → Type 0} (part : Exact inner IsWhole X goes_on) (first : Begun inner begins_expression) where
   index_ends : (t : Token) → index_closing t ≡ true → goes_on t ≡ false
   unfolding operator_of
   index_ends t e = on_symbol goes_on (codes "]") false (λ line. refl) t (has_symbol (codes "]") t e)
 
-  abbrev IndexParts : List Token → Expr → Type 0
-  IndexParts = Mapped middle (Both (One (symbol_at (codes "["))) (Both IsWhole (One (symbol_at (codes "]")))))
-
-  abbrev IndexDeep : List Token → Token → Type 0
-  IndexDeep = ThenDeep Nowhere (One (symbol_at (codes "["))) (λ line. ThenDeep (Begins loosest_level n) IsWhole (λ e. Nowhere))
-
-  exact_inside : Exact (read_both inner (read_one (symbol_at (codes "]")))) (Both IsWhole (One (symbol_at (codes "]")))) (ThenDeep (Begins loosest_level n) IsWhole (λ e. Nowhere)) never
-  exact_inside = exact_both part exact_index_close (begun_one (symbol_at (codes "]"))) index_ends
-
-  begun_inside : Begun (read_both inner (read_one (symbol_at (codes "]")))) begins_expression
-  begun_inside = begun_both part exact_index_close (begun_one (symbol_at (codes "]"))) index_ends first
-
-  exact_index : Exact (read_index inner) IndexParts IndexDeep never
+  pub exact_index : (base : Expr) → Exact (read_mapped (indexed base) (read_index inner)) (Mapped (indexed base) Place) (PlaceDeep X) never
   unfolding read_index
-  exact_index = exact_mapped middle (exact_both exact_index_open exact_inside begun_inside (λ t e. refl))
+  exact_index base = exact_mapped (indexed base) (exact_bracketed (codes "[") (codes "]") part (some_text part first) index_ends refl refl)
 
-  begun_index : Begun (read_index inner) index_opening
+  pub begun_index : (base : Expr) → Begun (read_mapped (indexed base) (read_index inner)) index_opening
   unfolding read_index
-  begun_index = begun_mapped middle (begun_both exact_index_open exact_inside begun_inside (λ t e. refl) (begun_one (symbol_at (codes "["))))
+  begun_index base = begun_mapped (indexed base) (begun_bracketed (codes "[") (codes "]") part (some_text part first) index_ends refl refl)
 
-  -- a primary expression, with or without an index
-  abbrev IndexTail : Expr → List Token → Expr → Type 0
-  IndexTail base = Either (Mapped (indexed base) IndexParts) (Nothing base)
+  exact_row : (row : Expr) → Exact (read_second_index inner row) (Row row) (RowDeep X row) tight
+  unfolding read_second_index
+  exact_row row = exact_tail row (exact_closed tight (exact_index row)) (begun_index row)
 
-  exact_tail : (base : Expr) → Exact (read_either index_opening (read_mapped (indexed base) (read_index inner)) (read_nothing base)) (IndexTail base) (EitherDeep IndexDeep Nowhere) tight
-  exact_tail base = exact_either index_opening (exact_closed tight (exact_mapped (indexed base) exact_index)) (begun_mapped (indexed base) begun_index) (exact_nothing base tight)
-      (λ ys e rest w free. ap (λ zs. begins index_opening (zs ++ rest)) w.nothing ∙ fewer_go tight index_opening (λ t f. latter_false (opening t) (index_opening t) f) rest free) (λ ys t rest w. nowhere ys t w)
+  some_row : (row : Expr) → Viable (Row row) []
+  some_row row = some_tail row (exact_closed tight (exact_index row)) (begun_index row)
 
-  not_opening : (t : Token) → index_opening t ≡ true → opening t ≡ false
-  not_opening t e = on_symbol opening (codes "[") false (λ line. refl) t (has_symbol (codes "[") t e)
+  pub exact_indexes : (base : Expr) → Exact (read_then (read_mapped (indexed base) (read_index inner)) (read_second_index inner)) (Indexes base) (IndexesDeep X base) tight
+  exact_indexes base = exact_then (exact_index base) exact_row (λ row ys e rest w free. begins_never (ys ++ rest)) (λ row ys t rest w. begins_never (ys ++ (t ∷ rest))) some_row
 
-  tail_apart : (base : Expr) (ys : List Token) (e : Expr) (rest : List Token) → IndexTail base ys e → begins tight rest ≡ false → begins opening (ys ++ rest) ≡ false
-  tail_apart base ys e rest (one_way w) free = none_goes index_opening opening not_opening (ys ++ rest) (member_begins exact_index begun_index ys w.part rest w.whole)
-  tail_apart base ys e rest (other_way w) free = ap (λ zs. begins opening (zs ++ rest)) w.nothing ∙ fewer_go tight opening (λ t f. former_false (opening t) (index_opening t) f) rest free
+  pub begun_indexes : (base : Expr) → Begun (read_then (read_mapped (indexed base) (read_index inner)) (read_second_index inner)) index_opening
+  begun_indexes base = begun_then (exact_index base) exact_row (λ row ys e rest w free. begins_never (ys ++ rest)) (λ row ys t rest w. begins_never (ys ++ (t ∷ rest))) some_row (begun_index base)
 
-  tail_apart_deep : (base : Expr) (ys : List Token) (t : Token) (rest : List Token) → EitherDeep IndexDeep Nowhere ys t → begins opening (ys ++ (t ∷ rest)) ≡ false
-  tail_apart_deep base ys t rest (one_deep w) = none_goes index_opening opening not_opening (ys ++ (t ∷ rest)) (deep_begins exact_index begun_index ys t rest w)
-  tail_apart_deep base ys t rest (other_deep w) = nowhere ys t w
+module _ {inner : Reader Expr} {n : ℕ} (part : Exact inner IsWhole (Begins loosest_level n) goes_on) (first : Begun inner begins_expression) where
+  -- a primary expression, with no index, one or two
+  abbrev Behind : Expr → List Token → Expr → Type 0
+  Behind base = Either (Indexes base) (Nothing base)
 
-  some_tail : (base : Expr) → Viable (IndexTail base) []
-  some_tail base = record { more = []; value = base; member = other_way (record { nothing = refl; same = refl }) }
+  abbrev BehindDeep : Expr → List Token → Token → Type 0
+  BehindDeep base = EitherDeep (IndexesDeep (Begins loosest_level n) base) Nowhere
 
   abbrev PostfixParts : List Token → Expr → Type 0
-  PostfixParts = Then (IsExpr primary_level) IndexTail
+  PostfixParts = Then (IsExpr primary_level) Behind
 
   abbrev PostfixDeep : List Token → Token → Type 0
-  PostfixDeep = ThenDeep (Begins primary_level (suc n)) (IsExpr primary_level) (λ base. EitherDeep IndexDeep Nowhere)
+  PostfixDeep = ThenDeep (Begins primary_level (suc n)) (IsExpr primary_level) BehindDeep
+
+  into_indexed : (xs front back : List Token) (base e : Expr) → xs ≡ front ++ back → IsExpr primary_level front base → Mapped (indexed base) Place back e → IsIndexed xs e
+  into_indexed xs front back base e split w v =
+      subst (λ x. IsIndexed xs x) v.made (index front v.whole.opened v.whole.closed v.whole.inner (split ∙ ap (λ ys. front ++ ys) v.whole.split) v.whole.opens v.whole.closes w v.whole.inside)
+
+  into_again : (xs front back : List Token) (row e : Expr) → xs ≡ front ++ back → IsIndexed front row → Row row back e → IsExpr postfix_level xs e
+  into_again xs front back row e split w (one_way v) =
+      subst (λ x. IsExpr postfix_level xs x) v.made (indexed_again front v.whole.opened v.whole.closed v.whole.inner (split ∙ ap (λ ys. front ++ ys) v.whole.split) v.whole.opens v.whole.closes w v.whole.inside)
+  into_again xs front back row e split w (other_way v) =
+      let all : xs ≡ front = split ∙ (ap (λ ys. front ++ ys) v.nothing ∙ append-nil front) in
+      subst (λ ys. IsExpr postfix_level ys e) (sym all) (once_indexed (subst (λ x. IsIndexed front x) v.same w))
+
+  into_behind : (xs front back : List Token) (base e : Expr) → xs ≡ front ++ back → IsExpr primary_level front base → Behind base back e → IsExpr postfix_level xs e
+  into_behind xs front back base e split w (one_way v) =
+      into_again xs (front ++ v.front) v.back v.value e (split ∙ (ap (λ ys. front ++ ys) v.split ∙ sym (append_assoc front v.front v.back))) (into_indexed (front ++ v.front) front v.front base v.value refl w v.before) v.behind
+  into_behind xs front back base e split w (other_way v) =
+      let all : xs ≡ front = split ∙ (ap (λ ys. front ++ ys) v.nothing ∙ append-nil front) in
+      subst (λ ys. IsExpr postfix_level ys e) (sym all) (tighter (subst (λ x. IsExpr primary_level front x) v.same w))
 
   into_postfix : (xs : List Token) (e : Expr) → PostfixParts xs e → IsExpr postfix_level xs e
-  into_postfix xs e w = on w.behind where
-    on : IndexTail w.value w.back e → IsExpr postfix_level xs e
-    on (one_way v) =
-        let outer = v.whole.whole in let inside = outer.behind in
-        let all : xs ≡ w.front ++ (outer.before.token ∷ (inside.front ++ (inside.behind.token ∷ [])))
-        = w.split ∙ ap (λ ys. w.front ++ ys) (outer.split ∙ (ap (λ ys. ys ++ outer.back) outer.before.only ∙ ap (λ ys. outer.before.token ∷ ys) (inside.split ∙ ap (λ ys. inside.front ++ ys) inside.behind.only))) in
-        let same : record { what = exprs.Index w.value v.whole.part.1.0; line = w.value.line } ≡ e = ap (λ at. record { what = exprs.Index w.value at; line = w.value.line }) v.whole.made ∙ v.made in
-        subst (λ x. IsExpr postfix_level xs x) same
-        (index w.front outer.before.token inside.behind.token inside.front all (one_symbol (codes "[") outer.front v.whole.part.0 outer.before) (one_symbol (codes "]") inside.back v.whole.part.1.1 inside.behind) w.before inside.before)
-    on (other_way v) =
-        let all : xs ≡ w.front = w.split ∙ (ap (λ ys. w.front ++ ys) v.nothing ∙ append-nil w.front) in
-        subst (λ ys. IsExpr postfix_level ys e) (sym all) (tighter (subst (λ x. IsExpr primary_level w.front x) v.same w.before))
+  into_postfix xs e w = into_behind xs w.front w.back w.value e w.split w.before w.behind
+
+  placed : (base at : Expr) (opened : Token) (inner : List Token) (closed : Token) → IsIndexOpen opened → IsIndexClose closed → IsWhole inner at → Mapped (indexed base) Place (opened ∷ (inner ++ (closed ∷ []))) (indexed base at)
+  placed base at opened inner closed opens closes w = record { part = at; made = refl; whole = record { opened = opened; inner = inner; closed = closed; split = refl; opens = opens; closes = closes; inside = w } }
 
   out_of_postfix : (xs : List Token) (e : Expr) → IsExpr postfix_level xs e → PostfixParts xs e
-  out_of_postfix xs e (index {a = a} {e = at} front opened closed inner split opens closes base v) = record {
+  out_of_postfix xs e (once_indexed (index {a = a} {e = at} front opened closed inner split opens closes base v)) = record {
     front = front;
     back = opened ∷ (inner ++ (closed ∷ []));
     value = a;
     split = split;
     before = base;
     behind = one_way (record {
-      part = at;
-      made = refl;
-      whole = record {
-        part = (opened.line, (at, closed.line));
-        made = refl;
-        whole = record {
-          front = opened ∷ [];
-          back = inner ++ (closed ∷ []);
-          split = refl;
-          before = symbol_one (codes "[") opened opens;
-          behind = record { front = inner; back = closed ∷ []; split = refl; before = v; behind = symbol_one (codes "]") closed closes };
-        };
-      };
+      front = opened ∷ (inner ++ (closed ∷ []));
+      back = [];
+      value = indexed a at;
+      split = sym (append-nil (opened ∷ (inner ++ (closed ∷ []))));
+      before = placed a at opened inner closed opens closes v;
+      behind = other_way (record { nothing = refl; same = refl });
+    });
+  }
+  out_of_postfix xs e (indexed_again {e = at} front opened closed inner split opens closes (index {a = a} {e = row} before one two between cut starts ends base v) w) = record {
+    front = before;
+    back = (one ∷ (between ++ (two ∷ []))) ++ (opened ∷ (inner ++ (closed ∷ [])));
+    value = a;
+    split = split ∙ (ap (λ ys. ys ++ (opened ∷ (inner ++ (closed ∷ [])))) cut ∙ append_assoc before (one ∷ (between ++ (two ∷ []))) (opened ∷ (inner ++ (closed ∷ []))));
+    before = base;
+    behind = one_way (record {
+      front = one ∷ (between ++ (two ∷ []));
+      back = opened ∷ (inner ++ (closed ∷ []));
+      value = indexed a row;
+      split = refl;
+      before = placed a row one between two starts ends v;
+      behind = one_way (placed (indexed a row) at opened inner closed opens closes w);
     });
   }
   out_of_postfix xs e (joined front t operator back split is a b) = absurd (no_level_one t.what operator is)
@@ -192,24 +233,41 @@ module _ {inner : Reader Expr} {n : ℕ} (part : Exact inner IsWhole (Begins loo
   into_postfix_deep : (xs : List Token) (t : Token) → PostfixDeep xs t → Begins postfix_level (suc n) xs t
   into_postfix_deep xs t (in_first d) = in_tighter d
   into_postfix_deep xs t (in_second front back a e w (other_deep d)) = nowhere back t d
-  into_postfix_deep xs t (in_second front back a e w (one_deep (in_first d))) = nowhere back t d
-  into_postfix_deep xs t (in_second front back a e w (one_deep (in_second opened inner line z o (in_second one two b u v d)))) = nowhere two t d
-  into_postfix_deep xs t (in_second front back a e w (one_deep (in_second opened inner line z o (in_first d)))) =
-      in_index front o.token inner (e ∙ ap (λ ys. front ++ ys) (z ∙ ap (λ ys. ys ++ inner) o.only)) w (one_symbol (codes "[") opened line o) d
+  into_postfix_deep xs t (in_second front back a e w (one_deep (in_first d))) = in_index front d.opened d.inner (e ∙ ap (λ ys. front ++ ys) d.split) w d.opens d.deep
+  into_postfix_deep xs t (in_second front back a e w (one_deep (in_second place rest row z v (other_deep d)))) = nowhere rest t d
+  into_postfix_deep xs t (in_second front back a e w (one_deep (in_second place rest row z v (one_deep d)))) =
+      in_second_index (front ++ place) d.opened d.inner (e ∙ (ap (λ ys. front ++ ys) (z ∙ ap (λ ys. place ++ ys) d.split) ∙ sym (append_assoc front place (d.opened ∷ d.inner))))
+      (into_indexed (front ++ place) front place a row refl w v) d.opens d.deep
 
   out_of_postfix_deep : (xs : List Token) (t : Token) → Begins postfix_level (suc n) xs t → PostfixDeep xs t
   out_of_postfix_deep xs t (in_index {base = a} before opened front e w opens d) =
-      in_second before (opened ∷ front) a e w (one_deep (in_second (opened ∷ []) front opened.line refl (symbol_one (codes "[") opened opens) (in_first d)))
+      in_second before (opened ∷ front) a e w (one_deep (in_first (record { opened = opened; inner = front; split = refl; opens = opens; deep = d })))
+  out_of_postfix_deep xs t (in_second_index before opened front e (index {a = a} {e = row} start one two between cut starts ends base v) opens d) =
+      in_second start ((one ∷ (between ++ (two ∷ []))) ++ (opened ∷ front)) a (e ∙ (ap (λ ys. ys ++ (opened ∷ front)) cut ∙ append_assoc start (one ∷ (between ++ (two ∷ []))) (opened ∷ front))) base
+      (one_deep (in_second (one ∷ (between ++ (two ∷ []))) (opened ∷ front) (indexed a row) refl (placed a row one between two starts ends v)
+      (one_deep (record { opened = opened; inner = front; split = refl; opens = opens; deep = d }))))
   out_of_postfix_deep xs t (on_the_right before o operator front e is w d) = absurd (no_level_one o.what operator is)
   out_of_postfix_deep xs t (in_tighter d) = in_first d
 
+  exact_behind : (base : Expr) → Exact (read_either index_opening (read_then (read_mapped (indexed base) (read_index inner)) (read_second_index inner)) (read_nothing base)) (Behind base) (BehindDeep base) tight
+  exact_behind base = exact_tail base (exact_indexes part first base) (begun_indexes part first base)
+
+  behind_apart : (base : Expr) (ys : List Token) (e : Expr) (rest : List Token) → Behind base ys e → begins tight rest ≡ false → begins opening (ys ++ rest) ≡ false
+  behind_apart base = tail_apart base (exact_indexes part first base) (begun_indexes part first base)
+
+  behind_apart_deep : (base : Expr) (ys : List Token) (t : Token) (rest : List Token) → BehindDeep base ys t → begins opening (ys ++ (t ∷ rest)) ≡ false
+  behind_apart_deep base = tail_apart_deep base (exact_indexes part first base) (begun_indexes part first base)
+
+  some_behind : (base : Expr) → Viable (Behind base) []
+  some_behind base = some_tail base (exact_indexes part first base) (begun_indexes part first base)
+
   exact_postfix : Exact (read_postfix inner) (IsExpr postfix_level) (Begins postfix_level (suc n)) tight
   unfolding read_postfix
-  exact_postfix = exact_as into_postfix out_of_postfix into_postfix_deep out_of_postfix_deep (exact_then (exact_primary part first) exact_tail tail_apart tail_apart_deep some_tail)
+  exact_postfix = exact_as into_postfix out_of_postfix into_postfix_deep out_of_postfix_deep (exact_then (exact_primary part first) exact_behind behind_apart behind_apart_deep some_behind)
 
   begun_postfix : Begun (read_postfix inner) (one_of (has number_at) (one_of (has name_at) opening))
   unfolding read_postfix
-  begun_postfix = begun_then (exact_primary part first) exact_tail tail_apart tail_apart_deep some_tail (begun_primary part first)
+  begun_postfix = begun_then (exact_primary part first) exact_behind behind_apart behind_apart_deep some_behind (begun_primary part first)
 
   -- an operand with prefixes, or with none
   module _ {operand : Reader Expr} (under : Exact operand (IsExpr prefix_level) (Begins prefix_level n) tight) (first_under : Begun operand begins_expression) where

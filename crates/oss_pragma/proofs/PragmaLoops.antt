@@ -4,14 +4,16 @@ use Rattle.oss_syntax.specs.declared.tree.expr.Expr.{Expr}
 use Rattle.oss_syntax.specs.declared.tree.pragma.Clause.{Clause}
 use Rattle.oss_syntax.specs.declared.tree.pragma.Clause.TheVariants as clause
 use Rattle.oss_syntax.specs.declared.tree.pragma.Form.TheVariants as form
+use Rattle.oss_syntax.specs.declared.tree.pragma.Inner.{Inner}
+use Rattle.oss_syntax.specs.declared.tree.pragma.Inner.TheVariants as inner_forms
 use Rattle.oss_syntax.specs.declared.tree.pragma.Section.{Section}
-use Rattle.oss_grammar.specs.Pragmas.{Single}
+use Rattle.oss_grammar.specs.Pragmas.{Single, form_of_inner}
 use Rattle.oss_grammar.specs.Pragmas.Single.{once_if, once_final, once_wait, once_label, once_priority}
 use Rattle.oss_grammar.specs.Reading.{Reader, has, read_nothing, read_either}
 use Rattle.oss_pragma.specs.TokenValues.{symbol_at, name_at, access_at, reduction_at, fold_at, label_at, single_at, begins_expression}
 use Rattle.oss_grammar.specs.Levels.{is_operator}
 use Rattle.oss_pragma.specs.ExpressionReading.{latter, middle, and_then, read_next, read_expression}
-use Rattle.oss_pragma.specs.PragmaReading.{read_upper, read_span, read_length, read_inner_from, read_inner, whole_section, pointed_section, shape_section, part_section, read_pointed, read_shape, read_part, read_based, read_section, read_sections, read_bracketed_sections, dependency_of, read_depend, read_folded, reduction_of_parts, read_reduction, read_single, read_label, read_waiting, read_clause, read_after_comma, goes_on_with_clause, goes_on_with_depend}
+use Rattle.oss_pragma.specs.PragmaReading.{read_upper, read_span, read_length, read_inner_from, read_inner, read_dimension, read_columns, whole_section, pointed_section, shape_section, part_section, read_pointed, read_shape, read_part, read_based, read_section, read_sections, read_bracketed_sections, dependency_of, read_depend, read_folded, reduction_of_parts, read_reduction, read_single, read_label, read_waiting, read_clause, read_after_comma, goes_on_with_clause, goes_on_with_depend}
 use Rattle.oss_pragma.specs.declared.cursor.Named.{Named}
 use Rattle.oss_pragma.proofs.StepLoops.{Takes, Keeps, keeps, takes_one, keeps_nothing, takes_mapped, takes_then, takes_both, takes_either, keeps_either, Repeats, repeats}
 use Rattle.oss_pragma.proofs.ExpressionLoops.{takes_brackets, takes_whole, takes_next, takes_list, repeats_more}
@@ -27,15 +29,15 @@ module _ {expression : Reader Expr} (takes : Takes expression) where
 
   takes_span : (first : Option Expr) → Takes (read_span expression first)
   unfolding read_span
-  takes_span first = takes_mapped (form.Span first) (takes_mapped latter (takes_both (takes_one (symbol_at (codes ":"))) keeps_upper))
+  takes_span first = takes_mapped (inner_forms.Span first) (takes_mapped latter (takes_both (takes_one (symbol_at (codes ":"))) keeps_upper))
 
   takes_length : (first : Expr) → Takes (read_length expression first)
   unfolding read_length
-  takes_length first = takes_mapped (form.Length first) (takes_mapped latter (takes_both (takes_one (symbol_at (codes ";"))) (keeps takes)))
+  takes_length first = takes_mapped (inner_forms.Length first) (takes_mapped latter (takes_both (takes_one (symbol_at (codes ";"))) (keeps takes)))
 
   keeps_inner_from : (first : Expr) → Keeps (read_inner_from expression first)
   unfolding read_inner_from
-  keeps_inner_from first = keeps_either (has (symbol_at (codes ";"))) (keeps (takes_length first)) (keeps_either (has (symbol_at (codes ":"))) (keeps (takes_span (Some first))) (keeps_nothing (form.Element first)))
+  keeps_inner_from first = keeps_either (has (symbol_at (codes ";"))) (keeps (takes_length first)) (keeps_either (has (symbol_at (codes ":"))) (keeps (takes_span (Some first))) (keeps_nothing (inner_forms.Element first)))
 
   takes_inner : Takes (read_inner expression)
   unfolding read_inner
@@ -49,9 +51,17 @@ module _ {expression : Reader Expr} (takes : Takes expression) where
   unfolding read_shape
   takes_shape = takes_mapped shape_section (takes_both (takes_one (symbol_at (codes "["))) (keeps (takes_both takes (keeps (takes_both (takes_one (symbol_at (codes "]"))) (keeps (takes_one name_at)))))))
 
+  takes_dimension : Takes (read_dimension expression)
+  unfolding read_dimension
+  takes_dimension = takes_mapped middle (takes_both (takes_one (symbol_at (codes "["))) (keeps (takes_both takes_inner (keeps (takes_one (symbol_at (codes "]")))))))
+
+  keeps_columns : (rows : Inner) → Keeps (read_columns expression rows)
+  unfolding read_columns
+  keeps_columns rows = keeps_either (has (symbol_at (codes "["))) (keeps (takes_mapped (form.Grid rows) takes_dimension)) (keeps_nothing (form_of_inner rows))
+
   takes_part : (base : Named) → Takes (read_part expression base)
   unfolding read_part
-  takes_part base = takes_mapped (part_section base) (takes_mapped middle (takes_both (takes_one (symbol_at (codes "["))) (keeps (takes_both takes_inner (keeps (takes_one (symbol_at (codes "]"))))))))
+  takes_part base = takes_mapped (part_section base) (takes_then (read_columns expression) takes_dimension keeps_columns)
 
   takes_based : Takes (read_based expression)
   unfolding read_based

@@ -1,6 +1,6 @@
 -- How an expression is read from its tokens, from left to right, where so many levels may still begin in it. Each reader stands
 -- for the part of the grammar of the same name. Read against: of `a - b - 1 ;` a whole expression is `(a - b) - 1`, and `;` is left;
--- of `a + )` reading stops at `)`, which fits nowhere.
+-- of `a + )` reading stops at `)`, which fits nowhere; of `a[1][2][3]` the tree of `(a[1])[2]` is read, and `[3]` is left.
 use Rattle.std.specs.Prelude.{ℕ, zero, suc, List, [], ◌∷◌, ◌++◌, codes}
 use Rattle.oss_syntax.specs.declared.tree.expr.BinOp.{BinOp}
 use Rattle.oss_syntax.specs.declared.tree.expr.Expr.{Expr}
@@ -79,9 +79,14 @@ read_primary inner = read_either (has number_at) (read_one number_at) (read_eith
 unfoldable pub read_index : Reader Expr → Reader Expr
 read_index inner = read_mapped middle (read_both (read_one (symbol_at (codes "["))) (read_both inner (read_one (symbol_at (codes "]")))))
 
--- primary [ "[" expr "]" ]
+-- [ "[" expr "]" ], behind an index: of `[2] [3]` behind `a[1]` the first is read, and `[3]` is left
+unfoldable pub read_second_index : Reader Expr → Expr → Reader Expr
+read_second_index inner row = read_either (has (symbol_at (codes "["))) (read_mapped (indexed row) (read_index inner)) (read_nothing row)
+
+-- primary [ "[" expr "]" [ "[" expr "]" ] ]
 unfoldable pub read_postfix : Reader Expr → Reader Expr
-read_postfix inner = read_then (read_primary inner) (λ base. read_either (has (symbol_at (codes "["))) (read_mapped (indexed base) (read_index inner)) (read_nothing base))
+read_postfix inner =
+    read_then (read_primary inner) (λ base. read_either (has (symbol_at (codes "["))) (read_then (read_mapped (indexed base) (read_index inner)) (read_second_index inner)) (read_nothing base))
 
 -- prefix unary | postfix, where `operand` reads what stands behind a prefix
 unfoldable pub read_prefixed : Reader Expr → Reader Expr → Reader Expr

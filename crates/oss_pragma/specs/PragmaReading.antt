@@ -1,6 +1,7 @@
 -- How a pragma is read from its tokens, from left to right, by a reader of expressions. Each reader stands
 -- for the part of the grammar of the same name. Read against: the line `#pragma oss task in(x) wait` is read as a task with two
--- clauses; in `#pragma oss taskwait in(x)` reading stops at `in`, since a wait has no dependencies.
+-- clauses; in `#pragma oss taskwait in(x)` reading stops at `in`, since a wait has no dependencies; in `in(m[0][1][2])` it stops at
+-- the third `[`.
 use Rattle.std.specs.Prelude.{ℕ, Bool, false, ◌||◌, List, [], ◌∷◌, codes, Option, Some, None}
 use Rattle.oss_syntax.specs.declared.access.Mode.{Mode}
 use Rattle.oss_syntax.specs.declared.access.Mode.TheVariants.{Fold}
@@ -13,8 +14,10 @@ use Rattle.oss_syntax.specs.declared.tree.pragma.Directive.{Directive}
 use Rattle.oss_syntax.specs.declared.tree.pragma.Directive.TheVariants as directive
 use Rattle.oss_syntax.specs.declared.tree.pragma.Form.{Form}
 use Rattle.oss_syntax.specs.declared.tree.pragma.Form.TheVariants as form
+use Rattle.oss_syntax.specs.declared.tree.pragma.Inner.{Inner}
+use Rattle.oss_syntax.specs.declared.tree.pragma.Inner.TheVariants as inner_forms
 use Rattle.oss_syntax.specs.declared.tree.pragma.Section.{Section}
-use Rattle.oss_grammar.specs.Pragmas.{Single}
+use Rattle.oss_grammar.specs.Pragmas.{Single, form_of_inner}
 use Rattle.oss_grammar.specs.Pragmas.Single.{once_if, once_final, once_wait, once_label, once_priority}
 use Rattle.oss_grammar.specs.Reading.{Reader, has, read_one, read_then, read_nothing, read_mapped, read_both, read_either, read_steps}
 use Rattle.oss_pragma.specs.TokenValues.{symbol_at, word_at, start_at, end_at, name_at, access_at, reduction_at, fold_at, label_at, single_at, begins_expression}
@@ -26,21 +29,21 @@ unfoldable pub read_upper : Reader Expr → Reader (Option Expr)
 read_upper expression = read_either begins_expression (read_mapped Some expression) (read_nothing None)
 
 -- ":" [ expr ], behind a lower end
-unfoldable pub read_span : Reader Expr → Option Expr → Reader Form
-read_span expression first = read_mapped (form.Span first) (read_mapped latter (read_both (read_one (symbol_at (codes ":"))) (read_upper expression)))
+unfoldable pub read_span : Reader Expr → Option Expr → Reader Inner
+read_span expression first = read_mapped (inner_forms.Span first) (read_mapped latter (read_both (read_one (symbol_at (codes ":"))) (read_upper expression)))
 
 -- ";" expr, behind a first place
-unfoldable pub read_length : Reader Expr → Expr → Reader Form
-read_length expression first = read_mapped (form.Length first) (read_mapped latter (read_both (read_one (symbol_at (codes ";"))) expression))
+unfoldable pub read_length : Reader Expr → Expr → Reader Inner
+read_length expression first = read_mapped (inner_forms.Length first) (read_mapped latter (read_both (read_one (symbol_at (codes ";"))) expression))
 
 -- What stands behind the first expression between the brackets.
-unfoldable pub read_inner_from : Reader Expr → Expr → Reader Form
+unfoldable pub read_inner_from : Reader Expr → Expr → Reader Inner
 read_inner_from expression first =
     read_either (has (symbol_at (codes ";"))) (read_length expression first)
-    (read_either (has (symbol_at (codes ":"))) (read_span expression (Some first)) (read_nothing (form.Element first)))
+    (read_either (has (symbol_at (codes ":"))) (read_span expression (Some first)) (read_nothing (inner_forms.Element first)))
 
 -- expr | expr ";" expr | [ expr ] ":" [ expr ]
-unfoldable pub read_inner : Reader Expr → Reader Form
+unfoldable pub read_inner : Reader Expr → Reader Inner
 read_inner expression = read_either (has (symbol_at (codes ":"))) (read_span expression None) (read_then expression (read_inner_from expression))
 
 -- The trees of the forms of sections.
@@ -65,16 +68,23 @@ unfoldable pub read_shape : Reader Expr → Reader Section
 read_shape expression =
     read_mapped shape_section (read_both (read_one (symbol_at (codes "["))) (read_both expression (read_both (read_one (symbol_at (codes "]"))) (read_one name_at))))
 
--- "[" inner "]", behind a base
-unfoldable pub read_part : Reader Expr → Named → Reader Section
-read_part expression base =
-    read_mapped (part_section base) (read_mapped middle (read_both (read_one (symbol_at (codes "["))) (read_both (read_inner expression) (read_one (symbol_at (codes "]"))))))
+-- "[" inner "]"
+unfoldable pub read_dimension : Reader Expr → Reader Inner
+read_dimension expression = read_mapped middle (read_both (read_one (symbol_at (codes "["))) (read_both (read_inner expression) (read_one (symbol_at (codes "]")))))
 
--- name [ "[" inner "]" ]
+-- [ "[" inner "]" ], behind such a part: behind `[0:1]` of `m[0:1][1;2]` it gives both, behind that of `a[0:1]` the one alone
+unfoldable pub read_columns : Reader Expr → Inner → Reader Form
+read_columns expression rows = read_either (has (symbol_at (codes "["))) (read_mapped (form.Grid rows) (read_dimension expression)) (read_nothing (form_of_inner rows))
+
+-- "[" inner "]" [ "[" inner "]" ], behind a base
+unfoldable pub read_part : Reader Expr → Named → Reader Section
+read_part expression base = read_mapped (part_section base) (read_then (read_dimension expression) (read_columns expression))
+
+-- name [ "[" inner "]" [ "[" inner "]" ] ]
 unfoldable pub read_based : Reader Expr → Reader Section
 read_based expression = read_then (read_one name_at) (λ base. read_either (has (symbol_at (codes "["))) (read_part expression base) (read_nothing (whole_section base)))
 
--- name | "*" name | "[" expr "]" name | name "[" inner "]"
+-- name | "*" name | "[" expr "]" name | name "[" inner "]" [ "[" inner "]" ]
 unfoldable pub read_section : Reader Expr → Reader Section
 read_section expression = read_either (has (symbol_at (codes "*"))) read_pointed (read_either (has (symbol_at (codes "["))) (read_shape expression) (read_based expression))
 

@@ -1,7 +1,7 @@
 //! The reader of expressions.
 
 ghost use Rattle.std.specs.Prelude.{◌≡◌, ◌≤◌, IfOk};
-ghost use Rattle.oss_pragma.specs.ExpressionReading.{indexed, joined_to, prefixed_by, read_arguments, read_brackets, read_call, read_index, read_list, read_more, read_named, read_next, read_operation, read_operations, read_postfix, read_primary, read_unary, read_whole};
+ghost use Rattle.oss_pragma.specs.ExpressionReading.{indexed, joined_to, prefixed_by, read_arguments, read_brackets, read_call, read_index, read_list, read_more, read_named, read_next, read_operation, read_operations, read_postfix, read_primary, read_second_index, read_unary, read_whole};
 ghost use Rattle.oss_pragma.specs.Operands.{read_above, read_operand};
 ghost use Rattle.oss_pragma.specs.Told.{ReadsAs};
 
@@ -146,7 +146,26 @@ fn index(alloc: Global, levels: u32, tokens: &mut Counted<'_>) -> Result<Expr, U
     Ok(inner)
 }
 
-/// primary [ "[" expr "]" ]
+/// [ "[" expr "]" ], behind an index
+#[cycle(expression)]
+#[tactic(auto, unfolding(crate::specs::ExpressionReading::read_second_index))]
+fn second_index(
+    alloc: Global,
+    levels: u32,
+    row: Expr,
+    tokens: &mut Counted<'_>,
+) -> Result<Expr, Unread>
+    ensures value { ReadsAs (read_second_index (read_whole levels) row tokens.old.seen) result tokens.new.seen }
+    ensures behind { tokens.new.behind ≡ tokens.old.behind }
+{
+    if !tokens.begins_with_symbol(b"[") {
+        return Ok(row);
+    }
+    let at = index(alloc, levels, tokens)?;
+    Ok(element(alloc, row, at)?)
+}
+
+/// primary [ "[" expr "]" [ "[" expr "]" ] ]
 #[cycle(expression)]
 #[tactic(auto, unfolding(crate::specs::ExpressionReading::read_postfix))]
 fn postfix(alloc: Global, levels: u32, tokens: &mut Counted<'_>) -> Result<Expr, Unread>
@@ -158,7 +177,8 @@ fn postfix(alloc: Global, levels: u32, tokens: &mut Counted<'_>) -> Result<Expr,
         return Ok(base);
     }
     let at = index(alloc, levels, tokens)?;
-    Ok(element(alloc, base, at)?)
+    let row = element(alloc, base, at)?;
+    second_index(alloc, levels, row, tokens)
 }
 
 /// The element of an array at a place; `Err` only for want of memory.

@@ -1,12 +1,14 @@
 //! The reader of sections.
 
+ghost use Rattle.std.specs.Prelude.{◌≡◌};
+ghost use Rattle.oss_grammar.specs.Pragmas.{form_of_inner};
 ghost use Rattle.oss_pragma.specs.ExpressionReading.{read_brackets, read_expression, read_more, read_next};
-ghost use Rattle.oss_pragma.specs.PragmaReading.{read_based, read_bracketed_sections, read_inner, read_inner_from, read_length, read_part, read_pointed, read_section, read_sections, read_shape, read_span, read_upper};
+ghost use Rattle.oss_pragma.specs.PragmaReading.{read_based, read_bracketed_sections, read_columns, read_dimension, read_inner, read_inner_from, read_length, read_part, read_pointed, read_section, read_sections, read_shape, read_span, read_upper};
 ghost use Rattle.oss_pragma.specs.Told.{ReadsAs};
 
 use crate::cursor::{Cursor, Named, Unread};
 use crate::limits::expression;
-use oss_syntax::{Expr, Form, List, Section};
+use oss_syntax::{Expr, Form, Inner, List, Section};
 use std::alloc::Global;
 
 /// [ expr ], behind ":"
@@ -23,27 +25,27 @@ fn upper(alloc: Global, tokens: &mut Cursor<'_>) -> Result<Option<Expr>, Unread>
 
 /// ":" [ expr ], behind a lower end
 #[tactic(auto, unfolding(crate::specs::PragmaReading::read_span))]
-fn span(alloc: Global, first: Option<Expr>, tokens: &mut Cursor<'_>) -> Result<Form, Unread>
+fn span(alloc: Global, first: Option<Expr>, tokens: &mut Cursor<'_>) -> Result<Inner, Unread>
     ensures { ReadsAs (read_span read_expression first tokens.old) result tokens.new }
 {
     tokens.symbol(b":")?;
     let last = upper(alloc, tokens)?;
-    Ok(Form::Span(first, last))
+    Ok(Inner::Span(first, last))
 }
 
 /// ";" expr, behind a first place
 #[tactic(auto, unfolding(crate::specs::PragmaReading::read_length))]
-fn length(alloc: Global, first: Expr, tokens: &mut Cursor<'_>) -> Result<Form, Unread>
+fn length(alloc: Global, first: Expr, tokens: &mut Cursor<'_>) -> Result<Inner, Unread>
     ensures { ReadsAs (read_length read_expression first tokens.old) result tokens.new }
 {
     tokens.symbol(b";")?;
     let count = expression(alloc, tokens)?;
-    Ok(Form::Length(first, count))
+    Ok(Inner::Length(first, count))
 }
 
 /// What stands behind the first expression between the brackets.
 #[tactic(auto, unfolding(crate::specs::PragmaReading::read_inner_from))]
-fn inner_from(alloc: Global, first: Expr, tokens: &mut Cursor<'_>) -> Result<Form, Unread>
+fn inner_from(alloc: Global, first: Expr, tokens: &mut Cursor<'_>) -> Result<Inner, Unread>
     ensures { ReadsAs (read_inner_from read_expression first tokens.old) result tokens.new }
 {
     if tokens.begins_with_symbol(b";") {
@@ -52,12 +54,12 @@ fn inner_from(alloc: Global, first: Expr, tokens: &mut Cursor<'_>) -> Result<For
     if tokens.begins_with_symbol(b":") {
         return span(alloc, Some(first), tokens);
     }
-    Ok(Form::Element(first))
+    Ok(Inner::Element(first))
 }
 
 /// expr | expr ";" expr | [ expr ] ":" [ expr ]
 #[tactic(auto, unfolding(crate::specs::PragmaReading::read_inner))]
-fn inner(alloc: Global, tokens: &mut Cursor<'_>) -> Result<Form, Unread>
+fn inner(alloc: Global, tokens: &mut Cursor<'_>) -> Result<Inner, Unread>
     ensures { ReadsAs (read_inner read_expression tokens.old) result tokens.new }
 {
     if tokens.begins_with_symbol(b":") {
@@ -99,14 +101,47 @@ fn shape(alloc: Global, tokens: &mut Cursor<'_>) -> Result<Section, Unread>
     })
 }
 
-/// "[" inner "]", behind a base
+/// "[" inner "]"
+#[tactic(auto, unfolding(crate::specs::PragmaReading::read_dimension))]
+fn dimension(alloc: Global, tokens: &mut Cursor<'_>) -> Result<Inner, Unread>
+    ensures { ReadsAs (read_dimension read_expression tokens.old) result tokens.new }
+{
+    tokens.symbol(b"[")?;
+    let inner = inner(alloc, tokens)?;
+    tokens.symbol(b"]")?;
+    Ok(inner)
+}
+
+/// The form of a section with one such part.
+fn form_of_one(cells: Inner) -> Form
+    ensures { result ≡ form_of_inner cells }
+{
+    match cells {
+        Inner::Element(at) => Form::Element(at),
+        Inner::Length(first, count) => Form::Length(first, count),
+        Inner::Span(first, last) => Form::Span(first, last),
+    }
+}
+
+/// [ "[" inner "]" ], behind such a part
+#[tactic(auto, unfolding(crate::specs::PragmaReading::read_columns))]
+fn columns(alloc: Global, rows: Inner, tokens: &mut Cursor<'_>) -> Result<Form, Unread>
+    ensures { ReadsAs (read_columns read_expression rows tokens.old) result tokens.new }
+{
+    if !tokens.begins_with_symbol(b"[") {
+        return Ok(form_of_one(rows));
+    }
+    let columns = dimension(alloc, tokens)?;
+    Ok(Form::Grid(rows, columns))
+}
+
+/// "[" inner "]" [ "[" inner "]" ], behind a base
 #[tactic(auto, unfolding(crate::specs::PragmaReading::read_part))]
 fn part(alloc: Global, base: Named, tokens: &mut Cursor<'_>) -> Result<Section, Unread>
     ensures { ReadsAs (read_part read_expression base tokens.old) result tokens.new }
 {
-    tokens.symbol(b"[")?;
-    let form = inner(alloc, tokens)?;
-    tokens.symbol(b"]")?;
+    let rows = dimension(alloc, tokens)?;
+    let form = columns(alloc, rows, tokens)?;
     Ok(Section {
         form,
         line: base.line,
@@ -115,7 +150,7 @@ fn part(alloc: Global, base: Named, tokens: &mut Cursor<'_>) -> Result<Section, 
     })
 }
 
-/// name [ "[" inner "]" ]
+/// name [ "[" inner "]" [ "[" inner "]" ] ]
 #[tactic(auto, unfolding(crate::specs::PragmaReading::read_based))]
 fn based(alloc: Global, tokens: &mut Cursor<'_>) -> Result<Section, Unread>
     ensures { ReadsAs (read_based read_expression tokens.old) result tokens.new }
@@ -132,7 +167,7 @@ fn based(alloc: Global, tokens: &mut Cursor<'_>) -> Result<Section, Unread>
     })
 }
 
-/// name | "*" name | "[" expr "]" name | name "[" inner "]"
+/// name | "*" name | "[" expr "]" name | name "[" inner "]" [ "[" inner "]" ]
 #[tactic(auto, unfolding(crate::specs::PragmaReading::read_section))]
 fn section(alloc: Global, tokens: &mut Cursor<'_>) -> Result<Section, Unread>
     ensures { ReadsAs (read_section read_expression tokens.old) result tokens.new }

@@ -19,6 +19,6 @@ pub use list::List;
 pub use refusal::{Refusal, Refused, RefusedKind};
 pub use token::{Token, TokenKind};
 pub use tree::{
-    BinOp, Clause, Directive, Expr, ExprKind, Form, Function, GlobalDef, Item, Kind, Local,
+    BinOp, Clause, Directive, Expr, ExprKind, Form, Function, GlobalDef, Inner, Item, Kind, Local,
     NumKind, Program, Section, Stmt, StmtKind, TaskMark, UnOp,
 };

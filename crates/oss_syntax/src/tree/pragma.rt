@@ -27,6 +27,19 @@ pub enum Form {
     Length(Expr, Expr),
     /// `p[l:u]`: the elements from `l` to `u`, both included.
     Span(Option<Expr>, Option<Expr>),
+    /// `a[f][g]`: of an array of two dimensions the cells in the rows `f` and the columns `g`.
+    Grid(Inner, Inner),
+}
+
+/// What a section names of one dimension of an array of two.
+#[derive(Debug, Drop)]
+pub enum Inner {
+    /// `[e]`: one row or column.
+    Element(Expr),
+    /// `[l;n]`: so many from `l` on.
+    Length(Expr, Expr),
+    /// `[l:u]`: those from `l` to `u`, both included.
+    Span(Option<Expr>, Option<Expr>),
 }
 
 /// A clause of a task or of a release.

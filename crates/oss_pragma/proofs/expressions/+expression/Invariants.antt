@@ -37,20 +37,23 @@ decreases-primary l = 64 * l.levels + 7
 abbrev pub decreases-index : goal.decreases-index
 decreases-index l = 64 * l.levels + 7
 
+abbrev pub decreases-second_index : goal.decreases-second_index
+decreases-second_index l = 64 * l.levels + 8
+
 abbrev pub decreases-postfix : goal.decreases-postfix
-decreases-postfix l = 64 * l.levels + 8
+decreases-postfix l = 64 * l.levels + 9
 
 abbrev pub decreases-operand : goal.decreases-operand
-decreases-operand l = 64 * l.levels + 9
+decreases-operand l = 64 * l.levels + 10
 
 abbrev pub decreases-above : goal.decreases-above
-decreases-above l = 64 * l.levels + 10 + 3 * l.more
+decreases-above l = 64 * l.levels + 11 + 3 * l.more
 
 abbrev pub decreases-operation : goal.decreases-operation
-decreases-operation l = 64 * l.levels + 11 + 3 * l.more
+decreases-operation l = 64 * l.levels + 12 + 3 * l.more
 
 abbrev pub decreases-operations : goal.decreases-operations
-decreases-operations l = 64 * l.levels + 12 + 3 * l.more
+decreases-operations l = 64 * l.levels + 13 + 3 * l.more
 
 -- what is read behind the values so far is what is read of the whole, and nothing is taken of what is not shown
 abbrev pub invariant-more_values-values : goal.invariant-more_values-values
