@@ -1,0 +1,4 @@
+pub mod NumberLemmas
+pub mod RangeLemmas
+pub mod RowLemmas
+pub mod ToldLemmas

@@ -1,0 +1,4 @@
+pub mod Evaluated
+pub mod Places
+pub mod RangeCells
+pub mod Stretches
