@@ -20,6 +20,7 @@ pub mod OrderLemmas
 pub mod OrderTheorem
 pub mod OutputLemmas
 pub mod Places
+pub mod PointLemmas
 pub mod ProgressTheorem
 pub mod RecallLemmas
 pub mod ResultTheorem

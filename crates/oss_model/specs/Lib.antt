@@ -11,6 +11,7 @@ pub mod Matching
 pub mod Memory
 pub mod Moves
 pub mod Order
+pub mod Points
 pub mod Rights
 pub mod Sequence
 pub mod Termination

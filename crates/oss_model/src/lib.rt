@@ -4,7 +4,11 @@
 mod answer;
 mod cell;
 pub mod laws;
+mod point;
+#[cfg(test)]
+mod tests;
 
 pub use answer::Answer;
 pub use cell::range_of;
 pub use oss_syntax::{FaultKind, Refusal, Refused, RefusedKind};
+pub use point::{Point, point_text, read_point};

@@ -1,0 +1,28 @@
+ghost use Rattle.std.specs.Prelude.{◌≡◌};
+ghost use Rattle.oss_model.specs.Moves.{combine, neutral_value};
+
+use oss_syntax::Op;
+
+/// The value that changes no other when it is combined with it.
+pub(crate) fn neutral(op: Op) -> u64
+    ensures { result ≡ neutral_value op }
+{
+    match op {
+        Op::And => u64::MAX,
+        Op::Add => 0,
+        Op::Or => 0,
+        Op::Xor => 0,
+    }
+}
+
+/// What a fold makes of a value.
+pub(crate) fn combined(op: Op, held: u64, value: u64) -> u64
+    ensures { result ≡ combine op held value }
+{
+    match op {
+        Op::Add => held.wrapping_add(value),
+        Op::And => held & value,
+        Op::Or => held | value,
+        Op::Xor => held ^ value,
+    }
+}
