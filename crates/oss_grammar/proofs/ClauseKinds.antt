@@ -7,6 +7,8 @@ use Rattle.oss_syntax.specs.declared.tree.pragma.Clause.{Clause}
 use Rattle.oss_syntax.specs.declared.tree.pragma.Clause.TheVariants as clause
 use Rattle.oss_syntax.specs.declared.tree.pragma.Form.{Form}
 use Rattle.oss_syntax.specs.declared.tree.pragma.Form.TheVariants as form
+use Rattle.oss_syntax.specs.declared.tree.pragma.Inner.{Inner}
+use Rattle.oss_syntax.specs.declared.tree.pragma.Inner.TheVariants as inner_forms
 use Rattle.oss_syntax.specs.declared.tree.pragma.Section.{Section}
 use Rattle.oss_syntax.specs.declared.tree.pragma.TaskMark.{TaskMark}
 use Rattle.oss_syntax.specs.declared.tree.program.Item.{Item}
@@ -14,13 +16,18 @@ use Rattle.oss_syntax.specs.declared.tree.program.Local.{Local}
 use Rattle.oss_grammar.specs.declared.kinds.Wanted.TheVariants as wanted
 use Rattle.oss_grammar.specs.ProgramRules.{mark_rules}
 use Rattle.oss_grammar.specs.Scopes.{is_local_again, meaning}
-use Rattle.oss_grammar.specs.SectionRules.{begins_with_base, clause_rules, clauses_rules, form_rules, is_fold, is_missing, is_wrong_section, section_rules, sections_in, sections_rules}
+use Rattle.oss_grammar.specs.SectionRules.{begins_with_base, clause_rules, clauses_rules, form_rules, inner_rules, is_fold, is_missing, is_wrong_section, section_rules, sections_in, sections_rules}
 use Rattle.oss_grammar.specs.StaticRules.{declare_all, wait_rules, with_local}
 use Rattle.oss_grammar.proofs.KindLemmas.{Only, only_none, only_two, only_where, only_optional, only_value, only_returned}
 
 module _ (test : RefusedKind → Bool) (unknown : test refused.UnknownName ≡ true) (wrong : test refused.WrongKind ≡ true) (count : test refused.WrongCount ≡ true) (large : test refused.TooLarge ≡ true)
     (all : List Item) where
   module _ (locals : List Local) where
+    only_inner : (d : Inner) → Only test (inner_rules all locals d)
+    only_inner (inner_forms.Element e) = only_value test unknown wrong count all locals wanted.Number e
+    only_inner (inner_forms.Length e n) = only_two (only_value test unknown wrong count all locals wanted.Number e) (only_value test unknown wrong count all locals wanted.Number n)
+    only_inner (inner_forms.Span e u) = only_two (only_optional test unknown wrong count all locals e) (only_optional test unknown wrong count all locals u)
+
     only_form : (f : Form) → Only test (form_rules all locals f)
     only_form form.Whole = only_none test
     only_form form.Deref = only_none test
@@ -28,6 +35,7 @@ module _ (test : RefusedKind → Bool) (unknown : test refused.UnknownName ≡ t
     only_form (form.Element e) = only_value test unknown wrong count all locals wanted.Number e
     only_form (form.Length e n) = only_two (only_value test unknown wrong count all locals wanted.Number e) (only_value test unknown wrong count all locals wanted.Number n)
     only_form (form.Span e u) = only_two (only_optional test unknown wrong count all locals e) (only_optional test unknown wrong count all locals u)
+    only_form (form.Grid rows columns) = only_two (only_inner rows) (only_inner columns)
 
     only_section : (fold : Bool) (before : ℕ) (s : Section) → Only test (section_rules all locals fold before s)
     only_section fold before s =

@@ -8,7 +8,8 @@ use Rattle.oss_syntax.specs.declared.tree.expr.Expr.{Expr}
 use Rattle.oss_syntax.specs.declared.tree.pragma.Clause.{Clause}
 use Rattle.oss_syntax.specs.declared.tree.pragma.Directive.{Directive}
 use Rattle.oss_syntax.specs.declared.tree.pragma.Directive.TheVariants as directive
-use Rattle.oss_syntax.specs.declared.tree.pragma.Form.{Form}
+use Rattle.oss_syntax.specs.declared.tree.pragma.Inner.{Inner}
+use Rattle.oss_syntax.specs.declared.tree.pragma.Inner.TheVariants as inner_forms
 use Rattle.oss_syntax.specs.declared.tree.pragma.Section.{Section}
 use Rattle.oss_syntax.specs.declared.tree.program.Item.{Item}
 use Rattle.oss_syntax.specs.declared.tree.program.Local.{Local}
@@ -16,10 +17,10 @@ use Rattle.oss_grammar.specs.declared.kinds.Wanted.TheVariants as wanted
 use Rattle.oss_grammar.specs.Broken.{where_so}
 use Rattle.oss_grammar.specs.ExpressionRules.{value_rules}
 use Rattle.oss_grammar.specs.Expressions.{IsExpr, loosest_level}
-use Rattle.oss_grammar.specs.Pragmas.{IsBound, IsInner, IsSection, IsSections, IsDepend, IsClause, IsClauses, IsMoreDepends, IsPragma}
+use Rattle.oss_grammar.specs.Pragmas.{IsBound, IsInner, IsSection, IsSections, IsDepend, IsClause, IsClauses, IsMoreDepends, IsPragma, form_of_inner}
 use Rattle.oss_grammar.specs.Pragmas.IsBound.{left_out, given}
 use Rattle.oss_grammar.specs.Pragmas.IsInner.{element, counted, ranged}
-use Rattle.oss_grammar.specs.Pragmas.IsSection.{whole, pointed, shape, part}
+use Rattle.oss_grammar.specs.Pragmas.IsSection.{whole, pointed, shape, part, grid}
 use Rattle.oss_grammar.specs.Pragmas.IsSections.{last_section, next_section}
 use Rattle.oss_grammar.specs.Pragmas.IsDepend.{depend}
 use Rattle.oss_grammar.specs.Pragmas.IsClause.{dependency, reduction, condition, final_task, waiting, labelled, priority}
@@ -27,7 +28,7 @@ use Rattle.oss_grammar.specs.Pragmas.IsClauses.{no_clause, plain_clause, comma_c
 use Rattle.oss_grammar.specs.Pragmas.IsMoreDepends.{no_depend, plain_depend, comma_depend}
 use Rattle.oss_grammar.specs.Pragmas.IsPragma.{task, wait_all, wait_on, release}
 use Rattle.oss_grammar.specs.Scopes.{meaning}
-use Rattle.oss_grammar.specs.SectionRules.{begins_with_base, clause_rules, clauses_rules, form_rules, is_fold, is_missing, is_wrong_section, optional_rules, section_rules, sections_in, sections_rules}
+use Rattle.oss_grammar.specs.SectionRules.{begins_with_base, clause_rules, clauses_rules, form_rules, inner_rules, is_fold, is_missing, is_wrong_section, optional_rules, section_rules, sections_in, sections_rules}
 use Rattle.oss_grammar.specs.StaticRules.{wait_rules}
 use Rattle.oss_grammar.proofs.ExpressionLines.{between, value_lies}
 use Rattle.oss_grammar.proofs.LineSpans.{Span, Within, behind_first, cut, first_is, first_on, skip, span_of, span_order, where_then, within_both, within_higher, within_of}
@@ -38,17 +39,23 @@ module _ (all : List Item) (locals : List Local) where
   bound_lies (left_out split) w = within_end (span_order w)
   bound_lies (given d) w = value_lies all locals wanted.Number d w
 
-  inner_lies : {P : ℕ → Type 0} {ts : List Token} {f : Form} {high low : ℕ} → IsInner ts f → Span P high low ts → Within P high low (form_rules all locals f)
+  inner_lies : {P : ℕ → Type 0} {ts : List Token} {f : Inner} {high low : ℕ} → IsInner ts f → Span P high low ts → Within P high low (inner_rules all locals f)
   inner_lies (element d) w = value_lies all locals wanted.Number d w
   inner_lies (counted front mark back split is d e) w =
       (let q = cut front (mark ∷ back) (span_of split w) in within_both (value_lies all locals wanted.Number d q.before) (value_lies all locals wanted.Number e (skip q.behind)))
   inner_lies (ranged front mark back split is d e) w =
       (let q = cut front (mark ∷ back) (span_of split w) in within_both (bound_lies d q.before) (bound_lies e (skip q.behind)))
 
-  begins : {ts : List Token} {f : Form} → IsInner ts f → begins_with_base f ≡ true
-  begins (element d) = refl
-  begins (counted front mark back split is d e) = refl
-  begins (ranged front mark back split is d e) = refl
+  -- with one pair of brackets
+  begins : (f : Inner) → begins_with_base (form_of_inner f) ≡ true
+  begins (inner_forms.Element e) = refl
+  begins (inner_forms.Length e n) = refl
+  begins (inner_forms.Span e u) = refl
+
+  rules_in : (f : Inner) → form_rules all locals (form_of_inner f) ≡ inner_rules all locals f
+  rules_in (inner_forms.Element e) = refl
+  rules_in (inner_forms.Length e n) = refl
+  rules_in (inner_forms.Span e u) = refl
 
   abbrev base_last : Section → List Refused
   base_last s = where_so (not (begins_with_base s.form) && is_missing (meaning all locals s.base)) refused.UnknownName s.base_line
@@ -78,10 +85,15 @@ module _ (all : List Item) (locals : List Local) where
       let q = cut inner (closed ∷ t ∷ []) (behind_first v) in
       let u = skip q.behind in
       section_lies fold before s (first_on v) (first_is v) (within_both (value_lies all locals wanted.Number d q.before) (base_lies (is_missing (meaning all locals base)) (first_on u) (span_order (behind_first u)) (first_is u))))
-  one_section {s = s} fold before (part t base opened inner closed split is o c d) w =
+  one_section {s = s} fold before (part {cells = f} t base opened inner closed split is o c d) w =
       (let v = span_of split w in
       let i = between inner closed [] (skip (behind_first v)) in
-      section_lies fold before s (first_on v) (first_is v) (no_base s (begins d) (within_higher i.ends (inner_lies d i.span))))
+      section_lies fold before s (first_on v) (first_is v) (no_base s (begins f) (within_of (rules_in f) (within_higher i.ends (inner_lies d i.span)))))
+  one_section {s = s} fold before (grid t base opened first closed again second ended split is o c is1 is2 d f) w =
+      (let v = span_of split w in
+      let q = cut first (closed ∷ again ∷ (second ++ (ended ∷ []))) (skip (behind_first v)) in
+      let i = between second ended [] (skip (skip q.behind)) in
+      section_lies fold before s (first_on v) (first_is v) (no_base s refl (within_both (inner_lies d q.before) (within_higher i.ends (inner_lies f i.span)))))
 
   pub sections_lie : {P : ℕ → Type 0} {ts : List Token} {ss : List Section} {high low : ℕ} (fold : Bool) (before : ℕ) → IsSections ts ss → Span P high low ts → Within P high low (sections_rules all locals fold before ss)
   sections_lie fold before (last_section d) w = within_both (one_section fold before d w) (within_end (omega arith))

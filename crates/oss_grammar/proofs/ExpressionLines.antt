@@ -16,8 +16,9 @@ use Rattle.oss_grammar.specs.declared.kinds.Named.TheVariants as named
 use Rattle.oss_grammar.specs.declared.kinds.Wanted.{Wanted}
 use Rattle.oss_grammar.specs.declared.kinds.Wanted.TheVariants as wanted
 use Rattle.oss_grammar.specs.ExpressionRules.{argument_rules, argument_wanted, call_findings, call_rules, findings, parameters_behind, parameters_of, value_rules}
-use Rattle.oss_grammar.specs.Expressions.{IsExpr, IsArguments, IsArgumentList}
-use Rattle.oss_grammar.specs.Expressions.IsExpr.{number, name, call, brackets, index, prefixed, joined, tighter}
+use Rattle.oss_grammar.specs.Expressions.{IsExpr, IsIndexed, IsArguments, IsArgumentList}
+use Rattle.oss_grammar.specs.Expressions.IsExpr.{number, name, call, brackets, indexed, indexed_again, prefixed, joined, tighter}
+use Rattle.oss_grammar.specs.Expressions.IsIndexed.{index}
 use Rattle.oss_grammar.specs.Expressions.IsArguments.{no_arguments, arguments}
 use Rattle.oss_grammar.specs.Expressions.IsArgumentList.{last_argument, next_argument}
 use Rattle.oss_grammar.specs.Kinds.{Findings, binary_findings, has_address, index_findings, left_wanted, name_rules, placed, unary_findings}
@@ -44,6 +45,7 @@ on_name named.Function line = on_one refused.WrongKind line
 on_name (named.Local k) line = on_end
 on_name (named.Scalar k) line = on_end
 on_name (named.Array k) line = on_end
+on_name (named.Grid k) line = on_end
 
 pub on_call : (m : Named) (f : Option Function) (line : ℕ) (as_statement : Bool) (n : ℕ) → AllOn line (call_rules m f line as_statement n)
 on_call named.Missing f line as_statement n = on_one refused.UnknownName line
@@ -53,6 +55,7 @@ on_call named.Function (Some f) line as_statement n =
 on_call (named.Local k) f line as_statement n = on_one refused.WrongKind line
 on_call (named.Scalar k) f line as_statement n = on_one refused.WrongKind line
 on_call (named.Array k) f line as_statement n = on_one refused.WrongKind line
+on_call (named.Grid k) f line as_statement n = on_one refused.WrongKind line
 
 pub lies_unary : {P : ℕ → Type 0} {high low line first : ℕ} (o : UnOp) {f : Findings} → low ≤ line → P line → Lies P high line first f → Lies P high low line (unary_findings line o f)
 lies_unary prefix.Minus {f = f} le has l = record { at = refl; low_is = le; has = has; first = on_end; behind = lies_all (lies_placed wanted.Number f l) }
@@ -64,8 +67,8 @@ lies_unary prefix.Address {f = f} le has l = record { at = refl; low_is = le; ha
 
 -- one expression behind another
 pub lies_index : {P : ℕ → Type 0} {high middle low line first : ℕ} {a e : Findings} → Lies P middle low line a → Lies P high middle first e → Lies P high low line (index_findings line a e)
-lies_index {P = P} {high = high} {middle = middle} {low = low} {line = line} {a = a} {e = e} l m = put (lies_placed wanted.Pointer a l) where
-  put : Lies P middle low line (placed wanted.Pointer a) → Lies P high low line (index_findings line a e)
+lies_index {P = P} {high = high} {middle = middle} {low = low} {line = line} {a = a} {e = e} l m = put (lies_placed wanted.Indexed a l) where
+  put : Lies P middle low line (placed wanted.Indexed a) → Lies P high low line (index_findings line a e)
   put p = record { at = refl; low_is = p.low_is; has = p.has; first = p.first; behind = within_both p.behind (lies_all (lies_placed wanted.Number e m)) }
 
 lies_binary : {P : ℕ → Type 0} {high middle low line first : ℕ} (o : BinOp) {a e : Findings} → Lies P middle low line a → Lies P high middle first e → Lies P high low line (binary_findings line o a e)
@@ -83,9 +86,9 @@ module _ (all : List Item) (locals : List Local) where
   lies_call word line as_statement values le has w =
       record { at = refl; low_is = le; has = has; first = on_call (meaning all locals word) (function_named all word) line as_statement (length (map (findings all locals) values)); behind = w }
 
-  indexed : {P : ℕ → Type 0} {high low : ℕ} (a e : Expr) (front : List Token) (opened closed : Token) (inner : List Token) (c : Cut P high low front (opened ∷ (inner ++ (closed ∷ []))))
+  one_indexed : {P : ℕ → Type 0} {high low : ℕ} (a e : Expr) (front : List Token) (opened closed : Token) (inner : List Token) (c : Cut P high low front (opened ∷ (inner ++ (closed ∷ []))))
       → Good P c.middle low a → (i : Inner P high c.middle inner) → Good P i.last c.middle e → Good P high low (record { what = exprs.Index a e; line = a.line })
-  indexed a e front opened closed inner c l i m =
+  one_indexed a e front opened closed inner c l i m =
       lies_of (found-index all locals (record { what = exprs.Index a e; line = a.line }) a e refl) (lies_index l (lies_higher i.ends m))
 
   mutual
@@ -100,15 +103,22 @@ module _ (all : List Item) (locals : List Local) where
         lies_of (found-call all locals e word values refl) (lies_call word t.line false values (first_on v) (first_is v) (within_higher i.ends (arguments_lie (parameters_of (meaning all locals word) (function_named all word)) args i.span))))
     expr_lies {e = e} (brackets opened closed inner split o c d) w =
         (let v = span_of split w in let i = between inner closed [] (skip v) in lies_higher i.ends (expr_lies d i.span))
-    expr_lies (index {a = a} {e = e} front opened closed inner split o c d f) w =
+    expr_lies (indexed d) w = indexed_lies d w
+    expr_lies (indexed_again {a = a} {e = e} front opened closed inner split o c d f) w =
         (let q = cut front (opened ∷ (inner ++ (closed ∷ []))) (span_of split w) in
         let i = between inner closed [] (skip q.behind) in
-        indexed a e front opened closed inner q (expr_lies d q.before) i (expr_lies f i.span))
+        one_indexed a e front opened closed inner q (indexed_lies d q.before) i (expr_lies f i.span))
     expr_lies {e = e} (prefixed {e = a} t sign operand split is d) w =
         (let v = span_of split w in lies_of (found-unary all locals e sign a refl) (lies_unary sign (first_on v) (first_is v) (expr_lies d (behind_first v))))
     expr_lies {e = e} (joined {a = a} {b = b} front t operator back split is d f) w =
         (let q = cut front (t ∷ back) (span_of split w) in lies_of (found-binary all locals e operator a b refl) (lies_binary operator (expr_lies d q.before) (expr_lies f (skip q.behind))))
     expr_lies (tighter d) w = expr_lies d w
+
+    pub indexed_lies : {P : ℕ → Type 0} {ts : List Token} {e : Expr} {high low : ℕ} → IsIndexed ts e → Span P high low ts → Lies P high low e.line (findings all locals e)
+    indexed_lies (index {a = a} {e = e} front opened closed inner split o c d f) w =
+        (let q = cut front (opened ∷ (inner ++ (closed ∷ []))) (span_of split w) in
+        let i = between inner closed [] (skip q.behind) in
+        one_indexed a e front opened closed inner q (expr_lies d q.before) i (expr_lies f i.span))
 
     pub arguments_lie : {P : ℕ → Type 0} {ts : List Token} {values : List Expr} {high low : ℕ} (params : List Local) → IsArguments ts values → Span P high low ts → Within P high low (argument_rules params (map (findings all locals) values))
     arguments_lie params (no_arguments split) w = within_end (span_order w)

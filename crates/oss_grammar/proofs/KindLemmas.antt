@@ -123,6 +123,7 @@ module _ (test : RefusedKind → Bool) (unknown : test refused.UnknownName ≡ t
   only_name (named.Local k) line = only_none test
   only_name (named.Scalar k) line = only_none test
   only_name (named.Array k) line = only_none test
+  only_name (named.Grid k) line = only_none test
 
   only_unary : (o : UnOp) (line : ℕ) (f : Findings) → OnlyFound test f → OnlyFound test (unary_findings line o f)
   only_unary prefix.Minus line f a = record { at_first = only_none test; behind = only_at wanted.Number f a }
@@ -140,6 +141,7 @@ module _ (test : RefusedKind → Bool) (unknown : test refused.UnknownName ≡ t
   only_call (named.Local k) f line as_statement n = only_one test (broken refused.WrongKind line) wrong
   only_call (named.Scalar k) f line as_statement n = only_one test (broken refused.WrongKind line) wrong
   only_call (named.Array k) f line as_statement n = only_one test (broken refused.WrongKind line) wrong
+  only_call (named.Grid k) f line as_statement n = only_one test (broken refused.WrongKind line) wrong
 
   module _ (all : List Item) (locals : List Local) where
     abbrev IsOnly : Expr → Type 0
@@ -159,8 +161,8 @@ module _ (test : RefusedKind → Bool) (unknown : test refused.UnknownName ≡ t
     only_by e (is_number value unsigned is) = rw (found-number all locals e value unsigned is) (record { at_first = only_none test; behind = only_none test })
     only_by e (is_name name is) = rw (found-name all locals e name is) (record { at_first = only_name (meaning all locals name) e.line; behind = only_none test })
     only_by e (is_index a b is u v) = rw (found-index all locals e a b is) (record {
-      at_first = (only_placed wanted.Pointer (findings all locals a) u).at_first;
-      behind = only_two (only_placed wanted.Pointer (findings all locals a) u).behind (only_at wanted.Number (findings all locals b) v);
+      at_first = (only_placed wanted.Indexed (findings all locals a) u).at_first;
+      behind = only_two (only_placed wanted.Indexed (findings all locals a) u).behind (only_at wanted.Number (findings all locals b) v);
     })
     only_by e (is_unary o a is u) = rw (found-unary all locals e o a is) (only_unary o e.line (findings all locals a) u)
     only_by e (is_binary o a b is u v) = rw (found-binary all locals e o a b is) (record {

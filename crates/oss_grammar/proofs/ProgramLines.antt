@@ -18,7 +18,7 @@ use Rattle.oss_grammar.specs.Layout.{cells_of}
 use Rattle.oss_grammar.specs.Places.{IsOneOf}
 use Rattle.oss_grammar.specs.ProgramRules.{body_around, function_rules, has_main, is_wrong_function, items_rules, mark_rules, passes_cells, program_rules}
 use Rattle.oss_grammar.specs.Programs.{IsGlobal, IsGlobals, IsParameter, IsParameterList, IsParameters, IsMark, IsFunction, IsItem, IsProgramItems, IsProgram}
-use Rattle.oss_grammar.specs.Programs.IsGlobal.{scalar_global, first_global, array_global}
+use Rattle.oss_grammar.specs.Programs.IsGlobal.{scalar_global, first_global, array_global, grid_global}
 use Rattle.oss_grammar.specs.Programs.IsGlobals.{last_global, next_global}
 use Rattle.oss_grammar.specs.Programs.IsParameter.{parameter}
 use Rattle.oss_grammar.specs.Programs.IsParameterList.{last_parameter, next_parameter}
@@ -87,16 +87,19 @@ module _ (all : List Item) where
   global_from (scalar_global t word split is) w = first_on (span_of split w)
   global_from (first_global t word mark back split is1 is2 d) w = first_on (span_of split w)
   global_from (array_global t word opened number cells unsigned closed split is1 is2 is3 is4) w = first_on (span_of split w)
+  global_from (grid_global t word opened number rows unsigned closed again second columns other ended split is1 is2 is3 is4 is5 is6 is7) w = first_on (span_of split w)
 
   global_to : {P : ℕ → Type 0} {numbers : NumKind} {ts : List Token} {g : GlobalDef} {high low : ℕ} → IsGlobal numbers ts g → Span P high low ts → g.line ≤ high
   global_to (scalar_global t word split is) w = span_order (behind_first (span_of split w))
   global_to (first_global t word mark back split is1 is2 d) w = span_order (behind_first (span_of split w))
   global_to (array_global t word opened number cells unsigned closed split is1 is2 is3 is4) w = span_order (behind_first (span_of split w))
+  global_to (grid_global t word opened number rows unsigned closed again second columns other ended split is1 is2 is3 is4 is5 is6 is7) w = span_order (behind_first (span_of split w))
 
   global_is : {P : ℕ → Type 0} {numbers : NumKind} {ts : List Token} {g : GlobalDef} {high low : ℕ} → IsGlobal numbers ts g → Span P high low ts → P g.line
   global_is (scalar_global t word split is) w = first_is (span_of split w)
   global_is (first_global t word mark back split is1 is2 d) w = first_is (span_of split w)
   global_is (array_global t word opened number cells unsigned closed split is1 is2 is3 is4) w = first_is (span_of split w)
+  global_is (grid_global t word opened number rows unsigned closed again second columns other ended split is1 is2 is3 is4 is5 is6 is7) w = first_is (span_of split w)
 
   -- items behind which others stand
   abbrev Behind : (ℕ → Type 0) → ℕ → ℕ → List Item → Type 0

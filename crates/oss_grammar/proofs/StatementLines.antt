@@ -1,5 +1,5 @@
 -- The rules of a statement stand between the lines of its first and its last token, in rising order.
-use Rattle.std.proofs.Common.{◌≡◌, ℕ, ◌≤◌, true, false, List, [], ◌∷◌, length, refl, sym, ap, subst, ◌⊎◌, inl, inr, Option, Some, None, codes, arith}
+use Rattle.std.proofs.Common.{◌≡◌, ℕ, ◌≤◌, true, false, List, [], ◌∷◌, ◌++◌, length, refl, sym, ap, subst, ◌⊎◌, inl, inr, Option, Some, None, codes, arith}
 use Rattle.std.specs.Prelude.{is_some, nat_le}
 use Rattle.std.proofs.lemmas.Bool.{cases_Bool}
 use Rattle.oss_syntax.specs.declared.refusal.RefusedKind.TheVariants as refused
@@ -29,8 +29,8 @@ use Rattle.oss_grammar.specs.Expressions.IsArgumentList.{last_argument, next_arg
 use Rattle.oss_grammar.specs.Kinds.{Findings, all_of, allows, number_findings, placed, wanted_by}
 use Rattle.oss_grammar.specs.OneToken.{is_symbol}
 use Rattle.oss_grammar.specs.Scopes.{function_named, is_local_again, meaning}
-use Rattle.oss_grammar.specs.SimpleStatements.{IsTarget, IsSimple, IsDeclared, IsLocal, IsLocals, IsDeclaration, one_at, step_of}
-use Rattle.oss_grammar.specs.SimpleStatements.IsTarget.{name_target, element_target, pointer_target, pointed_target}
+use Rattle.oss_grammar.specs.SimpleStatements.{IsTarget, IsSimple, IsDeclared, IsLocal, IsLocals, IsDeclaration, element_of, one_at, step_of}
+use Rattle.oss_grammar.specs.SimpleStatements.IsTarget.{name_target, element_target, grid_target, pointer_target, pointed_target}
 use Rattle.oss_grammar.specs.SimpleStatements.IsSimple.{assigned, stepped, step_first, called}
 use Rattle.oss_grammar.specs.SimpleStatements.IsDeclared.{number_declared, pointer_declared}
 use Rattle.oss_grammar.specs.SimpleStatements.IsLocal.{plain_local, first_local}
@@ -71,6 +71,7 @@ one_allowed o is value.Unknown what = refl
 one_allowed o is value.Signed what = one_stored o is what
 one_allowed o is value.Unsigned what = one_stored o is what
 one_allowed o is (value.Pointer n) what = one_stored o is what
+one_allowed o is (value.Rows n) what = one_stored o is what
 one_allowed o is value.Nothing what = one_stored o is what
 
 module _ (all : List Item) where
@@ -84,6 +85,14 @@ module _ (all : List Item) where
       let base : Expr = record { what = exprs.Name word; line = t.line } in
       let named : Lies P t.line low t.line (findings all locals base) = lies_of (found-name all locals base word refl) (record { at = refl; low_is = first_on v; has = first_is v; first = on_name (meaning all locals word) t.line; behind = within_end (omega arith) }) in
       lies_of (found-index all locals e base at refl) (lies_index named (lies_higher i.ends (expr_lies all locals d i.span))))
+  target_lies {P = P} {e = e} {high = high} {low = low} locals (grid_target {row = row} {column = column} t word opened first closed again second ended split is o c is1 is2 d f) w =
+      (let v = span_of split w in
+      let q = cut first (closed ∷ again ∷ (second ++ (ended ∷ []))) (skip (behind_first v)) in
+      let i = between second ended [] (skip (skip q.behind)) in
+      let base : Expr = record { what = exprs.Name word; line = t.line } in
+      let named : Lies P t.line low t.line (findings all locals base) = lies_of (found-name all locals base word refl) (record { at = refl; low_is = first_on v; has = first_is v; first = on_name (meaning all locals word) t.line; behind = within_end (omega arith) }) in
+      let at_row : Lies P q.middle low t.line (findings all locals (element_of base row)) = lies_of (found-index all locals (element_of base row) base row refl) (lies_index named (expr_lies all locals d q.before)) in
+      lies_of (found-index all locals e (element_of base row) column refl) (lies_index at_row (lies_higher i.ends (expr_lies all locals f i.span))))
   target_lies {P = P} {e = e} {high = high} locals (pointer_target star t word split o is) w =
       (let v = span_of split w in
       let u = behind_first v in

@@ -8,6 +8,8 @@ use Rattle.oss_syntax.specs.declared.tree.pragma.Clause.{Clause}
 use Rattle.oss_syntax.specs.declared.tree.pragma.Clause.TheVariants as clause
 use Rattle.oss_syntax.specs.declared.tree.pragma.Form.{Form}
 use Rattle.oss_syntax.specs.declared.tree.pragma.Form.TheVariants as form
+use Rattle.oss_syntax.specs.declared.tree.pragma.Inner.{Inner}
+use Rattle.oss_syntax.specs.declared.tree.pragma.Inner.TheVariants as inner_forms
 use Rattle.oss_syntax.specs.declared.tree.pragma.Section.{Section}
 use Rattle.oss_syntax.specs.declared.tree.program.Item.{Item}
 use Rattle.oss_syntax.specs.declared.tree.program.Local.{Local}
@@ -19,9 +21,10 @@ use Rattle.oss_grammar.specs.ExpressionRules.{value_rules}
 use Rattle.oss_grammar.specs.Places.{IsOneOf}
 use Rattle.oss_grammar.specs.Places.IsOneOf.{first_of_them, later_of_them}
 use Rattle.oss_grammar.specs.Scopes.{meaning}
-use Rattle.oss_grammar.specs.SectionRules.{begins_with_base, clause_rules, clauses_rules, form_rules, is_fold, is_missing, is_wrong_section, optional_rules, section_rules, sections_in, sections_rules}
-use Rattle.oss_grammar.specs.UnknownNames.{InForm, Uses, UsesInSection, UsesInClause}
-use Rattle.oss_grammar.specs.UnknownNames.InForm.{of_shape, of_element, of_length_first, of_length_count, of_span_first, of_span_last}
+use Rattle.oss_grammar.specs.SectionRules.{begins_with_base, clause_rules, clauses_rules, form_rules, inner_rules, is_fold, is_missing, is_wrong_section, optional_rules, section_rules, sections_in, sections_rules}
+use Rattle.oss_grammar.specs.UnknownNames.{InForm, InInner, Uses, UsesInSection, UsesInClause}
+use Rattle.oss_grammar.specs.UnknownNames.InForm.{of_shape, of_element, of_length_first, of_length_count, of_span_first, of_span_last, of_rows, of_columns}
+use Rattle.oss_grammar.specs.UnknownNames.InInner.{of_one, of_first, of_count, of_lower, of_upper}
 use Rattle.oss_grammar.specs.UnknownNames.UsesInSection.{as_first_base, as_last_base, in_form}
 use Rattle.oss_grammar.specs.UnknownNames.UsesInClause.{in_section, in_if, in_final, in_priority}
 use Rattle.oss_grammar.proofs.KindLemmas.{where_told, where_tells, same_line}
@@ -34,6 +37,7 @@ missing_is named.Function e = absurd (cc)
 missing_is (named.Local k) e = absurd (cc)
 missing_is (named.Scalar k) e = absurd (cc)
 missing_is (named.Array k) e = absurd (cc)
+missing_is (named.Grid k) e = absurd (cc)
 
 is_missing_at : {m : Named} → m ≡ named.Missing → is_missing m ≡ true
 is_missing_at e = rw e refl
@@ -58,6 +62,11 @@ other_size e = let kinds : refused.TooLarge ≡ refused.UnknownName = ap (λ (b 
 module _ (line : ℕ) (all : List Item) (locals : List Local) where
   abbrev x : Refused
   x = broken refused.UnknownName line
+
+  pub record InnerUse (d : Inner) : Type 0 where
+    pub value : Expr
+    pub is_in : InInner value d
+    pub use_in : UnknownUse line all locals value
 
   pub record FormUse (f : Form) : Type 0 where
     pub value : Expr
@@ -84,6 +93,36 @@ module _ (line : ℕ) (all : List Item) (locals : List Local) where
     pub is_listed : IsOneOf clause cs
     pub use_in : ClauseUse clause
 
+  -- one dimension
+  in_part : {d : Inner} (e : Expr) → InInner e d → IsOneOf x (value_rules all locals wanted.Number e) → InnerUse d
+  in_part e is w = record { value = e; is_in = is; use_in = value_found line all locals wanted.Number e w }
+
+  lower_found : (lower upper : Option Expr) → IsOneOf x (optional_rules all locals lower) → InnerUse (inner_forms.Span lower upper)
+  lower_found None upper w = none_of w
+  lower_found (Some e) upper w = in_part e (of_lower upper) w
+
+  upper_found : (lower upper : Option Expr) → IsOneOf x (optional_rules all locals upper) → InnerUse (inner_forms.Span lower upper)
+  upper_found lower None w = none_of w
+  upper_found lower (Some e) w = in_part e (of_upper lower) w
+
+  inner_found : (d : Inner) → IsOneOf x (inner_rules all locals d) → InnerUse d
+  inner_found (inner_forms.Element e) w = in_part e of_one w
+  inner_found (inner_forms.Length e n) w = elim (one_of_two (value_rules all locals wanted.Number e) (value_rules all locals wanted.Number n) w) [
+    | inl u ↦ in_part e (of_first n) u
+    | inr u ↦ in_part n (of_count e) u
+  ]
+  inner_found (inner_forms.Span lower upper) w = elim (one_of_two (optional_rules all locals lower) (optional_rules all locals upper) w) [
+    | inl u ↦ lower_found lower upper u
+    | inr u ↦ upper_found lower upper u
+  ]
+
+  inner_told : {name : List ℕ} {e : Expr} {d : Inner} → InInner e d → meaning all locals name ≡ named.Missing → Uses name line e → IsOneOf x (inner_rules all locals d)
+  inner_told {e = e} of_one m u = value_told line all locals wanted.Number e m u
+  inner_told {e = e} (of_first count) m u = one_of_left _ (value_told line all locals wanted.Number e m u)
+  inner_told {e = e} (of_count first) m u = one_of_right (value_rules all locals wanted.Number first) (value_told line all locals wanted.Number e m u)
+  inner_told {e = e} (of_lower last) m u = one_of_left _ (value_told line all locals wanted.Number e m u)
+  inner_told {e = e} (of_upper first) m u = one_of_right (optional_rules all locals first) (value_told line all locals wanted.Number e m u)
+
   -- forms
   in_value : {f : Form} (e : Expr) → InForm e f → IsOneOf x (value_rules all locals wanted.Number e) → FormUse f
   in_value e is w = record { value = e; is_in = is; use_in = value_found line all locals wanted.Number e w }
@@ -95,6 +134,12 @@ module _ (line : ℕ) (all : List Item) (locals : List Local) where
   last_optional : (lower upper : Option Expr) → IsOneOf x (optional_rules all locals upper) → FormUse (form.Span lower upper)
   last_optional lower None w = none_of w
   last_optional lower (Some e) w = in_value e (of_span_last lower) w
+
+  rows_use : {rows : Inner} (columns : Inner) → InnerUse rows → FormUse (form.Grid rows columns)
+  rows_use columns u = record { value = u.value; is_in = of_rows columns u.is_in; use_in = u.use_in }
+
+  columns_use : {columns : Inner} (rows : Inner) → InnerUse columns → FormUse (form.Grid rows columns)
+  columns_use rows u = record { value = u.value; is_in = of_columns rows u.is_in; use_in = u.use_in }
 
   form_found : (f : Form) → IsOneOf x (form_rules all locals f) → FormUse f
   form_found form.Whole w = none_of w
@@ -109,6 +154,10 @@ module _ (line : ℕ) (all : List Item) (locals : List Local) where
     | inl u ↦ first_optional lower upper u
     | inr u ↦ last_optional lower upper u
   ]
+  form_found (form.Grid rows columns) w = elim (one_of_two (inner_rules all locals rows) (inner_rules all locals columns) w) [
+    | inl u ↦ rows_use columns (inner_found rows u)
+    | inr u ↦ columns_use rows (inner_found columns u)
+  ]
 
   form_told : {name : List ℕ} {e : Expr} {f : Form} → InForm e f → meaning all locals name ≡ named.Missing → Uses name line e → IsOneOf x (form_rules all locals f)
   form_told {e = e} of_shape m u = value_told line all locals wanted.Number e m u
@@ -117,6 +166,8 @@ module _ (line : ℕ) (all : List Item) (locals : List Local) where
   form_told {e = e} (of_length_count first) m u = one_of_right (value_rules all locals wanted.Number first) (value_told line all locals wanted.Number e m u)
   form_told {e = e} (of_span_first last) m u = one_of_left _ (value_told line all locals wanted.Number e m u)
   form_told {e = e} (of_span_last first) m u = one_of_right (optional_rules all locals first) (value_told line all locals wanted.Number e m u)
+  form_told (of_rows columns is) m u = one_of_left (inner_rules all locals columns) (inner_told is m u)
+  form_told (of_columns rows is) m u = one_of_right (inner_rules all locals rows) (inner_told is m u)
 
   -- sections
   module _ (fold : Bool) (before : ℕ) (s : Section) where

@@ -99,6 +99,7 @@ module _ (line : ℕ) where
   name_found (named.Local k) l w = none_of w
   name_found (named.Scalar k) l w = none_of w
   name_found (named.Array k) l w = none_of w
+  name_found (named.Grid k) l w = none_of w
 
   name_told : {m : Named} {l : ℕ} → m ≡ named.Missing → l ≡ line → IsOneOf x (name_rules m l)
   name_told e same = rw e (first_of_them (ap (λ (i : ℕ). broken refused.UnknownName i) same))
@@ -123,6 +124,8 @@ module _ (line : ℕ) where
   callee_found (named.Scalar k) f l as_statement n (later_of_them w) = none_of w
   callee_found (named.Array k) f l as_statement n (first_of_them e) = other_kind e
   callee_found (named.Array k) f l as_statement n (later_of_them w) = none_of w
+  callee_found (named.Grid k) f l as_statement n (first_of_them e) = other_kind e
+  callee_found (named.Grid k) f l as_statement n (later_of_them w) = none_of w
 
   pub callee_told : {m : Named} (f : Option Function) {l : ℕ} (as_statement : Bool) (n : ℕ) → m ≡ named.Missing → l ≡ line → IsOneOf x (call_rules m f l as_statement n)
   callee_told f as_statement n e same = rw e (first_of_them (ap (λ (i : ℕ). broken refused.UnknownName i) same))
@@ -164,7 +167,7 @@ module _ (line : ℕ) where
       put (inr u) = none_of u
     found_by e (is_index a b is u v) w = put (three_of pa.at_first pa.behind (all_of pb) (moved (found-index all locals e a b is) w)) where
       pa : Findings
-      pa = placed wanted.Pointer (findings all locals a)
+      pa = placed wanted.Indexed (findings all locals a)
 
       pb : Findings
       pb = placed wanted.Number (findings all locals b)
@@ -176,7 +179,7 @@ module _ (line : ℕ) where
       in_b n = record { name = n.name; uses = in_index a b is n.uses; means = n.means }
 
       put : IsOneOf x (all_of pa) ⊎ IsOneOf x (all_of pb) → UnknownUse e
-      put (inl y) = in_a (u (placed_found wanted.Pointer (findings all locals a) y))
+      put (inl y) = in_a (u (placed_found wanted.Indexed (findings all locals a) y))
       put (inr y) = in_b (v (placed_found wanted.Number (findings all locals b) y))
     found_by e (is_unary o a is u) w = put (u (unary_found o e.line (findings all locals a) (moved (found-unary all locals e o a is) w))) where
       put : UnknownUse a → UnknownUse e
@@ -241,10 +244,10 @@ module _ (line : ℕ) where
     use_told {name} {e} m (as_value is same) = back (found-name all locals e name is) (one_of_left [] (name_told m same))
     use_told {name} {e} m (as_callee es is same) = back (found-call all locals e name es is) (one_of_left _ (callee_told (function_named all name) false (length (map (findings all locals) es)) m same))
     use_told {name} {e} m (in_array a b is u) =
-        back (found-index all locals e a b is) (of_three (placed wanted.Pointer (findings all locals a)).at_first (placed wanted.Pointer (findings all locals a)).behind (all_of (placed wanted.Number (findings all locals b)))
-        (inl (placed_told wanted.Pointer (findings all locals a) (use_told m u))))
+        back (found-index all locals e a b is) (of_three (placed wanted.Indexed (findings all locals a)).at_first (placed wanted.Indexed (findings all locals a)).behind (all_of (placed wanted.Number (findings all locals b)))
+        (inl (placed_told wanted.Indexed (findings all locals a) (use_told m u))))
     use_told {name} {e} m (in_index a b is u) =
-        back (found-index all locals e a b is) (of_three (placed wanted.Pointer (findings all locals a)).at_first (placed wanted.Pointer (findings all locals a)).behind (all_of (placed wanted.Number (findings all locals b)))
+        back (found-index all locals e a b is) (of_three (placed wanted.Indexed (findings all locals a)).at_first (placed wanted.Indexed (findings all locals a)).behind (all_of (placed wanted.Number (findings all locals b)))
         (inr (placed_told wanted.Number (findings all locals b) (use_told m u))))
     use_told {name} {e} m (in_operand o a is u) = back (found-unary all locals e o a is) (unary_told o e.line (findings all locals a) (use_told m u))
     use_told {name} {e} m (in_left o a b is u) =

@@ -78,12 +78,13 @@ item_is_named all name n = put (slice_get_cases all (place name all)) where
   ]
 
 -- no item means something that is missing
-global_known : {C : Type 0} (cells : Option ℕ) (n : NumKind) → global_meaning cells n ≡ named.Missing → C
-global_known None n e = absurd (cc)
-global_known (Some c) n e = absurd (cc)
+global_known : {C : Type 0} (cells columns : Option ℕ) (n : NumKind) → global_meaning cells columns n ≡ named.Missing → C
+global_known None columns n e = absurd (cc)
+global_known (Some c) None n e = absurd (cc)
+global_known (Some c) (Some m) n e = absurd (cc)
 
 item_known : {C : Type 0} (item : Item) → item_meaning (Some item) ≡ named.Missing → C
-item_known (items.Global g) e = global_known g.cells g.kind e
+item_known (items.Global g) e = global_known g.cells g.columns g.kind e
 item_known (items.Function f) e = absurd (cc)
 
 -- a name that is unknown means nothing, and the other way

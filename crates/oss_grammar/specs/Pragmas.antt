@@ -2,7 +2,7 @@
 -- its tree is. A pragma begins with the token of `#pragma oss` and ends with that of its line's end. The relations speak of
 -- whole lists: nothing is greedy, and nothing is left over.
 -- Read against: `task in(x), inout(a[0;2])`, `task , wait` and `task` are tasks; `task in(x),` and `task if(1) if(1)` are none.
-use Rattle.std.specs.Prelude.{◌≡◌, ℕ, ◌≤◌, Bool, true, false, ◌||◌, if◌then◌else◌, List, [], ◌∷◌, ◌++◌, codes, Option, Some, None}
+use Rattle.std.specs.Prelude.{◌≡◌, ℕ, ◌≤◌, Bool, true, false, if◌then◌else◌, List, [], ◌∷◌, ◌++◌, codes, Option, Some, None}
 use Rattle.std.specs.List.{count_by}
 use Rattle.oss_syntax.specs.declared.access.Mode.{Mode}
 use Rattle.oss_syntax.specs.declared.access.Mode.TheVariants.{Read, Write, Fold}
