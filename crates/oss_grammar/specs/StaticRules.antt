@@ -2,7 +2,7 @@
 -- in text order. A text is refused for the first of them.
 -- Read against: `long a[0]; int main() { b = 1; }` on two lines breaks TooLarge on line 1 and UnknownName on line 2; `int main() {
 -- long x = x; }` breaks UnknownName, and `{ long y; } y = 1;` too; the empty text breaks NoMain on line 1.
-use Rattle.std.specs.Prelude.{ℕ, ◌==◌, nat_le, Bool, true, false, not, ◌&&◌, codes, List, [], ◌∷◌, ◌++◌, length, map, Option, Some, None, is_some}
+use Rattle.std.specs.Prelude.{ℕ, ◌==◌, nat_le, Bool, true, false, not, ◌&&◌, List, [], ◌∷◌, ◌++◌, length, map, Option, Some, None, is_some}
 use Rattle.std.specs.Str.{bytes_eq}
 use Rattle.oss_syntax.specs.declared.tree.expr.BinOp.{BinOp}
 use Rattle.oss_syntax.specs.declared.tree.expr.BinOp.TheVariants as op
@@ -13,7 +13,6 @@ use Rattle.oss_syntax.specs.declared.tree.program.Kind.{Kind}
 use Rattle.oss_syntax.specs.declared.tree.program.Kind.TheVariants as kind
 use Rattle.oss_syntax.specs.declared.tree.program.Local.{Local}
 use Rattle.oss_syntax.specs.declared.tree.program.NumKind.{NumKind}
-use Rattle.oss_syntax.specs.declared.tree.program.NumKind.TheVariants as num
 use Rattle.oss_syntax.specs.declared.tree.stmt.LoopHead.{LoopHead}
 use Rattle.oss_syntax.specs.declared.tree.stmt.NameUse.{NameUse}
 use Rattle.oss_syntax.specs.declared.tree.stmt.Stmt.{Stmt}
@@ -34,7 +33,7 @@ use Rattle.oss_syntax.specs.declared.refusal.RefusedKind.TheVariants as refused
 use Rattle.oss_grammar.specs.Broken.{broken, where_so}
 use Rattle.oss_grammar.specs.ExpressionRules.{call_findings, findings, value_rules}
 use Rattle.oss_grammar.specs.Kinds.{Findings, all_of, placed, unless, wanted_by}
-use Rattle.oss_grammar.specs.Scopes.{is_local_again}
+use Rattle.oss_grammar.specs.Scopes.{is_local_again, loop_locals}
 use Rattle.oss_grammar.specs.SectionRules.{clauses_rules, loop_clauses_rules, optional_rules, sections_rules}
 use Rattle.oss_grammar.specs.Formats.{conversions_of}
 
@@ -184,14 +183,6 @@ for_rules start test step body all a locals =
 abbrev pub wait_rules : List Item → List Local → Option (List Section) → List Refused
 wait_rules all locals None = []
 wait_rules all locals (Some sections) = sections_rules all locals false 0 sections
-
--- The locals of a task loop in scope in its clauses and its statement: its variable, and four that no text can name, for where the next
--- task begins, where the loop ends, how many turns a task makes, and where this task ends.
-abbrev pub hidden_local : Local
-hidden_local = record { name = codes "$"; kind = kind.Num num.Long; first = None; line = 0 }
-
-abbrev pub loop_locals : LoopHead → List Local → List Local
-loop_locals head locals = locals ++ (hidden_local ∷ hidden_local ∷ hidden_local ∷ hidden_local ∷ head.variable ∷ [])
 
 -- the first name of the head that differs from that of the variable
 abbrev pub name_rules : List ℕ → NameUse → NameUse → List Refused

@@ -103,3 +103,34 @@ written line head body = stmt_at line (stmts.Block (
     ∷ stmt_at line (stmts.If (joined_at line op.Less (name_at line grain_name) (number_at line 1)) (set_at line grain_name (number_at line 1)) None)
     ∷ stmt_at line (stmts.While (joined_at line op.Less (name_at line begin_name) (name_at line end_name)) (round_of line head body))
     ∷ []))
+
+-- The statements of a layer with those inside written out already: a task loop is written out, and each other statement stays.
+abbrev pub written_step : StmtKind-F (ℕ → Stmt) Stmt → ℕ → Stmt
+written_step (open_stmt.TaskLoop head body) line = written line head body
+written_step (open_stmt.Block body) line = stmt_at line (stmts.Block body)
+written_step open_stmt.Empty line = stmt_at line stmts.Empty
+written_step (open_stmt.Declare locals) line = stmt_at line (stmts.Declare locals)
+written_step (open_stmt.Assign target o e) line = stmt_at line (stmts.Assign target o e)
+written_step (open_stmt.Call name es) line = stmt_at line (stmts.Call name es)
+written_step (open_stmt.Print format es) line = stmt_at line (stmts.Print format es)
+written_step (open_stmt.If e branch other) line = stmt_at line (stmts.If e branch other)
+written_step (open_stmt.While e body) line = stmt_at line (stmts.While e body)
+written_step (open_stmt.For start test step body) line = stmt_at line (stmts.For start test step body)
+written_step (open_stmt.Return e) line = stmt_at line (stmts.Return e)
+written_step open_stmt.Break line = stmt_at line stmts.Break
+written_step open_stmt.Continue line = stmt_at line stmts.Continue
+written_step (open_stmt.Task mark body) line = stmt_at line (stmts.Task mark body)
+written_step (open_stmt.TaskWait sections) line = stmt_at line (stmts.TaskWait sections)
+written_step (open_stmt.Release clauses) line = stmt_at line (stmts.Release clauses)
+
+-- a statement with each task loop in it written out
+abbrev pub written_out : Stmt → Stmt
+written_out = fold-Stmt (ℕ → Stmt) Stmt written_step (λ s. s.what s.line)
+
+abbrev pub item_written : Item → Item
+item_written (items.Global g) = items.Global g
+item_written (items.Function f) = items.Function (record f { body = map written_out f.body })
+
+-- a program with each task loop written out
+abbrev pub program_written : Program → Program
+program_written p = record { items = map item_written p.items }
