@@ -91,7 +91,7 @@ abbrev pub round_of : ℕ → LoopHead → Stmt → Stmt
 round_of line head body = stmt_at line (stmts.Block (
     stmt_at line (stmts.Declare (long_at line head.variable.name (name_at line begin_name) ∷ long_at line stop_name (name_at line end_name) ∷ []))
     ∷ stmt_at line (stmts.If (joined_at line op.More (joined_at line op.Sub (name_at line end_name) (name_at line begin_name)) (name_at line grain_name))
-        (set_at line stop_name (joined_at line op.Add (name_at line begin_name) (name_at line grain_name))) None)
+    (set_at line stop_name (joined_at line op.Add (name_at line begin_name) (name_at line grain_name))) None)
     ∷ task_of line head body
     ∷ set_at line begin_name (name_at line stop_name)
     ∷ []))
