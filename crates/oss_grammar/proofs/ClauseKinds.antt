@@ -1,7 +1,8 @@
 -- Which kinds of rules sections, clauses and declarators break.
-use Rattle.std.proofs.Common.{◌≡◌, ℕ, ◌+◌, ◌&&◌, ◌||◌, Bool, true, false, not, List, [], ◌∷◌, ◌++◌, length, Option, Some, None}
+use Rattle.std.proofs.Common.{◌≡◌, ℕ, ◌+◌, ◌&&◌, ◌||◌, Bool, true, false, not, List, [], ◌∷◌, ◌++◌, length, subst, Option, Some, None}
 use Rattle.std.specs.Prelude.{◌==◌, nat_le}
 use Rattle.std.specs.Str.{bytes_eq}
+use Rattle.oss_syntax.specs.declared.refusal.Refused.{Refused}
 use Rattle.oss_syntax.specs.declared.refusal.RefusedKind.{RefusedKind}
 use Rattle.oss_syntax.specs.declared.refusal.RefusedKind.TheVariants as refused
 use Rattle.oss_syntax.specs.declared.tree.pragma.Clause.{Clause}
@@ -18,8 +19,9 @@ use Rattle.oss_syntax.specs.declared.tree.stmt.LoopHead.{LoopHead}
 use Rattle.oss_grammar.specs.declared.kinds.Wanted.TheVariants as wanted
 use Rattle.oss_grammar.specs.ProgramRules.{mark_rules}
 use Rattle.oss_grammar.specs.Scopes.{is_local_again, loop_locals, meaning}
-use Rattle.oss_grammar.specs.SectionRules.{begins_with_base, clause_rules, clauses_rules, ends_with_base, form_rules, inner_rules, is_fold, is_missing, is_wrong_section, loop_clause_rules, loop_clauses_rules, section_rules, sections_in, sections_rules}
+use Rattle.oss_grammar.specs.SectionRules.{begins_with_base, clauses_rules, ends_with_base, form_rules, inner_rules, is_fold, is_missing, is_wrong_section, loop_clause_rules, loop_clauses_rules, section_rules, sections_in, sections_rules}
 use Rattle.oss_grammar.specs.StaticRules.{declare_all, head_rules, wait_rules, with_local}
+use Rattle.oss_grammar.proofs.ClauseScopes.{same_scope}
 use Rattle.oss_grammar.proofs.KindLemmas.{Only, only_none, only_two, only_where, only_optional, only_value, only_returned}
 
 module _ (test : RefusedKind → Bool) (unknown : test refused.UnknownName ≡ true) (wrong : test refused.WrongKind ≡ true) (count : test refused.WrongCount ≡ true) (large : test refused.TooLarge ≡ true)
@@ -58,28 +60,7 @@ module _ (test : RefusedKind → Bool) (unknown : test refused.UnknownName ≡ t
     only_sections fold before [] = only_none test
     only_sections fold before (s ∷ rest) = only_two (only_section fold before s) (only_sections fold (before + 1) rest)
 
-    only_clause : (before : ℕ) (c : Clause) → Only test (clause_rules all locals before c)
-    only_clause before (clause.Depend m strong fresh sections) = only_sections (is_fold m) before sections
-    only_clause before (clause.If e) = only_value test unknown wrong count all locals wanted.Number e
-    only_clause before (clause.Final e) = only_value test unknown wrong count all locals wanted.Number e
-    only_clause before clause.Wait = only_none test
-    only_clause before (clause.Label name) = only_none test
-    only_clause before (clause.Priority e) = only_value test unknown wrong count all locals wanted.Number e
-    only_clause before (clause.Grain e) = only_value test unknown wrong count all locals wanted.Number e
-
-    pub only_clauses : (before : ℕ) (cs : List Clause) → Only test (clauses_rules all locals before cs)
-    only_clauses before [] = only_none test
-    only_clauses before (c ∷ rest) = only_two (only_clause before c) (only_clauses (before + length (sections_in c)) rest)
-
-    pub only_wait : (sections : Option (List Section)) → Only test (wait_rules all locals sections)
-    only_wait None = only_none test
-    only_wait (Some sections) = only_sections false 0 sections
-
-    pub only_mark : (mark : Option TaskMark) → Only test (mark_rules all locals mark)
-    only_mark None = only_none test
-    only_mark (Some mark) = only_clauses 0 mark.clauses
-
-  -- the clauses of a task loop, and its head
+  -- clauses, with these locals in scope in the grainsize of a task loop
   module _ (outer inside : List Local) where
     only_loop_clause : (before : ℕ) (c : Clause) → Only test (loop_clause_rules all outer inside before c)
     only_loop_clause before (clause.Depend m strong fresh sections) = only_sections inside (is_fold m) before sections
@@ -93,6 +74,18 @@ module _ (test : RefusedKind → Bool) (unknown : test refused.UnknownName ≡ t
     only_loop_clauses : (before : ℕ) (cs : List Clause) → Only test (loop_clauses_rules all outer inside before cs)
     only_loop_clauses before [] = only_none test
     only_loop_clauses before (c ∷ rest) = only_two (only_loop_clause before c) (only_loop_clauses (before + length (sections_in c)) rest)
+
+  module _ (locals : List Local) where
+    pub only_clauses : (before : ℕ) (cs : List Clause) → Only test (clauses_rules all locals before cs)
+    only_clauses before cs = subst (λ (xs : List Refused). Only test xs) (same_scope all locals before cs) (only_loop_clauses locals locals before cs)
+
+    pub only_wait : (sections : Option (List Section)) → Only test (wait_rules all locals sections)
+    only_wait None = only_none test
+    only_wait (Some sections) = only_sections locals false 0 sections
+
+    pub only_mark : (mark : Option TaskMark) → Only test (mark_rules all locals mark)
+    only_mark None = only_none test
+    only_mark (Some mark) = only_clauses 0 mark.clauses
 
   pub only_head : (locals : List Local) (head : LoopHead) → Only test (head_rules all locals head)
   only_head locals head =

@@ -1,5 +1,5 @@
 -- The rules of a pragma stand between the lines of its first and its last token, in rising order.
-use Rattle.std.proofs.Common.{◌≡◌, ℕ, ◌+◌, ◌≤◌, ◌==◌, ◌&&◌, ◌||◌, Bool, true, false, not, List, [], ◌∷◌, ◌++◌, length, refl, Option, arith}
+use Rattle.std.proofs.Common.{◌≡◌, ℕ, ◌+◌, ◌≤◌, ◌==◌, ◌&&◌, ◌||◌, Bool, true, false, not, List, [], ◌∷◌, ◌++◌, length, refl, sym, Option, arith}
 use Rattle.std.specs.Prelude.{nat_le}
 use Rattle.oss_syntax.specs.declared.access.Mode.TheVariants.{Fold}
 use Rattle.oss_syntax.specs.declared.refusal.Refused.{Refused}
@@ -34,6 +34,7 @@ use Rattle.oss_grammar.specs.Pragmas.IsPragma.{task, task_loop, wait_all, wait_o
 use Rattle.oss_grammar.specs.Scopes.{meaning}
 use Rattle.oss_grammar.specs.SectionRules.{begins_with_base, clause_rules, clauses_rules, ends_with_base, form_rules, inner_rules, is_fold, is_missing, is_wrong_section, loop_clause_rules, loop_clauses_rules, many_rules, optional_rules, section_rules, sections_in, sections_rules}
 use Rattle.oss_grammar.specs.StaticRules.{wait_rules}
+use Rattle.oss_grammar.proofs.ClauseScopes.{same_scope}
 use Rattle.oss_grammar.proofs.ExpressionLines.{between, value_lies}
 use Rattle.oss_grammar.proofs.LineSpans.{Span, Within, behind_first, cut, first_is, first_on, skip, span_of, span_order, where_then, where_within, within_both, within_higher, within_lower, within_of}
 use Rattle.oss_grammar.proofs.LineSpans.Within.{within_end}
@@ -147,24 +148,6 @@ module _ (all : List Item) (locals : List Local) where
   in_brackets : {P : ℕ → Type 0} {e : Expr} {high low : ℕ} (inner : List Token) (closed : Token) → IsExpr loosest_level inner e → Span P high low (inner ++ (closed ∷ [])) → Within P high low (value_rules all locals wanted.Number e)
   in_brackets inner closed d w = (let i = between inner closed [] w in within_higher i.ends (value_lies all locals wanted.Number d i.span))
 
-  clause_lies : {P : ℕ → Type 0} {ts : List Token} {c : Clause} {high low : ℕ} (before : ℕ) → IsClause ts c → Span P high low ts → Within P high low (clause_rules all locals before c)
-  clause_lies before (dependency d) w = depend_lies before d w
-  clause_lies before (reduction t opened o colon inner closed strong operator split is1 is2 is3 is4 is5 d) w =
-      (let i = between inner closed [] (skip (skip (skip (skip (span_of split w))))) in within_higher i.ends (sections_lie (is_fold (Fold operator)) before d i.span))
-  clause_lies before (condition t opened inner closed split is1 is2 is3 d) w = in_brackets inner closed d (skip (skip (span_of split w)))
-  clause_lies before (final_task t opened inner closed split is1 is2 is3 d) w = in_brackets inner closed d (skip (skip (span_of split w)))
-  clause_lies before (waiting t split is) w = within_end (span_order w)
-  clause_lies before (labelled t opened inner closed bytes split is1 is2 is3 is4) w = within_end (span_order w)
-  clause_lies before (priority t opened inner closed split is1 is2 is3 d) w = in_brackets inner closed d (skip (skip (span_of split w)))
-  clause_lies before (grain t opened inner closed split is1 is2 is3 d) w = in_brackets inner closed d (skip (skip (span_of split w)))
-
-  pub clauses_lie : {P : ℕ → Type 0} {ts : List Token} {cs : List Clause} {high low : ℕ} (before : ℕ) → IsClauses ts cs → Span P high low ts → Within P high low (clauses_rules all locals before cs)
-  clauses_lie before (no_clause split) w = within_end (span_order w)
-  clauses_lie before (plain_clause {c = c} front back split d more) w =
-      (let q = cut front back (span_of split w) in within_both (clause_lies before d q.before) (clauses_lie (before + length (sections_in c)) more q.behind))
-  clauses_lie before (comma_clause {c = c} comma front back split is d more) w =
-      (let q = cut front back (skip (span_of split w)) in within_both (clause_lies before d q.before) (clauses_lie (before + length (sections_in c)) more q.behind))
-
   depends_lie : {P : ℕ → Type 0} {ts : List Token} {cs : List Clause} {high low : ℕ} (before : ℕ) → IsMoreDepends ts cs → Span P high low ts → Within P high low (clauses_rules all locals before cs)
   depends_lie before (no_depend split) w = within_end (span_order w)
   depends_lie before (plain_depend {c = c} front back split d more) w =
@@ -172,7 +155,7 @@ module _ (all : List Item) (locals : List Local) where
   depends_lie before (comma_depend {c = c} comma front back split is d more) w =
       (let q = cut front back (skip (span_of split w)) in within_both (depend_lies before d q.before) (depends_lie (before + length (sections_in c)) more q.behind))
 
--- in a task loop these locals are in scope outside of its clauses
+-- clauses, with these locals in scope in the grainsize of a task loop
 module _ (all : List Item) (outer locals : List Local) where
   loop_clause_lies : {P : ℕ → Type 0} {ts : List Token} {c : Clause} {high low : ℕ} (before : ℕ) → IsClause ts c → Span P high low ts → Within P high low (loop_clause_rules all outer locals before c)
   loop_clause_lies before (dependency (depend t opened inner closed mode strong fresh split is o c d)) w =
@@ -193,7 +176,8 @@ module _ (all : List Item) (outer locals : List Local) where
   loop_clauses_lie before (comma_clause {c = c} comma front back split is d more) w =
       (let q = cut front back (skip (span_of split w)) in within_both (loop_clause_lies before d q.before) (loop_clauses_lie (before + length (sections_in c)) more q.behind))
 
-  -- the rules of a whole pragma
+-- the rules of a whole pragma
+module _ (all : List Item) (outer locals : List Local) where
   abbrev pub directive_rules : Directive → List Refused
   directive_rules (directive.Task mark) = clauses_rules all locals 0 mark.clauses
   directive_rules (directive.TaskLoop mark) = loop_clauses_rules all outer locals 0 mark.clauses
@@ -201,10 +185,10 @@ module _ (all : List Item) (outer locals : List Local) where
   directive_rules (directive.Release clauses) = clauses_rules all locals 0 clauses
 
   pub pragma_lies : {P : ℕ → Type 0} {ts : List Token} {d : Directive} {high low : ℕ} → IsPragma ts d → Span P high low ts → Within P high low (directive_rules d)
-  pragma_lies (task start word inner end split is1 is2 is3 d once none) w =
-      (let i = between inner end [] (skip (skip (span_of split w))) in within_higher i.ends (clauses_lie all locals 0 d i.span))
+  pragma_lies (task {clauses = clauses} start word inner end split is1 is2 is3 d once none) w =
+      (let i = between inner end [] (skip (skip (span_of split w))) in within_of (sym (same_scope all locals 0 clauses)) (within_higher i.ends (loop_clauses_lie all locals locals 0 d i.span)))
   pragma_lies (task_loop start word inner end split is1 is2 is3 d once) w =
-      (let i = between inner end [] (skip (skip (span_of split w))) in within_higher i.ends (loop_clauses_lie 0 d i.span))
+      (let i = between inner end [] (skip (skip (span_of split w))) in within_higher i.ends (loop_clauses_lie all outer locals 0 d i.span))
   pragma_lies (wait_all start word end split is1 is2 is3) w = within_end (span_order w)
   pragma_lies (wait_on start word on opened inner closed end split is1 is2 is3 is4 is5 is6 d) w =
       (let i = between inner closed (end ∷ []) (skip (skip (skip (skip (span_of split w))))) in within_higher i.ends (sections_lie all locals false 0 d i.span))

@@ -4,6 +4,7 @@ pub mod AnswerLemmas
 pub mod BodyLines
 pub mod ClauseKinds
 pub mod ClauseLines
+pub mod ClauseScopes
 pub mod ClauseUses
 pub mod CountedLemmas
 pub mod ExpressionLines

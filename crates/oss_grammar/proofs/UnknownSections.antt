@@ -22,12 +22,13 @@ use Rattle.oss_grammar.specs.ExpressionRules.{value_rules}
 use Rattle.oss_grammar.specs.Places.{IsOneOf}
 use Rattle.oss_grammar.specs.Places.IsOneOf.{first_of_them, later_of_them}
 use Rattle.oss_grammar.specs.Scopes.{meaning}
-use Rattle.oss_grammar.specs.SectionRules.{begins_with_base, clause_rules, clauses_rules, ends_with_base, form_rules, inner_rules, is_fold, is_missing, is_wrong_section, loop_clause_rules, loop_clauses_rules, many_rules, optional_rules, section_rules, sections_in, sections_rules}
+use Rattle.oss_grammar.specs.SectionRules.{begins_with_base, clauses_rules, ends_with_base, form_rules, inner_rules, is_fold, is_missing, is_wrong_section, loop_clause_rules, loop_clauses_rules, many_rules, optional_rules, section_rules, sections_in, sections_rules}
 use Rattle.oss_grammar.specs.UnknownNames.{InForm, InInner, Uses, UsesInSection, UsesInClause}
 use Rattle.oss_grammar.specs.UnknownNames.InForm.{of_shape, of_element, of_length_first, of_length_count, of_span_first, of_span_last, of_rows, of_columns, of_index, of_second_index, of_first_turn, of_turns}
 use Rattle.oss_grammar.specs.UnknownNames.InInner.{of_one, of_first, of_count, of_lower, of_upper}
 use Rattle.oss_grammar.specs.UnknownNames.UsesInSection.{as_first_base, as_later_base, in_form}
 use Rattle.oss_grammar.specs.UnknownNames.UsesInClause.{in_section, in_if, in_final, in_priority, in_grain}
+use Rattle.oss_grammar.proofs.ClauseScopes.{same_scope}
 use Rattle.oss_grammar.proofs.KindLemmas.{where_told, where_tells, same_line}
 use Rattle.oss_grammar.proofs.PlaceLemmas.{none_of, one_of_left, one_of_right, one_of_two}
 use Rattle.oss_grammar.proofs.UnknownUses.{UnknownUse, other_kind, value_found, value_told}
@@ -404,22 +405,9 @@ module _ (line : ℕ) (all : List Item) (outer locals : List Local) where
 
 -- the clauses of a task have one scope
 module _ (line : ℕ) (all : List Item) (locals : List Local) where
-  one_scope : (before : ℕ) (c : Clause) → loop_clause_rules all locals locals before c ≡ clause_rules all locals before c
-  one_scope before (clause.Depend mode strong fresh ss) = refl
-  one_scope before (clause.If e) = refl
-  one_scope before (clause.Final e) = refl
-  one_scope before clause.Wait = refl
-  one_scope before (clause.Label name) = refl
-  one_scope before (clause.Priority e) = refl
-  one_scope before (clause.Grain e) = refl
-
-  same_scope : (before : ℕ) (cs : List Clause) → loop_clauses_rules all locals locals before cs ≡ clauses_rules all locals before cs
-  same_scope before [] = refl
-  same_scope before (c ∷ rest) = rw (one_scope before c, same_scope (before + length (sections_in c)) rest) refl
-
   pub clauses_found : (before : ℕ) (cs : List Clause) → IsOneOf (broken refused.UnknownName line) (clauses_rules all locals before cs) → ClausesUse line all locals locals cs
-  clauses_found before cs w = loop_clauses_found line all locals locals before cs (subst (λ (xs : List Refused). IsOneOf (broken refused.UnknownName line) xs) (sym (same_scope before cs)) w)
+  clauses_found before cs w = loop_clauses_found line all locals locals before cs (subst (λ (xs : List Refused). IsOneOf (broken refused.UnknownName line) xs) (sym (same_scope all locals before cs)) w)
 
   pub clauses_told : {name : List ℕ} {scope : List Local} (before : ℕ) (cs : List Clause) (c : Clause) → IsOneOf c cs → meaning all scope name ≡ named.Missing → UsesInClause locals locals name line c scope
       → IsOneOf (broken refused.UnknownName line) (clauses_rules all locals before cs)
-  clauses_told before cs c is m u = subst (λ (xs : List Refused). IsOneOf (broken refused.UnknownName line) xs) (same_scope before cs) (loop_clauses_told line all locals locals before cs c is m u)
+  clauses_told before cs c is m u = subst (λ (xs : List Refused). IsOneOf (broken refused.UnknownName line) xs) (same_scope all locals before cs) (loop_clauses_told line all locals locals before cs c is m u)

@@ -4,15 +4,13 @@
 --     { long $c = 0, $u = 8, $g = 4; if ($g < 1) $g = 1;
 --       while ($c < $u) { long i = $c, $e = $u; if ($u - $c > $g) $e = $c + $g; task out(a[i;4]) for (; i < $e; i++) S; $c = $e; } }
 -- which creates two tasks: in the clauses of the first `i` is 0, and in those of the second it is 4.
-use Rattle.std.specs.Prelude.{ℕ, Bool, true, false, List, [], ◌∷◌, ◌++◌, map, codes, Option, Some, None}
+use Rattle.std.specs.Prelude.{ℕ, false, List, [], ◌∷◌, map, codes, Option, Some, None}
 use Rattle.oss_syntax.specs.declared.tree.expr.BinOp.{BinOp}
 use Rattle.oss_syntax.specs.declared.tree.expr.BinOp.TheVariants as op
 use Rattle.oss_syntax.specs.declared.tree.expr.Expr.{Expr}
 use Rattle.oss_syntax.specs.declared.tree.expr.ExprKind.TheVariants as exprs
 use Rattle.oss_syntax.specs.declared.tree.pragma.Clause.{Clause}
 use Rattle.oss_syntax.specs.declared.tree.pragma.Clause.TheVariants as clause
-use Rattle.oss_syntax.specs.declared.tree.pragma.TaskMark.{TaskMark}
-use Rattle.oss_syntax.specs.declared.tree.program.Function.{Function}
 use Rattle.oss_syntax.specs.declared.tree.program.Item.{Item}
 use Rattle.oss_syntax.specs.declared.tree.program.Item.TheVariants as items
 use Rattle.oss_syntax.specs.declared.tree.program.Kind.TheVariants as kind
