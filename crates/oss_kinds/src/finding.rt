@@ -145,7 +145,10 @@ fn may_stand(wanted: Wanted, kind: ValueKind) -> bool
         (Wanted::NumberOrPointer, ValueKind::Signed) => true,
         (Wanted::NumberOrPointer, ValueKind::Unsigned) => true,
         (Wanted::NumberOrPointer, ValueKind::Pointer(_)) => true,
+        (Wanted::Indexed, ValueKind::Pointer(_)) => true,
+        (Wanted::Indexed, ValueKind::Rows(_)) => true,
         (Wanted::PointerTo(one), ValueKind::Pointer(other)) => are_same(one, other),
+        (Wanted::Anything, ValueKind::Rows(_)) => false,
         (Wanted::Anything, _) => true,
         _ => false,
     }

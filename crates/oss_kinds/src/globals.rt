@@ -99,11 +99,12 @@ impl<'p> Globals<'p> {
 }
 
 fn named_global(global: &GlobalDef) -> Named
-    ensures { result ≡ global_meaning global.now.cells global.now.kind }
+    ensures { result ≡ global_meaning global.now.cells global.now.columns global.now.kind }
 {
-    match global.cells {
-        None => Named::Scalar(global.kind),
-        Some(_) => Named::Array(global.kind),
+    match (global.cells, global.columns) {
+        (None, _) => Named::Scalar(global.kind),
+        (Some(_), None) => Named::Array(global.kind),
+        (Some(_), Some(_)) => Named::Grid(global.kind),
     }
 }
 

@@ -41,6 +41,7 @@ fn kind_of_name(named: Named) -> ValueKind
         Named::Local(kind) => kind_of(kind),
         Named::Scalar(number) => kind_of_number(number),
         Named::Array(number) => ValueKind::Pointer(number),
+        Named::Grid(number) => ValueKind::Rows(number),
         Named::Function => ValueKind::Unknown,
     }
 }
@@ -60,6 +61,7 @@ fn kind_of_element(kind: ValueKind) -> ValueKind
 {
     match kind {
         ValueKind::Pointer(number) => kind_of_number(number),
+        ValueKind::Rows(number) => ValueKind::Pointer(number),
         _ => ValueKind::Unknown,
     }
 }
@@ -78,7 +80,7 @@ fn object_of_element(kind: ValueKind) -> Object
 pub fn index(line: u32, base: Finding, index: Finding) -> Finding
     ensures { (a : Findings) → (e : Findings) → base ≡ seen a → index ≡ seen e → result ≡ seen (index_findings line a e) }
 {
-    let base = at_place(Wanted::Pointer, base);
+    let base = at_place(Wanted::Indexed, base);
     let index = at_place(Wanted::Number, index);
     Finding {
         line,
@@ -220,6 +222,7 @@ fn kind_of_both(left: ValueKind, right: ValueKind) -> ValueKind
         ValueKind::Signed => right,
         ValueKind::Unsigned => unless_it_is_unknown(right, left),
         ValueKind::Pointer(_) => unless_it_is_unknown(right, left),
+        ValueKind::Rows(_) => ValueKind::Unknown,
         ValueKind::Nothing => ValueKind::Unknown,
         ValueKind::Unknown => ValueKind::Unknown,
     }

@@ -3,11 +3,13 @@ ghost use Rattle.std.specs.Prelude.{◌≡◌, ◌++◌, ◌+◌, ◌≤◌, Non
 ghost use Rattle.oss_grammar.specs.Broken.{first};
 ghost use Rattle.oss_grammar.specs.ExpressionRules.{value_rules};
 ghost use Rattle.oss_grammar.specs.StaticRules.{wait_rules};
-ghost use Rattle.oss_grammar.specs.SectionRules.{begins_with_base, clause_rules, clauses_rules, fits_base, form_rules, has_elements, has_ints, is_array, is_fold, is_global, is_int, is_missing, is_wrong_section, optional_rules, section_rules, sections_in, sections_rules};
+ghost use Rattle.oss_grammar.specs.SectionRules.{begins_with_base, clause_rules, clauses_rules, fits_base, form_rules, has_elements, has_ints, inner_rules, is_array, is_fold, is_global, is_grid, is_int, is_missing, is_wrong_section, optional_rules, section_rules, sections_in, sections_rules};
 
 use oss_grammar::{Named, Wanted};
 use oss_kinds::{Globals, Locals, before, refused_if, value};
-use oss_syntax::{Clause, Expr, Form, Kind, List, Mode, NumKind, Refused, RefusedKind, Section};
+use oss_syntax::{
+    Clause, Expr, Form, Inner, Kind, List, Mode, NumKind, Refused, RefusedKind, Section,
+};
 
 /// The most sections of a pragma.
 const MOST_SECTIONS: usize = 64;
@@ -158,6 +160,34 @@ fn expressions(globals: &Globals<'_>, locals: &Locals<'_>, form: &Form) -> Optio
         Form::Element(place) => value(globals, locals, Wanted::Number, place),
         Form::Length(from, count) => both(globals, locals, from, count),
         Form::Span(lower, upper) => both_ends(globals, locals, lower, upper),
+        Form::Grid(rows, columns) => both_dimensions(globals, locals, rows, columns),
+    }
+}
+
+/// The first rule that the expressions of two dimensions break.
+#[tactic(auto, using(oss_kinds::proofs::Firsts::firsts))]
+fn both_dimensions(
+    globals: &Globals<'_>,
+    locals: &Locals<'_>,
+    rows: &Inner,
+    columns: &Inner,
+) -> Option<Refused>
+    ensures { result ≡ first (inner_rules globals.now locals.now rows.now ++ inner_rules globals.now locals.now columns.now) }
+{
+    before(
+        dimension(globals, locals, rows),
+        dimension(globals, locals, columns),
+    )
+}
+
+/// The first rule that the expressions of one dimension break.
+fn dimension(globals: &Globals<'_>, locals: &Locals<'_>, inner: &Inner) -> Option<Refused>
+    ensures { result ≡ first (inner_rules globals.now locals.now inner.now) }
+{
+    match inner {
+        Inner::Element(place) => value(globals, locals, Wanted::Number, place),
+        Inner::Length(from, count) => both(globals, locals, from, count),
+        Inner::Span(lower, upper) => both_ends(globals, locals, lower, upper),
     }
 }
 
@@ -213,8 +243,11 @@ fn fits(form: &Form, named: Named) -> bool
 {
     match form {
         Form::Whole => is_a_global(named),
+        Form::Deref => names_elements(named),
+        Form::Shape(_) => names_elements(named),
         Form::Span(_, None) => is_an_array(named),
-        _ => names_elements(named),
+        Form::Grid(_, _) => is_a_grid(named),
+        _ => names_elements(named) || is_a_grid(named),
     }
 }
 
@@ -224,6 +257,7 @@ fn is_a_global(named: Named) -> bool
     match named {
         Named::Scalar(_) => true,
         Named::Array(_) => true,
+        Named::Grid(_) => true,
         _ => false,
     }
 }
@@ -233,6 +267,16 @@ fn is_an_array(named: Named) -> bool
 {
     match named {
         Named::Array(_) => true,
+        Named::Grid(_) => true,
+        _ => false,
+    }
+}
+
+fn is_a_grid(named: Named) -> bool
+    ensures { result ≡ is_grid named }
+{
+    match named {
+        Named::Grid(_) => true,
         _ => false,
     }
 }
@@ -253,6 +297,7 @@ fn names_ints(named: Named) -> bool
     match named {
         Named::Scalar(number) => is_of_ints(number),
         Named::Array(number) => is_of_ints(number),
+        Named::Grid(number) => is_of_ints(number),
         Named::Local(Kind::Pointer(number)) => is_of_ints(number),
         _ => false,
     }
