@@ -1,4 +1,4 @@
-use Rattle.std.proofs.Common.{◌≡◌, ◌∙◌, Ok, Err, sym}
+use Rattle.std.proofs.Common.{◌∙◌, Ok, Err, sym}
 use Rattle.oss_syntax.specs.declared.refusal.Refusal.TheVariants as refusal
 use Rattle.oss_grammar.specs.StaticRules.{head_rules}
 use Rattle.oss_names.proofs.EndLemmas.{ends-more}
