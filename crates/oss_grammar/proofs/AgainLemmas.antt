@@ -29,8 +29,8 @@ use Rattle.oss_grammar.specs.Redeclarations.{item_line}
 use Rattle.oss_grammar.proofs.ScopedUses.{DeclaresAgain, LocalAgain}
 use Rattle.oss_grammar.proofs.ScopedUses.DeclaresAgain.{item_again, parameter_again, local_again}
 use Rattle.oss_grammar.specs.Scopes.{is_again, is_local_again, item_name}
-use Rattle.oss_grammar.specs.StaticRules.{declare_all, first_rules, is_wrong_return, local_rules, with_local}
-use Rattle.oss_grammar.proofs.ClauseKinds.{only_clauses, only_mark, only_wait}
+use Rattle.oss_grammar.specs.StaticRules.{declare_all, first_rules, is_wrong_return, local_rules, may_break, may_continue, with_local}
+use Rattle.oss_grammar.proofs.ClauseKinds.{only_clauses, only_head, only_mark, only_wait}
 use Rattle.oss_grammar.proofs.ItemLemmas.{FunctionPart, ItemPart, function_told, item_part, item_told}
 use Rattle.oss_grammar.proofs.ItemLemmas.FunctionPart.{in_mark, at_name, at_kind, in_params, in_body}
 use Rattle.oss_grammar.proofs.ItemLemmas.ItemPart.{at_global, at_function, behind_global, behind_function}
@@ -38,7 +38,7 @@ use Rattle.oss_grammar.proofs.KindLemmas.{Only, only_two, only_where, only_assig
 use Rattle.oss_grammar.proofs.NameLemmas.{again_named, item_is_again, local_named, names_local}
 use Rattle.oss_grammar.proofs.PlaceLemmas.{none_of, one_of_left, one_of_right, one_of_two, own_of, own_rules, stmt_view, FoundAmong, found_among, told_among}
 use Rattle.oss_grammar.proofs.TreeInduction.{StmtParts}
-use Rattle.oss_grammar.proofs.TreeInduction.StmtParts.{is_block, is_empty, is_declare, is_assign, is_call, is_print, is_if, is_while, is_for, is_return, is_break, is_continue, is_task, is_wait, is_release}
+use Rattle.oss_grammar.proofs.TreeInduction.StmtParts.{is_block, is_empty, is_declare, is_assign, is_call, is_print, is_if, is_while, is_for, is_return, is_break, is_continue, is_task, is_task_loop, is_wait, is_release}
 
 abbrev other_than_again : RefusedKind → Bool
 other_than_again refused.DuplicateName = false
@@ -98,9 +98,10 @@ module _ (all : List Item) (a : Around) (locals : List Local) (s : Stmt) (line :
   again_by (is_while e t is u) w = nothing_again (only_value other_than_again refl refl refl all locals wanted.Number e) (shown (open_stmt.While e t) (rw is (search (rules, stmt_folds))) w)
   again_by (is_for start test last t is u v q) w = nothing_again (only_optional other_than_again refl refl refl all (locals_behind_part (length locals) start locals) test) (shown (open_stmt.For start test last t) (rw is (search (rules, stmt_folds))) w)
   again_by (is_return e is) w = nothing_again (only_two (only_where other_than_again (is_wrong_return a.result e) refused.WrongKind s.line refl) (only_two (only_where other_than_again a.in_task refused.BadJump s.line refl) (only_returned other_than_again refl refl refl all locals a.result e))) (shown (open_stmt.Return e) (rw is (search (rules, stmt_folds))) w)
-  again_by (is_break is) w = nothing_again (only_where other_than_again (not a.in_loop) refused.BadJump s.line refl) (shown open_stmt.Break (rw is (search (rules, stmt_folds))) w)
-  again_by (is_continue is) w = nothing_again (only_where other_than_again (not a.in_loop) refused.BadJump s.line refl) (shown open_stmt.Continue (rw is (search (rules, stmt_folds))) w)
+  again_by (is_break is) w = nothing_again (only_where other_than_again (not (may_break a.nearest)) refused.BadJump s.line refl) (shown open_stmt.Break (rw is (search (rules, stmt_folds))) w)
+  again_by (is_continue is) w = nothing_again (only_where other_than_again (not (may_continue a.nearest)) refused.BadJump s.line refl) (shown open_stmt.Continue (rw is (search (rules, stmt_folds))) w)
   again_by (is_task mark t is u) w = nothing_again (only_clauses other_than_again refl refl refl refl all locals 0 mark.clauses) (shown (open_stmt.Task mark t) (rw is (search (rules, stmt_folds))) w)
+  again_by (is_task_loop head t is u) w = nothing_again (only_head other_than_again refl refl refl refl all locals head) (shown (open_stmt.TaskLoop head t) (rw is (search (rules, stmt_folds))) w)
   again_by (is_wait sections is) w = nothing_again (only_wait other_than_again refl refl refl refl all locals sections) (shown (open_stmt.TaskWait sections) (rw is (search (rules, stmt_folds))) w)
   again_by (is_release clauses is) w = nothing_again (only_clauses other_than_again refl refl refl refl all locals 0 clauses) (shown (open_stmt.Release clauses) (rw is (search (rules, stmt_folds))) w)
 

@@ -8,15 +8,16 @@ use Rattle.oss_syntax.specs.declared.tree.stmt.StmtKind.{out-StmtKind}
 use Rattle.oss_syntax.specs.declared.tree.stmt.StmtKind.TheVariants as stmts
 use Rattle.oss_grammar.specs.declared.kinds.Around.{Around}
 use Rattle.oss_grammar.specs.ProgramRules.{body_around}
-use Rattle.oss_grammar.specs.StaticRules.{in_a_loop, in_a_task, scope_in}
+use Rattle.oss_grammar.specs.Scopes.{loop_locals}
+use Rattle.oss_grammar.specs.StaticRules.{in_a_loop, in_a_task, in_a_task_loop, scope_in}
 use Rattle.oss_grammar.specs.Places.{declarators_of}
 use Rattle.oss_grammar.specs.Redeclarations.{AgainAmong, AgainInside, DeclaratorAgain, DeclaresAgain, RedeclarationsAreTold}
 use Rattle.oss_grammar.specs.Redeclarations.AgainAmong.{at_declaration, in_statement, behind_statement}
-use Rattle.oss_grammar.specs.Redeclarations.AgainInside.{in_block as inside_in_block, in_else as inside_in_else, in_for_body as inside_in_for_body, in_for_last as inside_in_for_last, in_for_start as inside_in_for_start, in_task_body as inside_in_task_body, in_then as inside_in_then, in_while as inside_in_while}
+use Rattle.oss_grammar.specs.Redeclarations.AgainInside.{in_block as inside_in_block, in_else as inside_in_else, in_for_body as inside_in_for_body, in_for_last as inside_in_for_last, in_for_start as inside_in_for_start, in_task_body as inside_in_task_body, in_task_loop_body as inside_in_task_loop_body, in_then as inside_in_then, in_while as inside_in_while}
 use Rattle.oss_grammar.specs.Redeclarations.DeclaresAgain.{item_again, parameter_again, local_again}
 use Rattle.oss_grammar.proofs.AgainLemmas.{only_told, is_told}
 use Rattle.oss_grammar.proofs.ScopedPlaces.{StandsIn, StandsAmong, locals_behind, locals_behind_part, scope_behind}
-use Rattle.oss_grammar.proofs.ScopedPlaces.StandsIn.{in_block as scoped_in_block, in_else as scoped_in_else, in_for_body as scoped_in_for_body, in_for_last as scoped_in_for_last, in_for_start as scoped_in_for_start, in_task_body as scoped_in_task_body, in_then as scoped_in_then, in_while as scoped_in_while, itself as scoped_itself}
+use Rattle.oss_grammar.proofs.ScopedPlaces.StandsIn.{in_block as scoped_in_block, in_else as scoped_in_else, in_for_body as scoped_in_for_body, in_for_last as scoped_in_for_last, in_for_start as scoped_in_for_start, in_task_body as scoped_in_task_body, in_task_loop_body as scoped_in_task_loop_body, in_then as scoped_in_then, in_while as scoped_in_while, itself as scoped_itself}
 use Rattle.oss_grammar.proofs.ScopedPlaces.StandsAmong.{in_first, in_rest}
 use Rattle.oss_grammar.proofs.ScopedUses.{LocalAgain, DeclaresAgain as ScopedAgain}
 use Rattle.oss_grammar.proofs.ScopedUses.DeclaresAgain.{item_again as told_as_item_again, local_again as told_as_local_again, parameter_again as told_as_parameter_again}
@@ -43,6 +44,7 @@ module _ (line : ℕ) where
     again_in {locals = locals} rest (scoped_in_for_body start test last r e w) is d sc =
         in_statement (inside_in_for_body start test last r e (again_in [] w is d (new_scope (locals_behind_part (length locals) start locals))))
     again_in {locals = locals} rest (scoped_in_task_body mark r e w) is d sc = in_statement (inside_in_task_body mark r e (again_in [] w is d (new_scope locals)))
+    again_in {locals = locals} rest (scoped_in_task_loop_body head r e w) is d sc = in_statement (inside_in_task_loop_body head r e (again_in [] w is d (new_scope (loop_locals head locals))))
 
     again_among : {b : Around} {visible : List Local} {t : Stmt} {a : Around} {locals : List Local} {body : List Stmt} {declared before : List Local} → StandsAmong b visible t a locals body
         → t.what ≡ stmts.Declare declared → LocalAgain b.start visible declared line → ScopeIs a.start locals before → AgainAmong line before body
@@ -110,6 +112,9 @@ module _ (line : ℕ) where
         lift (λ c v u d. scoped_in_for_body start test last r is d)
         (alone (told_among w (scope_in (in_a_loop a) (locals_behind_part (length locals) start locals)) (locals_behind_part (length locals) start locals) (new_scope (locals_behind_part (length locals) start locals))))
     told_in (inside_in_task_body mark r is w) a locals = lift (λ c v u d. scoped_in_task_body mark r is d) (alone (told_among w (scope_in (in_a_task a) locals) locals (new_scope locals)))
+    told_in (inside_in_task_loop_body head r is w) a locals =
+        lift (λ c v u d. scoped_in_task_loop_body head r is d)
+        (alone (told_among w (scope_in (in_a_task_loop a) (loop_locals head locals)) (loop_locals head locals) (new_scope (loop_locals head locals))))
 
 params_scope : (f : Function) → ScopeIs 0 (scope_behind 0 f.params []) f.params
 params_scope f = scope_is_behind f.params (new_scope [])

@@ -18,23 +18,23 @@ use Rattle.oss_grammar.specs.declared.kinds.Wanted.TheVariants as wanted
 use Rattle.oss_grammar.specs.Broken.{broken, where_so}
 use Rattle.oss_grammar.specs.Jumps.{HasBadJump, BadJumpsAreTold}
 use Rattle.oss_grammar.specs.Jumps.HasBadJump.{leaves_function, leaves_a_task}
-use Rattle.oss_grammar.proofs.JumpPlaces.{JumpsOut, Out, OutAmong, JumpsAmong, among, out_among, leaves_jumps, task_leaves_jumps}
+use Rattle.oss_grammar.proofs.JumpPlaces.{JumpsOut, Out, OutAmong, JumpsAmong, among, breaks_leave, out_among, leaves_jumps, task_leaves_jumps}
 use Rattle.oss_grammar.proofs.JumpPlaces.JumpsOut.{break_out, continue_out, return_out}
-use Rattle.oss_grammar.proofs.JumpPlaces.Out.{leaving, returning, task_leaving}
+use Rattle.oss_grammar.proofs.JumpPlaces.Out.{leaving, breaking, returning, task_leaving}
 use Rattle.oss_grammar.specs.Places.{IsOneOf}
 use Rattle.oss_grammar.proofs.ScopedPlaces.{locals_behind_part, scope_behind}
 use Rattle.oss_grammar.specs.ProgramRules.{body_around, has_main, is_wrong_function, items_rules, passes_cells, program_rules}
 use Rattle.oss_grammar.specs.Scopes.{is_again}
 use Rattle.oss_grammar.specs.Places.IsOneOf.{first_of_them, later_of_them}
-use Rattle.oss_grammar.specs.StaticRules.{returned_rules, rules_of_all, is_wrong_return}
-use Rattle.oss_grammar.proofs.ClauseKinds.{only_clauses, only_wait, only_declared, only_mark}
+use Rattle.oss_grammar.specs.StaticRules.{may_break, may_continue, returned_rules, rules_of_all, is_wrong_return}
+use Rattle.oss_grammar.proofs.ClauseKinds.{only_clauses, only_head, only_wait, only_declared, only_mark}
 use Rattle.oss_grammar.proofs.ItemLemmas.{FunctionPart, ItemPart, function_told, item_part, item_told}
 use Rattle.oss_grammar.proofs.ItemLemmas.FunctionPart.{in_mark, at_name, at_kind, in_params, in_body}
 use Rattle.oss_grammar.proofs.ItemLemmas.ItemPart.{at_global, at_function, behind_global, behind_function}
 use Rattle.oss_grammar.proofs.KindLemmas.{Only, same_line, where_told, where_tells, only_two, only_where, only_assign, only_call_statement, only_optional, only_print, only_value, only_returned}
 use Rattle.oss_grammar.proofs.PlaceLemmas.{none_of, one_of_left, one_of_right, one_of_two, own_of, own_rules, stmt_view, FoundAmong, found_among, told_among}
 use Rattle.oss_grammar.proofs.TreeInduction.{StmtParts}
-use Rattle.oss_grammar.proofs.TreeInduction.StmtParts.{is_block, is_empty, is_declare, is_assign, is_call, is_print, is_if, is_while, is_for, is_return, is_break, is_continue, is_task, is_wait, is_release}
+use Rattle.oss_grammar.proofs.TreeInduction.StmtParts.{is_block, is_empty, is_declare, is_assign, is_call, is_print, is_if, is_while, is_for, is_return, is_break, is_continue, is_task, is_task_loop, is_wait, is_release}
 
 abbrev other_than_jump : RefusedKind → Bool
 other_than_jump refused.BadJump = false
@@ -78,13 +78,14 @@ module _ (all : List Item) (a : Around) (locals : List Local) (s : Stmt) (line :
         ⊎ IsOneOf (broken refused.BadJump line) (where_so a.in_task refused.BadJump s.line ++ returned_rules all locals a.result e) → OutAt a s line
     wrong (inl u) = no_jump (only_where other_than_jump (is_wrong_return a.result e) refused.WrongKind s.line refl) u
     wrong (inr u) = in_task (one_of_two (where_so a.in_task refused.BadJump s.line) (returned_rules all locals a.result e) u)
-  jump_by (is_break is) w = put (where_told (not a.in_loop) refused.BadJump s.line (shown open_stmt.Break (rw is (search (rules, stmt_folds))) w)) where
-    put : (not a.in_loop ≡ true) × (broken refused.BadJump s.line ≡ broken refused.BadJump line) → OutAt a s line
-    put e = record { out = break_out is (is_false a.in_loop e.0); on_line = same_line e.1 }
-  jump_by (is_continue is) w = put (where_told (not a.in_loop) refused.BadJump s.line (shown open_stmt.Continue (rw is (search (rules, stmt_folds))) w)) where
-    put : (not a.in_loop ≡ true) × (broken refused.BadJump s.line ≡ broken refused.BadJump line) → OutAt a s line
-    put e = record { out = continue_out is (is_false a.in_loop e.0); on_line = same_line e.1 }
+  jump_by (is_break is) w = put (where_told (not (may_break a.nearest)) refused.BadJump s.line (shown open_stmt.Break (rw is (search (rules, stmt_folds))) w)) where
+    put : (not (may_break a.nearest) ≡ true) × (broken refused.BadJump s.line ≡ broken refused.BadJump line) → OutAt a s line
+    put e = record { out = break_out is (is_false (may_break a.nearest) e.0); on_line = same_line e.1 }
+  jump_by (is_continue is) w = put (where_told (not (may_continue a.nearest)) refused.BadJump s.line (shown open_stmt.Continue (rw is (search (rules, stmt_folds))) w)) where
+    put : (not (may_continue a.nearest) ≡ true) × (broken refused.BadJump s.line ≡ broken refused.BadJump line) → OutAt a s line
+    put e = record { out = continue_out is (is_false (may_continue a.nearest) e.0); on_line = same_line e.1 }
   jump_by (is_task mark t is u) w = no_jump (only_clauses other_than_jump refl refl refl refl all locals 0 mark.clauses) (shown (open_stmt.Task mark t) (rw is (search (rules, stmt_folds))) w)
+  jump_by (is_task_loop head t is u) w = no_jump (only_head other_than_jump refl refl refl refl all locals head) (shown (open_stmt.TaskLoop head t) (rw is (search (rules, stmt_folds))) w)
   jump_by (is_wait sections is) w = no_jump (only_wait other_than_jump refl refl refl refl all locals sections) (shown (open_stmt.TaskWait sections) (rw is (search (rules, stmt_folds))) w)
   jump_by (is_release clauses is) w = no_jump (only_clauses other_than_jump refl refl refl refl all locals 0 clauses) (shown (open_stmt.Release clauses) (rw is (search (rules, stmt_folds))) w)
 
@@ -92,8 +93,8 @@ module _ (all : List Item) (a : Around) (locals : List Local) (s : Stmt) (line :
   kept k e w = subst (λ (i : StmtKind-F StmtKind Stmt). IsOneOf (broken refused.BadJump line) (own_of i s.line all a locals)) (sym e) w
 
   jump_told : JumpsOut a s → s.line ≡ line → IsOneOf (broken refused.BadJump line) (own_rules all a locals s)
-  jump_told (break_out is out) same = kept open_stmt.Break (rw is (search (rules, stmt_folds))) (where_tells refused.BadJump (is_true a.in_loop out) same)
-  jump_told (continue_out is out) same = kept open_stmt.Continue (rw is (search (rules, stmt_folds))) (where_tells refused.BadJump (is_true a.in_loop out) same)
+  jump_told (break_out is out) same = kept open_stmt.Break (rw is (search (rules, stmt_folds))) (where_tells refused.BadJump (is_true (may_break a.nearest) out) same)
+  jump_told (continue_out is out) same = kept open_stmt.Continue (rw is (search (rules, stmt_folds))) (where_tells refused.BadJump (is_true (may_continue a.nearest) out) same)
   jump_told (return_out e is out) same = kept (open_stmt.Return e) (rw is (search (rules, stmt_folds)))
       (one_of_right (where_so (is_wrong_return a.result e) refused.WrongKind s.line) (one_of_left (returned_rules all locals a.result e) (where_tells refused.BadJump out same)))
 
@@ -132,6 +133,7 @@ module _ (p : Program) (line : ℕ) where
   by_out f is o = put o.out where
     put : Out line (body_around f.result) o.statement → HasBadJump p line
     put (leaving free l) = leaves_function f o.statement is o.is_listed l
+    put (breaking free b) = leaves_function f o.statement is o.is_listed (breaks_leave line b)
     put (returning held r) = absurd (cc)
     put (task_leaving l) = leaves_a_task f o.statement is o.is_listed l
 

@@ -4,6 +4,8 @@ pub mod AnswerLemmas
 pub mod BodyLines
 pub mod ClauseKinds
 pub mod ClauseLines
+pub mod ClauseScopes
+pub mod ClauseUses
 pub mod CountedLemmas
 pub mod ExpressionLines
 pub mod FirstRule

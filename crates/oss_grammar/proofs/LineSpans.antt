@@ -131,6 +131,10 @@ on_insert {line} b same (on_next {rule = c} {rest = rest} e on) = (let more : Al
 pub where_then : {P : ℕ → Type 0} {high low line : ℕ} {ys : List Refused} (b : Bool) (kind : RefusedKind) → low ≤ line → P line → Within P high line ys → Within P high low (where_so b kind line ++ ys)
 where_then {line = line} b kind le has w = on_then le has (on_where b kind line) w
 
+pub where_within : {P : ℕ → Type 0} {high low line : ℕ} (b : Bool) (kind : RefusedKind) → low ≤ line → line ≤ high → P line → Within P high low (where_so b kind line)
+where_within true kind le he has = within_next le has (within_end he)
+where_within false kind le he has = within_end (omega arith)
+
 -- What is found of an expression between two lines: its first token is on this line, and the rules behind it rise.
 pub record Lies (P : ℕ → Type 0) (high low line : ℕ) (f : Findings) : Type 0 where
   pub at : f.line ≡ line

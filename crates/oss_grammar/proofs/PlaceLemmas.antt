@@ -16,19 +16,19 @@ use Rattle.oss_grammar.specs.declared.kinds.Wanted.TheVariants as wanted
 use Rattle.oss_grammar.specs.Broken.{where_so}
 use Rattle.oss_grammar.specs.ExpressionRules.{call_findings, findings, value_rules}
 use Rattle.oss_grammar.specs.Kinds.{all_of}
-use Rattle.oss_grammar.specs.Scopes.{is_local_again}
+use Rattle.oss_grammar.specs.Scopes.{is_local_again, loop_locals}
 use Rattle.oss_grammar.specs.Places.{IsOneOf}
 use Rattle.oss_grammar.proofs.ScopedPlaces.{StandsIn, StandsAmong, scope_behind, locals_behind, locals_behind_part}
 use Rattle.oss_grammar.specs.Places.IsOneOf.{first_of_them, later_of_them}
-use Rattle.oss_grammar.proofs.ScopedPlaces.StandsIn.{itself, in_block, in_then, in_else, in_while, in_for_start, in_for_last, in_for_body, in_task_body}
+use Rattle.oss_grammar.proofs.ScopedPlaces.StandsIn.{itself, in_block, in_then, in_else, in_while, in_for_start, in_for_last, in_for_body, in_task_body, in_task_loop_body}
 use Rattle.oss_grammar.proofs.ScopedPlaces.StandsAmong.{in_first, in_rest}
 use Rattle.oss_grammar.specs.SectionRules.{clauses_rules, optional_rules}
-use Rattle.oss_grammar.specs.StaticRules.{assign_rules, declare_all, in_a_loop, in_a_task, print_rules, return_rules, rules_of, rules_of_all, part_rules, scope_in, Judged, wait_rules, with_local}
-use Rattle.oss_grammar.proofs.RuleEquations.{rules-block, rules-empty, rules-declare, rules-assign, rules-call, rules-print, rules-if, rules-while, rules-for, rules-return, rules-break, rules-continue, rules-task, rules-wait, rules-release}
+use Rattle.oss_grammar.specs.StaticRules.{assign_rules, declare_all, head_rules, in_a_loop, in_a_task, in_a_task_loop, may_break, may_continue, print_rules, return_rules, rules_of, rules_of_all, part_rules, scope_in, Judged, wait_rules, with_local}
+use Rattle.oss_grammar.proofs.RuleEquations.{rules-block, rules-empty, rules-declare, rules-assign, rules-call, rules-print, rules-if, rules-while, rules-for, rules-return, rules-break, rules-continue, rules-task, rules-task-loop, rules-wait, rules-release}
 use Rattle.oss_grammar.proofs.TreeInduction.{Each, Any, StmtParts, stmt_induction}
 use Rattle.oss_grammar.proofs.TreeInduction.Each.{each_none, each_more}
 use Rattle.oss_grammar.proofs.TreeInduction.Any.{any_none, any_some}
-use Rattle.oss_grammar.proofs.TreeInduction.StmtParts.{is_block, is_empty, is_declare, is_assign, is_call, is_print, is_if, is_while, is_for, is_return, is_break, is_continue, is_task, is_wait, is_release}
+use Rattle.oss_grammar.proofs.TreeInduction.StmtParts.{is_block, is_empty, is_declare, is_assign, is_call, is_print, is_if, is_while, is_for, is_return, is_break, is_continue, is_task, is_task_loop, is_wait, is_release}
 
 -- one of two lists in a row
 pub none_of : {A C : Type 0} {x : A} → IsOneOf x [] → C
@@ -62,9 +62,10 @@ own_of (open_stmt.If e s o) line all a locals = value_rules all locals wanted.Nu
 own_of (open_stmt.While e s) line all a locals = value_rules all locals wanted.Number e
 own_of (open_stmt.For start test last s) line all a locals = optional_rules all (locals_behind_part (length locals) start locals) test
 own_of (open_stmt.Return e) line all a locals = return_rules all locals a line e
-own_of open_stmt.Break line all a locals = where_so (not a.in_loop) refused.BadJump line
-own_of open_stmt.Continue line all a locals = where_so (not a.in_loop) refused.BadJump line
+own_of open_stmt.Break line all a locals = where_so (not (may_break a.nearest)) refused.BadJump line
+own_of open_stmt.Continue line all a locals = where_so (not (may_continue a.nearest)) refused.BadJump line
 own_of (open_stmt.Task mark s) line all a locals = clauses_rules all locals 0 mark.clauses
+own_of (open_stmt.TaskLoop head s) line all a locals = head_rules all locals head
 own_of (open_stmt.TaskWait sections) line all a locals = wait_rules all locals sections
 own_of (open_stmt.Release clauses) line all a locals = clauses_rules all locals 0 clauses
 
@@ -100,6 +101,7 @@ module _ {Q : Stmt → Type 0} where
   forget (is_break is) = is_break is
   forget (is_continue is) = is_continue is
   forget (is_task mark t is u) = is_task mark t is tt
+  forget (is_task_loop head t is u) = is_task_loop head t is tt
   forget (is_wait sections is) = is_wait sections is
   forget (is_release clauses is) = is_release clauses is
 
@@ -121,6 +123,7 @@ module _ (all : List Item) (a : Around) (locals : List Local) (s : Stmt) where
   scope_by (is_break is) = rw (rules-break s all a locals is, is) (search (rules, stmt_folds))
   scope_by (is_continue is) = rw (rules-continue s all a locals is, is) (search (rules, stmt_folds))
   scope_by (is_task mark t is u) = rw (rules-task s all a locals mark t is, is) (search (rules, stmt_folds))
+  scope_by (is_task_loop head t is u) = rw (rules-task-loop s all a locals head t is, is) (search (rules, stmt_folds))
   scope_by (is_wait sections is) = rw (rules-wait s all a locals sections is, is) (search (rules, stmt_folds))
   scope_by (is_release clauses is) = rw (rules-release s all a locals clauses is, is) (search (rules, stmt_folds))
 
@@ -226,6 +229,13 @@ module _ (all : List Item) (x : Refused) where
     parts : IsOneOf x (clauses_rules all locals 0 mark.clauses) ⊎ IsOneOf x (rules_of t all (scope_in (in_a_task a) locals) locals).broken → Found all x a locals s
     parts (inl y) = at_itself a locals s (open_stmt.Task mark t) (rw is (search (rules, stmt_folds))) y
     parts (inr y) = up (λ c visible z d. in_task_body mark t is d) (u (scope_in (in_a_task a) locals) locals y)
+  found_by s (is_task_loop head t is u) a locals w = parts (one_of_two (head_rules all locals head) (rules_of t all (scope_in (in_a_task_loop a) inside) inside).broken (along (rules-task-loop s all a locals head t is) w)) where
+    inside : List Local
+    inside = loop_locals head locals
+
+    parts : IsOneOf x (head_rules all locals head) ⊎ IsOneOf x (rules_of t all (scope_in (in_a_task_loop a) inside) inside).broken → Found all x a locals s
+    parts (inl y) = at_itself a locals s (open_stmt.TaskLoop head t) (rw is (search (rules, stmt_folds))) y
+    parts (inr y) = up (λ c visible z d. in_task_loop_body head t is d) (u (scope_in (in_a_task_loop a) inside) inside y)
   found_by s (is_for start test last t is u v q) a locals w = for_parts (one_of_two from_start behind (subst (λ (i : List Refused). IsOneOf x i) (for_broken all a locals s start test last t is) w)) where
     more : List Local
     more = locals_behind_part (length locals) start locals
@@ -290,6 +300,7 @@ module _ (all : List Item) (x : Refused) where
   itself_told a locals s (is_while e t is u) w = back (rules-while s all a locals e t is) (one_of_left _ (own_told a locals s (open_stmt.While e t) (rw is (search (rules, stmt_folds))) w))
   itself_told a locals s (is_for start test last t is u v q) w = subst (λ (i : List Refused). IsOneOf x i) (sym (for_broken all a locals s start test last t is)) (one_of_right (part_rules (option_map rules_of start) all (scope_in a locals) locals).broken (one_of_left _ (own_told a locals s (open_stmt.For start test last t) (rw is (search (rules, stmt_folds))) w)))
   itself_told a locals s (is_task mark t is u) w = back (rules-task s all a locals mark t is) (one_of_left _ (own_told a locals s (open_stmt.Task mark t) (rw is (search (rules, stmt_folds))) w))
+  itself_told a locals s (is_task_loop head t is u) w = back (rules-task-loop s all a locals head t is) (one_of_left _ (own_told a locals s (open_stmt.TaskLoop head t) (rw is (search (rules, stmt_folds))) w))
 
   mutual
     pub told_in : {b : Around} {visible : List Local} {t : Stmt} {a : Around} {locals : List Local} {s : Stmt} → StandsIn b visible t a locals s → IsOneOf x (own_rules all b visible t) → IsOneOf x (rules_of s all a locals).broken
@@ -311,6 +322,7 @@ module _ (all : List Item) (x : Refused) where
         (one_of_right (optional_rules all (locals_behind_part (length locals) start locals) test)
         (one_of_right (part_rules (option_map rules_of last) all (scope_in a (locals_behind_part (length locals) start locals)) (locals_behind_part (length locals) start locals)).broken (told_in d w))))
     told_in {a = a} {locals = locals} {s = s} (in_task_body mark r is d) w = back (rules-task s all a locals mark r is) (one_of_right (clauses_rules all locals 0 mark.clauses) (told_in d w))
+    told_in {a = a} {locals = locals} {s = s} (in_task_loop_body head r is d) w = back (rules-task-loop s all a locals head r is) (one_of_right (head_rules all locals head) (told_in d w))
 
     pub told_among : {b : Around} {visible : List Local} {t : Stmt} {a : Around} {locals : List Local} {body : List Stmt} → StandsAmong b visible t a locals body → IsOneOf x (own_rules all b visible t)
         → IsOneOf x (rules_of_all body all a locals).broken

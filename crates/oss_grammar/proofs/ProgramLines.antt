@@ -65,7 +65,7 @@ module _ (all : List Item) where
 
   mark_lies : {P : ℕ → Type 0} {ts : List Token} {mark : Option TaskMark} {high low : ℕ} (locals : List Local) → IsMark ts mark → Span P high low ts → Within P high low (mark_rules all locals mark)
   mark_lies locals (no_mark split) w = within_end (span_order w)
-  mark_lies locals (some_mark d) w = pragma_lies all locals d w
+  mark_lies locals (some_mark d) w = pragma_lies all locals locals d w
 
   function_lies : {P : ℕ → Type 0} {ts : List Token} {f : Function} {high low : ℕ} (i : ℕ) → IsFunction ts f → Span P high low ts → Within P high low (function_rules all i f)
   function_lies {f = f} i (function {params = params} marked front t word opened inner closed begins within ends split mark result is1 is2 ps is3 is4 body is5) w =

@@ -10,6 +10,7 @@ use Rattle.oss_syntax.specs.declared.tree.pragma.Section.{Section}
 use Rattle.oss_syntax.specs.declared.tree.pragma.TaskMark.{TaskMark}
 use Rattle.oss_syntax.specs.declared.tree.program.Item.{Item}
 use Rattle.oss_syntax.specs.declared.tree.program.Local.{Local}
+use Rattle.oss_syntax.specs.declared.tree.stmt.LoopHead.{LoopHead}
 use Rattle.oss_syntax.specs.declared.tree.stmt.Stmt.{Stmt}
 use Rattle.oss_syntax.specs.declared.tree.stmt.StmtKind.TheVariants as stmts
 use Rattle.oss_syntax.specs.declared.tree.stmt.StmtKind.TheFolds.{the_lemmas as stmt_folds}
@@ -19,9 +20,9 @@ use Rattle.oss_grammar.specs.declared.kinds.Wanted.TheVariants as wanted
 use Rattle.oss_grammar.specs.Broken.{where_so}
 use Rattle.oss_grammar.specs.ExpressionRules.{call_findings, findings, value_rules}
 use Rattle.oss_grammar.specs.Kinds.{all_of, number_findings, name_findings, index_findings, unary_findings, binary_findings}
-use Rattle.oss_grammar.specs.Scopes.{meaning}
+use Rattle.oss_grammar.specs.Scopes.{loop_locals, meaning}
 use Rattle.oss_grammar.specs.SectionRules.{clauses_rules}
-use Rattle.oss_grammar.specs.StaticRules.{assign_rules, declare_all, for_rules, in_a_loop, in_a_task, inner, inner_part, judged, print_rules, return_rules, rules_of, rules_of_all, then_judge, wait_rules}
+use Rattle.oss_grammar.specs.StaticRules.{alone, assign_rules, declare_all, for_rules, head_rules, in_a_loop, in_a_task, in_a_task_loop, inner, inner_part, judged, may_break, may_continue, print_rules, return_rules, rules_of, rules_of_all, then_judge, wait_rules}
 
 module _ (s : Stmt) (all : List Item) (a : Around) (locals : List Local) where
   pub rules-block : (body : List Stmt) → s.what ≡ stmts.Block body → rules_of s all a locals ≡ inner (rules_of_all body) all a locals
@@ -59,15 +60,19 @@ module _ (s : Stmt) (all : List Item) (a : Around) (locals : List Local) where
   pub rules-return : (e : Option Expr) → s.what ≡ stmts.Return e → rules_of s all a locals ≡ judged (return_rules all locals a s.line e) locals
   rules-return e is = rw is (search (rules, stmt_folds))
 
-  pub rules-break : s.what ≡ stmts.Break → rules_of s all a locals ≡ judged (where_so (not a.in_loop) refused.BadJump s.line) locals
+  pub rules-break : s.what ≡ stmts.Break → rules_of s all a locals ≡ judged (where_so (not (may_break a.nearest)) refused.BadJump s.line) locals
   rules-break is = rw is (search (rules, stmt_folds))
 
-  pub rules-continue : s.what ≡ stmts.Continue → rules_of s all a locals ≡ judged (where_so (not a.in_loop) refused.BadJump s.line) locals
+  pub rules-continue : s.what ≡ stmts.Continue → rules_of s all a locals ≡ judged (where_so (not (may_continue a.nearest)) refused.BadJump s.line) locals
   rules-continue is = rw is (search (rules, stmt_folds))
 
   pub rules-task : (mark : TaskMark) (t : Stmt) → s.what ≡ stmts.Task mark t
       → rules_of s all a locals ≡ then_judge (judged (clauses_rules all locals 0 mark.clauses) locals) (λ ls. inner (rules_of t) all (in_a_task a) ls)
   rules-task mark t is = rw is (search (rules, stmt_folds))
+
+  pub rules-task-loop : (head : LoopHead) (t : Stmt) → s.what ≡ stmts.TaskLoop head t
+      → rules_of s all a locals ≡ alone (then_judge (judged (head_rules all locals head) (loop_locals head locals)) (λ ls. inner (rules_of t) all (in_a_task_loop a) ls)) locals
+  rules-task-loop head t is = rw is (search (rules, stmt_folds))
 
   pub rules-wait : (sections : Option (List Section)) → s.what ≡ stmts.TaskWait sections → rules_of s all a locals ≡ judged (wait_rules all locals sections) locals
   rules-wait sections is = rw is (search (rules, stmt_folds))

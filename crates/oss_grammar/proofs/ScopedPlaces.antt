@@ -6,13 +6,14 @@ use Rattle.oss_syntax.specs.declared.tree.program.Function.{Function}
 use Rattle.oss_syntax.specs.declared.tree.program.Item.TheVariants as items
 use Rattle.oss_syntax.specs.declared.tree.program.Local.{Local}
 use Rattle.oss_syntax.specs.declared.tree.program.Program.{Program}
+use Rattle.oss_syntax.specs.declared.tree.stmt.LoopHead.{LoopHead}
 use Rattle.oss_syntax.specs.declared.tree.stmt.Stmt.{Stmt}
 use Rattle.oss_syntax.specs.declared.tree.stmt.StmtKind.{out-StmtKind}
 use Rattle.oss_syntax.specs.declared.tree.stmt.StmtKind.TheVariants as stmts
 use Rattle.oss_grammar.specs.declared.kinds.Around.{Around}
 use Rattle.oss_grammar.specs.ProgramRules.{body_around}
-use Rattle.oss_grammar.specs.Scopes.{is_local_again}
-use Rattle.oss_grammar.specs.StaticRules.{in_a_loop, in_a_task, scope_in, with_local}
+use Rattle.oss_grammar.specs.Scopes.{is_local_again, loop_locals}
+use Rattle.oss_grammar.specs.StaticRules.{in_a_loop, in_a_task, in_a_task_loop, scope_in, with_local}
 use Rattle.oss_grammar.specs.Places.{IsOneOf, declarators_of}
 
 -- The locals in scope behind declarators: each comes into scope behind its own, unless its name is declared in this scope before.
@@ -31,7 +32,8 @@ locals_behind_part start (Some s) locals = locals_behind start s locals
 
 -- A statement stands in another, or is it: with these things around it and these locals in scope, if the other has those. Each block
 -- is a scope of its own, and so is a branch, the body of a loop or of a task, and a whole `for`, whose first part is in scope
--- in all of it. The body of a loop stands in a loop; the body of a task stands in a task, and in no loop of those around the task.
+-- in all of it. The body of a loop stands in a loop; the body of a task stands in a task, and in no loop of those around the task; the
+-- statement of a task loop stands in a task too, behind the locals of the loop.
 mutual
   pub data StandsIn (b : Around) (visible : List Local) (t : Stmt) : Around → List Local → Stmt → Type 0 where
     itself : StandsIn b visible t b visible t
@@ -51,6 +53,8 @@ mutual
         → StandsIn b visible t (scope_in (in_a_loop a) (locals_behind_part (length locals) start locals)) (locals_behind_part (length locals) start locals) body → StandsIn b visible t a locals s
     in_task_body : {a : Around} {locals : List Local} {s : Stmt} (mark : TaskMark) (body : Stmt) → s.what ≡ stmts.Task mark body
         → StandsIn b visible t (scope_in (in_a_task a) locals) locals body → StandsIn b visible t a locals s
+    in_task_loop_body : {a : Around} {locals : List Local} {s : Stmt} (head : LoopHead) (body : Stmt) → s.what ≡ stmts.TaskLoop head body
+        → StandsIn b visible t (scope_in (in_a_task_loop a) (loop_locals head locals)) (loop_locals head locals) body → StandsIn b visible t a locals s
 
   -- the same of statements in a row: behind a declaration its locals are in scope
   pub data StandsAmong (b : Around) (visible : List Local) (t : Stmt) : Around → List Local → List Stmt → Type 0 where

@@ -2,6 +2,7 @@
 use Rattle.oss_grammar.proofs.ScopedPlaces.{Stands, locals_behind_part, scope_behind}
 use Rattle.oss_grammar.specs.Places.{IsOneOf}
 use Rattle.oss_grammar.specs.Redeclarations.{ItemAgain, NamesLocal}
+use Rattle.oss_grammar.specs.Scopes.{loop_locals}
 use Rattle.oss_grammar.specs.UnknownNames.{IsUnknown, Uses, UsesInClauses, UsesInSections, UsesInSome}
 use Rattle.oss_grammar.specs.declared.kinds.Around.{Around}
 use Rattle.oss_syntax.specs.declared.tree.expr.BinOp.{BinOp}
@@ -13,6 +14,7 @@ use Rattle.oss_syntax.specs.declared.tree.program.Function.{Function}
 use Rattle.oss_syntax.specs.declared.tree.program.Item.TheVariants as items
 use Rattle.oss_syntax.specs.declared.tree.program.Local.{Local}
 use Rattle.oss_syntax.specs.declared.tree.program.Program.{Program}
+use Rattle.oss_syntax.specs.declared.tree.stmt.LoopHead.{LoopHead}
 use Rattle.oss_syntax.specs.declared.tree.stmt.Stmt.{Stmt}
 use Rattle.oss_syntax.specs.declared.tree.stmt.StmtKind.TheVariants as stmts
 use Rattle.std.proofs.Common.{◌≡◌, ℕ, List, [], ◌∷◌, ◌++◌, length, drop, Option, Some}
@@ -42,15 +44,23 @@ pub data UsesIn (a : Around) (visible : List Local) (s : Stmt) : List Local → 
   in_for_test : {name : List ℕ} {line : ℕ} (start : Option Stmt) (e : Expr) (last : Option Stmt) (body : Stmt) → s.what ≡ stmts.For start (Some e) last body → Uses name line e
       → UsesIn a visible s (locals_behind_part (length visible) start visible) name line
   in_returned : {name : List ℕ} {line : ℕ} (e : Expr) → s.what ≡ stmts.Return (Some e) → Uses name line e → UsesIn a visible s visible name line
-  in_task_clauses : {name : List ℕ} {line : ℕ} (mark : TaskMark) (body : Stmt) → s.what ≡ stmts.Task mark body → UsesInClauses name line mark.clauses → UsesIn a visible s visible name line
-  in_wait_sections : {name : List ℕ} {line : ℕ} (sections : List Section) → s.what ≡ stmts.TaskWait (Some sections) → UsesInSections name line sections → UsesIn a visible s visible name line
-  in_release_clauses : {name : List ℕ} {line : ℕ} (clauses : List Clause) → s.what ≡ stmts.Release clauses → UsesInClauses name line clauses → UsesIn a visible s visible name line
+  in_task_clauses : {scope : List Local} {name : List ℕ} {line : ℕ} (mark : TaskMark) (body : Stmt) → s.what ≡ stmts.Task mark body
+      → UsesInClauses visible visible name line mark.clauses scope → UsesIn a visible s scope name line
+  in_loop_clauses : {scope : List Local} {name : List ℕ} {line : ℕ} (head : LoopHead) (body : Stmt) → s.what ≡ stmts.TaskLoop head body
+      → UsesInClauses visible (loop_locals head visible) name line head.mark.clauses scope → UsesIn a visible s scope name line
+  in_loop_first : {name : List ℕ} {line : ℕ} (head : LoopHead) (body : Stmt) (e : Expr) → s.what ≡ stmts.TaskLoop head body → head.variable.first ≡ Some e → Uses name line e
+      → UsesIn a visible s visible name line
+  in_loop_end : {name : List ℕ} {line : ℕ} (head : LoopHead) (body : Stmt) → s.what ≡ stmts.TaskLoop head body → Uses name line head.end → UsesIn a visible s visible name line
+  in_wait_sections : {scope : List Local} {name : List ℕ} {line : ℕ} (sections : List Section) → s.what ≡ stmts.TaskWait (Some sections)
+      → UsesInSections visible name line sections scope → UsesIn a visible s scope name line
+  in_release_clauses : {scope : List Local} {name : List ℕ} {line : ℕ} (clauses : List Clause) → s.what ≡ stmts.Release clauses
+      → UsesInClauses visible visible name line clauses scope → UsesIn a visible s scope name line
 
 -- On this line of a program a name is used that is unknown there: in the pragma of a function, in the initial value of a parameter,
 -- which no text has, or in a statement.
 pub data UsesUnknown (p : Program) (line : ℕ) : Type 0 where
-  in_pragma : (f : Function) (mark : TaskMark) (name : List ℕ) → IsOneOf (items.Function f) p.items → f.mark ≡ Some mark → UsesInClauses name line mark.clauses
-      → IsUnknown p.items (scope_behind 0 f.params []) name → UsesUnknown p line
+  in_pragma : (f : Function) (mark : TaskMark) (scope : List Local) (name : List ℕ) → IsOneOf (items.Function f) p.items → f.mark ≡ Some mark
+      → UsesInClauses (scope_behind 0 f.params []) (scope_behind 0 f.params []) name line mark.clauses scope → IsUnknown p.items scope name → UsesUnknown p line
   in_parameter : (f : Function) (scope : List Local) (name : List ℕ) → IsOneOf (items.Function f) p.items → UsesInInitial 0 [] f.params scope name line
       → IsUnknown p.items scope name → UsesUnknown p line
   in_statement : (f : Function) (around : Around) (visible : List Local) (s : Stmt) (scope : List Local) (name : List ℕ) → Stands p f around visible s → UsesIn around visible s scope name line

@@ -13,12 +13,13 @@ use Rattle.oss_syntax.specs.declared.tree.pragma.Clause.{Clause}
 use Rattle.oss_syntax.specs.declared.tree.pragma.Section.{Section}
 use Rattle.oss_syntax.specs.declared.tree.pragma.TaskMark.{TaskMark}
 use Rattle.oss_syntax.specs.declared.tree.program.Local.{Local}
+use Rattle.oss_syntax.specs.declared.tree.stmt.LoopHead.{LoopHead}
 use Rattle.oss_syntax.specs.declared.tree.stmt.Stmt.{Stmt, roll-Stmt, map-Stmt}
 use Rattle.oss_syntax.specs.declared.tree.stmt.StmtKind.{StmtKind, roll-StmtKind, map-StmtKind}
 use Rattle.oss_syntax.specs.declared.tree.stmt.StmtKind.TheVariants as stmts
 use Rattle.oss_syntax.specs.declared.tree.stmt.StmtKind.TheOpen as open_stmt
 use Rattle.oss_syntax.specs.declared.tree.stmt.StmtKind.TheOpen.{StmtKind-F, Stmt-F}
-use Rattle.oss_syntax.specs.declared.tree.stmt.StmtKind.TheVariants.{rolls-Block, rolls-Empty, rolls-Declare, rolls-Assign, rolls-Call as rolls-StmtCall, rolls-Print, rolls-If, rolls-While, rolls-For, rolls-Return, rolls-Break, rolls-Continue, rolls-Task, rolls-TaskWait, rolls-Release}
+use Rattle.oss_syntax.specs.declared.tree.stmt.StmtKind.TheVariants.{rolls-Block, rolls-Empty, rolls-Declare, rolls-Assign, rolls-Call as rolls-StmtCall, rolls-Print, rolls-If, rolls-While, rolls-For, rolls-Return, rolls-Break, rolls-Continue, rolls-Task, rolls-TaskLoop, rolls-TaskWait, rolls-Release}
 use Rattle.oss_syntax.specs.declared.tree.stmt.StmtKind.TheFolds.{ind-Stmt}
 
 -- a claim on each of a list, and on an option
@@ -45,6 +46,7 @@ pub data StmtParts (Q : Stmt → Type 0) (k : StmtKind) : Type 0 where
   is_break : k ≡ stmts.Break → StmtParts Q k
   is_continue : k ≡ stmts.Continue → StmtParts Q k
   is_task : (mark : TaskMark) (s : Stmt) → k ≡ stmts.Task mark s → Q s → StmtParts Q k
+  is_task_loop : (head : LoopHead) (s : Stmt) → k ≡ stmts.TaskLoop head s → Q s → StmtParts Q k
   is_wait : (sections : Option (List Section)) → k ≡ stmts.TaskWait sections → StmtParts Q k
   is_release : (clauses : List Clause) → k ≡ stmts.Release clauses → StmtParts Q k
 
@@ -78,6 +80,7 @@ module _ (Q : Stmt → Type 0) (step : (s : Stmt) → StmtParts Q s.what → Q s
   kinds x open_stmt.Break is = is_break (ap roll-StmtKind (sym is) ∙ rolls-Break)
   kinds x open_stmt.Continue is = is_continue (ap roll-StmtKind (sym is) ∙ rolls-Continue)
   kinds x (open_stmt.Task mark y) is = is_task mark y.0 (ap roll-StmtKind (sym is) ∙ rolls-Task mark y.0) y.1
+  kinds x (open_stmt.TaskLoop head y) is = is_task_loop head y.0 (ap roll-StmtKind (sym is) ∙ rolls-TaskLoop head y.0) y.1
   kinds x (open_stmt.TaskWait sections) is = is_wait sections (ap roll-StmtKind (sym is) ∙ rolls-TaskWait sections)
   kinds x (open_stmt.Release clauses) is = is_release clauses (ap roll-StmtKind (sym is) ∙ rolls-Release clauses)
 

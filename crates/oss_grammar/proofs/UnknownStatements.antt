@@ -1,6 +1,7 @@
 -- UnknownName is told exactly where an unknown name is used.
 use Rattle.std.proofs.Common.{◌≡◌, ℕ, ◌==◌, Bool, true, false, not, List, [], ◌∷◌, ◌++◌, length, map, refl, sym, ap, ◌∙◌, subst, ◌⊎◌, inl, inr, Option, Some, None, rules}
-use Rattle.std.specs.Prelude.{is_some, nat_le}
+use Rattle.std.specs.Prelude.{◌&&◌, is_some, nat_le}
+use Rattle.std.specs.Str.{bytes_eq}
 use Rattle.oss_syntax.specs.declared.refusal.Refused.{Refused}
 use Rattle.oss_syntax.specs.declared.refusal.RefusedKind.{RefusedKind}
 use Rattle.oss_syntax.specs.declared.refusal.RefusedKind.TheVariants as refused
@@ -15,6 +16,7 @@ use Rattle.oss_syntax.specs.declared.tree.program.Item.TheVariants as items
 use Rattle.oss_syntax.specs.declared.tree.program.Kind.{Kind}
 use Rattle.oss_syntax.specs.declared.tree.program.Local.{Local}
 use Rattle.oss_syntax.specs.declared.tree.program.Program.{Program}
+use Rattle.oss_syntax.specs.declared.tree.stmt.LoopHead.{LoopHead}
 use Rattle.oss_syntax.specs.declared.tree.stmt.Stmt.{Stmt}
 use Rattle.oss_syntax.specs.declared.tree.stmt.StmtKind.{StmtKind, out-StmtKind}
 use Rattle.oss_syntax.specs.declared.tree.stmt.StmtKind.TheOpen.{StmtKind-F}
@@ -33,12 +35,12 @@ use Rattle.oss_grammar.specs.Places.{IsOneOf}
 use Rattle.oss_grammar.proofs.ScopedPlaces.{locals_behind_part, scope_behind}
 use Rattle.oss_grammar.specs.Places.IsOneOf.{first_of_them, later_of_them}
 use Rattle.oss_grammar.specs.ProgramRules.{body_around, has_main, is_wrong_function, items_rules, mark_rules, passes_cells, program_rules}
-use Rattle.oss_grammar.specs.Scopes.{function_named, is_again, is_local_again, meaning}
-use Rattle.oss_grammar.specs.SectionRules.{optional_rules}
-use Rattle.oss_grammar.specs.StaticRules.{assign_rules, declare_all, first_rules, format_rules, is_wrong_return, local_rules, numbers_rules, or_anything, print_rules, return_rules, returned_rules, target_wanted, wait_rules, with_local}
+use Rattle.oss_grammar.specs.Scopes.{function_named, is_again, is_local_again, loop_locals, meaning}
+use Rattle.oss_grammar.specs.SectionRules.{loop_clauses_rules, optional_rules}
+use Rattle.oss_grammar.specs.StaticRules.{assign_rules, declare_all, first_rules, format_rules, head_rules, is_wrong_return, last_name_rules, local_rules, may_break, may_continue, name_rules, numbers_rules, or_anything, print_rules, return_rules, returned_rules, target_wanted, wait_rules, with_local}
 use Rattle.oss_grammar.specs.UnknownNames.{Uses, UsesInClauses, UsesInSections, UsesInSome}
 use Rattle.oss_grammar.proofs.ScopedUses.{UsesIn, UsesInInitial, UsesUnknown}
-use Rattle.oss_grammar.proofs.ScopedUses.UsesIn.{in_initial, in_target, in_stored, as_called, in_passed, in_printed, in_if_test, in_while_test, in_for_test, in_returned, in_task_clauses, in_wait_sections, in_release_clauses}
+use Rattle.oss_grammar.proofs.ScopedUses.UsesIn.{in_initial, in_target, in_stored, as_called, in_passed, in_printed, in_if_test, in_while_test, in_for_test, in_returned, in_task_clauses, in_loop_clauses, in_loop_first, in_loop_end, in_wait_sections, in_release_clauses}
 use Rattle.oss_grammar.proofs.ScopedUses.UsesUnknown.{in_pragma, in_parameter, in_statement}
 use Rattle.oss_grammar.proofs.ItemLemmas.{FunctionPart, ItemPart, function_told, item_part, item_told}
 use Rattle.oss_grammar.proofs.ItemLemmas.FunctionPart.{in_mark, at_name, at_kind, in_params, in_body}
@@ -46,8 +48,8 @@ use Rattle.oss_grammar.proofs.ItemLemmas.ItemPart.{at_global, at_function, behin
 use Rattle.oss_grammar.proofs.KindLemmas.{Only, only_one, only_two, only_where}
 use Rattle.oss_grammar.proofs.PlaceLemmas.{none_of, one_of_left, one_of_right, one_of_two, own_of, own_rules, stmt_view, FoundAmong, found_among, told_among}
 use Rattle.oss_grammar.proofs.TreeInduction.{StmtParts}
-use Rattle.oss_grammar.proofs.TreeInduction.StmtParts.{is_block, is_empty, is_declare, is_assign, is_call, is_print, is_if, is_while, is_for, is_return, is_break, is_continue, is_task, is_wait, is_release}
-use Rattle.oss_grammar.proofs.UnknownSections.{SectionsUse, ClausesUse, sections_found, sections_told, clauses_found, clauses_told}
+use Rattle.oss_grammar.proofs.TreeInduction.StmtParts.{is_block, is_empty, is_declare, is_assign, is_call, is_print, is_if, is_while, is_for, is_return, is_break, is_continue, is_task, is_task_loop, is_wait, is_release}
+use Rattle.oss_grammar.proofs.UnknownSections.{SectionsUse, ClausesUse, sections_found, sections_told, clauses_found, clauses_told, loop_clauses_found, loop_clauses_told}
 use Rattle.oss_grammar.proofs.UnknownUses.{UnknownUse, UnknownIn, callee_found, callee_told, passed_found, passed_told, unless_found, unless_told, use_found, use_told, value_found, value_told}
 use Rattle.oss_grammar.proofs.UseLemmas.{meaning_unknown, unknown_meaning}
 
@@ -173,11 +175,13 @@ module _ (line : ℕ) (all : List Item) where
     some : {es : List Expr} → ((name : List ℕ) → UsesInSome name line es → UsesIn a locals s locals name line) → UnknownIn line all locals es → UseAt a locals s
     some put u = record { scope = locals; name = u.use_in.name; uses = put u.use_in.name (record { value = u.value; is_listed = u.is_listed; uses = u.use_in.uses }); means = u.use_in.means }
 
-    some_clauses : {cs : List Clause} → ((name : List ℕ) → UsesInClauses name line cs → UsesIn a locals s locals name line) → ClausesUse line all locals cs → UseAt a locals s
-    some_clauses put u = record { scope = locals; name = u.use_in.name; uses = put u.use_in.name (record { clause = u.clause; is_listed = u.is_listed; uses = u.use_in.uses }); means = u.use_in.means }
+    some_clauses : {outer inside : List Local} {cs : List Clause} → ((scope : List Local) (name : List ℕ) → UsesInClauses outer inside name line cs scope → UsesIn a locals s scope name line)
+        → ClausesUse line all outer inside cs → UseAt a locals s
+    some_clauses put u = record { scope = u.use_in.scope; name = u.use_in.name; uses = put u.use_in.scope u.use_in.name (record { clause = u.clause; is_listed = u.is_listed; uses = u.use_in.uses }); means = u.use_in.means }
 
-    some_sections : {ss : List Section} → ((name : List ℕ) → UsesInSections name line ss → UsesIn a locals s locals name line) → SectionsUse line all locals ss → UseAt a locals s
-    some_sections put u = record { scope = locals; name = u.use_in.name; uses = put u.use_in.name (record { section = u.section; is_listed = u.is_listed; uses = u.use_in.uses }); means = u.use_in.means }
+    some_sections : {ss : List Section} → ((scope : List Local) (name : List ℕ) → UsesInSections locals name line ss scope → UsesIn a locals s scope name line) → SectionsUse line all locals ss
+        → UseAt a locals s
+    some_sections put u = record { scope = u.use_in.scope; name = u.use_in.name; uses = put u.use_in.scope u.use_in.name (record { section = u.section; is_listed = u.is_listed; uses = u.use_in.uses }); means = u.use_in.means }
 
     declare_use : (ls : List Local) → s.what ≡ stmts.Declare ls → InitialUse a.start locals ls → UseAt a locals s
     declare_use ls is u = record { scope = u.scope; name = u.name; uses = in_initial ls is u.uses; means = u.means }
@@ -245,7 +249,62 @@ module _ (line : ℕ) (all : List Item) where
 
     wait_use : (o : Option (List Section)) → s.what ≡ stmts.TaskWait o → IsOneOf x (wait_rules all locals o) → UseAt a locals s
     wait_use None is w = none_of w
-    wait_use (Some sections) is w = some_sections (λ name v. in_wait_sections sections is v) (sections_found line all locals false 0 sections w)
+    wait_use (Some sections) is w = some_sections (λ scope name v. in_wait_sections sections is v) (sections_found line all locals false 0 sections w)
+
+    first_use : (head : LoopHead) (t : Stmt) → s.what ≡ stmts.TaskLoop head t → (o : Option Expr) → head.variable.first ≡ o → IsOneOf x (optional_rules all locals o) → UseAt a locals s
+    first_use head t is None e w = none_of w
+    first_use head t is (Some l) e w = plain (λ name u. in_loop_first head t l is e u) (value_found line all locals wanted.Number l w)
+
+    module _ (head : LoopHead) where
+      abbrev clauses : List Refused
+      clauses = loop_clauses_rules all locals (loop_locals head locals) 0 head.mark.clauses
+
+      abbrev large : List Refused
+      large = where_so (nat_le 251 (length locals)) refused.TooLarge head.variable.line
+
+      abbrev from : List Refused
+      from = optional_rules all locals head.variable.first
+
+      abbrev tested : List Refused
+      tested = name_rules head.variable.name head.tested head.stepped
+
+      abbrev limit : List Refused
+      limit = value_rules all locals wanted.Number head.end
+
+      abbrev stepped : List Refused
+      stepped = last_name_rules head.variable.name head.tested head.stepped
+
+      module _ (t : Stmt) (is : s.what ≡ stmts.TaskLoop head t) where
+        past_limit : IsOneOf x limit ⊎ IsOneOf x stepped → UseAt a locals s
+        past_limit (inl u) = plain (λ name v. in_loop_end head t is v) (value_found line all locals wanted.Number head.end u)
+        past_limit (inr u) = no_rule (bytes_eq head.tested.name head.variable.name && not (bytes_eq head.stepped.name head.variable.name)) refused.WrongKind head.stepped.line refl u
+
+        past_tested : IsOneOf x tested ⊎ IsOneOf x (limit ++ stepped) → UseAt a locals s
+        past_tested (inl u) = no_rule (not (bytes_eq head.tested.name head.variable.name)) refused.WrongKind head.tested.line refl u
+        past_tested (inr u) = past_limit (one_of_two limit stepped u)
+
+        past_from : IsOneOf x from ⊎ IsOneOf x (tested ++ (limit ++ stepped)) → UseAt a locals s
+        past_from (inl u) = first_use head t is head.variable.first refl u
+        past_from (inr u) = past_tested (one_of_two tested (limit ++ stepped) u)
+
+        past_large : IsOneOf x large ⊎ IsOneOf x (from ++ (tested ++ (limit ++ stepped))) → UseAt a locals s
+        past_large (inl u) = no_rule (nat_le 251 (length locals)) refused.TooLarge head.variable.line refl u
+        past_large (inr u) = past_from (one_of_two from (tested ++ (limit ++ stepped)) u)
+
+        past_clauses : IsOneOf x clauses ⊎ IsOneOf x (large ++ (from ++ (tested ++ (limit ++ stepped)))) → UseAt a locals s
+        past_clauses (inl u) = some_clauses (λ scope name v. in_loop_clauses head t is v) (loop_clauses_found line all locals (loop_locals head locals) 0 head.mark.clauses u)
+        past_clauses (inr u) = past_large (one_of_two large (from ++ (tested ++ (limit ++ stepped))) u)
+
+        loop_use : IsOneOf x (head_rules all locals head) → UseAt a locals s
+        loop_use w = past_clauses (one_of_two clauses (large ++ (from ++ (tested ++ (limit ++ stepped)))) w)
+
+      from_told : {name : List ℕ} {e : Expr} → head.variable.first ≡ Some e → meaning all locals name ≡ named.Missing → Uses name line e → IsOneOf x (head_rules all locals head)
+      from_told {name} {e} is m u = one_of_right clauses (one_of_right large (one_of_left (tested ++ (limit ++ stepped)) (in_first is))) where
+        in_first : head.variable.first ≡ Some e → IsOneOf x (optional_rules all locals head.variable.first)
+        in_first same = rw same (value_told line all locals wanted.Number e m u)
+
+      limit_told : {name : List ℕ} → meaning all locals name ≡ named.Missing → Uses name line head.end → IsOneOf x (head_rules all locals head)
+      limit_told m u = one_of_right clauses (one_of_right large (one_of_right from (one_of_right tested (one_of_left stepped (value_told line all locals wanted.Number head.end m u)))))
 
     pub use_by : StmtParts (λ t. Unit {0}) s.what → IsOneOf x (own_rules all a locals s) → UseAt a locals s
     use_by (is_block body is each) w = none_of (shown (open_stmt.Block body) (rw is (search (rules, stmt_folds))) w)
@@ -258,11 +317,12 @@ module _ (line : ℕ) (all : List Item) where
     use_by (is_while e t is u) w = plain (λ name y. in_while_test e t is y) (value_found line all locals wanted.Number e (shown (open_stmt.While e t) (rw is (search (rules, stmt_folds))) w))
     use_by (is_for start test last t is u v q) w = for_use start test last t is (shown (open_stmt.For start test last t) (rw is (search (rules, stmt_folds))) w)
     use_by (is_return o is) w = return_use o is (shown (open_stmt.Return o) (rw is (search (rules, stmt_folds))) w)
-    use_by (is_break is) w = no_rule (not a.in_loop) refused.BadJump s.line refl (shown open_stmt.Break (rw is (search (rules, stmt_folds))) w)
-    use_by (is_continue is) w = no_rule (not a.in_loop) refused.BadJump s.line refl (shown open_stmt.Continue (rw is (search (rules, stmt_folds))) w)
-    use_by (is_task mark t is u) w = some_clauses (λ name y. in_task_clauses mark t is y) (clauses_found line all locals 0 mark.clauses (shown (open_stmt.Task mark t) (rw is (search (rules, stmt_folds))) w))
+    use_by (is_break is) w = no_rule (not (may_break a.nearest)) refused.BadJump s.line refl (shown open_stmt.Break (rw is (search (rules, stmt_folds))) w)
+    use_by (is_continue is) w = no_rule (not (may_continue a.nearest)) refused.BadJump s.line refl (shown open_stmt.Continue (rw is (search (rules, stmt_folds))) w)
+    use_by (is_task mark t is u) w = some_clauses (λ scope name y. in_task_clauses mark t is y) (clauses_found line all locals 0 mark.clauses (shown (open_stmt.Task mark t) (rw is (search (rules, stmt_folds))) w))
+    use_by (is_task_loop head t is u) w = loop_use head t is (shown (open_stmt.TaskLoop head t) (rw is (search (rules, stmt_folds))) w)
     use_by (is_wait sections is) w = wait_use sections is (shown (open_stmt.TaskWait sections) (rw is (search (rules, stmt_folds))) w)
-    use_by (is_release clauses is) w = some_clauses (λ name y. in_release_clauses clauses is y) (clauses_found line all locals 0 clauses (shown (open_stmt.Release clauses) (rw is (search (rules, stmt_folds))) w))
+    use_by (is_release clauses is) w = some_clauses (λ scope name y. in_release_clauses clauses is y) (clauses_found line all locals 0 clauses (shown (open_stmt.Release clauses) (rw is (search (rules, stmt_folds))) w))
 
     kept : (k : StmtKind-F StmtKind Stmt) → out-StmtKind s.what ≡ k → IsOneOf x (own_of k s.line all a locals) → IsOneOf x (own_rules all a locals s)
     kept k e w = subst (λ (i : StmtKind-F StmtKind Stmt). IsOneOf x (own_of i s.line all a locals)) (sym e) w
@@ -279,6 +339,10 @@ module _ (line : ℕ) (all : List Item) where
     use_is_told m (in_for_test start e last t is u) = kept (open_stmt.For start (Some e) last t) (rw is (search (rules, stmt_folds))) (value_told line all (locals_behind_part (length locals) start locals) wanted.Number e m u)
     use_is_told m (in_returned e is u) = kept (open_stmt.Return (Some e)) (rw is (search (rules, stmt_folds))) (one_of_right (where_so (is_wrong_return a.result (Some e)) refused.WrongKind s.line) (one_of_right (where_so a.in_task refused.BadJump s.line) (value_told line all locals (wanted_by a.result) e m u)))
     use_is_told m (in_task_clauses mark t is u) = kept (open_stmt.Task mark t) (rw is (search (rules, stmt_folds))) (clauses_told line all locals 0 mark.clauses u.clause u.is_listed m u.uses)
+    use_is_told m (in_loop_clauses head t is u) =
+        kept (open_stmt.TaskLoop head t) (rw is (search (rules, stmt_folds))) (one_of_left _ (loop_clauses_told line all locals (loop_locals head locals) 0 head.mark.clauses u.clause u.is_listed m u.uses))
+    use_is_told m (in_loop_first head t e is first u) = kept (open_stmt.TaskLoop head t) (rw is (search (rules, stmt_folds))) (from_told head first m u)
+    use_is_told m (in_loop_end head t is u) = kept (open_stmt.TaskLoop head t) (rw is (search (rules, stmt_folds))) (limit_told head m u)
     use_is_told m (in_wait_sections sections is u) = kept (open_stmt.TaskWait (Some sections)) (rw is (search (rules, stmt_folds))) (sections_told line all locals false 0 sections u.section u.is_listed m u.uses)
     use_is_told m (in_release_clauses clauses is u) = kept (open_stmt.Release clauses) (rw is (search (rules, stmt_folds))) (clauses_told line all locals 0 clauses u.clause u.is_listed m u.uses)
 
@@ -296,8 +360,8 @@ module _ (p : Program) (line : ℕ) where
   mark_found : (f : Function) → IsItem f → (o : Option TaskMark) → f.mark ≡ o → IsOneOf told (mark_rules p.items (params f) o) → UsesUnknown p line
   mark_found f is None e w = none_of w
   mark_found f is (Some mark) e w = put (clauses_found line p.items (params f) 0 mark.clauses w) where
-    put : ClausesUse line p.items (params f) mark.clauses → UsesUnknown p line
-    put u = in_pragma f mark u.use_in.name is e (record { clause = u.clause; is_listed = u.is_listed; uses = u.use_in.uses }) (meaning_unknown p.items (params f) u.use_in.name u.use_in.means)
+    put : ClausesUse line p.items (params f) (params f) mark.clauses → UsesUnknown p line
+    put u = in_pragma f mark u.use_in.scope u.use_in.name is e (record { clause = u.clause; is_listed = u.is_listed; uses = u.use_in.uses }) (meaning_unknown p.items u.use_in.scope u.use_in.name u.use_in.means)
 
   body_found : (f : Function) → IsItem f → FoundAmong p.items told (body_around f.result) (params f) f.body → UsesUnknown p line
   body_found f is found = put (use_by line p.items found.around found.visible found.statement (stmt_view found.statement) found.own) where
@@ -327,15 +391,16 @@ module _ (p : Program) (line : ℕ) where
     | inr u ↦ no_rule (not (has_main p.items)) refused.NoMain 1 refl u
   ]
 
-  mark_told : (f : Function) (mark : TaskMark) (name : List ℕ) (o : Option TaskMark) → o ≡ Some mark → UsesInClauses name line mark.clauses → meaning p.items (params f) name ≡ named.Missing
+  mark_told : (f : Function) (mark : TaskMark) (scope : List Local) (name : List ℕ) (o : Option TaskMark) → o ≡ Some mark → UsesInClauses (params f) (params f) name line mark.clauses scope
+      → meaning p.items scope name ≡ named.Missing
       → IsOneOf told (mark_rules p.items (params f) o)
-  mark_told f mark name o e u m = rw e (clauses_told line p.items (params f) 0 mark.clauses u.clause u.is_listed m u.uses)
+  mark_told f mark scope name o e u m = rw e (clauses_told line p.items (params f) 0 mark.clauses u.clause u.is_listed m u.uses)
 
   anywhere : (f : Function) → IsItem f → ((i : ℕ) → FunctionPart p.items i f told) → IsOneOf told (program_rules p)
   anywhere f is part = one_of_left _ (item_told p.items told (function_told p.items told f part 0 0 p.items is))
 
   pub is_told : UsesUnknown p line → IsOneOf told (program_rules p)
-  is_told (in_pragma f mark name is e u unknown) = anywhere f is (λ i. in_mark (mark_told f mark name f.mark e u (unknown_meaning p.items (params f) name unknown)))
+  is_told (in_pragma f mark scope name is e u unknown) = anywhere f is (λ i. in_mark (mark_told f mark scope name f.mark e u (unknown_meaning p.items scope name unknown)))
   is_told (in_parameter f scope name is u unknown) = anywhere f is (λ i. in_params (initial_told line p.items 0 f.params [] (unknown_meaning p.items scope name unknown) u))
   is_told (in_statement f around visible s scope name stands u unknown) =
       anywhere f stands.is_item (λ i. in_body (told_among p.items told stands.stands (use_is_told line p.items around visible s (unknown_meaning p.items scope name unknown) u)))

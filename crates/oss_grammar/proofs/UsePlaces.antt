@@ -8,21 +8,23 @@ use Rattle.oss_syntax.specs.declared.tree.stmt.StmtKind.{out-StmtKind}
 use Rattle.oss_syntax.specs.declared.tree.stmt.StmtKind.TheVariants as stmts
 use Rattle.oss_grammar.specs.declared.kinds.Around.{Around}
 use Rattle.oss_grammar.specs.ProgramRules.{body_around}
-use Rattle.oss_grammar.specs.StaticRules.{in_a_loop, in_a_task, scope_in}
+use Rattle.oss_grammar.specs.Scopes.{loop_locals}
+use Rattle.oss_grammar.specs.StaticRules.{in_a_loop, in_a_task, in_a_task_loop, scope_in}
 use Rattle.oss_grammar.specs.Places.{StandsIn, StandsAmong, declarators_of, locals_behind, locals_behind_part}
-use Rattle.oss_grammar.specs.Places.StandsIn.{itself, in_block, in_then, in_else, in_while, in_for_start, in_for_last, in_for_body, in_task_body}
+use Rattle.oss_grammar.specs.Places.StandsIn.{itself, in_block, in_then, in_else, in_while, in_for_start, in_for_last, in_for_body, in_task_body, in_task_loop_body}
 use Rattle.oss_grammar.specs.Places.StandsAmong.{in_first, in_rest}
 use Rattle.oss_grammar.specs.UnknownNames.{UnknownNamesAreTold, UsesIn, UsesInInitial, UsesUnknown}
-use Rattle.oss_grammar.specs.UnknownNames.UsesIn.{in_initial, in_target, in_stored, as_called, in_passed, in_printed, in_if_test, in_while_test, in_for_test, in_returned, in_task_clauses, in_wait_sections, in_release_clauses}
+use Rattle.oss_grammar.specs.UnknownNames.UsesIn.{in_initial, in_target, in_stored, as_called, in_passed, in_printed, in_if_test, in_while_test, in_for_test, in_returned, in_task_clauses, in_loop_clauses, in_loop_first, in_loop_end, in_wait_sections, in_release_clauses}
 use Rattle.oss_grammar.specs.UnknownNames.UsesUnknown.{in_pragma, in_parameter, in_statement}
+use Rattle.oss_grammar.proofs.ClauseUses.{clauses_moved, same_loop, sections_moved}
 use Rattle.oss_grammar.proofs.ScopedPlaces.{scope_behind, StandsIn as ScopedIn, StandsAmong as ScopedAmong, locals_behind as scoped_behind, locals_behind_part as scoped_behind_part}
-use Rattle.oss_grammar.proofs.ScopedPlaces.StandsIn.{in_block as scoped_in_block, in_else as scoped_in_else, in_for_body as scoped_in_for_body, in_for_last as scoped_in_for_last, in_for_start as scoped_in_for_start, in_task_body as scoped_in_task_body, in_then as scoped_in_then, in_while as scoped_in_while, itself as scoped_itself}
+use Rattle.oss_grammar.proofs.ScopedPlaces.StandsIn.{in_block as scoped_in_block, in_else as scoped_in_else, in_for_body as scoped_in_for_body, in_for_last as scoped_in_for_last, in_for_start as scoped_in_for_start, in_task_body as scoped_in_task_body, in_task_loop_body as scoped_in_task_loop_body, in_then as scoped_in_then, in_while as scoped_in_while, itself as scoped_itself}
 use Rattle.oss_grammar.proofs.ScopedPlaces.StandsAmong.{in_first as row_in_first, in_rest as row_in_rest}
 use Rattle.oss_grammar.proofs.ScopedUses.{UsesIn as ScopedUse, UsesInInitial as ScopedInitial, UsesUnknown as ScopedUnknown}
-use Rattle.oss_grammar.proofs.ScopedUses.UsesIn.{as_called as used_as_called, in_for_test as used_in_for_test, in_if_test as used_in_if_test, in_initial as used_in_initial, in_passed as used_in_passed, in_printed as used_in_printed, in_release_clauses as used_in_release_clauses, in_returned as used_in_returned, in_stored as used_in_stored, in_target as used_in_target, in_task_clauses as used_in_task_clauses, in_wait_sections as used_in_wait_sections, in_while_test as used_in_while_test}
+use Rattle.oss_grammar.proofs.ScopedUses.UsesIn.{as_called as used_as_called, in_for_test as used_in_for_test, in_if_test as used_in_if_test, in_initial as used_in_initial, in_loop_clauses as used_in_loop_clauses, in_loop_end as used_in_loop_end, in_loop_first as used_in_loop_first, in_passed as used_in_passed, in_printed as used_in_printed, in_release_clauses as used_in_release_clauses, in_returned as used_in_returned, in_stored as used_in_stored, in_target as used_in_target, in_task_clauses as used_in_task_clauses, in_wait_sections as used_in_wait_sections, in_while_test as used_in_while_test}
 use Rattle.oss_grammar.proofs.ScopedUses.UsesUnknown.{in_parameter as told_as_in_parameter, in_pragma as told_as_in_pragma, in_statement as told_as_in_statement}
 use Rattle.oss_grammar.proofs.UnknownStatements.{only_told, is_told}
-use Rattle.oss_grammar.proofs.VisibleLemmas.{SameNames, same_behind, same_known, same_refl, same_unknown}
+use Rattle.oss_grammar.proofs.VisibleLemmas.{SameNames, same_behind, same_flip, same_known, same_refl, same_unknown}
 
 same_part : {xs ys : List Local} (start : ℕ) (o : Option Stmt) → SameNames xs ys → SameNames (scoped_behind_part start o xs) (locals_behind_part o ys)
 same_part start None same = same
@@ -62,6 +64,7 @@ mutual
   place_in {ls = ls} (scoped_in_for_last start test last r is d) same = lift (λ v w. in_for_last start test last r is w) (place_in d (same_part (length ls) start same))
   place_in {ls = ls} (scoped_in_for_body start test last r is d) same = lift (λ v w. in_for_body start test last r is w) (place_in d (same_part (length ls) start same))
   place_in (scoped_in_task_body mark r is d) same = lift (λ v w. in_task_body mark r is w) (place_in d same)
+  place_in (scoped_in_task_loop_body head r is d) same = lift (λ v w. in_task_loop_body head r is w) (place_in d (same_loop head same))
 
   place_among : {b : Around} {scope : List Local} {t : Stmt} {a : Around} {ls ms : List Local} {body : List Stmt} → ScopedAmong b scope t a ls body → SameNames ls ms → PlaceAmong t scope ms body
   place_among (row_in_first {rest = rest} d) same = into_first rest (place_in d same)
@@ -108,6 +111,8 @@ mutual
       old_up (λ c v w. scoped_in_for_body start test last r is w)
       (old_in d (scope_in (in_a_loop a) (scoped_behind_part (length ls) start ls)) (scoped_behind_part (length ls) start ls) (same_part (length ls) start same))
   old_in (in_task_body mark r is d) a ls same = old_up (λ c v w. scoped_in_task_body mark r is w) (old_in d (scope_in (in_a_task a) ls) ls same)
+  old_in (in_task_loop_body head r is d) a ls same =
+      old_up (λ c v w. scoped_in_task_loop_body head r is w) (old_in d (scope_in (in_a_task_loop a) (loop_locals head ls)) (loop_locals head ls) (same_loop head same))
 
   old_among : {visible : List Local} {t : Stmt} {ms : List Local} {body : List Stmt} → StandsAmong visible t ms body → (a : Around) (ls : List Local) → SameNames ls ms → OldAmong t visible a ls body
   old_among (in_first {rest = rest} d) a ls same = old_first rest (old_in d a ls same)
@@ -151,9 +156,12 @@ module _ (name : List ℕ) (line : ℕ) where
   use_new {ys = ys} same (used_in_if_test e t o is u) = record { other = ys; uses = in_if_test e t o is u; same = same }
   use_new {ys = ys} same (used_in_while_test e t is u) = record { other = ys; uses = in_while_test e t is u; same = same }
   use_new {ys = ys} same (used_in_returned e is u) = record { other = ys; uses = in_returned e is u; same = same }
-  use_new {ys = ys} same (used_in_task_clauses mark t is u) = record { other = ys; uses = in_task_clauses mark t is u; same = same }
-  use_new {ys = ys} same (used_in_wait_sections sections is u) = record { other = ys; uses = in_wait_sections sections is u; same = same }
-  use_new {ys = ys} same (used_in_release_clauses clauses is u) = record { other = ys; uses = in_release_clauses clauses is u; same = same }
+  use_new same (used_in_task_clauses mark t is u) = (let m = clauses_moved name line same same u in record { other = m.other; uses = in_task_clauses mark t is m.uses; same = m.same })
+  use_new same (used_in_loop_clauses head t is u) = (let m = clauses_moved name line same (same_loop head same) u in record { other = m.other; uses = in_loop_clauses head t is m.uses; same = m.same })
+  use_new {ys = ys} same (used_in_loop_first head t e is first u) = record { other = ys; uses = in_loop_first head t e is first u; same = same }
+  use_new {ys = ys} same (used_in_loop_end head t is u) = record { other = ys; uses = in_loop_end head t is u; same = same }
+  use_new same (used_in_wait_sections sections is u) = (let m = sections_moved name line same u in record { other = m.other; uses = in_wait_sections sections is m.uses; same = m.same })
+  use_new same (used_in_release_clauses clauses is u) = (let m = clauses_moved name line same same u in record { other = m.other; uses = in_release_clauses clauses is m.uses; same = m.same })
   use_new {xs = xs} {ys = ys} same (used_in_for_test start e last t is u) = record { other = locals_behind_part start ys; uses = in_for_test start e last t is u; same = same_part (length xs) start same }
 
   use_old : {xs ys : List Local} {s : Stmt} {scope : List Local} (a : Around) → SameNames xs ys → UsesIn ys s scope name line → OldUse a xs s scope name line
@@ -166,16 +174,23 @@ module _ (name : List ℕ) (line : ℕ) where
   use_old {xs = xs} a same (in_if_test e t o is u) = record { other = xs; uses = used_in_if_test e t o is u; same = same }
   use_old {xs = xs} a same (in_while_test e t is u) = record { other = xs; uses = used_in_while_test e t is u; same = same }
   use_old {xs = xs} a same (in_returned e is u) = record { other = xs; uses = used_in_returned e is u; same = same }
-  use_old {xs = xs} a same (in_task_clauses mark t is u) = record { other = xs; uses = used_in_task_clauses mark t is u; same = same }
-  use_old {xs = xs} a same (in_wait_sections sections is u) = record { other = xs; uses = used_in_wait_sections sections is u; same = same }
-  use_old {xs = xs} a same (in_release_clauses clauses is u) = record { other = xs; uses = used_in_release_clauses clauses is u; same = same }
+  use_old a same (in_task_clauses mark t is u) =
+      (let m = clauses_moved name line (same_flip same) (same_flip same) u in record { other = m.other; uses = used_in_task_clauses mark t is m.uses; same = same_flip m.same })
+  use_old a same (in_loop_clauses head t is u) =
+      (let m = clauses_moved name line (same_flip same) (same_loop head (same_flip same)) u in record { other = m.other; uses = used_in_loop_clauses head t is m.uses; same = same_flip m.same })
+  use_old {xs = xs} a same (in_loop_first head t e is first u) = record { other = xs; uses = used_in_loop_first head t e is first u; same = same }
+  use_old {xs = xs} a same (in_loop_end head t is u) = record { other = xs; uses = used_in_loop_end head t is u; same = same }
+  use_old a same (in_wait_sections sections is u) = (let m = sections_moved name line (same_flip same) u in record { other = m.other; uses = used_in_wait_sections sections is m.uses; same = same_flip m.same })
+  use_old a same (in_release_clauses clauses is u) =
+      (let m = clauses_moved name line (same_flip same) (same_flip same) u in record { other = m.other; uses = used_in_release_clauses clauses is m.uses; same = same_flip m.same })
   use_old {xs = xs} a same (in_for_test start e last t is u) = record { other = scoped_behind_part (length xs) start xs; uses = used_in_for_test start e last t is u; same = same_part (length xs) start same }
 
 params_same : (f : Function) → SameNames (scope_behind 0 f.params []) f.params
 params_same f = same_behind 0 f.params (same_refl [])
 
 unknown_new : (p : Program) (line : ℕ) → ScopedUnknown p line → UsesUnknown p line
-unknown_new p line (told_as_in_pragma f mark name is e u unknown) = in_pragma f mark name is e u (same_unknown (params_same f) unknown)
+unknown_new p line (told_as_in_pragma f mark scope name is e u unknown) =
+    (let m = clauses_moved name line (params_same f) (params_same f) u in in_pragma f mark m.other name is e m.uses (same_unknown m.same unknown))
 unknown_new p line (told_as_in_parameter f scope name is d unknown) = (let n = initial_new name line (same_refl []) d in in_parameter f n.0 name is n.1 (same_unknown n.2 unknown))
 unknown_new p line (told_as_in_statement f around visible s scope name stands u unknown) = put (place_among stands.stands (params_same f)) where
   put : PlaceAmong s visible f.params f.body → UsesUnknown p line
@@ -184,7 +199,8 @@ unknown_new p line (told_as_in_statement f around visible s scope name stands u 
     whole n = in_statement f place.visible s n.other name (record { is_item = stands.is_item; stands = place.stands }) n.uses (same_unknown n.same unknown)
 
 unknown_old : (p : Program) (line : ℕ) → UsesUnknown p line → ScopedUnknown p line
-unknown_old p line (in_pragma f mark name is e u unknown) = told_as_in_pragma f mark name is e u (same_known (params_same f) unknown)
+unknown_old p line (in_pragma f mark scope name is e u unknown) =
+    (let m = clauses_moved name line (same_flip (params_same f)) (same_flip (params_same f)) u in told_as_in_pragma f mark m.other name is e m.uses (same_unknown m.same unknown))
 unknown_old p line (in_parameter f scope name is d unknown) = (let n = initial_old name line 0 (same_refl []) d in told_as_in_parameter f n.0 name is n.1 (same_known n.2 unknown))
 unknown_old p line (in_statement f visible s scope name stands u unknown) = put (old_among stands.stands (body_around f.result) (scope_behind 0 f.params []) (params_same f)) where
   put : OldAmong s visible (body_around f.result) (scope_behind 0 f.params []) f.body → ScopedUnknown p line

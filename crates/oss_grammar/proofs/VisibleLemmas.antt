@@ -21,6 +21,9 @@ pub record SameNames (xs ys : List Local) : Type 0 where
 pub same_refl : (xs : List Local) → SameNames xs xs
 same_refl xs = record { to = λ name n. n; from = λ name n. n }
 
+pub same_flip : {xs ys : List Local} → SameNames xs ys → SameNames ys xs
+same_flip same = record { to = same.from; from = same.to }
+
 pub same_unknown : {all : List Item} {xs ys : List Local} {name : List ℕ} → SameNames xs ys → IsUnknown all xs name → IsUnknown all ys name
 same_unknown {name = name} same u = record { no_local = λ n. u.no_local (same.from name n); no_item = u.no_item }
 
@@ -40,7 +43,7 @@ names_two {name} xs ys n = put (one_of_two xs ys n.is_listed) where
   put (inr w) = inr (record { named = n.named; is_listed = w; has_name = n.has_name })
 
 -- one more on both sides
-same_both : {xs ys : List Local} (more : List Local) → SameNames xs ys → SameNames (xs ++ more) (ys ++ more)
+pub same_both : {xs ys : List Local} (more : List Local) → SameNames xs ys → SameNames (xs ++ more) (ys ++ more)
 same_both {xs} {ys} more same = record { to = to; from = from } where
   to : (name : List ℕ) → NamesLocal (xs ++ more) name → NamesLocal (ys ++ more) name
   to name n = elim (names_two xs more n) [

@@ -17,8 +17,8 @@ use Rattle.oss_syntax.specs.declared.tree.pragma.Section.{Section}
 use Rattle.oss_grammar.specs.Expressions.{IsExpr, IsIndexed, IsArgumentList, IsWhole, primary_level, postfix_level, prefix_level, loosest_level, prefix_of, operator_of}
 use Rattle.oss_grammar.specs.Fronts.{Viable}
 use Rattle.oss_grammar.specs.OneToken.{IsSymbol, IsKeyword, IsWord, IsOpen, IsIndexOpen, IsIndexClose, IsComma}
-use Rattle.oss_grammar.specs.Pragmas.{IsBound, IsInner, IsSection, IsDepend, IsClauses, IsMoreDepends, HasEachOnce, is_single, access_of, reduction_of, fold_of}
-use Rattle.oss_grammar.specs.Pragmas.Single.{once_if, once_final, once_priority}
+use Rattle.oss_grammar.specs.Pragmas.{IsBound, IsInner, IsIndices, IsSection, IsDepend, IsClauses, IsMoreDepends, HasEachOnce, HasNoGrain, is_single, access_of, reduction_of, fold_of}
+use Rattle.oss_grammar.specs.Pragmas.Single.{once_if, once_final, once_priority, once_grain}
 
 -- A thing has at most 64 levels, and a whole expression at most 256 operators.
 abbrev pub most_levels : ℕ
@@ -79,6 +79,18 @@ pub data OpensInner (xs : List Token) : Type 0 where
   inner_last : {first : Option Expr} (front : List Token) (mark : Token)
       → xs ≡ front ++ (mark ∷ []) → IsSymbol (codes ":") mark → IsBound front first → OpensInner xs
 
+-- The same in the indices of a multidependency: behind `[`, and behind `[e][`.
+pub data OpensIndices (xs : List Token) : Type 0 where
+  first_index : (opened : Token) → xs ≡ opened ∷ [] → IsIndexOpen opened → OpensIndices xs
+  second_index : {e : Expr} (opened : Token) (first : List Token) (closed again : Token)
+      → xs ≡ opened ∷ (first ++ (closed ∷ again ∷ [])) → IsIndexOpen opened → IsWhole first e → IsIndexClose closed → IsIndexOpen again → OpensIndices xs
+
+-- The same in its turns: behind `k =`, and behind `k = l;`.
+pub data OpensTurns (xs : List Token) : Type 0 where
+  turns_first : (t set : Token) (word : List ℕ) → xs ≡ t ∷ set ∷ [] → t.what ≡ kinds.Name word → IsSymbol (codes "=") set → OpensTurns xs
+  turns_count : {first : Expr} (t set : Token) (word : List ℕ) (front : List Token) (mark : Token)
+      → xs ≡ t ∷ set ∷ (front ++ (mark ∷ [])) → t.what ≡ kinds.Name word → IsSymbol (codes "=") set → IsWhole front first → IsSymbol (codes ";") mark → OpensTurns xs
+
 -- The same in a section: behind `[`, behind `p[`, and behind `m[1:][`.
 pub data OpensSection (xs : List Token) : Type 0 where
   section_shape : (opened : Token) → xs ≡ opened ∷ [] → IsIndexOpen opened → OpensSection xs
@@ -87,6 +99,11 @@ pub data OpensSection (xs : List Token) : Type 0 where
   section_columns : {rows : Inner} (t : Token) (base : List ℕ) (opened : Token) (first : List Token) (closed again : Token) (inner : List Token)
       → xs ≡ t ∷ opened ∷ (first ++ (closed ∷ again ∷ inner)) → t.what ≡ kinds.Name base → IsIndexOpen opened → IsInner first rows → IsIndexClose closed
       → IsIndexOpen again → OpensInner inner → OpensSection xs
+  section_indices : (opened t : Token) (base : List ℕ) (indices : List Token)
+      → xs ≡ opened ∷ t ∷ indices → IsSymbol (codes "{") opened → t.what ≡ kinds.Name base → OpensIndices indices → OpensSection xs
+  section_turns : {e : Expr} {f : Option Expr} (opened t : Token) (base : List ℕ) (indices : List Token) (comma : Token) (counted : List Token)
+      → xs ≡ opened ∷ t ∷ (indices ++ (comma ∷ counted)) → IsSymbol (codes "{") opened → t.what ≡ kinds.Name base → IsIndices indices e f → IsComma comma
+      → OpensTurns counted → OpensSection xs
 
 -- The same in a list of sections: in the first, or in one behind a comma.
 pub data OpensSections : List Token → Type 0 where
@@ -114,6 +131,12 @@ pub data OpensClause (found : List Clause) (xs : List Token) : Type 0 where
   clause_priority : (t opened : Token) → xs ≡ t ∷ opened ∷ [] → IsWord (codes "priority") t → IsOpen opened
       → count_by (is_single once_priority) found ≡ 0 → OpensClause found xs
 
+-- The same in a clause of a task loop, which may be its grainsize too.
+pub data OpensLoopClause (found : List Clause) (xs : List Token) : Type 0 where
+  task_clause : OpensClause found xs → OpensLoopClause found xs
+  clause_grain : (t opened : Token) → xs ≡ t ∷ opened ∷ [] → IsWord (codes "grainsize") t → IsOpen opened
+      → count_by (is_single once_grain) found ≡ 0 → OpensLoopClause found xs
+
 -- The same behind a comma, or without one.
 pub data AfterComma (Opens : List Token → Type 0) (xs : List Token) : Type 0 where
   with_comma : (comma : Token) (back : List Token) → xs ≡ comma ∷ back → IsComma comma → Opens back → AfterComma Opens xs
@@ -124,7 +147,11 @@ pub data AfterComma (Opens : List Token → Type 0) (xs : List Token) : Type 0 w
 pub data OpensPragma (xs : List Token) : Type 0 where
   in_task : {found : List Clause} (start word : Token) (front back : List Token)
       → xs ≡ start ∷ word ∷ (front ++ back) → start.what ≡ kinds.PragmaOss → IsWord (codes "task") word
-      → IsClauses front found → HasEachOnce found → AfterComma (OpensClause found) back
+      → IsClauses front found → HasEachOnce found → HasNoGrain found → AfterComma (OpensClause found) back
+      → OpensPragma xs
+  in_task_loop : {found : List Clause} (start word : Token) (front back : List Token)
+      → xs ≡ start ∷ word ∷ (front ++ back) → start.what ≡ kinds.PragmaOss → IsWord (codes "taskloop") word
+      → IsClauses front found → HasEachOnce found → AfterComma (OpensLoopClause found) back
       → OpensPragma xs
   in_wait : (start word on opened : Token) (inner : List Token)
       → xs ≡ start ∷ word ∷ on ∷ opened ∷ inner

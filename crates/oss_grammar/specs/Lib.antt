@@ -26,6 +26,7 @@ pub mod SimpleStatements
 pub mod StatementLimits
 pub mod Statements
 pub mod StaticRules
+pub mod TaskLoops
 pub mod Tokens
 pub mod UnknownNames
 pub mod Values

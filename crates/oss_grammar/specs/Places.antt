@@ -9,11 +9,13 @@ use Rattle.oss_syntax.specs.declared.tree.program.Function.{Function}
 use Rattle.oss_syntax.specs.declared.tree.program.Item.TheVariants as items
 use Rattle.oss_syntax.specs.declared.tree.program.Local.{Local}
 use Rattle.oss_syntax.specs.declared.tree.program.Program.{Program}
+use Rattle.oss_syntax.specs.declared.tree.stmt.LoopHead.{LoopHead}
 use Rattle.oss_syntax.specs.declared.tree.stmt.Stmt.{Stmt}
 use Rattle.oss_syntax.specs.declared.tree.stmt.StmtKind.{StmtKind, out-StmtKind}
 use Rattle.oss_syntax.specs.declared.tree.stmt.StmtKind.TheOpen.{StmtKind-F}
 use Rattle.oss_syntax.specs.declared.tree.stmt.StmtKind.TheOpen as open_stmt
 use Rattle.oss_syntax.specs.declared.tree.stmt.StmtKind.TheVariants as stmts
+use Rattle.oss_grammar.specs.Scopes.{loop_locals}
 
 -- It is one of these.
 pub data IsOneOf {A : Type 0} (x : A) : List A → Type 0 where
@@ -35,7 +37,7 @@ locals_behind_part None locals = locals
 locals_behind_part (Some s) locals = locals_behind s locals
 
 -- A statement stands in another, or is it, with these locals in scope there, if those are in scope at the other. The first part of a
--- `for` is in scope in all of it.
+-- `for` is in scope in all of it, and the locals of a task loop in its statement.
 mutual
   pub data StandsIn (visible : List Local) (t : Stmt) : List Local → Stmt → Type 0 where
     itself : StandsIn visible t visible t
@@ -51,6 +53,8 @@ mutual
     in_for_body : {locals : List Local} {s : Stmt} (start : Option Stmt) (test : Option Expr) (last : Option Stmt) (body : Stmt) → s.what ≡ stmts.For start test last body
         → StandsIn visible t (locals_behind_part start locals) body → StandsIn visible t locals s
     in_task_body : {locals : List Local} {s : Stmt} (mark : TaskMark) (body : Stmt) → s.what ≡ stmts.Task mark body → StandsIn visible t locals body → StandsIn visible t locals s
+    in_task_loop_body : {locals : List Local} {s : Stmt} (head : LoopHead) (body : Stmt) → s.what ≡ stmts.TaskLoop head body → StandsIn visible t (loop_locals head locals) body
+        → StandsIn visible t locals s
 
   -- the same of statements in a row: behind a declaration its locals are in scope
   pub data StandsAmong (visible : List Local) (t : Stmt) : List Local → List Stmt → Type 0 where

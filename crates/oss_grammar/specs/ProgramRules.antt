@@ -12,6 +12,7 @@ use Rattle.oss_syntax.specs.declared.tree.program.Kind.TheVariants as kind
 use Rattle.oss_syntax.specs.declared.tree.program.Local.{Local}
 use Rattle.oss_syntax.specs.declared.tree.program.Program.{Program}
 use Rattle.oss_grammar.specs.declared.kinds.Around.{Around}
+use Rattle.oss_grammar.specs.declared.kinds.Nearest.TheVariants as nearest
 use Rattle.oss_syntax.specs.declared.refusal.Refused.{Refused}
 use Rattle.oss_syntax.specs.declared.refusal.RefusedKind.TheVariants as refused
 use Rattle.oss_grammar.specs.Broken.{first, where_so}
@@ -45,7 +46,7 @@ mark_rules all locals (Some mark) = clauses_rules all locals 0 mark.clauses
 
 -- what stands around the body of a function
 abbrev pub body_around : Kind → Around
-body_around result = record { start = 0; result = result; in_loop = false; in_task = false }
+body_around result = record { start = 0; result = result; nearest = nearest.NoLoop; in_task = false }
 
 -- The pragma of a function stands before it, and its parameters are in scope there. They share one scope with the outermost block.
 abbrev pub parts_rules : List Item → ℕ → Function → Judged → List Refused

@@ -11,6 +11,7 @@ use Rattle.oss_syntax.specs.declared.tree.program.Item.{Item}
 use Rattle.oss_syntax.specs.declared.tree.program.Item.TheVariants as items
 use Rattle.oss_syntax.specs.declared.tree.program.Local.{Local}
 use Rattle.oss_syntax.specs.declared.tree.program.Program.{Program}
+use Rattle.oss_syntax.specs.declared.tree.stmt.LoopHead.{LoopHead}
 use Rattle.oss_syntax.specs.declared.tree.stmt.Stmt.{Stmt}
 use Rattle.oss_syntax.specs.declared.tree.stmt.StmtKind.TheVariants as stmts
 use Rattle.oss_grammar.specs.Broken.{broken}
@@ -75,6 +76,7 @@ mutual
     in_for_body : {s : Stmt} (start : Option Stmt) (test : Option Expr) (last : Option Stmt) (body : Stmt) → s.what ≡ stmts.For start test last body → AgainAmong line [] (body ∷ [])
         → AgainInside line s
     in_task_body : {s : Stmt} (mark : TaskMark) (body : Stmt) → s.what ≡ stmts.Task mark body → AgainAmong line [] (body ∷ []) → AgainInside line s
+    in_task_loop_body : {s : Stmt} (head : LoopHead) (body : Stmt) → s.what ≡ stmts.TaskLoop head body → AgainAmong line [] (body ∷ []) → AgainInside line s
 
 -- On this line of a program a name is declared again: that of an item, of a parameter, or of a local of a block.
 pub data DeclaresAgain (p : Program) (line : ℕ) : Type 0 where

@@ -79,7 +79,7 @@ is_left_out_word k =
     is_word (codes "assert") k || is_word (codes "atomic") k || is_word (codes "commutative") k || is_word (codes "concurrent") k
     || is_word (codes "cost") k || is_word (codes "critical") k || is_word (codes "device") k || is_word (codes "firstprivate") k
     || is_word (codes "onready") k || is_word (codes "private") k || is_word (codes "shared") k || is_word (codes "taskfor") k
-    || is_word (codes "taskiter") k || is_word (codes "taskloop") k || is_word (codes "weakcommutative") k
+    || is_word (codes "taskiter") k || is_word (codes "weakcommutative") k
 
 -- Whether a pragma is open behind these tokens, where one is open before them or not: its first token opens one, and its last
 -- token closes it.

@@ -2,15 +2,18 @@
 -- locals those are in scope that were declared before the place in a block around it, or are parameters; the last one declared of
 -- a name hides the others, and every global and function of that name.
 -- Read against: in `long x; int main() { long x; { int *x; x = x; } x = 1; }` the inner `x` is a pointer, and the last one a number.
-use Rattle.std.specs.Prelude.{ℕ, ◌==◌, Bool, true, not, if◌then◌else◌, List, [], ◌∷◌, map, drop, Option, Some, None, position, slice_get, codes}
+use Rattle.std.specs.Prelude.{ℕ, ◌==◌, Bool, true, not, if◌then◌else◌, List, [], ◌∷◌, ◌++◌, map, drop, Option, Some, None, position, slice_get, codes}
 use Rattle.std.specs.List.{list_any}
 use Rattle.std.specs.Str.{bytes_eq}
 use Rattle.oss_syntax.specs.declared.tree.program.Function.{Function}
 use Rattle.oss_syntax.specs.declared.tree.program.Item.{Item}
 use Rattle.oss_syntax.specs.declared.tree.program.Item.TheVariants as items
 use Rattle.oss_syntax.specs.declared.tree.program.Kind.{Kind}
+use Rattle.oss_syntax.specs.declared.tree.program.Kind.TheVariants as kind
 use Rattle.oss_syntax.specs.declared.tree.program.Local.{Local}
 use Rattle.oss_syntax.specs.declared.tree.program.NumKind.{NumKind}
+use Rattle.oss_syntax.specs.declared.tree.program.NumKind.TheVariants as num
+use Rattle.oss_syntax.specs.declared.tree.stmt.LoopHead.{LoopHead}
 use Rattle.oss_grammar.specs.declared.kinds.Named.{Named}
 use Rattle.oss_grammar.specs.declared.kinds.Named.TheVariants as named
 
@@ -83,3 +86,11 @@ function_named all name = as_function (item_named all name)
 -- whether a name is `main`, the function with which a run begins
 abbrev pub is_main : List ℕ → Bool
 is_main name = bytes_eq name (codes "main")
+
+-- The locals of a task loop in scope in its clauses and its statement: its variable, and four that no text can name, for where the next
+-- task begins, where the loop ends, how many turns a task makes, and where this task ends.
+abbrev pub hidden_local : Local
+hidden_local = record { name = codes "$"; kind = kind.Num num.Long; first = None; line = 0 }
+
+abbrev pub loop_locals : LoopHead → List Local → List Local
+loop_locals head locals = locals ++ (hidden_local ∷ hidden_local ∷ hidden_local ∷ hidden_local ∷ head.variable ∷ [])

@@ -2,7 +2,7 @@
 -- numbers, a reduction names numbers of 64 bits, and a pragma has at most 64 sections.
 -- Read against: with `long x, a[4], m[3][4];` and a local `long *p` the sections `x`, `a`, `a[1]`, `p[0;2]`, `*p`, `m`, `m[1:]` and `m[1][0;2]`
 -- break no rule; `x[0]`, `p`, `p[1:]`, `*m`, `[2]m` and `a[1][2]` break one each, at their first token.
-use Rattle.std.specs.Prelude.{ℕ, ◌+◌, ◌==◌, Bool, true, false, not, ◌&&◌, ◌||◌, List, [], ◌∷◌, ◌++◌, length, Option, Some, None}
+use Rattle.std.specs.Prelude.{ℕ, ◌+◌, ◌==◌, nat_le, Bool, true, false, not, ◌&&◌, ◌||◌, List, [], ◌∷◌, ◌++◌, length, Option, Some, None}
 use Rattle.oss_syntax.specs.declared.access.Mode.{Mode}
 use Rattle.oss_syntax.specs.declared.access.Mode.TheVariants as mode
 use Rattle.oss_syntax.specs.declared.tree.expr.Expr.{Expr}
@@ -13,6 +13,7 @@ use Rattle.oss_syntax.specs.declared.tree.pragma.Form.TheVariants as form
 use Rattle.oss_syntax.specs.declared.tree.pragma.Inner.{Inner}
 use Rattle.oss_syntax.specs.declared.tree.pragma.Inner.TheVariants as inner_forms
 use Rattle.oss_syntax.specs.declared.tree.pragma.Section.{Section}
+use Rattle.oss_syntax.specs.declared.tree.pragma.Turns.{Turns}
 use Rattle.oss_syntax.specs.declared.tree.program.Item.{Item}
 use Rattle.oss_syntax.specs.declared.tree.program.Kind.TheVariants as kind
 use Rattle.oss_syntax.specs.declared.tree.program.Local.{Local}
@@ -73,6 +74,7 @@ fits_base form.Deref m = has_elements m
 fits_base (form.Shape n) m = has_elements m
 fits_base (form.Span lower None) m = is_array m
 fits_base (form.Grid rows columns) m = is_grid m
+fits_base (form.Many e (Some f) turns) m = is_grid m
 fits_base _ m = has_elements m || is_grid m
 
 -- what is wrong with the form of a section whose base is in scope
@@ -84,6 +86,7 @@ is_wrong_section fold f m = not (fits_base f m) || (fold && has_ints m)
 abbrev pub begins_with_base : Form → Bool
 begins_with_base form.Deref = false
 begins_with_base (form.Shape e) = false
+begins_with_base (form.Many e f turns) = false
 begins_with_base _ = true
 
 abbrev pub optional_rules : List Item → List Local → Option Expr → List Refused
@@ -96,6 +99,15 @@ inner_rules all locals (inner_forms.Element e) = value_rules all locals wanted.N
 inner_rules all locals (inner_forms.Length e n) = value_rules all locals wanted.Number e ++ value_rules all locals wanted.Number n
 inner_rules all locals (inner_forms.Span e u) = optional_rules all locals e ++ optional_rules all locals u
 
+-- The rules that the expressions of a multidependency break. Its variable is in scope in the indices alone, and is one local more there.
+abbrev pub many_rules : List Item → List Local → Expr → Option Expr → Turns → List Refused
+many_rules all locals e f turns =
+    value_rules all (locals ++ turns.variable ∷ []) wanted.Number e
+    ++ (optional_rules all (locals ++ turns.variable ∷ []) f
+    ++ (where_so (nat_le 255 (length locals)) refused.TooLarge turns.variable.line
+    ++ (optional_rules all locals turns.variable.first
+    ++ value_rules all locals wanted.Number turns.count)))
+
 -- the rules that the expressions of a section break
 abbrev pub form_rules : List Item → List Local → Form → List Refused
 form_rules all locals form.Whole = []
@@ -105,16 +117,25 @@ form_rules all locals (form.Element e) = value_rules all locals wanted.Number e
 form_rules all locals (form.Length e n) = value_rules all locals wanted.Number e ++ value_rules all locals wanted.Number n
 form_rules all locals (form.Span e u) = optional_rules all locals e ++ optional_rules all locals u
 form_rules all locals (form.Grid rows columns) = inner_rules all locals rows ++ inner_rules all locals columns
+form_rules all locals (form.Many e f turns) = many_rules all locals e f turns
 
--- The rules that a section breaks behind so many others of its pragma. Its base stands at its first token, or behind all else.
+-- whether the base is the last token of a section
+abbrev pub ends_with_base : Form → Bool
+ends_with_base form.Deref = true
+ends_with_base (form.Shape e) = true
+ends_with_base _ = false
+
+-- The rules that a section breaks behind so many others of its pragma. Its base stands at its first token, behind the `{` of a
+-- multidependency, or behind all else.
 -- Checked on `[y]` and `p` on the next line, neither in scope: UnknownName with the line of `y`, then with that of `p`.
 abbrev pub section_rules : List Item → List Local → Bool → ℕ → Section → List Refused
 section_rules all locals fold before s =
     where_so (begins_with_base s.form && is_missing (meaning all locals s.base)) refused.UnknownName s.line
     ++ (where_so (is_wrong_section fold s.form (meaning all locals s.base)) refused.WrongKind s.line
     ++ (where_so (before == 64) refused.TooLarge s.line
+    ++ (where_so (not (begins_with_base s.form || ends_with_base s.form) && is_missing (meaning all locals s.base)) refused.UnknownName s.base_line
     ++ (form_rules all locals s.form
-    ++ where_so (not (begins_with_base s.form) && is_missing (meaning all locals s.base)) refused.UnknownName s.base_line)))
+    ++ where_so (ends_with_base s.form && is_missing (meaning all locals s.base)) refused.UnknownName s.base_line))))
 
 abbrev pub sections_rules : List Item → List Local → Bool → ℕ → List Section → List Refused
 sections_rules all locals fold before [] = []
@@ -137,6 +158,16 @@ clause_rules all locals before (clause.Final e) = value_rules all locals wanted.
 clause_rules all locals before clause.Wait = []
 clause_rules all locals before (clause.Label name) = []
 clause_rules all locals before (clause.Priority e) = value_rules all locals wanted.Number e
+clause_rules all locals before (clause.Grain e) = value_rules all locals wanted.Number e
+
+-- In a task loop the grainsize stands outside of the scope of the other clauses.
+abbrev pub loop_clause_rules : List Item → List Local → List Local → ℕ → Clause → List Refused
+loop_clause_rules all outer inside before (clause.Grain e) = value_rules all outer wanted.Number e
+loop_clause_rules all outer inside before c = clause_rules all inside before c
+
+abbrev pub loop_clauses_rules : List Item → List Local → List Local → ℕ → List Clause → List Refused
+loop_clauses_rules all outer inside before [] = []
+loop_clauses_rules all outer inside before (c ∷ rest) = loop_clause_rules all outer inside before c ++ loop_clauses_rules all outer inside (before + length (sections_in c)) rest
 
 abbrev pub clauses_rules : List Item → List Local → ℕ → List Clause → List Refused
 clauses_rules all locals before [] = []

@@ -19,10 +19,12 @@ use Rattle.oss_grammar.specs.Expressions.{IsWhole, IsArgumentList}
 use Rattle.oss_grammar.specs.Fronts.{Viable}
 use Rattle.oss_grammar.specs.Levels.{IsExpressionExcess, IsExcessBehind, AfterComma, OpensClause, OpensPragma, most_levels}
 use Rattle.oss_grammar.specs.OneToken.{IsSymbol, IsKeyword, IsWord, IsOpen, IsClose, IsIndexOpen, IsIndexClose, IsComma}
-use Rattle.oss_grammar.specs.Pragmas.{IsPragma, IsClauses, HasEachOnce}
+use Rattle.oss_grammar.specs.Pragmas.{IsPragma, IsClauses, HasEachOnce, HasNoGrain}
 use Rattle.oss_grammar.specs.Programs.{IsMark, IsResult, IsParameters, IsItem}
 use Rattle.oss_grammar.specs.SimpleStatements.{IsTarget, IsNumKind, IsDeclared, IsLocal, IsDeclaration, assignment_of, step_of}
-use Rattle.oss_grammar.specs.Statements.{IsStmt, IsAnyStmt, IsForFirst, IsMaybeWhole, IsMaybeSimple, IsPrinted}
+use Rattle.oss_syntax.specs.declared.tree.stmt.LoopHead.{LoopHead}
+use Rattle.oss_syntax.specs.declared.tree.stmt.NameUse.{NameUse}
+use Rattle.oss_grammar.specs.Statements.{IsStmt, IsAnyStmt, IsForFirst, IsLoopHead, IsLoopVariable, IsTested, IsMaybeWhole, IsMaybeSimple, IsPrinted}
 
 -- Behind these tokens of a target a whole expression begins: behind `a[`, behind `m[i][`, and behind `*(`.
 pub data OpensTarget (xs : List Token) : Type 0 where
@@ -57,6 +59,13 @@ pub record OpensDeclaration (xs : List Token) : Type 0 where
   pub typed : IsNumKind front numbers
   pub opens : OpensLocals numbers back
 
+-- The same in the head of a task loop: behind `for (long i =`, and behind `for (long i = l; i <`.
+pub data OpensLoopHead (xs : List Token) : Type 0 where
+  loop_first : {word : List ℕ} {line : ℕ} (front : List Token) (set : Token) → xs ≡ front ++ (set ∷ []) → IsLoopVariable front word line → IsSymbol (codes "=") set → OpensLoopHead xs
+  loop_end : {word : List ℕ} {line : ℕ} {first : Expr} {tested : NameUse} (front : List Token) (set : Token) (start : List Token) (mark : Token) (test : List Token)
+      → xs ≡ front ++ (set ∷ (start ++ (mark ∷ test))) → IsLoopVariable front word line → IsSymbol (codes "=") set → IsWhole start first → IsSymbol (codes ";") mark
+      → IsTested test tested → OpensLoopHead xs
+
 -- The same in a statement, outside of the statements in it.
 pub data OpensStatement (xs : List Token) : Type 0 where
   in_simple : OpensSimple xs → OpensStatement xs
@@ -74,6 +83,7 @@ pub data OpensStatement (xs : List Token) : Type 0 where
       → xs ≡ t ∷ opened ∷ string ∷ (inner ++ (comma ∷ [])) → IsKeyword (codes "printf") t → IsOpen opened → string.what ≡ kinds.Text bytes
       → IsPrinted inner values → IsComma comma → OpensStatement xs
   in_pragma : OpensPragma xs → OpensStatement xs
+  in_loop_head : {mark : TaskMark} (front back : List Token) → xs ≡ front ++ back → IsPragma front (directive.TaskLoop mark) → OpensLoopHead back → OpensStatement xs
 
 -- The tokens are what stands in a block: a declaration with its `;`, or a statement.
 pub data IsOneItem (ts : List Token) (s : Stmt) : Type 0 where
@@ -105,6 +115,9 @@ mutual
         → IsStatementExcess Excess n front t → IsStatementExcess Excess (suc n) xs t
     under_task : {n : ℕ} {xs : List Token} {t : Token} {mark : TaskMark} (front back : List Token)
         → xs ≡ front ++ back → IsPragma front (directive.Task mark) → IsStatementExcess Excess n back t → IsStatementExcess Excess (suc n) xs t
+    under_task_loop : {n : ℕ} {xs : List Token} {t : Token} {mark : TaskMark} {head : LoopHead} (front middle back : List Token)
+        → xs ≡ front ++ (middle ++ back) → IsPragma front (directive.TaskLoop mark) → IsLoopHead mark middle head → IsStatementExcess Excess n back t
+        → IsStatementExcess Excess (suc n) xs t
 
   -- the same of one thing in a block
   pub data IsItemExcess (Excess : List Token → Token → Type 0) : ℕ → List Token → Token → Type 0 where
@@ -122,7 +135,7 @@ mutual
 pub data OpensMark (xs : List Token) : Type 0 where
   in_mark : {found : List Clause} (start word : Token) (front back : List Token)
       → xs ≡ start ∷ word ∷ (front ++ back) → start.what ≡ kinds.PragmaOss → IsWord (codes "task") word
-      → IsClauses front found → HasEachOnce found → AfterComma (OpensClause found) back
+      → IsClauses front found → HasEachOnce found → HasNoGrain found → AfterComma (OpensClause found) back
       → OpensMark xs
 
 -- Behind these tokens of a program the next token passes a limit: in the pragma before a function, in a function's block, whose

@@ -1,4 +1,4 @@
--- Statements (C11 6.8, and OmpSs-2's task, taskwait and release): which list of tokens is a statement, and what its tree is. The
+-- Statements (C11 6.8, and OmpSs-2's task, taskloop, taskwait and release): which list of tokens is a statement, and what its tree is. The
 -- relations speak of whole lists: nothing is greedy, and nothing is left over. A statement has the line of its first token.
 -- Read against: `if (a) if (b) x = 1; else x = 2;` has one tree, in which the `else` belongs to the second `if`.
 use Rattle.std.specs.Prelude.{◌≡◌, ℕ, Bool, true, false, List, [], ◌∷◌, ◌++◌, codes, Option, Some, None}
@@ -9,11 +9,13 @@ use Rattle.oss_syntax.specs.declared.tree.pragma.Clause.{Clause}
 use Rattle.oss_syntax.specs.declared.tree.pragma.Directive.TheVariants as directive
 use Rattle.oss_syntax.specs.declared.tree.pragma.Section.{Section}
 use Rattle.oss_syntax.specs.declared.tree.pragma.TaskMark.{TaskMark}
+use Rattle.oss_syntax.specs.declared.tree.stmt.LoopHead.{LoopHead}
+use Rattle.oss_syntax.specs.declared.tree.stmt.NameUse.{NameUse}
 use Rattle.oss_syntax.specs.declared.tree.stmt.Stmt.{Stmt}
 use Rattle.oss_syntax.specs.declared.tree.stmt.StmtKind.TheVariants as stmts
 use Rattle.oss_grammar.specs.Expressions.{IsWhole, IsArgumentList}
 use Rattle.oss_grammar.specs.OneToken.{IsSymbol, IsKeyword, IsOpen, IsClose, IsComma}
-use Rattle.oss_grammar.specs.Pragmas.{IsPragma}
+use Rattle.oss_grammar.specs.Pragmas.{IsPragma, counter}
 use Rattle.oss_grammar.specs.SimpleStatements.{IsSimple, IsDeclaration, first_line}
 
 -- The tokens are an expression, or nothing.
@@ -30,6 +32,30 @@ pub data IsMaybeSimple : List Token → Option Stmt → Type 0 where
 pub data IsForFirst : List Token → Option Stmt → Type 0 where
   declared_first : {ts : List Token} {s : Stmt} → IsDeclaration ts s → IsForFirst ts (Some s)
   other_first : {ts : List Token} {s : Option Stmt} → IsMaybeSimple ts s → IsForFirst ts s
+
+-- The tokens are the beginning of the head of a task loop up to the name of its variable: `for (long i`.
+pub data IsLoopVariable : List Token → List ℕ → ℕ → Type 0 where
+  loop_variable : {ts : List Token} (t opened kind named : Token) (word : List ℕ) → ts ≡ t ∷ opened ∷ kind ∷ named ∷ [] → IsKeyword (codes "for") t → IsOpen opened
+      → IsKeyword (codes "long") kind → named.what ≡ kinds.Name word → IsLoopVariable ts word named.line
+
+-- The tokens are a name and `<`.
+pub data IsTested : List Token → NameUse → Type 0 where
+  tested : {ts : List Token} (t less : Token) (word : List ℕ) → ts ≡ t ∷ less ∷ [] → t.what ≡ kinds.Name word → IsSymbol (codes "<") less
+      → IsTested ts (record { name = word; line = t.line })
+
+-- The tokens are a name and `++`.
+pub data IsStepped : List Token → NameUse → Type 0 where
+  stepped : {ts : List Token} (t twice : Token) (word : List ℕ) → ts ≡ t ∷ twice ∷ [] → t.what ≡ kinds.Name word → IsSymbol (codes "++") twice
+      → IsStepped ts (record { name = word; line = t.line })
+
+-- The tokens are the head of a task loop, behind its pragma (OmpSs-2, the taskloop directive): `for (long i = 0; i < 8; i++)`. That the
+-- three names are one is a static rule. `for (long i = 0; i <= 8; i++)` and `for (int i = 0; i < 8; i++)` are none.
+pub data IsLoopHead (mark : TaskMark) : List Token → LoopHead → Type 0 where
+  loop_head : {ts : List Token} {word : List ℕ} {line : ℕ} {first end : Expr} {tests steps : NameUse}
+      (front : List Token) (set : Token) (start : List Token) (ended : Token) (test limit : List Token) (other : Token) (step : List Token) (closed : Token)
+      → ts ≡ front ++ (set ∷ (start ++ (ended ∷ (test ++ (limit ++ (other ∷ (step ++ closed ∷ []))))))) → IsLoopVariable front word line → IsSymbol (codes "=") set
+      → IsWhole start first → IsSymbol (codes ";") ended → IsTested test tests → IsWhole limit end → IsSymbol (codes ";") other → IsStepped step steps → IsClose closed
+      → IsLoopHead mark ts (record { mark = mark; variable = counter word first line; tested = tests; end = end; stepped = steps; for_line = first_line front })
 
 -- The tokens are what follows the string of a `printf`: nothing, or a comma and arguments.
 pub data IsPrinted : List Token → List Expr → Type 0 where
@@ -81,6 +107,9 @@ mutual
     task : {o : Bool} {ts : List Token} {mark : TaskMark} {s : Stmt} (front back : List Token)
         → ts ≡ front ++ back → IsPragma front (directive.Task mark) → IsStmt o back s
         → IsStmt o ts (record { what = stmts.Task mark s; line = mark.line })
+    task_loop : {o : Bool} {ts : List Token} {mark : TaskMark} {head : LoopHead} {s : Stmt} (front middle back : List Token)
+        → ts ≡ front ++ (middle ++ back) → IsPragma front (directive.TaskLoop mark) → IsLoopHead mark middle head → IsStmt o back s
+        → IsStmt o ts (record { what = stmts.TaskLoop head s; line = mark.line })
     task_wait : {ts : List Token} {sections : Option (List Section)} → IsPragma ts (directive.TaskWait sections)
         → IsStmt false ts (record { what = stmts.TaskWait sections; line = first_line ts })
     release : {ts : List Token} {clauses : List Clause} → IsPragma ts (directive.Release clauses)

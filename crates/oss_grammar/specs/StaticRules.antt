@@ -2,7 +2,8 @@
 -- in text order. A text is refused for the first of them.
 -- Read against: `long a[0]; int main() { b = 1; }` on two lines breaks TooLarge on line 1 and UnknownName on line 2; `int main() {
 -- long x = x; }` breaks UnknownName, and `{ long y; } y = 1;` too; the empty text breaks NoMain on line 1.
-use Rattle.std.specs.Prelude.{ℕ, ◌==◌, nat_le, Bool, true, false, not, List, [], ◌∷◌, ◌++◌, length, map, Option, Some, None, is_some}
+use Rattle.std.specs.Prelude.{ℕ, ◌==◌, nat_le, Bool, true, false, not, ◌&&◌, List, [], ◌∷◌, ◌++◌, length, map, Option, Some, None, is_some}
+use Rattle.std.specs.Str.{bytes_eq}
 use Rattle.oss_syntax.specs.declared.tree.expr.BinOp.{BinOp}
 use Rattle.oss_syntax.specs.declared.tree.expr.BinOp.TheVariants as op
 use Rattle.oss_syntax.specs.declared.tree.expr.Expr.{Expr}
@@ -12,11 +13,15 @@ use Rattle.oss_syntax.specs.declared.tree.program.Kind.{Kind}
 use Rattle.oss_syntax.specs.declared.tree.program.Kind.TheVariants as kind
 use Rattle.oss_syntax.specs.declared.tree.program.Local.{Local}
 use Rattle.oss_syntax.specs.declared.tree.program.NumKind.{NumKind}
+use Rattle.oss_syntax.specs.declared.tree.stmt.LoopHead.{LoopHead}
+use Rattle.oss_syntax.specs.declared.tree.stmt.NameUse.{NameUse}
 use Rattle.oss_syntax.specs.declared.tree.stmt.Stmt.{Stmt}
 use Rattle.oss_syntax.specs.declared.tree.stmt.StmtKind.TheOpen.{StmtKind-F, Stmt-F}
 use Rattle.oss_syntax.specs.declared.tree.stmt.StmtKind.TheOpen as open_stmt
 use Rattle.oss_syntax.specs.declared.tree.stmt.StmtKind.TheFolds.{fold-Stmt}
 use Rattle.oss_grammar.specs.declared.kinds.Around.{Around}
+use Rattle.oss_grammar.specs.declared.kinds.Nearest.{Nearest}
+use Rattle.oss_grammar.specs.declared.kinds.Nearest.TheVariants as nearest
 use Rattle.oss_grammar.specs.declared.kinds.Object.{Object}
 use Rattle.oss_grammar.specs.declared.kinds.Object.TheVariants as object
 use Rattle.oss_grammar.specs.declared.kinds.ValueKind.{ValueKind}
@@ -28,8 +33,8 @@ use Rattle.oss_syntax.specs.declared.refusal.RefusedKind.TheVariants as refused
 use Rattle.oss_grammar.specs.Broken.{broken, where_so}
 use Rattle.oss_grammar.specs.ExpressionRules.{call_findings, findings, value_rules}
 use Rattle.oss_grammar.specs.Kinds.{Findings, all_of, placed, unless, wanted_by}
-use Rattle.oss_grammar.specs.Scopes.{is_local_again}
-use Rattle.oss_grammar.specs.SectionRules.{clauses_rules, optional_rules, sections_rules}
+use Rattle.oss_grammar.specs.Scopes.{is_local_again, loop_locals}
+use Rattle.oss_grammar.specs.SectionRules.{clauses_rules, loop_clauses_rules, optional_rules, sections_rules}
 use Rattle.oss_grammar.specs.Formats.{conversions_of}
 
 -- What is found of a part of a text: the rules that it breaks, and the locals that are in scope behind it.
@@ -133,17 +138,29 @@ Rules = List Item → Around → List Local → Judged
 
 -- a scope of its own begins
 abbrev pub scope_in : Around → List Local → Around
-scope_in a locals = record { start = length locals; result = a.result; in_loop = a.in_loop; in_task = a.in_task }
+scope_in a locals = record { start = length locals; result = a.result; nearest = a.nearest; in_task = a.in_task }
 
 abbrev pub inner : Rules → Rules
 inner r all a locals = alone (r all (scope_in a locals) locals) locals
 
--- in a loop jumps may leave it, and in a task statement none may leave the task
+-- in a loop jumps may leave it, in a task statement none may leave the task, and in a task loop `continue` may end a turn
 abbrev pub in_a_loop : Around → Around
-in_a_loop a = record { start = a.start; result = a.result; in_loop = true; in_task = a.in_task }
+in_a_loop a = record { start = a.start; result = a.result; nearest = nearest.Loop; in_task = a.in_task }
 
 abbrev pub in_a_task : Around → Around
-in_a_task a = record { start = a.start; result = a.result; in_loop = false; in_task = true }
+in_a_task a = record { start = a.start; result = a.result; nearest = nearest.NoLoop; in_task = true }
+
+abbrev pub in_a_task_loop : Around → Around
+in_a_task_loop a = record { start = a.start; result = a.result; nearest = nearest.TaskLoop; in_task = true }
+
+-- whether a `break` may stand there, and whether a `continue` may
+abbrev pub may_break : Nearest → Bool
+may_break nearest.Loop = true
+may_break _ = false
+
+abbrev pub may_continue : Nearest → Bool
+may_continue nearest.NoLoop = false
+may_continue _ = true
 
 abbrev pub statements_rules : List Rules → Rules
 statements_rules [] all a locals = judged [] locals
@@ -167,6 +184,24 @@ abbrev pub wait_rules : List Item → List Local → Option (List Section) → L
 wait_rules all locals None = []
 wait_rules all locals (Some sections) = sections_rules all locals false 0 sections
 
+-- the first name of the head that differs from that of the variable
+abbrev pub name_rules : List ℕ → NameUse → NameUse → List Refused
+name_rules name tested stepped = where_so (not (bytes_eq tested.name name)) refused.WrongKind tested.line
+
+abbrev pub last_name_rules : List ℕ → NameUse → NameUse → List Refused
+last_name_rules name tested stepped = where_so (bytes_eq tested.name name && not (bytes_eq stepped.name name)) refused.WrongKind stepped.line
+
+-- The rules that the pragma and the head of a task loop break, in text order: in the clauses the variable is in scope, and in the
+-- grainsize, the first value and the end it is not.
+abbrev pub head_rules : List Item → List Local → LoopHead → List Refused
+head_rules all locals head =
+    loop_clauses_rules all locals (loop_locals head locals) 0 head.mark.clauses
+    ++ (where_so (nat_le 251 (length locals)) refused.TooLarge head.variable.line
+    ++ (optional_rules all locals head.variable.first
+    ++ (name_rules head.variable.name head.tested head.stepped
+    ++ (value_rules all locals wanted.Number head.end
+    ++ last_name_rules head.variable.name head.tested head.stepped))))
+
 abbrev pub stmt_step : StmtKind-F (ℕ → Rules) Rules → ℕ → Rules
 stmt_step (open_stmt.Block all_in) line all a locals = inner (statements_rules all_in) all a locals
 stmt_step open_stmt.Empty line all a locals = judged [] locals
@@ -179,9 +214,11 @@ stmt_step (open_stmt.If e then_part else_part) line all a locals =
 stmt_step (open_stmt.While e body) line all a locals = then_judge (judged (value_rules all locals wanted.Number e) locals) (λ ls. inner body all (in_a_loop a) ls)
 stmt_step (open_stmt.For start test step body) line all a locals = inner (for_rules start test step body) all a locals
 stmt_step (open_stmt.Return e) line all a locals = judged (return_rules all locals a line e) locals
-stmt_step open_stmt.Break line all a locals = judged (where_so (not a.in_loop) refused.BadJump line) locals
-stmt_step open_stmt.Continue line all a locals = judged (where_so (not a.in_loop) refused.BadJump line) locals
+stmt_step open_stmt.Break line all a locals = judged (where_so (not (may_break a.nearest)) refused.BadJump line) locals
+stmt_step open_stmt.Continue line all a locals = judged (where_so (not (may_continue a.nearest)) refused.BadJump line) locals
 stmt_step (open_stmt.Task mark body) line all a locals = then_judge (judged (clauses_rules all locals 0 mark.clauses) locals) (λ ls. inner body all (in_a_task a) ls)
+stmt_step (open_stmt.TaskLoop head body) line all a locals =
+    alone (then_judge (judged (head_rules all locals head) (loop_locals head locals)) (λ ls. inner body all (in_a_task_loop a) ls)) locals
 stmt_step (open_stmt.TaskWait sections) line all a locals = judged (wait_rules all locals sections) locals
 stmt_step (open_stmt.Release clauses) line all a locals = judged (clauses_rules all locals 0 clauses) locals
 

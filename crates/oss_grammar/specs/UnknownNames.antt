@@ -16,17 +16,20 @@ use Rattle.oss_syntax.specs.declared.tree.pragma.Inner.{Inner}
 use Rattle.oss_syntax.specs.declared.tree.pragma.Inner.TheVariants as inner_forms
 use Rattle.oss_syntax.specs.declared.tree.pragma.Section.{Section}
 use Rattle.oss_syntax.specs.declared.tree.pragma.TaskMark.{TaskMark}
+use Rattle.oss_syntax.specs.declared.tree.pragma.Turns.{Turns}
 use Rattle.oss_syntax.specs.declared.tree.program.Function.{Function}
 use Rattle.oss_syntax.specs.declared.tree.program.Item.{Item}
 use Rattle.oss_syntax.specs.declared.tree.program.Item.TheVariants as items
 use Rattle.oss_syntax.specs.declared.tree.program.Local.{Local}
 use Rattle.oss_syntax.specs.declared.tree.program.Program.{Program}
+use Rattle.oss_syntax.specs.declared.tree.stmt.LoopHead.{LoopHead}
 use Rattle.oss_syntax.specs.declared.tree.stmt.Stmt.{Stmt}
 use Rattle.oss_syntax.specs.declared.tree.stmt.StmtKind.TheVariants as stmts
 use Rattle.oss_grammar.specs.Broken.{broken}
 use Rattle.oss_grammar.specs.Places.{IsOneOf, Stands, locals_behind_part}
 use Rattle.oss_grammar.specs.ProgramRules.{program_rules}
 use Rattle.oss_grammar.specs.Redeclarations.{NamesItem, NamesLocal}
+use Rattle.oss_grammar.specs.Scopes.{loop_locals}
 use Rattle.oss_grammar.specs.SectionRules.{begins_with_base}
 
 -- Neither one of the locals nor an item has this name.
@@ -54,41 +57,50 @@ pub data InInner (e : Expr) : Inner → Type 0 where
   of_lower : (last : Option Expr) → InInner e (inner_forms.Span (Some e) last)
   of_upper : (first : Option Expr) → InInner e (inner_forms.Span first (Some e))
 
--- The expression is one of those of a section's form.
-pub data InForm (e : Expr) : Form → Type 0 where
-  of_shape : InForm e (form.Shape e)
-  of_element : InForm e (form.Element e)
-  of_length_first : (count : Expr) → InForm e (form.Length e count)
-  of_length_count : (first : Expr) → InForm e (form.Length first e)
-  of_span_first : (last : Option Expr) → InForm e (form.Span (Some e) last)
-  of_span_last : (first : Option Expr) → InForm e (form.Span first (Some e))
-  of_rows : {rows : Inner} (columns : Inner) → InInner e rows → InForm e (form.Grid rows columns)
-  of_columns : {columns : Inner} (rows : Inner) → InInner e columns → InForm e (form.Grid rows columns)
+-- The expression is one of those of a section's form, and these locals are in scope in it, where `visible` are in scope at the section: the
+-- variable of a multidependency is in scope in its indices alone.
+pub data InForm (visible : List Local) (e : Expr) : Form → List Local → Type 0 where
+  of_shape : InForm visible e (form.Shape e) visible
+  of_element : InForm visible e (form.Element e) visible
+  of_length_first : (count : Expr) → InForm visible e (form.Length e count) visible
+  of_length_count : (first : Expr) → InForm visible e (form.Length first e) visible
+  of_span_first : (last : Option Expr) → InForm visible e (form.Span (Some e) last) visible
+  of_span_last : (first : Option Expr) → InForm visible e (form.Span first (Some e)) visible
+  of_rows : {rows : Inner} (columns : Inner) → InInner e rows → InForm visible e (form.Grid rows columns) visible
+  of_columns : {columns : Inner} (rows : Inner) → InInner e columns → InForm visible e (form.Grid rows columns) visible
+  of_index : (second : Option Expr) (turns : Turns) → InForm visible e (form.Many e second turns) (visible ++ turns.variable ∷ [])
+  of_second_index : (first : Expr) (turns : Turns) → InForm visible e (form.Many first (Some e) turns) (visible ++ turns.variable ∷ [])
+  of_first_turn : (first : Expr) (second : Option Expr) (turns : Turns) → turns.variable.first ≡ Some e → InForm visible e (form.Many first second turns) visible
+  of_turns : (first : Expr) (second : Option Expr) (turns : Turns) → turns.count ≡ e → InForm visible e (form.Many first second turns) visible
 
--- The name is used in a section: as its base, at its first token or behind all else, or in an expression of its form.
-pub data UsesInSection (name : List ℕ) (line : ℕ) (s : Section) : Type 0 where
-  as_first_base : s.base ≡ name → begins_with_base s.form ≡ true → s.line ≡ line → UsesInSection name line s
-  as_last_base : s.base ≡ name → begins_with_base s.form ≡ false → s.base_line ≡ line → UsesInSection name line s
-  in_form : (e : Expr) → InForm e s.form → Uses name line e → UsesInSection name line s
+-- The name is used in a section, where these locals are in scope: as its base, at its first token or not, or in an expression of its
+-- form.
+pub data UsesInSection (visible : List Local) (name : List ℕ) (line : ℕ) (s : Section) : List Local → Type 0 where
+  as_first_base : s.base ≡ name → begins_with_base s.form ≡ true → s.line ≡ line → UsesInSection visible name line s visible
+  as_later_base : s.base ≡ name → begins_with_base s.form ≡ false → s.base_line ≡ line → UsesInSection visible name line s visible
+  in_form : {scope : List Local} (e : Expr) → InForm visible e s.form scope → Uses name line e → UsesInSection visible name line s scope
 
--- The name is used in a clause of a pragma: in a section, or in its expression.
-pub data UsesInClause (name : List ℕ) (line : ℕ) : Clause → Type 0 where
-  in_section : (mode : Mode) (strong fresh : Bool) (sections : List Section) (s : Section) → IsOneOf s sections → UsesInSection name line s → UsesInClause name line (clause.Depend mode strong fresh sections)
-  in_if : (e : Expr) → Uses name line e → UsesInClause name line (clause.If e)
-  in_final : (e : Expr) → Uses name line e → UsesInClause name line (clause.Final e)
-  in_priority : (e : Expr) → Uses name line e → UsesInClause name line (clause.Priority e)
+-- The name is used in a clause of a pragma: in a section, or in its expression. The grainsize of a task loop stands outside of the scope
+-- of its other clauses.
+pub data UsesInClause (outer visible : List Local) (name : List ℕ) (line : ℕ) : Clause → List Local → Type 0 where
+  in_section : {scope : List Local} (mode : Mode) (strong fresh : Bool) (sections : List Section) (s : Section) → IsOneOf s sections → UsesInSection visible name line s scope
+      → UsesInClause outer visible name line (clause.Depend mode strong fresh sections) scope
+  in_if : (e : Expr) → Uses name line e → UsesInClause outer visible name line (clause.If e) visible
+  in_final : (e : Expr) → Uses name line e → UsesInClause outer visible name line (clause.Final e) visible
+  in_priority : (e : Expr) → Uses name line e → UsesInClause outer visible name line (clause.Priority e) visible
+  in_grain : (e : Expr) → Uses name line e → UsesInClause outer visible name line (clause.Grain e) outer
 
 -- The name is used in one of these clauses.
-pub record UsesInClauses (name : List ℕ) (line : ℕ) (clauses : List Clause) : Type 0 where
+pub record UsesInClauses (outer visible : List Local) (name : List ℕ) (line : ℕ) (clauses : List Clause) (scope : List Local) : Type 0 where
   pub clause : Clause
   pub is_listed : IsOneOf clause clauses
-  pub uses : UsesInClause name line clause
+  pub uses : UsesInClause outer visible name line clause scope
 
 -- The name is used in one of these sections.
-pub record UsesInSections (name : List ℕ) (line : ℕ) (sections : List Section) : Type 0 where
+pub record UsesInSections (visible : List Local) (name : List ℕ) (line : ℕ) (sections : List Section) (scope : List Local) : Type 0 where
   pub section : Section
   pub is_listed : IsOneOf section sections
-  pub uses : UsesInSection name line section
+  pub uses : UsesInSection visible name line section scope
 
 -- The name is used in one of these expressions.
 pub record UsesInSome (name : List ℕ) (line : ℕ) (es : List Expr) : Type 0 where
@@ -121,15 +133,23 @@ pub data UsesIn (visible : List Local) (s : Stmt) : List Local → List ℕ → 
   in_for_test : {name : List ℕ} {line : ℕ} (start : Option Stmt) (e : Expr) (last : Option Stmt) (body : Stmt) → s.what ≡ stmts.For start (Some e) last body → Uses name line e
       → UsesIn visible s (locals_behind_part start visible) name line
   in_returned : {name : List ℕ} {line : ℕ} (e : Expr) → s.what ≡ stmts.Return (Some e) → Uses name line e → UsesIn visible s visible name line
-  in_task_clauses : {name : List ℕ} {line : ℕ} (mark : TaskMark) (body : Stmt) → s.what ≡ stmts.Task mark body → UsesInClauses name line mark.clauses → UsesIn visible s visible name line
-  in_wait_sections : {name : List ℕ} {line : ℕ} (sections : List Section) → s.what ≡ stmts.TaskWait (Some sections) → UsesInSections name line sections → UsesIn visible s visible name line
-  in_release_clauses : {name : List ℕ} {line : ℕ} (clauses : List Clause) → s.what ≡ stmts.Release clauses → UsesInClauses name line clauses → UsesIn visible s visible name line
+  in_task_clauses : {scope : List Local} {name : List ℕ} {line : ℕ} (mark : TaskMark) (body : Stmt) → s.what ≡ stmts.Task mark body
+      → UsesInClauses visible visible name line mark.clauses scope → UsesIn visible s scope name line
+  in_loop_clauses : {scope : List Local} {name : List ℕ} {line : ℕ} (head : LoopHead) (body : Stmt) → s.what ≡ stmts.TaskLoop head body
+      → UsesInClauses visible (loop_locals head visible) name line head.mark.clauses scope → UsesIn visible s scope name line
+  in_loop_first : {name : List ℕ} {line : ℕ} (head : LoopHead) (body : Stmt) (e : Expr) → s.what ≡ stmts.TaskLoop head body → head.variable.first ≡ Some e → Uses name line e
+      → UsesIn visible s visible name line
+  in_loop_end : {name : List ℕ} {line : ℕ} (head : LoopHead) (body : Stmt) → s.what ≡ stmts.TaskLoop head body → Uses name line head.end → UsesIn visible s visible name line
+  in_wait_sections : {scope : List Local} {name : List ℕ} {line : ℕ} (sections : List Section) → s.what ≡ stmts.TaskWait (Some sections)
+      → UsesInSections visible name line sections scope → UsesIn visible s scope name line
+  in_release_clauses : {scope : List Local} {name : List ℕ} {line : ℕ} (clauses : List Clause) → s.what ≡ stmts.Release clauses
+      → UsesInClauses visible visible name line clauses scope → UsesIn visible s scope name line
 
 -- On this line of a program a name is used that is unknown there: in the pragma of a function, in the initial value of a parameter,
 -- which no text has, or in a statement.
 pub data UsesUnknown (p : Program) (line : ℕ) : Type 0 where
-  in_pragma : (f : Function) (mark : TaskMark) (name : List ℕ) → IsOneOf (items.Function f) p.items → f.mark ≡ Some mark → UsesInClauses name line mark.clauses
-      → IsUnknown p.items f.params name → UsesUnknown p line
+  in_pragma : (f : Function) (mark : TaskMark) (scope : List Local) (name : List ℕ) → IsOneOf (items.Function f) p.items → f.mark ≡ Some mark
+      → UsesInClauses f.params f.params name line mark.clauses scope → IsUnknown p.items scope name → UsesUnknown p line
   in_parameter : (f : Function) (scope : List Local) (name : List ℕ) → IsOneOf (items.Function f) p.items → UsesInInitial [] f.params scope name line
       → IsUnknown p.items scope name → UsesUnknown p line
   in_statement : (f : Function) (visible : List Local) (s : Stmt) (scope : List Local) (name : List ℕ) → Stands p f visible s → UsesIn visible s scope name line

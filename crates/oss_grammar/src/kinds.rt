@@ -61,6 +61,16 @@ pub enum Named {
     Function,
 }
 
+/// The nearest loop around a statement inside the same task body or function.
+#[derive(Clone, Copy, Debug, PartialEq, Eq)]
+pub enum Nearest {
+    NoLoop,
+    /// A `while` or a `for`, which `break` and `continue` may leave.
+    Loop,
+    /// A task loop, whose turns `continue` may end; no `break` leaves it.
+    TaskLoop,
+}
+
 /// What stands around a statement.
 #[derive(Clone, Copy, Debug)]
 pub struct Around {
@@ -68,8 +78,8 @@ pub struct Around {
     pub start: usize,
     /// The type of the function's result.
     pub result: Kind,
-    /// Whether a loop stands around it inside the same task body or function.
-    pub in_loop: bool,
-    /// Whether a task statement stands around it.
+    /// The nearest loop around it inside the same task body or function.
+    pub nearest: Nearest,
+    /// Whether a task statement or a task loop stands around it.
     pub in_task: bool,
 }

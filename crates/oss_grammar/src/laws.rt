@@ -16,7 +16,8 @@ pub fn a_string_has_its_pieces_alone(format: &[u8])
 {}
 
 /// BadJump is among the rules that a program breaks, with a line, exactly where a `break` or `continue` stands on that line
-/// outside of every loop of its task or function, or a `return` in a task statement.
+/// outside of every loop of its task or function, a `break` whose nearest loop is a task loop, or a `return` in a task statement or
+/// in a task loop.
 #[tactic(auto, using(crate::proofs::JumpLemmas::bad_jumps_are_told))]
 pub fn bad_jumps_are_told(program: &Program)
     ensures { BadJumpsAreTold program.now }

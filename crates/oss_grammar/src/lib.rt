@@ -7,5 +7,5 @@ pub mod laws;
 mod line_part;
 
 pub use format::{Piece, arguments, conversions, pieces, write_pieces};
-pub use kinds::{Around, Named, Object, ValueKind, Wanted};
+pub use kinds::{Around, Named, Nearest, Object, ValueKind, Wanted};
 pub use line_part::LinePart;

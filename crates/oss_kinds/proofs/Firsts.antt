@@ -1,6 +1,6 @@
 -- The first of broken rules, in lists that are put together.
 use Rattle.std.proofs.Common.{◌≡◌, ℕ, ◌+◌, ◌<◌, nat_lt, if◌then◌else◌, Bool, true, false, List, [], ◌∷◌, ◌++◌, length, map, drop, get_or, Option, Some, None, refl, sym, ap, ◌∙◌}
-use Rattle.std.proofs.lemmas.List.{drop_more, take-map}
+use Rattle.std.proofs.lemmas.List.{drop_more}
 use Rattle.oss_syntax.specs.declared.tree.expr.Expr.{Expr}
 use Rattle.oss_syntax.specs.declared.tree.program.Local.{Local}
 use Rattle.oss_grammar.specs.ExpressionRules.{argument_rules, argument_wanted, parameters_behind}
@@ -31,8 +31,6 @@ module _ (whole left here rest : Option Refused) (so_far : left ≡ whole) (part
 
   pub part-whole : here ≡ None → rest ≡ whole
   part-whole is = sym (ap (λ o. or_else o rest) is) ∙ sym parts ∙ so_far
-
-pub ruleset cuts = (take-map)
 
 -- the arguments from one on
 pub arguments-left : (params : List Local) (found : Expr → Findings) (es : List Expr) (i : ℕ) (e : Expr) → i < length es → e ≡ get_or es i e

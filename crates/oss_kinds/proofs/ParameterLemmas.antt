@@ -77,9 +77,11 @@ or-assoc None b c = refl
 abbrev kind_if : Local → List ℕ → Option Kind
 kind_if d name = if bytes_eq d.name name then Some d.kind else None
 
-kind-push : (ls : List Local) (d : Local) (name : List ℕ) → local_kind (ls ++ d ∷ []) name ≡ or_else (kind_if d name) (local_kind ls name)
+pub kind-push : (ls : List Local) (d : Local) (name : List ℕ) → local_kind (ls ++ d ∷ []) name ≡ or_else (kind_if d name) (local_kind ls name)
 kind-push [] d name = or-none (kind_if d name)
 kind-push (l ∷ ls) d name = ap (λ o. or_else o (kind_if l name)) (kind-push ls d name) ∙ or-assoc (kind_if d name) (local_kind ls name) (kind_if l name)
+
+pub ruleset pushes = (kind-push)
 
 -- the type of the local at a place, with one more local
 at-new : (ls : List Local) (d : Local) → kind_at (ls ++ d ∷ []) (Some (length ls)) ≡ Some d.kind

@@ -10,13 +10,26 @@ use crate::finding::{Finding, at_place, before, first_of, kind_of, number, refus
 use crate::globals::Globals;
 use crate::locals::Locals;
 use crate::operators::{binary, index, name, unary};
+use crate::scope::Scope;
 use oss_grammar::{Named, Object, ValueKind, Wanted};
 use oss_syntax::{Expr, ExprKind, Function, Local, Refused, RefusedKind};
 
-/// The first rule that an expression breaks at a place.
+/// The first rule that an expression breaks at a place where all locals are in scope.
 pub fn value(
     globals: &Globals<'_>,
     locals: &Locals<'_>,
+    wanted: Wanted,
+    expr: &Expr,
+) -> Option<Refused>
+    ensures { result ≡ first (value_rules globals.now locals.now wanted expr.now) }
+{
+    value_in(globals, &Scope::all(locals), wanted, expr)
+}
+
+/// The first rule that an expression breaks at a place where these locals are in scope.
+pub fn value_in(
+    globals: &Globals<'_>,
+    locals: &Scope<'_, '_>,
     wanted: Wanted,
     expr: &Expr,
 ) -> Option<Refused>
@@ -27,7 +40,7 @@ pub fn value(
 
 /// What is found of an expression.
 #[cycle(expressions)]
-pub fn expression(globals: &Globals<'_>, locals: &Locals<'_>, expr: &Expr) -> Finding
+pub fn expression(globals: &Globals<'_>, locals: &Scope<'_, '_>, expr: &Expr) -> Finding
     ensures { result ≡ seen (findings globals.now locals.now expr.now) }
 {
     let line = expr.line;
@@ -65,7 +78,7 @@ pub fn expression(globals: &Globals<'_>, locals: &Locals<'_>, expr: &Expr) -> Fi
 #[cycle(expressions)]
 pub fn call(
     globals: &Globals<'_>,
-    locals: &Locals<'_>,
+    locals: &Scope<'_, '_>,
     name: &[u8],
     line: u32,
     as_statement: bool,
@@ -89,7 +102,7 @@ pub fn call(
 #[cycle(expressions)]
 fn arguments(
     globals: &Globals<'_>,
-    locals: &Locals<'_>,
+    locals: &Scope<'_, '_>,
     params: &[Local],
     values: &[Expr],
 ) -> Option<Refused>

@@ -3,7 +3,7 @@ ghost use Rattle.std.specs.Prelude.{◌≡◌, IfOk};
 ghost use Rattle.std.specs.Option.{option_copied};
 ghost use Rattle.oss_grammar.specs.Scopes.{item_name, item_named, item_place, function_named, is_again, meaning, global_meaning};
 
-use crate::locals::Locals;
+use crate::scope::Scope;
 use crate::table::NameTable;
 use oss_grammar::Named;
 use oss_syntax::{Function, GlobalDef, Item, Name};
@@ -84,7 +84,7 @@ impl<'p> Globals<'p> {
     }
 
     /// What a name stands for where these locals are in scope.
-    pub fn named(&self, locals: &Locals<'_>, name: &[u8]) -> Named
+    pub fn named(&self, locals: &Scope<'_, '_>, name: &[u8]) -> Named
         ensures { result ≡ meaning self.now locals.now name.now }
     {
         match locals.kind(name) {

@@ -6,10 +6,12 @@ mod finding;
 mod globals;
 mod locals;
 mod operators;
+mod scope;
 mod table;
 
-pub use expressions::{call, expression, is_named_main, value};
+pub use expressions::{call, expression, is_named_main, value, value_in};
 pub use finding::{Finding, at_place, before, first_of, refused, refused_if, taken_by, wrong};
 pub use globals::Globals;
 pub use locals::Locals;
+pub use scope::Scope;
 pub use table::NameTable;

@@ -11,7 +11,7 @@ use Rattle.oss_syntax.specs.declared.refusal.Refused.{Refused}
 use Rattle.oss_syntax.specs.declared.refusal.RefusedKind.TheVariants as refused
 use Rattle.oss_grammar.specs.Broken.{first, where_so}
 use Rattle.oss_grammar.specs.Scopes.{or_else}
-use Rattle.oss_grammar.specs.StaticRules.{Judged, alone, declare_one, first_rules, local_rules, rules_of, rules_of_all, then_judge, with_local}
+use Rattle.oss_grammar.specs.StaticRules.{Judged, alone, declare_one, first_rules, judged, local_rules, rules_of, rules_of_all, then_judge, with_local}
 use Rattle.oss_grammar.specs.Scopes.{is_local_again}
 use Rattle.oss_names.specs.PartChecks.{IsPartChecked, LeavesInScope, TellsFirst}
 use Rattle.oss_kinds.proofs.Firsts.{first-append}
@@ -31,6 +31,10 @@ prefix-trans (o ∷ old) (m ∷ mid) (n ∷ now) a b =
 pub prefix-same : (old : List Local) → take (length old) old ≡ old
 prefix-same [] = refl
 prefix-same (o ∷ old) = ap (λ xs. o ∷ xs) (prefix-same old)
+
+pub prefix-many : (old more : List Local) → take (length old) (old ++ more) ≡ old
+prefix-many [] more = refl
+prefix-many (o ∷ old) more = ap (λ xs. o ∷ xs) (prefix-many old more)
 
 -- a refusal that tells of a part tells of the part and of what stands behind it
 pub tells-before : (V U : Type 0) (xs ys : List Refused) (e : Refusal) → TellsFirst {U = V} xs (Err e) → TellsFirst {U = U} (xs ++ ys) (Err e)
@@ -65,6 +69,14 @@ module _ {U : Type 0} where
   leaves-alone old after mid (Ok u) now l is = (is ∙ l.1, ap (take (length old)) (is ∙ l.1) ∙ prefix-same old)
   leaves-alone old after mid (Err e) now l is = tt
 
+  leaves-more : (old more now : List Local) (r : Result U Refusal) → now ≡ old ++ more → LeavesInScope old (old ++ more) r now
+  leaves-more old more now (Ok u) is = (is, ap (take (length old)) is ∙ prefix-many old more)
+  leaves-more old more now (Err e) is = tt
+
+  -- a part that puts more locals in scope
+  pub ends-more : (old more now : List Local) (rules : List Refused) (r : Result U Refusal) → now ≡ old ++ more → TellsFirst rules r → IsPartChecked old (judged rules (old ++ more)) r now
+  ends-more old more now rules r is told = record { tells = told; leaves = leaves-more old more now r is }
+
   -- a scope that is left
   pub ends-alone : (old mid now : List Local) (j : Judged) (r : Result U Refusal) (count : ℕ) → IsPartChecked old j r mid → count ≡ length old → now ≡ take count mid → IsPartChecked old (alone j old) r now
   ends-alone old mid now j r count here size is =
@@ -86,10 +98,6 @@ statements-left all a locals ss i s within at =
     ∙ ap (λ x. rules_of_all (x ∷ drop (i + 1) ss) all a locals) (sym at)
 
 -- a local that breaks no rule is new in its scope, and stands behind the others
-prefix-more : (d : Local) (ls : List Local) → take (length ls) (ls ++ d ∷ []) ≡ ls
-prefix-more d [] = refl
-prefix-more d (l ∷ ls) = ap (λ xs. l ∷ xs) (prefix-more d ls)
-
 pub local-declared : (all : List Item) (start : ℕ) (d : Local) (ls now : List Local) → first (local_rules all start d ls) ≡ None → now ≡ ls ++ d ∷ []
     → IsPartChecked {U = Unit {0}} ls (declare_one all start d ls) (Ok tt) now
 local-declared all start d ls now none is =
@@ -98,5 +106,5 @@ local-declared all start d ls now none is =
     let fresh : is_local_again start ls d.name ≡ false = not-so (is_local_again start ls d.name) refused.DuplicateName d.line (append-left again others none) in
     record {
       tells = none;
-      leaves = (is ∙ ap (λ b. with_local b d ls) (sym fresh), ap (take (length ls)) is ∙ prefix-more d ls);
+      leaves = (is ∙ ap (λ b. with_local b d ls) (sym fresh), ap (take (length ls)) is ∙ prefix-many ls (d ∷ []));
     }

@@ -1,4 +1,5 @@
 pub mod EndLemmas
+pub mod HeadLemmas
 pub mod LayoutLemmas
 pub mod Parts
 pub mod ProgramLemmas

@@ -1,5 +1,5 @@
 -- Lists of parts, from one on: what the first of those left breaks, and what those behind it break.
-use Rattle.std.proofs.Common.{◌≡◌, ℕ, ◌+◌, ◌<◌, ◌≤◌, ◌==◌, Bool, true, false, not, ◌&&◌, List, [], ◌∷◌, ◌++◌, length, drop, get_or, Option, Some, None, refl, sym, ap, ◌∙◌, arith}
+use Rattle.std.proofs.Common.{◌≡◌, ℕ, ◌+◌, ◌<◌, ◌≤◌, ◌==◌, Bool, true, false, not, ◌&&◌, ◌||◌, List, [], ◌∷◌, ◌++◌, length, drop, get_or, Option, Some, None, refl, sym, ap, ◌∙◌, arith}
 use Rattle.std.proofs.lemmas.List.{drop_more}
 use Rattle.std.proofs.lemmas.Bool.Decides.{nat_tests}
 use Rattle.oss_syntax.specs.declared.tree.expr.Expr.{Expr}
@@ -14,7 +14,7 @@ use Rattle.oss_syntax.specs.declared.refusal.RefusedKind.TheVariants as refused
 use Rattle.oss_grammar.specs.Broken.{first, where_so}
 use Rattle.oss_grammar.specs.ExpressionRules.{value_rules}
 use Rattle.oss_grammar.specs.Scopes.{meaning, or_else}
-use Rattle.oss_grammar.specs.SectionRules.{begins_with_base, clause_rules, clauses_rules, form_rules, is_missing, is_wrong_section, section_rules, sections_in, sections_rules}
+use Rattle.oss_grammar.specs.SectionRules.{begins_with_base, ends_with_base, form_rules, is_missing, is_wrong_section, loop_clause_rules, loop_clauses_rules, section_rules, sections_in, sections_rules}
 use Rattle.oss_grammar.specs.StaticRules.{numbers_rules}
 use Rattle.oss_kinds.proofs.Firsts.{first-append}
 
@@ -56,12 +56,12 @@ module _ (all : List Item) (locals : List Local) where
       ∙ ap (λ x. first (sections_rules all locals fold n (x ∷ drop (i + 1) ss))) (sym at)
       ∙ first-append (section_rules all locals fold n s) (sections_rules all locals fold (n + 1) (drop (i + 1) ss))
 
-  pub clauses-left : (n : ℕ) (cs : List Clause) (i : ℕ) (c : Clause) → i < length cs → c ≡ get_or cs i c
-      → first (clauses_rules all locals n (drop i cs)) ≡ or_else (first (clause_rules all locals n c)) (first (clauses_rules all locals (n + length (sections_in c)) (drop (i + 1) cs)))
-  clauses-left n cs i c within at =
-      ap (λ xs. first (clauses_rules all locals n xs)) (drop_more cs i c within)
-      ∙ ap (λ x. first (clauses_rules all locals n (x ∷ drop (i + 1) cs))) (sym at)
-      ∙ first-append (clause_rules all locals n c) (clauses_rules all locals (n + length (sections_in c)) (drop (i + 1) cs))
+  pub clauses-left : (outer : List Local) (n : ℕ) (cs : List Clause) (i : ℕ) (c : Clause) → i < length cs → c ≡ get_or cs i c
+      → first (loop_clauses_rules all outer locals n (drop i cs)) ≡ or_else (first (loop_clause_rules all outer locals n c)) (first (loop_clauses_rules all outer locals (n + length (sections_in c)) (drop (i + 1) cs)))
+  clauses-left outer n cs i c within at =
+      ap (λ xs. first (loop_clauses_rules all outer locals n xs)) (drop_more cs i c within)
+      ∙ ap (λ x. first (loop_clauses_rules all outer locals n (x ∷ drop (i + 1) cs))) (sym at)
+      ∙ first-append (loop_clause_rules all outer locals n c) (loop_clauses_rules all outer locals (n + length (sections_in c)) (drop (i + 1) cs))
 
   -- a section that breaks no rule is not the 65th
   pub not-last : (fold : Bool) (n : ℕ) (s : Section) → first (section_rules all locals fold n s) ≡ None → (n == 64) ≡ false
@@ -71,8 +71,13 @@ module _ (all : List Item) (locals : List Local) where
       let wrong = where_so (is_wrong_section fold s.form m) refused.WrongKind s.line in
       let large = where_so (n == 64) refused.TooLarge s.line in
       let inside = form_rules all locals s.form in
-      let last = where_so (not (begins_with_base s.form) && is_missing m) refused.UnknownName s.base_line in
-      not-so (n == 64) refused.TooLarge s.line (append-left large (inside ++ last) (append-right wrong (large ++ (inside ++ last)) (append-right unknown (wrong ++ (large ++ (inside ++ last))) e)))
+      let between = where_so (not (begins_with_base s.form || ends_with_base s.form) && is_missing m) refused.UnknownName s.base_line in
+      let last = between ++ (inside ++ where_so (ends_with_base s.form && is_missing m) refused.UnknownName s.base_line) in
+      not-so (n == 64) refused.TooLarge s.line (append-left large last (append-right wrong (large ++ last) (append-right unknown (wrong ++ (large ++ last)) e)))
 
   pub room : (fold : Bool) (n : ℕ) (s : Section) → n ≤ 64 → first (section_rules all locals fold n s) ≡ None → n + 1 ≤ 64
   room fold n s few e = let less = not-last fold n s e in grind (arith, nat_tests)
+
+-- the first rule of two parts, from those that are told of each
+pub first-both : (xs ys : List Refused) (a b : Option Refused) → a ≡ first xs → b ≡ first ys → or_else a b ≡ first (xs ++ ys)
+first-both xs ys a b one other = ap (λ o. or_else o b) one ∙ ap (or_else (first xs)) other ∙ sym (first-append xs ys)

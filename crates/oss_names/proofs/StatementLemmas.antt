@@ -15,7 +15,7 @@ use Rattle.oss_grammar.specs.Broken.{where_so}
 use Rattle.oss_grammar.specs.ExpressionRules.{call_findings, findings}
 use Rattle.oss_grammar.specs.Kinds.{all_of}
 use Rattle.oss_grammar.specs.SectionRules.{clauses_rules}
-use Rattle.oss_grammar.specs.StaticRules.{assign_rules, declare_all, for_rules, inner, judged, print_rules, return_rules, rules_of, wait_rules}
+use Rattle.oss_grammar.specs.StaticRules.{assign_rules, declare_all, for_rules, inner, judged, may_break, may_continue, print_rules, return_rules, rules_of, wait_rules}
 
 module _ (s : Stmt) (all : List Item) (a : Around) (locals : List Local) where
   pub rules-empty : s.what ≡ stmts.Empty → rules_of s all a locals ≡ judged [] locals
@@ -41,10 +41,10 @@ module _ (s : Stmt) (all : List Item) (a : Around) (locals : List Local) where
   pub rules-return : (e : Option Expr) → s.what ≡ stmts.Return e → rules_of s all a locals ≡ judged (return_rules all locals a s.line e) locals
   rules-return e is = rw is (search (rules, stmt_folds))
 
-  pub rules-break : s.what ≡ stmts.Break → rules_of s all a locals ≡ judged (where_so (not a.in_loop) refused.BadJump s.line) locals
+  pub rules-break : s.what ≡ stmts.Break → rules_of s all a locals ≡ judged (where_so (not (may_break a.nearest)) refused.BadJump s.line) locals
   rules-break is = rw is (search (rules, stmt_folds))
 
-  pub rules-continue : s.what ≡ stmts.Continue → rules_of s all a locals ≡ judged (where_so (not a.in_loop) refused.BadJump s.line) locals
+  pub rules-continue : s.what ≡ stmts.Continue → rules_of s all a locals ≡ judged (where_so (not (may_continue a.nearest)) refused.BadJump s.line) locals
   rules-continue is = rw is (search (rules, stmt_folds))
 
   pub rules-wait : (sections : Option (List Section)) → s.what ≡ stmts.TaskWait sections → rules_of s all a locals ≡ judged (wait_rules all locals sections) locals

@@ -19,6 +19,7 @@ weigh (open_stmt.If e t o) = t + if_any o
 weigh (open_stmt.While e b) = b
 weigh (open_stmt.For s e t b) = if_any s + (if_any t + b)
 weigh (open_stmt.Task m b) = b
+weigh (open_stmt.TaskLoop h b) = b
 weigh _ = 0
 
 abbrev pub weight : Stmt → ℕ

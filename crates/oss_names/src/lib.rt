@@ -2,6 +2,7 @@
 #![tactic(auto)]
 
 mod built;
+mod heads;
 mod known;
 mod program;
 mod sections;

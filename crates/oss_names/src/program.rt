@@ -9,7 +9,7 @@ ghost use Rattle.oss_names.specs.Resolved.{IsChecked};
 
 use crate::sections::{clauses, is_of_ints};
 use crate::statements::{declare, statements};
-use oss_grammar::Around;
+use oss_grammar::{Around, Nearest};
 use oss_kinds::{Globals, Locals, before, is_named_main, refused, refused_if};
 use oss_syntax::{Function, GlobalDef, Item, Kind, Program, Refusal, Refused, RefusedKind};
 use std::alloc::{AllocError, Global};
@@ -159,7 +159,7 @@ fn around_body(kind: Kind) -> Around
     Around {
         start: 0,
         result: kind,
-        in_loop: false,
+        nearest: Nearest::NoLoop,
         in_task: false,
     }
 }

@@ -1,26 +1,41 @@
 //! The rules on array sections and on the clauses of a pragma.
-ghost use Rattle.std.specs.Prelude.{◌≡◌, ◌++◌, ◌+◌, ◌≤◌, None, length};
-ghost use Rattle.oss_grammar.specs.Broken.{first};
+ghost use Rattle.std.specs.Prelude.{◌≡◌, ◌∷◌, ◌++◌, ◌+◌, ◌≤◌, [], None, length, nat_le, take};
+ghost use Rattle.oss_grammar.specs.Broken.{first, where_so};
 ghost use Rattle.oss_grammar.specs.ExpressionRules.{value_rules};
 ghost use Rattle.oss_grammar.specs.StaticRules.{wait_rules};
-ghost use Rattle.oss_grammar.specs.SectionRules.{begins_with_base, clause_rules, clauses_rules, fits_base, form_rules, has_elements, has_ints, inner_rules, is_array, is_fold, is_global, is_grid, is_int, is_missing, is_wrong_section, optional_rules, section_rules, sections_in, sections_rules};
+ghost use Rattle.oss_grammar.specs.SectionRules.{begins_with_base, clause_rules, clauses_rules, ends_with_base, fits_base, form_rules, has_elements, has_ints, inner_rules, is_array, is_fold, is_global, is_grid, is_int, is_missing, is_wrong_section, loop_clause_rules, loop_clauses_rules, many_rules, optional_rules, section_rules, sections_in, sections_rules};
 
 use oss_grammar::{Named, Wanted};
-use oss_kinds::{Globals, Locals, before, refused_if, value};
+use oss_kinds::{Globals, Locals, Scope, before, refused_if, value, value_in};
 use oss_syntax::{
-    Clause, Expr, Form, Inner, Kind, List, Mode, NumKind, Refused, RefusedKind, Section,
+    Clause, Expr, Form, Inner, Kind, List, Mode, NumKind, Refused, RefusedKind, Section, Turns,
 };
 
 /// The most sections of a pragma.
 const MOST_SECTIONS: usize = 64;
 
+/// The most locals of a function that are in scope at one place.
+pub const MOST_LOCALS: usize = 255;
+
 /// The first rule that the clauses of a pragma break.
 pub fn clauses(globals: &Globals<'_>, locals: &Locals<'_>, clauses: &[Clause]) -> Option<Refused>
     ensures { result ≡ first (clauses_rules globals.now locals.now 0 clauses.now) }
 {
+    loop_clauses(globals, locals, locals.len(), clauses)
+}
+
+/// The first rule that the clauses of a task loop break, whose grainsize knows the first `outer` locals alone.
+pub fn loop_clauses(
+    globals: &Globals<'_>,
+    locals: &Locals<'_>,
+    outer: usize,
+    clauses: &[Clause],
+) -> Option<Refused>
+    ensures { result ≡ first (loop_clauses_rules globals.now (take outer locals.now) locals.now 0 clauses.now) }
+{
     let mut count = 0usize;
     for one in clauses {
-        match clause(globals, locals, count, one) {
+        match loop_clause(globals, locals, outer, count, one) {
             Some(broken) => return Some(broken),
             None => {}
         }
@@ -36,6 +51,26 @@ fn sections_of(clause: &Clause) -> usize
     match clause {
         Clause::Depend(_, _, _, sections) => sections.len(),
         _ => 0,
+    }
+}
+
+/// The first rule that a clause of a task loop breaks behind so many sections of its pragma.
+fn loop_clause(
+    globals: &Globals<'_>,
+    locals: &Locals<'_>,
+    outer: usize,
+    before: usize,
+    one: &Clause,
+) -> Option<Refused>
+    requires { before ≤ 64 }
+    ensures rules { result ≡ first (loop_clause_rules globals.now (take outer locals.now) locals.now before one.now) }
+    ensures few { result ≡ None → before + length (sections_in one.now) ≤ 64 }
+{
+    match one {
+        Clause::Grain(expr) => {
+            value_in(globals, &Scope::first(locals, outer), Wanted::Number, expr)
+        }
+        _ => clause(globals, locals, before, one),
     }
 }
 
@@ -59,6 +94,7 @@ fn clause(
         Clause::Wait => None,
         Clause::Label(_) => None,
         Clause::Priority(expr) => value(globals, locals, Wanted::Number, expr),
+        Clause::Grain(expr) => value(globals, locals, Wanted::Number, expr),
     }
 }
 
@@ -107,10 +143,10 @@ fn section(
 ) -> Option<Refused>
     ensures { result ≡ first (section_rules globals.now locals.now fold count section.now) }
 {
-    let named = globals.named(locals, section.base.as_slice());
+    let named = globals.named(&Scope::all(locals), section.base.as_slice());
     let line = section.line;
     let base_first = begins(&section.form);
-    let base_last = !base_first;
+    let base_last = ends(&section.form);
     let missing = is_unknown(named);
     let wrong = is_wrong(fold, &section.form, named);
     let inside = expressions(globals, locals, &section.form);
@@ -119,8 +155,13 @@ fn section(
         RefusedKind::UnknownName,
         section.base_line,
     );
+    let between = refused_if(
+        !(base_first || base_last) && missing,
+        RefusedKind::UnknownName,
+        section.base_line,
+    );
     let large = refused_if(count == MOST_SECTIONS, RefusedKind::TooLarge, line);
-    let from_large = before(large, before(inside, last));
+    let from_large = before(large, before(between, before(inside, last)));
     let from_wrong = before(refused_if(wrong, RefusedKind::WrongKind, line), from_large);
     before(
         refused_if(base_first && missing, RefusedKind::UnknownName, line),
@@ -144,7 +185,19 @@ fn begins(form: &Form) -> bool
     match form {
         Form::Deref => false,
         Form::Shape(_) => false,
+        Form::Many(_, _, _) => false,
         _ => true,
+    }
+}
+
+/// Whether the base is the last token of a section.
+fn ends(form: &Form) -> bool
+    ensures { result ≡ ends_with_base form.now }
+{
+    match form {
+        Form::Deref => true,
+        Form::Shape(_) => true,
+        _ => false,
     }
 }
 
@@ -161,7 +214,36 @@ fn expressions(globals: &Globals<'_>, locals: &Locals<'_>, form: &Form) -> Optio
         Form::Length(from, count) => both(globals, locals, from, count),
         Form::Span(lower, upper) => both_ends(globals, locals, lower, upper),
         Form::Grid(rows, columns) => both_dimensions(globals, locals, rows, columns),
+        Form::Many(index, second, turns) => several(globals, locals, index, second, turns),
     }
+}
+
+/// The first rule that the expressions of a multidependency break. Its variable is in scope in the indices alone.
+fn several(
+    globals: &Globals<'_>,
+    locals: &Locals<'_>,
+    index: &Expr,
+    second: &Option<Expr>,
+    turns: &Turns,
+) -> Option<Refused>
+    ensures { result ≡ first (many_rules globals.now locals.now index.now second.now turns.now) }
+{
+    let scope = Scope::with(locals, &turns.variable);
+    let row = value_in(globals, &scope, Wanted::Number, index);
+    let column = optional_in(globals, &scope, second);
+    before(row, before(column, turns_alone(globals, locals, turns)))
+}
+
+/// The first rule that the turns of a multidependency break, in which its variable is not in scope.
+#[tactic(auto, using(oss_kinds::proofs::Firsts::firsts))]
+fn turns_alone(globals: &Globals<'_>, locals: &Locals<'_>, turns: &Turns) -> Option<Refused>
+    ensures { result ≡ first (where_so (nat_le 255 (length locals.now)) RefusedKind.TooLarge turns.now.variable.line ++ (optional_rules globals.now locals.now turns.now.variable.first ++ value_rules globals.now locals.now Wanted.Number turns.now.count)) }
+{
+    let many = MOST_LOCALS <= locals.len();
+    let large = refused_if(many, RefusedKind::TooLarge, turns.variable.line);
+    let from = optional(globals, locals, &turns.variable.first);
+    let count = value(globals, locals, Wanted::Number, &turns.count);
+    before(large, before(from, count))
 }
 
 /// The first rule that the expressions of two dimensions break.
@@ -228,6 +310,20 @@ pub fn optional(globals: &Globals<'_>, locals: &Locals<'_>, expr: &Option<Expr>)
     }
 }
 
+/// The same where these locals are in scope.
+fn optional_in(
+    globals: &Globals<'_>,
+    locals: &Scope<'_, '_>,
+    expr: &Option<Expr>,
+) -> Option<Refused>
+    ensures { result ≡ first (optional_rules globals.now locals.now expr.now) }
+{
+    match expr {
+        Some(expr) => value_in(globals, locals, Wanted::Number, expr),
+        None => None,
+    }
+}
+
 /// Whether a form does not allow a base that is in scope, or a reduction its type.
 fn is_wrong(fold: bool, form: &Form, named: Named) -> bool
     ensures { result ≡ is_wrong_section fold form.now named }
@@ -247,6 +343,7 @@ fn fits(form: &Form, named: Named) -> bool
         Form::Shape(_) => names_elements(named),
         Form::Span(_, None) => is_an_array(named),
         Form::Grid(_, _) => is_a_grid(named),
+        Form::Many(_, Some(_), _) => is_a_grid(named),
         _ => names_elements(named) || is_a_grid(named),
     }
 }

@@ -8,8 +8,8 @@ ghost use Rattle.oss_kinds.specs.Seen.{seen};
 
 use oss_grammar::{Around, Object, ValueKind, Wanted, conversions};
 use oss_kinds::{
-    Finding, Globals, Locals, at_place, before, call, expression, first_of, refused, refused_if,
-    taken_by, value, wrong,
+    Finding, Globals, Locals, Scope, at_place, before, call, expression, first_of, refused,
+    refused_if, taken_by, value, wrong,
 };
 use oss_syntax::{BinOp, Bytes, Expr, Kind, List, Name, NumKind, Refused, RefusedKind};
 
@@ -23,8 +23,9 @@ pub fn assignment(
 ) -> Option<Refused>
     ensures { result ≡ first (assign_rules globals.now locals.now op target.now value.now) }
 {
-    let target = expression(globals, locals, target);
-    let value = expression(globals, locals, value);
+    let scope = Scope::all(locals);
+    let target = expression(globals, &scope, target);
+    let value = expression(globals, &scope, value);
     store(
         wanted_by_target(op, target.kind, target.object),
         target,
@@ -91,7 +92,7 @@ pub fn call_statement(
 {
     first_of(call(
         globals,
-        locals,
+        &Scope::all(locals),
         name.as_slice(),
         line,
         true,

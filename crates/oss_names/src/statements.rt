@@ -4,18 +4,19 @@ ghost use Rattle.oss_syntax.specs.declared.tree.program.Local.{Local as Declared
 ghost use Rattle.oss_syntax.specs.declared.refusal.Refused.{Refused as Broken};
 ghost use Rattle.oss_grammar.specs.Broken.{first};
 ghost use Rattle.oss_grammar.specs.ExpressionRules.{value_rules};
+ghost use Rattle.oss_grammar.specs.Scopes.{loop_locals};
 ghost use Rattle.oss_grammar.specs.SectionRules.{clauses_rules};
-ghost use Rattle.oss_grammar.specs.StaticRules.{alone, declare_all, declare_one, for_rules, in_a_loop, in_a_task, inner, inner_part, judged, local_rules, part_rules, rules_of, rules_of_all, scope_in, statements_rules, then_judge};
+ghost use Rattle.oss_grammar.specs.StaticRules.{alone, declare_all, declare_one, for_rules, head_rules, in_a_loop, in_a_task, in_a_task_loop, inner, inner_part, judged, local_rules, may_break, may_continue, part_rules, rules_of, rules_of_all, scope_in, statements_rules, then_judge};
 ghost use Rattle.oss_names.specs.PartChecks.{IsPartChecked};
 
-use crate::sections::{clauses, optional, wait};
+use crate::heads::enter;
+use crate::sections::{MOST_LOCALS, clauses, optional, wait};
 use crate::simple::{assignment, call_statement, optional_for, print, return_statement};
-use oss_grammar::{Around, Wanted};
+use oss_grammar::{Around, Nearest, Wanted};
 use oss_kinds::{Globals, Locals, before, refused_if, value};
-use oss_syntax::{Boxed, Expr, Local, Refusal, Refused, RefusedKind, Stmt, StmtKind, TaskMark};
-
-/// The most locals of a function that are in scope at one place.
-const MOST_LOCALS: usize = 255;
+use oss_syntax::{
+    Boxed, Expr, Local, LoopHead, Refusal, Refused, RefusedKind, Stmt, StmtKind, TaskMark,
+};
 
 /// Ends a part of a text whose first broken rule this is.
 fn told(broken: Option<Refused>) -> Result<(), Refusal>
@@ -126,9 +127,14 @@ fn statement<'p>(
             for_statement(globals, around, start, test, step, body, locals)
         }
         StmtKind::Return(value) => { told(return_statement(globals, locals, around, line, value)) }
-        StmtKind::Break => told(refused_if(!around.in_loop, RefusedKind::BadJump, line)),
-        StmtKind::Continue => told(refused_if(!around.in_loop, RefusedKind::BadJump, line)),
+        StmtKind::Break => {
+            told(refused_if(!may_leave(around.nearest), RefusedKind::BadJump, line))
+        }
+        StmtKind::Continue => {
+            told(refused_if(!may_go_on(around.nearest), RefusedKind::BadJump, line))
+        }
         StmtKind::Task(mark, body) => task(globals, around, mark, body, locals),
+        StmtKind::TaskLoop(head, body) => task_loop(globals, around, head, body, locals),
         StmtKind::TaskWait(sections) => told(wait(globals, locals, sections)),
         StmtKind::Release(list) => told(clauses(globals, locals, list.as_slice())),
     }
@@ -141,7 +147,7 @@ fn scope_of(around: Around, count: usize) -> Around
     Around {
         start: count,
         result: around.result,
-        in_loop: around.in_loop,
+        nearest: around.nearest,
         in_task: around.in_task,
     }
 }
@@ -152,7 +158,7 @@ fn looping(around: Around) -> Around
     Around {
         start: around.start,
         result: around.result,
-        in_loop: true,
+        nearest: Nearest::Loop,
         in_task: around.in_task,
     }
 }
@@ -163,8 +169,39 @@ fn tasking(around: Around) -> Around
     Around {
         start: around.start,
         result: around.result,
-        in_loop: false,
+        nearest: Nearest::NoLoop,
         in_task: true,
+    }
+}
+
+fn turning(around: Around) -> Around
+    ensures { result ≡ in_a_task_loop around }
+{
+    Around {
+        start: around.start,
+        result: around.result,
+        nearest: Nearest::TaskLoop,
+        in_task: true,
+    }
+}
+
+/// Whether a `break` may leave the nearest loop.
+fn may_leave(nearest: Nearest) -> bool
+    ensures { result ≡ may_break nearest }
+{
+    match nearest {
+        Nearest::Loop => true,
+        _ => false,
+    }
+}
+
+/// Whether a `continue` may end a turn of the nearest loop.
+fn may_go_on(nearest: Nearest) -> bool
+    ensures { result ≡ may_continue nearest }
+{
+    match nearest {
+        Nearest::NoLoop => false,
+        _ => true,
     }
 }
 
@@ -323,4 +360,36 @@ fn task<'p>(
 {
     told(clauses(globals, locals, mark.clauses.as_slice()))?;
     inside(globals, tasking(around), body, locals)
+}
+
+/// Checks a task loop, whose locals are in scope in it alone.
+#[cycle(statements)]
+fn task_loop<'p>(
+    globals: &Globals<'_>,
+    around: Around,
+    head: &'p LoopHead,
+    body: &'p Boxed<Stmt>,
+    locals: &mut Locals<'p>,
+) -> Result<(), Refusal>
+    ensures { IsPartChecked locals.old (alone (then_judge (judged (head_rules globals.now locals.old head.now) (loop_locals head.now locals.old)) (λ ls. inner (rules_of body.now) globals.now (in_a_task_loop around) ls)) locals.old) result locals.new }
+{
+    let count = locals.len();
+    let ends = turns(globals, around, head, body, locals);
+    locals.leave(count);
+    ends
+}
+
+/// Checks the head of a task loop and its statement.
+#[cycle(statements)]
+fn turns<'p>(
+    globals: &Globals<'_>,
+    around: Around,
+    head: &'p LoopHead,
+    body: &'p Boxed<Stmt>,
+    locals: &mut Locals<'p>,
+) -> Result<(), Refusal>
+    ensures { IsPartChecked locals.old (then_judge (judged (head_rules globals.now locals.old head.now) (loop_locals head.now locals.old)) (λ ls. inner (rules_of body.now) globals.now (in_a_task_loop around) ls)) result locals.new }
+{
+    enter(globals, head, locals)?;
+    inside(globals, turning(around), body, locals)
 }

@@ -1,4 +1,4 @@
-use crate::{Bytes, Expr, List, Mode, Name};
+use crate::{Bytes, Expr, List, Local, Mode, Name};
 
 /// The cells that a dependency clause names (OmpSs-2, array sections).
 #[derive(Debug, Drop)]
@@ -29,6 +29,16 @@ pub enum Form {
     Span(Option<Expr>, Option<Expr>),
     /// `a[f][g]`: of an array of two dimensions the cells in the rows `f` and the columns `g`.
     Grid(Inner, Inner),
+    /// `{ a[e], k = l; n }`: the elements `a[e]` for so many turns, and `{ a[e][f], k = l; n }`.
+    Many(Expr, Option<Expr>, Turns),
+}
+
+/// The turns of a multidependency: `k = l; n` is `n` turns, in the first of which `k` is `l`.
+#[derive(Debug, Drop)]
+pub struct Turns {
+    /// The variable, a signed number, with its first value.
+    pub variable: Local,
+    pub count: Expr,
 }
 
 /// What a section names of one dimension of an array of two.
@@ -42,7 +52,7 @@ pub enum Inner {
     Span(Option<Expr>, Option<Expr>),
 }
 
-/// A clause of a task or of a release.
+/// A clause of a task, of a task loop or of a release.
 #[derive(Debug, Drop)]
 pub enum Clause {
     /// The mode, whether it is strong, whether its word is `out` or `weakout`, and the sections.
@@ -52,6 +62,8 @@ pub enum Clause {
     Wait,
     Label(Bytes),
     Priority(Expr),
+    /// `grainsize(e)`, of a task loop alone: how many turns each of its tasks makes.
+    Grain(Expr),
 }
 
 /// The pragma of a task.
@@ -65,6 +77,7 @@ pub struct TaskMark {
 #[derive(Debug, Drop)]
 pub enum Directive {
     Task(TaskMark),
+    TaskLoop(TaskMark),
     /// `taskwait`, or `taskwait on(..)` with its sections.
     TaskWait(Option<List<Section>>),
     Release(List<Clause>),

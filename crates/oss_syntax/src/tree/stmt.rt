@@ -1,5 +1,27 @@
 use crate::{BinOp, Boxed, Bytes, Clause, Expr, List, Local, Name, Section, TaskMark};
 
+/// The head of a task loop (OmpSs-2, the taskloop directive): `for (long i = l; i < u; i++)` behind its pragma.
+#[derive(Debug, Drop)]
+pub struct LoopHead {
+    pub mark: TaskMark,
+    /// The variable, a signed number, with its first value.
+    pub variable: Local,
+    /// The name before `<`, which is to be that of the variable.
+    pub tested: NameUse,
+    pub end: Expr,
+    /// The name before `++`, which is to be that of the variable.
+    pub stepped: NameUse,
+    /// The line of the word `for`.
+    pub for_line: u32,
+}
+
+/// A name where it is repeated, with its line.
+#[derive(Debug, Drop)]
+pub struct NameUse {
+    pub name: Name,
+    pub line: u32,
+}
+
 /// A statement (C11 6.8).
 #[cycle(stmt)]
 #[derive(Debug, Drop)]
@@ -29,6 +51,8 @@ pub enum StmtKind {
     Continue,
     /// A task that runs this statement.
     Task(TaskMark, Boxed<Stmt>),
+    /// A loop whose turns are made by tasks, each of so many of them.
+    TaskLoop(LoopHead, Boxed<Stmt>),
     TaskWait(Option<List<Section>>),
     Release(List<Clause>),
 }

@@ -1,34 +1,14 @@
-use Rattle.std.proofs.Common.{◌≡◌, ◌+◌, ◌∙◌, None, ap, arith, drop, length, sym}
+use Rattle.std.proofs.Common.{◌∙◌, ap, take}
+use Rattle.oss_grammar.proofs.ClauseScopes.{same_scope}
 use Rattle.oss_grammar.specs.Broken.{first}
-use Rattle.oss_grammar.specs.SectionRules.{clause_rules, clauses_rules, sections_in}
-use Rattle.oss_kinds.proofs.Firsts.{part-broken, part-whole}
-use Rattle.oss_names.proofs.Parts.{clauses-left}
+use Rattle.oss_grammar.specs.SectionRules.{loop_clauses_rules}
+use Rattle.oss_names.proofs.EndLemmas.{prefix-same}
 use Rattle.oss_names.proofs.sections.clauses.Goals as goal
 
-pub returns-in-Some : goal.returns-in-Some
-returns-in-Some c =
+pub returns : goal.returns
+returns c =
     let all = c.args.globals.now in
-    let locals = c.args.locals.now in
-    let n = c.loop-one.count in
-    let i = c.loop-one.one-index in
+    let ls = c.args.locals.now in
     let cs = c.args.clauses.now in
-    let one = c.one-item.result in
-    part-broken (first (clauses_rules all locals 0 cs)) (first (clauses_rules all locals n (drop i cs))) (first (clause_rules all locals n one)) (first (clauses_rules all locals (n + length (sections_in one)) (drop (i + 1) cs)))
-    c.loop-one.invariant.same (clauses-left all locals n cs i one c.loop-one-test.true c.one-item.is) c.in-Some.broken (sym c.clause.ensures.rules ∙ c.in-Some.is)
-
-pub loop-one-preserved : goal.loop-one-preserved
-loop-one-preserved c =
-    let all = c.args.globals.now in
-    let locals = c.args.locals.now in
-    let n = c.loop-one.count in
-    let i = c.loop-one.one-index in
-    let cs = c.args.clauses.now in
-    let one = c.one-item.result in
-    let none : first (clause_rules all locals n one) ≡ None = sym c.clause.ensures.rules ∙ c.in-None.is in
-    let size = c.sections_of-count.ensures in
-    record {
-      same = ap (λ k. first (clauses_rules all locals (n + k) (drop (i + 1) cs))) size
-          ∙ part-whole (first (clauses_rules all locals 0 cs)) (first (clauses_rules all locals n (drop i cs))) (first (clause_rules all locals n one)) (first (clauses_rules all locals (n + length (sections_in one)) (drop (i + 1) cs)))
-          c.loop-one.invariant.same (clauses-left all locals n cs i one c.loop-one-test.true c.one-item.is) none;
-      few = let small = c.clause.ensures.few c.in-None.is in omega (arith, small, size);
-    }
+    c.loop_clauses.ensures ∙ ap (λ n. first (loop_clauses_rules all (take n ls) ls 0 cs)) c.len.ensures
+    ∙ ap (λ outer. first (loop_clauses_rules all outer ls 0 cs)) (prefix-same ls) ∙ ap first (same_scope all ls 0 cs)

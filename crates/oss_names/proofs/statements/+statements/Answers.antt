@@ -7,7 +7,7 @@ use Rattle.oss_grammar.specs.Broken.{first, where_so}
 use Rattle.oss_grammar.specs.ExpressionRules.{call_findings, findings, value_rules}
 use Rattle.oss_grammar.specs.Kinds.{all_of}
 use Rattle.oss_grammar.specs.SectionRules.{clauses_rules, optional_rules}
-use Rattle.oss_grammar.specs.StaticRules.{Judged, assign_rules, in_a_loop, in_a_task, inner, inner_part, judged, part_rules, print_rules, return_rules, rules_of, rules_of_all, then_judge, wait_rules}
+use Rattle.oss_grammar.specs.StaticRules.{Judged, assign_rules, in_a_loop, in_a_task, inner, inner_part, judged, may_break, may_continue, part_rules, print_rules, return_rules, rules_of, rules_of_all, then_judge, wait_rules}
 use Rattle.oss_names.proofs.EndLemmas.{ends-along, ends-stop, ends-then, ends-told, prefix-same, statements-left}
 use Rattle.oss_names.proofs.StatementLemmas.{rules-assign, rules-break, rules-call, rules-continue, rules-empty, rules-print, rules-release, rules-return, rules-wait}
 use Rattle.oss_names.proofs.Weights.{weight, weight-one, weights}
@@ -104,14 +104,18 @@ statement-returns-in-Return t c =
 pub statement-returns-in-Break : goal.statement-returns-in-Break
 statement-returns-in-Break t c =
     let ls = c.args.locals.now in
-    let parts = where_so (not c.args.around.in_loop) refused.BadJump c.args.statement.now.line in
-    ends-along ls ls (judged parts ls) _ c.told-in-Break.result (rules-break c.args.statement.now c.args.globals.now c.args.around ls c.in-Break.is) (c.told-in-Break.ensures parts ls c.refused_if.ensures)
+    let line = c.args.statement.now.line in
+    let parts = where_so (not (may_break c.args.around.nearest)) refused.BadJump line in
+    ends-along ls ls (judged parts ls) _ c.told-in-Break.result (rules-break c.args.statement.now c.args.globals.now c.args.around ls c.in-Break.is)
+    (c.told-in-Break.ensures parts ls (c.refused_if.ensures ∙ ap (λ b. first (where_so (not b) refused.BadJump line)) c.may_leave.ensures))
 
 pub statement-returns-in-Continue : goal.statement-returns-in-Continue
 statement-returns-in-Continue t c =
     let ls = c.args.locals.now in
-    let parts = where_so (not c.args.around.in_loop) refused.BadJump c.args.statement.now.line in
-    ends-along ls ls (judged parts ls) _ c.told-in-Continue.result (rules-continue c.args.statement.now c.args.globals.now c.args.around ls c.in-Continue.is) (c.told-in-Continue.ensures parts ls c.refused_if-in-Continue.ensures)
+    let line = c.args.statement.now.line in
+    let parts = where_so (not (may_continue c.args.around.nearest)) refused.BadJump line in
+    ends-along ls ls (judged parts ls) _ c.told-in-Continue.result (rules-continue c.args.statement.now c.args.globals.now c.args.around ls c.in-Continue.is)
+    (c.told-in-Continue.ensures parts ls (c.refused_if-in-Continue.ensures ∙ ap (λ b. first (where_so (not b) refused.BadJump line)) c.may_go_on.ensures))
 
 pub statement-returns-in-TaskWait : goal.statement-returns-in-TaskWait
 statement-returns-in-TaskWait t c =

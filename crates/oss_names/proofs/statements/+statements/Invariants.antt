@@ -43,5 +43,11 @@ decreases-for_loop l = 4 * (part_weight l.start.now + (part_weight l.step.now + 
 abbrev pub decreases-task : goal.decreases-task
 decreases-task l = 4 * weight l.body.now + 2
 
+abbrev pub decreases-turns : goal.decreases-turns
+decreases-turns l = 4 * weight l.body.now + 2
+
+abbrev pub decreases-task_loop : goal.decreases-task_loop
+decreases-task_loop l = 4 * weight l.body.now + 3
+
 abbrev pub decreases-for_statement : goal.decreases-for_statement
 decreases-for_statement l = 4 * (part_weight l.start.now + (part_weight l.step.now + weight l.body.now)) + 3
