@@ -13,6 +13,7 @@ pub mod KeyLemmas
 pub mod KeyOrder
 pub mod LendLemmas
 pub mod LoadTheorem
+pub mod MarkLemmas
 pub mod MatchingLemmas
 pub mod MemoryLemmas
 pub mod MoveLemmas

@@ -24,7 +24,7 @@ IsTouch (Store d v) c Writes slot = (d ≡ c) × (slot ≡ false)
 IsTouch (Folded d op v flag) c (Folds a) slot = (d ≡ c) × (op ≡ a) × (slot ≡ flag)
 IsTouch _ c t slot = ⊥
 
-touch_is : {S : Type 0} {a : Act S} {c : ℕ} {t : Touch} {slot : Bool} → Touches a c t slot → IsTouch a c t slot
+pub touch_is : {S : Type 0} {a : Act S} {c : ℕ} {t : Touch} {slot : Bool} → Touches a c t slot → IsTouch a c t slot
 touch_is load = (refl, refl)
 touch_is store = (refl, refl)
 touch_is folded = (refl, refl, refl)
@@ -80,7 +80,7 @@ touched_by slots inc f (Ask.Print text) line act c t slot h i = absurd (subst (�
 touched_by slots inc f Ask.End line act c t slot h i = absurd (subst (λ (z : Act _). IsTouch z c t slot) (sym h) i)
 touched_by slots inc f (Ask.Fails kind) line act c t slot h i = absurd (subst (λ (z : Act _). IsTouch z c t slot) (sym h) i)
 
-frame_touched : {S : Type 0} (P : Program S) (slots : ℕ → Right) (inc : Bool) (f : Frame S) (w : Bool) (c : ℕ) (t : Touch) (slot : Bool) → IsTouch (frame_act P slots inc f w) c t slot → TouchedBy slots f c t slot
+pub frame_touched : {S : Type 0} (P : Program S) (slots : ℕ → Right) (inc : Bool) (f : Frame S) (w : Bool) (c : ℕ) (t : Touch) (slot : Bool) → IsTouch (frame_act P slots inc f w) c t slot → TouchedBy slots f c t slot
 frame_touched P slots inc f true c t slot i = absurd i
 frame_touched P slots inc f false c t slot i = touched_by slots inc f (ask_of P f).ask (ask_of P f).line _ c t slot refl i
 

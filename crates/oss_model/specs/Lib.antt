@@ -7,6 +7,7 @@ pub mod Context
 pub mod Forest
 pub mod History
 pub mod Machine
+pub mod Marks
 pub mod Matching
 pub mod Memory
 pub mod Moves

@@ -2,6 +2,7 @@
 //! above calls the function for its type of scripts, and then has the law.
 
 ghost use Rattle.oss_model.specs.Claims.{EveryMainIsASetting, OpeningAgrees, StepAgrees, LetAgrees, JoinAgrees, EveryStateAgrees, OpenTasksMove, RunKeepsOutput, ActsUpToFault, ActsUpToEnd, EarlierConflictsAreDone, EveryStopIsTheEnd, EveryAnswerIsTheResult, EveryResultIsTheAnswer, AnswersAreOne, DoneStays, WriteStays, ReadStays, JoinStays, ReadyStays, CompleteStays, WaitStays, TaskGoesOn, StepsExclude, JoinExcludes};
+ghost use Rattle.oss_model.specs.Marks.{EveryReadHasAValue, NoValueIsMissed, OutStartsUnwritten};
 ghost use Rattle.oss_model.specs.Matching.{MatchingForestsAgree, MatchingStateAgrees};
 ghost use Rattle.oss_model.specs.Termination.{RunEnds, RunHasResult};
 
@@ -148,4 +149,19 @@ pub fn matching_forests_agree<K, L>()
 /// The accesses of a state and their partners in a matching forest are done and satisfied alike.
 pub fn matching_state_agrees<S, L>()
     ensures { MatchingStateAgrees S L }
+{}
+
+/// What a task loads, or folds into under a right to write, has a value for it: it began written, or the task has written it.
+pub fn every_read_has_a_value<S>()
+    ensures { EveryReadHasAValue S }
+{}
+
+/// A task that touches a cell which has a value for it does not stand before the fault Unwritten.
+pub fn no_value_is_missed<S>()
+    ensures { NoValueIsMissed S }
+{}
+
+/// A new task has a cell unwritten exactly where it may write it and names it by `out` alone.
+pub fn out_starts_unwritten<S>()
+    ensures { OutStartsUnwritten S }
 {}
