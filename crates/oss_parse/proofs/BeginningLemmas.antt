@@ -17,7 +17,7 @@ use Rattle.oss_grammar.specs.Pragmas.{IsPragma}
 use Rattle.oss_grammar.specs.Pragmas.IsPragma.{task as task_pragma, wait_all, wait_on, release as release_pragma}
 use Rattle.oss_grammar.specs.Reading.{begins, has}
 use Rattle.oss_grammar.specs.SimpleStatements.{IsSimple, IsTarget, IsDeclaration, IsNumKind, step_of}
-use Rattle.oss_grammar.specs.SimpleStatements.IsTarget.{name_target, element_target, pointer_target, pointed_target}
+use Rattle.oss_grammar.specs.SimpleStatements.IsTarget.{name_target, element_target, grid_target, pointer_target, pointed_target}
 use Rattle.oss_grammar.specs.SimpleStatements.IsSimple.{assigned, stepped, step_first, called}
 use Rattle.oss_grammar.specs.SimpleStatements.IsNumKind.{int_kind, long_kind, unsigned_kind}
 use Rattle.oss_grammar.specs.SimpleStatements.IsDeclared.{number_declared}
@@ -165,6 +165,7 @@ target_begins : (xs : List Token) (e : Expr) → IsTarget xs e → begins begins
 unfolding step_of
 target_begins xs e (name_target t word split k) = ap (begins begins_statement) split ∙ ap (λ w. begins_statement (record { what = w; line = t.line })) k
 target_begins xs e (element_target t word opened inner closed split k o c w) = ap (begins begins_statement) split ∙ ap (λ w. begins_statement (record { what = w; line = t.line })) k
+target_begins xs e (grid_target t word opened first closed again second ended split k o c a d w v) = ap (begins begins_statement) split ∙ ap (λ w. begins_statement (record { what = w; line = t.line })) k
 target_begins xs e (pointer_target m t word split k n) = ap (begins begins_statement) split ∙ on_symbol begins_statement (codes "*") true (λ line. refl) m k
 target_begins xs e (pointed_target m opened inner closed split k o c w) = ap (begins begins_statement) split ∙ on_symbol begins_statement (codes "*") true (λ line. refl) m k
 

@@ -13,9 +13,9 @@ use Rattle.oss_grammar.specs.Fronts.{Viable}
 use Rattle.oss_grammar.specs.Grammar.{One, Mapped, Either}
 use Rattle.oss_grammar.specs.Grammar.Either.{one_way, other_way}
 use Rattle.oss_grammar.specs.OneToken.{IsSymbol, IsIndexOpen, IsIndexClose, IsComma}
-use Rattle.oss_grammar.specs.Programs.{IsFirstValue, IsGlobal, IsGlobals}
+use Rattle.oss_grammar.specs.Programs.{IsFirstValue, IsGlobal, IsGlobals, cells_of_rows}
 use Rattle.oss_grammar.specs.Programs.IsFirstValue.{plain_value, negative_value}
-use Rattle.oss_grammar.specs.Programs.IsGlobal.{scalar_global, first_global, array_global}
+use Rattle.oss_grammar.specs.Programs.IsGlobal.{scalar_global, first_global, array_global, grid_global}
 use Rattle.oss_grammar.specs.Programs.IsGlobals.{last_global, next_global}
 use Rattle.oss_grammar.specs.Reading.{begins, has, one_of, never, read_one, read_then, read_mapped}
 use Rattle.oss_grammar.specs.Values.{negated}
@@ -27,12 +27,12 @@ use Rattle.oss_grammar.proofs.StepLemmas.{none_goes, fewer_go}
 use Rattle.oss_pragma.specs.ExpressionReading.{and_then, read_more}
 use Rattle.oss_pragma.specs.TokenValues.{symbol_at, name_at}
 use Rattle.oss_pragma.specs.declared.cursor.Named.{Named}
-use Rattle.oss_pragma.proofs.ExactPairs.{Trailed, exact_trailed, read_bracketed, Bracketed, BracketedDeep, exact_bracketed, begun_bracketed, read_behind, Behind, exact_behind, begun_behind, exact_or}
+use Rattle.oss_pragma.proofs.ExactPairs.{Trailed, exact_trailed, Bracketed, BracketedDeep, exact_bracketed, begun_bracketed, read_behind, Behind, exact_behind, begun_behind, exact_or}
 use Rattle.oss_pragma.proofs.ExactRows.{Rows, RowsEnd, RowsDeep, exact_rows}
 use Rattle.oss_pragma.proofs.ExactRows.Rows.{no_row, next_row}
 use Rattle.oss_pragma.proofs.ListLemmas.{comma}
 use Rattle.oss_pragma.proofs.TokenLemmas.{begins_never, exact_closed, opening, on_symbol, not_symbol, has_symbol, symbol_token, symbol_value}
-use Rattle.oss_parse.specs.ProgramReading.{value_in, value_at, read_first_value, scalar_of, array_of, read_global_from, read_global, globals_of, read_globals_from}
+use Rattle.oss_parse.specs.ProgramReading.{value_in, value_at, read_first_value, scalar_of, array_of, grid_of, read_size, read_array_from, read_global_from, read_global, globals_of, read_globals_from}
 use Rattle.oss_parse.proofs.ExactKinds.{NameToken, exact_name, begun_name}
 
 -- the value of a number
@@ -100,6 +100,30 @@ pub data GlobalFrom (numbers : NumKind) (name : Named) (xs : List Token) : Globa
   first_from : {value : ℕ} (mark : Token) (back : List Token) → xs ≡ mark ∷ back → IsSymbol (codes "=") mark → IsFirstValue back value → GlobalFrom numbers name xs (scalar_of numbers name value)
   array_from : (opened number : Token) (cells : ℕ) (unsigned : Bool) (closed : Token) → xs ≡ opened ∷ number ∷ closed ∷ [] → IsIndexOpen opened → number.what ≡ kinds.Number cells unsigned → IsIndexClose closed
       → GlobalFrom numbers name xs (array_of numbers name cells)
+  grid_from : (opened number : Token) (rows : ℕ) (unsigned : Bool) (closed again second : Token) (columns : ℕ) (other : Bool) (ended : Token) → xs ≡ opened ∷ number ∷ closed ∷ again ∷ second ∷ ended ∷ []
+      → IsIndexOpen opened → number.what ≡ kinds.Number rows unsigned → IsIndexClose closed → IsIndexOpen again → second.what ≡ kinds.Number columns other → IsIndexClose ended
+      → GlobalFrom numbers name xs (grid_of numbers name rows columns)
+
+-- a number in brackets
+abbrev Size : List Token → ℕ → Type 0
+Size = Bracketed (codes "[") (codes "]") (One value_at)
+
+abbrev SizeDeep : List Token → Token → Type 0
+SizeDeep = BracketedDeep (codes "[") Nowhere
+
+size_split : (xs : List Token) (n : ℕ) → (b : Size xs n) → xs ≡ b.opened ∷ b.inside.token ∷ b.closed ∷ []
+size_split xs n b = b.split ∙ ap (λ ys. b.opened ∷ (ys ++ (b.closed ∷ []))) b.inside.only
+
+size_one : (opened number : Token) (n : ℕ) (unsigned : Bool) (closed : Token) → IsIndexOpen opened → number.what ≡ kinds.Number n unsigned → IsIndexClose closed → Size (opened ∷ number ∷ closed ∷ []) n
+size_one opened number n u closed o is c = record { opened = opened; inner = number ∷ []; closed = closed; split = refl; opens = o; closes = c; inside = record { token = number; only = refl; passes = value_told number n u is } }
+
+exact_size : Exact read_size Size SizeDeep never
+unfolding read_size
+exact_size = exact_bracketed (codes "[") (codes "]") exact_value value_viable (λ t e. refl) refl refl
+
+begun_size : Begun read_size (has (symbol_at (codes "[")))
+unfolding read_size
+begun_size = begun_bracketed (codes "[") (codes "]") exact_value value_viable (λ t e. refl) refl refl
 
 -- with these tokens a global goes on behind its name
 abbrev global_goes : Token → Bool
@@ -120,8 +144,18 @@ no_bracket : (t : Token) → global_goes t ≡ false → has (symbol_at (codes "
 no_bracket t e = or_no_second (has (symbol_at (codes "=")) t) (has (symbol_at (codes "[")) t) e
 
 module _ (numbers : NumKind) (name : Named) where
+  -- how many columns there are, or none
+  abbrev ArrayFrom : ℕ → List Token → GlobalDef → Type 0
+  ArrayFrom rows = Either (Mapped (grid_of numbers name rows) Size) (Nothing (array_of numbers name rows))
+
+  abbrev ArrayFromDeep : List Token → Token → Type 0
+  ArrayFromDeep = EitherDeep SizeDeep Nowhere
+
   abbrev Arrayed : List Token → GlobalDef → Type 0
-  Arrayed = Mapped (array_of numbers name) (Bracketed (codes "[") (codes "]") (One value_at))
+  Arrayed = Then Size ArrayFrom
+
+  abbrev ArrayedDeep : List Token → Token → Type 0
+  ArrayedDeep = ThenDeep SizeDeep Size (λ rows. ArrayFromDeep)
 
   abbrev Assigned : List Token → GlobalDef → Type 0
   Assigned = Mapped (scalar_of numbers name) (Behind (codes "=") IsFirstValue)
@@ -130,27 +164,54 @@ module _ (numbers : NumKind) (name : Named) where
   From = Either Assigned (Either Arrayed (Nothing (scalar_of numbers name 0)))
 
   abbrev FromDeep : List Token → Token → Type 0
-  FromDeep = EitherDeep (BracketedDeep (codes "=") Nowhere) (EitherDeep (BracketedDeep (codes "[") Nowhere) Nowhere)
+  FromDeep = EitherDeep (BracketedDeep (codes "=") Nowhere) (EitherDeep ArrayedDeep Nowhere)
+
+  array_into : (xs one two : List Token) (rows : ℕ) (g : GlobalDef) → xs ≡ one ++ two → Size one rows → ArrayFrom rows two g → GlobalFrom numbers name xs g
+  array_into xs one two rows g s b (other_way r) = subst (λ g. GlobalFrom numbers name xs g) r.same (on (value_what b.inside.token.what rows b.inside.passes)) where
+    on : ValueIs b.inside.token.what rows → GlobalFrom numbers name xs (array_of numbers name rows)
+    on (value_is u is) = array_from b.opened b.inside.token rows u b.closed (s ∙ (ap (λ ys. one ++ ys) r.nothing ∙ (append-nil one ∙ size_split one rows b))) b.opens is b.closes
+  array_into xs one two rows g s b (one_way r) =
+      subst (λ g. GlobalFrom numbers name xs g) r.made (on (value_what b.inside.token.what rows b.inside.passes) (value_what r.whole.inside.token.what r.part r.whole.inside.passes))
+    where
+      c : Size two r.part
+      c = r.whole
+
+      all : xs ≡ b.opened ∷ b.inside.token ∷ b.closed ∷ c.opened ∷ c.inside.token ∷ c.closed ∷ []
+      all = s ∙ (ap (λ ys. ys ++ two) (size_split one rows b) ∙ ap (λ ys. b.opened ∷ b.inside.token ∷ b.closed ∷ ys) (size_split two r.part c))
+
+      on : ValueIs b.inside.token.what rows → ValueIs c.inside.token.what r.part → GlobalFrom numbers name xs (grid_of numbers name rows r.part)
+      on (value_is u is) (value_is v at) = grid_from b.opened b.inside.token rows u b.closed c.opened c.inside.token r.part v c.closed all b.opens is b.closes c.opens at c.closes
 
   from_into : (xs : List Token) (g : GlobalDef) → From xs g → GlobalFrom numbers name xs g
   from_into xs g (one_way w) = subst (λ g. GlobalFrom numbers name xs g) w.made (first_from w.whole.mark w.whole.back w.whole.split w.whole.marks w.whole.behind)
-  from_into xs g (other_way (one_way w)) = subst (λ g. GlobalFrom numbers name xs g) w.made (on (value_what w.whole.inside.token.what w.part w.whole.inside.passes)) where
-    on : ValueIs w.whole.inside.token.what w.part → GlobalFrom numbers name xs (array_of numbers name w.part)
-    on (value_is u is) = array_from w.whole.opened w.whole.inside.token w.part u w.whole.closed (w.whole.split ∙ ap (λ ys. w.whole.opened ∷ (ys ++ (w.whole.closed ∷ []))) w.whole.inside.only) w.whole.opens is w.whole.closes
+  from_into xs g (other_way (one_way w)) = array_into xs w.front w.back w.value g w.split w.before w.behind
   from_into xs g (other_way (other_way w)) = subst (λ g. GlobalFrom numbers name xs g) w.same (scalar_from w.nothing)
 
   from_back : (xs : List Token) (g : GlobalDef) → GlobalFrom numbers name xs g → From xs g
   from_back xs g (scalar_from none) = other_way (other_way (record { nothing = none; same = refl }))
   from_back xs g (first_from {value = v} mark back e s w) = one_way (record { part = v; made = refl; whole = record { mark = mark; back = back; split = e; marks = s; behind = w } })
   from_back xs g (array_from opened number cells u closed e o n c) = other_way (one_way (record {
-    part = cells;
-    made = refl;
-    whole = record { opened = opened; inner = number ∷ []; closed = closed; split = e; opens = o; closes = c; inside = record { token = number; only = refl; passes = value_told number cells u n } };
+    front = opened ∷ number ∷ closed ∷ [];
+    back = [];
+    value = cells;
+    split = e;
+    before = size_one opened number cells u closed o n c;
+    behind = other_way (record { nothing = refl; same = refl });
+  }))
+  from_back xs g (grid_from opened number rows u closed again second columns v ended e o n c a m d) = other_way (one_way (record {
+    front = opened ∷ number ∷ closed ∷ [];
+    back = again ∷ second ∷ ended ∷ [];
+    value = rows;
+    split = e;
+    before = size_one opened number rows u closed o n c;
+    behind = one_way (record { part = columns; made = refl; whole = size_one again second columns v ended a m d });
   }))
 
   from_deeper : (xs : List Token) (t : Token) → FromDeep xs t → Nowhere xs t
   from_deeper xs t (one_deep d) = nowhere d.inner t d.deep
-  from_deeper xs t (other_deep (one_deep d)) = nowhere d.inner t d.deep
+  from_deeper xs t (other_deep (one_deep (ThenDeep.in_first d))) = nowhere d.inner t d.deep
+  from_deeper xs t (other_deep (one_deep (ThenDeep.in_second front back rows e w (one_deep d)))) = nowhere d.inner t d.deep
+  from_deeper xs t (other_deep (one_deep (ThenDeep.in_second front back rows e w (other_deep d)))) = nowhere back t d
   from_deeper xs t (other_deep (other_deep d)) = d
 
   exact_assigned : Exact (read_mapped (scalar_of numbers name) (read_behind (codes "=") read_first_value)) Assigned (BracketedDeep (codes "=") Nowhere) never
@@ -159,11 +220,21 @@ module _ (numbers : NumKind) (name : Named) where
   begun_assigned : Begun (read_mapped (scalar_of numbers name) (read_behind (codes "=") read_first_value)) (has (symbol_at (codes "=")))
   begun_assigned = begun_mapped (scalar_of numbers name) (begun_behind (codes "=") exact_first_value (some_text exact_first_value begun_first_value) refl)
 
-  exact_arrayed : Exact (read_mapped (array_of numbers name) (read_bracketed (codes "[") (codes "]") (read_one value_at))) Arrayed (BracketedDeep (codes "[") Nowhere) never
-  exact_arrayed = exact_mapped (array_of numbers name) (exact_bracketed (codes "[") (codes "]") exact_value value_viable (λ t e. refl) refl refl)
+  exact_array_from : (rows : ℕ) → Exact (read_array_from numbers name rows) (ArrayFrom rows) ArrayFromDeep global_goes
+  unfolding read_array_from
+  exact_array_from rows = exact_either (has (symbol_at (codes "["))) (exact_closed global_goes (exact_mapped (grid_of numbers name rows) exact_size)) (begun_mapped (grid_of numbers name rows) begun_size)
+      (exact_nothing (array_of numbers name rows) global_goes)
+      (λ ys b rest w free. ap (λ zs. begins (has (symbol_at (codes "["))) (zs ++ rest)) w.nothing ∙ fewer_go global_goes (has (symbol_at (codes "["))) no_bracket rest free)
+      (λ ys t rest d. nowhere ys t d)
 
-  begun_arrayed : Begun (read_mapped (array_of numbers name) (read_bracketed (codes "[") (codes "]") (read_one value_at))) (has (symbol_at (codes "[")))
-  begun_arrayed = begun_mapped (array_of numbers name) (begun_bracketed (codes "[") (codes "]") exact_value value_viable (λ t e. refl) refl refl)
+  array_viable : (rows : ℕ) → Viable (ArrayFrom rows) []
+  array_viable rows = record { more = []; value = array_of numbers name rows; member = other_way (record { nothing = refl; same = refl }) }
+
+  exact_arrayed : Exact (read_then read_size (read_array_from numbers name)) Arrayed ArrayedDeep global_goes
+  exact_arrayed = exact_then exact_size exact_array_from (λ rows ys b rest w free. begins_never (ys ++ rest)) (λ rows ys t rest d. begins_never (ys ++ (t ∷ rest))) array_viable
+
+  begun_arrayed : Begun (read_then read_size (read_array_from numbers name)) (has (symbol_at (codes "[")))
+  begun_arrayed = begun_then exact_size exact_array_from (λ rows ys b rest w free. begins_never (ys ++ rest)) (λ rows ys t rest d. begins_never (ys ++ (t ∷ rest))) array_viable begun_size
 
   bracket_no_equal : (t : Token) → has (symbol_at (codes "[")) t ≡ true → has (symbol_at (codes "=")) t ≡ false
   bracket_no_equal t e = on_symbol (has (symbol_at (codes "="))) (codes "[") false (λ line. refl) t (has_symbol (codes "[") t e)
@@ -172,15 +243,14 @@ module _ (numbers : NumKind) (name : Named) where
   array_apart ys g rest (one_way w) free = none_goes (has (symbol_at (codes "["))) (has (symbol_at (codes "="))) bracket_no_equal (ys ++ rest) (member_begins exact_arrayed begun_arrayed ys g rest w)
   array_apart ys g rest (other_way w) free = ap (λ zs. begins (has (symbol_at (codes "="))) (zs ++ rest)) w.nothing ∙ fewer_go global_goes (has (symbol_at (codes "="))) no_equal rest free
 
-  array_apart_deep : (ys : List Token) (t : Token) (rest : List Token) → EitherDeep (BracketedDeep (codes "[") Nowhere) Nowhere ys t → begins (has (symbol_at (codes "="))) (ys ++ (t ∷ rest)) ≡ false
-  array_apart_deep ys t rest (one_deep d) = nowhere d.inner t d.deep
-  array_apart_deep ys t rest (other_deep d) = nowhere ys t d
+  array_apart_deep : (ys : List Token) (t : Token) (rest : List Token) → EitherDeep ArrayedDeep Nowhere ys t → begins (has (symbol_at (codes "="))) (ys ++ (t ∷ rest)) ≡ false
+  array_apart_deep ys t rest d = let none = from_deeper ys t (other_deep d) in nowhere ys t none
 
   exact_from : Exact (read_global_from numbers name) (GlobalFrom numbers name) Nowhere global_goes
   unfolding read_global_from
   exact_from = exact_as from_into from_back from_deeper (λ xs t d. other_deep (other_deep d))
       (exact_either (has (symbol_at (codes "="))) (exact_closed global_goes exact_assigned) begun_assigned
-      (exact_either (has (symbol_at (codes "["))) (exact_closed global_goes exact_arrayed) begun_arrayed (exact_nothing (scalar_of numbers name 0) global_goes)
+      (exact_either (has (symbol_at (codes "["))) exact_arrayed begun_arrayed (exact_nothing (scalar_of numbers name 0) global_goes)
       (λ ys b rest w free. ap (λ zs. begins (has (symbol_at (codes "["))) (zs ++ rest)) w.nothing ∙ fewer_go global_goes (has (symbol_at (codes "["))) no_bracket rest free)
       (λ ys t rest d. nowhere ys t d))
       array_apart array_apart_deep)
@@ -191,12 +261,15 @@ module _ (numbers : NumKind) (name : Named) where
 -- a global, with its name
 global_into_by : (numbers : NumKind) (name : Named) (t : Token) (xs back : List Token) (g : GlobalDef) → xs ≡ t ∷ back → t.what ≡ kinds.Name name.name → t.line ≡ name.line → GlobalFrom numbers name back g → IsGlobal numbers xs g
 global_into_by numbers name t xs back g e n at (scalar_from none) =
-    subst (λ line. IsGlobal numbers xs (record { name = name.name; kind = numbers; cells = None; first = 0; line = line })) at (scalar_global t name.name (e ∙ ap (λ ys. t ∷ ys) none) n)
+    subst (λ line. IsGlobal numbers xs (record { name = name.name; kind = numbers; cells = None; columns = None; first = 0; line = line })) at (scalar_global t name.name (e ∙ ap (λ ys. t ∷ ys) none) n)
 global_into_by numbers name t xs back g e n at (first_from {value = v} mark rest s m w) =
-    subst (λ line. IsGlobal numbers xs (record { name = name.name; kind = numbers; cells = None; first = v; line = line })) at (first_global t name.name mark rest (e ∙ ap (λ ys. t ∷ ys) s) n m w)
+    subst (λ line. IsGlobal numbers xs (record { name = name.name; kind = numbers; cells = None; columns = None; first = v; line = line })) at (first_global t name.name mark rest (e ∙ ap (λ ys. t ∷ ys) s) n m w)
 global_into_by numbers name t xs back g e n at (array_from opened number cells u closed s o v c) =
-    subst (λ line. IsGlobal numbers xs (record { name = name.name; kind = numbers; cells = Some cells; first = 0; line = line })) at
+    subst (λ line. IsGlobal numbers xs (record { name = name.name; kind = numbers; cells = Some cells; columns = None; first = 0; line = line })) at
     (array_global t name.name opened number cells u closed (e ∙ ap (λ ys. t ∷ ys) s) n o v c)
+global_into_by numbers name t xs back g e n at (grid_from opened number rows u closed again second columns w ended s o v c a m d) =
+    subst (λ line. IsGlobal numbers xs (record { name = name.name; kind = numbers; cells = Some (cells_of_rows rows columns); columns = Some columns; first = 0; line = line })) at
+    (grid_global t name.name opened number rows u closed again second columns w ended (e ∙ ap (λ ys. t ∷ ys) s) n o v c a m d)
 
 -- a name with its token, and what stands behind it
 pub record Split (V : Named → List Token → Type 0) (xs : List Token) : Type 0 where
@@ -212,6 +285,14 @@ global_split numbers xs g (scalar_global t word e n) = record { t = t; word = wo
 global_split numbers xs g (first_global t word mark back e n m w) = record { t = t; word = word; back = mark ∷ back; split = e; what = n; behind = first_from mark back refl m w }
 global_split numbers xs g (array_global t word opened number cells u closed e n o v c) =
     record { t = t; word = word; back = opened ∷ number ∷ closed ∷ []; split = e; what = n; behind = array_from opened number cells u closed refl o v c }
+global_split numbers xs g (grid_global t word opened number rows u closed again second columns w ended e n o v c a m d) = record {
+  t = t;
+  word = word;
+  back = opened ∷ number ∷ closed ∷ again ∷ second ∷ ended ∷ [];
+  split = e;
+  what = n;
+  behind = grid_from opened number rows u closed again second columns w ended refl o v c a m d;
+}
 
 module _ (numbers : NumKind) where
   global_into : (xs : List Token) (g : GlobalDef) → Then NameToken (GlobalFrom numbers) xs g → IsGlobal numbers xs g
@@ -359,6 +440,8 @@ module _ (numbers : NumKind) where
   start_apart name found front back closed rest g more (first_from mark inner e m w) r s =
       ap (λ ys. begins opening (((ys ++ back) ++ (closed ∷ [])) ++ rest)) e ∙ on_symbol opening (codes "=") false (λ line. refl) mark m
   start_apart name found front back closed rest g more (array_from opened number cells u last e o n c) r s =
+      ap (λ ys. begins opening (((ys ++ back) ++ (closed ∷ [])) ++ rest)) e ∙ on_symbol opening (codes "[") false (λ line. refl) opened o
+  start_apart name found front back closed rest g more (grid_from opened number rows u last again second columns v ended e o n c a m d) r s =
       ap (λ ys. begins opening (((ys ++ back) ++ (closed ∷ [])) ++ rest)) e ∙ on_symbol opening (codes "[") false (λ line. refl) opened o
 
   pub tail_apart : (name : Named) (ys : List Token) (found : List Item) (rest : List Token) → GlobalsTail name ys found → begins opening (ys ++ rest) ≡ false

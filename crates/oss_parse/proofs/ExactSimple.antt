@@ -1,6 +1,7 @@
 -- The reader of simple statements is exact for each exact reader of expressions.
 use Rattle.std.proofs.Common.{◌≡◌, ℕ, Bool, true, false, List, [], ◌∷◌, ◌++◌, refl, sym, ap, ◌∙◌, subst, append_assoc, Option, Some, None, is_some}
 use Rattle.std.specs.Prelude.{codes}
+use Rattle.std.proofs.lemmas.List.{append-nil}
 use Rattle.oss_syntax.specs.declared.token.Token.{Token}
 use Rattle.oss_syntax.specs.declared.token.TokenKind.{TokenKind}
 use Rattle.oss_syntax.specs.declared.token.TokenKind.TheVariants as kinds
@@ -18,10 +19,10 @@ use Rattle.oss_grammar.specs.Levels.{IsExcessBehind}
 use Rattle.oss_grammar.specs.OneToken.{is_symbol}
 use Rattle.oss_grammar.specs.Reading.{Reader, begins, has, one_of, never, read_one, read_then, read_mapped, read_both}
 use Rattle.oss_grammar.specs.SimpleStatements.{IsTarget, IsSimple, assignment_of, step_of}
-use Rattle.oss_grammar.specs.SimpleStatements.IsTarget.{name_target, element_target, pointer_target, pointed_target}
+use Rattle.oss_grammar.specs.SimpleStatements.IsTarget.{name_target, element_target, grid_target, pointer_target, pointed_target}
 use Rattle.oss_grammar.specs.SimpleStatements.IsSimple.{assigned, stepped, step_first, called}
 use Rattle.oss_grammar.specs.StatementLimits.{OpensTarget, OpensSimple}
-use Rattle.oss_grammar.specs.StatementLimits.OpensTarget.{element_place, pointed_place}
+use Rattle.oss_grammar.specs.StatementLimits.OpensTarget.{element_place, column_place, pointed_place}
 use Rattle.oss_grammar.specs.StatementLimits.OpensSimple.{simple_target, simple_value, stepped_target, first_value, later_value}
 use Rattle.oss_grammar.proofs.Parts.{Exact, Begun, exact_as, exact_before, member_begins, deep_begins}
 use Rattle.oss_grammar.proofs.PartLemmas.{Nowhere, nowhere, exact_one, begun_one, Nothing, exact_nothing, exact_mapped, begun_mapped, Then, ThenDeep, exact_then, begun_then, EitherDeep, exact_either, begun_either}
@@ -29,11 +30,11 @@ use Rattle.oss_grammar.proofs.PartLemmas.ThenDeep.{in_first, in_second}
 use Rattle.oss_grammar.proofs.PartLemmas.EitherDeep.{one_deep, other_deep}
 use Rattle.oss_grammar.proofs.PairLemmas.{some_text, exact_next, begun_next}
 use Rattle.oss_grammar.proofs.StepLemmas.{none_goes, fewer_go}
-use Rattle.oss_parse.specs.SimpleReading.{assignment_at, stepped_in, step_at, star, deref_at, assigned_to, stepped_by, step_before, call_statement, read_target_from, read_pointed_at, read_starred, read_target, read_assigned, read_step_first, read_called, read_simple_from, read_simple, begins_simple}
+use Rattle.oss_parse.specs.SimpleReading.{assignment_at, stepped_in, step_at, star, deref_at, assigned_to, stepped_by, step_before, call_statement, read_element, read_target_again, read_target_from, read_pointed_at, read_starred, read_target, read_assigned, read_step_first, read_called, read_simple_from, read_simple, begins_simple}
 use Rattle.oss_pragma.specs.ExpressionReading.{named_expression, indexed}
 use Rattle.oss_pragma.specs.TokenValues.{symbol_at, name_at, begins_expression}
 use Rattle.oss_pragma.specs.declared.cursor.Named.{Named}
-use Rattle.oss_pragma.proofs.ExactPairs.{Headed, HeadedDeep, exact_headed, begun_headed, Bracketed, BracketedDeep, exact_bracketed, begun_bracketed, Behind, exact_behind, begun_behind, exact_or, symbol_line, read_bracketed}
+use Rattle.oss_pragma.proofs.ExactPairs.{Headed, HeadedDeep, exact_headed, begun_headed, Bracketed, BracketedDeep, exact_bracketed, begun_bracketed, Behind, exact_behind, begun_behind, exact_or, symbol_line}
 use Rattle.oss_pragma.proofs.PrimaryLemmas.{Closed, ClosedDeep, exact_arguments, begun_arguments, name_is, name_one}
 use Rattle.oss_pragma.proofs.PrimaryLemmas.ClosedDeep.{first_argument, later_argument}
 use Rattle.oss_pragma.proofs.TokenLemmas.{begins_never, exact_closed, exact_symbol, symbol_token, symbol_one, goes_on, on_symbol, not_symbol, has_symbol}
@@ -122,21 +123,56 @@ module _ {expression : Reader Expr} {X : List Token → Token → Type 0} (part 
   abbrev IndexedDeep : List Token → Token → Type 0
   IndexedDeep = BracketedDeep (codes "[") X
 
-  exact_indexed : (name : Named) → Exact (read_mapped (indexed (named_expression name)) (read_bracketed (codes "[") (codes "]") expression)) (Mapped (indexed (named_expression name)) Indexed) IndexedDeep never
-  exact_indexed name = exact_mapped (indexed (named_expression name)) (exact_bracketed (codes "[") (codes "]") part (some_text part first) index_closed refl refl)
+  abbrev ElementOf : Expr → List Token → Expr → Type 0
+  ElementOf base = Mapped (indexed base) Indexed
 
-  begun_indexed : (name : Named) → Begun (read_mapped (indexed (named_expression name)) (read_bracketed (codes "[") (codes "]") expression)) index_opening
-  begun_indexed name = begun_mapped (indexed (named_expression name)) (begun_bracketed (codes "[") (codes "]") part (some_text part first) index_closed refl refl)
+  exact_element : (base : Expr) → Exact (read_element expression base) (ElementOf base) IndexedDeep never
+  exact_element base = exact_mapped (indexed base) (exact_bracketed (codes "[") (codes "]") part (some_text part first) index_closed refl refl)
+
+  begun_element : (base : Expr) → Begun (read_element expression base) index_opening
+  begun_element base = begun_mapped (indexed base) (begun_bracketed (codes "[") (codes "]") part (some_text part first) index_closed refl refl)
+
+  -- a second index, or none
+  abbrev TargetAgain : Expr → List Token → Expr → Type 0
+  TargetAgain base = Either (ElementOf base) (Nothing base)
+
+  abbrev TargetAgainDeep : List Token → Token → Type 0
+  TargetAgainDeep = EitherDeep IndexedDeep Nowhere
+
+  exact_again : (base : Expr) → Exact (read_target_again expression base) (TargetAgain base) TargetAgainDeep index_opening
+  unfolding read_target_again
+  exact_again base = exact_either index_opening (exact_closed index_opening (exact_element base)) (begun_element base) (exact_nothing base index_opening)
+      (λ ys b rest w free. ap (λ zs. begins index_opening (zs ++ rest)) w.nothing ∙ free)
+      (λ ys t rest d. nowhere ys t d)
+
+  again_viable : (base : Expr) → Viable (TargetAgain base) []
+  again_viable base = record { more = []; value = base; member = other_way (record { nothing = refl; same = refl }) }
+
+  -- an index, and perhaps a second one
+  abbrev Elements : Named → List Token → Expr → Type 0
+  Elements name = Then (ElementOf (named_expression name)) TargetAgain
+
+  abbrev ElementsDeep : Named → List Token → Token → Type 0
+  ElementsDeep name = ThenDeep IndexedDeep (ElementOf (named_expression name)) (λ base. TargetAgainDeep)
+
+  exact_elements : (name : Named) → Exact (read_then (read_element expression (named_expression name)) (read_target_again expression)) (Elements name) (ElementsDeep name) index_opening
+  exact_elements name =
+      exact_then (exact_element (named_expression name)) exact_again (λ base ys b rest w free. begins_never (ys ++ rest)) (λ base ys t rest d. begins_never (ys ++ (t ∷ rest))) again_viable
+
+  begun_elements : (name : Named) → Begun (read_then (read_element expression (named_expression name)) (read_target_again expression)) index_opening
+  begun_elements name =
+      begun_then (exact_element (named_expression name)) exact_again (λ base ys b rest w free. begins_never (ys ++ rest)) (λ base ys t rest d. begins_never (ys ++ (t ∷ rest))) again_viable
+      (begun_element (named_expression name))
 
   abbrev TargetFrom : Named → List Token → Expr → Type 0
-  TargetFrom name = Either (Mapped (indexed (named_expression name)) Indexed) (Nothing (named_expression name))
+  TargetFrom name = Either (Elements name) (Nothing (named_expression name))
 
-  abbrev TargetFromDeep : List Token → Token → Type 0
-  TargetFromDeep = EitherDeep IndexedDeep Nowhere
+  abbrev TargetFromDeep : Named → List Token → Token → Type 0
+  TargetFromDeep name = EitherDeep (ElementsDeep name) Nowhere
 
-  exact_target_from : (name : Named) → Exact (read_target_from expression name) (TargetFrom name) TargetFromDeep index_opening
+  exact_target_from : (name : Named) → Exact (read_target_from expression name) (TargetFrom name) (TargetFromDeep name) index_opening
   unfolding read_target_from
-  exact_target_from name = exact_either index_opening (exact_closed index_opening (exact_indexed name)) (begun_indexed name) (exact_nothing (named_expression name) index_opening)
+  exact_target_from name = exact_either index_opening (exact_elements name) (begun_elements name) (exact_nothing (named_expression name) index_opening)
       (λ ys b rest w free. ap (λ zs. begins index_opening (zs ++ rest)) w.nothing ∙ free)
       (λ ys t rest d. nowhere ys t d)
 
@@ -184,7 +220,7 @@ module _ {expression : Reader Expr} {X : List Token → Token → Type 0} (part 
   NamedTarget = Then (One name_at) TargetFrom
 
   abbrev NamedTargetDeep : List Token → Token → Type 0
-  NamedTargetDeep = ThenDeep Nowhere (One name_at) (λ name. TargetFromDeep)
+  NamedTargetDeep = ThenDeep Nowhere (One name_at) TargetFromDeep
 
   exact_named_target : Exact (read_then (read_one name_at) (read_target_from expression)) NamedTarget NamedTargetDeep index_opening
   exact_named_target = exact_then exact_name exact_target_from (λ name ys b rest w free. begins_never (ys ++ rest)) (λ name ys t rest d. begins_never (ys ++ (t ∷ rest))) target_from_viable
@@ -208,11 +244,22 @@ module _ {expression : Reader Expr} {X : List Token → Token → Type 0} (part 
   starred_into : (xs : List Token) (e : Expr) → Starred xs e → IsTarget xs e
   starred_into xs e w = starred_into_by xs w.front w.back w.value e w.split w.before w.behind
 
-  named_into_by : (xs front back : List Token) (name : Named) (e : Expr) → xs ≡ front ++ back → One name_at front name → TargetFrom name back e → IsTarget xs e
-  named_into_by xs front back name e s n (one_way m) =
+  elements_into : (xs front one two : List Token) (name : Named) (row e : Expr) → xs ≡ front ++ (one ++ two) → One name_at front name → ElementOf (named_expression name) one row → TargetAgain row two e → IsTarget xs e
+  elements_into xs front one two name row e s n m (one_way r) =
+      let is = name_is n.token.what n.token.line name n.passes in let b = m.whole in let c = r.whole in
+      subst (λ e. IsTarget xs e) (ap (λ k. indexed (indexed (record { what = exprs.Name name.name; line = k }) m.part) r.part) (sym is.at) ∙ (ap (λ base. indexed base r.part) m.made ∙ r.made))
+      (grid_target n.token name.name b.opened b.inner b.closed c.opened c.inner c.closed
+      (s ∙ (ap (λ ys. ys ++ (one ++ two)) n.only ∙ ap (λ ys. n.token ∷ ys) (ap (λ ys. ys ++ two) b.split
+      ∙ ap (λ ys. b.opened ∷ ys) (append_assoc b.inner (b.closed ∷ []) two ∙ ap (λ ys. b.inner ++ (b.closed ∷ ys)) c.split))))
+      is.what b.opens b.closes c.opens c.closes b.inside c.inside)
+  elements_into xs front one two name row e s n m (other_way r) =
       let is = name_is n.token.what n.token.line name n.passes in let b = m.whole in
-      subst (λ e. IsTarget xs e) (ap (λ k. indexed (record { what = exprs.Name name.name; line = k }) m.part) (sym is.at) ∙ m.made)
-      (element_target n.token name.name b.opened b.inner b.closed (s ∙ (ap (λ ys. ys ++ back) n.only ∙ ap (λ ys. n.token ∷ ys) b.split)) is.what b.opens b.closes b.inside)
+      subst (λ e. IsTarget xs e) (ap (λ k. indexed (record { what = exprs.Name name.name; line = k }) m.part) (sym is.at) ∙ (m.made ∙ r.same))
+      (element_target n.token name.name b.opened b.inner b.closed
+      (s ∙ (ap (λ ys. ys ++ (one ++ two)) n.only ∙ ap (λ ys. n.token ∷ ys) (ap (λ ys. one ++ ys) r.nothing ∙ (append-nil one ∙ b.split)))) is.what b.opens b.closes b.inside)
+
+  named_into_by : (xs front back : List Token) (name : Named) (e : Expr) → xs ≡ front ++ back → One name_at front name → TargetFrom name back e → IsTarget xs e
+  named_into_by xs front back name e s n (one_way m) = elements_into xs front m.front m.back name m.value e (s ∙ ap (λ ys. front ++ ys) m.split) n m.before m.behind
   named_into_by xs front back name e s n (other_way m) =
       let is = name_is n.token.what n.token.line name n.passes in
       subst (λ e. IsTarget xs e) (ap (λ k. record { what = exprs.Name name.name; line = k }) (sym is.at) ∙ m.same)
@@ -240,7 +287,29 @@ module _ {expression : Reader Expr} {X : List Token → Token → Type 0} (part 
     value = record { name = word; line = t.line };
     split = s;
     before = name_one t word n;
-    behind = one_way (record { part = at; made = refl; whole = record { opened = opened; inner = inner; closed = closed; split = refl; opens = o; closes = c; inside = w } });
+    behind = one_way (record {
+      front = opened ∷ (inner ++ (closed ∷ []));
+      back = [];
+      value = indexed (record { what = exprs.Name word; line = t.line }) at;
+      split = sym (append-nil (opened ∷ (inner ++ (closed ∷ []))));
+      before = record { part = at; made = refl; whole = record { opened = opened; inner = inner; closed = closed; split = refl; opens = o; closes = c; inside = w } };
+      behind = other_way (record { nothing = refl; same = refl });
+    });
+  })
+  target_back xs e (grid_target {row = row} {column = column} t word opened inner closed again second ended s n o c a d w v) = other_way (record {
+    front = t ∷ [];
+    back = opened ∷ (inner ++ (closed ∷ again ∷ (second ++ (ended ∷ []))));
+    value = record { name = word; line = t.line };
+    split = s;
+    before = name_one t word n;
+    behind = one_way (record {
+      front = opened ∷ (inner ++ (closed ∷ []));
+      back = again ∷ (second ++ (ended ∷ []));
+      value = indexed (record { what = exprs.Name word; line = t.line }) row;
+      split = ap (λ ys. opened ∷ ys) (sym (append_assoc inner (closed ∷ []) (again ∷ (second ++ (ended ∷ [])))));
+      before = record { part = row; made = refl; whole = record { opened = opened; inner = inner; closed = closed; split = refl; opens = o; closes = c; inside = w } };
+      behind = one_way (record { part = column; made = refl; whole = record { opened = again; inner = second; closed = ended; split = refl; opens = a; closes = d; inside = v } });
+    });
   })
   target_back xs e (pointer_target mark t word s m n) = one_way (record {
     front = mark ∷ [];
@@ -273,7 +342,16 @@ module _ {expression : Reader Expr} {X : List Token → Token → Type 0} (part 
   named_deeper : (xs : List Token) (t : Token) → NamedTargetDeep xs t → IsExcessBehind OpensTarget X xs t
   named_deeper xs t (in_first d) = nowhere xs t d
   named_deeper xs t (in_second front back name e w (other_deep d)) = nowhere back t d
-  named_deeper xs t (in_second front back name e w (one_deep d)) = record {
+  named_deeper xs t (in_second front back name e w (one_deep (in_second one two row s m (other_deep d)))) = nowhere two t d
+  named_deeper xs t (in_second front back name e w (one_deep (in_second one two row s m (one_deep d)))) = let b = m.whole in record {
+    front = w.token ∷ b.opened ∷ (b.inner ++ (b.closed ∷ d.opened ∷ []));
+    inner = d.inner;
+    split = e ∙ (ap (λ ys. ys ++ back) w.only ∙ ap (λ ys. w.token ∷ ys) (s ∙ (ap (λ ys. ys ++ two) b.split ∙ ap (λ ys. b.opened ∷ ys) (append_assoc b.inner (b.closed ∷ []) two
+        ∙ (ap (λ ys. b.inner ++ (b.closed ∷ ys)) d.split ∙ sym (append_assoc b.inner (b.closed ∷ d.opened ∷ []) d.inner))))));
+    opens = column_place w.token name.name b.opened b.inner b.closed d.opened refl ((name_is w.token.what w.token.line name w.passes).what) b.opens b.inside b.closes d.opens;
+    excess = d.deep;
+  }
+  named_deeper xs t (in_second front back name e w (one_deep (in_first d))) = record {
     front = w.token ∷ d.opened ∷ [];
     inner = d.inner;
     split = e ∙ (ap (λ ys. ys ++ back) w.only ∙ ap (λ ys. w.token ∷ ys) d.split);
@@ -287,7 +365,14 @@ module _ {expression : Reader Expr} {X : List Token → Token → Type 0} (part 
 
   target_upper_by : (xs before inner : List Token) (t : Token) → xs ≡ before ++ inner → X inner t → OpensTarget before → EitherDeep StarredDeep NamedTargetDeep xs t
   target_upper_by xs before inner t e x (element_place n word opened s what o) = other_deep (in_second (n ∷ []) (opened ∷ inner) (record { name = word; line = n.line }) (e ∙ ap (λ ys. ys ++ inner) s) (name_one n word what)
-      (one_deep (record { opened = opened; inner = inner; split = refl; opens = o; deep = x })))
+      (one_deep (in_first (record { opened = opened; inner = inner; split = refl; opens = o; deep = x }))))
+  target_upper_by xs before inner t e x (column_place {row = row} n word opened one closed again s what o w c a) =
+      other_deep (in_second (n ∷ []) (opened ∷ (one ++ (closed ∷ again ∷ inner))) (record { name = word; line = n.line })
+      (e ∙ (ap (λ ys. ys ++ inner) s ∙ ap (λ ys. n ∷ opened ∷ ys) (append_assoc one (closed ∷ again ∷ []) inner))) (name_one n word what)
+      (one_deep (in_second (opened ∷ (one ++ (closed ∷ []))) (again ∷ inner) (indexed (record { what = exprs.Name word; line = n.line }) row)
+      (ap (λ ys. opened ∷ ys) (sym (append_assoc one (closed ∷ []) (again ∷ inner))))
+      (record { part = row; made = refl; whole = record { opened = opened; inner = one; closed = closed; split = refl; opens = o; closes = c; inside = w } })
+      (one_deep (record { opened = again; inner = inner; split = refl; opens = a; deep = x })))))
   target_upper_by xs before inner t e x (pointed_place mark opened s m o) = one_deep (in_second (mark ∷ []) (opened ∷ inner) mark.line (e ∙ ap (λ ys. ys ++ inner) s) (symbol_one (codes "*") mark m)
       (other_deep (record { opened = opened; inner = inner; split = refl; opens = o; deep = x })))
 
@@ -365,7 +450,7 @@ module _ {expression : Reader Expr} {X : List Token → Token → Type 0} (part 
   TargetAssigned name = Then (TargetFrom name) Assigned
 
   abbrev TargetAssignedDeep : Named → List Token → Token → Type 0
-  TargetAssignedDeep name = ThenDeep TargetFromDeep (TargetFrom name) (λ target. AssignedDeep)
+  TargetAssignedDeep name = ThenDeep (TargetFromDeep name) (TargetFrom name) (λ target. AssignedDeep)
 
   exact_target_assigned : (name : Named) → Exact (read_then (read_target_from expression name) (read_assigned expression)) (TargetAssigned name) (TargetAssignedDeep name) goes_on
   exact_target_assigned name = exact_next (exact_target_from name) exact_assigned begun_assigned (λ target. mark_no_index)
@@ -376,7 +461,7 @@ module _ {expression : Reader Expr} {X : List Token → Token → Type 0} (part 
   from_apart : (name : Named) (xs front back rest : List Token) (target : Expr) → xs ≡ front ++ back → TargetFrom name front target → begins opening (back ++ rest) ≡ false → begins opening (xs ++ rest) ≡ false
   from_apart name xs front back rest target e (one_way m) none =
       ap (begins opening) (ap (λ ys. ys ++ rest) e ∙ append_assoc front back rest)
-      ∙ none_goes index_opening opening index_no_opening (front ++ (back ++ rest)) (member_begins (exact_indexed name) (begun_indexed name) front target (back ++ rest) m)
+      ∙ none_goes index_opening opening index_no_opening (front ++ (back ++ rest)) (member_begins (exact_elements name) (begun_elements name) front target (back ++ rest) m)
   from_apart name xs front back rest target e (other_way m) none = ap (λ ys. begins opening (ys ++ rest)) (e ∙ ap (λ ys. ys ++ back) m.nothing) ∙ none
 
   assigned_apart : (name : Named) (ys : List Token) (s : Stmt) (rest : List Token) → TargetAssigned name ys s → begins goes_on rest ≡ false → begins opening (ys ++ rest) ≡ false
@@ -384,7 +469,7 @@ module _ {expression : Reader Expr} {X : List Token → Token → Type 0} (part 
       (none_goes marks opening mark_no_opening (w.back ++ rest) (member_begins (exact_assigned w.value) (begun_assigned w.value) w.back s rest w.behind))
 
   assigned_apart_deep : (name : Named) (ys : List Token) (t : Token) (rest : List Token) → TargetAssignedDeep name ys t → begins opening (ys ++ (t ∷ rest)) ≡ false
-  assigned_apart_deep name ys t rest (in_first (one_deep d)) = none_goes index_opening opening index_no_opening (ys ++ (t ∷ rest)) (deep_begins (exact_indexed name) (begun_indexed name) ys t rest d)
+  assigned_apart_deep name ys t rest (in_first (one_deep d)) = none_goes index_opening opening index_no_opening (ys ++ (t ∷ rest)) (deep_begins (exact_elements name) (begun_elements name) ys t rest d)
   assigned_apart_deep name ys t rest (in_first (other_deep d)) = nowhere ys t d
   assigned_apart_deep name ys t rest (in_second front back target e w d) = from_apart name ys front back (t ∷ rest) target e w
       (none_goes marks opening mark_no_opening (back ++ (t ∷ rest)) (deep_begins (exact_assigned target) (begun_assigned target) back t rest d))

@@ -18,7 +18,7 @@ use Rattle.oss_pragma.proofs.StepLoops.{Takes, Keeps, keeps, takes_one, keeps_no
 use Rattle.oss_pragma.proofs.ExpressionLoops.{takes_list, keeps_more, repeats_more}
 use Rattle.oss_parse.specs.Inner.{read_body}
 use Rattle.oss_parse.specs.SimpleReading.{read_declared}
-use Rattle.oss_parse.specs.ProgramReading.{value_at, read_first_value, scalar_of, array_of, read_global_from, read_global, globals_of, read_globals_from, parameter_of, read_parameter, read_parameters, function_of, just, read_function_from, read_typed_from, read_typed, read_result, read_void, mark_in, read_mark, read_marked, read_program_item, begins_program_item, read_program_items, program_of, read_program}
+use Rattle.oss_parse.specs.ProgramReading.{value_at, read_first_value, scalar_of, array_of, grid_of, read_size, read_array_from, read_global_from, read_global, globals_of, read_globals_from, parameter_of, read_parameter, read_parameters, function_of, just, read_function_from, read_typed_from, read_typed, read_result, read_void, mark_in, read_mark, read_marked, read_program_item, begins_program_item, read_program_items, program_of, read_program}
 use Rattle.oss_parse.proofs.SimpleLoops.{keeps_then, keeps_both, takes_num_kind, takes_declared}
 use Rattle.oss_parse.proofs.StatementLoops.{keeps_parts, keeps_task}
 
@@ -29,12 +29,19 @@ takes_first_value : Takes read_first_value
 unfolding read_first_value
 takes_first_value = takes_either (has (symbol_at (codes "-"))) (takes_mapped negated (takes_mapped latter (takes_both (takes_symbol (codes "-")) (keeps (takes_one value_at))))) (takes_one value_at)
 
+takes_size : Takes read_size
+unfolding read_size
+takes_size = takes_mapped middle (takes_both (takes_symbol (codes "[")) (keeps (takes_both (takes_one value_at) (keeps (takes_symbol (codes "]"))))))
+
+keeps_array_from : (numbers : NumKind) (name : Named) (rows : ℕ) → Keeps (read_array_from numbers name rows)
+unfolding read_array_from
+keeps_array_from numbers name rows = keeps_either (has (symbol_at (codes "["))) (keeps (takes_mapped (grid_of numbers name rows) takes_size)) (keeps_nothing (array_of numbers name rows))
+
 keeps_global_from : (numbers : NumKind) (name : Named) → Keeps (read_global_from numbers name)
 unfolding read_global_from
 keeps_global_from numbers name =
     keeps_either (has (symbol_at (codes "="))) (keeps (takes_mapped (scalar_of numbers name) (takes_mapped latter (takes_both (takes_symbol (codes "=")) (keeps takes_first_value)))))
-    (keeps_either (has (symbol_at (codes "["))) (keeps (takes_mapped (array_of numbers name) (takes_mapped middle (takes_both (takes_symbol (codes "[")) (keeps (takes_both (takes_one value_at) (keeps (takes_symbol (codes "]")))))))))
-    (keeps_nothing (scalar_of numbers name 0)))
+    (keeps_either (has (symbol_at (codes "["))) (keeps (takes_then (read_array_from numbers name) takes_size (keeps_array_from numbers name))) (keeps_nothing (scalar_of numbers name 0)))
 
 takes_global : (numbers : NumKind) → Takes (read_global numbers)
 unfolding read_global

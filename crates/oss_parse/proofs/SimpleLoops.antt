@@ -13,7 +13,7 @@ use Rattle.oss_pragma.specs.declared.cursor.Named.{Named}
 use Rattle.oss_pragma.proofs.StepLoops.{Takes, Keeps, keeps, takes_one, keeps_nothing, takes_mapped, keeps_mapped, takes_then, takes_both, takes_either, keeps_either, Repeats}
 use Rattle.oss_pragma.proofs.ExpressionLoops.{takes_whole, takes_list, repeats_more}
 use Rattle.oss_pragma.proofs.SightLemmas.{takes_counted}
-use Rattle.oss_parse.specs.SimpleReading.{star, assignment_at, step_at, deref_at, assigned_to, stepped_by, step_before, call_statement, read_target_from, read_pointed_at, read_starred, read_target, read_assigned, read_step_first, read_called, read_simple_from, read_simple, pointer_to, number_of, read_declared, local_of, read_local, single_kind_at, ulong_of, read_num_kind, declared_at, read_declaration}
+use Rattle.oss_parse.specs.SimpleReading.{star, assignment_at, step_at, deref_at, assigned_to, stepped_by, step_before, call_statement, read_element, read_target_again, read_target_from, read_pointed_at, read_starred, read_target, read_assigned, read_step_first, read_called, read_simple_from, read_simple, pointer_to, number_of, read_declared, local_of, read_local, single_kind_at, ulong_of, read_num_kind, declared_at, read_declaration}
 
 -- two readers, neither of which gives tokens back
 keeps_go : {A B : Type 0} (o : Result (A × List Token) Stop) (go : A → List Token → Result (B × List Token) Stop) (ts : List Token)
@@ -41,9 +41,17 @@ repeats_values = repeats_more takes_expression
 pub takes_between : (before behind : List ℕ) → Takes (read_mapped middle (read_both (read_one (symbol_at before)) (read_both read_expression (read_one (symbol_at behind)))))
 takes_between before behind = takes_mapped middle (takes_both (takes_one (symbol_at before)) (keeps (takes_both takes_expression (keeps (takes_one (symbol_at behind))))))
 
+takes_element : (base : Expr) → Takes (read_element read_expression base)
+takes_element base = takes_mapped (indexed base) (takes_between (codes "[") (codes "]"))
+
+keeps_target_again : (base : Expr) → Keeps (read_target_again read_expression base)
+unfolding read_target_again
+keeps_target_again base = keeps_either (has (symbol_at (codes "["))) (keeps (takes_element base)) (keeps_nothing base)
+
 keeps_target_from : (name : Named) → Keeps (read_target_from read_expression name)
 unfolding read_target_from
-keeps_target_from name = keeps_either (has (symbol_at (codes "["))) (keeps (takes_mapped (indexed (named_expression name)) (takes_between (codes "[") (codes "]")))) (keeps_nothing (named_expression name))
+keeps_target_from name =
+    keeps_either (has (symbol_at (codes "["))) (keeps (takes_then (read_target_again read_expression) (takes_element (named_expression name)) keeps_target_again)) (keeps_nothing (named_expression name))
 
 takes_pointed_at : (line : ℕ) → Takes (read_pointed_at read_expression line)
 unfolding read_pointed_at

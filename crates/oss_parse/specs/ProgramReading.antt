@@ -1,5 +1,5 @@
 -- How a program is read from its tokens, from left to right. Each reader stands for the part of the grammar of the same name. Read
--- against: of `int x, y[2]; }` a program of two globals is read and `}` is left; a whole text stops there.
+-- against: of `int x, y[2][3]; }` a program of two globals is read and `}` is left; a whole text stops there.
 use Rattle.std.specs.Prelude.{ℕ, Bool, ◌||◌, List, [], ◌∷◌, ◌++◌, map, codes, Option, Some, None, Result, Ok, Err}
 use Rattle.oss_syntax.specs.declared.token.Token.{Token}
 use Rattle.oss_syntax.specs.declared.token.TokenKind.{TokenKind}
@@ -17,6 +17,7 @@ use Rattle.oss_syntax.specs.declared.tree.program.Local.{Local}
 use Rattle.oss_syntax.specs.declared.tree.program.NumKind.{NumKind}
 use Rattle.oss_syntax.specs.declared.tree.program.Program.{Program}
 use Rattle.oss_syntax.specs.declared.tree.stmt.Stmt.{Stmt}
+use Rattle.oss_grammar.specs.Programs.{cells_of_rows}
 use Rattle.oss_grammar.specs.Reading.{Reader, Stop, has, read_one, read_then, read_nothing, read_mapped, read_both, read_either, read_steps}
 use Rattle.oss_grammar.specs.Reading.Stop.{Syntax}
 use Rattle.oss_grammar.specs.Values.{negated}
@@ -41,19 +42,29 @@ read_first_value = read_either (has (symbol_at (codes "-"))) (read_mapped negate
 
 -- The trees of globals.
 abbrev pub scalar_of : NumKind → Named → ℕ → GlobalDef
-scalar_of numbers name first = record { name = name.name; kind = numbers; cells = None; first = first; line = name.line }
+scalar_of numbers name first = record { name = name.name; kind = numbers; cells = None; columns = None; first = first; line = name.line }
 
 abbrev pub array_of : NumKind → Named → ℕ → GlobalDef
-array_of numbers name cells = record { name = name.name; kind = numbers; cells = Some cells; first = 0; line = name.line }
+array_of numbers name cells = record { name = name.name; kind = numbers; cells = Some cells; columns = None; first = 0; line = name.line }
 
--- "[" number "]" | "=" [ "-" ] number | nothing, behind the name of a global
+abbrev pub grid_of : NumKind → Named → ℕ → ℕ → GlobalDef
+grid_of numbers name rows columns = record { name = name.name; kind = numbers; cells = Some (cells_of_rows rows columns); columns = Some columns; first = 0; line = name.line }
+
+-- "[" number "]"
+unfoldable pub read_size : Reader ℕ
+read_size = read_mapped middle (read_both (read_one (symbol_at (codes "["))) (read_both (read_one value_at) (read_one (symbol_at (codes "]")))))
+
+-- [ "[" number "]" ], behind so many cells or rows of an array
+unfoldable pub read_array_from : NumKind → Named → ℕ → Reader GlobalDef
+read_array_from numbers name rows = read_either (has (symbol_at (codes "["))) (read_mapped (grid_of numbers name rows) read_size) (read_nothing (array_of numbers name rows))
+
+-- "[" number "]" [ "[" number "]" ] | "=" [ "-" ] number | nothing, behind the name of a global
 unfoldable pub read_global_from : NumKind → Named → Reader GlobalDef
 read_global_from numbers name =
     read_either (has (symbol_at (codes "="))) (read_mapped (scalar_of numbers name) (read_mapped latter (read_both (read_one (symbol_at (codes "="))) read_first_value)))
-    (read_either (has (symbol_at (codes "["))) (read_mapped (array_of numbers name) (read_mapped middle (read_both (read_one (symbol_at (codes "["))) (read_both (read_one value_at) (read_one (symbol_at (codes "]")))))))
-    (read_nothing (scalar_of numbers name 0)))
+    (read_either (has (symbol_at (codes "["))) (read_then read_size (read_array_from numbers name)) (read_nothing (scalar_of numbers name 0)))
 
--- name | name "[" number "]" | name "=" [ "-" ] number
+-- name | name "[" number "]" [ "[" number "]" ] | name "=" [ "-" ] number
 unfoldable pub read_global : NumKind → Reader GlobalDef
 read_global numbers = read_then (read_one name_at) (read_global_from numbers)
 

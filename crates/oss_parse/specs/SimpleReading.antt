@@ -1,6 +1,6 @@
 -- How a simple statement and a declaration are read from their tokens, from left to right, by a reader of expressions. Each reader
--- stands for the part of the grammar of the same name. Read against: `x += 1 ;` is read as an assignment with the operator `+`, and `;`
--- is left; of `x ;` reading stops at `;`.
+-- stands for the part of the grammar of the same name. Read against: `m[i][j] += 1 ;` is read as an assignment with the operator `+`, and
+-- `;` is left; of `x ;` reading stops at `;`, and of `m[i][j][k] = 1 ;` at the third `[`.
 use Rattle.std.specs.Prelude.{ℕ, Bool, ◌||◌, if◌then◌else◌, List, codes, Option, Some, None}
 use Rattle.oss_syntax.specs.declared.token.Token.{Token}
 use Rattle.oss_syntax.specs.declared.tree.expr.BinOp.{BinOp}
@@ -51,12 +51,18 @@ step_before p = record { what = stmts.Assign p.1 (Some p.0.0) (one_at p.0.1); li
 abbrev pub call_statement : Named → List Expr → Stmt
 call_statement name values = record { what = stmts.Call name.name values; line = name.line }
 
--- [ "[" expr "]" ] behind the name of a target
+-- "[" expr "]" behind this expression
+abbrev pub read_element : Reader Expr → Expr → Reader Expr
+read_element expression base = read_mapped (indexed base) (read_mapped middle (read_both (read_one (symbol_at (codes "["))) (read_both expression (read_one (symbol_at (codes "]"))))))
+
+-- [ "[" expr "]" ] behind an element of an array
+unfoldable pub read_target_again : Reader Expr → Expr → Reader Expr
+read_target_again expression base = read_either (has (symbol_at (codes "["))) (read_element expression base) (read_nothing base)
+
+-- [ "[" expr "]" [ "[" expr "]" ] ] behind the name of a target
 unfoldable pub read_target_from : Reader Expr → Named → Reader Expr
 read_target_from expression name =
-    read_either (has (symbol_at (codes "[")))
-    (read_mapped (indexed (named_expression name)) (read_mapped middle (read_both (read_one (symbol_at (codes "["))) (read_both expression (read_one (symbol_at (codes "]")))))))
-    (read_nothing (named_expression name))
+    read_either (has (symbol_at (codes "["))) (read_then (read_element expression (named_expression name)) (read_target_again expression)) (read_nothing (named_expression name))
 
 -- name | "(" expr ")", behind the `*` of a target with this line
 unfoldable pub read_pointed_at : Reader Expr → ℕ → Reader Expr
@@ -68,7 +74,7 @@ read_pointed_at expression line =
 unfoldable pub read_starred : Reader Expr → Reader Expr
 read_starred expression = read_then (read_one (symbol_at (codes "*"))) (read_pointed_at expression)
 
--- name [ "[" expr "]" ] | "*" ( name | "(" expr ")" )
+-- name [ "[" expr "]" [ "[" expr "]" ] ] | "*" ( name | "(" expr ")" )
 unfoldable pub read_target : Reader Expr → Reader Expr
 read_target expression = read_either star (read_starred expression) (read_then (read_one name_at) (read_target_from expression))
 

@@ -2,12 +2,13 @@
 
 ghost use Rattle.std.specs.Prelude.{◌≡◌, ◌++◌, ◌∷◌, [], codes, map, IfOk};
 ghost use Rattle.oss_syntax.specs.declared.tree.program.Item.TheVariants as items;
+ghost use Rattle.oss_grammar.specs.Programs.{cells_of_rows};
 ghost use Rattle.oss_grammar.specs.Reading.{read_both, read_mapped, read_one, read_then};
 ghost use Rattle.oss_pragma.specs.ExpressionReading.{middle, read_expression, read_list, read_more, read_next};
 ghost use Rattle.oss_pragma.specs.TokenValues.{symbol_at};
 ghost use Rattle.oss_pragma.specs.Told.{ReadsAs};
 ghost use Rattle.oss_parse.specs.Inner.{read_body};
-ghost use Rattle.oss_parse.specs.ProgramReading.{array_of, function_of, just, mark_in, read_first_value, read_function_from, read_function_parts, read_global, read_global_from, read_globals_from, read_mark, read_marked, read_parameter, read_parameters, read_program, read_program_item, read_program_items, read_result, read_typed, read_typed_from, read_void, scalar_of};
+ghost use Rattle.oss_parse.specs.ProgramReading.{array_of, function_of, grid_of, just, mark_in, read_array_from, read_first_value, read_function_from, read_function_parts, read_global, read_global_from, read_globals_from, read_mark, read_marked, read_parameter, read_parameters, read_program, read_program_item, read_program_items, read_result, read_size, read_typed, read_typed_from, read_void, scalar_of};
 
 use crate::beginnings::begins_with_program_item;
 use crate::simple::{declared, num_kind};
@@ -32,7 +33,35 @@ fn first_value(tokens: &mut Cursor<'_>) -> Result<u64, Unread>
     Ok(value.wrapping_neg())
 }
 
-/// "[" number "]" | "=" [ "-" ] number | nothing, behind the name of a global
+/// "[" number "]"
+#[tactic(auto, unfolding(crate::specs::ProgramReading::read_size))]
+fn size(tokens: &mut Cursor<'_>) -> Result<u64, Unread>
+    ensures { ReadsAs (read_size tokens.old) result tokens.new }
+{
+    tokens.symbol(b"[")?;
+    let cells = value(tokens)?;
+    tokens.symbol(b"]")?;
+    Ok(cells)
+}
+
+/// [ "[" number "]" ], behind so many cells or rows of an array
+#[tactic(auto, unfolding(crate::specs::ProgramReading::read_array_from))]
+fn array_from(
+    numbers: NumKind,
+    name: Named,
+    rows: u64,
+    tokens: &mut Cursor<'_>,
+) -> Result<GlobalDef, Unread>
+    ensures { ReadsAs (read_array_from numbers name rows tokens.old) result tokens.new }
+{
+    if !tokens.begins_with_symbol(b"[") {
+        return Ok(array(numbers, name, rows));
+    }
+    let columns = size(tokens)?;
+    Ok(grid(numbers, name, rows, columns))
+}
+
+/// "[" number "]" [ "[" number "]" ] | "=" [ "-" ] number | nothing, behind the name of a global
 #[tactic(auto, unfolding(crate::specs::ProgramReading::read_global_from))]
 fn global_from(numbers: NumKind, name: Named, tokens: &mut Cursor<'_>) -> Result<GlobalDef, Unread>
     ensures { ReadsAs (read_global_from numbers name tokens.old) result tokens.new }
@@ -45,10 +74,8 @@ fn global_from(numbers: NumKind, name: Named, tokens: &mut Cursor<'_>) -> Result
     if !tokens.begins_with_symbol(b"[") {
         return Ok(scalar(numbers, name, 0));
     }
-    tokens.symbol(b"[")?;
-    let cells = value(tokens)?;
-    tokens.symbol(b"]")?;
-    Ok(array(numbers, name, cells))
+    let rows = size(tokens)?;
+    array_from(numbers, name, rows, tokens)
 }
 
 /// A global that is one number.
@@ -59,12 +86,13 @@ fn scalar(numbers: NumKind, name: Named, first: u64) -> GlobalDef
         name: name.name,
         kind: numbers,
         cells: None,
+        columns: None,
         first,
         line: name.line,
     }
 }
 
-/// A global with so many cells.
+/// A global with so many cells in one dimension.
 fn array(numbers: NumKind, name: Named, cells: u64) -> GlobalDef
     ensures { result ≡ array_of numbers name cells }
 {
@@ -72,12 +100,35 @@ fn array(numbers: NumKind, name: Named, cells: u64) -> GlobalDef
         name: name.name,
         kind: numbers,
         cells: Some(cells),
+        columns: None,
         first: 0,
         line: name.line,
     }
 }
 
-/// name | name "[" number "]" | name "=" [ "-" ] number
+/// How many cells so many rows of so many columns have.
+#[tactic(auto, unfolding(oss_grammar::specs::Programs::cells_of_rows))]
+fn cells_of(rows: u64, columns: u64) -> u64
+    ensures { result ≡ cells_of_rows rows columns }
+{
+    rows.saturating_mul(columns)
+}
+
+/// A global with so many rows of so many columns.
+fn grid(numbers: NumKind, name: Named, rows: u64, columns: u64) -> GlobalDef
+    ensures { result ≡ grid_of numbers name rows columns }
+{
+    GlobalDef {
+        name: name.name,
+        kind: numbers,
+        cells: Some(cells_of(rows, columns)),
+        columns: Some(columns),
+        first: 0,
+        line: name.line,
+    }
+}
+
+/// name | name "[" number "]" [ "[" number "]" ] | name "=" [ "-" ] number
 #[tactic(auto, unfolding(crate::specs::ProgramReading::read_global))]
 fn global(alloc: Global, numbers: NumKind, tokens: &mut Cursor<'_>) -> Result<GlobalDef, Unread>
     ensures { ReadsAs (read_global numbers tokens.old) result tokens.new }

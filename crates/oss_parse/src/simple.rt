@@ -4,7 +4,7 @@ ghost use Rattle.std.specs.Prelude.{◌≡◌, IfOk};
 ghost use Rattle.oss_grammar.specs.SimpleStatements.{one_at};
 ghost use Rattle.oss_pragma.specs.ExpressionReading.{indexed, named_expression, read_arguments, read_brackets, read_expression, read_index, read_list, read_more, read_next};
 ghost use Rattle.oss_pragma.specs.Told.{ReadsAs};
-ghost use Rattle.oss_parse.specs.SimpleReading.{deref_at, read_assigned, read_called, read_declaration, read_declared, read_local, read_num_kind, read_pointed_at, read_simple, read_simple_from, read_starred, read_step_first, read_target, read_target_from};
+ghost use Rattle.oss_parse.specs.SimpleReading.{deref_at, read_assigned, read_called, read_declaration, read_declared, read_element, read_local, read_num_kind, read_pointed_at, read_simple, read_simple_from, read_starred, read_step_first, read_target, read_target_again, read_target_from};
 
 use crate::tokens::{
     assignment, begins_with_name, begins_with_single_kind, begins_with_step, keyword, single_kind,
@@ -95,16 +95,36 @@ fn pointee(alloc: Global, line: u32, pointer: Expr) -> Result<Expr, AllocError>
     })
 }
 
-/// [ "[" expr "]" ], behind the name of a target
-#[tactic(auto, unfolding(crate::specs::SimpleReading::read_target_from, oss_pragma::specs::ExpressionReading::read_index))]
+/// "[" expr "]", behind what it is an index of
+#[tactic(auto, unfolding(oss_pragma::specs::ExpressionReading::read_index))]
+fn element_of(alloc: Global, base: Expr, tokens: &mut Cursor<'_>) -> Result<Expr, Unread>
+    ensures { ReadsAs (read_element read_expression base tokens.old) result tokens.new }
+{
+    let at = index(alloc, tokens)?;
+    Ok(element(alloc, base, at)?)
+}
+
+/// [ "[" expr "]" ], behind an element of an array
+#[tactic(auto, unfolding(crate::specs::SimpleReading::read_target_again))]
+fn target_again(alloc: Global, base: Expr, tokens: &mut Cursor<'_>) -> Result<Expr, Unread>
+    ensures { ReadsAs (read_target_again read_expression base tokens.old) result tokens.new }
+{
+    if !tokens.begins_with_symbol(b"[") {
+        return Ok(base);
+    }
+    element_of(alloc, base, tokens)
+}
+
+/// [ "[" expr "]" [ "[" expr "]" ] ], behind the name of a target
+#[tactic(auto, unfolding(crate::specs::SimpleReading::read_target_from))]
 fn target_from(alloc: Global, name: Named, tokens: &mut Cursor<'_>) -> Result<Expr, Unread>
     ensures { ReadsAs (read_target_from read_expression name tokens.old) result tokens.new }
 {
     if !tokens.begins_with_symbol(b"[") {
         return Ok(named(name));
     }
-    let at = index(alloc, tokens)?;
-    Ok(element(alloc, named(name), at)?)
+    let base = element_of(alloc, named(name), tokens)?;
+    target_again(alloc, base, tokens)
 }
 
 /// name | "(" expr ")", behind the `*` of a target with this line
@@ -129,7 +149,7 @@ fn starred(alloc: Global, tokens: &mut Cursor<'_>) -> Result<Expr, Unread>
     pointed_at(alloc, line, tokens)
 }
 
-/// name [ "[" expr "]" ] | "*" ( name | "(" expr ")" )
+/// name [ "[" expr "]" [ "[" expr "]" ] ] | "*" ( name | "(" expr ")" )
 #[tactic(auto, unfolding(crate::specs::SimpleReading::read_target))]
 fn target(alloc: Global, tokens: &mut Cursor<'_>) -> Result<Expr, Unread>
     ensures { ReadsAs (read_target read_expression tokens.old) result tokens.new }
