@@ -16,15 +16,16 @@ use Rattle.oss_grammar.specs.Expressions.{IsWhole}
 use Rattle.oss_grammar.specs.Fronts.{Viable}
 use Rattle.oss_grammar.specs.Grammar.{One, Mapped, Either}
 use Rattle.oss_grammar.specs.Grammar.Either.{one_way, other_way}
-use Rattle.oss_grammar.specs.Levels.{IsExcessBehind, OpensSections, OpensDepend, OpensClause}
+use Rattle.oss_grammar.specs.Levels.{IsExcessBehind, OpensSections, OpensDepend, OpensLoopClause}
 use Rattle.oss_grammar.specs.Levels.OpensDepend.{depend_sections}
+use Rattle.oss_grammar.specs.Levels.OpensLoopClause.{task_clause, clause_grain}
 use Rattle.oss_grammar.specs.Levels.OpensClause.{clause_dependency, clause_reduction, clause_condition, clause_final, clause_priority}
 use Rattle.oss_grammar.specs.OneToken.{is_word, IsOpen, IsClose}
 use Rattle.oss_grammar.specs.Pragmas.{IsSections, IsDepend, IsClause, IsLabel, Single, is_single, access_of, reduction_of, fold_of}
 use Rattle.oss_grammar.specs.Pragmas.IsDepend.{depend}
 use Rattle.oss_grammar.specs.Pragmas.IsLabel.{named, quoted}
-use Rattle.oss_grammar.specs.Pragmas.IsClause.{dependency, reduction, condition, final_task, waiting, labelled, priority}
-use Rattle.oss_grammar.specs.Pragmas.Single.{once_if, once_final, once_wait, once_label, once_priority}
+use Rattle.oss_grammar.specs.Pragmas.IsClause.{dependency, reduction, condition, final_task, waiting, labelled, priority, grain}
+use Rattle.oss_grammar.specs.Pragmas.Single.{once_if, once_final, once_wait, once_label, once_priority, once_grain}
 use Rattle.oss_grammar.specs.Reading.{Reader, begins, has, one_of, never, read_one, read_mapped, read_either}
 use Rattle.oss_grammar.proofs.Parts.{Exact, Begun, exact_as}
 use Rattle.oss_grammar.proofs.PartLemmas.{Nowhere, nowhere, exact_one, begun_one, exact_mapped, begun_mapped, EitherDeep, begun_either}
@@ -34,8 +35,9 @@ use Rattle.oss_pragma.specs.PragmaReading.{read_sections, read_bracketed_section
 use Rattle.oss_pragma.specs.TokenValues.{symbol_at, access_at, reduction_at, fold_at, label_in, label_at, stands, is_single_word, single_at, begins_expression}
 use Rattle.oss_pragma.proofs.ExactPairs.{Headed, HeadedDeep, exact_headed, begun_headed, Bracketed, BracketedDeep, read_bracketed, exact_bracketed, bracketed_viable, read_behind, Behind, exact_behind, exact_or, or_apart, Failing, Perhaps, exact_or_perhaps, perhaps_either}
 use Rattle.oss_pragma.proofs.ExactPairs.Perhaps.{exactly, fails_at_once}
-use Rattle.oss_pragma.proofs.ExactSections.{whole_viable, bracket_apart, exact_sections, sections_viable}
-use Rattle.oss_pragma.proofs.OnceLemmas.{IsNew, depend_new, if_new, final_new, wait_new, label_new, priority_new, single_told, tells_single, has_single, no_single, count_none, none_counts}
+use Rattle.oss_pragma.proofs.ExactMany.{whole_viable}
+use Rattle.oss_pragma.proofs.ExactSections.{bracket_apart, exact_sections, sections_viable}
+use Rattle.oss_pragma.proofs.OnceLemmas.{IsNew, depend_new, if_new, final_new, wait_new, label_new, priority_new, grain_new, single_told, tells_single, has_single, no_single, count_none, none_counts}
 use Rattle.oss_pragma.proofs.TokenLemmas.{goes_on, on_symbol, on_word, on_keyword, has_symbol}
 
 -- the word of a reduction is one of two
@@ -68,6 +70,9 @@ on_label found test told t e = on_word test (codes "label") false told t (has_si
 on_priority : (found : List Clause) (test : Token → Bool) → ((line : ℕ) → test (record { what = kinds.Name (codes "priority"); line = line }) ≡ false) → (t : Token) → has (single_at once_priority found) t ≡ true → test t ≡ false
 on_priority found test told t e = on_word test (codes "priority") false told t (has_single once_priority found t e)
 
+on_grain : (found : List Clause) (test : Token → Bool) → ((line : ℕ) → test (record { what = kinds.Name (codes "grainsize"); line = line }) ≡ false) → (t : Token) → has (single_at once_grain found) t ≡ true → test t ≡ false
+on_grain found test told t e = on_word test (codes "grainsize") false told t (has_single once_grain found t e)
+
 -- what a label is made of
 label_told_in : (t : Token) (k : TokenKind) (bytes : List ℕ) → t.what ≡ k → label_in k ≡ Some bytes → IsLabel t bytes
 label_told_in t (kinds.Name w) bytes e s = let same : w ≡ bytes = cc in subst (λ b. IsLabel t b) same (named e)
@@ -90,8 +95,11 @@ sections_close : (t : Token) → has (symbol_at (codes ")")) t ≡ true → one_
 sections_close t e = on_symbol (one_of (has (symbol_at (codes ","))) (has (symbol_at (codes "[")))) (codes ")") false (λ line. refl) t (has_symbol (codes ")") t e)
 
 -- the words that are tried last, from the last on
+abbrev priority_on : List Clause → Token → Bool
+priority_on found = one_of (has (single_at once_priority found)) (has (single_at once_grain found))
+
 abbrev label_on : List Clause → Token → Bool
-label_on found = one_of (has (single_at once_label found)) (has (single_at once_priority found))
+label_on found = one_of (has (single_at once_label found)) (priority_on found)
 
 abbrev wait_on : List Clause → Token → Bool
 wait_on found = one_of (has (single_at once_wait found)) (label_on found)
@@ -109,39 +117,50 @@ reduction_on found = one_of (has reduction_at) (if_on found)
 abbrev pub clause_starts : List Clause → Token → Bool
 clause_starts found = one_of (has access_at) (reduction_on found)
 
+-- a token with such a word fails a test, if each of the words does
+module _ (found : List Clause) (test : Token → Bool) where
+  priority_apart : ((line : ℕ) → test (record { what = kinds.Name (codes "priority"); line = line }) ≡ false) → ((line : ℕ) → test (record { what = kinds.Name (codes "grainsize"); line = line }) ≡ false)
+      → (t : Token) → priority_on found t ≡ true → test t ≡ false
+  priority_apart p g = or_apart (has (single_at once_priority found)) (has (single_at once_grain found)) test (on_priority found test p) (on_grain found test g)
+
+  label_apart : ((line : ℕ) → test (record { what = kinds.Name (codes "label"); line = line }) ≡ false) → ((t : Token) → priority_on found t ≡ true → test t ≡ false) → (t : Token) → label_on found t ≡ true → test t ≡ false
+  label_apart l more = or_apart (has (single_at once_label found)) (priority_on found) test (on_label found test l) more
+
+  wait_apart : ((line : ℕ) → test (record { what = kinds.Name (codes "wait"); line = line }) ≡ false) → ((t : Token) → label_on found t ≡ true → test t ≡ false) → (t : Token) → wait_on found t ≡ true → test t ≡ false
+  wait_apart w more = or_apart (has (single_at once_wait found)) (label_on found) test (on_wait found test w) more
+
+  final_apart : ((line : ℕ) → test (record { what = kinds.Name (codes "final"); line = line }) ≡ false) → ((t : Token) → wait_on found t ≡ true → test t ≡ false) → (t : Token) → final_on found t ≡ true → test t ≡ false
+  final_apart f more = or_apart (has (single_at once_final found)) (wait_on found) test (on_final found test f) more
+
+  if_apart : ((line : ℕ) → test (record { what = kinds.Keyword (codes "if"); line = line }) ≡ false) → ((t : Token) → final_on found t ≡ true → test t ≡ false) → (t : Token) → if_on found t ≡ true → test t ≡ false
+  if_apart i more = or_apart (has (single_at once_if found)) (final_on found) test (on_if found test i) more
+
+label_last : (found : List Clause) (t : Token) → priority_on found t ≡ true → has (single_at once_label found) t ≡ false
+label_last found = let test : Token → Bool = has (single_at once_label found) in priority_apart found test (λ line. refl) (λ line. refl)
+
 wait_last : (found : List Clause) (t : Token) → label_on found t ≡ true → has (single_at once_wait found) t ≡ false
-wait_last found = or_apart (has (single_at once_label found)) (has (single_at once_priority found)) (has (single_at once_wait found))
-    (on_label found (has (single_at once_wait found)) (λ line. refl)) (on_priority found (has (single_at once_wait found)) (λ line. refl))
+wait_last found = let test : Token → Bool = has (single_at once_wait found) in label_apart found test (λ line. refl) (priority_apart found test (λ line. refl) (λ line. refl))
 
 final_last : (found : List Clause) (t : Token) → wait_on found t ≡ true → has (single_at once_final found) t ≡ false
-final_last found = or_apart (has (single_at once_wait found)) (label_on found) (has (single_at once_final found)) (on_wait found (has (single_at once_final found)) (λ line. refl))
-    (or_apart (has (single_at once_label found)) (has (single_at once_priority found)) (has (single_at once_final found))
-    (on_label found (has (single_at once_final found)) (λ line. refl)) (on_priority found (has (single_at once_final found)) (λ line. refl)))
+final_last found = let test : Token → Bool = has (single_at once_final found) in
+    wait_apart found test (λ line. refl) (label_apart found test (λ line. refl) (priority_apart found test (λ line. refl) (λ line. refl)))
 
 if_last : (found : List Clause) (t : Token) → final_on found t ≡ true → has (single_at once_if found) t ≡ false
-if_last found = or_apart (has (single_at once_final found)) (wait_on found) (has (single_at once_if found)) (on_final found (has (single_at once_if found)) (λ line. refl))
-    (or_apart (has (single_at once_wait found)) (label_on found) (has (single_at once_if found)) (on_wait found (has (single_at once_if found)) (λ line. refl))
-    (or_apart (has (single_at once_label found)) (has (single_at once_priority found)) (has (single_at once_if found))
-    (on_label found (has (single_at once_if found)) (λ line. refl)) (on_priority found (has (single_at once_if found)) (λ line. refl))))
+if_last found = let test : Token → Bool = has (single_at once_if found) in
+    final_apart found test (λ line. refl) (wait_apart found test (λ line. refl) (label_apart found test (λ line. refl) (priority_apart found test (λ line. refl) (λ line. refl))))
 
 reduction_last : (found : List Clause) (t : Token) → if_on found t ≡ true → has reduction_at t ≡ false
 unfolding reduction_of
-reduction_last found = or_apart (has (single_at once_if found)) (final_on found) (has reduction_at) (on_if found (has reduction_at) (λ line. refl))
-    (or_apart (has (single_at once_final found)) (wait_on found) (has reduction_at) (on_final found (has reduction_at) (λ line. refl))
-    (or_apart (has (single_at once_wait found)) (label_on found) (has reduction_at) (on_wait found (has reduction_at) (λ line. refl))
-    (or_apart (has (single_at once_label found)) (has (single_at once_priority found)) (has reduction_at)
-    (on_label found (has reduction_at) (λ line. refl)) (on_priority found (has reduction_at) (λ line. refl)))))
+reduction_last found = let test : Token → Bool = has reduction_at in
+    if_apart found test (λ line. refl) (final_apart found test (λ line. refl) (wait_apart found test (λ line. refl) (label_apart found test (λ line. refl) (priority_apart found test (λ line. refl) (λ line. refl)))))
 
 access_last : (found : List Clause) (t : Token) → reduction_on found t ≡ true → has access_at t ≡ false
 unfolding access_of
-access_last found = or_apart (has reduction_at) (if_on found) (has access_at) (on_reduction (has access_at) (λ line. refl) (λ line. refl))
-    (or_apart (has (single_at once_if found)) (final_on found) (has access_at) (on_if found (has access_at) (λ line. refl))
-    (or_apart (has (single_at once_final found)) (wait_on found) (has access_at) (on_final found (has access_at) (λ line. refl))
-    (or_apart (has (single_at once_wait found)) (label_on found) (has access_at) (on_wait found (has access_at) (λ line. refl))
-    (or_apart (has (single_at once_label found)) (has (single_at once_priority found)) (has access_at)
-    (on_label found (has access_at) (λ line. refl)) (on_priority found (has access_at) (λ line. refl))))))
+access_last found = let test : Token → Bool = has access_at in
+    or_apart (has reduction_at) (if_on found) test (on_reduction test (λ line. refl) (λ line. refl))
+    (if_apart found test (λ line. refl) (final_apart found test (λ line. refl) (wait_apart found test (λ line. refl) (label_apart found test (λ line. refl) (priority_apart found test (λ line. refl) (λ line. refl))))))
 
--- a clause of whose kind none was found, if a task has it once at most
+-- a clause of whose kind none was found, if a task or a task loop has it once at most
 pub record NewClause (found : List Clause) (xs : List Token) (c : Clause) : Type 0 where
   pub is : IsClause xs c
   pub new : IsNew found c
@@ -345,8 +364,11 @@ module _ {expression : Reader Expr} {X : List Token → Token → Type 0} (part_
     on true e = fails_at_once (failing_label found e)
     on false e = exactly (exact_label found e)
 
+  abbrev PriorityOn : List Clause → List Token → Clause → Type 0
+  PriorityOn found = Either (Lone once_priority found clause.Priority) (Lone once_grain found clause.Grain)
+
   abbrev LabelOn : List Clause → List Token → Clause → Type 0
-  LabelOn found = Either (Labelling found) (Lone once_priority found clause.Priority)
+  LabelOn found = Either (Labelling found) (PriorityOn found)
 
   abbrev WaitOn : List Clause → List Token → Clause → Type 0
   WaitOn found = Either (Waiting found) (LabelOn found)
@@ -360,8 +382,11 @@ module _ {expression : Reader Expr} {X : List Token → Token → Type 0} (part_
   abbrev Claused : List Clause → List Token → Clause → Type 0
   Claused found = Either IsDepend (Either Reducing (IfOn found))
 
+  abbrev PriorityDeep : List Clause → List Token → Token → Type 0
+  PriorityDeep found = EitherDeep (LoneDeep once_priority found) (LoneDeep once_grain found)
+
   abbrev LabelDeep : List Clause → List Token → Token → Type 0
-  LabelDeep found = EitherDeep (LabellingDeep found) (LoneDeep once_priority found)
+  LabelDeep found = EitherDeep (LabellingDeep found) (PriorityDeep found)
 
   abbrev WaitDeep : List Clause → List Token → Token → Type 0
   WaitDeep found = EitherDeep Nowhere (LabelDeep found)
@@ -375,8 +400,11 @@ module _ {expression : Reader Expr} {X : List Token → Token → Type 0} (part_
   abbrev ClausedDeep : List Clause → List Token → Token → Type 0
   ClausedDeep found = EitherDeep (IsExcessBehind OpensDepend X) (EitherDeep ReducingDeep (IfDeep found))
 
+  abbrev read_priority_on : List Clause → Reader Clause
+  read_priority_on found = read_either (has (single_at once_priority found)) (read_single expression once_priority found clause.Priority) (read_single expression once_grain found clause.Grain)
+
   abbrev read_label_on : List Clause → Reader Clause
-  read_label_on found = read_either (has (single_at once_label found)) (read_label found) (read_single expression once_priority found clause.Priority)
+  read_label_on found = read_either (has (single_at once_label found)) (read_label found) (read_priority_on found)
 
   abbrev read_wait_on : List Clause → Reader Clause
   read_wait_on found = read_either (has (single_at once_wait found)) (read_waiting found) (read_label_on found)
@@ -387,8 +415,11 @@ module _ {expression : Reader Expr} {X : List Token → Token → Type 0} (part_
   abbrev read_if_on : List Clause → Reader Clause
   read_if_on found = read_either (has (single_at once_if found)) (read_single expression once_if found clause.If) (read_final_on found)
 
+  begun_priority_on : (found : List Clause) → Begun (read_priority_on found) (priority_on found)
+  begun_priority_on found = begun_either (has (single_at once_priority found)) (begun_lone once_priority found clause.Priority) (begun_lone once_grain found clause.Grain)
+
   begun_label_on : (found : List Clause) → Begun (read_label_on found) (label_on found)
-  begun_label_on found = begun_either (has (single_at once_label found)) (begun_labelling found) (begun_lone once_priority found clause.Priority)
+  begun_label_on found = begun_either (has (single_at once_label found)) (begun_labelling found) (begun_priority_on found)
 
   begun_wait_on : (found : List Clause) → Begun (read_wait_on found) (wait_on found)
   begun_wait_on found = begun_either (has (single_at once_wait found)) (begun_waiting found) (begun_label_on found)
@@ -399,10 +430,13 @@ module _ {expression : Reader Expr} {X : List Token → Token → Type 0} (part_
   begun_if_on : (found : List Clause) → Begun (read_if_on found) (if_on found)
   begun_if_on found = begun_either (has (single_at once_if found)) (begun_lone once_if found clause.If) (begun_final_on found)
 
+  perhaps_priority_on : (found : List Clause) → Perhaps (read_priority_on found) (PriorityOn found) (PriorityDeep found) never
+  perhaps_priority_on found = perhaps_either (has (single_at once_priority found)) (has (single_at once_grain found)) (begun_lone once_priority found clause.Priority) (begun_lone once_grain found clause.Grain)
+      (on_grain found (has (single_at once_priority found)) (λ line. refl))
+      (perhaps_lone once_priority found clause.Priority (record { what = kinds.Name (codes "priority"); line = 0 }) refl) (perhaps_lone once_grain found clause.Grain (record { what = kinds.Name (codes "grainsize"); line = 0 }) refl)
+
   perhaps_label_on : (found : List Clause) → Perhaps (read_label_on found) (LabelOn found) (LabelDeep found) never
-  perhaps_label_on found = perhaps_either (has (single_at once_label found)) (has (single_at once_priority found)) (begun_labelling found) (begun_lone once_priority found clause.Priority)
-      (on_priority found (has (single_at once_label found)) (λ line. refl))
-      (perhaps_label found) (perhaps_lone once_priority found clause.Priority (record { what = kinds.Name (codes "priority"); line = 0 }) refl)
+  perhaps_label_on found = perhaps_either (has (single_at once_label found)) (priority_on found) (begun_labelling found) (begun_priority_on found) (label_last found) (perhaps_label found) (perhaps_priority_on found)
 
   perhaps_wait_on : (found : List Clause) → Perhaps (read_wait_on found) (WaitOn found) (WaitDeep found) never
   perhaps_wait_on found = perhaps_either (has (single_at once_wait found)) (label_on found) (begun_waiting found) (begun_label_on found) (wait_last found) (perhaps_waiting found) (perhaps_label_on found)
@@ -454,6 +488,13 @@ module _ {expression : Reader Expr} {X : List Token → Token → Type 0} (part_
         new = priority_new found w.whole.part.1 told.1;
       })
 
+  grain_into : (found : List Clause) (xs : List Token) (c : Clause) → Lone once_grain found clause.Grain xs c → NewClause found xs c
+  grain_into found xs c w = let h = w.whole.whole in let b = h.behind in let told = single_told once_grain found h.token w.whole.part.0 h.passes in
+      subst (λ c. NewClause found xs c) (ap clause.Grain w.whole.made ∙ w.made) (record {
+        is = grain h.token b.opened b.inner b.closed (h.split ∙ ap (λ ys. h.token ∷ ys) b.split) told.0 b.opens b.closes b.inside;
+        new = grain_new found w.whole.part.1 told.1;
+      })
+
   wait_into : (found : List Clause) (xs : List Token) (c : Clause) → Waiting found xs c → NewClause found xs c
   wait_into found xs c w = let told = single_told once_wait found w.whole.token w.part w.whole.passes in
       subst (λ c. NewClause found xs c) w.made (record { is = waiting w.whole.token w.whole.only told.0; new = wait_new found told.1 })
@@ -481,7 +522,8 @@ module _ {expression : Reader Expr} {X : List Token → Token → Type 0} (part_
   clause_into found xs c (other_way (other_way (other_way (one_way w)))) = final_into found xs c w
   clause_into found xs c (other_way (other_way (other_way (other_way (one_way w))))) = wait_into found xs c w
   clause_into found xs c (other_way (other_way (other_way (other_way (other_way (one_way w)))))) = label_into found xs c w
-  clause_into found xs c (other_way (other_way (other_way (other_way (other_way (other_way w)))))) = priority_into found xs c w
+  clause_into found xs c (other_way (other_way (other_way (other_way (other_way (other_way (one_way w))))))) = priority_into found xs c w
+  clause_into found xs c (other_way (other_way (other_way (other_way (other_way (other_way (other_way w))))))) = grain_into found xs c w
 
   lone_back : (s : Single) (found : List Clause) (make : Expr → Clause) (xs : List Token) (t opened : Token) (inner : List Token) (closed : Token) (v : Expr) → xs ≡ t ∷ opened ∷ (inner ++ (closed ∷ []))
       → is_single_word s t.what ≡ true → IsOpen opened → IsClose closed → IsWhole inner v → stands s found ≡ false → Lone s found make xs (make v)
@@ -547,34 +589,38 @@ module _ {expression : Reader Expr} {X : List Token → Token → Type 0} (part_
     };
   }))))))
   clause_back_by found xs c (priority {e = v} t opened inner closed e k o m w) new =
-      other_way (other_way (other_way (other_way (other_way (other_way (lone_back once_priority found clause.Priority xs t opened inner closed v e k o m w (new once_priority refl)))))))
+      other_way (other_way (other_way (other_way (other_way (other_way (one_way (lone_back once_priority found clause.Priority xs t opened inner closed v e k o m w (new once_priority refl))))))))
+  clause_back_by found xs c (grain {e = v} t opened inner closed e k o m w) new =
+      other_way (other_way (other_way (other_way (other_way (other_way (other_way (lone_back once_grain found clause.Grain xs t opened inner closed v e k o m w (new once_grain refl))))))))
 
   clause_back : (found : List Clause) (xs : List Token) (c : Clause) → NewClause found xs c → Claused found xs c
   clause_back found xs c w = clause_back_by found xs c w.is w.new
 
-  lone_place : (s : Single) (found : List Clause) (xs : List Token) (t : Token) (d : LoneDeep s found xs t) → OpensClause found (d.token ∷ d.deep.opened ∷ []) → IsExcessBehind (OpensClause found) X xs t
+  lone_place : (s : Single) (found : List Clause) (xs : List Token) (t : Token) (d : LoneDeep s found xs t) → OpensLoopClause found (d.token ∷ d.deep.opened ∷ []) → IsExcessBehind (OpensLoopClause found) X xs t
   lone_place s found xs t d o = record { front = d.token ∷ d.deep.opened ∷ []; inner = d.deep.inner; split = d.split ∙ ap (λ ys. d.token ∷ ys) d.deep.split; opens = o; excess = d.deep.deep }
 
   none_found : (s : Single) (found : List Clause) (t : Token) (n : ℕ) → single_at s found t ≡ Some n → count_by (is_single s) found ≡ 0
   none_found s found t n e = count_none (is_single s) found (single_told s found t n e).1
 
-  clause_deeper : (found : List Clause) (xs : List Token) (t : Token) → ClausedDeep found xs t → IsExcessBehind (OpensClause found) X xs t
-  clause_deeper found xs t (one_deep d) = record { front = d.front; inner = d.inner; split = d.split; opens = clause_dependency d.opens; excess = d.excess }
+  clause_deeper : (found : List Clause) (xs : List Token) (t : Token) → ClausedDeep found xs t → IsExcessBehind (OpensLoopClause found) X xs t
+  clause_deeper found xs t (one_deep d) = record { front = d.front; inner = d.inner; split = d.split; opens = task_clause (clause_dependency d.opens); excess = d.excess }
   clause_deeper found xs t (other_deep (one_deep d)) = let o = d.deep in let f = o.deep in let k = f.deep in let x = k.deep in record {
     front = d.token ∷ o.opened ∷ f.token ∷ k.opened ∷ x.front;
     inner = x.inner;
     split = d.split ∙ ap (λ ys. d.token ∷ ys) (o.split ∙ ap (λ ys. o.opened ∷ ys) (f.split ∙ ap (λ ys. f.token ∷ ys) (k.split ∙ ap (λ ys. k.opened ∷ ys) x.split)));
-    opens = clause_reduction d.token o.opened f.token k.opened d.value f.value x.front refl d.passes o.opens f.passes k.opens x.opens;
+    opens = task_clause (clause_reduction d.token o.opened f.token k.opened d.value f.value x.front refl d.passes o.opens f.passes k.opens x.opens);
     excess = x.excess;
   }
   clause_deeper found xs t (other_deep (other_deep (one_deep d))) =
-      lone_place once_if found xs t d (clause_condition d.token d.deep.opened refl (single_told once_if found d.token d.value d.passes).0 d.deep.opens (none_found once_if found d.token d.value d.passes))
+      lone_place once_if found xs t d (task_clause (clause_condition d.token d.deep.opened refl (single_told once_if found d.token d.value d.passes).0 d.deep.opens (none_found once_if found d.token d.value d.passes)))
   clause_deeper found xs t (other_deep (other_deep (other_deep (one_deep d)))) =
-      lone_place once_final found xs t d (clause_final d.token d.deep.opened refl (single_told once_final found d.token d.value d.passes).0 d.deep.opens (none_found once_final found d.token d.value d.passes))
+      lone_place once_final found xs t d (task_clause (clause_final d.token d.deep.opened refl (single_told once_final found d.token d.value d.passes).0 d.deep.opens (none_found once_final found d.token d.value d.passes)))
   clause_deeper found xs t (other_deep (other_deep (other_deep (other_deep (one_deep d))))) = nowhere xs t d
   clause_deeper found xs t (other_deep (other_deep (other_deep (other_deep (other_deep (one_deep d)))))) = nowhere d.deep.inner t d.deep.deep
-  clause_deeper found xs t (other_deep (other_deep (other_deep (other_deep (other_deep (other_deep d)))))) =
-      lone_place once_priority found xs t d (clause_priority d.token d.deep.opened refl (single_told once_priority found d.token d.value d.passes).0 d.deep.opens (none_found once_priority found d.token d.value d.passes))
+  clause_deeper found xs t (other_deep (other_deep (other_deep (other_deep (other_deep (other_deep (one_deep d))))))) =
+      lone_place once_priority found xs t d (task_clause (clause_priority d.token d.deep.opened refl (single_told once_priority found d.token d.value d.passes).0 d.deep.opens (none_found once_priority found d.token d.value d.passes)))
+  clause_deeper found xs t (other_deep (other_deep (other_deep (other_deep (other_deep (other_deep (other_deep d))))))) =
+      lone_place once_grain found xs t d (clause_grain d.token d.deep.opened refl (single_told once_grain found d.token d.value d.passes).0 d.deep.opens (none_found once_grain found d.token d.value d.passes))
 
   lone_deep : (s : Single) (found : List Clause) (xs before inner : List Token) (t p opened : Token) → xs ≡ before ++ inner → before ≡ p ∷ opened ∷ [] → is_single_word s p.what ≡ true → IsOpen opened
       → count_by (is_single s) found ≡ 0 → X inner t → LoneDeep s found xs t
@@ -587,9 +633,9 @@ module _ {expression : Reader Expr} {X : List Token → Token → Type 0} (part_
     deep = record { opened = opened; inner = inner; split = refl; opens = o; deep = x };
   }
 
-  clause_upper_by : (found : List Clause) (xs before inner : List Token) (t : Token) → xs ≡ before ++ inner → X inner t → OpensClause found before → ClausedDeep found xs t
-  clause_upper_by found xs before inner t e x (clause_dependency o) = one_deep (record { front = before; inner = inner; split = e; opens = o; excess = x })
-  clause_upper_by found xs before inner t e x (clause_reduction p opened o colon strong operator front b r q f k i) = other_deep (one_deep (record {
+  clause_upper_by : (found : List Clause) (xs before inner : List Token) (t : Token) → xs ≡ before ++ inner → X inner t → OpensLoopClause found before → ClausedDeep found xs t
+  clause_upper_by found xs before inner t e x (task_clause (clause_dependency o)) = one_deep (record { front = before; inner = inner; split = e; opens = o; excess = x })
+  clause_upper_by found xs before inner t e x (task_clause (clause_reduction p opened o colon strong operator front b r q f k i)) = other_deep (one_deep (record {
     token = p;
     back = opened ∷ o ∷ colon ∷ (front ++ inner);
     value = strong;
@@ -610,15 +656,17 @@ module _ {expression : Reader Expr} {X : List Token → Token → Type 0} (part_
       };
     };
   }))
-  clause_upper_by found xs before inner t e x (clause_condition p opened b k o none) = other_deep (other_deep (one_deep (lone_deep once_if found xs before inner t p opened e b k o none x)))
-  clause_upper_by found xs before inner t e x (clause_final p opened b k o none) = other_deep (other_deep (other_deep (one_deep (lone_deep once_final found xs before inner t p opened e b k o none x))))
-  clause_upper_by found xs before inner t e x (clause_priority p opened b k o none) =
-      other_deep (other_deep (other_deep (other_deep (other_deep (other_deep (lone_deep once_priority found xs before inner t p opened e b k o none x))))))
+  clause_upper_by found xs before inner t e x (task_clause (clause_condition p opened b k o none)) = other_deep (other_deep (one_deep (lone_deep once_if found xs before inner t p opened e b k o none x)))
+  clause_upper_by found xs before inner t e x (task_clause (clause_final p opened b k o none)) = other_deep (other_deep (other_deep (one_deep (lone_deep once_final found xs before inner t p opened e b k o none x))))
+  clause_upper_by found xs before inner t e x (task_clause (clause_priority p opened b k o none)) =
+      other_deep (other_deep (other_deep (other_deep (other_deep (other_deep (one_deep (lone_deep once_priority found xs before inner t p opened e b k o none x)))))))
+  clause_upper_by found xs before inner t e x (clause_grain p opened b k o none) =
+      other_deep (other_deep (other_deep (other_deep (other_deep (other_deep (other_deep (lone_deep once_grain found xs before inner t p opened e b k o none x)))))))
 
-  clause_upper : (found : List Clause) (xs : List Token) (t : Token) → IsExcessBehind (OpensClause found) X xs t → ClausedDeep found xs t
+  clause_upper : (found : List Clause) (xs : List Token) (t : Token) → IsExcessBehind (OpensLoopClause found) X xs t → ClausedDeep found xs t
   clause_upper found xs t w = clause_upper_by found xs w.front w.inner t w.split w.excess w.opens
 
-  pub exact_clause : (found : List Clause) → Exact (read_clause expression found) (NewClause found) (IsExcessBehind (OpensClause found) X) never
+  pub exact_clause : (found : List Clause) → Exact (read_clause expression found) (NewClause found) (IsExcessBehind (OpensLoopClause found) X) never
   exact_clause found = exact_as (clause_into found) (clause_back found) (clause_deeper found) (clause_upper found) (exact_claused found)
 
 -- there is a dependency, and so a clause

@@ -1,9 +1,8 @@
 -- The reader of pragmas is exact for each exact reader of expressions.
-use Rattle.std.proofs.Common.{◌≡◌, ℕ, Bool, true, false, not, if◌then◌else◌, List, [], ◌∷◌, ◌++◌, refl, sym, ap, ◌∙◌, subst, append_assoc, Some, None, is_some, Result}
+use Rattle.std.proofs.Common.{arith, ◌≡◌, ℕ, Bool, true, false, List, [], ◌∷◌, ◌++◌, refl, sym, ap, ◌∙◌, subst, append_assoc, Some, None, Result}
 use Rattle.std.specs.Prelude.{codes}
 use Rattle.std.proofs.lemmas.List.{append-nil}
 use Rattle.oss_syntax.specs.declared.token.Token.{Token}
-use Rattle.oss_syntax.specs.declared.token.TokenKind.{TokenKind}
 use Rattle.oss_syntax.specs.declared.token.TokenKind.TheVariants as kinds
 use Rattle.oss_syntax.specs.declared.tree.expr.Expr.{Expr}
 use Rattle.oss_syntax.specs.declared.tree.pragma.Clause.{Clause}
@@ -14,94 +13,35 @@ use Rattle.oss_grammar.specs.Expressions.{IsWhole}
 use Rattle.oss_grammar.specs.Fronts.{Viable}
 use Rattle.oss_grammar.specs.Grammar.{One, Mapped, Either}
 use Rattle.oss_grammar.specs.Grammar.Either.{one_way, other_way}
-use Rattle.oss_grammar.specs.Levels.{IsExcessBehind, IsPragmaExcess, OpensSections, OpensDepend, OpensClause, AfterComma, OpensPragma}
+use Rattle.oss_grammar.specs.Levels.{IsExcessBehind, IsPragmaExcess, OpensSections, OpensDepend, OpensClause, OpensLoopClause, AfterComma, OpensPragma}
 use Rattle.oss_grammar.specs.Levels.AfterComma.{with_comma, without_comma}
-use Rattle.oss_grammar.specs.Levels.OpensPragma.{in_task, in_wait, in_release, in_more_release}
-use Rattle.oss_grammar.specs.OneToken.{is_word, IsWord}
-use Rattle.oss_grammar.specs.Pragmas.{IsSections, IsDepend, IsClauses, HasEachOnce, IsMoreDepends, IsPragma, access_of, reduction_of}
+use Rattle.oss_grammar.specs.Levels.OpensClause.{clause_dependency, clause_reduction, clause_condition, clause_final, clause_priority}
+use Rattle.oss_grammar.specs.Levels.OpensLoopClause.{task_clause, clause_grain}
+use Rattle.oss_grammar.specs.Levels.OpensPragma.{in_task, in_task_loop, in_wait, in_release, in_more_release}
+use Rattle.oss_grammar.specs.OneToken.{IsWord}
+use Rattle.oss_grammar.specs.Pragmas.{IsSections, IsDepend, IsClauses, HasEachOnce, HasNoGrain, IsMoreDepends, is_single, IsPragma, access_of, reduction_of}
 use Rattle.oss_grammar.specs.Pragmas.IsClauses.{no_clause, plain_clause, comma_clause}
 use Rattle.oss_grammar.specs.Pragmas.IsMoreDepends.{no_depend, plain_depend, comma_depend}
-use Rattle.oss_grammar.specs.Pragmas.IsPragma.{task, wait_all, wait_on, release}
+use Rattle.oss_grammar.specs.Pragmas.IsPragma.{task, task_loop, wait_all, wait_on, release}
+use Rattle.oss_grammar.specs.Pragmas.Single.{once_if, once_final, once_priority, once_grain}
 use Rattle.oss_grammar.specs.Reading.{Stop, Reader, has, one_of, never, read_one, read_mapped, read_either}
 use Rattle.oss_grammar.proofs.Parts.{Exact, Begun, exact_as}
 use Rattle.oss_grammar.proofs.PartLemmas.{Nowhere, nowhere, exact_one, begun_one, exact_mapped, begun_mapped, Then, ThenDeep, exact_then, begun_then, EitherDeep, begun_either}
 use Rattle.oss_grammar.proofs.PartLemmas.EitherDeep.{one_deep, other_deep}
 use Rattle.oss_pragma.specs.ExpressionReading.{read_expression, middle, and_then}
-use Rattle.oss_pragma.specs.PragmaReading.{read_clause, read_after_comma, goes_on_with_clause, read_clauses, goes_on_with_depend, read_depend, read_more_depends, read_depends, task_of, read_task, read_on, read_taskwait, read_release, read_pragma}
-use Rattle.oss_pragma.specs.TokenValues.{symbol_at, word_at, start_in, start_at, end_in, end_at, access_at, begins_expression}
+use Rattle.oss_pragma.specs.PragmaReading.{read_clause, read_after_comma, goes_on_with_clause, read_clauses, no_grain, counted_with, found_of, read_all_clauses, goes_on_with_depend, read_depend, read_more_depends, read_depends, task_of, read_task, task_loop_of, read_task_loop, read_on, read_taskwait, read_release, read_pragma}
+use Rattle.oss_pragma.specs.TokenValues.{symbol_at, word_at, start_at, end_at, access_at, begins_expression}
+use Rattle.oss_pragma.specs.declared.kinds.TaskKind.{TaskKind}
+use Rattle.oss_pragma.specs.declared.kinds.TaskKind.TheVariants as task_kind
 use Rattle.oss_pragma.proofs.ExactPairs.{HeadedDeep, Enclosed, exact_enclosed, begun_enclosed, Bracketed, BracketedDeep, bracketed_viable, Behind, exact_behind, begun_behind, exact_or, or_apart}
 use Rattle.oss_pragma.proofs.ExactExpressions.{exact_expression, begun_expression}
 use Rattle.oss_pragma.proofs.ExactRows.{Rows, RowsEnd, RowsDeep, exact_rows}
 use Rattle.oss_pragma.proofs.ExactRows.Rows.{no_row, next_row}
 use Rattle.oss_pragma.proofs.ExactSections.{sections_viable}
-use Rattle.oss_pragma.proofs.OnceLemmas.{IsNew, once_with, new_behind, once_none}
+use Rattle.oss_pragma.proofs.OnceLemmas.{IsNew, once_with, new_behind, once_none, count_yes, count_no, once_counted, once_found, none_found_of, counted_all, found_counted, none_counted}
 use Rattle.oss_pragma.proofs.ExactClauses.{NewClause, clause_starts, exact_bracketed_sections, exact_depend, begun_depend, exact_clause, begun_clause, depend_viable, clause_viable}
+use Rattle.oss_pragma.proofs.PragmaTokens.{word_told, tells_word, start_what, start_line, tells_start, end_told, tells_end, not_end, ends, on_end}
 use Rattle.oss_pragma.proofs.TokenLemmas.{begins_never, goes_on, on_word, not_symbol, has_word}
-
--- the words of a pragma, and its first and last tokens
-line_of : (b : Bool) (line n : ℕ) → (if b then Some line else None) ≡ Some n → b ≡ true
-line_of true line n e = refl
-line_of false line n e = absurd (cc)
-
-word_told : (w : List ℕ) (t : Token) (n : ℕ) → word_at w t ≡ Some n → IsWord w t
-word_told w t n e = line_of (is_word w t.what) t.line n e
-
-tells_word : (w : List ℕ) (t : Token) → IsWord w t → word_at w t ≡ Some t.line
-tells_word w t e = rw e refl
-
-start_what : (k : TokenKind) (line n : ℕ) → start_in k line ≡ Some n → k ≡ kinds.PragmaOss
-start_what kinds.PragmaOss line n e = refl
-start_what kinds.PragmaEnd line n e = absurd (cc)
-start_what kinds.Directive line n e = absurd (cc)
-start_what (kinds.Name w) line n e = absurd (cc)
-start_what (kinds.Symbol w) line n e = absurd (cc)
-start_what (kinds.Keyword w) line n e = absurd (cc)
-start_what (kinds.Number v u) line n e = absurd (cc)
-start_what (kinds.Text w) line n e = absurd (cc)
-
-start_line : (k : TokenKind) (line n : ℕ) → start_in k line ≡ Some n → line ≡ n
-start_line kinds.PragmaOss line n e = cc
-start_line kinds.PragmaEnd line n e = absurd (cc)
-start_line kinds.Directive line n e = absurd (cc)
-start_line (kinds.Name w) line n e = absurd (cc)
-start_line (kinds.Symbol w) line n e = absurd (cc)
-start_line (kinds.Keyword w) line n e = absurd (cc)
-start_line (kinds.Number v u) line n e = absurd (cc)
-start_line (kinds.Text w) line n e = absurd (cc)
-
-tells_start : (t : Token) → t.what ≡ kinds.PragmaOss → start_at t ≡ Some t.line
-tells_start t e = ap (λ k. start_in k t.line) e
-
-end_what : (k : TokenKind) (line : ℕ) → is_some (end_in k line) ≡ true → k ≡ kinds.PragmaEnd
-end_what kinds.PragmaEnd line e = refl
-end_what kinds.PragmaOss line e = absurd (cc)
-end_what kinds.Directive line e = absurd (cc)
-end_what (kinds.Name w) line e = absurd (cc)
-end_what (kinds.Symbol w) line e = absurd (cc)
-end_what (kinds.Keyword w) line e = absurd (cc)
-end_what (kinds.Number v u) line e = absurd (cc)
-end_what (kinds.Text w) line e = absurd (cc)
-
-end_told : (t : Token) (n : ℕ) → end_at t ≡ Some n → t.what ≡ kinds.PragmaEnd
-end_told t n e = end_what t.what t.line (ap is_some e)
-
-tells_end : (t : Token) → t.what ≡ kinds.PragmaEnd → end_at t ≡ Some t.line
-tells_end t e = ap (λ k. end_in k t.line) e
-
--- each token but the end of a pragma
-abbrev pub not_end : Token → Bool
-not_end t = not (has end_at t)
-
-ends : (t : Token) → has end_at t ≡ true → not_end t ≡ false
-ends t e = ap not e
-
-not_false : (b : Bool) → not b ≡ false → b ≡ true
-not_false true e = refl
-not_false false e = absurd (cc)
-
--- a test is computed on the end of a pragma
-on_end : (test : Token → Bool) → ((line : ℕ) → test (record { what = kinds.PragmaEnd; line = line }) ≡ false) → (t : Token) → not_end t ≡ false → test t ≡ false
-on_end test told t e = subst (λ k. test (record { what = k; line = t.line }) ≡ false) (sym (end_what t.what t.line (not_false (has end_at t) e))) (told t.line)
 
 -- a part, or a comma and then the part
 module _ {A : Type 0} (starts : Token → Bool) {f : List Token → Result (A × List Token) Stop} {U : List Token → A → Type 0} {D : List Token → Token → Type 0} {goes : Token → Bool} (part : Exact f U D goes) (first : Begun f starts)
@@ -123,14 +63,44 @@ after_upper before inner t x (with_comma comma back e c o) =
     one_deep (record { opened = comma; inner = back ++ inner; split = ap (λ ys. ys ++ inner) e; opens = c; deep = record { front = back; inner = inner; split = refl; opens = o; excess = x } })
 after_upper before inner t x (without_comma o) = other_deep (record { front = before; inner = inner; split = refl; opens = o; excess = x })
 
--- the clauses of a task: each that a task has once at most stands once at most
+-- the clauses of a task: each that a task has once at most stands once at most, and none is a grainsize
 pub record IsTaskClauses (xs : List Token) (cs : List Clause) : Type 0 where
   pub clauses : IsClauses xs cs
   pub once : HasEachOnce cs
+  pub bare : HasNoGrain cs
 
 -- behind these tokens a whole expression begins in a clause of a task
 pub data OpensClauses (xs : List Token) : Type 0 where
-  behind_clauses : {found : List Clause} (front back : List Token) → xs ≡ front ++ back → IsClauses front found → HasEachOnce found → AfterComma (OpensClause found) back → OpensClauses xs
+  behind_clauses : {found : List Clause} (front back : List Token) → xs ≡ front ++ back → IsClauses front found → HasEachOnce found → HasNoGrain found → AfterComma (OpensClause found) back → OpensClauses xs
+
+-- the same of a task or of a task loop, with what stands before the clauses
+pub record IsCountedClauses (kind : TaskKind) (xs : List Token) (cs : List Clause) : Type 0 where
+  pub clauses : IsClauses xs cs
+  pub once : HasEachOnce (counted_with kind cs)
+
+pub data OpensCounted (kind : TaskKind) (xs : List Token) : Type 0 where
+  behind_counted : {found : List Clause} (front back : List Token) → xs ≡ front ++ back → IsClauses front found → HasEachOnce (counted_with kind found)
+      → AfterComma (OpensLoopClause (counted_with kind found)) back → OpensCounted kind xs
+
+after_as : {O P : List Token → Type 0} → ((ys : List Token) → O ys → P ys) → (xs : List Token) → AfterComma O xs → AfterComma P xs
+after_as into xs (with_comma comma back e c o) = with_comma comma back e c (into back o)
+after_as into xs (without_comma o) = without_comma (into xs o)
+
+-- no grainsize of a task is opened, and the other clauses are the same behind what stands before them
+opens_found : (found : List Clause) (xs : List Token) → OpensLoopClause (no_grain ∷ found) xs → OpensClause found xs
+opens_found found xs (task_clause (clause_dependency o)) = clause_dependency o
+opens_found found xs (task_clause (clause_reduction t opened o colon strong operator front e r q f k i)) = clause_reduction t opened o colon strong operator front e r q f k i
+opens_found found xs (task_clause (clause_condition t opened e k o none)) = clause_condition t opened e k o (sym (count_no (is_single once_if) no_grain found refl) ∙ none)
+opens_found found xs (task_clause (clause_final t opened e k o none)) = clause_final t opened e k o (sym (count_no (is_single once_final) no_grain found refl) ∙ none)
+opens_found found xs (task_clause (clause_priority t opened e k o none)) = clause_priority t opened e k o (sym (count_no (is_single once_priority) no_grain found refl) ∙ none)
+opens_found found xs (clause_grain t opened e k o none) = let one = count_yes (is_single once_grain) no_grain found refl in absurd (omega arith)
+
+opens_counted : (found : List Clause) (xs : List Token) → OpensClause found xs → OpensLoopClause (no_grain ∷ found) xs
+opens_counted found xs (clause_dependency o) = task_clause (clause_dependency o)
+opens_counted found xs (clause_reduction t opened o colon strong operator front e r q f k i) = task_clause (clause_reduction t opened o colon strong operator front e r q f k i)
+opens_counted found xs (clause_condition t opened e k o none) = task_clause (clause_condition t opened e k o (count_no (is_single once_if) no_grain found refl ∙ none))
+opens_counted found xs (clause_final t opened e k o none) = task_clause (clause_final t opened e k o (count_no (is_single once_final) no_grain found refl ∙ none))
+opens_counted found xs (clause_priority t opened e k o none) = task_clause (clause_priority t opened e k o (count_no (is_single once_priority) no_grain found refl ∙ none))
 
 abbrev NewOrComma : List Clause → List Token → Clause → Type 0
 NewOrComma found = Either (Behind (codes ",") (NewClause found)) (NewClause found)
@@ -160,7 +130,7 @@ clauses_rows found xs more once (comma_clause {c = c} {more = rest} comma front 
 
 module _ {expression : Reader Expr} {X : List Token → Token → Type 0} (part_of : Exact expression IsWhole X goes_on) (first : Begun expression begins_expression) where
   abbrev ClauseDeep : List Clause → List Token → Token → Type 0
-  ClauseDeep found = EitherDeep (BracketedDeep (codes ",") (IsExcessBehind (OpensClause found) X)) (IsExcessBehind (OpensClause found) X)
+  ClauseDeep found = EitherDeep (BracketedDeep (codes ",") (IsExcessBehind (OpensLoopClause found) X)) (IsExcessBehind (OpensLoopClause found) X)
 
   clause_no_comma : (found : List Clause) (t : Token) → clause_starts found t ≡ true → has (symbol_at (codes ",")) t ≡ false
   unfolding access_of reduction_of
@@ -176,39 +146,78 @@ module _ {expression : Reader Expr} {X : List Token → Token → Type 0} (part_
   unfolding access_of reduction_of
   end_no_clause found t e = on_end (goes_on_with_clause found) (λ line. refl) t e
 
-  clauses_into : (xs : List Token) (cs : List Clause) → RowsEnd NewOrComma [] xs cs → IsTaskClauses xs cs
-  clauses_into xs cs w = subst (λ cs. IsTaskClauses xs cs) w.ends (record { clauses = rows_clauses [] xs w.more w.rows; once = rows_once [] xs w.more once_none w.rows })
+  abbrev Counted : TaskKind → List Token → List Clause → Type 0
+  Counted kind = Mapped (found_of kind) (RowsEnd NewOrComma (counted_with kind []))
 
-  clauses_back : (xs : List Token) (cs : List Clause) → IsTaskClauses xs cs → RowsEnd NewOrComma [] xs cs
-  clauses_back xs cs w = record { more = cs; ends = refl; rows = clauses_rows [] xs cs w.once w.clauses }
+  abbrev CountedDeep : TaskKind → List Token → Token → Type 0
+  CountedDeep kind = RowsDeep NewOrComma ClauseDeep (counted_with kind [])
 
-  clauses_deeper : (xs : List Token) (t : Token) → RowsDeep NewOrComma ClauseDeep [] xs t → IsExcessBehind OpensClauses X xs t
-  clauses_deeper xs t w = let x = after_deeper w.back t w.deep in record {
+  once_all : (kind : TaskKind) (xs : List Token) (more : List Clause) → Rows NewOrComma (counted_with kind []) xs more → HasEachOnce (counted_with kind more)
+  once_all kind xs more rows = subst HasEachOnce (counted_all kind more) (rows_once (counted_with kind []) xs more (none_counted kind) rows)
+
+  counted_into : (kind : TaskKind) (xs : List Token) (cs : List Clause) → Counted kind xs cs → IsCountedClauses kind xs cs
+  counted_into kind xs cs w =
+      let same : w.whole.more ≡ cs = sym (found_counted kind w.whole.more) ∙ (ap (found_of kind) (sym (counted_all kind w.whole.more) ∙ w.whole.ends) ∙ w.made) in
+      subst (λ cs. IsCountedClauses kind xs cs) same (record { clauses = rows_clauses (counted_with kind []) xs w.whole.more w.whole.rows; once = once_all kind xs w.whole.more w.whole.rows })
+
+  counted_back : (kind : TaskKind) (xs : List Token) (cs : List Clause) → IsCountedClauses kind xs cs → Counted kind xs cs
+  counted_back kind xs cs w = record {
+    part = counted_with kind cs;
+    made = found_counted kind cs;
+    whole = record { more = cs; ends = counted_all kind cs; rows = clauses_rows (counted_with kind []) xs cs (subst HasEachOnce (sym (counted_all kind cs)) w.once) w.clauses };
+  }
+
+  counted_deeper : (kind : TaskKind) (xs : List Token) (t : Token) → CountedDeep kind xs t → IsExcessBehind (OpensCounted kind) X xs t
+  counted_deeper kind xs t w = let x = after_deeper w.back t w.deep in record {
     front = w.front ++ x.front;
     inner = x.inner;
     split = w.split ∙ (ap (λ ys. w.front ++ ys) x.split ∙ sym (append_assoc w.front x.front x.inner));
-    opens = behind_clauses w.front x.front refl (rows_clauses [] w.front w.more w.rows) (rows_once [] w.front w.more once_none w.rows) x.opens;
+    opens = behind_counted w.front x.front refl (rows_clauses (counted_with kind []) w.front w.more w.rows) (once_all kind w.front w.more w.rows)
+        (subst (λ found. AfterComma (OpensLoopClause found) x.front) (counted_all kind w.more) x.opens);
     excess = x.excess;
   }
 
-  clauses_upper_by : (xs before inner : List Token) (t : Token) → xs ≡ before ++ inner → X inner t → OpensClauses before → RowsDeep NewOrComma ClauseDeep [] xs t
-  clauses_upper_by xs before inner t e x (behind_clauses {found = found} front back s w once o) = record {
+  counted_upper_by : (kind : TaskKind) (xs before inner : List Token) (t : Token) → xs ≡ before ++ inner → X inner t → OpensCounted kind before → CountedDeep kind xs t
+  counted_upper_by kind xs before inner t e x (behind_counted {found = found} front back s w once o) = record {
     front = front;
     back = back ++ inner;
     more = found;
     split = e ∙ (ap (λ ys. ys ++ inner) s ∙ append_assoc front back inner);
-    rows = clauses_rows [] front found once w;
-    deep = after_upper back inner t x o;
+    rows = clauses_rows (counted_with kind []) front found (subst HasEachOnce (sym (counted_all kind found)) once) w;
+    deep = after_upper back inner t x (subst (λ found. AfterComma (OpensLoopClause found) back) (sym (counted_all kind found)) o);
   }
 
-  clauses_upper : (xs : List Token) (t : Token) → IsExcessBehind OpensClauses X xs t → RowsDeep NewOrComma ClauseDeep [] xs t
+  counted_upper : (kind : TaskKind) (xs : List Token) (t : Token) → IsExcessBehind (OpensCounted kind) X xs t → CountedDeep kind xs t
+  counted_upper kind xs t w = counted_upper_by kind xs w.front w.inner t w.split w.excess w.opens
+
+  -- the clauses of a task and of a task loop are read where the end of the pragma follows
+  pub exact_counted : (kind : TaskKind) → Exact (read_all_clauses kind expression) (IsCountedClauses kind) (IsExcessBehind (OpensCounted kind) X) not_end
+  unfolding read_all_clauses read_clauses
+  exact_counted kind = exact_as (counted_into kind) (counted_back kind) (counted_deeper kind) (counted_upper kind)
+      (exact_mapped (found_of kind) (exact_rows exact_next_clause begun_next_clause (λ found t e. refl) end_no_clause (λ t e. refl) (counted_with kind [])))
+
+  clauses_into : (xs : List Token) (cs : List Clause) → IsCountedClauses task_kind.Task xs cs → IsTaskClauses xs cs
+  clauses_into xs cs w = record { clauses = w.clauses; once = once_found cs w.once; bare = none_found_of cs w.once }
+
+  clauses_back : (xs : List Token) (cs : List Clause) → IsTaskClauses xs cs → IsCountedClauses task_kind.Task xs cs
+  clauses_back xs cs w = record { clauses = w.clauses; once = once_counted cs w.once w.bare }
+
+  clauses_deeper_by : (xs before inner : List Token) (t : Token) → xs ≡ before ++ inner → X inner t → OpensCounted task_kind.Task before → IsExcessBehind OpensClauses X xs t
+  clauses_deeper_by xs before inner t e x (behind_counted {found = found} front back s w once o) =
+      record { front = before; inner = inner; split = e; opens = behind_clauses front back s w (once_found found once) (none_found_of found once) (after_as (opens_found found) back o); excess = x }
+
+  clauses_deeper : (xs : List Token) (t : Token) → IsExcessBehind (OpensCounted task_kind.Task) X xs t → IsExcessBehind OpensClauses X xs t
+  clauses_deeper xs t w = clauses_deeper_by xs w.front w.inner t w.split w.excess w.opens
+
+  clauses_upper_by : (xs before inner : List Token) (t : Token) → xs ≡ before ++ inner → X inner t → OpensClauses before → IsExcessBehind (OpensCounted task_kind.Task) X xs t
+  clauses_upper_by xs before inner t e x (behind_clauses {found = found} front back s w once bare o) =
+      record { front = before; inner = inner; split = e; opens = behind_counted front back s w (once_counted found once bare) (after_as (opens_counted found) back o); excess = x }
+
+  clauses_upper : (xs : List Token) (t : Token) → IsExcessBehind OpensClauses X xs t → IsExcessBehind (OpensCounted task_kind.Task) X xs t
   clauses_upper xs t w = clauses_upper_by xs w.front w.inner t w.split w.excess w.opens
 
-  -- the clauses of a task are read where the end of the pragma follows
-  pub exact_clauses : Exact (read_clauses expression []) IsTaskClauses (IsExcessBehind OpensClauses X) not_end
-  unfolding read_clauses
-  exact_clauses = exact_as clauses_into clauses_back clauses_deeper clauses_upper
-      (exact_rows exact_next_clause begun_next_clause (λ found t e. refl) end_no_clause (λ t e. refl) [])
+  pub exact_clauses : Exact (read_all_clauses task_kind.Task expression) IsTaskClauses (IsExcessBehind OpensClauses X) not_end
+  exact_clauses = exact_as clauses_into clauses_back clauses_deeper clauses_upper (exact_counted task_kind.Task)
 
 -- the dependencies of a release
 pub record IsDepends (xs : List Token) (cs : List Clause) : Type 0 where
@@ -334,7 +343,7 @@ module _ {expression : Reader Expr} {X : List Token → Token → Type 0} (part_
   TaskedDeep = HeadedDeep (word_at (codes "task")) (IsExcessBehind OpensClauses X)
 
   clauses_viable : Viable IsTaskClauses []
-  clauses_viable = record { more = []; value = []; member = record { clauses = no_clause refl; once = once_none } }
+  clauses_viable = record { more = []; value = []; member = record { clauses = no_clause refl; once = once_none; bare = refl } }
 
   pub exact_task : (line : ℕ) → Exact (read_task expression line) (Tasked line) TaskedDeep never
   unfolding read_task
@@ -352,9 +361,29 @@ module _ {expression : Reader Expr} {X : List Token → Token → Type 0} (part_
     member = record {
       part = (0, ([], 0));
       made = refl;
-      whole = record { opened = record { what = kinds.Name (codes "task"); line = 0 }; inner = []; closed = record { what = kinds.PragmaEnd; line = 0 }; split = refl; opens = refl; closes = refl; inside = record { clauses = no_clause refl; once = once_none } };
+      whole = record { opened = record { what = kinds.Name (codes "task"); line = 0 }; inner = []; closed = record { what = kinds.PragmaEnd; line = 0 }; split = refl; opens = refl; closes = refl; inside = record { clauses = no_clause refl; once = once_none; bare = refl } };
     };
   }
+
+  -- a task loop
+  abbrev Looped : ℕ → List Token → Directive → Type 0
+  Looped line = Mapped (task_loop_of line) (Enclosed (word_at (codes "taskloop")) end_at (IsCountedClauses task_kind.Loop))
+
+  abbrev LoopedDeep : List Token → Token → Type 0
+  LoopedDeep = HeadedDeep (word_at (codes "taskloop")) (IsExcessBehind (OpensCounted task_kind.Loop) X)
+
+  loop_clauses_viable : Viable (IsCountedClauses task_kind.Loop) []
+  loop_clauses_viable = record { more = []; value = []; member = record { clauses = no_clause refl; once = once_none } }
+
+  pub exact_task_loop : (line : ℕ) → Exact (read_task_loop expression line) (Looped line) LoopedDeep never
+  unfolding read_task_loop
+  exact_task_loop line = exact_mapped (task_loop_of line) (exact_enclosed (word_at (codes "taskloop")) end_at (exact_counted part_of first task_kind.Loop) loop_clauses_viable ends (record { what = kinds.PragmaEnd; line = 0 }) 0 refl
+      (record { what = kinds.Name (codes "taskloop"); line = 0 }) 0 refl)
+
+  begun_task_loop : (line : ℕ) → Begun (read_task_loop expression line) (has (word_at (codes "taskloop")))
+  unfolding read_task_loop
+  begun_task_loop line =
+      begun_mapped (task_loop_of line) (begun_enclosed (word_at (codes "taskloop")) end_at (exact_counted part_of first task_kind.Loop) loop_clauses_viable ends (record { what = kinds.PragmaEnd; line = 0 }) 0 refl)
 
   -- `taskwait`
   abbrev On : List Token → List Section → Type 0
@@ -429,26 +458,47 @@ module _ {expression : Reader Expr} {X : List Token → Token → Type 0} (part_
 
   -- what stands behind the first token of a pragma
   abbrev Directed : ℕ → List Token → Directive → Type 0
-  Directed line = Either (Tasked line) (Either Waited Released)
+  Directed line = Either (Tasked line) (Either (Looped line) (Either Waited Released))
 
   abbrev DirectedDeep : ℕ → List Token → Token → Type 0
-  DirectedDeep line = EitherDeep TaskedDeep (EitherDeep WaitedDeep ReleasedDeep)
+  DirectedDeep line = EitherDeep TaskedDeep (EitherDeep LoopedDeep (EitherDeep WaitedDeep ReleasedDeep))
 
   abbrev wait_starts : Token → Bool
   wait_starts = one_of (has (word_at (codes "taskwait"))) (has (word_at (codes "release")))
 
+  abbrev loop_starts : Token → Bool
+  loop_starts = one_of (has (word_at (codes "taskloop"))) wait_starts
+
   release_no_wait : (t : Token) → has (word_at (codes "release")) t ≡ true → has (word_at (codes "taskwait")) t ≡ false
   release_no_wait t e = on_word (has (word_at (codes "taskwait"))) (codes "release") false (λ line. refl) t (has_word (codes "release") t e)
 
-  others_no_task : (t : Token) → wait_starts t ≡ true → has (word_at (codes "task")) t ≡ false
-  others_no_task = or_apart (has (word_at (codes "taskwait"))) (has (word_at (codes "release"))) (has (word_at (codes "task")))
+  waits_no_loop : (t : Token) → wait_starts t ≡ true → has (word_at (codes "taskloop")) t ≡ false
+  waits_no_loop = or_apart (has (word_at (codes "taskwait"))) (has (word_at (codes "release"))) (has (word_at (codes "taskloop")))
+      (λ t e. on_word (has (word_at (codes "taskloop"))) (codes "taskwait") false (λ line. refl) t (has_word (codes "taskwait") t e))
+      (λ t e. on_word (has (word_at (codes "taskloop"))) (codes "release") false (λ line. refl) t (has_word (codes "release") t e))
+
+  waits_no_task : (t : Token) → wait_starts t ≡ true → has (word_at (codes "task")) t ≡ false
+  waits_no_task = or_apart (has (word_at (codes "taskwait"))) (has (word_at (codes "release"))) (has (word_at (codes "task")))
       (λ t e. on_word (has (word_at (codes "task"))) (codes "taskwait") false (λ line. refl) t (has_word (codes "taskwait") t e))
       (λ t e. on_word (has (word_at (codes "task"))) (codes "release") false (λ line. refl) t (has_word (codes "release") t e))
 
-  exact_directed : (line : ℕ) → Exact (read_either (has (word_at (codes "task"))) (read_task expression line) (read_either (has (word_at (codes "taskwait"))) (read_taskwait expression) (read_release expression))) (Directed line) (DirectedDeep line) never
-  exact_directed line = exact_or (has (word_at (codes "task"))) wait_starts (exact_task line) (begun_task line)
-      (exact_or (has (word_at (codes "taskwait"))) (has (word_at (codes "release"))) exact_taskwait begun_taskwait exact_release begun_release release_no_wait)
-      (begun_either (has (word_at (codes "taskwait"))) begun_taskwait begun_release) others_no_task
+  others_no_task : (t : Token) → loop_starts t ≡ true → has (word_at (codes "task")) t ≡ false
+  others_no_task = or_apart (has (word_at (codes "taskloop"))) wait_starts (has (word_at (codes "task")))
+      (λ t e. on_word (has (word_at (codes "task"))) (codes "taskloop") false (λ line. refl) t (has_word (codes "taskloop") t e)) waits_no_task
+
+  abbrev read_unlooped : Reader Directive
+  read_unlooped = read_either (has (word_at (codes "taskwait"))) (read_taskwait expression) (read_release expression)
+
+  exact_unlooped : Exact read_unlooped (Either Waited Released) (EitherDeep WaitedDeep ReleasedDeep) never
+  exact_unlooped = exact_or (has (word_at (codes "taskwait"))) (has (word_at (codes "release"))) exact_taskwait begun_taskwait exact_release begun_release release_no_wait
+
+  begun_unlooped : Begun read_unlooped wait_starts
+  begun_unlooped = begun_either (has (word_at (codes "taskwait"))) begun_taskwait begun_release
+
+  exact_directed : (line : ℕ) → Exact (read_either (has (word_at (codes "task"))) (read_task expression line) (read_either (has (word_at (codes "taskloop"))) (read_task_loop expression line) read_unlooped)) (Directed line) (DirectedDeep line) never
+  exact_directed line = exact_or (has (word_at (codes "task"))) loop_starts (exact_task line) (begun_task line)
+      (exact_or (has (word_at (codes "taskloop"))) wait_starts (exact_task_loop line) (begun_task_loop line) exact_unlooped begun_unlooped waits_no_loop)
+      (begun_either (has (word_at (codes "taskloop"))) (begun_task_loop line) begun_unlooped) others_no_task
 
   directed_viable : (line : ℕ) → Viable (Directed line) []
   directed_viable line = let v = task_viable line in record { more = v.more; value = v.value; member = one_way v.member }
@@ -457,7 +507,13 @@ module _ {expression : Reader Expr} {X : List Token → Token → Type 0} (part_
   task_into xs front back line d e s w = let c = w.whole in
       subst (λ d. IsPragma xs d) (ap (λ n. directive.Task (record { clauses = w.part.1.0; line = n })) (start_line s.token.what s.token.line line s.passes) ∙ w.made)
       (task s.token c.opened c.inner c.closed (e ∙ (ap (λ ys. ys ++ back) s.only ∙ ap (λ ys. s.token ∷ ys) c.split)) (start_what s.token.what s.token.line line s.passes)
-      (word_told (codes "task") c.opened w.part.0 c.opens) (end_told c.closed w.part.1.1 c.closes) c.inside.clauses c.inside.once)
+      (word_told (codes "task") c.opened w.part.0 c.opens) (end_told c.closed w.part.1.1 c.closes) c.inside.clauses c.inside.once c.inside.bare)
+
+  loop_into : (xs front back : List Token) (line : ℕ) (d : Directive) → xs ≡ front ++ back → One start_at front line → Looped line back d → IsPragma xs d
+  loop_into xs front back line d e s w = let c = w.whole in
+      subst (λ d. IsPragma xs d) (ap (λ n. directive.TaskLoop (record { clauses = w.part.1.0; line = n })) (start_line s.token.what s.token.line line s.passes) ∙ w.made)
+      (task_loop s.token c.opened c.inner c.closed (e ∙ (ap (λ ys. ys ++ back) s.only ∙ ap (λ ys. s.token ∷ ys) c.split)) (start_what s.token.what s.token.line line s.passes)
+      (word_told (codes "taskloop") c.opened w.part.0 c.opens) (end_told c.closed w.part.1.1 c.closes) c.inside.clauses c.inside.once)
 
   wait_into : (xs front back : List Token) (line : ℕ) (d : Directive) → xs ≡ front ++ back → One start_at front line → (w : Waited back d) → WaitingFor w.value w.back d → IsPragma xs d
   wait_into xs front back line d e s w (other_way m) =
@@ -487,8 +543,9 @@ module _ {expression : Reader Expr} {X : List Token → Token → Type 0} (part_
 
   directed_into : (xs front back : List Token) (line : ℕ) (d : Directive) → xs ≡ front ++ back → One start_at front line → Directed line back d → IsPragma xs d
   directed_into xs front back line d e s (one_way w) = task_into xs front back line d e s w
-  directed_into xs front back line d e s (other_way (one_way w)) = wait_into xs front back line d e s w w.behind
-  directed_into xs front back line d e s (other_way (other_way w)) = release_into xs front back line d e s w
+  directed_into xs front back line d e s (other_way (one_way w)) = loop_into xs front back line d e s w
+  directed_into xs front back line d e s (other_way (other_way (one_way w))) = wait_into xs front back line d e s w w.behind
+  directed_into xs front back line d e s (other_way (other_way (other_way w))) = release_into xs front back line d e s w
 
   pragma_into : (xs : List Token) (d : Directive) → Started xs d → IsPragma xs d
   pragma_into xs d w = directed_into xs w.front w.back w.value d w.split w.before w.behind
@@ -500,7 +557,7 @@ module _ {expression : Reader Expr} {X : List Token → Token → Type 0} (part_
   one_wait t e = record { token = t; only = refl; passes = tells_word (codes "taskwait") t e }
 
   pragma_back : (xs : List Token) (d : Directive) → IsPragma xs d → Started xs d
-  pragma_back xs d (task {clauses = cs} start word inner end e s k n w once) = record {
+  pragma_back xs d (task {clauses = cs} start word inner end e s k n w once bare) = record {
     front = start ∷ [];
     back = word ∷ (inner ++ (end ∷ []));
     value = start.line;
@@ -509,8 +566,20 @@ module _ {expression : Reader Expr} {X : List Token → Token → Type 0} (part_
     behind = one_way (record {
       part = (word.line, (cs, end.line));
       made = refl;
-      whole = record { opened = word; inner = inner; closed = end; split = refl; opens = tells_word (codes "task") word k; closes = tells_end end n; inside = record { clauses = w; once = once } };
+      whole = record { opened = word; inner = inner; closed = end; split = refl; opens = tells_word (codes "task") word k; closes = tells_end end n; inside = record { clauses = w; once = once; bare = bare } };
     });
+  }
+  pragma_back xs d (task_loop {clauses = cs} start word inner end e s k n w once) = record {
+    front = start ∷ [];
+    back = word ∷ (inner ++ (end ∷ []));
+    value = start.line;
+    split = e;
+    before = one_start start s;
+    behind = other_way (one_way (record {
+      part = (word.line, (cs, end.line));
+      made = refl;
+      whole = record { opened = word; inner = inner; closed = end; split = refl; opens = tells_word (codes "taskloop") word k; closes = tells_end end n; inside = record { clauses = w; once = once } };
+    }));
   }
   pragma_back xs d (wait_all start word end e s k n) = record {
     front = start ∷ [];
@@ -518,14 +587,14 @@ module _ {expression : Reader Expr} {X : List Token → Token → Type 0} (part_
     value = start.line;
     split = e;
     before = one_start start s;
-    behind = other_way (one_way (record {
+    behind = other_way (other_way (one_way (record {
       front = word ∷ [];
       back = end ∷ [];
       value = word.line;
       split = refl;
       before = one_wait word k;
       behind = other_way (record { part = end.line; made = refl; whole = record { token = end; only = refl; passes = tells_end end n } });
-    }));
+    })));
   }
   pragma_back xs d (wait_on {sections = sections} start word on opened inner closed end e s k o p q n w) = record {
     front = start ∷ [];
@@ -533,7 +602,7 @@ module _ {expression : Reader Expr} {X : List Token → Token → Type 0} (part_
     value = start.line;
     split = e;
     before = one_start start s;
-    behind = other_way (one_way (record {
+    behind = other_way (other_way (one_way (record {
       front = word ∷ [];
       back = on ∷ opened ∷ (inner ++ (closed ∷ end ∷ []));
       value = word.line;
@@ -556,7 +625,7 @@ module _ {expression : Reader Expr} {X : List Token → Token → Type 0} (part_
           };
         };
       });
-    }));
+    })));
   }
   pragma_back xs d (release {c = c} {more = more} start word front back end e s k n w r) = record {
     front = start ∷ [];
@@ -564,7 +633,7 @@ module _ {expression : Reader Expr} {X : List Token → Token → Type 0} (part_
     value = start.line;
     split = e;
     before = one_start start s;
-    behind = other_way (other_way (record {
+    behind = other_way (other_way (other_way (record {
       part = (word.line, (c ∷ more, end.line));
       made = refl;
       whole = record {
@@ -576,16 +645,26 @@ module _ {expression : Reader Expr} {X : List Token → Token → Type 0} (part_
         closes = tells_end end n;
         inside = record { front = front; back = back; one = c; more = more; split = refl; all = refl; before = w; behind = r };
       };
-    }));
+    })));
   }
 
   task_place : (xs back : List Token) (start word : Token) (t : Token) → xs ≡ start ∷ word ∷ back → start.what ≡ kinds.PragmaOss → IsWord (codes "task") word → (x : IsExcessBehind OpensClauses X back t) → OpensClauses x.front
       → IsExcessBehind OpensPragma X xs t
-  task_place xs back start word t e s k x (behind_clauses front left b w once o) = record {
+  task_place xs back start word t e s k x (behind_clauses front left b w once bare o) = record {
     front = start ∷ word ∷ x.front;
     inner = x.inner;
     split = e ∙ ap (λ ys. start ∷ word ∷ ys) x.split;
-    opens = in_task start word front left (ap (λ ys. start ∷ word ∷ ys) b) s k w once o;
+    opens = in_task start word front left (ap (λ ys. start ∷ word ∷ ys) b) s k w once bare o;
+    excess = x.excess;
+  }
+
+  loop_place : (xs back : List Token) (start word : Token) (t : Token) → xs ≡ start ∷ word ∷ back → start.what ≡ kinds.PragmaOss → IsWord (codes "taskloop") word → (x : IsExcessBehind (OpensCounted task_kind.Loop) X back t)
+      → OpensCounted task_kind.Loop x.front → IsExcessBehind OpensPragma X xs t
+  loop_place xs back start word t e s k x (behind_counted front left b w once o) = record {
+    front = start ∷ word ∷ x.front;
+    inner = x.inner;
+    split = e ∙ ap (λ ys. start ∷ word ∷ ys) x.split;
+    opens = in_task_loop start word front left (ap (λ ys. start ∷ word ∷ ys) b) s k w once o;
     excess = x.excess;
   }
 
@@ -609,16 +688,18 @@ module _ {expression : Reader Expr} {X : List Token → Token → Type 0} (part_
   directed_deeper : (xs front back : List Token) (line : ℕ) (t : Token) → xs ≡ front ++ back → One start_at front line → DirectedDeep line back t → IsExcessBehind OpensPragma X xs t
   directed_deeper xs front back line t e s (one_deep d) =
       task_place xs d.back s.token d.token t (e ∙ (ap (λ ys. ys ++ back) s.only ∙ ap (λ ys. s.token ∷ ys) d.split)) (start_what s.token.what s.token.line line s.passes) (word_told (codes "task") d.token d.value d.passes) d.deep d.deep.opens
-  directed_deeper xs front back line t e s (other_deep (one_deep (ThenDeep.in_first d))) = nowhere back t d
-  directed_deeper xs front back line t e s (other_deep (one_deep (ThenDeep.in_second one left n b w (one_deep d)))) = let k = d.deep in let x = k.deep in record {
+  directed_deeper xs front back line t e s (other_deep (one_deep d)) =
+      loop_place xs d.back s.token d.token t (e ∙ (ap (λ ys. ys ++ back) s.only ∙ ap (λ ys. s.token ∷ ys) d.split)) (start_what s.token.what s.token.line line s.passes) (word_told (codes "taskloop") d.token d.value d.passes) d.deep d.deep.opens
+  directed_deeper xs front back line t e s (other_deep (other_deep (one_deep (ThenDeep.in_first d)))) = nowhere back t d
+  directed_deeper xs front back line t e s (other_deep (other_deep (one_deep (ThenDeep.in_second one left n b w (one_deep d))))) = let k = d.deep in let x = k.deep in record {
     front = s.token ∷ w.token ∷ d.token ∷ k.opened ∷ x.front;
     inner = x.inner;
     split = e ∙ (ap (λ ys. ys ++ back) s.only ∙ ap (λ ys. s.token ∷ ys) (b ∙ (ap (λ ys. ys ++ left) w.only ∙ ap (λ ys. w.token ∷ ys) (d.split ∙ ap (λ ys. d.token ∷ ys) (k.split ∙ ap (λ ys. k.opened ∷ ys) x.split)))));
     opens = in_wait s.token w.token d.token k.opened x.front refl (start_what s.token.what s.token.line line s.passes) (word_told (codes "taskwait") w.token n w.passes) (word_told (codes "on") d.token d.value d.passes) k.opens x.opens;
     excess = x.excess;
   }
-  directed_deeper xs front back line t e s (other_deep (one_deep (ThenDeep.in_second one left n b w (other_deep d)))) = nowhere left t d
-  directed_deeper xs front back line t e s (other_deep (other_deep d)) =
+  directed_deeper xs front back line t e s (other_deep (other_deep (one_deep (ThenDeep.in_second one left n b w (other_deep d))))) = nowhere left t d
+  directed_deeper xs front back line t e s (other_deep (other_deep (other_deep d))) =
       release_place xs d.back s.token d.token t (e ∙ (ap (λ ys. ys ++ back) s.only ∙ ap (λ ys. s.token ∷ ys) d.split)) (start_what s.token.what s.token.line line s.passes) (word_told (codes "release") d.token d.value d.passes) d.deep d.deep.opens
 
   pragma_deeper : (xs : List Token) (t : Token) → StartedDeep xs t → IsExcessBehind OpensPragma X xs t
@@ -629,17 +710,26 @@ module _ {expression : Reader Expr} {X : List Token → Token → Type 0} (part_
   started xs before inner back start t e b s d = ThenDeep.in_second (start ∷ []) back start.line (e ∙ b) (one_start start s) d
 
   pragma_upper_by : (xs before inner : List Token) (t : Token) → xs ≡ before ++ inner → X inner t → OpensPragma before → StartedDeep xs t
-  pragma_upper_by xs before inner t e x (in_task start word front back b s k w once o) =
+  pragma_upper_by xs before inner t e x (in_task start word front back b s k w once bare o) =
       started xs before inner (word ∷ ((front ++ back) ++ inner)) start t e (ap (λ ys. ys ++ inner) b) s (one_deep (record {
         token = word;
         back = (front ++ back) ++ inner;
         value = word.line;
         split = refl;
         passes = tells_word (codes "task") word k;
-        deep = record { front = front ++ back; inner = inner; split = refl; opens = behind_clauses front back refl w once o; excess = x };
+        deep = record { front = front ++ back; inner = inner; split = refl; opens = behind_clauses front back refl w once bare o; excess = x };
       }))
+  pragma_upper_by xs before inner t e x (in_task_loop start word front back b s k w once o) =
+      started xs before inner (word ∷ ((front ++ back) ++ inner)) start t e (ap (λ ys. ys ++ inner) b) s (other_deep (one_deep (record {
+        token = word;
+        back = (front ++ back) ++ inner;
+        value = word.line;
+        split = refl;
+        passes = tells_word (codes "taskloop") word k;
+        deep = record { front = front ++ back; inner = inner; split = refl; opens = behind_counted front back refl w once o; excess = x };
+      })))
   pragma_upper_by xs before inner t e x (in_wait start word on opened front b s k o p i) =
-      started xs before inner (word ∷ on ∷ opened ∷ (front ++ inner)) start t e (ap (λ ys. ys ++ inner) b) s (other_deep (one_deep (ThenDeep.in_second (word ∷ []) (on ∷ opened ∷ (front ++ inner)) word.line refl (one_wait word k)
+      started xs before inner (word ∷ on ∷ opened ∷ (front ++ inner)) start t e (ap (λ ys. ys ++ inner) b) s (other_deep (other_deep (one_deep (ThenDeep.in_second (word ∷ []) (on ∷ opened ∷ (front ++ inner)) word.line refl (one_wait word k)
       (one_deep (record {
         token = on;
         back = opened ∷ (front ++ inner);
@@ -647,25 +737,25 @@ module _ {expression : Reader Expr} {X : List Token → Token → Type 0} (part_
         split = refl;
         passes = tells_word (codes "on") on o;
         deep = record { opened = opened; inner = front ++ inner; split = refl; opens = p; deep = record { front = front; inner = inner; split = refl; opens = i; excess = x } };
-      })))))
+      }))))))
   pragma_upper_by xs before inner t e x (in_release start word front b s k o) =
-      started xs before inner (word ∷ (front ++ inner)) start t e (ap (λ ys. ys ++ inner) b) s (other_deep (other_deep (record {
+      started xs before inner (word ∷ (front ++ inner)) start t e (ap (λ ys. ys ++ inner) b) s (other_deep (other_deep (other_deep (record {
         token = word;
         back = front ++ inner;
         value = word.line;
         split = refl;
         passes = tells_word (codes "release") word k;
         deep = record { front = front; inner = inner; split = refl; opens = in_one_depend o; excess = x };
-      })))
+      }))))
   pragma_upper_by xs before inner t e x (in_more_release start word front between back b s k w m o) =
-      started xs before inner (word ∷ ((front ++ (between ++ back)) ++ inner)) start t e (ap (λ ys. ys ++ inner) b) s (other_deep (other_deep (record {
+      started xs before inner (word ∷ ((front ++ (between ++ back)) ++ inner)) start t e (ap (λ ys. ys ++ inner) b) s (other_deep (other_deep (other_deep (record {
         token = word;
         back = (front ++ (between ++ back)) ++ inner;
         value = word.line;
         split = refl;
         passes = tells_word (codes "release") word k;
         deep = record { front = front ++ (between ++ back); inner = inner; split = refl; opens = in_more_depends front between back refl w m o; excess = x };
-      })))
+      }))))
 
   pragma_upper : (xs : List Token) (t : Token) → IsExcessBehind OpensPragma X xs t → StartedDeep xs t
   pragma_upper xs t w = pragma_upper_by xs w.front w.inner t w.split w.excess w.opens

@@ -5,35 +5,34 @@ use Rattle.std.proofs.lemmas.List.{append-nil}
 use Rattle.oss_syntax.specs.declared.token.Token.{Token}
 use Rattle.oss_syntax.specs.declared.token.TokenKind.TheVariants as kinds
 use Rattle.oss_syntax.specs.declared.tree.expr.Expr.{Expr}
-use Rattle.oss_syntax.specs.declared.tree.expr.ExprKind.TheVariants as exprs
 use Rattle.oss_syntax.specs.declared.tree.pragma.Form.{Form}
 use Rattle.oss_syntax.specs.declared.tree.pragma.Form.TheVariants as form
 use Rattle.oss_syntax.specs.declared.tree.pragma.Inner.{Inner}
 use Rattle.oss_syntax.specs.declared.tree.pragma.Inner.TheVariants as inner_forms
 use Rattle.oss_syntax.specs.declared.tree.pragma.Section.{Section}
 use Rattle.oss_grammar.specs.Expressions.{IsWhole, prefix_of, operator_of}
-use Rattle.oss_grammar.specs.Expressions.IsExpr.{number, tighter}
 use Rattle.oss_grammar.specs.Fronts.{Viable}
 use Rattle.oss_grammar.specs.Grammar.{One, Both, Mapped, Either}
 use Rattle.oss_grammar.specs.Grammar.Either.{one_way, other_way}
 use Rattle.oss_grammar.specs.Levels.{IsExcessBehind, OpensInner, OpensSection, OpensSections}
 use Rattle.oss_grammar.specs.Levels.OpensInner.{inner_first, inner_count, inner_last}
-use Rattle.oss_grammar.specs.Levels.OpensSection.{section_shape, section_part, section_columns}
+use Rattle.oss_grammar.specs.Levels.OpensSection.{section_shape, section_part, section_columns, section_indices, section_turns}
 use Rattle.oss_grammar.specs.Levels.OpensSections.{sections_first, sections_later}
 use Rattle.oss_grammar.specs.OneToken.{IsIndexOpen, IsIndexClose}
 use Rattle.oss_grammar.specs.Pragmas.{IsBound, IsInner, IsSection, IsSections, form_of_inner}
 use Rattle.oss_grammar.specs.Pragmas.IsBound.{left_out, given}
 use Rattle.oss_grammar.specs.Pragmas.IsInner.{element, counted, ranged}
-use Rattle.oss_grammar.specs.Pragmas.IsSection.{whole, pointed, shape, part, grid}
+use Rattle.oss_grammar.specs.Pragmas.IsSection.{whole, pointed, shape, part, grid, many}
 use Rattle.oss_grammar.specs.Pragmas.IsSections.{last_section, next_section}
 use Rattle.oss_grammar.specs.Reading.{Reader, begins, has, one_of, never, read_one, read_then, read_nothing, read_both, read_either}
 use Rattle.oss_grammar.proofs.Parts.{Exact, Begun, exact_as, exact_before, member_begins, deep_begins}
 use Rattle.oss_grammar.proofs.PartLemmas.{Nowhere, nowhere, exact_one, begun_one, Nothing, exact_nothing, exact_mapped, begun_mapped, Then, ThenDeep, exact_then, begun_then, EitherDeep, exact_either, begun_either}
 use Rattle.oss_grammar.proofs.PartLemmas.EitherDeep.{one_deep, other_deep}
 use Rattle.oss_grammar.proofs.StepLemmas.{none_goes, fewer_go}
-use Rattle.oss_pragma.specs.PragmaReading.{read_upper, read_span, read_length, read_inner_from, read_inner, read_pointed, read_shape, read_dimension, read_columns, read_part, read_based, read_section, read_sections, pointed_section, shape_section, part_section, whole_section}
+use Rattle.oss_pragma.specs.PragmaReading.{read_upper, read_span, read_length, read_inner_from, read_inner, read_pointed, read_shape, read_dimension, read_columns, read_part, read_based, read_many, read_section, read_sections, pointed_section, shape_section, part_section, whole_section}
 use Rattle.oss_pragma.specs.TokenValues.{symbol_at, name_at, begins_expression}
 use Rattle.oss_pragma.specs.declared.cursor.Named.{Named}
+use Rattle.oss_pragma.proofs.ExactMany.{whole_viable, semicolon_apart, closed_apart, closed_before, Many, ManyDeep, exact_many, begun_many, many_into, many_back, many_deeper, many_in_indices, many_in_turns}
 use Rattle.oss_pragma.proofs.ExactPairs.{BothDeep, exact_both, Headed, HeadedDeep, exact_headed, begun_headed, Bracketed, BracketedDeep, exact_bracketed, begun_bracketed, Behind, exact_behind, begun_behind, exact_or, symbol_line}
 use Rattle.oss_pragma.proofs.ListLemmas.{comma, Listed, ListedDeep, exact_list, begun_list}
 use Rattle.oss_pragma.proofs.ListLemmas.Listed.{last_part, next_part}
@@ -41,25 +40,10 @@ use Rattle.oss_pragma.proofs.ListLemmas.ListedDeep.{deep_first, deep_later}
 use Rattle.oss_pragma.proofs.PrimaryLemmas.{NameIs, name_is, name_value}
 use Rattle.oss_pragma.proofs.TokenLemmas.{begins_never, exact_closed, symbol_token, symbol_value, goes_on, on_symbol, not_symbol, has_symbol}
 
--- there is an expression
-zero_is : IsWhole (record { what = kinds.Number 0 false; line = 0 } ∷ []) (record { what = exprs.Number 0 false; line = 0 })
-zero_is = tighter (tighter (tighter (tighter (tighter (tighter (tighter (tighter (tighter (tighter (tighter (tighter (number (record { what = kinds.Number 0 false; line = 0 }) 0 false refl refl))))))))))))
-
-pub whole_viable : Viable IsWhole []
-whole_viable = record { more = record { what = kinds.Number 0 false; line = 0 } ∷ []; value = record { what = exprs.Number 0 false; line = 0 }; member = zero_is }
-
 -- no expression goes on with these, nor begins with the others
-semicolon_apart : (t : Token) → has (symbol_at (codes ";")) t ≡ true → goes_on t ≡ false
-unfolding operator_of
-semicolon_apart t e = on_symbol goes_on (codes ";") false (λ line. refl) t (has_symbol (codes ";") t e)
-
 colon_apart : (t : Token) → has (symbol_at (codes ":")) t ≡ true → goes_on t ≡ false
 unfolding operator_of
 colon_apart t e = on_symbol goes_on (codes ":") false (λ line. refl) t (has_symbol (codes ":") t e)
-
-closed_apart : (t : Token) → has (symbol_at (codes "]")) t ≡ true → goes_on t ≡ false
-unfolding operator_of
-closed_apart t e = on_symbol goes_on (codes "]") false (λ line. refl) t (has_symbol (codes "]") t e)
 
 pub bracket_apart : (t : Token) → has (symbol_at (codes ")")) t ≡ true → goes_on t ≡ false
 unfolding operator_of
@@ -395,14 +379,10 @@ module _ {expression : Reader Expr} {X : List Token → Token → Type 0} (part_
   begun_based = begun_then exact_name exact_behind_base (λ base ys b rest w free. begins_never (ys ++ rest)) (λ base ys t rest d. begins_never (ys ++ (t ∷ rest))) based_viable (begun_one name_at)
 
   abbrev Sectioned : List Token → Section → Type 0
-  Sectioned = Either Pointed (Either Shaped (Then (One name_at) Based))
+  Sectioned = Either Pointed (Either Shaped (Either (Many part_of first) (Then (One name_at) Based)))
 
   abbrev SectionedDeep : List Token → Token → Type 0
-  SectionedDeep = EitherDeep (HeadedDeep (symbol_at (codes "*")) Nowhere) (EitherDeep ShapedDeep (ThenDeep Nowhere (One name_at) BasedDeep))
-
-  -- what closes one part may be followed by what opens another
-  closed_before : (opened : Token) (inner : List Token) (closed : Token) (rest : List Token) → (opened ∷ (inner ++ (closed ∷ []))) ++ rest ≡ opened ∷ (inner ++ (closed ∷ rest))
-  closed_before opened inner closed rest = ap (λ ys. opened ∷ ys) (append_assoc inner (closed ∷ []) rest)
+  SectionedDeep = EitherDeep (HeadedDeep (symbol_at (codes "*")) Nowhere) (EitherDeep ShapedDeep (EitherDeep (ManyDeep part_of first) (ThenDeep Nowhere (One name_at) BasedDeep)))
 
   part_into : (xs front back : List Token) (t : Token) (base : Named) (rows : Inner) (cells : Form) → xs ≡ t ∷ (front ++ back) → NameIs t.what t.line base → Dimension front rows → Columns rows back cells
       → IsSection xs (part_section base cells)
@@ -429,7 +409,8 @@ module _ {expression : Reader Expr} {X : List Token → Token → Type 0} (part_
       (shape w.whole.token b.front c.token n.token w.part.1.1.1.name
       (w.whole.split ∙ ap (λ ys. w.whole.token ∷ ys) (b.split ∙ ap (λ ys. b.front ++ ys) (c.split ∙ ap (λ ys. c.token ∷ ys) n.only)))
       (symbol_token (codes "[") w.whole.token w.part.0 w.whole.passes) (symbol_token (codes "]") c.token w.part.1.1.0 c.passes) ((name_is n.token.what n.token.line w.part.1.1.1 n.passes).what) b.before)
-  section_into xs s (other_way (other_way w)) = based_into xs w.front w.back w.value s w.split w.before w.behind where
+  section_into xs s (other_way (other_way (one_way w))) = many_into part_of first xs s w
+  section_into xs s (other_way (other_way (other_way w))) = based_into xs w.front w.back w.value s w.split w.before w.behind where
     based_into : (xs front back : List Token) (base : Named) (s : Section) → xs ≡ front ++ back → One name_at front base → Based base back s → IsSection xs s
     based_into xs front back base s e n (one_way w) =
         subst (λ s. IsSection xs s) w.made (part_into xs w.whole.front w.whole.back n.token base w.whole.value w.part (e ∙ (ap (λ ys. ys ++ back) n.only ∙ ap (λ ys. n.token ∷ ys) w.whole.split)) (name_is n.token.what n.token.line base n.passes) w.whole.before w.whole.behind)
@@ -444,14 +425,14 @@ module _ {expression : Reader Expr} {X : List Token → Token → Type 0} (part_
   dimension_of opened inner closed cells o m w = record { opened = opened; inner = inner; closed = closed; split = refl; opens = o; closes = m; inside = w }
 
   section_back : (xs : List Token) (s : Section) → IsSection xs s → Sectioned xs s
-  section_back xs s (whole t base e n) = other_way (other_way (record {
+  section_back xs s (whole t base e n) = other_way (other_way (other_way (record {
     front = t ∷ [];
     back = [];
     value = record { name = base; line = t.line };
     split = e;
     before = one_name t base n;
     behind = other_way (record { nothing = refl; same = refl });
-  }))
+  })))
   section_back xs s (pointed star t base e m n) = one_way (record {
     part = (star.line, record { name = base; line = t.line });
     made = refl;
@@ -474,7 +455,7 @@ module _ {expression : Reader Expr} {X : List Token → Token → Type 0} (part_
       };
     };
   }))
-  section_back xs s (part {cells = c} t base opened inner closed e n o m w) = other_way (other_way (record {
+  section_back xs s (part {cells = c} t base opened inner closed e n o m w) = other_way (other_way (other_way (record {
     front = t ∷ [];
     back = opened ∷ (inner ++ (closed ∷ []));
     value = record { name = base; line = t.line };
@@ -492,8 +473,8 @@ module _ {expression : Reader Expr} {X : List Token → Token → Type 0} (part_
         behind = other_way (record { nothing = refl; same = refl });
       };
     });
-  }))
-  section_back xs s (grid {rows = c} {columns = d} t base opened first closed again second ended e n o m k l w v) = other_way (other_way (record {
+  })))
+  section_back xs s (grid {rows = c} {columns = d} t base opened first closed again second ended e n o m k l w v) = other_way (other_way (other_way (record {
     front = t ∷ [];
     back = opened ∷ (first ++ (closed ∷ again ∷ (second ++ (ended ∷ []))));
     value = record { name = base; line = t.line };
@@ -511,7 +492,9 @@ module _ {expression : Reader Expr} {X : List Token → Token → Type 0} (part_
         behind = one_way (record { part = d; made = refl; whole = dimension_of again second ended d k l v });
       };
     });
-  }))
+  })))
+  section_back xs s (many {e = a} {f = b} {several = v} opened t base indices mark inner closed e o n w c u m) =
+      other_way (other_way (one_way (many_back part_of first xs opened t base indices mark inner closed a b v e o n w c u m)))
 
   part_deeper : (xs back : List Token) (t p : Token) (base : Named) → xs ≡ p ∷ back → NameIs p.what p.line base → PartDeep back t → IsExcessBehind OpensSection X xs t
   part_deeper xs back t p base e n (ThenDeep.in_first d) = let x = d.deep in record {
@@ -538,47 +521,64 @@ module _ {expression : Reader Expr} {X : List Token → Token → Type 0} (part_
     shape_deeper : (back : List Token) → BothDeep X IsWhole (HeadedDeep (symbol_at (codes "]")) Nowhere) back t → xs ≡ d.token ∷ back → IsExcessBehind OpensSection X xs t
     shape_deeper back (ThenDeep.in_first x) e = record { front = d.token ∷ []; inner = back; split = e; opens = section_shape d.token refl (symbol_token (codes "[") d.token d.value d.passes); excess = x }
     shape_deeper back (ThenDeep.in_second front left a s w h) e = nowhere h.back t h.deep
-  section_deeper xs t (other_deep (other_deep (ThenDeep.in_first d))) = nowhere xs t d
-  section_deeper xs t (other_deep (other_deep (ThenDeep.in_second front back base e n (one_deep d)))) = part_deeper xs back t n.token base (e ∙ ap (λ ys. ys ++ back) n.only) (name_is n.token.what n.token.line base n.passes) d
-  section_deeper xs t (other_deep (other_deep (ThenDeep.in_second front back base e n (other_deep d)))) = nowhere back t d
+  section_deeper xs t (other_deep (other_deep (one_deep d))) = many_deeper part_of first xs t d
+  section_deeper xs t (other_deep (other_deep (other_deep (ThenDeep.in_first d)))) = nowhere xs t d
+  section_deeper xs t (other_deep (other_deep (other_deep (ThenDeep.in_second front back base e n (one_deep d))))) = part_deeper xs back t n.token base (e ∙ ap (λ ys. ys ++ back) n.only) (name_is n.token.what n.token.line base n.passes) d
+  section_deeper xs t (other_deep (other_deep (other_deep (ThenDeep.in_second front back base e n (other_deep d))))) = nowhere back t d
 
   section_upper_by : (xs before inner : List Token) (t : Token) → xs ≡ before ++ inner → X inner t → OpensSection before → SectionedDeep xs t
   section_upper_by xs before inner t e x (section_shape opened s o) =
       other_deep (one_deep (record { token = opened; back = inner; value = opened.line; split = e ∙ ap (λ ys. ys ++ inner) s; passes = symbol_value (codes "[") opened o; deep = ThenDeep.in_first x }))
   section_upper_by xs before inner t e x (section_part p base opened front s n o i) =
-      other_deep (other_deep (ThenDeep.in_second (p ∷ []) (opened ∷ (front ++ inner)) (record { name = base; line = p.line }) (e ∙ ap (λ ys. ys ++ inner) s) (one_name p base n)
-      (one_deep (ThenDeep.in_first (record { opened = opened; inner = front ++ inner; split = refl; opens = o; deep = record { front = front; inner = inner; split = refl; opens = i; excess = x } })))))
+      other_deep (other_deep (other_deep (ThenDeep.in_second (p ∷ []) (opened ∷ (front ++ inner)) (record { name = base; line = p.line }) (e ∙ ap (λ ys. ys ++ inner) s) (one_name p base n)
+      (one_deep (ThenDeep.in_first (record { opened = opened; inner = front ++ inner; split = refl; opens = o; deep = record { front = front; inner = inner; split = refl; opens = i; excess = x } }))))))
   section_upper_by xs before inner t e x (section_columns {rows = c} p base opened first closed again front s n o w m k i) =
-      other_deep (other_deep (ThenDeep.in_second (p ∷ []) (opened ∷ ((first ++ (closed ∷ again ∷ front)) ++ inner)) (record { name = base; line = p.line }) (e ∙ ap (λ ys. ys ++ inner) s) (one_name p base n)
+      other_deep (other_deep (other_deep (ThenDeep.in_second (p ∷ []) (opened ∷ ((first ++ (closed ∷ again ∷ front)) ++ inner)) (record { name = base; line = p.line }) (e ∙ ap (λ ys. ys ++ inner) s) (one_name p base n)
       (one_deep (ThenDeep.in_second (opened ∷ (first ++ (closed ∷ []))) (again ∷ (front ++ inner)) c
       (ap (λ ys. opened ∷ ys) (append_assoc first (closed ∷ again ∷ front) inner) ∙ sym (closed_before opened first closed (again ∷ (front ++ inner)))) (dimension_of opened first closed c o m w)
-      (one_deep (record { opened = again; inner = front ++ inner; split = refl; opens = k; deep = record { front = front; inner = inner; split = refl; opens = i; excess = x } }))))))
+      (one_deep (record { opened = again; inner = front ++ inner; split = refl; opens = k; deep = record { front = front; inner = inner; split = refl; opens = i; excess = x } })))))))
+  section_upper_by xs before inner t e x (section_indices opened p base front s o n i) =
+      other_deep (other_deep (one_deep (many_in_indices part_of first xs front inner t opened p base (e ∙ ap (λ ys. ys ++ inner) s) o n i x)))
+  section_upper_by xs before inner t e x (section_turns {e = a} {f = b} opened p base indices mark front s o n w c i) =
+      other_deep (other_deep (one_deep (many_in_turns part_of first xs indices front inner t opened p mark base a b (e ∙ ap (λ ys. ys ++ inner) s) o n w c i x)))
 
   section_upper : (xs : List Token) (t : Token) → IsExcessBehind OpensSection X xs t → SectionedDeep xs t
   section_upper xs t w = section_upper_by xs w.front w.inner t w.split w.excess w.opens
 
-  name_no_bracket : (t : Token) → has name_at t ≡ true → has (symbol_at (codes "[")) t ≡ false
-  name_no_bracket t e = not_symbol (has name_at) (codes "[") (λ line. refl) t e
+  name_no_brace : (t : Token) → has name_at t ≡ true → has (symbol_at (codes "{")) t ≡ false
+  name_no_brace t e = not_symbol (has name_at) (codes "{") (λ line. refl) t e
 
-  others_no_star : (t : Token) → one_of (has (symbol_at (codes "["))) (has name_at) t ≡ true → has (symbol_at (codes "*")) t ≡ false
-  others_no_star t e = not_symbol (one_of (has (symbol_at (codes "["))) (has name_at)) (codes "*") (λ line. refl) t e
+  others_no_bracket : (t : Token) → one_of (has (symbol_at (codes "{"))) (has name_at) t ≡ true → has (symbol_at (codes "[")) t ≡ false
+  others_no_bracket t e = not_symbol (one_of (has (symbol_at (codes "{"))) (has name_at)) (codes "[") (λ line. refl) t e
 
-  -- a section begins with `*`, with `[` or with a name
+  others_no_star : (t : Token) → one_of (has (symbol_at (codes "["))) (one_of (has (symbol_at (codes "{"))) (has name_at)) t ≡ true → has (symbol_at (codes "*")) t ≡ false
+  others_no_star t e = not_symbol (one_of (has (symbol_at (codes "["))) (one_of (has (symbol_at (codes "{"))) (has name_at))) (codes "*") (λ line. refl) t e
+
+  -- a section begins with `*`, with `[`, with `{` or with a name
   abbrev pub section_starts : Token → Bool
-  section_starts = one_of (has (symbol_at (codes "*"))) (one_of (has (symbol_at (codes "["))) (has name_at))
+  section_starts = one_of (has (symbol_at (codes "*"))) (one_of (has (symbol_at (codes "["))) (one_of (has (symbol_at (codes "{"))) (has name_at)))
 
-  exact_unpointed : Exact (read_either (has (symbol_at (codes "["))) (read_shape expression) (read_based expression)) (Either Shaped (Then (One name_at) Based)) (EitherDeep ShapedDeep (ThenDeep Nowhere (One name_at) BasedDeep)) section_goes
-  exact_unpointed = exact_or (has (symbol_at (codes "["))) (has name_at) (exact_closed section_goes exact_shape) begun_shape exact_based begun_based name_no_bracket
+  exact_many_or_based : Exact (read_either (has (symbol_at (codes "{"))) (read_many expression) (read_based expression)) (Either (Many part_of first) (Then (One name_at) Based))
+      (EitherDeep (ManyDeep part_of first) (ThenDeep Nowhere (One name_at) BasedDeep)) section_goes
+  exact_many_or_based = exact_or (has (symbol_at (codes "{"))) (has name_at) (exact_closed section_goes (exact_many part_of first)) (begun_many part_of first) exact_based begun_based name_no_brace
 
-  begun_unpointed : Begun (read_either (has (symbol_at (codes "["))) (read_shape expression) (read_based expression)) (one_of (has (symbol_at (codes "["))) (has name_at))
-  begun_unpointed = begun_either (has (symbol_at (codes "["))) begun_shape begun_based
+  begun_many_or_based : Begun (read_either (has (symbol_at (codes "{"))) (read_many expression) (read_based expression)) (one_of (has (symbol_at (codes "{"))) (has name_at))
+  begun_many_or_based = begun_either (has (symbol_at (codes "{"))) (begun_many part_of first) begun_based
+
+  exact_unpointed : Exact (read_either (has (symbol_at (codes "["))) (read_shape expression) (read_either (has (symbol_at (codes "{"))) (read_many expression) (read_based expression)))
+      (Either Shaped (Either (Many part_of first) (Then (One name_at) Based))) (EitherDeep ShapedDeep (EitherDeep (ManyDeep part_of first) (ThenDeep Nowhere (One name_at) BasedDeep))) section_goes
+  exact_unpointed = exact_or (has (symbol_at (codes "["))) (one_of (has (symbol_at (codes "{"))) (has name_at)) (exact_closed section_goes exact_shape) begun_shape exact_many_or_based begun_many_or_based others_no_bracket
+
+  begun_unpointed : Begun (read_either (has (symbol_at (codes "["))) (read_shape expression) (read_either (has (symbol_at (codes "{"))) (read_many expression) (read_based expression)))
+      (one_of (has (symbol_at (codes "["))) (one_of (has (symbol_at (codes "{"))) (has name_at)))
+  begun_unpointed = begun_either (has (symbol_at (codes "["))) begun_shape begun_many_or_based
 
   pub exact_section : Exact (read_section expression) IsSection (IsExcessBehind OpensSection X) (has (symbol_at (codes "[")))
   unfolding read_section
   exact_section = exact_as section_into section_back section_deeper section_upper
-      (exact_or (has (symbol_at (codes "*"))) (one_of (has (symbol_at (codes "["))) (has name_at)) (exact_closed section_goes exact_pointed) begun_pointed exact_unpointed begun_unpointed others_no_star)
+      (exact_or (has (symbol_at (codes "*"))) (one_of (has (symbol_at (codes "["))) (one_of (has (symbol_at (codes "{"))) (has name_at))) (exact_closed section_goes exact_pointed) begun_pointed exact_unpointed begun_unpointed others_no_star)
 
-  pub begun_section : Begun (read_section expression) (one_of (has (symbol_at (codes "*"))) (one_of (has (symbol_at (codes "["))) (has name_at)))
+  pub begun_section : Begun (read_section expression) (one_of (has (symbol_at (codes "*"))) (one_of (has (symbol_at (codes "["))) (one_of (has (symbol_at (codes "{"))) (has name_at))))
   unfolding read_section
   begun_section = begun_either (has (symbol_at (codes "*"))) begun_pointed begun_unpointed
 
@@ -616,7 +616,7 @@ module _ {expression : Reader Expr} {X : List Token → Token → Type 0} (part_
   unfolding read_sections
   exact_sections = exact_as sections_into sections_back sections_deeper sections_upper (exact_list exact_section begun_section comma_apart)
 
-  pub begun_sections : Begun (read_sections expression) (one_of (has (symbol_at (codes "*"))) (one_of (has (symbol_at (codes "["))) (has name_at)))
+  pub begun_sections : Begun (read_sections expression) (one_of (has (symbol_at (codes "*"))) (one_of (has (symbol_at (codes "["))) (one_of (has (symbol_at (codes "{"))) (has name_at))))
   unfolding read_sections
   begun_sections = begun_list exact_section begun_section comma_apart
 

@@ -1,6 +1,7 @@
 pub mod ExactAnswers
 pub mod ExactClauses
 pub mod ExactExpressions
+pub mod ExactMany
 pub mod ExactPairs
 pub mod ExactPragmas
 pub mod ExactRows
@@ -12,6 +13,7 @@ pub mod OnceLemmas
 pub mod OperandLemmas
 pub mod PlaceLemmas
 pub mod PragmaLoops
+pub mod PragmaTokens
 pub mod PrimaryLemmas
 pub mod SightLemmas
 pub mod StepLoops

@@ -1,4 +1,4 @@
--- Clauses that a task has once at most: counting those of a kind, and asking whether one stands among those that were found.
+-- Clauses that a task or a task loop has once at most: counting those of a kind, and asking whether one stands among those that were found.
 use Rattle.std.proofs.Common.{arith, ◌≡◌, ◌≤◌, ◌+◌, ℕ, suc, Bool, true, false, ◌||◌, ◌&&◌, not, if◌then◌else◌, List, [], ◌∷◌, ◌++◌, refl, sym, ap, ◌∙◌, Some, None, is_some}
 use Rattle.std.specs.List.{count_by, list_any}
 use Rattle.std.proofs.Math.Bool.{cond}
@@ -9,11 +9,14 @@ use Rattle.oss_syntax.specs.declared.tree.expr.Expr.{Expr}
 use Rattle.oss_syntax.specs.declared.tree.pragma.Clause.{Clause}
 use Rattle.oss_syntax.specs.declared.tree.pragma.Clause.TheVariants as clause
 use Rattle.oss_syntax.specs.declared.tree.pragma.Section.{Section}
-use Rattle.oss_grammar.specs.Pragmas.{Single, is_single, HasEachOnce}
-use Rattle.oss_grammar.specs.Pragmas.Single.{once_if, once_final, once_wait, once_label, once_priority}
+use Rattle.oss_grammar.specs.Pragmas.{Single, is_single, HasEachOnce, HasNoGrain}
+use Rattle.oss_grammar.specs.Pragmas.Single.{once_if, once_final, once_wait, once_label, once_priority, once_grain}
 use Rattle.oss_grammar.specs.Reading.{has}
 use Rattle.oss_pragma.specs.ExpressionReading.{and_then}
+use Rattle.oss_pragma.specs.PragmaReading.{no_grain, counted_with, found_of}
 use Rattle.oss_pragma.specs.TokenValues.{stands, single_at, is_single_word}
+use Rattle.oss_pragma.specs.declared.kinds.TaskKind.{TaskKind}
+use Rattle.oss_pragma.specs.declared.kinds.TaskKind.TheVariants as task_kind
 
 module _ {A : Type 0} (counts : A → Bool) where
   abbrev tally : List A → ℕ
@@ -71,6 +74,7 @@ depend_new found mode strong fresh sections once_final e = absurd (cc)
 depend_new found mode strong fresh sections once_wait e = absurd (cc)
 depend_new found mode strong fresh sections once_label e = absurd (cc)
 depend_new found mode strong fresh sections once_priority e = absurd (cc)
+depend_new found mode strong fresh sections once_grain e = absurd (cc)
 
 pub if_new : (found : List Clause) (v : Expr) → stands once_if found ≡ false → IsNew found (clause.If v)
 if_new found v free once_if e = free
@@ -78,6 +82,7 @@ if_new found v free once_final e = absurd (cc)
 if_new found v free once_wait e = absurd (cc)
 if_new found v free once_label e = absurd (cc)
 if_new found v free once_priority e = absurd (cc)
+if_new found v free once_grain e = absurd (cc)
 
 pub final_new : (found : List Clause) (v : Expr) → stands once_final found ≡ false → IsNew found (clause.Final v)
 final_new found v free once_if e = absurd (cc)
@@ -85,6 +90,7 @@ final_new found v free once_final e = free
 final_new found v free once_wait e = absurd (cc)
 final_new found v free once_label e = absurd (cc)
 final_new found v free once_priority e = absurd (cc)
+final_new found v free once_grain e = absurd (cc)
 
 pub wait_new : (found : List Clause) → stands once_wait found ≡ false → IsNew found clause.Wait
 wait_new found free once_if e = absurd (cc)
@@ -92,6 +98,7 @@ wait_new found free once_final e = absurd (cc)
 wait_new found free once_wait e = free
 wait_new found free once_label e = absurd (cc)
 wait_new found free once_priority e = absurd (cc)
+wait_new found free once_grain e = absurd (cc)
 
 pub label_new : (found : List Clause) (bytes : List ℕ) → stands once_label found ≡ false → IsNew found (clause.Label bytes)
 label_new found bytes free once_if e = absurd (cc)
@@ -99,6 +106,7 @@ label_new found bytes free once_final e = absurd (cc)
 label_new found bytes free once_wait e = absurd (cc)
 label_new found bytes free once_label e = free
 label_new found bytes free once_priority e = absurd (cc)
+label_new found bytes free once_grain e = absurd (cc)
 
 pub priority_new : (found : List Clause) (v : Expr) → stands once_priority found ≡ false → IsNew found (clause.Priority v)
 priority_new found v free once_if e = absurd (cc)
@@ -106,6 +114,15 @@ priority_new found v free once_final e = absurd (cc)
 priority_new found v free once_wait e = absurd (cc)
 priority_new found v free once_label e = absurd (cc)
 priority_new found v free once_priority e = free
+priority_new found v free once_grain e = absurd (cc)
+
+pub grain_new : (found : List Clause) (v : Expr) → stands once_grain found ≡ false → IsNew found (clause.Grain v)
+grain_new found v free once_if e = absurd (cc)
+grain_new found v free once_final e = absurd (cc)
+grain_new found v free once_wait e = absurd (cc)
+grain_new found v free once_label e = absurd (cc)
+grain_new found v free once_priority e = absurd (cc)
+grain_new found v free once_grain e = free
 
 -- where each was found once at most, and this one is new, each is found once at most with it
 pub once_with : (found : List Clause) (c : Clause) → HasEachOnce found → IsNew found c → HasEachOnce (and_then found c)
@@ -132,6 +149,57 @@ new_behind found c more once s e =
 
 pub once_none : HasEachOnce []
 once_none s = let z : count_by (is_single s) [] ≡ 0 = refl in omega arith
+
+-- a task counts a grainsize before its clauses: with it, each stands once just where each does without it and none is a grainsize
+pub once_counted : (cs : List Clause) → HasEachOnce cs → HasNoGrain cs → HasEachOnce (no_grain ∷ cs)
+once_counted cs once none s = on (is_single s no_grain) refl where
+  grain_alone : (s : Single) → is_single s no_grain ≡ true → count_by (is_single s) cs ≡ 0
+  grain_alone once_if e = absurd (cc)
+  grain_alone once_final e = absurd (cc)
+  grain_alone once_wait e = absurd (cc)
+  grain_alone once_label e = absurd (cc)
+  grain_alone once_priority e = absurd (cc)
+  grain_alone once_grain e = none
+
+  on : (b : Bool) → is_single s no_grain ≡ b → count_by (is_single s) (no_grain ∷ cs) ≤ 1
+  on true e =
+      let all : count_by (is_single s) (no_grain ∷ cs) ≡ suc (count_by (is_single s) cs) = count_yes (is_single s) no_grain cs e in
+      let rest : count_by (is_single s) cs ≡ 0 = grain_alone s e in omega arith
+  on false e =
+      let all : count_by (is_single s) (no_grain ∷ cs) ≡ count_by (is_single s) cs = count_no (is_single s) no_grain cs e in
+      let few : count_by (is_single s) cs ≤ 1 = once s in omega arith
+
+pub once_found : (cs : List Clause) → HasEachOnce (no_grain ∷ cs) → HasEachOnce cs
+once_found cs once s = on (is_single s no_grain) refl where
+  on : (b : Bool) → is_single s no_grain ≡ b → count_by (is_single s) cs ≤ 1
+  on true e =
+      let all : count_by (is_single s) (no_grain ∷ cs) ≡ suc (count_by (is_single s) cs) = count_yes (is_single s) no_grain cs e in
+      let few : count_by (is_single s) (no_grain ∷ cs) ≤ 1 = once s in omega arith
+  on false e =
+      let all : count_by (is_single s) (no_grain ∷ cs) ≡ count_by (is_single s) cs = count_no (is_single s) no_grain cs e in
+      let few : count_by (is_single s) (no_grain ∷ cs) ≤ 1 = once s in omega arith
+
+pub none_found_of : (cs : List Clause) → HasEachOnce (no_grain ∷ cs) → HasNoGrain cs
+none_found_of cs once =
+    let all : count_by (is_single once_grain) (no_grain ∷ cs) ≡ suc (count_by (is_single once_grain) cs) = count_yes (is_single once_grain) no_grain cs refl in
+    let few : count_by (is_single once_grain) (no_grain ∷ cs) ≤ 1 = once once_grain in omega arith
+
+-- what stands before the clauses stays there
+pub counted_more : (kind : TaskKind) (found : List Clause) (c : Clause) → and_then (counted_with kind found) c ≡ counted_with kind (and_then found c)
+counted_more task_kind.Task found c = refl
+counted_more task_kind.Loop found c = refl
+
+pub counted_all : (kind : TaskKind) (found : List Clause) → counted_with kind [] ++ found ≡ counted_with kind found
+counted_all task_kind.Task found = refl
+counted_all task_kind.Loop found = refl
+
+pub found_counted : (kind : TaskKind) (found : List Clause) → found_of kind (counted_with kind found) ≡ found
+found_counted task_kind.Task found = refl
+found_counted task_kind.Loop found = refl
+
+pub none_counted : (kind : TaskKind) → HasEachOnce (counted_with kind [])
+none_counted task_kind.Task = once_counted [] once_none refl
+none_counted task_kind.Loop = once_none
 
 -- the word of such a clause tells its line where none was found
 told_by : (w st : Bool) (line n : ℕ) → (if w && not st then Some line else None) ≡ Some n → (w ≡ true) × (st ≡ false)

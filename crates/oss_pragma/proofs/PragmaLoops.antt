@@ -8,12 +8,12 @@ use Rattle.oss_syntax.specs.declared.tree.pragma.Inner.{Inner}
 use Rattle.oss_syntax.specs.declared.tree.pragma.Inner.TheVariants as inner_forms
 use Rattle.oss_syntax.specs.declared.tree.pragma.Section.{Section}
 use Rattle.oss_grammar.specs.Pragmas.{Single, form_of_inner}
-use Rattle.oss_grammar.specs.Pragmas.Single.{once_if, once_final, once_wait, once_label, once_priority}
-use Rattle.oss_grammar.specs.Reading.{Reader, has, read_nothing, read_either}
+use Rattle.oss_grammar.specs.Pragmas.Single.{once_if, once_final, once_wait, once_label, once_priority, once_grain}
+use Rattle.oss_grammar.specs.Reading.{Reader, has, read_nothing, read_mapped, read_either}
 use Rattle.oss_pragma.specs.TokenValues.{symbol_at, name_at, access_at, reduction_at, fold_at, label_at, single_at, begins_expression}
 use Rattle.oss_grammar.specs.Levels.{is_operator}
-use Rattle.oss_pragma.specs.ExpressionReading.{latter, middle, and_then, read_next, read_expression}
-use Rattle.oss_pragma.specs.PragmaReading.{read_upper, read_span, read_length, read_inner_from, read_inner, read_dimension, read_columns, whole_section, pointed_section, shape_section, part_section, read_pointed, read_shape, read_part, read_based, read_section, read_sections, read_bracketed_sections, dependency_of, read_depend, read_folded, reduction_of_parts, read_reduction, read_single, read_label, read_waiting, read_clause, read_after_comma, goes_on_with_clause, goes_on_with_depend}
+use Rattle.oss_pragma.specs.ExpressionReading.{latter, middle, and_then, read_next, read_index, read_expression}
+use Rattle.oss_pragma.specs.PragmaReading.{read_upper, read_span, read_length, read_inner_from, read_inner, read_dimension, read_columns, whole_section, pointed_section, shape_section, part_section, turns_of, many_section, with_second, read_indices, read_bounds, read_turns, read_closed_turns, read_many, read_pointed, read_shape, read_part, read_based, read_section, read_sections, read_bracketed_sections, dependency_of, read_depend, read_folded, reduction_of_parts, read_reduction, read_single, read_label, read_waiting, read_clause, read_after_comma, goes_on_with_clause, goes_on_with_depend}
 use Rattle.oss_pragma.specs.declared.cursor.Named.{Named}
 use Rattle.oss_pragma.proofs.StepLoops.{Takes, Keeps, keeps, takes_one, keeps_nothing, takes_mapped, takes_then, takes_both, takes_either, keeps_either, Repeats, repeats}
 use Rattle.oss_pragma.proofs.ExpressionLoops.{takes_brackets, takes_whole, takes_next, takes_list, repeats_more}
@@ -68,9 +68,34 @@ module _ {expression : Reader Expr} (takes : Takes expression) where
   takes_based = takes_then (λ base. read_either (has (symbol_at (codes "["))) (read_part expression base) (read_nothing (whole_section base))) (takes_one name_at)
       (λ base. keeps_either (has (symbol_at (codes "["))) (keeps (takes_part base)) (keeps_nothing (whole_section base)))
 
+  takes_index : Takes (read_index expression)
+  unfolding read_index
+  takes_index = takes_mapped middle (takes_both (takes_one (symbol_at (codes "["))) (keeps (takes_both takes (keeps (takes_one (symbol_at (codes "]")))))))
+
+  takes_indices : Takes (read_indices expression)
+  unfolding read_indices
+  takes_indices = takes_then (λ first. read_either (has (symbol_at (codes "["))) (read_mapped (with_second first) (read_index expression)) (read_nothing (first, None))) takes_index
+      (λ first. keeps_either (has (symbol_at (codes "["))) (keeps (takes_mapped (with_second first) takes_index)) (keeps_nothing {A = Expr × Option Expr} (first, None)))
+
+  takes_bounds : Takes (read_bounds expression)
+  unfolding read_bounds
+  takes_bounds = takes_mapped latter (takes_both (takes_one (symbol_at (codes "="))) (keeps (takes_both takes (keeps (takes_mapped latter (takes_both (takes_one (symbol_at (codes ";"))) (keeps takes)))))))
+
+  takes_turns : Takes (read_turns expression)
+  unfolding read_turns
+  takes_turns = takes_mapped turns_of (takes_both (takes_one name_at) (keeps takes_bounds))
+
+  takes_closed_turns : Takes (read_closed_turns expression)
+  unfolding read_closed_turns
+  takes_closed_turns = takes_mapped middle (takes_both (takes_one (symbol_at (codes ","))) (keeps (takes_both takes_turns (keeps (takes_one (symbol_at (codes "}")))))))
+
+  takes_many : Takes (read_many expression)
+  unfolding read_many
+  takes_many = takes_mapped many_section (takes_both (takes_one (symbol_at (codes "{"))) (keeps (takes_both (takes_one name_at) (keeps (takes_both takes_indices (keeps takes_closed_turns))))))
+
   takes_section : Takes (read_section expression)
   unfolding read_section
-  takes_section = takes_either (has (symbol_at (codes "*"))) takes_pointed (takes_either (has (symbol_at (codes "["))) takes_shape takes_based)
+  takes_section = takes_either (has (symbol_at (codes "*"))) takes_pointed (takes_either (has (symbol_at (codes "["))) takes_shape (takes_either (has (symbol_at (codes "{"))) takes_many takes_based))
 
   repeats_sections_of : Repeats {S = List Section} (λ found. has (symbol_at (codes ","))) and_then (λ found. read_next (read_section expression))
   repeats_sections_of = repeats_more takes_section
@@ -117,7 +142,8 @@ module _ {expression : Reader Expr} (takes : Takes expression) where
       (takes_either (has (single_at once_final found)) (takes_single once_final found clause.Final)
       (takes_either (has (single_at once_wait found)) (takes_waiting found)
       (takes_either (has (single_at once_label found)) (takes_label found)
-      (takes_single once_priority found clause.Priority))))))
+      (takes_either (has (single_at once_priority found)) (takes_single once_priority found clause.Priority)
+      (takes_single once_grain found clause.Grain)))))))
 
   repeats_clauses_of : Repeats {S = List Clause} goes_on_with_clause and_then (λ found. read_after_comma (read_clause expression found))
   repeats_clauses_of = repeats goes_on_with_clause and_then (λ found. read_after_comma (read_clause expression found)) (λ found. takes_after_comma (takes_clause found))

@@ -1,13 +1,14 @@
 -- How a pragma is read from its tokens, from left to right, by a reader of expressions. Each reader stands
 -- for the part of the grammar of the same name. Read against: the line `#pragma oss task in(x) wait` is read as a task with two
 -- clauses; in `#pragma oss taskwait in(x)` reading stops at `in`, since a wait has no dependencies; in `in(m[0][1][2])` it stops at
--- the third `[`.
+-- the third `[`, in `in({ a[k], k = 0 })` at the `}`, and in `#pragma oss task grainsize(4)` at `grainsize`, which `taskloop` takes.
 use Rattle.std.specs.Prelude.{ℕ, Bool, false, ◌||◌, List, [], ◌∷◌, codes, Option, Some, None}
 use Rattle.oss_syntax.specs.declared.access.Mode.{Mode}
 use Rattle.oss_syntax.specs.declared.access.Mode.TheVariants.{Fold}
 use Rattle.oss_syntax.specs.declared.access.Op.{Op}
 use Rattle.oss_syntax.specs.declared.token.Token.{Token}
 use Rattle.oss_syntax.specs.declared.tree.expr.Expr.{Expr}
+use Rattle.oss_syntax.specs.declared.tree.expr.ExprKind.TheVariants as exprs
 use Rattle.oss_syntax.specs.declared.tree.pragma.Clause.{Clause}
 use Rattle.oss_syntax.specs.declared.tree.pragma.Clause.TheVariants as clause
 use Rattle.oss_syntax.specs.declared.tree.pragma.Directive.{Directive}
@@ -17,12 +18,15 @@ use Rattle.oss_syntax.specs.declared.tree.pragma.Form.TheVariants as form
 use Rattle.oss_syntax.specs.declared.tree.pragma.Inner.{Inner}
 use Rattle.oss_syntax.specs.declared.tree.pragma.Inner.TheVariants as inner_forms
 use Rattle.oss_syntax.specs.declared.tree.pragma.Section.{Section}
-use Rattle.oss_grammar.specs.Pragmas.{Single, form_of_inner}
-use Rattle.oss_grammar.specs.Pragmas.Single.{once_if, once_final, once_wait, once_label, once_priority}
+use Rattle.oss_syntax.specs.declared.tree.pragma.Turns.{Turns}
+use Rattle.oss_grammar.specs.Pragmas.{Single, counter, form_of_inner}
+use Rattle.oss_grammar.specs.Pragmas.Single.{once_if, once_final, once_wait, once_label, once_priority, once_grain}
 use Rattle.oss_grammar.specs.Reading.{Reader, has, read_one, read_then, read_nothing, read_mapped, read_both, read_either, read_steps}
 use Rattle.oss_pragma.specs.TokenValues.{symbol_at, word_at, start_at, end_at, name_at, access_at, reduction_at, fold_at, label_at, single_at, begins_expression}
-use Rattle.oss_pragma.specs.ExpressionReading.{latter, middle, and_then, read_next, read_list, read_brackets}
+use Rattle.oss_pragma.specs.ExpressionReading.{latter, middle, and_then, read_next, read_list, read_brackets, read_index}
 use Rattle.oss_pragma.specs.declared.cursor.Named.{Named}
+use Rattle.oss_pragma.specs.declared.kinds.TaskKind.{TaskKind}
+use Rattle.oss_pragma.specs.declared.kinds.TaskKind.TheVariants as task_kind
 
 -- [ expr ] behind `:`
 unfoldable pub read_upper : Reader Expr → Reader (Option Expr)
@@ -59,6 +63,15 @@ shape_section p = record { base = p.1.1.1.name; form = form.Shape p.1.0; line = 
 abbrev pub part_section : Named → Form → Section
 part_section base cells = record { base = base.name; form = cells; line = base.line; base_line = base.line }
 
+abbrev pub turns_of : Named × (Expr × Expr) → Turns
+turns_of p = record { variable = counter p.0.name p.1.0 p.0.line; count = p.1.1 }
+
+abbrev pub many_section : ℕ × (Named × ((Expr × Option Expr) × Turns)) → Section
+many_section p = record { base = p.1.0.name; form = form.Many p.1.1.0.0 p.1.1.0.1 p.1.1.1; line = p.0; base_line = p.1.0.line }
+
+abbrev pub with_second : Expr → Expr → Expr × Option Expr
+with_second first second = (first, Some second)
+
 -- "*" name
 unfoldable pub read_pointed : Reader Section
 read_pointed = read_mapped pointed_section (read_both (read_one (symbol_at (codes "*"))) (read_one name_at))
@@ -84,9 +97,33 @@ read_part expression base = read_mapped (part_section base) (read_then (read_dim
 unfoldable pub read_based : Reader Expr → Reader Section
 read_based expression = read_then (read_one name_at) (λ base. read_either (has (symbol_at (codes "["))) (read_part expression base) (read_nothing (whole_section base)))
 
--- name | "*" name | "[" expr "]" name | name "[" inner "]" [ "[" inner "]" ]
+-- "[" expr "]" [ "[" expr "]" ]: of `[e][f]` it gives both, of `[e]` the first alone
+unfoldable pub read_indices : Reader Expr → Reader (Expr × Option Expr)
+read_indices expression = read_then (read_index expression) (λ first. read_either (has (symbol_at (codes "["))) (read_mapped (with_second first) (read_index expression)) (read_nothing (first, None)))
+
+-- "=" expr ";" expr: the first value of the variable, and how many turns there are
+unfoldable pub read_bounds : Reader Expr → Reader (Expr × Expr)
+read_bounds expression = read_mapped latter (read_both (read_one (symbol_at (codes "="))) (read_both expression (read_mapped latter (read_both (read_one (symbol_at (codes ";"))) expression))))
+
+-- name "=" expr ";" expr
+unfoldable pub read_turns : Reader Expr → Reader Turns
+read_turns expression = read_mapped turns_of (read_both (read_one name_at) (read_bounds expression))
+
+-- "," turns "}"
+unfoldable pub read_closed_turns : Reader Expr → Reader Turns
+read_closed_turns expression = read_mapped middle (read_both (read_one (symbol_at (codes ","))) (read_both (read_turns expression) (read_one (symbol_at (codes "}")))))
+
+-- "{" name indices "," turns "}"
+unfoldable pub read_many : Reader Expr → Reader Section
+read_many expression =
+    read_mapped many_section (read_both (read_one (symbol_at (codes "{"))) (read_both (read_one name_at) (read_both (read_indices expression) (read_closed_turns expression))))
+
+-- name | "*" name | "[" expr "]" name | name "[" inner "]" [ "[" inner "]" ] | "{" name indices "," turns "}"
 unfoldable pub read_section : Reader Expr → Reader Section
-read_section expression = read_either (has (symbol_at (codes "*"))) read_pointed (read_either (has (symbol_at (codes "["))) (read_shape expression) (read_based expression))
+read_section expression =
+    read_either (has (symbol_at (codes "*"))) read_pointed
+    (read_either (has (symbol_at (codes "["))) (read_shape expression)
+    (read_either (has (symbol_at (codes "{"))) (read_many expression) (read_based expression)))
 
 -- section { "," section }
 unfoldable pub read_sections : Reader Expr → Reader (List Section)
@@ -129,7 +166,7 @@ read_label found =
 unfoldable pub read_waiting : List Clause → Reader Clause
 read_waiting found = read_mapped (λ line. clause.Wait) (read_one (single_at once_wait found))
 
--- A clause of a task, behind those that were found.
+-- A clause of a task loop, behind those that were found.
 unfoldable pub read_clause : Reader Expr → List Clause → Reader Clause
 read_clause expression found =
     read_either (has access_at) (read_depend expression)
@@ -138,21 +175,48 @@ read_clause expression found =
     (read_either (has (single_at once_final found)) (read_single expression once_final found clause.Final)
     (read_either (has (single_at once_wait found)) (read_waiting found)
     (read_either (has (single_at once_label found)) (read_label found)
-    (read_single expression once_priority found clause.Priority))))))
+    (read_either (has (single_at once_priority found)) (read_single expression once_priority found clause.Priority)
+    (read_single expression once_grain found clause.Grain)))))))
 
 -- A part, or a comma and then the part.
 abbrev pub read_after_comma : {A : Type 0} → Reader A → Reader A
 read_after_comma f = read_either (has (symbol_at (codes ","))) (read_next f) f
 
+-- Whether a token begins a clause that stands once at most, and stands in none of those that were found.
+abbrev pub begins_single : List Clause → Token → Bool
+begins_single found t =
+    has (single_at once_if found) t || (has (single_at once_final found) t || (has (single_at once_wait found) t
+    || (has (single_at once_label found) t || (has (single_at once_priority found) t || has (single_at once_grain found) t))))
+
 -- Whether a token begins a clause behind those that were found, or is a comma.
 abbrev pub goes_on_with_clause : List Clause → Token → Bool
-goes_on_with_clause found t =
-    has (symbol_at (codes ",")) t || (has access_at t || (has reduction_at t || (has (single_at once_if found) t || (has (single_at once_final found) t
-    || (has (single_at once_wait found) t || (has (single_at once_label found) t || has (single_at once_priority found) t))))))
+goes_on_with_clause found t = has (symbol_at (codes ",")) t || (has access_at t || (has reduction_at t || begins_single found t))
 
 -- { [ "," ] clause }, behind those that were found
 unfoldable pub read_clauses : Reader Expr → List Clause → Reader (List Clause)
 read_clauses expression = read_steps goes_on_with_clause (λ found. read_mapped (and_then found) (read_after_comma (read_clause expression found)))
+
+-- A task is read as if a grainsize stood before its clauses: so none of them is one. A task loop has none before.
+abbrev pub no_grain : Clause
+no_grain = clause.Grain (record { what = exprs.Number 0 false; line = 0 })
+
+-- The clauses that were found, with what stands before them: of a task `in(x)` counts as a grainsize and `in(x)`.
+abbrev pub counted_with : TaskKind → List Clause → List Clause
+counted_with task_kind.Task found = no_grain ∷ found
+counted_with task_kind.Loop found = found
+
+-- The clauses without what stands before them.
+abbrev pub without_first : List Clause → List Clause
+without_first [] = []
+without_first (c ∷ found) = found
+
+abbrev pub found_of : TaskKind → List Clause → List Clause
+found_of task_kind.Task counted = without_first counted
+found_of task_kind.Loop counted = counted
+
+-- { [ "," ] clause } of a task or of a task loop
+unfoldable pub read_all_clauses : TaskKind → Reader Expr → Reader (List Clause)
+read_all_clauses kind expression = read_mapped (found_of kind) (read_clauses expression (counted_with kind []))
 
 abbrev pub goes_on_with_depend : List Clause → Token → Bool
 goes_on_with_depend found t = has (symbol_at (codes ",")) t || has access_at t
@@ -166,7 +230,15 @@ task_of line p = directive.Task (record { clauses = p.1.0; line = line })
 
 -- "task" { [ "," ] clause } end, behind the first token of a pragma with this line
 unfoldable pub read_task : Reader Expr → ℕ → Reader Directive
-read_task expression line = read_mapped (task_of line) (read_both (read_one (word_at (codes "task"))) (read_both (read_clauses expression []) (read_one end_at)))
+read_task expression line = read_mapped (task_of line) (read_both (read_one (word_at (codes "task"))) (read_both (read_all_clauses task_kind.Task expression) (read_one end_at)))
+
+abbrev pub task_loop_of : ℕ → ℕ × (List Clause × ℕ) → Directive
+task_loop_of line p = directive.TaskLoop (record { clauses = p.1.0; line = line })
+
+-- "taskloop" { [ "," ] clause } end, behind the first token of a pragma with this line
+unfoldable pub read_task_loop : Reader Expr → ℕ → Reader Directive
+read_task_loop expression line =
+    read_mapped (task_loop_of line) (read_both (read_one (word_at (codes "taskloop"))) (read_both (read_all_clauses task_kind.Loop expression) (read_one end_at)))
 
 -- "on" "(" sections ")" end
 unfoldable pub read_on : Reader Expr → Reader (List Section)
@@ -186,8 +258,10 @@ read_depends expression = read_then (read_depend expression) (λ first. read_mor
 unfoldable pub read_release : Reader Expr → Reader Directive
 read_release expression = read_mapped (λ p. directive.Release (middle p)) (read_both (read_one (word_at (codes "release"))) (read_both (read_depends expression) (read_one end_at)))
 
--- start ( task | taskwait | release )
+-- start ( task | taskloop | taskwait | release )
 unfoldable pub read_pragma : Reader Expr → Reader Directive
 read_pragma expression =
     read_then (read_one start_at) (λ line.
-    read_either (has (word_at (codes "task"))) (read_task expression line) (read_either (has (word_at (codes "taskwait"))) (read_taskwait expression) (read_release expression)))
+    read_either (has (word_at (codes "task"))) (read_task expression line)
+    (read_either (has (word_at (codes "taskloop"))) (read_task_loop expression line)
+    (read_either (has (word_at (codes "taskwait"))) (read_taskwait expression) (read_release expression))))

@@ -15,7 +15,7 @@ use Rattle.oss_syntax.specs.declared.tree.pragma.Clause.{Clause}
 use Rattle.oss_grammar.specs.OneToken.{is_symbol, is_keyword, is_word}
 use Rattle.oss_grammar.specs.Expressions.{prefix_of, operator_of}
 use Rattle.oss_grammar.specs.Pragmas.{Single, is_single, access_of, reduction_of, fold_of}
-use Rattle.oss_grammar.specs.Pragmas.Single.{once_if, once_final, once_wait, once_label, once_priority}
+use Rattle.oss_grammar.specs.Pragmas.Single.{once_if, once_final, once_wait, once_label, once_priority, once_grain}
 use Rattle.oss_pragma.specs.declared.cursor.Named.{Named}
 
 -- The line of a symbol, of a keyword and of a word with these bytes.
@@ -98,7 +98,7 @@ label_in _ = None
 abbrev pub label_at : Token → Option (List ℕ)
 label_at t = label_in t.what
 
--- Whether a clause that a task has once at most stands among these.
+-- Whether a clause that a task or a task loop has once at most stands among these.
 abbrev pub stands : Single → List Clause → Bool
 stands s found = list_any (is_single s) found
 
@@ -109,6 +109,7 @@ is_single_word once_final k = is_word (codes "final") k
 is_single_word once_wait k = is_word (codes "wait") k
 is_single_word once_label k = is_word (codes "label") k
 is_single_word once_priority k = is_word (codes "priority") k
+is_single_word once_grain k = is_word (codes "grainsize") k
 
 -- The line of such a word, where the clause does not stand among those before: a second `label` has none.
 abbrev pub single_at : Single → List Clause → Token → Option ℕ

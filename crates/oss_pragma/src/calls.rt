@@ -28,7 +28,7 @@ pub fn expression(alloc: Global, tokens: &List<Token>, at: u32) -> Result<(Expr,
 }
 
 /// Reads the pragma that begins at a place of the tokens, and answers it with the place behind it (OmpSs-2, the directives task,
-/// taskwait and release).
+/// taskloop, taskwait and release).
 ///
 /// The answers are those of `expression`, for pragmas: a level or an operator counts within each expression of the pragma.
 pub fn pragma(alloc: Global, tokens: &List<Token>, at: u32) -> Result<(Directive, u32), Refusal>

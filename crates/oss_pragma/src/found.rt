@@ -1,17 +1,18 @@
-//! The clauses of a task that were read so far.
+//! The clauses of a task or of a task loop that were read so far.
 
 ghost use Rattle.std.specs.Prelude.{◌≡◌, ◌∷◌, ◌++◌, ◌||◌, [], OnOk};
 ghost use Rattle.oss_grammar.specs.Pragmas.{is_single};
 ghost use Rattle.oss_grammar.specs.Reading.{has};
+ghost use Rattle.oss_pragma.specs.PragmaReading.{counted_with, no_grain};
 ghost use Rattle.oss_pragma.specs.Singles.{single_of};
 ghost use Rattle.oss_pragma.specs.TokenValues.{single_at, stands};
 
-use crate::kinds::{Once, once_is};
+use crate::kinds::{Once, TaskKind, once_is};
 use oss_syntax::{Clause, List, Token};
 use std::alloc::{AllocError, Global};
 use std::marker::Model;
 
-/// Clauses, and which of those stand among them that a task has once at most. Contracts see the list of the clauses.
+/// Clauses, and which of those stand among them that a task or a task loop has once at most. Contracts see the list of the clauses.
 #[derive(Drop)]
 pub struct Found {
     clauses: List<Clause>,
@@ -20,6 +21,7 @@ pub struct Found {
     wait: bool,
     label: bool,
     priority: bool,
+    grain: bool,
 }
 
 impl Model for Found {
@@ -35,7 +37,7 @@ impl Model for Found {
 
     ghost view = { λ f. f.clauses };
 
-    ghost invariant = { λ f. AreKnown f.clauses f.condition f.last f.wait f.label f.priority };
+    ghost invariant = { λ f. AreKnown f.clauses f.condition f.last f.wait f.label f.priority f.grain };
 }
 
 impl Found {
@@ -50,11 +52,12 @@ impl Found {
             wait: false,
             label: false,
             priority: false,
+            grain: false,
         }
     }
 
     /// Whether a clause that stands once at most was found.
-    pub fn has(&self, once: Once) -> bool
+    fn has(&self, once: Once) -> bool
         ensures { result ≡ stands (single_of once) self.now }
     {
         match once {
@@ -63,6 +66,17 @@ impl Found {
             Once::Wait => self.wait,
             Once::Label => self.label,
             Once::Priority => self.priority,
+            Once::Grain => self.grain,
+        }
+    }
+
+    /// Whether such a clause may stand no more: it was found, or it is the grainsize of a task.
+    pub fn bars(&self, kind: TaskKind, once: Once) -> bool
+        ensures { result ≡ stands (single_of once) (counted_with kind self.now) }
+    {
+        match kind {
+            TaskKind::Task => either(is_grain(once), self.has(once)),
+            TaskKind::Loop => self.has(once),
         }
     }
 
@@ -75,12 +89,14 @@ impl Found {
         let wait = either(self.wait, stands_once(Once::Wait, &clause));
         let label = either(self.label, stands_once(Once::Label, &clause));
         let priority = either(self.priority, stands_once(Once::Priority, &clause));
+        let grain = either(self.grain, stands_once(Once::Grain, &clause));
         self.clauses.push(clause)?;
         self.condition = condition;
         self.last = last;
         self.wait = wait;
         self.label = label;
         self.priority = priority;
+        self.grain = grain;
         Ok(())
     }
 
@@ -92,11 +108,11 @@ impl Found {
         clauses
     }
 
-    /// Whether a token is the word of a clause that stands once at most, and was not found.
-    pub fn awaits(&self, once: Once, token: &Token) -> bool
-        ensures { result ≡ has (single_at (single_of once) self.now) token.now }
+    /// Whether a token is the word of a clause that stands once at most, and may still stand.
+    pub fn awaits(&self, kind: TaskKind, once: Once, token: &Token) -> bool
+        ensures { result ≡ has (single_at (single_of once) (counted_with kind self.now)) token.now }
     {
-        !self.has(once) && once_is(once, &token.what)
+        !self.bars(kind, once) && once_is(once, &token.what)
     }
 }
 
@@ -104,6 +120,13 @@ fn either(one: bool, other: bool) -> bool
     ensures { result ≡ (one || other) }
 {
     one || other
+}
+
+/// Whether it is the grainsize.
+fn is_grain(once: Once) -> bool
+    ensures { result ≡ is_single (single_of once) no_grain }
+{
+    matches!(once, Once::Grain)
 }
 
 /// Whether a clause is of this kind.
@@ -116,5 +139,6 @@ fn stands_once(once: Once, clause: &Clause) -> bool
         Once::Wait => matches!(clause, Clause::Wait),
         Once::Label => matches!(clause, Clause::Label(_)),
         Once::Priority => matches!(clause, Clause::Priority(_)),
+        Once::Grain => matches!(clause, Clause::Grain(_)),
     }
 }

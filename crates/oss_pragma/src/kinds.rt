@@ -12,7 +12,7 @@ use crate::cursor::{Named, Unread};
 use oss_syntax::{BinOp, Bytes, Expr, ExprKind, Mode, Name, Op, Token, TokenKind, UnOp};
 use std::alloc::Global;
 
-/// The clauses that a task has once at most.
+/// The clauses that a task or a task loop has once at most.
 #[derive(Clone, Copy, Debug)]
 pub enum Once {
     If,
@@ -20,6 +20,15 @@ pub enum Once {
     Wait,
     Label,
     Priority,
+    Grain,
+}
+
+/// Which pragma has clauses that are read.
+#[derive(Clone, Copy, Debug)]
+pub enum TaskKind {
+    /// A task, of which no clause is a grainsize.
+    Task,
+    Loop,
 }
 
 /// Whether this is the punctuator with these bytes.
@@ -249,6 +258,7 @@ pub fn once_is(once: Once, what: &TokenKind) -> bool
         Once::Wait => word_is(b"wait", what),
         Once::Label => word_is(b"label", what),
         Once::Priority => word_is(b"priority", what),
+        Once::Grain => word_is(b"grainsize", what),
     }
 }
 

@@ -3,13 +3,13 @@
 ghost use Rattle.std.specs.Prelude.{◌≡◌};
 ghost use Rattle.oss_grammar.specs.Reading.{begins, read_one, read_then};
 ghost use Rattle.oss_pragma.specs.ExpressionReading.{read_expression};
-ghost use Rattle.oss_pragma.specs.PragmaReading.{goes_on_with_depend, read_after_comma, read_depend, read_depends, read_more_depends, read_on, read_pragma, read_release, read_task, read_taskwait};
+ghost use Rattle.oss_pragma.specs.PragmaReading.{goes_on_with_depend, read_after_comma, read_depend, read_depends, read_more_depends, read_on, read_pragma, read_release, read_task, read_task_loop, read_taskwait};
 ghost use Rattle.oss_pragma.specs.TokenValues.{start_at};
 ghost use Rattle.oss_pragma.specs.Told.{ReadsAs};
 
 use crate::clauses::{clauses, depend};
 use crate::cursor::{Cursor, Unread};
-use crate::kinds::{access, symbol_is};
+use crate::kinds::{TaskKind, access, symbol_is};
 use crate::sections::bracketed_sections;
 use oss_syntax::{Clause, Directive, List, Section, TaskMark, Token};
 use std::alloc::Global;
@@ -20,9 +20,20 @@ fn task(alloc: Global, line: u32, tokens: &mut Cursor<'_>) -> Result<Directive, 
     ensures { ReadsAs (read_task read_expression line tokens.old) result tokens.new }
 {
     tokens.word(b"task")?;
-    let clauses = clauses(alloc, tokens)?;
+    let clauses = clauses(alloc, TaskKind::Task, tokens)?;
     tokens.pragma_end()?;
     Ok(Directive::Task(TaskMark { clauses, line }))
+}
+
+/// "taskloop" { [ "," ] clause } end, behind the first token of a pragma with this line
+#[tactic(auto, unfolding(crate::specs::PragmaReading::read_task_loop))]
+fn task_loop(alloc: Global, line: u32, tokens: &mut Cursor<'_>) -> Result<Directive, Unread>
+    ensures { ReadsAs (read_task_loop read_expression line tokens.old) result tokens.new }
+{
+    tokens.word(b"taskloop")?;
+    let clauses = clauses(alloc, TaskKind::Loop, tokens)?;
+    tokens.pragma_end()?;
+    Ok(Directive::TaskLoop(TaskMark { clauses, line }))
 }
 
 /// "on" "(" sections ")" end
@@ -111,7 +122,7 @@ fn release(alloc: Global, tokens: &mut Cursor<'_>) -> Result<Directive, Unread>
     Ok(Directive::Release(depends))
 }
 
-/// start ( task | taskwait | release )
+/// start ( task | taskloop | taskwait | release )
 #[tactic(auto, unfolding(crate::specs::PragmaReading::read_pragma))]
 pub fn pragma(alloc: Global, tokens: &mut Cursor<'_>) -> Result<Directive, Unread>
     ensures { ReadsAs (read_pragma read_expression tokens.old) result tokens.new }
@@ -119,6 +130,9 @@ pub fn pragma(alloc: Global, tokens: &mut Cursor<'_>) -> Result<Directive, Unrea
     let line = tokens.pragma_start()?;
     if tokens.begins_with_word(b"task") {
         return task(alloc, line, tokens);
+    }
+    if tokens.begins_with_word(b"taskloop") {
+        return task_loop(alloc, line, tokens);
     }
     if tokens.begins_with_word(b"taskwait") {
         return task_wait(alloc, tokens);

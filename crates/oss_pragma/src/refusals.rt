@@ -73,7 +73,6 @@ fn word_is_left_out(what: &TokenKind) -> bool
         || word_is(b"shared", what)
         || word_is(b"taskfor", what)
         || word_is(b"taskiter", what)
-        || word_is(b"taskloop", what)
         || word_is(b"weakcommutative", what)
 }
 

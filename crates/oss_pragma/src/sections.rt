@@ -1,14 +1,16 @@
 //! The reader of sections.
 
-ghost use Rattle.std.specs.Prelude.{◌≡◌};
+ghost use Rattle.std.specs.Prelude.{◌≡◌, codes};
 ghost use Rattle.oss_grammar.specs.Pragmas.{form_of_inner};
-ghost use Rattle.oss_pragma.specs.ExpressionReading.{read_brackets, read_expression, read_more, read_next};
-ghost use Rattle.oss_pragma.specs.PragmaReading.{read_based, read_bracketed_sections, read_columns, read_dimension, read_inner, read_inner_from, read_length, read_part, read_pointed, read_section, read_sections, read_shape, read_span, read_upper};
+ghost use Rattle.oss_grammar.specs.Reading.{read_both, read_mapped, read_one};
+ghost use Rattle.oss_pragma.specs.ExpressionReading.{read_brackets, read_expression, latter, read_index, read_more, read_next};
+ghost use Rattle.oss_pragma.specs.PragmaReading.{read_based, read_bounds, read_bracketed_sections, read_closed_turns, read_columns, read_dimension, read_indices, read_inner, read_inner_from, read_length, read_many, read_part, read_pointed, read_section, read_sections, read_shape, read_span, read_turns, read_upper};
+ghost use Rattle.oss_pragma.specs.TokenValues.{symbol_at};
 ghost use Rattle.oss_pragma.specs.Told.{ReadsAs};
 
 use crate::cursor::{Cursor, Named, Unread};
 use crate::limits::expression;
-use oss_syntax::{Expr, Form, Inner, List, Section};
+use oss_syntax::{Expr, Form, Inner, Kind, List, Local, NumKind, Section, Turns};
 use std::alloc::Global;
 
 /// [ expr ], behind ":"
@@ -167,7 +169,104 @@ fn based(alloc: Global, tokens: &mut Cursor<'_>) -> Result<Section, Unread>
     })
 }
 
-/// name | "*" name | "[" expr "]" name | name "[" inner "]" [ "[" inner "]" ]
+/// "[" expr "]"
+#[tactic(auto, unfolding(crate::specs::ExpressionReading::read_index))]
+fn index(alloc: Global, tokens: &mut Cursor<'_>) -> Result<Expr, Unread>
+    ensures { ReadsAs (read_index read_expression tokens.old) result tokens.new }
+{
+    tokens.symbol(b"[")?;
+    let at = expression(alloc, tokens)?;
+    tokens.symbol(b"]")?;
+    Ok(at)
+}
+
+/// "[" expr "]" [ "[" expr "]" ]
+#[tactic(auto, unfolding(crate::specs::PragmaReading::read_indices))]
+fn indices(alloc: Global, tokens: &mut Cursor<'_>) -> Result<(Expr, Option<Expr>), Unread>
+    ensures { ReadsAs (read_indices read_expression tokens.old) result tokens.new }
+{
+    let first = index(alloc, tokens)?;
+    if !tokens.begins_with_symbol(b"[") {
+        return Ok((first, None));
+    }
+    let second = index(alloc, tokens)?;
+    Ok((first, Some(second)))
+}
+
+/// ";" expr
+fn turn_count(alloc: Global, tokens: &mut Cursor<'_>) -> Result<Expr, Unread>
+    ensures { ReadsAs (read_mapped latter (read_both (read_one (symbol_at (codes ";"))) read_expression) tokens.old) result tokens.new }
+{
+    tokens.symbol(b";")?;
+    expression(alloc, tokens)
+}
+
+/// "=" expr ";" expr
+#[tactic(auto, unfolding(crate::specs::PragmaReading::read_bounds))]
+fn bounds(alloc: Global, tokens: &mut Cursor<'_>) -> Result<(Expr, Expr), Unread>
+    ensures { ReadsAs (read_bounds read_expression tokens.old) result tokens.new }
+{
+    tokens.symbol(b"=")?;
+    let first = expression(alloc, tokens)?;
+    let count = turn_count(alloc, tokens)?;
+    Ok((first, count))
+}
+
+/// name "=" expr ";" expr
+#[tactic(auto, unfolding(crate::specs::PragmaReading::read_turns))]
+fn turns(alloc: Global, tokens: &mut Cursor<'_>) -> Result<Turns, Unread>
+    ensures { ReadsAs (read_turns read_expression tokens.old) result tokens.new }
+{
+    let variable = tokens.name(alloc)?;
+    let (first, count) = bounds(alloc, tokens)?;
+    Ok(Turns {
+        variable: Local {
+            name: variable.name,
+            kind: Kind::Num(NumKind::Long),
+            first: Some(first),
+            line: variable.line,
+        },
+        count,
+    })
+}
+
+/// "," turns "}"
+#[tactic(auto, unfolding(crate::specs::PragmaReading::read_closed_turns))]
+fn closed_turns(alloc: Global, tokens: &mut Cursor<'_>) -> Result<Turns, Unread>
+    ensures { ReadsAs (read_closed_turns read_expression tokens.old) result tokens.new }
+{
+    tokens.symbol(b",")?;
+    let turns = turns(alloc, tokens)?;
+    tokens.symbol(b"}")?;
+    Ok(turns)
+}
+
+/// indices "," turns "}"
+fn places(alloc: Global, tokens: &mut Cursor<'_>) -> Result<((Expr, Option<Expr>), Turns), Unread>
+    ensures { ReadsAs (read_both (read_indices read_expression) (read_closed_turns read_expression) tokens.old) result tokens.new }
+{
+    let indices = indices(alloc, tokens)?;
+    let turns = closed_turns(alloc, tokens)?;
+    Ok((indices, turns))
+}
+
+/// "{" name indices "," turns "}"
+#[tactic(auto, unfolding(crate::specs::PragmaReading::read_many))]
+fn many(alloc: Global, tokens: &mut Cursor<'_>) -> Result<Section, Unread>
+    ensures { ReadsAs (read_many read_expression tokens.old) result tokens.new }
+{
+    let line = tokens.symbol(b"{")?;
+    let base = tokens.name(alloc)?;
+    let ((first, second), turns) = places(alloc, tokens)?;
+    Ok(Section {
+        form: Form::Many(first, second, turns),
+        line,
+        base_line: base.line,
+        base: base.name,
+    })
+}
+
+/// name | "*" name | "[" expr "]" name | name "[" inner "]" [ "[" inner "]" ] | "{" name indices "," turns "}"
 #[tactic(auto, unfolding(crate::specs::PragmaReading::read_section))]
 fn section(alloc: Global, tokens: &mut Cursor<'_>) -> Result<Section, Unread>
     ensures { ReadsAs (read_section read_expression tokens.old) result tokens.new }
@@ -177,6 +276,9 @@ fn section(alloc: Global, tokens: &mut Cursor<'_>) -> Result<Section, Unread>
     }
     if tokens.begins_with_symbol(b"[") {
         return shape(alloc, tokens);
+    }
+    if tokens.begins_with_symbol(b"{") {
+        return many(alloc, tokens);
     }
     based(alloc, tokens)
 }

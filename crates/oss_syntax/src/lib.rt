@@ -20,5 +20,5 @@ pub use refusal::{Refusal, Refused, RefusedKind};
 pub use token::{Token, TokenKind};
 pub use tree::{
     BinOp, Clause, Directive, Expr, ExprKind, Form, Function, GlobalDef, Inner, Item, Kind, Local,
-    NumKind, Program, Section, Stmt, StmtKind, TaskMark, UnOp,
+    LoopHead, NameUse, NumKind, Program, Section, Stmt, StmtKind, TaskMark, Turns, UnOp,
 };

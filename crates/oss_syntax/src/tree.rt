@@ -7,6 +7,6 @@ mod program;
 mod stmt;
 
 pub use expr::{BinOp, Expr, ExprKind, UnOp};
-pub use pragma::{Clause, Directive, Form, Inner, Section, TaskMark};
+pub use pragma::{Clause, Directive, Form, Inner, Section, TaskMark, Turns};
 pub use program::{Function, GlobalDef, Item, Kind, Local, NumKind, Program};
-pub use stmt::{Stmt, StmtKind};
+pub use stmt::{LoopHead, NameUse, Stmt, StmtKind};
