@@ -64,6 +64,9 @@ module _ (s : Stmt) (names : List (List ℕ)) (kinds : List NumKind) (st : State
   pub run-continue : s.what ≡ stmts.Continue → run_of s names kinds st ≡ ticked s.line st (λ next. Goes next)
   run-continue is = rw is (search (rules, stmt_folds))
 
+  pub run-task-loop : (a : _) (b : _) → s.what ≡ stmts.TaskLoop a b → run_of s names kinds st ≡ ticked s.line st (λ next. Goes next)
+  run-task-loop a b is = rw is (search (rules, stmt_folds))
+
   pub run-release : (a : _) → s.what ≡ stmts.Release a → run_of s names kinds st ≡ ticked s.line st (λ next. Goes next)
   run-release a is = rw is (search (rules, stmt_folds))
 

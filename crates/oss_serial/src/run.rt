@@ -125,6 +125,7 @@ fn run_one(
         StmtKind::Return(_) => state.tick(line),
         StmtKind::Break => state.tick(line),
         StmtKind::Continue => state.tick(line),
+        StmtKind::TaskLoop(_, _) => state.tick(line),
         StmtKind::Release(_) => state.tick(line),
     }
 }

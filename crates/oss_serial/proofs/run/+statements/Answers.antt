@@ -6,7 +6,7 @@ use Rattle.std.specs.Prelude.{None}
 use Rattle.oss_syntax.specs.declared.access.Access.{Access}
 use Rattle.oss_model.specs.Context.{create_fault}
 use Rattle.oss_serial.specs.declared.stop.Stop.{Stop}
-use Rattle.oss_serial.proofs.RunLemmas.{task-enters, task-stops, task-goes, ends_along, ends_goes, ends_stop, ends_told, stop_along, runs-stop, run-print, run-task, run-empty, run-declare, run-call, run-if, run-while, run-for, run-return, run-break, run-continue, run-release}
+use Rattle.oss_serial.proofs.RunLemmas.{task-enters, task-stops, task-goes, ends_along, ends_goes, ends_stop, ends_told, stop_along, runs-stop, run-print, run-task, run-empty, run-declare, run-call, run-if, run-while, run-for, run-return, run-break, run-continue, run-release, run-task-loop}
 use Rattle.oss_serial.proofs.run.+statements.Goals as goal
 
 pub run_one-returns-in_ok-tick-in-Print : goal.run_one-returns-in_ok-tick-in-Print
@@ -80,6 +80,10 @@ run_one-returns-in-Break t c =
 pub run_one-returns-in-Continue : goal.run_one-returns-in-Continue
 run_one-returns-in-Continue t c =
     ends_goes _ (ticked c.args.statement.now.line c.args.state.now) _ _ (run-continue c.args.statement.now c.args.variables.now.names c.args.variables.now.kinds c.args.state.now c.in-Continue.is) c.tick-in-Continue.ensures
+
+pub run_one-returns-in-TaskLoop : goal.run_one-returns-in-TaskLoop
+run_one-returns-in-TaskLoop t c =
+    ends_goes _ (ticked c.args.statement.now.line c.args.state.now) _ _ (run-task-loop c.args.statement.now c.args.variables.now.names c.args.variables.now.kinds c.args.state.now c.in-TaskLoop.field-0 c.in-TaskLoop.field-1 c.in-TaskLoop.is) c.tick-in-TaskLoop.ensures
 
 pub run_one-returns-in-Release : goal.run_one-returns-in-Release
 run_one-returns-in-Release t c =
