@@ -14,7 +14,7 @@ use Rattle.oss_grammar.specs.Expressions.IsExpr.{number, tighter}
 use Rattle.oss_grammar.specs.Fronts.{Viable}
 use Rattle.oss_grammar.specs.OneToken.{is_keyword, IsSymbol, IsKeyword}
 use Rattle.oss_grammar.specs.Pragmas.{IsPragma}
-use Rattle.oss_grammar.specs.Pragmas.IsPragma.{task as task_pragma, wait_all, wait_on, release as release_pragma}
+use Rattle.oss_grammar.specs.Pragmas.IsPragma.{task as task_pragma, task_loop as loop_pragma, wait_all, wait_on, release as release_pragma}
 use Rattle.oss_grammar.specs.Reading.{begins, has}
 use Rattle.oss_grammar.specs.SimpleStatements.{IsSimple, IsTarget, IsDeclaration, IsNumKind, step_of}
 use Rattle.oss_grammar.specs.SimpleStatements.IsTarget.{name_target, element_target, grid_target, pointer_target, pointed_target}
@@ -27,7 +27,7 @@ use Rattle.oss_grammar.specs.SimpleStatements.IsDeclaration.{declaration}
 use Rattle.oss_grammar.specs.StatementLimits.{IsOneItem}
 use Rattle.oss_grammar.specs.StatementLimits.IsOneItem.{declared_item, stated_item}
 use Rattle.oss_grammar.specs.Statements.{IsStmt, IsAnyStmt}
-use Rattle.oss_grammar.specs.Statements.IsStmt.{block, empty, simple, if_alone, if_else, while_loop, for_loop, return_jump, break_jump, continue_jump, print, task, task_wait, release}
+use Rattle.oss_grammar.specs.Statements.IsStmt.{block, empty, simple, if_alone, if_else, while_loop, for_loop, return_jump, break_jump, continue_jump, print, task, task_loop, task_wait, release}
 use Rattle.oss_grammar.specs.Statements.IsItems.{no_item}
 use Rattle.oss_grammar.specs.Statements.IsForFirst.{other_first}
 use Rattle.oss_grammar.specs.Statements.IsMaybeSimple.{no_simple}
@@ -185,7 +185,8 @@ simple_begins xs s (called t opened word inner closed e k o c w) = ap (begins be
 
 pragma_begins : (xs : List Token) (d : Directive) → IsPragma xs d → begins begins_statement xs ≡ true
 unfolding step_of
-pragma_begins xs d (task_pragma start word inner end e k w z c o) = ap (begins begins_statement) e ∙ ap (λ w. begins_statement (record { what = w; line = start.line })) k
+pragma_begins xs d (task_pragma start word inner end e k w z c o g) = ap (begins begins_statement) e ∙ ap (λ w. begins_statement (record { what = w; line = start.line })) k
+pragma_begins xs d (loop_pragma start word inner end e k w z c o) = ap (begins begins_statement) e ∙ ap (λ w. begins_statement (record { what = w; line = start.line })) k
 pragma_begins xs d (wait_all start word end e k w z) = ap (begins begins_statement) e ∙ ap (λ w. begins_statement (record { what = w; line = start.line })) k
 pragma_begins xs d (wait_on start word on opened inner closed end e k w z o c f g) = ap (begins begins_statement) e ∙ ap (λ w. begins_statement (record { what = w; line = start.line })) k
 pragma_begins xs d (release_pragma start word front back end e k w z f m) = ap (begins begins_statement) e ∙ ap (λ w. begins_statement (record { what = w; line = start.line })) k
@@ -207,6 +208,7 @@ begins_so o xs s (break_jump t m e k c) = keyword_begins (codes "break") (λ lin
 begins_so o xs s (continue_jump t m e k c) = keyword_begins (codes "continue") (λ line. refl) xs t _ e k
 begins_so o xs s (print t opened string bytes inner closed m e k a b c d w) = keyword_begins (codes "printf") (λ line. refl) xs t _ e k
 begins_so o xs s (task front back e w v) = front_begins begins_statement xs front back e (pragma_begins front _ w)
+begins_so o xs s (task_loop front middle back e w l v) = front_begins begins_statement xs front (middle ++ back) e (pragma_begins front _ w)
 begins_so o xs s (task_wait w) = pragma_begins xs _ w
 begins_so o xs s (release w) = pragma_begins xs _ w
 

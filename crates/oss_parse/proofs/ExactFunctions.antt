@@ -296,11 +296,11 @@ mark_into xs m w = let s = w.whole.before in let k = w.whole.behind in let c = k
       mark = record { clauses = k.part.1.0; line = s.token.line };
       some = ap (λ line. Some (record { clauses = k.part.1.0; line = line })) is.same ∙ (ap mark_in k.made ∙ w.made);
       pragma = task s.token c.opened c.inner c.closed (w.whole.split ∙ (ap (λ ys. ys ++ w.whole.back) s.only ∙ ap (λ ys. s.token ∷ ys) c.split)) is.what
-          (word_told (codes "task") c.opened k.part.0 c.opens) (end_is c.closed.what c.closed.line (ap is_some c.closes)) c.inside.clauses c.inside.once;
+          (word_told (codes "task") c.opened k.part.0 c.opens) (end_is c.closed.what c.closed.line (ap is_some c.closes)) c.inside.clauses c.inside.once c.inside.bare;
     }
 
 mark_back_by : (xs : List Token) (mark : TaskMark) → IsPragma xs (directive.Task mark) → MarkRead xs (Some mark)
-mark_back_by xs mark (task {clauses = cs} start word inner end e s k n w once) = record {
+mark_back_by xs mark (task {clauses = cs} start word inner end e s k n w once bare) = record {
   part = directive.Task (record { clauses = cs; line = start.line });
   made = refl;
   whole = record {
@@ -312,7 +312,7 @@ mark_back_by xs mark (task {clauses = cs} start word inner end e s k n w once) =
     behind = record {
       part = (word.line, (cs, end.line));
       made = refl;
-      whole = record { opened = word; inner = inner; closed = end; split = refl; opens = tells_word (codes "task") word k; closes = ap (λ k. end_in k end.line) n; inside = record { clauses = w; once = once } };
+      whole = record { opened = word; inner = inner; closed = end; split = refl; opens = tells_word (codes "task") word k; closes = ap (λ k. end_in k end.line) n; inside = record { clauses = w; once = once; bare = bare } };
     };
   };
 }
@@ -327,7 +327,7 @@ task_viable line = record {
   member = record {
     part = (0, ([], 0));
     made = refl;
-    whole = record { opened = record { what = kinds.Name (codes "task"); line = 0 }; inner = []; closed = record { what = kinds.PragmaEnd; line = 0 }; split = refl; opens = refl; closes = refl; inside = record { clauses = no_clause refl; once = once_none } };
+    whole = record { opened = record { what = kinds.Name (codes "task"); line = 0 }; inner = []; closed = record { what = kinds.PragmaEnd; line = 0 }; split = refl; opens = refl; closes = refl; inside = record { clauses = no_clause refl; once = once_none; bare = refl } };
   };
 }
 
@@ -340,11 +340,11 @@ module _ {expression : Reader Expr} {X : List Token → Token → Type 0} (part 
 
   mark_place : (xs back : List Token) (start word : Token) (t : Token) → xs ≡ start ∷ word ∷ back → start.what ≡ kinds.PragmaOss → IsWord (codes "task") word → (x : IsExcessBehind OpensClauses X back t) → OpensClauses x.front
       → IsExcessBehind OpensMark X xs t
-  mark_place xs back start word t e s k x (behind_clauses front left b w once o) = record {
+  mark_place xs back start word t e s k x (behind_clauses front left b w once bare o) = record {
     front = start ∷ word ∷ x.front;
     inner = x.inner;
     split = e ∙ ap (λ ys. start ∷ word ∷ ys) x.split;
-    opens = in_mark start word front left (ap (λ ys. start ∷ word ∷ ys) b) s k w once o;
+    opens = in_mark start word front left (ap (λ ys. start ∷ word ∷ ys) b) s k w once bare o;
     excess = x.excess;
   }
 
@@ -354,14 +354,14 @@ module _ {expression : Reader Expr} {X : List Token → Token → Type 0} (part 
       mark_place xs d.back s.token d.token t (e ∙ (ap (λ ys. ys ++ back) s.only ∙ ap (λ ys. s.token ∷ ys) d.split)) (start_is s.token.what s.token.line line s.passes).what (word_told (codes "task") d.token d.value d.passes) d.deep d.deep.opens
 
   mark_upper_by : (xs before inner : List Token) (t : Token) → xs ≡ before ++ inner → X inner t → OpensMark before → MarkDeep xs t
-  mark_upper_by xs before inner t e x (in_mark start word front back b s k w once o) =
+  mark_upper_by xs before inner t e x (in_mark start word front back b s k w once bare o) =
       ThenDeep.in_second (start ∷ []) (word ∷ ((front ++ back) ++ inner)) start.line (e ∙ ap (λ ys. ys ++ inner) b) (one_start start s) (record {
         token = word;
         back = (front ++ back) ++ inner;
         value = word.line;
         split = refl;
         passes = tells_word (codes "task") word k;
-        deep = record { front = front ++ back; inner = inner; split = refl; opens = behind_clauses front back refl w once o; excess = x };
+        deep = record { front = front ++ back; inner = inner; split = refl; opens = behind_clauses front back refl w once bare o; excess = x };
       })
 
   mark_upper : (xs : List Token) (t : Token) → IsExcessBehind OpensMark X xs t → MarkDeep xs t

@@ -4,6 +4,7 @@ pub mod ExactDeclarations
 pub mod ExactFunctions
 pub mod ExactGlobals
 pub mod ExactKinds
+pub mod ExactLoopHeads
 pub mod ExactPrograms
 pub mod ExactSimple
 pub mod FormLemmas

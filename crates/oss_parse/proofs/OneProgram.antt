@@ -10,11 +10,11 @@ use Rattle.oss_grammar.specs.Levels.{Begins, IsExcessBehind}
 use Rattle.oss_grammar.specs.Parsing.{programs, end_line, RefusesText, IsParsedOnce, IsTextRefusal, IsProgramText}
 use Rattle.oss_grammar.specs.Parsing.IsTextRefusal.{by_tokens, by_grammar}
 use Rattle.oss_grammar.specs.Pragmas.{IsPragma}
-use Rattle.oss_grammar.specs.Pragmas.IsPragma.{task, wait_all, wait_on, release}
+use Rattle.oss_grammar.specs.Pragmas.IsPragma.{task, task_loop, wait_all, wait_on, release}
 use Rattle.oss_grammar.specs.Programs.{IsProgram}
 use Rattle.oss_grammar.specs.Refusals.{HasOneValue, IsWithin}
 use Rattle.oss_grammar.specs.StatementLimits.{IsStatementExcess, IsItemExcess, IsItemsExcess}
-use Rattle.oss_grammar.specs.StatementLimits.IsStatementExcess.{no_level, in_expression, under_if, under_else, under_while, under_for, under_task}
+use Rattle.oss_grammar.specs.StatementLimits.IsStatementExcess.{no_level, in_expression, under_if, under_else, under_while, under_for, under_task, under_task_loop}
 use Rattle.oss_grammar.specs.StatementLimits.IsStatementExcess.{in_block as inside_block}
 use Rattle.oss_grammar.specs.StatementLimits.IsItemExcess.{no_item_level, in_declaration, in_statement}
 use Rattle.oss_grammar.specs.StatementLimits.IsItemsExcess.{first_item, later_item}
@@ -31,7 +31,8 @@ use Rattle.oss_parse.proofs.ExactStatements.{exact_items, items_end}
 
 -- a pragma has tokens
 pragma_long : (xs : List Token) (d : Directive) → IsPragma xs d → 0 < length xs
-pragma_long xs d (task start word inner end e k w z c o) = let size : length xs ≡ suc (suc (length (inner ++ (end ∷ [])))) = ap length e in omega arith
+pragma_long xs d (task start word inner end e k w z c o g) = let size : length xs ≡ suc (suc (length (inner ++ (end ∷ [])))) = ap length e in omega arith
+pragma_long xs d (task_loop start word inner end e k w z c o) = let size : length xs ≡ suc (suc (length (inner ++ (end ∷ [])))) = ap length e in omega arith
 pragma_long xs d (wait_all start word end e k w z) = let size : length xs ≡ 3 = ap length e in omega arith
 pragma_long xs d (wait_on start word on opened inner closed end e k w z o c f g) = let size : length xs ≡ suc (suc (suc (suc (length (inner ++ (closed ∷ end ∷ [])))))) = ap length e in omega arith
 pragma_long xs d (release start word front back end e k w z f m) = let size : length xs ≡ suc (suc (length (front ++ (back ++ (end ∷ []))))) = ap length e in omega arith
@@ -64,6 +65,11 @@ module _ (X : List Token → Token → Type 0) (most : ℕ) (long : (inner : Lis
     statement_long n xs t small (under_task {n = m} front back e p d) =
         let more : m ≤ length back = statement_long m back t (omega arith) d in
         let size : length xs ≡ length front + length back = ap length e ∙ length-append front back in
+        let some : 0 < length front = pragma_long front _ p in omega arith
+    statement_long n xs t small (under_task_loop {n = m} front middle back e p l d) =
+        let more : m ≤ length back = statement_long m back t (omega arith) d in
+        let size : length xs ≡ length front + length (middle ++ back) = ap length e ∙ length-append front (middle ++ back) in
+        let rest : length (middle ++ back) ≡ length middle + length back = length-append middle back in
         let some : 0 < length front = pragma_long front _ p in omega arith
 
     item_long : (n : ℕ) (xs : List Token) (t : Token) → n ≤ most → IsItemExcess X n xs t → n ≤ length xs

@@ -7,6 +7,7 @@ use Rattle.oss_syntax.specs.declared.token.TokenKind.TheVariants as kinds
 use Rattle.oss_syntax.specs.declared.tree.expr.Expr.{Expr}
 use Rattle.oss_syntax.specs.declared.tree.pragma.Directive.{Directive}
 use Rattle.oss_syntax.specs.declared.tree.pragma.Directive.TheVariants as directive
+use Rattle.oss_syntax.specs.declared.tree.pragma.TaskMark.{TaskMark}
 use Rattle.oss_syntax.specs.declared.tree.stmt.Stmt.{Stmt}
 use Rattle.oss_grammar.specs.Expressions.{IsWhole, IsArgumentList}
 use Rattle.oss_grammar.specs.Grammar.{Mapped, Either}
@@ -15,8 +16,8 @@ use Rattle.oss_grammar.specs.Pragmas.{IsPragma}
 use Rattle.oss_grammar.specs.Reading.{Reader, has, never}
 use Rattle.oss_grammar.specs.SimpleStatements.{IsSimple, IsDeclaration, first_line}
 use Rattle.oss_grammar.specs.StatementLimits.{OpensSimple, OpensStatement, IsStatementExcess, IsItemsExcess}
-use Rattle.oss_grammar.specs.StatementLimits.IsStatementExcess.{in_expression, under_if, under_else, under_while, under_for, under_task}
-use Rattle.oss_grammar.specs.StatementLimits.OpensStatement.{in_if_test, in_while_test, in_for_declaration, in_for_first, in_for_test, in_for_last, in_return, in_print, in_pragma}
+use Rattle.oss_grammar.specs.StatementLimits.IsStatementExcess.{in_expression, under_if, under_else, under_while, under_for, under_task, under_task_loop}
+use Rattle.oss_grammar.specs.StatementLimits.OpensStatement.{in_if_test, in_while_test, in_for_declaration, in_for_first, in_for_test, in_for_last, in_return, in_print, in_pragma, in_loop_head}
 use Rattle.oss_grammar.specs.Statements.{IsStmt, IsAnyStmt, IsItems, IsMaybeWhole, IsMaybeSimple, IsForFirst, IsPrinted}
 use Rattle.oss_grammar.specs.Statements.IsPrinted.{nothing_printed, values_printed}
 use Rattle.oss_grammar.specs.Expressions.IsArgumentList.{last_argument, next_argument}
@@ -77,6 +78,9 @@ module _ {expression : Reader Expr} {X : List Token → Token → Type 0} (part 
 
   abbrev PrintDeep : List Token → Token → Type 0
   PrintDeep = forms.PrintDeep part first directed first_directed inside brace_ends below first_below
+
+  abbrev TaskLoopDeep : TaskMark → List Token → Token → Type 0
+  TaskLoopDeep = forms.TaskLoopDeep part first directed first_directed inside brace_ends below first_below
 
   abbrev LinedPragma : List Token → Directive × ℕ → Type 0
   LinedPragma = forms.LinedPragma part first directed first_directed inside brace_ends below first_below
@@ -290,8 +294,19 @@ module _ {expression : Reader Expr} {X : List Token → Token → Type 0} (part 
   jump_deeper : (word : List ℕ) (xs : List Token) (t : Token) → JumpDeep word xs t → Excess xs t
   jump_deeper word xs t d = nowhere d.back t d.deep
 
+  task_loop_deeper : (xs front back : List Token) (m : TaskMark) (t : Token) → xs ≡ front ++ back → IsPragma front (directive.TaskLoop m) → TaskLoopDeep m back t → Excess xs t
+  task_loop_deeper xs front back m t e p (in_first x) = in_expression (record {
+    front = front ++ x.front;
+    inner = x.inner;
+    split = e ∙ (ap (λ ys. front ++ ys) x.split ∙ sym (append_assoc front x.front x.inner));
+    opens = in_loop_head front x.front refl p x.opens;
+    excess = x.excess;
+  })
+  task_loop_deeper xs front back m t e p (in_second middle rest h z l d) = under_task_loop front middle rest (e ∙ ap (λ ys. front ++ ys) z) p l d
+
   directed_deeper : (xs front back : List Token) (d : Directive) (line : ℕ) (t : Token) → xs ≡ front ++ back → LinedPragma front (d, line) → DirectedDeep (d, line) back t → Excess xs t
   directed_deeper xs front back (directive.Task m) line t e w x = under_task front back e w.is x
+  directed_deeper xs front back (directive.TaskLoop m) line t e w x = task_loop_deeper xs front back m t e w.is x
   directed_deeper xs front back (directive.TaskWait sections) line t e w x = nowhere back t x
   directed_deeper xs front back (directive.Release clauses) line t e w x = nowhere back t x
 
@@ -399,6 +414,9 @@ module _ {expression : Reader Expr} {X : List Token → Token → Type 0} (part 
       }))))))))))
   opens_upper xs before inner t e x (in_pragma o) =
       other_deep (other_deep (other_deep (other_deep (other_deep (other_deep (other_deep (other_deep (other_deep (other_deep (in_first (record { front = before; inner = inner; split = e; opens = o; excess = x })))))))))))
+  opens_upper xs before inner t e x (in_loop_head {mark = m} front back b p o) =
+      other_deep (other_deep (other_deep (other_deep (other_deep (other_deep (other_deep (other_deep (other_deep (other_deep (in_second front (back ++ inner) (directive.TaskLoop m, first_line front) (e ∙ (ap (λ ys. ys ++ inner) b ∙ append_assoc front back inner)) (record { is = p; at = refl })
+      (in_first (record { front = back; inner = inner; split = refl; opens = o; excess = x }))))))))))))
 
   all_upper : (xs : List Token) (t : Token) → Excess xs t → AllDeep xs t
   all_upper xs t (in_expression x) = opens_upper xs x.front x.inner t x.split x.excess x.opens
@@ -415,6 +433,8 @@ module _ {expression : Reader Expr} {X : List Token → Token → Type 0} (part 
       (split_of_for xs w opened start m middle other end closed front e) (for_head_of f test l w opened start m middle other end closed k o c z b a v u) d))))))
   all_upper xs t (under_task {mark = m} front back e p d) =
       other_deep (other_deep (other_deep (other_deep (other_deep (other_deep (other_deep (other_deep (other_deep (other_deep (in_second front back (directive.Task m, first_line front) e (record { is = p; at = refl }) d))))))))))
+  all_upper xs t (under_task_loop {mark = m} {head = h} front middle back e p l d) =
+      other_deep (other_deep (other_deep (other_deep (other_deep (other_deep (other_deep (other_deep (other_deep (other_deep (in_second front (middle ++ back) (directive.TaskLoop m, first_line front) e (record { is = p; at = refl }) (in_second middle back h refl l d)))))))))))
 
   -- a statement is read exactly
   pub statement_ending : Ending otherwise (read_statement expression pragma items sub) IsAnyStmt (IsStmt false) (IsStatementExcess X (suc n))

@@ -7,6 +7,7 @@ use Rattle.oss_syntax.specs.declared.token.TokenKind.TheVariants as kinds
 use Rattle.oss_syntax.specs.declared.tree.expr.Expr.{Expr}
 use Rattle.oss_syntax.specs.declared.tree.pragma.Directive.{Directive}
 use Rattle.oss_syntax.specs.declared.tree.pragma.Directive.TheVariants as directive
+use Rattle.oss_syntax.specs.declared.tree.pragma.TaskMark.{TaskMark}
 use Rattle.oss_syntax.specs.declared.tree.stmt.Stmt.{Stmt}
 use Rattle.oss_syntax.specs.declared.tree.stmt.StmtKind.TheVariants as stmts
 use Rattle.oss_grammar.specs.Expressions.{IsWhole, operator_of, prefix_of}
@@ -17,8 +18,8 @@ use Rattle.oss_grammar.specs.Levels.{IsExcessBehind, OpensPragma}
 use Rattle.oss_grammar.specs.Pragmas.{IsPragma}
 use Rattle.oss_grammar.specs.Reading.{Reader, has, never, one_of, read_one, read_then, read_nothing, read_mapped, read_both, read_either}
 use Rattle.oss_grammar.specs.SimpleStatements.{IsSimple, step_of}
-use Rattle.oss_grammar.specs.StatementLimits.{OpensSimple, IsStatementExcess, IsItemsExcess}
-use Rattle.oss_grammar.specs.Statements.{IsStmt, IsAnyStmt, IsItems}
+use Rattle.oss_grammar.specs.StatementLimits.{OpensSimple, OpensLoopHead, IsStatementExcess, IsItemsExcess}
+use Rattle.oss_grammar.specs.Statements.{IsStmt, IsAnyStmt, IsItems, IsLoopHead}
 use Rattle.oss_grammar.specs.Statements.IsItems.{no_item}
 use Rattle.oss_grammar.proofs.Parts.{Exact, Begun}
 use Rattle.oss_grammar.proofs.PartLemmas.{Nowhere, Nothing, exact_one, begun_one, exact_nothing, exact_mapped, begun_mapped, Then, ThenDeep, begun_then, EitherDeep, begun_either}
@@ -28,13 +29,14 @@ use Rattle.oss_pragma.proofs.ExactPairs.{Headed, HeadedDeep, exact_headed, begun
 use Rattle.oss_pragma.proofs.TokenLemmas.{goes_on, on_symbol, has_symbol, not_symbol, not_keyword, begins_never}
 use Rattle.oss_parse.specs.SimpleReading.{read_simple, begins_simple}
 use Rattle.oss_parse.specs.declared.forms.ForParts.{ForParts}
-use Rattle.oss_parse.specs.StatementReading.{text_in, text_at, block_of, empty_at, if_of, if_else_of, while_of, for_of, return_of, break_at, continue_at, print_of, task_of, read_block, read_empty, read_simple_statement, read_if, read_branches, read_while, read_for, read_return, read_break, read_continue, read_print, read_directed, read_lined, read_pragma_statement, read_keyword_statement, read_statement, read_printed, begins_keyword_statement, begins_statement}
+use Rattle.oss_parse.specs.StatementReading.{text_in, text_at, block_of, empty_at, if_of, if_else_of, while_of, for_of, return_of, break_at, continue_at, print_of, task_of, task_loop_of, read_block, read_empty, read_simple_statement, read_if, read_branches, read_while, read_for, read_return, read_break, read_continue, read_print, read_task_loop_statement, read_directed, read_lined, read_pragma_statement, read_keyword_statement, read_statement, read_printed, begins_keyword_statement, begins_statement}
 use Rattle.oss_parse.specs.StatementReading as reading
 use Rattle.oss_pragma.specs.ExpressionReading.{former, latter}
 use Rattle.oss_parse.proofs.BranchLemmas.{otherwise, Branches, ClosedBranches, BranchesDeep, ending_branches}
 use Rattle.oss_parse.proofs.BranchLemmas.Branches.{one_branch, two_branches}
 use Rattle.oss_parse.proofs.EndingLemmas.{Ending, ending_closed, ending_mapped, ending_then, ending_either}
 use Rattle.oss_parse.proofs.ExactDeclarations.{exact_declaration, begun_declaration, simple_ends}
+use Rattle.oss_parse.proofs.ExactLoopHeads.{exact_loop_head, begun_loop_head}
 use Rattle.oss_parse.proofs.ExactSimple.{exact_simple, begun_simple, semicolon_ends}
 use Rattle.oss_parse.proofs.FormLemmas as form
 
@@ -292,36 +294,52 @@ module _ {expression : Reader Expr} {X : List Token → Token → Type 0} (part 
   unfolding read_print word
   print_form = form_closed (exact_mapped print_of (exact_headed (keyword_at (codes "printf")) behind_strings (word (codes "printf")) 0 refl some_behind)) (begun_mapped print_of (begun_headed (keyword_at (codes "printf")) behind_strings))
 
-  -- task stmt | taskwait | release
+  -- the head of a task loop, and a statement
+  abbrev pub TaskLoopText : TaskMark → (List Token → Stmt → Type 0) → List Token → Stmt → Type 0
+  TaskLoopText m U = Then (IsLoopHead m) (λ h. Mapped (task_loop_of m h) U)
+
+  abbrev pub TaskLoopDeep : TaskMark → List Token → Token → Type 0
+  TaskLoopDeep m = ThenDeep (IsExcessBehind OpensLoopHead X) (IsLoopHead m) (λ h. IsStatementExcess X n)
+
+  task_loop_form : (m : TaskMark) → Form (read_task_loop_statement expression sub m) (TaskLoopText m IsAnyStmt) (TaskLoopText m (IsStmt false)) (TaskLoopDeep m) (has (keyword_at (codes "for")))
+  unfolding read_task_loop_statement
+  task_loop_form m = headed_form (exact_loop_head part first m) (begun_loop_head part first m) (task_loop_of m)
+
+  -- task stmt | taskloop head stmt | taskwait | release
   abbrev pub LinedPragma : List Token → Directive × ℕ → Type 0
   LinedPragma = form.Lined directed first_directed
 
   abbrev pub DirectedText : (List Token → Stmt → Type 0) → Directive × ℕ → List Token → Stmt → Type 0
   DirectedText U (directive.Task mark, line) = Mapped (task_of mark) U
+  DirectedText U (directive.TaskLoop mark, line) = TaskLoopText mark U
   DirectedText U (directive.TaskWait sections, line) = Nothing (record { what = stmts.TaskWait sections; line = line })
   DirectedText U (directive.Release clauses, line) = Nothing (record { what = stmts.Release clauses; line = line })
 
   abbrev pub DirectedDeep : Directive × ℕ → List Token → Token → Type 0
   DirectedDeep (directive.Task mark, line) = IsStatementExcess X n
+  DirectedDeep (directive.TaskLoop mark, line) = TaskLoopDeep mark
   DirectedDeep (directive.TaskWait sections, line) = Nowhere
   DirectedDeep (directive.Release clauses, line) = Nowhere
 
   ending_nothing : (s : Stmt) → Ending otherwise (read_nothing s) (Nothing s) (Nothing s) Nowhere
   ending_nothing s = ending_closed otherwise (exact_nothing s never)
 
-  directed_tail : (d : Directive × ℕ) → Ending otherwise (read_directed sub d) (DirectedText IsAnyStmt d) (DirectedText (IsStmt false) d) (DirectedDeep d)
+  directed_tail : (d : Directive × ℕ) → Ending otherwise (read_directed expression sub d) (DirectedText IsAnyStmt d) (DirectedText (IsStmt false) d) (DirectedDeep d)
   unfolding read_directed
   directed_tail (directive.Task mark, line) = ending_mapped otherwise (task_of mark) below
+  directed_tail (directive.TaskLoop mark, line) = (task_loop_form mark).ending
   directed_tail (directive.TaskWait sections, line) = ending_nothing (record { what = stmts.TaskWait sections; line = line })
   directed_tail (directive.Release clauses, line) = ending_nothing (record { what = stmts.Release clauses; line = line })
 
   some_directed : (d : Directive × ℕ) → Viable (DirectedText IsAnyStmt d) []
   some_directed (directive.Task mark, line) = some_mapped (task_of mark)
+  some_directed (directive.TaskLoop mark, line) = let form = task_loop_form mark in pairs.some_text form.ending.whole form.first
   some_directed (directive.TaskWait sections, line) = record { more = []; value = record { what = stmts.TaskWait sections; line = line }; member = record { nothing = refl; same = refl } }
   some_directed (directive.Release clauses, line) = record { more = []; value = record { what = stmts.Release clauses; line = line }; member = record { nothing = refl; same = refl } }
 
   directed_inside : (d : Directive × ℕ) (xs : List Token) (s : Stmt) → DirectedText (IsStmt false) d xs s → DirectedText IsAnyStmt d xs s
   directed_inside (directive.Task mark, line) xs s w = mapped_inside (task_of mark) xs s w
+  directed_inside (directive.TaskLoop mark, line) xs s w = (task_loop_form mark).inside xs s w
   directed_inside (directive.TaskWait sections, line) xs s w = w
   directed_inside (directive.Release clauses, line) xs s w = w
 
@@ -334,7 +352,7 @@ module _ {expression : Reader Expr} {X : List Token → Token → Type 0} (part 
   lined : Exact {A = Directive × ℕ} (read_lined pragma) LinedPragma (IsExcessBehind OpensPragma X) never
   lined = form.exact_lined directed first_directed
 
-  pragma_form : Form (read_pragma_statement pragma sub) (PragmaText IsAnyStmt) (PragmaText (IsStmt false)) PragmaDeep (has start_at)
+  pragma_form : Form (read_pragma_statement expression pragma sub) (PragmaText IsAnyStmt) (PragmaText (IsStmt false)) PragmaDeep (has start_at)
   unfolding read_pragma_statement
   pragma_form = record {
     ending = ending_then otherwise lined directed_tail some_directed;
@@ -352,11 +370,11 @@ module _ {expression : Reader Expr} {X : List Token → Token → Type 0} (part 
   abbrev has_word : List ℕ → Token → Bool
   has_word s = has (keyword_at s)
 
-  from_print : Form (read_either (has_word (codes "printf")) (read_print expression) (read_pragma_statement pragma sub)) (Either PrintText (PragmaText IsAnyStmt)) (Either PrintText (PragmaText (IsStmt false))) (EitherDeep PrintDeep PragmaDeep)
+  from_print : Form (read_either (has_word (codes "printf")) (read_print expression) (read_pragma_statement expression pragma sub)) (Either PrintText (PragmaText IsAnyStmt)) (Either PrintText (PragmaText (IsStmt false))) (EitherDeep PrintDeep PragmaDeep)
       (one_of (has_word (codes "printf")) (has start_at))
   from_print = form_either (has_word (codes "printf")) print_form pragma_form (λ t e. not_keyword (has start_at) (codes "printf") (λ line. refl) t e)
 
-  from_continue : Form (read_either (has_word (codes "continue")) read_continue (read_either (has_word (codes "printf")) (read_print expression) (read_pragma_statement pragma sub)))
+  from_continue : Form (read_either (has_word (codes "continue")) read_continue (read_either (has_word (codes "printf")) (read_print expression) (read_pragma_statement expression pragma sub)))
       (Either (JumpText (codes "continue") continue_at) (Either PrintText (PragmaText IsAnyStmt))) (Either (JumpText (codes "continue") continue_at) (Either PrintText (PragmaText (IsStmt false))))
       (EitherDeep (JumpDeep (codes "continue")) (EitherDeep PrintDeep PragmaDeep)) (one_of (has_word (codes "continue")) (one_of (has_word (codes "printf")) (has start_at)))
   from_continue = form_either (has_word (codes "continue")) continue_form from_print (λ t e. not_keyword (one_of (has_word (codes "printf")) (has start_at)) (codes "continue") (λ line. refl) t e)
@@ -368,7 +386,7 @@ module _ {expression : Reader Expr} {X : List Token → Token → Type 0} (part 
   BreakText U = Either (JumpText (codes "break") break_at) (Either (JumpText (codes "continue") continue_at) (Either PrintText (PragmaText U)))
 
   abbrev read_from_break : Reader Stmt
-  read_from_break = read_either (has_word (codes "break")) read_break (read_either (has_word (codes "continue")) read_continue (read_either (has_word (codes "printf")) (read_print expression) (read_pragma_statement pragma sub)))
+  read_from_break = read_either (has_word (codes "break")) read_break (read_either (has_word (codes "continue")) read_continue (read_either (has_word (codes "printf")) (read_print expression) (read_pragma_statement expression pragma sub)))
 
   from_break : Form read_from_break (BreakText IsAnyStmt) (BreakText (IsStmt false)) (EitherDeep (JumpDeep (codes "break")) (EitherDeep (JumpDeep (codes "continue")) (EitherDeep PrintDeep PragmaDeep))) from_break_starts
   from_break = form_either (has_word (codes "break")) break_form from_continue

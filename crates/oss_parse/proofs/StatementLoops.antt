@@ -4,20 +4,22 @@ use Rattle.oss_syntax.specs.declared.token.Token.{Token}
 use Rattle.oss_syntax.specs.declared.tree.expr.Expr.{Expr}
 use Rattle.oss_syntax.specs.declared.tree.pragma.Directive.{Directive}
 use Rattle.oss_syntax.specs.declared.tree.pragma.Directive.TheVariants as directive
+use Rattle.oss_syntax.specs.declared.tree.pragma.TaskMark.{TaskMark}
 use Rattle.oss_syntax.specs.declared.tree.stmt.Stmt.{Stmt}
 use Rattle.oss_grammar.specs.Reading.{Reader, begins, has, read_one, read_nothing, read_mapped, read_both, read_either}
 use Rattle.oss_grammar.specs.SimpleStatements.{first_line}
 use Rattle.oss_grammar.proofs.Parts.{Taken, IsRead, Exact}
-use Rattle.oss_pragma.specs.TokenValues.{symbol_at, keyword_at, word_at, start_at, begins_expression}
+use Rattle.oss_pragma.specs.TokenValues.{symbol_at, keyword_at, name_at, word_at, start_at, begins_expression}
 use Rattle.oss_pragma.specs.ExpressionReading.{latter, former, and_then, read_expression}
-use Rattle.oss_pragma.specs.PragmaReading.{read_task, read_taskwait, read_release, read_pragma}
+use Rattle.oss_pragma.specs.PragmaReading.{read_task, read_task_loop, read_taskwait, read_release, read_pragma}
 use Rattle.oss_pragma.proofs.StepLoops.{Takes, Keeps, keeps, takes_one, keeps_nothing, takes_mapped, keeps_mapped, takes_then, takes_both, takes_either, keeps_either, keeps_steps, too_deep, Repeats, repeats}
 use Rattle.oss_pragma.proofs.ExpressionLoops.{keeps_more}
 use Rattle.oss_pragma.proofs.ExactExpressions.{exact_expression, begun_expression}
-use Rattle.oss_pragma.proofs.ExactPragmas.{exact_task, exact_taskwait, exact_release}
+use Rattle.oss_pragma.proofs.ExactPragmas.{exact_task, exact_task_loop, exact_taskwait, exact_release}
 use Rattle.oss_parse.specs.Inner.{read_within, read_part, read_parts}
 use Rattle.oss_parse.specs.SimpleReading.{begins_simple, begins_kind}
-use Rattle.oss_parse.specs.StatementReading.{text_at, read_maybe_expression, read_maybe_simple, read_for_first, block_of, empty_at, if_of, if_else_of, while_of, for_of, return_of, break_at, continue_at, print_of, task_of, read_block, read_empty, read_simple_statement, read_head, read_branches, read_if, read_while, for_parts, read_for_parts, read_for_head, read_for, read_return, read_break, read_continue, read_printed, read_print, read_lined, read_directed, read_pragma_statement, read_keyword_statement, read_statement, read_item, begins_statement, begins_item, read_items_by}
+use Rattle.oss_parse.specs.StatementReading.{text_at, read_maybe_expression, read_maybe_simple, read_for_first, block_of, empty_at, if_of, if_else_of, while_of, for_of, return_of, break_at, continue_at, print_of, task_of, task_loop_of, loop_head_of, read_block, read_empty, read_simple_statement, read_head, read_branches, read_if, read_while, for_parts, read_for_parts, read_for_head, read_for, read_return, read_break, read_continue, read_printed, read_print, read_lined, read_loop_variable, read_loop_head, read_task_loop_statement, read_directed, read_pragma_statement, read_keyword_statement, read_statement, read_item, begins_statement, begins_item, read_items_by}
+use Rattle.oss_parse.proofs.ExactLoopHeads.{exact_bounds}
 use Rattle.oss_parse.proofs.SimpleLoops.{keeps_both, takes_expression, takes_between, takes_simple, takes_declaration}
 
 -- an exact reader gives no token back
@@ -35,10 +37,13 @@ keeps_task line = keeps_exact _ _ (exact_task exact_expression begun_expression 
 takes_pragma : Takes (read_pragma read_expression)
 unfolding read_pragma
 takes_pragma = takes_then (λ line.
-    read_either (has (word_at (codes "task"))) (read_task read_expression line) (read_either (has (word_at (codes "taskwait"))) (read_taskwait read_expression) (read_release read_expression)))
+    read_either (has (word_at (codes "task"))) (read_task read_expression line)
+    (read_either (has (word_at (codes "taskloop"))) (read_task_loop read_expression line)
+    (read_either (has (word_at (codes "taskwait"))) (read_taskwait read_expression) (read_release read_expression))))
     (takes_one start_at)
     (λ line. keeps_either (has (word_at (codes "task"))) (keeps_task line)
-    (keeps_either (has (word_at (codes "taskwait"))) (keeps_exact _ _ (exact_taskwait exact_expression begun_expression)) (keeps_exact _ _ (exact_release exact_expression begun_expression))))
+    (keeps_either (has (word_at (codes "taskloop"))) (keeps_exact _ _ (exact_task_loop exact_expression begun_expression line))
+    (keeps_either (has (word_at (codes "taskwait"))) (keeps_exact _ _ (exact_taskwait exact_expression begun_expression)) (keeps_exact _ _ (exact_release exact_expression begun_expression)))))
 
 -- the parts of statements, and the statements that hold no other
 keeps_maybe_expression : Keeps (read_maybe_expression read_expression)
@@ -94,6 +99,14 @@ takes_print : Takes (read_print read_expression)
 unfolding read_print
 takes_print = takes_mapped print_of (takes_both (takes_one (keyword_at (codes "printf"))) (keeps (takes_mapped latter (takes_both (takes_one (symbol_at (codes "("))) (keeps (takes_both (takes_one text_at) keeps_printed))))))
 
+takes_loop_variable : Takes read_loop_variable
+unfolding read_loop_variable
+takes_loop_variable = takes_both (takes_one (keyword_at (codes "for"))) (keeps (takes_mapped latter (takes_both (takes_one (symbol_at (codes "("))) (keeps (takes_mapped latter (takes_both (takes_one (keyword_at (codes "long"))) (keeps (takes_one name_at))))))))
+
+takes_loop_head : (mark : TaskMark) → Takes (read_loop_head read_expression mark)
+unfolding read_loop_head
+takes_loop_head mark = takes_mapped (loop_head_of mark) (takes_both takes_loop_variable (keeps_exact _ _ (exact_bounds exact_expression begun_expression)))
+
 takes_lined : {A : Type 0} {f : Reader A} → Takes f → Takes (read_lined f)
 takes_lined part = record { less = λ ts value rest e. (takes_mapped (λ a. (a, first_line ts)) part).less ts value rest e }
 
@@ -125,15 +138,20 @@ module _ {sub : Reader Stmt} (takes : Takes sub) where
   unfolding read_for
   takes_for = takes_then (λ head. read_mapped (for_of head) sub) takes_for_head (λ head. keeps (takes_mapped (for_of head) takes))
 
-  keeps_directed : (d : Directive × ℕ) → Keeps (read_directed sub d)
+  takes_task_loop : (mark : TaskMark) → Takes (read_task_loop_statement read_expression sub mark)
+  unfolding read_task_loop_statement
+  takes_task_loop mark = takes_then (λ head. read_mapped (task_loop_of mark head) sub) (takes_loop_head mark) (λ head. keeps (takes_mapped (task_loop_of mark head) takes))
+
+  keeps_directed : (d : Directive × ℕ) → Keeps (read_directed read_expression sub d)
   unfolding read_directed
   keeps_directed (directive.Task mark, line) = keeps (takes_mapped (task_of mark) takes)
+  keeps_directed (directive.TaskLoop mark, line) = keeps (takes_task_loop mark)
   keeps_directed (directive.TaskWait sections, line) = keeps_nothing _
   keeps_directed (directive.Release clauses, line) = keeps_nothing _
 
-  takes_pragma_statement : Takes (read_pragma_statement (read_pragma read_expression) sub)
+  takes_pragma_statement : Takes (read_pragma_statement read_expression (read_pragma read_expression) sub)
   unfolding read_pragma_statement
-  takes_pragma_statement = takes_then (read_directed sub) (takes_lined takes_pragma) keeps_directed
+  takes_pragma_statement = takes_then (read_directed read_expression sub) (takes_lined takes_pragma) keeps_directed
 
   takes_keyword_statement : Takes (read_keyword_statement read_expression (read_pragma read_expression) sub)
   unfolding read_keyword_statement

@@ -11,6 +11,7 @@ use Rattle.oss_syntax.specs.declared.tree.pragma.Clause.{Clause}
 use Rattle.oss_syntax.specs.declared.tree.pragma.Directive.TheVariants as directive
 use Rattle.oss_syntax.specs.declared.tree.pragma.Section.{Section}
 use Rattle.oss_syntax.specs.declared.tree.pragma.TaskMark.{TaskMark}
+use Rattle.oss_syntax.specs.declared.tree.stmt.LoopHead.{LoopHead}
 use Rattle.oss_syntax.specs.declared.tree.stmt.Stmt.{Stmt}
 use Rattle.oss_syntax.specs.declared.tree.stmt.StmtKind.TheVariants as stmts
 use Rattle.oss_grammar.specs.Expressions.{IsWhole, IsArgumentList}
@@ -21,8 +22,8 @@ use Rattle.oss_grammar.specs.Pragmas.{IsPragma}
 use Rattle.oss_grammar.specs.Reading.{Reader, has, never}
 use Rattle.oss_grammar.specs.SimpleStatements.{IsSimple, IsDeclaration, first_line}
 use Rattle.oss_grammar.specs.StatementLimits.{IsStatementExcess, IsItemsExcess}
-use Rattle.oss_grammar.specs.Statements.{IsStmt, IsAnyStmt, IsItems, IsMaybeWhole, IsMaybeSimple, IsForFirst, IsPrinted}
-use Rattle.oss_grammar.specs.Statements.IsStmt.{block, empty, simple, if_alone, if_else, while_loop, for_loop, return_jump, break_jump, continue_jump, print, task, task_wait, release}
+use Rattle.oss_grammar.specs.Statements.{IsStmt, IsAnyStmt, IsItems, IsMaybeWhole, IsMaybeSimple, IsForFirst, IsLoopHead, IsPrinted}
+use Rattle.oss_grammar.specs.Statements.IsStmt.{block, empty, simple, if_alone, if_else, while_loop, for_loop, return_jump, break_jump, continue_jump, print, task, task_loop, task_wait, release}
 use Rattle.oss_grammar.specs.Statements.IsMaybeWhole.{no_expression, some_expression}
 use Rattle.oss_grammar.specs.Statements.IsMaybeSimple.{no_simple, some_simple}
 use Rattle.oss_grammar.specs.Statements.IsForFirst.{declared_first, other_first}
@@ -112,6 +113,9 @@ module _ {expression : Reader Expr} {X : List Token → Token → Type 0} (part 
 
   abbrev PrintDeep : List Token → Token → Type 0
   PrintDeep = forms.PrintDeep part first directed first_directed inside brace_ends below first_below
+
+  abbrev TaskLoopText : TaskMark → (List Token → Stmt → Type 0) → List Token → Stmt → Type 0
+  TaskLoopText = forms.TaskLoopText part first directed first_directed inside brace_ends below first_below
 
   abbrev LinedPragma : List Token → Directive × ℕ → Type 0
   LinedPragma = forms.LinedPragma part first directed first_directed inside brace_ends below first_below
@@ -305,8 +309,18 @@ module _ {expression : Reader Expr} {X : List Token → Token → Type 0} (part 
       (symbol_token (codes ")") end.token printed.part.1.0 end.passes) (symbol_token (codes ";") end.behind.token printed.part.1.1 end.behind.passes)
       (subst (λ vs. IsPrinted both.front vs) printed.made (printed_is both.front printed.part.0 both.before)))
 
+  into_task_loop : (o : Bool) (xs front back : List Token) (m : TaskMark) (s : Stmt) → xs ≡ front ++ back → IsPragma front (directive.TaskLoop m) → TaskLoopText m (IsStmt o) back s → IsStmt o xs s
+  into_task_loop o xs front back m s e p w = subst (λ x. IsStmt o xs x) w.behind.made (task_loop front w.front w.back (e ∙ ap (λ ys. front ++ ys) w.split) p w.before w.behind.whole)
+
+  task_loop_any : (xs front back : List Token) (m : TaskMark) (s : Stmt) → xs ≡ front ++ back → IsPragma front (directive.TaskLoop m) → TaskLoopText m IsAnyStmt back s → IsAnyStmt xs s
+  task_loop_any xs front back m s e p w = let v = w.behind.whole in record {
+    ends_open = v.ends_open;
+    is = into_task_loop v.ends_open xs front back m s e p (record { front = w.front; back = w.back; value = w.value; split = w.split; before = w.before; behind = record { part = w.behind.part; made = w.behind.made; whole = v.is } });
+  }
+
   directed_any : (xs front back : List Token) (d : Directive) (line : ℕ) (s : Stmt) → xs ≡ front ++ back → LinedPragma front (d, line) → DirectedText IsAnyStmt (d, line) back s → IsAnyStmt xs s
   directed_any xs front back (directive.Task mark) line s e w v = record { ends_open = v.whole.ends_open; is = subst (λ x. IsStmt v.whole.ends_open xs x) v.made (task front back e w.is v.whole.is) }
+  directed_any xs front back (directive.TaskLoop mark) line s e w v = task_loop_any xs front back mark s e w.is v
   directed_any xs front back (directive.TaskWait sections) line s e w v = let all : xs ≡ front = e ∙ (ap (λ ys. front ++ ys) v.nothing ∙ append-nil front) in record {
     ends_open = false;
     is = subst (λ ys. IsStmt false ys s) (sym all) (subst (λ x. IsStmt false front x) (ap (λ line. record { what = stmts.TaskWait sections; line = line }) w.at ∙ v.same) (task_wait w.is));
@@ -318,6 +332,7 @@ module _ {expression : Reader Expr} {X : List Token → Token → Type 0} (part 
 
   directed_closed : (xs front back : List Token) (d : Directive) (line : ℕ) (s : Stmt) → xs ≡ front ++ back → LinedPragma front (d, line) → DirectedText (IsStmt false) (d, line) back s → IsStmt false xs s
   directed_closed xs front back (directive.Task mark) line s e w v = subst (λ x. IsStmt false xs x) v.made (task front back e w.is v.whole)
+  directed_closed xs front back (directive.TaskLoop mark) line s e w v = into_task_loop false xs front back mark s e w.is v
   directed_closed xs front back (directive.TaskWait sections) line s e w v = let all : xs ≡ front = e ∙ (ap (λ ys. front ++ ys) v.nothing ∙ append-nil front) in
       subst (λ ys. IsStmt false ys s) (sym all) (subst (λ x. IsStmt false front x) (ap (λ line. record { what = stmts.TaskWait sections; line = line }) w.at ∙ v.same) (task_wait w.is))
   directed_closed xs front back (directive.Release clauses) line s e w v = let all : xs ≡ front = e ∙ (ap (λ ys. front ++ ys) v.nothing ∙ append-nil front) in
@@ -580,6 +595,17 @@ module _ {expression : Reader Expr} {X : List Token → Token → Type 0} (part 
   out_task : (U : List Token → Stmt → Type 0) (xs : List Token) (m : TaskMark) (s : Stmt) (front back : List Token) → xs ≡ front ++ back → IsPragma front (directive.Task m) → U back s → PragmaText U xs (record { what = stmts.Task m s; line = m.line })
   out_task U xs m s front back e w v = record { front = front; back = back; value = (directive.Task m, first_line front); split = e; before = record { is = w; at = refl }; behind = record { part = s; made = refl; whole = v } }
 
+  out_task_loop : (U : List Token → Stmt → Type 0) (xs : List Token) (m : TaskMark) (h : LoopHead) (s : Stmt) (front middle back : List Token) → xs ≡ front ++ (middle ++ back)
+      → IsPragma front (directive.TaskLoop m) → IsLoopHead m middle h → U back s → PragmaText U xs (record { what = stmts.TaskLoop h s; line = m.line })
+  out_task_loop U xs m h s front middle back e w l v = record {
+    front = front;
+    back = middle ++ back;
+    value = (directive.TaskLoop m, first_line front);
+    split = e;
+    before = record { is = w; at = refl };
+    behind = record { front = middle; back = back; value = h; split = refl; before = l; behind = record { part = s; made = refl; whole = v } };
+  }
+
   out_wait : (U : List Token → Stmt → Type 0) (xs : List Token) (sections : Option (List Section)) → IsPragma xs (directive.TaskWait sections) → PragmaText U xs (record { what = stmts.TaskWait sections; line = first_line xs })
   out_wait U xs sections w = record { front = xs; back = []; value = (directive.TaskWait sections, first_line xs); split = sym (append-nil xs); before = record { is = w; at = refl }; behind = record { nothing = refl; same = refl } }
 
@@ -604,6 +630,8 @@ module _ {expression : Reader Expr} {X : List Token → Token → Type 0} (part 
       other_way (other_way (other_way (other_way (other_way (other_way (other_way (other_way (other_way (one_way (out_print xs values t opened string bytes inner closed m e k a b c d w))))))))))
   out_all o xs s (task {mark = m} {s = b} front back e w v) =
       other_way (other_way (other_way (other_way (other_way (other_way (other_way (other_way (other_way (other_way (out_task IsAnyStmt xs m b front back e w (record { ends_open = o; is = v })))))))))))
+  out_all o xs s (task_loop {mark = m} {head = h} {s = b} front middle back e w l v) =
+      other_way (other_way (other_way (other_way (other_way (other_way (other_way (other_way (other_way (other_way (out_task_loop IsAnyStmt xs m h b front middle back e w l (record { ends_open = o; is = v })))))))))))
   out_all o xs s (task_wait {sections = sections} w) = other_way (other_way (other_way (other_way (other_way (other_way (other_way (other_way (other_way (other_way (out_wait IsAnyStmt xs sections w))))))))))
   out_all o xs s (release {clauses = clauses} w) = other_way (other_way (other_way (other_way (other_way (other_way (other_way (other_way (other_way (other_way (out_release IsAnyStmt xs clauses w))))))))))
 
@@ -621,5 +649,7 @@ module _ {expression : Reader Expr} {X : List Token → Token → Type 0} (part 
   out_closed xs s (print {values = values} t opened string bytes inner closed m e k a b c d w) =
       other_way (other_way (other_way (other_way (other_way (other_way (other_way (other_way (other_way (one_way (out_print xs values t opened string bytes inner closed m e k a b c d w))))))))))
   out_closed xs s (task {mark = m} {s = b} front back e w v) = other_way (other_way (other_way (other_way (other_way (other_way (other_way (other_way (other_way (other_way (out_task (IsStmt false) xs m b front back e w v))))))))))
+  out_closed xs s (task_loop {mark = m} {head = h} {s = b} front middle back e w l v) =
+      other_way (other_way (other_way (other_way (other_way (other_way (other_way (other_way (other_way (other_way (out_task_loop (IsStmt false) xs m h b front middle back e w l v))))))))))
   out_closed xs s (task_wait {sections = sections} w) = other_way (other_way (other_way (other_way (other_way (other_way (other_way (other_way (other_way (other_way (out_wait (IsStmt false) xs sections w))))))))))
   out_closed xs s (release {clauses = clauses} w) = other_way (other_way (other_way (other_way (other_way (other_way (other_way (other_way (other_way (other_way (out_release (IsStmt false) xs clauses w))))))))))

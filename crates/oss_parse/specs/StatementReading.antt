@@ -1,6 +1,6 @@
 -- How a statement is read from its tokens, from left to right, by readers of expressions and of pragmas. Each reader stands for the
 -- part of the grammar of the same name. Read against: of `if (a) ; else ; }` a statement is read that has both branches, and `}` is
--- left; of `if a ;` reading stops at `a`.
+-- left; of `if a ;` reading stops at `a`; behind the pragma of a task loop, of `for (int i = 0; i < 8; i++) ;` it stops at `int`.
 use Rattle.std.specs.Prelude.{ℕ, zero, suc, Bool, ◌||◌, List, [], codes, Option, Some, None, Ok}
 use Rattle.oss_syntax.specs.declared.token.Token.{Token}
 use Rattle.oss_syntax.specs.declared.token.TokenKind.{TokenKind}
@@ -9,12 +9,16 @@ use Rattle.oss_syntax.specs.declared.tree.expr.Expr.{Expr}
 use Rattle.oss_syntax.specs.declared.tree.pragma.Directive.{Directive}
 use Rattle.oss_syntax.specs.declared.tree.pragma.Directive.TheVariants as directive
 use Rattle.oss_syntax.specs.declared.tree.pragma.TaskMark.{TaskMark}
+use Rattle.oss_syntax.specs.declared.tree.stmt.LoopHead.{LoopHead}
+use Rattle.oss_syntax.specs.declared.tree.stmt.NameUse.{NameUse}
 use Rattle.oss_syntax.specs.declared.tree.stmt.Stmt.{Stmt}
 use Rattle.oss_syntax.specs.declared.tree.stmt.StmtKind.TheVariants as stmts
+use Rattle.oss_grammar.specs.Pragmas.{counter}
 use Rattle.oss_grammar.specs.Reading.{Reader, has, go_on, read_one, read_then, read_nothing, read_mapped, read_both, read_either, read_steps, read_too_deep}
 use Rattle.oss_grammar.specs.SimpleStatements.{first_line}
 use Rattle.oss_pragma.specs.ExpressionReading.{latter, former, middle, and_then, read_more}
-use Rattle.oss_pragma.specs.TokenValues.{symbol_at, keyword_at, start_at, begins_expression}
+use Rattle.oss_pragma.specs.TokenValues.{symbol_at, keyword_at, name_at, start_at, begins_expression}
+use Rattle.oss_pragma.specs.declared.cursor.Named.{Named}
 use Rattle.oss_parse.specs.SimpleReading.{read_simple, begins_simple, read_declaration, begins_kind}
 use Rattle.oss_parse.specs.declared.forms.ForParts.{ForParts}
 
@@ -71,6 +75,9 @@ print_of p = record { what = stmts.Print p.1.0 p.1.1; line = p.0 }
 
 abbrev pub task_of : TaskMark → Stmt → Stmt
 task_of mark s = record { what = stmts.Task mark s; line = mark.line }
+
+abbrev pub task_loop_of : TaskMark → LoopHead → Stmt → Stmt
+task_loop_of mark head s = record { what = stmts.TaskLoop head s; line = mark.line }
 
 -- "{" items "}"
 unfoldable pub read_block : Reader (List Stmt) → Reader Stmt
@@ -141,19 +148,65 @@ unfoldable pub read_print : Reader Expr → Reader Stmt
 read_print expression =
     read_mapped print_of (read_both (read_one (keyword_at (codes "printf"))) (read_mapped latter (read_both (read_one (symbol_at (codes "("))) (read_both (read_one text_at) (read_printed expression)))))
 
+-- A name where it is repeated: `i` of `i <`, with its line.
+abbrev pub use_of : Named × ℕ → NameUse
+use_of p = record { name = p.0.name; line = p.0.line }
+
+-- A name, and this symbol behind it.
+unfoldable pub read_name_use : List ℕ → Reader NameUse
+read_name_use symbol = read_mapped use_of (read_both (read_one name_at) (read_one (symbol_at symbol)))
+
+-- name "++" ")"
+unfoldable pub read_loop_step : Reader NameUse
+read_loop_step = read_mapped former (read_both (read_name_use (codes "++")) (read_one (symbol_at (codes ")"))))
+
+-- ";" name "++" ")"
+unfoldable pub read_loop_last : Reader NameUse
+read_loop_last = read_mapped latter (read_both (read_one (symbol_at (codes ";"))) read_loop_step)
+
+-- name "<" expr ";" name "++" ")"
+unfoldable pub read_loop_test : Reader Expr → Reader (NameUse × (Expr × NameUse))
+read_loop_test expression = read_both (read_name_use (codes "<")) (read_both expression read_loop_last)
+
+-- ";" name "<" expr ";" name "++" ")"
+unfoldable pub read_loop_tested : Reader Expr → Reader (NameUse × (Expr × NameUse))
+read_loop_tested expression = read_mapped latter (read_both (read_one (symbol_at (codes ";"))) (read_loop_test expression))
+
+-- "=" expr ";" name "<" expr ";" name "++" ")"
+unfoldable pub read_loop_bounds : Reader Expr → Reader (Expr × (NameUse × (Expr × NameUse)))
+read_loop_bounds expression = read_mapped latter (read_both (read_one (symbol_at (codes "="))) (read_both expression (read_loop_tested expression)))
+
+-- "for" "(" "long" name, with the line of the first token
+unfoldable pub read_loop_variable : Reader (ℕ × Named)
+read_loop_variable =
+    read_both (read_one (keyword_at (codes "for"))) (read_mapped latter (read_both (read_one (symbol_at (codes "("))) (read_mapped latter (read_both (read_one (keyword_at (codes "long"))) (read_one name_at)))))
+
+-- The head of a task loop, of its parts. Of `for (long i = 1; i < 8; i++)` the variable is `i` with the first value 1, and the end is 8.
+abbrev pub loop_head_of : TaskMark → (ℕ × Named) × (Expr × (NameUse × (Expr × NameUse))) → LoopHead
+loop_head_of mark p = record { mark = mark; variable = counter p.0.1.name p.1.0 p.0.1.line; tested = p.1.1.0; end = p.1.1.1.0; stepped = p.1.1.1.1; for_line = p.0.0 }
+
+-- "for" "(" "long" name "=" expr ";" name "<" expr ";" name "++" ")", behind the pragma of a task loop
+unfoldable pub read_loop_head : Reader Expr → TaskMark → Reader LoopHead
+read_loop_head expression mark = read_mapped (loop_head_of mark) (read_both read_loop_variable (read_loop_bounds expression))
+
+-- head stmt, behind the pragma of a task loop
+unfoldable pub read_task_loop_statement : Reader Expr → Reader Stmt → TaskMark → Reader Stmt
+read_task_loop_statement expression sub mark = read_then (read_loop_head expression mark) (λ head. read_mapped (task_loop_of mark head) sub)
+
 -- A part, with the line of its first token.
 abbrev pub read_lined : {A : Type 0} → Reader A → Reader (A × ℕ)
 read_lined f ts = go_on (f ts) (λ a rest. Ok ((a, first_line ts), rest))
 
--- What follows a pragma: a statement behind the pragma of a task.
-unfoldable pub read_directed : Reader Stmt → Directive × ℕ → Reader Stmt
-read_directed sub (directive.Task mark, line) = read_mapped (task_of mark) sub
-read_directed sub (directive.TaskWait sections, line) = read_nothing (record { what = stmts.TaskWait sections; line = line })
-read_directed sub (directive.Release clauses, line) = read_nothing (record { what = stmts.Release clauses; line = line })
+-- What follows a pragma: a statement behind the pragma of a task, and a loop behind that of a task loop.
+unfoldable pub read_directed : Reader Expr → Reader Stmt → Directive × ℕ → Reader Stmt
+read_directed expression sub (directive.Task mark, line) = read_mapped (task_of mark) sub
+read_directed expression sub (directive.TaskLoop mark, line) = read_task_loop_statement expression sub mark
+read_directed expression sub (directive.TaskWait sections, line) = read_nothing (record { what = stmts.TaskWait sections; line = line })
+read_directed expression sub (directive.Release clauses, line) = read_nothing (record { what = stmts.Release clauses; line = line })
 
--- task stmt | taskwait | release
-unfoldable pub read_pragma_statement : Reader Directive → Reader Stmt → Reader Stmt
-read_pragma_statement pragma sub = read_then (read_lined pragma) (read_directed sub)
+-- task stmt | taskloop head stmt | taskwait | release
+unfoldable pub read_pragma_statement : Reader Expr → Reader Directive → Reader Stmt → Reader Stmt
+read_pragma_statement expression pragma sub = read_then (read_lined pragma) (read_directed expression sub)
 
 -- Statements that begin with a keyword, and then those that begin with a pragma.
 unfoldable pub read_keyword_statement : Reader Expr → Reader Directive → Reader Stmt → Reader Stmt
@@ -164,7 +217,7 @@ read_keyword_statement expression pragma sub =
     (read_either (has (keyword_at (codes "return"))) (read_return expression)
     (read_either (has (keyword_at (codes "break"))) read_break
     (read_either (has (keyword_at (codes "continue"))) read_continue
-    (read_either (has (keyword_at (codes "printf"))) (read_print expression) (read_pragma_statement pragma sub)))))))
+    (read_either (has (keyword_at (codes "printf"))) (read_print expression) (read_pragma_statement expression pragma sub)))))))
 
 -- A statement, where `items` reads what stands in a block, and `sub` the statements inside it.
 unfoldable pub read_statement : Reader Expr → Reader Directive → Reader (List Stmt) → Reader Stmt → Reader Stmt

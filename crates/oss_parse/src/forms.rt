@@ -6,13 +6,15 @@ ghost use Rattle.oss_pragma.specs.ExpressionReading.{former, read_brackets, read
 ghost use Rattle.oss_pragma.specs.TokenValues.{symbol_at};
 ghost use Rattle.oss_pragma.specs.Told.{ReadsAs};
 ghost use Rattle.oss_parse.specs.SimpleReading.{read_declaration};
-ghost use Rattle.oss_parse.specs.StatementReading.{read_break, read_continue, read_empty, read_for_first, read_for_head, read_for_parts, read_head, read_maybe_expression, read_maybe_simple, read_print, read_printed, read_return, read_simple_statement};
+ghost use Rattle.oss_parse.specs.StatementReading.{read_break, read_continue, read_empty, read_for_first, read_for_head, read_for_parts, read_head, read_loop_bounds, read_loop_head, read_loop_last, read_loop_test, read_loop_tested, read_loop_variable, read_maybe_expression, read_maybe_simple, read_name_use, read_print, read_printed, read_return, read_simple_statement};
 
 use crate::beginnings::{begins_with_kind, begins_with_simple};
 use crate::simple::{declaration, more_values, simple};
 use crate::tokens::{keyword, text};
-use oss_pragma::reading::{Cursor, Unread, brackets, expression};
-use oss_syntax::{Boxed, Expr, List, Stmt, StmtKind};
+use oss_pragma::reading::{Cursor, Named, Unread, brackets, expression};
+use oss_syntax::{
+    Boxed, Expr, Kind, List, Local, LoopHead, NameUse, NumKind, Stmt, StmtKind, TaskMark,
+};
 use std::alloc::Global;
 
 /// The parts between the brackets of a `for`, each of which may be left out. Its statements are boxed as soon as they are read, as
@@ -96,6 +98,117 @@ pub fn head(alloc: Global, word: &[u8], tokens: &mut Cursor<'_>) -> Result<(u32,
     let line = keyword(word, tokens)?;
     let test = brackets(alloc, tokens)?;
     Ok((line, test))
+}
+
+/// A name, and this symbol behind it.
+#[tactic(auto, unfolding(crate::specs::StatementReading::read_name_use))]
+fn name_use(alloc: Global, symbol: &[u8], tokens: &mut Cursor<'_>) -> Result<NameUse, Unread>
+    ensures { ReadsAs (read_name_use symbol.now tokens.old) result tokens.new }
+{
+    let used = tokens.name(alloc)?;
+    tokens.symbol(symbol)?;
+    Ok(NameUse {
+        name: used.name,
+        line: used.line,
+    })
+}
+
+/// ";" name "++" ")"
+#[tactic(auto, unfolding(crate::specs::StatementReading::read_loop_last, crate::specs::StatementReading::read_loop_step))]
+fn loop_last(alloc: Global, tokens: &mut Cursor<'_>) -> Result<NameUse, Unread>
+    ensures { ReadsAs (read_loop_last tokens.old) result tokens.new }
+{
+    tokens.symbol(b";")?;
+    let stepped = name_use(alloc, b"++", tokens)?;
+    tokens.symbol(b")")?;
+    Ok(stepped)
+}
+
+/// expr ";" name "++" ")"
+fn loop_limit(alloc: Global, tokens: &mut Cursor<'_>) -> Result<(Expr, NameUse), Unread>
+    ensures { ReadsAs (read_both read_expression read_loop_last tokens.old) result tokens.new }
+{
+    let end = expression(alloc, tokens)?;
+    let stepped = loop_last(alloc, tokens)?;
+    Ok((end, stepped))
+}
+
+/// name "<" expr ";" name "++" ")"
+#[tactic(auto, unfolding(crate::specs::StatementReading::read_loop_test))]
+fn loop_test(alloc: Global, tokens: &mut Cursor<'_>) -> Result<(NameUse, (Expr, NameUse)), Unread>
+    ensures { ReadsAs (read_loop_test read_expression tokens.old) result tokens.new }
+{
+    let tested = name_use(alloc, b"<", tokens)?;
+    let limit = loop_limit(alloc, tokens)?;
+    Ok((tested, limit))
+}
+
+/// ";" name "<" expr ";" name "++" ")"
+#[tactic(auto, unfolding(crate::specs::StatementReading::read_loop_tested))]
+fn loop_tested(alloc: Global, tokens: &mut Cursor<'_>) -> Result<(NameUse, (Expr, NameUse)), Unread>
+    ensures { ReadsAs (read_loop_tested read_expression tokens.old) result tokens.new }
+{
+    tokens.symbol(b";")?;
+    loop_test(alloc, tokens)
+}
+
+/// "=" expr ";" name "<" expr ";" name "++" ")"
+#[tactic(auto, unfolding(crate::specs::StatementReading::read_loop_bounds))]
+fn loop_bounds(
+    alloc: Global,
+    tokens: &mut Cursor<'_>,
+) -> Result<(Expr, (NameUse, (Expr, NameUse))), Unread>
+    ensures { ReadsAs (read_loop_bounds read_expression tokens.old) result tokens.new }
+{
+    tokens.symbol(b"=")?;
+    let first = expression(alloc, tokens)?;
+    let tested = loop_tested(alloc, tokens)?;
+    Ok((first, tested))
+}
+
+/// "for" "(" "long" name, with the line of the first token
+#[tactic(auto, unfolding(crate::specs::StatementReading::read_loop_variable))]
+fn loop_variable(alloc: Global, tokens: &mut Cursor<'_>) -> Result<(u32, Named), Unread>
+    ensures { ReadsAs (read_loop_variable tokens.old) result tokens.new }
+{
+    let line = keyword(b"for", tokens)?;
+    tokens.symbol(b"(")?;
+    keyword(b"long", tokens)?;
+    let name = tokens.name(alloc)?;
+    Ok((line, name))
+}
+
+/// "for" "(" "long" name "=" expr ";" name "<" expr ";" name "++" ")"
+fn loop_parts(
+    alloc: Global,
+    tokens: &mut Cursor<'_>,
+) -> Result<((u32, Named), (Expr, (NameUse, (Expr, NameUse)))), Unread>
+    ensures { ReadsAs (read_both read_loop_variable (read_loop_bounds read_expression) tokens.old) result tokens.new }
+{
+    let variable = loop_variable(alloc, tokens)?;
+    let bounds = loop_bounds(alloc, tokens)?;
+    Ok((variable, bounds))
+}
+
+/// The same, behind the pragma of a task loop.
+#[tactic(auto, unfolding(crate::specs::StatementReading::read_loop_head))]
+pub fn loop_head(alloc: Global, mark: TaskMark, tokens: &mut Cursor<'_>) -> Result<LoopHead, Unread>
+    ensures { ReadsAs (read_loop_head read_expression mark tokens.old) result tokens.new }
+{
+    let ((for_line, variable), (first, (tested, (end, stepped)))) = loop_parts(alloc, tokens)?;
+    Ok(LoopHead {
+        mark,
+        variable: Local {
+            name: variable.name,
+            kind: Kind::Num(NumKind::Long),
+            first: Some(first),
+            line: variable.line,
+        },
+        tested,
+        end,
+        stepped,
+        for_line,
+    })
 }
 
 /// ";"

@@ -396,6 +396,7 @@ fn mark_of(directive: Directive) -> Option<TaskMark>
 {
     match directive {
         Directive::Task(mark) => Some(mark),
+        Directive::TaskLoop(_) => None,
         Directive::TaskWait(_) => None,
         Directive::Release(_) => None,
     }

@@ -6,14 +6,14 @@ ghost use Rattle.oss_pragma.specs.PragmaReading.{read_pragma};
 ghost use Rattle.oss_pragma.specs.Told.{ReadsAs};
 ghost use Rattle.oss_parse.specs.Branches.{read_else, read_maybe_else};
 ghost use Rattle.oss_parse.specs.Inner.{read_body, read_part, read_parts, read_within};
-ghost use Rattle.oss_parse.specs.StatementReading.{read_block, read_branches, read_directed, read_for, read_if, read_item, read_keyword_statement, read_pragma_statement, read_statement, read_while, task_of};
+ghost use Rattle.oss_parse.specs.StatementReading.{read_block, read_branches, read_directed, read_for, read_if, read_item, read_keyword_statement, read_pragma_statement, read_statement, read_task_loop_statement, read_while, task_of};
 
 use crate::beginnings::{
     begins_with_item, begins_with_kind, begins_with_simple, begins_with_statement,
 };
 use crate::forms::{
     ForParts, break_statement, continue_statement, declaration_statement, empty, for_head, head,
-    print, return_statement, simple_statement,
+    loop_head, print, return_statement, simple_statement,
 };
 use crate::tokens::{begins_with_keyword, first_line, keyword};
 use oss_pragma::reading::{Cursor, Unread, pragma};
@@ -144,7 +144,27 @@ fn task_statement(
     })
 }
 
-/// What follows a pragma with this line: a statement behind the pragma of a task.
+/// head stmt, behind the pragma of a task loop
+#[cycle(statement)]
+#[tactic(auto, unfolding(crate::specs::StatementReading::read_task_loop_statement))]
+fn task_loop_statement(
+    alloc: Global,
+    levels: u32,
+    mark: TaskMark,
+    tokens: &mut Cursor<'_>,
+) -> Result<Stmt, Unread>
+    ensures { ReadsAs (read_task_loop_statement read_expression (read_within levels) mark tokens.old) result tokens.new }
+{
+    let line = mark.line;
+    let head = loop_head(alloc, mark, tokens)?;
+    let body = within(alloc, levels, tokens)?;
+    Ok(Stmt {
+        what: StmtKind::TaskLoop(head, body),
+        line,
+    })
+}
+
+/// What follows a pragma with this line: a statement behind the pragma of a task, and a loop behind that of a task loop.
 #[cycle(statement)]
 #[tactic(auto, unfolding(crate::specs::StatementReading::read_directed))]
 fn directed(
@@ -154,10 +174,11 @@ fn directed(
     line: u32,
     tokens: &mut Cursor<'_>,
 ) -> Result<Stmt, Unread>
-    ensures { ReadsAs (read_directed (read_within levels) (directive, line) tokens.old) result tokens.new }
+    ensures { ReadsAs (read_directed read_expression (read_within levels) (directive, line) tokens.old) result tokens.new }
 {
     match directive {
         Directive::Task(mark) => task_statement(alloc, levels, mark, tokens),
+        Directive::TaskLoop(mark) => task_loop_statement(alloc, levels, mark, tokens),
         Directive::TaskWait(sections) => Ok(Stmt {
             what: StmtKind::TaskWait(sections),
             line,
@@ -169,11 +190,11 @@ fn directed(
     }
 }
 
-/// task stmt | taskwait | release
+/// task stmt | taskloop head stmt | taskwait | release
 #[cycle(statement)]
 #[tactic(auto, unfolding(crate::specs::StatementReading::read_pragma_statement))]
 fn pragma_statement(alloc: Global, levels: u32, tokens: &mut Cursor<'_>) -> Result<Stmt, Unread>
-    ensures { ReadsAs (read_pragma_statement (read_pragma read_expression) (read_within levels) tokens.old) result tokens.new }
+    ensures { ReadsAs (read_pragma_statement read_expression (read_pragma read_expression) (read_within levels) tokens.old) result tokens.new }
 {
     let line = first_line(tokens);
     let directive = pragma(alloc, tokens)?;

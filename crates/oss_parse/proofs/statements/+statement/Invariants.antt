@@ -36,6 +36,9 @@ decreases-for_statement l = 64 * l.levels + 3
 abbrev pub decreases-task_statement : goal.decreases-task_statement
 decreases-task_statement l = 64 * l.levels + 1
 
+abbrev pub decreases-task_loop_statement : goal.decreases-task_loop_statement
+decreases-task_loop_statement l = 64 * l.levels + 1
+
 abbrev pub decreases-directed : goal.decreases-directed
 decreases-directed l = 64 * l.levels + 2
 
