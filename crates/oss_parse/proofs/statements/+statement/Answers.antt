@@ -3,7 +3,7 @@ use Rattle.oss_grammar.specs.Reading.{begins}
 use Rattle.oss_pragma.specs.Told.{ReadsAs}
 use Rattle.oss_pragma.proofs.ExpressionLoops.{reads_as_err}
 use Rattle.oss_parse.specs.Inner.{read_parts_behind}
-use Rattle.oss_parse.specs.StatementReading.{begins_item, read_items_by}
+use Rattle.oss_parse.specs.StatementReading.{begins_item, read_directed, read_items_by}
 use Rattle.oss_parse.proofs.StatementLoops.{part_some, repeats_parts}
 use Rattle.oss_parse.proofs.statements.+statement.Goals as goal
 
@@ -36,3 +36,7 @@ pub part-returns : goal.part-returns
 part-returns t c =
     let some : 0 < c.args.levels = omega arith in
     subst (λ read. ReadsAs read c.item.result c.item.new.tokens) (sym (part_some c.args.levels c.args.tokens.now some)) c.item.ensures
+
+pub directed-returns-in-TaskLoop : goal.directed-returns-in-TaskLoop
+unfolding read_directed
+directed-returns-in-TaskLoop t c = rw c.in-TaskLoop.is c.task_loop_statement.ensures
