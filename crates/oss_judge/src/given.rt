@@ -85,7 +85,7 @@ fn join(
     Ok(())
 }
 
-/// Puts the marks with which the cells of a new task start into an empty map. It has the rights that the clauses give.
+/// Puts the marks with which the cells of a new task start into an empty map. The rights are those that the clauses give.
 pub(crate) fn mark_all(
     marks: &mut RangeMap<Mark>,
     rights: &RangeMap<Right>,
