@@ -1,0 +1,3 @@
+//! The machine: it runs one task body in a code, from one ask to the next.
+#![tactic(auto)]
+

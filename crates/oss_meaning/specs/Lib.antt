@@ -1,0 +1,9 @@
+pub mod Clauses
+pub mod Expressions
+pub mod Meaning
+pub mod Names
+pub mod Operators
+pub mod Pointers
+pub mod Runs
+pub mod Sections
+pub mod Statements
