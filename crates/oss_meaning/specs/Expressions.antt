@@ -3,7 +3,7 @@
 -- Everything is said with what goes on behind: an expression hands its value to the rest of the run.
 -- Read against: `a[i] && 1 / x` with 0 in `a[i]` loads `a[i]` alone and is 0; with 1 there and 0 in `x` it loads both and fails. With
 -- `long m[3][4];` the value of `m[1]` is a pointer, with no load; `m[i][j]` evaluates `i` and then `j`, and loads one cell.
-use Rattle.std.specs.Prelude.{ℕ, suc, Bool, false, nat_le, if◌then◌else◌, List, [], ◌∷◌, reverse, Option, Some, None, is_some, slice_get, slice_index_or, Result, Ok, Err}
+use Rattle.std.specs.Prelude.{ℕ, suc, pos, Bool, true, false, nat_le, if◌then◌else◌, List, [], ◌∷◌, reverse, Option, Some, None, is_some, slice_get, slice_index_or, Result, Ok, Err}
 use Rattle.oss_syntax.specs.declared.fault.FaultKind.{FaultKind}
 use Rattle.oss_syntax.specs.declared.fault.FaultKind.TheVariants as fault
 use Rattle.oss_syntax.specs.declared.tree.expr.BinOp.{BinOp}
@@ -110,11 +110,12 @@ typed_pointed k = record { kind = element_kind k; target = pointed_target k }
 -- an index behind an array of two dimensions is one of its rows
 abbrev pub typed_index : Typed → Typed
 typed_index a = elim a.target [
-    target.Grid g n ↦ record { kind = value_kinds.Pointer n; target = target.Row g n }
+  | target.Grid g n ↦ record { kind = value_kinds.Pointer n; target = target.Row g n }
   | target.Row g n ↦ typed_cell n
   | target.Nothing ↦ typed_pointed a.kind
   | target.Local slot k ↦ typed_pointed a.kind
-  | target.Cell n ↦ typed_pointed a.kind ]
+  | target.Cell n ↦ typed_pointed a.kind
+]
 
 abbrev pub typed_address : Target → Typed
 typed_address (target.Cell n) = typed_value (value_kinds.Pointer n)
@@ -159,14 +160,14 @@ value_at locals slot = slice_index_or locals slot value.Nowhere
 -- the value of a name: a scalar is loaded, and an array of one dimension is a pointer to its first cell
 abbrev pub name_value : List Extent → Found → Evaluation
 name_value globals (names.Variable slot k) line here locals go = go (value_at locals slot)
-name_value globals (names.Scalar g n) line here locals go = loaded globals line (value.Place g 0) go
-name_value globals (names.Array g n) line here locals go = go (value.Place g 0)
-name_value globals (names.Grid g n) line here locals go = go (value.Place g 0)
+name_value globals (names.Scalar g n) line here locals go = loaded globals line (value.Place g (pos 0)) go
+name_value globals (names.Array g n) line here locals go = go (value.Place g (pos 0))
+name_value globals (names.Grid g n) line here locals go = go (value.Place g (pos 0))
 name_value globals _ line here locals go = go value.Nowhere
 
 -- the place of a name: that of a scalar's cell
 abbrev pub name_place : Found → Evaluation
-name_place (names.Scalar g n) line here locals go = go (value.Place g 0)
+name_place (names.Scalar g n) line here locals go = go (value.Place g (pos 0))
 name_place _ line here locals go = go value.Nowhere
 
 -- An expression that designates no place.

@@ -131,9 +131,10 @@ main_number all = number_of_function all (item_found all (codes "main"))
 -- What a body runs, where it may open so many calls and make so many turns of each loop.
 abbrev pub script_run : List Item → Here → TreeScript → TreeRun
 script_run all here s = elim s.body [
-    TaskBody.main ↦ task_function_run all (main_number all) here (slice_get (functions_of all) (main_number all)) s.copies
+  | TaskBody.main ↦ task_function_run all (main_number all) here (slice_get (functions_of all) (main_number all)) s.copies
   | TaskBody.function f ↦ task_function_run all f here (slice_get (functions_of all) f) s.copies
-  | TaskBody.statement k ↦ statement_run (slice_get (bodies_in all) k) here s.copies ]
+  | TaskBody.statement k ↦ statement_run (slice_get (bodies_in all) k) here s.copies
+]
 
 abbrev pub run_within : List Item → ℕ → TreeScript → TreeRun
 run_within all n s = script_run all (within all (calls_of all n) n 1) s

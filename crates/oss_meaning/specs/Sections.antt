@@ -150,14 +150,15 @@ many_section all scope base e f turns line here locals go =
 -- The cells of a section.
 abbrev pub section_run : List Item → List Local → Section → ℕ → Here → List Value → WithCells
 section_run all scope s line here locals go = elim (s.form) [
-    form.Many e f turns ↦ many_section all scope (base_of (extents_of all) (found all scope s.base) locals) e f turns line here locals go
+  | form.Many e f turns ↦ many_section all scope (base_of (extents_of all) (found all scope s.base) locals) e f turns line here locals go
   | form.Whole ↦ plain_section all scope s line here locals go
   | form.Deref ↦ plain_section all scope s line here locals go
   | form.Shape n ↦ plain_section all scope s line here locals go
   | form.Element e ↦ plain_section all scope s line here locals go
   | form.Length l n ↦ plain_section all scope s line here locals go
   | form.Span l u ↦ plain_section all scope s line here locals go
-  | form.Grid rows columns ↦ plain_section all scope s line here locals go ]
+  | form.Grid rows columns ↦ plain_section all scope s line here locals go
+]
 
 -- The accesses that a clause declares of its sections, behind these.
 abbrev pub sections_run : List Item → List Local → Declared → List Section → ℕ → Here → List Value → List Access → (List Access → TreeRun) → TreeRun
