@@ -1,7 +1,7 @@
 -- What an expression means (C11 6.5): operands are evaluated from left to right, and each load is an ask; `&&` and `||` evaluate their
 -- right side only where it decides; a call evaluates its arguments, does one tick, and runs the body of its function.
 -- Everything is said with what goes on behind: an expression hands its value to the rest of the run.
--- Read against: `a[i] && 1 / x` with 0 in `a[i]` loads `a[i]` alone and is 0; with 1 there and 0 in `x` it loads both and fails. With
+-- Read against: `a[0] && 1 / x` with 0 in `a[0]` loads `a[0]` alone and is 0; with 1 there and 0 in `x` it loads both and fails. With
 -- `long m[3][4];` the value of `m[1]` is a pointer, with no load; `m[i][j]` evaluates `i` and then `j`, and loads one cell.
 use Rattle.std.specs.Prelude.{ℕ, suc, pos, Bool, true, false, nat_le, if◌then◌else◌, List, [], ◌∷◌, reverse, Option, Some, None, is_some, slice_get, slice_index_or, Result, Ok, Err}
 use Rattle.oss_syntax.specs.declared.fault.FaultKind.{FaultKind}
