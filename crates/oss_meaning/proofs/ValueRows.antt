@@ -14,6 +14,7 @@ use Rattle.oss_meaning.specs.declared.value.Value.TheVariants as value
 use Rattle.oss_meaning.specs.Names.{found}
 use Rattle.oss_meaning.specs.Operators.{applied_to, first_value, kept_value, operated, prefixed}
 use Rattle.oss_meaning.specs.Pointers.{cell_of, element_of, extents_of, moved, row_of}
+use Rattle.oss_meaning.specs.Results.{first_cells}
 use Rattle.oss_meaning.proofs.RowTrees.{long, pointer, global, function, pointing_at}
 
 -- Names
@@ -141,3 +142,13 @@ int_keeps = refl
 
 no_value : first_value (kind.Pointer num.Long) ≡ value.Nowhere
 no_value = refl
+
+-- The start
+
+-- `int i = 4294967301; long a[2]; long y = -1;` has 5, 0, 0 and -1 in its cells
+cells_begun : first_cells (items.Global (record { name = codes "i"; kind = num.Int; cells = None; columns = None; first = 4294967301; line = 1 })
+    ∷ global (codes "a") num.Long (Some 2) None
+    ∷ items.Global (record { name = codes "y"; kind = num.Long; cells = None; columns = None; first = 18446744073709551615; line = 1 })
+    ∷ [])
+    ≡ 5 ∷ 0 ∷ 0 ∷ 18446744073709551615 ∷ []
+cells_begun = refl

@@ -28,6 +28,7 @@ item_from g f (items.Function d ∷ rest) name = if bytes_eq d.name name then na
 abbrev pub item_found : List Item → List ℕ → Found
 item_found all name = item_from 0 0 all name
 
+-- one, and where it is unknown the other
 abbrev pub or_found : Found → Found → Found
 or_found names.Unknown other = other
 or_found found other = found

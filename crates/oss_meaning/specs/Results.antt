@@ -34,6 +34,7 @@ first_cells (items.Function f ∷ rest) = first_cells rest
 abbrev pub main_order : Order TreeScript
 main_order = record { script = record { body = TaskBody.main; copies = [] }; clauses = []; when = true; last = false; wait = false; priority = pos 0 }
 
+-- how main starts, with this much fuel
 abbrev pub main_of : List Item → ℕ → Start TreeScript
 main_of all fuel = main_start main_order (cells_in all) fuel
 
