@@ -329,3 +329,18 @@ second_test ways = simp fronts
 
 loop_broken : (ways : Ways) → done (program []) counted_down [] [] ways (0 ∷ 0 ∷ 4 ∷ 0 ∷ 4 ∷ 0 ∷ 0 ∷ 3 ∷ 0 ∷ 3 ∷ 0 ∷ 3 ∷ 0 ∷ 0 ∷ 2 ∷ 0 ∷ []) ≡ ways.next [] []
 loop_broken ways = simp fronts
+
+-- the same call as a statement
+call_alone : asks (program_with callees (on 3 (stmts.Call (codes "f") (call (codes "g") (number 1 ∷ []) ∷ number 2 ∷ [])) ∷ [])) (0 ∷ 0 ∷ 0 ∷ 0 ∷ 0 ∷ [])
+    ≡ asked Tick 3 ∷ asked Tick 3 ∷ asked Tick 13 ∷ asked Tick 3 ∷ asked Tick 11 ∷ asked End 2 ∷ []
+call_alone = simp fronts_and_forms
+
+abbrev cut_short : Stmt
+cut_short = on 3 (stmts.While x (on 3 (stmts.Block (on 4 stmts.Continue ∷ on 5 stmts.Empty ∷ []))))
+
+-- `while (x) { continue; ; }`: what stands behind the `continue` does not run
+turn_cut : (ways : Ways) → done (program []) cut_short [] [] ways (0 ∷ 0 ∷ 1 ∷ 0 ∷ []) ≡ asked Tick 3
+turn_cut ways = simp fronts
+
+loop_cut : (ways : Ways) → done (program []) cut_short [] [] ways (0 ∷ 0 ∷ 1 ∷ 0 ∷ 0 ∷ 0 ∷ []) ≡ ways.next [] []
+loop_cut ways = simp fronts
