@@ -1,1 +1,4 @@
 pub mod FormLemmas
+pub mod RowTrees
+mod Rows
+mod TaskRows

@@ -11,7 +11,7 @@ use Rattle.oss_syntax.specs.declared.tree.program.Function.{Function}
 use Rattle.oss_syntax.specs.declared.tree.program.Item.{Item}
 use Rattle.oss_syntax.specs.declared.tree.program.Kind.{Kind}
 use Rattle.oss_syntax.specs.declared.tree.program.Local.{Local}
-use Rattle.oss_model.specs.Bodies.{Asked, Program}
+use Rattle.oss_model.specs.Bodies.{Program}
 use Rattle.oss_model.specs.Bodies.Ask.{End, Fails, Tick}
 use Rattle.oss_meaning.specs.declared.names.Found.{Found}
 use Rattle.oss_meaning.specs.declared.names.Found.TheVariants as names
@@ -22,7 +22,7 @@ use Rattle.oss_meaning.specs.Expressions.{Calls, Going, Here, TaskBody, TreeRun,
 use Rattle.oss_meaning.specs.Names.{functions_of, item_found}
 use Rattle.oss_meaning.specs.Operators.{kept_value}
 use Rattle.oss_meaning.specs.Runs.{ending}
-use Rattle.oss_meaning.specs.Statements.{Around, Body, Meaning, Ways, behind_all, bodies_of_all, in_order, meanings_of}
+use Rattle.oss_meaning.specs.Statements.{Around, Body, Ways, behind_all, bodies_of_all, in_order, meanings_of}
 
 -- Functions
 

@@ -2,7 +2,7 @@
 -- oldest on; a global or a function by its number in text order.
 -- Read against: with `long x, a[3], m[2][4]; void f() {}` and the locals `p` and `x` in scope, `x` is the local 1, `p` the local 0, `a` the global 1, `m` the
 -- global 2 and `f` the function 0. The function of `m` is none.
-use Rattle.std.specs.Prelude.{ℕ, ◌+◌, Bool, false, if◌then◌else◌, List, [], ◌∷◌, Option, Some, None, is_some}
+use Rattle.std.specs.Prelude.{ℕ, ◌+◌, if◌then◌else◌, List, [], ◌∷◌, Option, Some, None}
 use Rattle.std.specs.Str.{bytes_eq}
 use Rattle.oss_syntax.specs.declared.tree.program.Function.{Function}
 use Rattle.oss_syntax.specs.declared.tree.program.Item.{Item}

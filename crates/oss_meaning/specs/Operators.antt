@@ -2,7 +2,7 @@
 -- a pointer on the left of `+` and `-` moves.
 -- Read against: `3 / 2` is 1; `1 / 0` is DivideByZero; the pointer to `a[1]` plus 2 is that to `a[3]`; an `int` keeps -2147483648 of
 -- 2147483648; a pointer that is given no value points nowhere.
-use Rattle.std.specs.Prelude.{ℕ, ◌-◌, ◌^◌, ◌==◌, Bool, true, false, if◌then◌else◌, Result, Ok, Err}
+use Rattle.std.specs.Prelude.{◌-◌, ◌^◌, ◌==◌, Bool, true, false, if◌then◌else◌, Result, Ok, Err}
 use Rattle.oss_syntax.specs.declared.fault.FaultKind.{FaultKind}
 use Rattle.oss_syntax.specs.declared.tree.expr.BinOp.{BinOp}
 use Rattle.oss_syntax.specs.declared.tree.expr.BinOp.TheVariants as op

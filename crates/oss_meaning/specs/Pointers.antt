@@ -2,7 +2,7 @@
 -- 2^64; it points to a cell only while the index is one of the global's.
 -- Read against: with `long x, a[3], m[2][4];` the pointer to `a` less 1 points to no cell, and 2 more make it the pointer to `a[1]`, which
 -- is cell 2; row 1 of `m` begins at cell 8; `m[1][4]` and `m[-1][0]` point nowhere.
-use Rattle.std.specs.Prelude.{ℕ, ◌+◌, ◌-◌, ◌/◌, ◌^◌, ◌&&◌, if◌then◌else◌, List, [], ◌∷◌, ℤ, pos, int_lt, int_le, nat_abs, Bool, true, false, Option, Some, None, option_map, slice_get}
+use Rattle.std.specs.Prelude.{ℕ, ◌+◌, ◌-◌, ◌/◌, ◌^◌, ◌&&◌, if◌then◌else◌, List, [], ◌∷◌, ℤ, pos, int_lt, int_le, nat_abs, Bool, true, false, Option, Some, None, slice_get}
 use Rattle.oss_syntax.specs.declared.tree.program.Item.{Item}
 use Rattle.oss_syntax.specs.declared.tree.program.Item.TheVariants as items
 use Rattle.oss_grammar.specs.Layout.{cells_of}

@@ -2,11 +2,10 @@
 -- text order, then its test; of a multidependency its first value, its number of turns, and in each turn its indices and their test.
 -- Read against: with `long x, a[4];` the section `a[1;n]` loads what `n` needs, and with 2 it names the range 2..4; with -1 it fails. The multidependency
 -- `{ a[k], k = 0; 3 }` is the one range 1..4, and `{ a[3 - k], k = 0; 2 }` the two ranges 4..5 and 3..4.
-use Rattle.std.specs.Prelude.{ℕ, zero, suc, ◌+◌, ◌==◌, min, nat_le, if◌then◌else◌, List, [], ◌∷◌, ◌++◌, drop, length, map, reverse, Option, Some, None, slice_get, slice_index_or, Result, Ok, Err}
+use Rattle.std.specs.Prelude.{ℕ, zero, suc, ◌+◌, ◌==◌, min, nat_le, if◌then◌else◌, List, [], ◌∷◌, ◌++◌, drop, length, map, reverse, Option, Some, None, slice_get, slice_index_or, Err}
 use Rattle.std.proofs.Math.Nat.{min-le_right, lt_of_le_of_lt}
 use Rattle.oss_syntax.specs.declared.access.Access.{Access}
 use Rattle.oss_syntax.specs.declared.access.Range.{Range}
-use Rattle.oss_syntax.specs.declared.fault.FaultKind.{FaultKind}
 use Rattle.oss_syntax.specs.declared.fault.FaultKind.TheVariants as fault
 use Rattle.oss_syntax.specs.declared.tree.expr.Expr.{Expr}
 use Rattle.oss_syntax.specs.declared.tree.pragma.Form.{Form}
