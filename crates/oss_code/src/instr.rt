@@ -1,10 +1,13 @@
+//! The instructions that the bodies of tasks run.
 use oss_grammar::Piece;
 use oss_meaning::Declared;
 use oss_syntax::{BinOp, Kind, List, NumKind, Op, UnOp};
+use std::mem::size_of;
 
 /// One instruction. It works on the stack of values of its function and on the locals of it, and goes on with the next
 /// instruction where nothing else is said. A jump tells how many instructions it passes. All jumps go forward but two: `Again`,
-/// which asks for a tick first, and `NextTurn`, of which a multidependency makes a bounded number.
+/// which asks for a tick first, and `NextTurn`, of which a multidependency makes a bounded number. `takes`, `leaves`, `leads` and
+/// `enters` tell of each instruction what they say. An instruction takes at most 64 bytes.
 #[derive(Debug, Drop)]
 pub enum Instr {
     /// Leaves this number.
@@ -41,7 +44,7 @@ pub enum Instr {
     Bind(Kind),
     /// Drops the locals behind the first so many.
     Keep(u32),
-    /// Takes a value.
+    /// Takes a value, and nothing is made of it.
     Drop,
     /// Leaves a copy of the value below the topmost one.
     Under,
@@ -57,17 +60,11 @@ pub enum Instr {
     Tick,
     /// Takes so many arguments, the first one lowest, asks for a tick, and calls the function with this number. Its value is left
     /// when it returns.
-    Call {
-        function: u32,
-        arguments: u32,
-    },
+    Call { function: u32, arguments: u32 },
     /// Takes a value, and gives it to the caller, which goes on behind its `Call` or `Spawn`; without a caller the body ends.
     Return,
     /// Takes so many numbers, the first one lowest, and prints the pieces of a string with them.
-    Print {
-        pieces: List<Piece>,
-        arguments: u32,
-    },
+    Print { pieces: List<Piece>, arguments: u32 },
     /// Waits for all tasks that the body created.
     Wait,
     /// The tests with which a creation begins.
@@ -97,28 +94,33 @@ pub enum Instr {
     /// Takes so many arguments, the first one lowest, and goes to the creation of the task function with this number, with no
     /// tick. They are the locals there, and the line of each of its faults is that of this instruction. A value is left when it
     /// returns.
-    Spawn {
-        function: u32,
-        arguments: u32,
-    },
+    Spawn { function: u32, arguments: u32 },
     /// Waits for what the children declared of the cells that the directive declares.
     WaitOn,
     /// Releases the cells that the directive declares.
     Release,
 }
 
+// As many instructions as a text asks for are in memory at once.
+const _: () = prove!(size_of::<Instr>() <= 64);
+
 /// Which way a pointer moves (C11 6.5.6p8).
 #[derive(Clone, Copy, Debug, PartialEq, Eq)]
 pub enum Direction {
+    /// By so many elements on.
     Forth,
+    /// By so many elements back.
     Back,
 }
 
 /// A binary operator on two numbers, and which of them are unsigned (C11 6.3.1.8).
 #[derive(Clone, Copy, Debug, PartialEq, Eq)]
 pub struct Operator {
+    /// What is done with the numbers.
     pub op: BinOp,
+    /// The lower of the two numbers is unsigned; else it is signed.
     pub left_unsigned: bool,
+    /// The topmost number is unsigned; else it is signed.
     pub right_unsigned: bool,
 }
 
@@ -157,7 +159,9 @@ pub enum PartForm {
     Length,
     /// `[l:u]`, with a number for each end that is written.
     Span {
+        /// The first end is written.
         lower: bool,
+        /// The last one is.
         upper: bool,
     },
 }
@@ -165,6 +169,8 @@ pub enum PartForm {
 /// How many indices each turn of a multidependency has.
 #[derive(Clone, Copy, Debug, PartialEq, Eq)]
 pub enum Indices {
+    /// That of an element of an array of one dimension, or of a row of one of two.
     One,
+    /// Those of an element of an array of two dimensions: that of its row, and that of its column.
     Two,
 }
