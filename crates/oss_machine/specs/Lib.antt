@@ -1,3 +1,4 @@
 pub mod Frames
+pub mod Laws
 pub mod Machines
 pub mod Steps
