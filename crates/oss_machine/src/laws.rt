@@ -3,8 +3,8 @@
 
 ghost use Rattle.oss_machine.specs.Laws.{CodesAreLively, MachinesWait};
 
-/// Every code is lively, sound or not: between two ticks a body asks for a bounded number of other things, then it asks for a
-/// tick, ends or fails. A call of a task function and a turn of a multidependency tick no clock, and both are bounded.
+/// Every code is lively, sound or not: a body asks for a bounded number of other things, and then for a tick, or it ends or fails.
+/// Neither the creation of a task at the call of a task function nor a turn of a multidependency asks for a tick: both are bounded.
 pub fn codes_are_lively()
     ensures { CodesAreLively }
 {}
