@@ -1,3 +1,6 @@
+pub mod Activations
+pub mod Asks
 pub mod Frames
 pub mod Machines
+pub mod Outcomes
 pub mod Steps

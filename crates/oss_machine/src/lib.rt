@@ -1,3 +1,9 @@
 //! The machine: it runs one task body in a code, from one ask to the next.
 #![tactic(auto)]
 
+mod activation;
+mod ask;
+mod outcome;
+mod stack;
+
+pub use ask::Ask;
