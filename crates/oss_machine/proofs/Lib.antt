@@ -3,3 +3,4 @@ pub mod EffectLemmas
 pub mod StepLemmas
 pub mod SettleLemmas
 pub mod LiveTheorem
+pub mod RangeLemmas
