@@ -3,6 +3,8 @@
 
 mod activation;
 mod ask;
+mod jumps;
+mod locals;
 mod outcome;
 mod stack;
 
