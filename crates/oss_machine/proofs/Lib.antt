@@ -1,2 +1,3 @@
+pub mod GlobalLemmas
 pub mod RangeLemmas
 pub mod StackLemmas

@@ -1,8 +1,10 @@
 //! The machine: it runs one task body in a code, from one ask to the next.
 #![tactic(auto)]
 
+mod accesses;
 mod activation;
 mod ask;
+mod cells;
 mod jumps;
 mod locals;
 mod outcome;
