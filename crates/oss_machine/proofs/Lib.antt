@@ -1,3 +1,4 @@
 pub mod GlobalLemmas
 pub mod RangeLemmas
 pub mod StackLemmas
+pub mod TurnLemmas

@@ -4,3 +4,4 @@ pub mod Frames
 pub mod Machines
 pub mod Outcomes
 pub mod Steps
+pub mod Turnings

@@ -8,6 +8,8 @@ mod cells;
 mod jumps;
 mod locals;
 mod outcome;
+mod print;
+mod sections;
 mod stack;
 
 pub use ask::Ask;
