@@ -5,11 +5,13 @@ mod accesses;
 mod activation;
 mod ask;
 mod cells;
+mod directives;
 mod jumps;
 mod locals;
 mod outcome;
 mod print;
 mod sections;
 mod stack;
+mod turns;
 
 pub use ask::Ask;

@@ -271,7 +271,11 @@ fn turn_cells(
 
 /// Goes on without so many values, and with the cells of these ranges as those of one turn more.
 #[tactic(auto, using(crate::proofs::TurnLemmas::turn_more))]
-fn add_turn(frame: &mut Activation, taken: usize, ranges: &List<Range>) -> Result<Outcome, AllocError>
+fn add_turn(
+    frame: &mut Activation,
+    taken: usize,
+    ranges: &List<Range>,
+) -> Result<Outcome, AllocError>
     requires { IsSome frame.old.turns }
     ensures { IsActedAnywhere (λ f. with_turning f.turning (λ t. Effect.On (record (onward (drop taken f.stack) f) { turning = Some (with_turn (cells_of ranges.now) t) }))) frame.old frame.new result }
 {
