@@ -24,9 +24,9 @@ const MOST_TURNS: u64 = 1_048_576;
 pub(crate) fn begin_turns(frame: &mut Activation, passed: u32) -> Result<Outcome, AllocError>
     ensures { IsActedAnywhere (λ f. with_two f.stack (λ l n rest. turns_from f.turning passed l n rest f)) frame.old frame.new result }
 {
-    if frame.turns.is_some() {
+    let None = frame.turns else {
         return Ok(Outcome::Stops(FaultKind::OutOfRange));
-    }
+    };
     let first = number_in(value_below(frame.stack.as_slice(), 1));
     let count = number_in(value_below(frame.stack.as_slice(), 0));
     if MOST_TURNS < count {
