@@ -1,4 +1,9 @@
+pub mod EffectLemmas
 pub mod GlobalLemmas
+pub mod LiveTheorem
+pub mod Measures
 pub mod RangeLemmas
+pub mod SettleLemmas
 pub mod StackLemmas
+pub mod StepLemmas
 pub mod TurnLemmas

@@ -7,6 +7,7 @@ mod ask;
 mod cells;
 mod directives;
 mod jumps;
+mod laws;
 mod locals;
 mod outcome;
 mod print;
@@ -15,3 +16,4 @@ mod stack;
 mod turns;
 
 pub use ask::Ask;
+pub use laws::{codes_are_lively, machines_wait};
