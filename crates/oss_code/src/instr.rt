@@ -1,10 +1,13 @@
+//! The instructions.
 use oss_grammar::Piece;
 use oss_meaning::Declared;
 use oss_syntax::{BinOp, Kind, List, NumKind, Op, UnOp};
+use std::mem::size_of;
 
 /// One instruction. It works on the stack of values of its function and on the locals of it, and goes on with the next
 /// instruction where nothing else is said. A jump tells how many instructions it passes. All jumps go forward but two: `Again`,
-/// which asks for a tick first, and `NextTurn`, of which a multidependency makes a bounded number.
+/// which asks for a tick first, and `NextTurn`, of which a multidependency makes a bounded number. An instruction takes at most 64
+/// bytes.
 #[derive(Debug, Drop)]
 pub enum Instr {
     /// Leaves this number.
@@ -97,6 +100,8 @@ pub enum Instr {
     /// Releases the cells that the directive declares.
     Release,
 }
+
+const _: () = prove!(size_of::<Instr>() <= 64);
 
 /// Which way a pointer moves (C11 6.5.6p8).
 #[derive(Clone, Copy, Debug, PartialEq, Eq)]
