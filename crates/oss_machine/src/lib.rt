@@ -2,6 +2,7 @@
 #![tactic(auto)]
 
 mod accesses;
+mod act;
 mod activation;
 mod ask;
 mod cells;

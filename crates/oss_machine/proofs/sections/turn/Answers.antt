@@ -10,4 +10,4 @@ returns-in-Ok c =
     let old = c.args.frame.now in
     let b = base_at c.args.code.now c.args.base old.locals.items in
     let found : place_cells b b.columns (place_from c.args.indices (map number_in (reverse (take c.args.taken (reverse old.stack.items))))) ≡ Ok (cells_of c.in-Ok.ranges) = rw (← c.as_slice.ensures.value, ← c.arguments-values.ensures, ← c.as_slice-2.ensures.value) c.in-Ok.ensures.0 in
-    λ base. rw found (c.add_turn.ensures base)
+    λ accesses ranges. rw found (c.add_turn.ensures accesses ranges)

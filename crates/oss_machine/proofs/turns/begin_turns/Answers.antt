@@ -11,4 +11,4 @@ returns c =
     let count : c.number_in-count.result ≡ number_in (value_at stack 0) = rw (c.number_in-count.ensures, c.value_below-2.ensures, c.as_slice-2.ensures.value) in
     let few : c.number_in-count.result ≤ 1048576 = c.if-count-gt-MOST_TURNS.false in
     let passes : leb c.number_in-count.result 1048576 ≡ true = grind (arith, nat_tests) in
-    λ base. rw c.in-None.is (rw (← count) (rw (← first) (rw passes (rw c.in-None.is at (c.start_turns.ensures base)))))
+    λ accesses ranges. rw c.in-None.is (rw (← count) (rw (← first) (rw passes (rw c.in-None.is at (c.start_turns.ensures accesses ranges)))))
