@@ -1,5 +1,5 @@
 -- What each form of the language means, by what its parts mean: the equations of the two folds.
-use Rattle.std.proofs.Common.{◌≡◌, ℕ, Bool, List, Option, map, option_map, ap, rules}
+use Rattle.std.proofs.Common.{◌≡◌, ℕ, Bool, List, Option, map, option_map, rules}
 use Rattle.oss_syntax.specs.declared.tree.expr.BinOp.{BinOp}
 use Rattle.oss_syntax.specs.declared.tree.expr.Expr.{Expr}
 use Rattle.oss_syntax.specs.declared.tree.expr.ExprKind.TheOpen as open_expr
@@ -16,8 +16,7 @@ use Rattle.oss_syntax.specs.declared.tree.stmt.Stmt.{Stmt}
 use Rattle.oss_syntax.specs.declared.tree.stmt.StmtKind.TheOpen as open_stmt
 use Rattle.oss_syntax.specs.declared.tree.stmt.StmtKind.TheFolds.{the_lemmas as stmt_folds}
 use Rattle.oss_syntax.specs.declared.tree.stmt.StmtKind.TheVariants as stmts
-use Rattle.oss_meaning.specs.declared.value.Value.{Value}
-use Rattle.oss_meaning.specs.Expressions.{Here, TreeRun, expr_step, sense_of}
+use Rattle.oss_meaning.specs.Expressions.{expr_step, sense_of}
 use Rattle.oss_meaning.specs.Statements.{meaning_of, stmt_step}
 
 module _ (all : List Item) (scope : List Local) (line : ℕ) where
@@ -90,28 +89,8 @@ module _ (all : List Item) (line : ℕ) where
   pub meaning-release : (clauses : List Clause) → meaning_of all (record { what = stmts.Release clauses; line = line }) ≡ stmt_step all (open_stmt.Release clauses) line
   meaning-release clauses = search (rules, stmt_folds)
 
--- The same of the run of an expression, which begins with its own.
-module _ (all : List Item) (scope : List Local) (line at : ℕ) (here : Here) (locals : List Value) (go : Value → TreeRun) (vs : List ℕ) where
-  pub value-number : (n : ℕ) (unsigned : Bool) → (sense_of all scope (record { what = exprs.Number n unsigned; line = line })).value at here locals go vs ≡ (expr_step all scope (open_expr.Number n unsigned)).value at here locals go vs
-  value-number n unsigned = ap (λ s. s.value at here locals go vs) (sense-number all scope line n unsigned)
-
-  pub value-name : (text : List ℕ) → (sense_of all scope (record { what = exprs.Name text; line = line })).value at here locals go vs ≡ (expr_step all scope (open_expr.Name text)).value at here locals go vs
-  value-name text = ap (λ s. s.value at here locals go vs) (sense-name all scope line text)
-
-  pub value-index : (a e : Expr) → (sense_of all scope (record { what = exprs.Index a e; line = line })).value at here locals go vs ≡ (expr_step all scope (open_expr.Index (sense_of all scope a) (sense_of all scope e))).value at here locals go vs
-  value-index a e = ap (λ s. s.value at here locals go vs) (sense-index all scope line a e)
-
-  pub value-unary : (o : UnOp) (e : Expr) → (sense_of all scope (record { what = exprs.Unary o e; line = line })).value at here locals go vs ≡ (expr_step all scope (open_expr.Unary o (sense_of all scope e))).value at here locals go vs
-  value-unary o e = ap (λ s. s.value at here locals go vs) (sense-unary all scope line o e)
-
-  pub value-binary : (o : BinOp) (a b : Expr) → (sense_of all scope (record { what = exprs.Binary o a b; line = line })).value at here locals go vs ≡ (expr_step all scope (open_expr.Binary o (sense_of all scope a) (sense_of all scope b))).value at here locals go vs
-  value-binary o a b = ap (λ s. s.value at here locals go vs) (sense-binary all scope line o a b)
-
-  pub value-call : (text : List ℕ) (es : List Expr) → (sense_of all scope (record { what = exprs.Call text es; line = line })).value at here locals go vs ≡ (expr_step all scope (open_expr.Call text (map (sense_of all scope) es))).value at here locals go vs
-  value-call text es = ap (λ s. s.value at here locals go vs) (sense-call all scope line text es)
-
 -- what each form of an expression means, for `simp`
-pub ruleset expression_forms = (sense-number, sense-name, sense-index, sense-unary, sense-binary, sense-call, value-number, value-name, value-index, value-unary, value-binary, value-call)
+pub ruleset expression_forms = (sense-number, sense-name, sense-index, sense-unary, sense-binary, sense-call)
 
 -- what each form of a statement means, for `simp`
 pub ruleset statement_forms = (

@@ -25,10 +25,12 @@ is_zero v = number_in v == 0
 abbrev pub truth_of : Value → Value
 truth_of v = value.Num (if is_zero v then 0 else 1)
 
+-- values of this kind are pointers
 abbrev pub is_pointer : ValueKind → Bool
 is_pointer (value_kind.Pointer n) = true
 is_pointer _ = false
 
+-- values of this kind are unsigned
 abbrev pub is_unsigned_kind : ValueKind → Bool
 is_unsigned_kind value_kind.Unsigned = true
 is_unsigned_kind _ = false
@@ -38,6 +40,7 @@ abbrev pub is_back : BinOp → Bool
 is_back op.Sub = true
 is_back _ = false
 
+-- a number as a value, or its fault
 abbrev pub as_value : Result Number FaultKind → Result Value FaultKind
 as_value (Ok n) = Ok (value.Num n.value)
 as_value (Err kind) = Err kind

@@ -67,6 +67,7 @@ abbrev pub place_in : Option ℕ → ℕ → ℕ → Option ℕ → Option ℕ
 place_in None count row column = None
 place_in (Some m) count row column = place_of (count / m) m row column
 
+-- the same of a global that may not be there
 abbrev pub place_of_global : Option Extent → ℕ → Option ℕ → Option ℕ
 place_of_global None row column = None
 place_of_global (Some e) row column = place_in e.columns e.count row column
