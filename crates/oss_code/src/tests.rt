@@ -71,6 +71,7 @@ fn a_code_has_its_instructions(rt: HostRuntime) {
     assert_eq!(rt; code.line_of(2), 5);
     assert_eq!(rt; code.line(3), Some(6));
     assert_eq!(rt; code.line(4), None);
+    drop(code);
 }
 
 #[test]
@@ -84,6 +85,7 @@ fn a_code_has_what_stands_beside(rt: HostRuntime) {
     assert_eq!(rt; code.function(2), None);
     assert!(rt; code.global(0).is_some());
     assert!(rt; code.global(1).is_none());
+    drop(code);
 }
 
 #[test]
