@@ -60,6 +60,7 @@ run_made None count = None
 run_made (Some first) None = None
 run_made (Some first) (Some count) = Some (first, count)
 
+-- the first cell and the number of cells that the two words of a cut text are
 abbrev pub run_cut : Option (List ℕ × List ℕ) → Option (ℕ × ℕ)
 run_cut None = None
 run_cut (Some parts) = run_made (number_in 0 1048575 parts.0) (number_in 1 1048576 parts.1)
@@ -73,11 +74,13 @@ abbrev pub cells_move : CellVerb → List ℕ → ℕ → ℕ → TextMove
 cells_move verb.Let point first count = Let point first count
 cells_move verb.Join point first count = Join point first count
 
+-- the same from a point and a run of cells, if both are there
 abbrev pub cells_made : CellVerb → Option (List ℕ) → Option (ℕ × ℕ) → Option TextMove
 cells_made name None run = None
 cells_made name (Some point) None = None
 cells_made name (Some point) (Some run) = Some (cells_move name point run.0 run.1)
 
+-- the same from a text that is cut into its point and its run
 abbrev pub cells_cut : CellVerb → Option (List ℕ × List ℕ) → Option TextMove
 cells_cut name None = None
 cells_cut name (Some parts) = cells_made name (point_in parts.0) (run_in parts.1)
@@ -86,11 +89,13 @@ cells_cut name (Some parts) = cells_made name (point_in parts.0) (run_in parts.1
 unfoldable pub cells_in : CellVerb → List ℕ → Option TextMove
 cells_in name text = cells_cut name (cut_at text)
 
+-- the acts of a task from its point and their number, if both are there
 abbrev pub step_made : Option (List ℕ) → Option ℕ → Option TextMove
 step_made None count = None
 step_made (Some point) None = None
 step_made (Some point) (Some count) = Some (Step point count)
 
+-- the same from a text that is cut into its point and its number
 abbrev pub step_cut : Option (List ℕ × List ℕ) → Option TextMove
 step_cut None = None
 step_cut (Some parts) = step_made (point_in parts.0) (number_in 1 18446744073709551615 parts.1)
@@ -106,6 +111,7 @@ named_move word rest =
     else (if bytes_eq word (codes "let") then cells_in verb.Let rest
     else (if bytes_eq word (codes "join") then cells_in verb.Join rest else None))
 
+-- the move that a line is which is cut into its verb and what stands behind
 abbrev pub move_cut : Option (List ℕ × List ℕ) → Option TextMove
 move_cut None = None
 move_cut (Some parts) = named_move parts.0 parts.1
