@@ -4,6 +4,7 @@ pub mod GlobalLemmas
 pub mod LiveTheorem
 pub mod Measures
 pub mod RangeLemmas
+pub mod RunLemmas
 pub mod SettleLemmas
 pub mod StackLemmas
 pub mod StepLemmas
