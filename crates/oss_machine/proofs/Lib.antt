@@ -5,6 +5,7 @@ pub mod LiveTheorem
 pub mod Measures
 pub mod RangeLemmas
 pub mod RunLemmas
+pub mod RunSteps
 pub mod SettleLemmas
 pub mod StackLemmas
 pub mod StepLemmas

@@ -19,6 +19,7 @@ mod print;
 mod running;
 mod sections;
 mod stack;
+mod stepping;
 mod turns;
 
 pub use ask::Ask;

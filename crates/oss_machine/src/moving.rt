@@ -15,7 +15,7 @@ use std::alloc::{AllocError, Global};
 use std::mem;
 
 /// One for a function, and none for a creation at the call of a task function.
-fn count_of(call_line: Option<u32>) -> usize
+pub(crate) fn count_of(call_line: Option<u32>) -> usize
     ensures { result ≡ counted call_line }
 {
     match call_line {

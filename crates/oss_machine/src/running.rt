@@ -39,7 +39,7 @@ fn base<'a>(still: &'a Still, run: &Run, nothing: &'a Gathered) -> &'a Gathered
 
 /// The line of a fault of the instruction at which a function stands.
 #[tactic(auto, using(crate::proofs::GlobalLemmas::index_past, crate::proofs::GlobalLemmas::index_within))]
-fn line_of(code: &Code, frame: &Activation) -> u32
+pub(crate) fn line_of(code: &Code, frame: &Activation) -> u32
     ensures { (base : Base) → result ≡ line_of code.now (frame_on base frame.now) }
 {
     match frame.call_line {
@@ -52,7 +52,7 @@ fn line_of(code: &Code, frame: &Activation) -> u32
 }
 
 /// Runs one instruction in the function that runs.
-fn act_on(
+pub(crate) fn act_on(
     alloc: Global,
     code: &Code,
     still: &Still,
