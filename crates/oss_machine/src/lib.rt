@@ -16,6 +16,7 @@ mod locals;
 mod moving;
 mod outcome;
 mod print;
+mod resuming;
 mod running;
 mod sections;
 mod stack;
