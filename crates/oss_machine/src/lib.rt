@@ -19,6 +19,7 @@ mod print;
 mod resuming;
 mod running;
 mod sections;
+mod settling;
 mod stack;
 mod stepping;
 mod turns;
