@@ -1,4 +1,5 @@
 pub mod AnswerLemmas
+pub mod CommitLemmas
 pub mod EffectLemmas
 pub mod GlobalLemmas
 pub mod LiveTheorem

@@ -13,6 +13,7 @@ mod first;
 mod jumps;
 mod laws;
 mod locals;
+mod machine;
 mod moving;
 mod outcome;
 mod print;
@@ -26,3 +27,4 @@ mod turns;
 
 pub use ask::Ask;
 pub use laws::{codes_are_lively, machines_wait};
+pub use machine::Machine;
