@@ -1,9 +1,12 @@
 pub mod AnswerLemmas
+pub mod CommitLemmas
 pub mod EffectLemmas
 pub mod GlobalLemmas
 pub mod LiveTheorem
 pub mod Measures
 pub mod RangeLemmas
+pub mod RunLemmas
+pub mod RunSteps
 pub mod SettleLemmas
 pub mod StackLemmas
 pub mod StepLemmas

@@ -4,5 +4,6 @@ pub mod Frames
 pub mod Laws
 pub mod Machines
 pub mod Outcomes
+pub mod Runs
 pub mod Steps
 pub mod Turnings

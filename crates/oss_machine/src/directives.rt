@@ -1,13 +1,12 @@
 //! What the clauses of a directive give, and the asks of directives.
-ghost use Rattle.std.specs.Prelude.{◌≡◌, ◌+◌, IfOk, List, Ok, ℕ, true};
+ghost use Rattle.std.specs.Prelude.{◌≡◌, ◌+◌, IfOk, Ok, true};
 ghost use Rattle.oss_grammar.specs.SectionCells.{signed};
 ghost use Rattle.oss_model.specs.Bodies.Ask.{Create, Release, WaitOn};
 ghost use Rattle.oss_meaning.specs.Clauses.{holds, order_of};
-ghost use Rattle.oss_meaning.specs.declared.value.Value.{Value};
 ghost use Rattle.oss_meaning.specs.Pointers.{number_in};
 ghost use Rattle.oss_machine.specs.Activations.{base_in};
 ghost use Rattle.oss_machine.specs.Outcomes.{IsActed, IsActedAnywhere, IsMoved};
-ghost use Rattle.oss_machine.specs.Steps.{Effect, ahead, directive_done, named_in, onward, spawned, with_stack, with_top};
+ghost use Rattle.oss_machine.specs.Steps.{Effect, ahead, directive_done, named_in, onward, spawned, with_arguments, with_stack, with_top};
 
 use crate::accesses::{all_accesses, all_named};
 use crate::activation::{Activation, ClauseValues, Gathered};
@@ -134,12 +133,12 @@ pub(crate) fn end_directive(frame: &mut Activation) -> Result<(), AllocError>
     Ok(())
 }
 
-/// The creation of a task function begins; none begins inside another.
-pub(crate) fn spawn(frame: &Activation) -> Outcome
-    ensures { (entry : ℕ) (vs : List Value) (rest : List Value) → IsActedAnywhere (λ f. spawned f.call_line entry vs (with_stack rest f)) frame.now frame.now (Ok result) }
+/// The creation of a task function begins with this instruction and takes so many of the values; none begins inside another.
+pub(crate) fn spawn(frame: &Activation, entry: usize, count: usize) -> Outcome
+    ensures { IsActedAnywhere (λ f. with_arguments count f.stack (λ vs rest. spawned f.call_line entry vs (with_stack rest f))) frame.now frame.now (Ok result) }
 {
     match frame.call_line {
-        None => Outcome::Creates,
+        None => Outcome::Creates(entry, count),
         Some(_) => Outcome::Stops(FaultKind::TooDeep),
     }
 }

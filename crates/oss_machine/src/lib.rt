@@ -4,17 +4,27 @@
 mod accesses;
 mod act;
 mod activation;
+mod answer;
 mod ask;
+mod bodies;
 mod cells;
 mod directives;
+mod first;
 mod jumps;
 mod laws;
 mod locals;
+mod machine;
+mod moving;
 mod outcome;
 mod print;
+mod resuming;
+mod running;
 mod sections;
+mod settling;
 mod stack;
+mod stepping;
 mod turns;
 
 pub use ask::Ask;
 pub use laws::{codes_are_lively, machines_wait};
+pub use machine::Machine;

@@ -15,6 +15,15 @@ pub(crate) enum Outcome {
     Asks(Ask),
     /// It calls a function, with a tick first.
     Calls,
-    /// It goes to the creation of a task function.
-    Creates,
+    /// It goes to the creation of a task function, which begins with this instruction and takes so many of the values.
+    Creates(usize, usize),
+}
+
+/// How a function goes on with an answer.
+#[derive(Clone, Copy, Debug)]
+pub(crate) enum Taken {
+    /// It has gone on, or it stays.
+    Went,
+    /// It calls a function, which begins with this instruction and takes so many of the values.
+    Enters(usize, usize),
 }

@@ -11,4 +11,4 @@ returns c =
     let within : c.in-Some.turns.start ≤ old.at = c.if-frame-turns.false in
     let passes : leb c.in-Some.turns.start old.at ≡ true = grind (arith, nat_tests) in
     let cells : ranges_of (cells_of (before old.adds_ranges c.args.base.now.ranges.items ++ old.gathered.ranges.items)) ≡ c.in_ok-joined.joined = rw (← c.as_slice.ensures.value, ← c.ranges_before-before.ensures, ← c.as_slice-2.ensures.value) c.in_ok-joined.ensures in
-    rw c.in-Some.is (rw passes (rw cells (c.leave_turns.ensures c.args.base.now.accesses.items c.args.base.now.ranges.items)))
+    rw c.in-Some.is (rw passes (rw cells (rw c.in-Some.is at (c.leave_turns.ensures c.args.base.now.accesses.items c.args.base.now.ranges.items))))

@@ -1,0 +1,24 @@
+//! A body as the machine keeps it.
+
+use crate::activation::Activation;
+
+/// A body as it stands: the function that runs, and those that wait for what they called, the newest last.
+#[derive(Debug, Drop)]
+pub(crate) struct Still {
+    pub callers: Vec<Activation>,
+    pub top: Activation,
+}
+
+/// What has moved since.
+#[derive(Debug, Drop)]
+pub(crate) struct Run {
+    /// How many callers wait as they stood. The function that continues the next of those that stood, or the one on top, lies in `waiting`
+    /// if others wait there, and is the one that runs if none does.
+    pub live: usize,
+    /// The functions that wait above the live callers, the newest last.
+    pub waiting: Vec<Activation>,
+    /// The function that runs.
+    pub work: Activation,
+    /// How many functions are open.
+    pub open_count: usize,
+}

@@ -1,0 +1,87 @@
+//! Activations at their beginning.
+ghost use Rattle.std.specs.Prelude.{◌≡◌, [], IfOk, None, OnOk};
+ghost use Rattle.oss_machine.specs.Activations.{Base, base_in, frame_on, no_base};
+ghost use Rattle.oss_machine.specs.Frames.{first_frame};
+
+use crate::activation::{Activation, ClauseValues, Gathered};
+use oss_meaning::Value;
+use std::alloc::{AllocError, Global};
+
+/// Nothing gathered, which takes no memory.
+pub(crate) fn nothing_gathered(alloc: Global) -> Gathered
+    ensures { base_in result ≡ no_base }
+{
+    Gathered {
+        accesses: Vec::new(alloc),
+        ranges: Vec::new(alloc),
+    }
+}
+
+/// An activation with no values and no locals, which takes no memory.
+pub(crate) fn blank(alloc: Global) -> Activation
+    ensures { frame_on no_base result ≡ first_frame None 0 [] }
+{
+    Activation {
+        at: 0,
+        call_line: None,
+        stack: Vec::new(alloc),
+        locals: Vec::new(alloc),
+        clauses: ClauseValues {
+            when: true,
+            last: false,
+            wait: false,
+            priority: 0,
+        },
+        turns: None,
+        adds_accesses: false,
+        adds_ranges: false,
+        gathered: nothing_gathered(alloc),
+    }
+}
+
+/// A function at its beginning with these values of the locals, or a creation with the line of its call, with room for so many values.
+pub(crate) fn first_activation(
+    alloc: Global,
+    call_line: Option<u32>,
+    entry: usize,
+    locals: &[Value],
+    room: usize,
+) -> Result<Activation, AllocError>
+    ensures { IfOk result (λ a. (base : Base) → frame_on base a ≡ first_frame call_line entry locals.now) }
+{
+    Ok(Activation {
+        at: entry,
+        call_line,
+        stack: Vec::with_capacity(alloc, room)?,
+        locals: Vec::from_slice(alloc, locals)?,
+        clauses: ClauseValues {
+            when: true,
+            last: false,
+            wait: false,
+            priority: 0,
+        },
+        turns: None,
+        adds_accesses: false,
+        adds_ranges: false,
+        gathered: nothing_gathered(alloc),
+    })
+}
+
+/// Makes an activation one that continues this other one, which stays.
+pub(crate) fn continue_from(work: &mut Activation, still: &Activation) -> Result<(), AllocError>
+    ensures { OnOk result (frame_on (base_in still.now.gathered) work.new ≡ frame_on no_base still.now) }
+{
+    work.stack.clear();
+    work.stack.extend_from_slice(still.stack.as_slice())?;
+    work.locals.clear();
+    work.locals.extend_from_slice(still.locals.as_slice())?;
+    work.at = still.at;
+    work.call_line = still.call_line;
+    work.clauses = still.clauses;
+    work.turns = still.turns;
+    work.adds_accesses = true;
+    work.adds_ranges = true;
+    work.gathered.accesses.clear();
+    work.gathered.ranges.clear();
+    Ok(())
+}

@@ -1,0 +1,68 @@
+//! What the function that runs does, and where it stands.
+ghost use Rattle.std.specs.Prelude.{◌≡◌, IfOk};
+ghost use Rattle.oss_machine.specs.Activations.{Base, base_in, frame_on, no_base};
+ghost use Rattle.oss_machine.specs.Outcomes.{acted, told};
+ghost use Rattle.oss_machine.specs.Runs.{base_above, base_at, config_in};
+ghost use Rattle.oss_machine.specs.Steps.{effect, line_of};
+
+use crate::act::act;
+use crate::activation::{Activation, Gathered};
+use crate::bodies::{Run, Still};
+use crate::first::nothing_gathered;
+use crate::outcome::Outcome;
+use oss_code::{Code, Instr};
+use std::alloc::{AllocError, Global};
+
+/// What the lowest function that has moved continues.
+fn bottom(still: &Still, live: usize) -> &Gathered
+    ensures { base_in result.now ≡ base_at still.now live }
+{
+    if live < still.callers.len() {
+        let caller = &still.callers[live];
+        &caller.gathered
+    } else {
+        &still.top.gathered
+    }
+}
+
+/// What the function that runs continues; nothing where others wait below it that have moved.
+fn base<'a>(still: &'a Still, run: &Run, nothing: &'a Gathered) -> &'a Gathered
+    requires { base_in nothing.now ≡ no_base }
+    ensures { base_in result.now ≡ base_above (base_at still.now run.now.live) run.now.waiting.items }
+{
+    if run.waiting.is_empty() {
+        bottom(still, run.live)
+    } else {
+        nothing
+    }
+}
+
+/// The line of a fault of the instruction at which a function stands.
+#[tactic(auto, using(crate::proofs::GlobalLemmas::index_past, crate::proofs::GlobalLemmas::index_within))]
+pub(crate) fn line_of(code: &Code, frame: &Activation) -> u32
+    ensures { (base : Base) → result ≡ line_of code.now (frame_on base frame.now) }
+{
+    match frame.call_line {
+        Some(line) => line,
+        None => match code.line(frame.at) {
+            Some(line) => line,
+            None => 0,
+        },
+    }
+}
+
+/// Runs one instruction in the function that runs.
+pub(crate) fn act_on(
+    alloc: Global,
+    code: &Code,
+    still: &Still,
+    run: &mut Run,
+    instr: &Instr,
+) -> Result<Outcome, AllocError>
+    ensures acted { IfOk result (λ o. acted (effect code.now (config_in still.now run.old).frame instr.now) (config_in still.now run.old).frame ≡ ((config_in still.now run.new).frame, told (config_in still.now run.old).frame o)) }
+    ensures rest { run.new ≡ record run.old { work = run.new.work } }
+{
+    let nothing = nothing_gathered(alloc);
+    let base = base(still, run, &nothing);
+    act(alloc, code, base, &mut run.work, instr)
+}
