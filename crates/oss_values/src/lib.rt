@@ -5,6 +5,8 @@ mod binary;
 mod keeping;
 mod number;
 mod pointer;
+#[cfg(test)]
+mod tests;
 mod unary;
 
 pub use binary::apply;
