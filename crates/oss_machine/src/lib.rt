@@ -23,6 +23,8 @@ mod sections;
 mod settling;
 mod stack;
 mod stepping;
+#[cfg(test)]
+mod tests;
 mod turns;
 
 pub use ask::Ask;
