@@ -2,12 +2,16 @@
 #![tactic(auto)]
 
 mod code;
+mod global;
 mod instr;
 mod order;
 mod ways;
 
-pub use code::{Code, CodeParts, GlobalPlace};
+pub use code::CodeParts;
+pub use global::GlobalPlace;
 pub use instr::{
     Direction, Indices, Instr, Operator, PartForm, SectionBase, SectionForm,
 };
 pub use order::TaskOrder;
+pub use oss_meaning::{Declared, Value};
+pub use ways::{Entry, Way, Ways};

@@ -263,13 +263,11 @@ abbrev pub is_task_function : Option Function → Bool
 is_task_function None = false
 is_task_function (Some f) = is_some f.mark
 
--- what is no function is not called, and gives 0
-abbrev pub call_found : List Item → Found → ℕ → Here → List Value → Going
-call_found all (names.Function f) line here vs go = called_or_created (is_task_function (slice_get (functions_of all) f)) f line here vs go
-call_found all _ line here vs go = go (value.Num 0)
-
+-- a call by what its name stands for: what is no function is not called, evaluates nothing, and gives 0
 abbrev pub call_value : List Item → Found → List Sense → Evaluation
-call_value all f es line here locals go = arguments es line here locals [] (λ made. call_found all f line here (reverse made) go)
+call_value all (names.Function f) es line here locals go =
+    arguments es line here locals [] (λ made. called_or_created (is_task_function (slice_get (functions_of all) f)) f line here (reverse made) go)
+call_value all _ es line here locals go = go (value.Num 0)
 
 -- What an expression means, from what its parts mean.
 abbrev pub expr_step : List Item → List Local → ExprKind-F Sense Sense → Sense

@@ -1,0 +1,13 @@
+//! Where a global lies.
+ghost use Rattle.std.specs.Prelude.{◌<◌};
+ghost use Rattle.std.specs.Option.{ForSome};
+
+use oss_syntax::Range;
+
+/// Where a global lies, and how many of its cells make a row of an array of two dimensions: `None` for every other global.
+#[derive(Clone, Copy, Debug)]
+pub struct GlobalPlace {
+    pub range: Range,
+    pub columns: Option<u32>,
+    pub ghost wide: { ForSome columns (λ m. 0 < m) },
+}

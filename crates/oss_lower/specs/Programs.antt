@@ -1,0 +1,63 @@
+-- Two programs that ask alike: the tree's scripts name bodies by their numbers, and the code's by the instructions with which they begin.
+-- Read against: `int main() { return 7; }` asks for a tick, and then for its end, on the same line; so does its code from place 0 on.
+use Rattle.std.specs.Prelude.{◌≡◌, ◌≤◌, ℕ, List, length}
+use Rattle.oss_syntax.specs.declared.tree.program.Item.{Item}
+use Rattle.oss_model.specs.Bodies.{Ask, Asked, Order}
+use Rattle.oss_model.specs.Bodies.Ask.{Await, Begin, Create, End, Fails, Fold, Print, Read, Release, Tick, Wait, WaitOn, Write}
+use Rattle.oss_meaning.specs.Expressions.{TaskBody, TreeScript}
+use Rattle.oss_meaning.specs.Meaning.{asks_of, run_within}
+use Rattle.oss_code.specs.Soundness.{IsSound}
+use Rattle.oss_code.specs.declared.code.CodeParts.{CodeParts}
+use Rattle.oss_machine.specs.Frames.{CodeScript}
+use Rattle.oss_machine.specs.Machines.{asks}
+use Rattle.oss_lower.specs.Lowered.{IsLowered, place_of}
+
+-- the script of a code, each body being at such a place
+abbrev pub moved_script : (TaskBody → ℕ) → TreeScript → CodeScript
+moved_script places s = record { entry = places s.body; copies = s.copies }
+
+abbrev pub moved_order : (TaskBody → ℕ) → Order TreeScript → Order CodeScript
+moved_order places o = record {
+  script = moved_script places o.script;
+  clauses = o.clauses;
+  when = o.when;
+  last = o.last;
+  wait = o.wait;
+  priority = o.priority;
+}
+
+-- the same ask
+abbrev pub moved_ask : (TaskBody → ℕ) → Ask TreeScript → Ask CodeScript
+moved_ask places Begin = Begin
+moved_ask places Tick = Tick
+moved_ask places (Read cell) = Read cell
+moved_ask places (Write cell v) = Write cell v
+moved_ask places (Fold cell o v) = Fold cell o v
+moved_ask places (Create o) = Create (moved_order places o)
+moved_ask places Await = Await
+moved_ask places Wait = Wait
+moved_ask places (WaitOn named) = WaitOn named
+moved_ask places (Release clauses) = Release clauses
+moved_ask places (Print text) = Print text
+moved_ask places End = End
+moved_ask places (Fails kind) = Fails kind
+
+abbrev pub moved_asked : (TaskBody → ℕ) → Asked TreeScript → Asked CodeScript
+moved_asked places a = record { ask = moved_ask places a.ask; line = a.line }
+
+-- A code asks as the program does, for each body and after any answers.
+abbrev pub AsksAlike : List Item → CodeParts → Type 0
+AsksAlike all code = (s : TreeScript) (answers : List ℕ) → moved_asked (place_of all) (asks_of all s answers) ≡ asks code (moved_script (place_of all) s) answers
+
+-- The code of a program asks as the program does.
+abbrev pub CodesAskAlike : Type 0
+CodesAskAlike = (all : List Item) (code : CodeParts) → IsLowered all code → AsksAlike all code
+
+-- The code of a program is sound.
+abbrev pub CodesAreSound : Type 0
+CodesAreSound = (all : List Item) (code : CodeParts) → IsLowered all code → IsSound code
+
+-- A program that has a code asks the same under each bound on turns and calls that its answers do not pass.
+abbrev pub BoundsAreEnough : Type 0
+BoundsAreEnough = (all : List Item) (code : CodeParts) → IsLowered all code → (s : TreeScript) (bound more : ℕ) (answers : List ℕ) → length answers ≤ bound → length answers ≤ more
+    → moved_asked (place_of all) (run_within all bound s answers) ≡ moved_asked (place_of all) (run_within all more s answers)
