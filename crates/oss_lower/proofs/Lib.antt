@@ -5,3 +5,7 @@ pub mod StepLemmas
 pub mod CodeLemmas
 pub mod ExpressionLemmas
 pub mod SectionLemmas
+pub mod StatementLemmas
+pub mod NestedLemmas
+pub mod LoopLemmas
+pub mod TaskLemmas
