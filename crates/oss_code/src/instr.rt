@@ -57,17 +57,11 @@ pub enum Instr {
     Tick,
     /// Takes so many arguments, the first one lowest, asks for a tick, and calls the function with this number. Its value is left
     /// when it returns.
-    Call {
-        function: u32,
-        arguments: u32,
-    },
+    Call { function: u32, arguments: u32 },
     /// Takes a value, and gives it to the caller, which goes on behind its `Call` or `Spawn`; without a caller the body ends.
     Return,
     /// Takes so many numbers, the first one lowest, and prints the pieces of a string with them.
-    Print {
-        pieces: List<Piece>,
-        arguments: u32,
-    },
+    Print { pieces: List<Piece>, arguments: u32 },
     /// Waits for all tasks that the body created.
     Wait,
     /// The tests with which a creation begins.
@@ -97,10 +91,7 @@ pub enum Instr {
     /// Takes so many arguments, the first one lowest, and goes to the creation of the task function with this number, with no
     /// tick. They are the locals there, and the line of each of its faults is that of this instruction. A value is left when it
     /// returns.
-    Spawn {
-        function: u32,
-        arguments: u32,
-    },
+    Spawn { function: u32, arguments: u32 },
     /// Waits for what the children declared of the cells that the directive declares.
     WaitOn,
     /// Releases the cells that the directive declares.
@@ -156,10 +147,7 @@ pub enum PartForm {
     /// `[l;n]`, with two.
     Length,
     /// `[l:u]`, with a number for each end that is written.
-    Span {
-        lower: bool,
-        upper: bool,
-    },
+    Span { lower: bool, upper: bool },
 }
 
 /// How many indices each turn of a multidependency has.

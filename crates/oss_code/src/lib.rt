@@ -5,13 +5,12 @@ mod code;
 mod global;
 mod instr;
 mod order;
+mod sound;
 mod ways;
 
-pub use code::CodeParts;
+pub use code::{Code, CodeParts};
 pub use global::GlobalPlace;
-pub use instr::{
-    Direction, Indices, Instr, Operator, PartForm, SectionBase, SectionForm,
-};
+pub use instr::{Direction, Indices, Instr, Operator, PartForm, SectionBase, SectionForm};
 pub use order::TaskOrder;
 pub use oss_meaning::{Declared, Value};
 pub use ways::{Entry, Way, Ways};

@@ -118,7 +118,9 @@ impl Instr {
         ensures { result ≡ enters self.now }
     {
         match self {
-            Instr::Call { function, .. } | Instr::Spawn { function, .. } => Entry::Function(*function),
+            Instr::Call { function, .. } | Instr::Spawn { function, .. } => Entry::Function(
+                *function,
+            ),
             Instr::Create(passed) => Entry::Task(*passed),
             _ => Entry::Nothing,
         }
