@@ -1,5 +1,5 @@
 -- What each form of the language means, by what its parts mean: the equations of the two folds.
-use Rattle.std.proofs.Common.{◌≡◌, ℕ, Bool, List, [], ◌∷◌, Option, Some, None, map, option_map, refl, rules}
+use Rattle.std.proofs.Common.{◌≡◌, ℕ, Bool, List, Option, map, option_map, rules}
 use Rattle.oss_syntax.specs.declared.tree.expr.BinOp.{BinOp}
 use Rattle.oss_syntax.specs.declared.tree.expr.Expr.{Expr}
 use Rattle.oss_syntax.specs.declared.tree.expr.ExprKind.TheOpen as open_expr
@@ -89,14 +89,11 @@ module _ (all : List Item) (line : ℕ) where
   pub meaning-release : (clauses : List Clause) → meaning_of all (record { what = stmts.Release clauses; line = line }) ≡ stmt_step all (open_stmt.Release clauses) line
   meaning-release clauses = search (rules, stmt_folds)
 
--- what each form means, for `simp`
-pub ruleset forms = (
-  sense-number,
-  sense-name,
-  sense-index,
-  sense-unary,
-  sense-binary,
-  sense-call,
+-- what each form of an expression means, for `simp`
+pub ruleset expression_forms = (sense-number, sense-name, sense-index, sense-unary, sense-binary, sense-call)
+
+-- what each form of a statement means, for `simp`
+pub ruleset statement_forms = (
   meaning-block,
   meaning-empty,
   meaning-declare,
@@ -114,3 +111,6 @@ pub ruleset forms = (
   meaning-task_wait,
   meaning-release,
 )
+
+-- what each form means, for `simp`
+pub ruleset forms = (expression_forms, statement_forms)

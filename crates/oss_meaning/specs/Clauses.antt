@@ -2,7 +2,7 @@
 -- what they gave and the values of the locals as they are then.
 -- Read against: `task in(a[i;n]) if(x)` evaluates `i`, `n` and `x` in this order; with `n` below 0 it fails with OutOfRange before `x` is loaded. Without
 -- `if` it is true, without `final` it is false, and without `priority` it is 0.
-use Rattle.std.specs.Prelude.{ℕ, Bool, true, false, not, List, [], ◌∷◌, ℤ, pos, Option, Some, None}
+use Rattle.std.specs.Prelude.{ℕ, Bool, true, false, not, List, [], ◌∷◌, ℤ, pos}
 use Rattle.oss_syntax.specs.declared.access.Access.{Access}
 use Rattle.oss_syntax.specs.declared.access.Mode.TheVariants as mode
 use Rattle.oss_syntax.specs.declared.tree.expr.Expr.{Expr}
@@ -15,7 +15,7 @@ use Rattle.oss_model.specs.Bodies.{Order}
 use Rattle.oss_model.specs.Bodies.Ask.{Begin, Create}
 use Rattle.oss_meaning.specs.declared.clauses.Declared.{Declared}
 use Rattle.oss_meaning.specs.declared.value.Value.{Value}
-use Rattle.oss_meaning.specs.Expressions.{Here, TreeRun, TreeScript, TaskBody, sense_of}
+use Rattle.oss_meaning.specs.Expressions.{Here, TreeRun, TaskBody, sense_of}
 use Rattle.oss_meaning.specs.Operators.{is_zero}
 use Rattle.oss_meaning.specs.Pointers.{number_in}
 use Rattle.oss_meaning.specs.Runs.{asking}

@@ -1,7 +1,7 @@
 -- What an expression means (C11 6.5): operands are evaluated from left to right, and each load is an ask; `&&` and `||` evaluate their
 -- right side only where it decides; a call evaluates its arguments, does one tick, and runs the body of its function.
 -- Everything is said with what goes on behind: an expression hands its value to the rest of the run.
--- Read against: `a[i] && 1 / x` with 0 in `a[i]` loads `a[i]` alone and is 0; with 1 there and 0 in `x` it loads both and fails. With
+-- Read against: `a[0] && 1 / x` with 0 in `a[0]` loads `a[0]` alone and is 0; with 1 there and 0 in `x` it loads both and fails. With
 -- `long m[3][4];` the value of `m[1]` is a pointer, with no load; `m[i][j]` evaluates `i` and then `j`, and loads one cell.
 use Rattle.std.specs.Prelude.{ℕ, suc, pos, Bool, true, false, nat_le, if◌then◌else◌, List, [], ◌∷◌, reverse, Option, Some, None, is_some, slice_get, slice_index_or, Result, Ok, Err}
 use Rattle.oss_syntax.specs.declared.fault.FaultKind.{FaultKind}
@@ -34,13 +34,13 @@ use Rattle.oss_meaning.specs.Operators.{is_zero, operated_by, prefixed, truth_of
 use Rattle.oss_meaning.specs.Pointers.{Extent, cell_of, element_of, extents_of, moved, number_in, row_of}
 use Rattle.oss_meaning.specs.Runs.{Run, asking, ending}
 
--- What a body of the tree is to run: the function `main`, the body of a task function, or the statement behind a pragma, by their numbers
--- in text order; and the values of the locals that it begins with.
+-- A body of the tree: the function `main`, the body of a task function, or the statement behind a pragma, by their numbers in text order.
 pub data TaskBody : Type 0 where
   main : TaskBody
   function : (number : ℕ) → TaskBody
   statement : (number : ℕ) → TaskBody
 
+-- What a body is to run, and the values of the locals with which it begins.
 pub record TreeScript : Type 0 where
   pub body : TaskBody
   pub copies : List Value
@@ -82,15 +82,19 @@ pub record Sense : Type 0 where
 
 -- What the text tells
 
+-- a value of this kind, which designates nothing
 abbrev pub typed_value : ValueKind → Typed
 typed_value k = record { kind = k; target = target.Nothing }
 
+-- a number, unsigned or not
 abbrev pub typed_number : Bool → Typed
 typed_number unsigned = typed_value (if unsigned then value_kinds.Unsigned else value_kinds.Signed)
 
+-- a cell of this type, and the number in it
 abbrev pub typed_cell : NumKind → Typed
 typed_cell n = record { kind = number_kind n; target = target.Cell n }
 
+-- a name: a local, the cell of a scalar, a pointer to the first cell of an array, an array of two dimensions; a function's name is no value
 abbrev pub typed_name : Found → Typed
 typed_name (names.Variable slot k) = record { kind = value_kind k; target = target.Local slot k }
 typed_name (names.Scalar g n) = typed_cell n
@@ -104,6 +108,7 @@ abbrev pub pointed_target : ValueKind → Target
 pointed_target (value_kinds.Pointer n) = target.Cell n
 pointed_target _ = target.Nothing
 
+-- what stands behind a pointer of this kind
 abbrev pub typed_pointed : ValueKind → Typed
 typed_pointed k = record { kind = element_kind k; target = pointed_target k }
 
@@ -117,10 +122,12 @@ typed_index a = elim a.target [
   | target.Cell n ↦ typed_pointed a.kind
 ]
 
+-- the address of a cell
 abbrev pub typed_address : Target → Typed
 typed_address (target.Cell n) = typed_value (value_kinds.Pointer n)
 typed_address _ = typed_value value_kinds.Unknown
 
+-- a prefix operator: `!` gives a signed number, `*` and `&` go along pointers, and the others keep the kind
 abbrev pub typed_prefix : UnOp → Typed → Typed
 typed_prefix prefix.Not e = typed_value value_kinds.Signed
 typed_prefix prefix.Deref e = typed_pointed e.kind
@@ -132,12 +139,14 @@ abbrev pub given_kind : Option Function → ValueKind
 given_kind None = value_kinds.Unknown
 given_kind (Some f) = value_kind f.result
 
+-- the kind of a call of what a name stands for
 abbrev pub called_kind : List Item → Found → ValueKind
 called_kind all (names.Function f) = given_kind (slice_get (functions_of all) f)
 called_kind all _ = value_kinds.Unknown
 
 -- Loads, and values that fail
 
+-- what goes on at a cell; where there is none it is the fault OutOfRange
 abbrev pub at_cell : Option ℕ → ℕ → (ℕ → TreeRun) → TreeRun
 at_cell None line go = ending (Fails fault.OutOfRange) line
 at_cell (Some c) line go = go c
@@ -199,6 +208,7 @@ abbrev pub index_indexed : List Extent → Target → Sense → Sense → Evalua
 index_indexed globals (target.Grid g n) a e = e.value
 index_indexed globals t a e = index_value globals t a e
 
+-- what `a[e]` means
 abbrev pub index_sense : List Extent → Sense → Sense → Sense
 index_sense globals a e = record {
   typed = typed_index a.typed;
@@ -213,15 +223,18 @@ index_sense globals a e = record {
 abbrev pub value_sense : Typed → Evaluation → Sense
 value_sense typed value = record { typed = typed; value = value; place = no_place; indexed = value }
 
+-- the value of a prefix operator: `*` loads, `&` is the place of its operand, and the others make a number of its value
 abbrev pub prefix_value : List Extent → UnOp → Sense → Evaluation
 prefix_value globals prefix.Deref e = then_load globals e.value
 prefix_value globals prefix.Address e = e.place
 prefix_value globals o e = λ line here locals go. e.value line here locals (λ v. go (prefixed o v))
 
+-- the place that `*p` designates: where `p` points
 abbrev pub prefix_place : UnOp → Sense → Evaluation
 prefix_place prefix.Deref e = e.value
 prefix_place _ e = no_place
 
+-- what a prefix operator and its operand mean
 abbrev pub prefix_sense : List Extent → UnOp → Sense → Sense
 prefix_sense globals o e = record {
   typed = typed_prefix o e.typed;
@@ -235,6 +248,7 @@ abbrev pub both_then : BinOp → Sense → Sense → Evaluation
 both_then o a b line here locals go =
     both a.value b.value line here locals (λ v w. unless_fault (operated_by o a.typed.kind b.typed.kind v w) line go)
 
+-- the value of a binary operator: `&&` and `||` give 0 or 1, and evaluate their right side only where it decides
 abbrev pub binary_value : BinOp → Sense → Sense → Evaluation
 binary_value op.AndAlso a b line here locals go =
     a.value line here locals (λ v. if is_zero v then go (value.Num 0) else b.value line here locals (λ w. go (truth_of w)))
@@ -259,6 +273,7 @@ abbrev pub called_or_created : Bool → ℕ → ℕ → Here → List Value → 
 called_or_created false f line here vs go = called f line here vs go
 called_or_created true f line here vs go = here.create f vs line go
 
+-- a function with a pragma: each call of it creates a task
 abbrev pub is_task_function : Option Function → Bool
 is_task_function None = false
 is_task_function (Some f) = is_some f.mark

@@ -4,6 +4,7 @@ pub mod Meaning
 pub mod Names
 pub mod Operators
 pub mod Pointers
+pub mod Results
 pub mod Runs
 pub mod Sections
 pub mod Statements

@@ -11,7 +11,7 @@ use Rattle.oss_syntax.specs.declared.tree.program.Function.{Function}
 use Rattle.oss_syntax.specs.declared.tree.program.Item.{Item}
 use Rattle.oss_syntax.specs.declared.tree.program.Kind.{Kind}
 use Rattle.oss_syntax.specs.declared.tree.program.Local.{Local}
-use Rattle.oss_model.specs.Bodies.{Asked, Program}
+use Rattle.oss_model.specs.Bodies.{Program}
 use Rattle.oss_model.specs.Bodies.Ask.{End, Fails, Tick}
 use Rattle.oss_meaning.specs.declared.names.Found.{Found}
 use Rattle.oss_meaning.specs.declared.names.Found.TheVariants as names
@@ -22,7 +22,7 @@ use Rattle.oss_meaning.specs.Expressions.{Calls, Going, Here, TaskBody, TreeRun,
 use Rattle.oss_meaning.specs.Names.{functions_of, item_found}
 use Rattle.oss_meaning.specs.Operators.{kept_value}
 use Rattle.oss_meaning.specs.Runs.{ending}
-use Rattle.oss_meaning.specs.Statements.{Around, Body, Meaning, Ways, behind_all, bodies_of_all, in_order, meanings_of}
+use Rattle.oss_meaning.specs.Statements.{Around, Body, Ways, behind_all, bodies_of_all, in_order, meanings_of}
 
 -- Functions
 
@@ -43,10 +43,11 @@ out_of line give = record { next = λ us. give line (value.Num 0); stop = λ us.
 abbrev pub function_place : List Local → ℕ → Around
 function_place params tasks = record { scope = params; tasks = tasks }
 
--- how many task statements stand before the function with this number, and before the first so many of these
+-- how many task statements stand before the end of a function, where so many stand before it
 abbrev pub tasks_behind : List Item → Function → ℕ → ℕ
 tasks_behind all f tasks = (behind_all (meanings_of all f.body) (function_place f.params tasks)).tasks
 
+-- how many stand before the function with this number among these, where so many stand before all of them
 abbrev pub tasks_before : List Item → List Function → ℕ → ℕ → ℕ
 tasks_before all [] n tasks = tasks
 tasks_before all (f ∷ rest) zero tasks = tasks
@@ -72,6 +73,7 @@ clauses_of (Some mark) = mark.clauses
 abbrev pub no_creation : ℕ → List Value → ℕ → Going
 no_creation f vs line go = ending (Fails fault.TooDeep) line
 
+-- where the clauses of a task function are evaluated: in the frame of the call
 abbrev pub in_clauses : Calls → ℕ → ℕ → Here
 in_clauses call turns frames = record { frames = frames; call = call; create = no_creation; turns = turns }
 
@@ -100,6 +102,7 @@ calls_of all (suc n) f arguments frames go =
 
 -- Bodies of tasks
 
+-- the bodies of the task statements of these functions, where so many task statements stand before them
 abbrev pub bodies_from : List Item → List Function → ℕ → List Body
 bodies_from all [] tasks = []
 bodies_from all (f ∷ rest) tasks = bodies_of_all (meanings_of all f.body) (function_place f.params tasks) ++ bodies_from all rest (tasks_behind all f tasks)
@@ -108,14 +111,16 @@ bodies_from all (f ∷ rest) tasks = bodies_of_all (meanings_of all f.body) (fun
 abbrev pub bodies_in : List Item → List Body
 bodies_in all = bodies_from all (functions_of all) 0
 
+-- the body of a task statement; where there is none it ends
 abbrev pub statement_run : Option Body → Here → List Value → TreeRun
 statement_run None here copies = ending End 0
 statement_run (Some body) here copies = body here copies
 
--- the body of a task function, or of `main`, whose value is evaluated and unused; its parameters were bound at the call
+-- the ways out of the body of a task, which end it; what `main` gives was evaluated, and is unused
 abbrev pub ended_by : ℕ → Ways
 ended_by line = out_of line (λ at v. ending End at)
 
+-- a function as the body of a task, its parameters bound at the call
 abbrev pub task_function_run : List Item → ℕ → Here → Option Function → List Value → TreeRun
 task_function_run all number here None copies = ending End 0
 task_function_run all number here (Some f) copies = body_run all number here f (ended_by f.line) copies
@@ -125,6 +130,7 @@ abbrev pub number_of_function : List Item → Found → ℕ
 number_of_function all (names.Function f) = f
 number_of_function all _ = length (functions_of all)
 
+-- the number of `main`
 abbrev pub main_number : List Item → ℕ
 main_number all = number_of_function all (item_found all (codes "main"))
 
@@ -136,6 +142,7 @@ script_run all here s = elim s.body [
   | TaskBody.statement k ↦ statement_run (slice_get (bodies_in all) k) here s.copies
 ]
 
+-- the same with so many calls in each other and so many turns, and with one frame
 abbrev pub run_within : List Item → ℕ → TreeScript → TreeRun
 run_within all n s = script_run all (within all (calls_of all n) n 1) s
 

@@ -1,8 +1,8 @@
 -- What names stand for at a place of the text (C11 6.2.1): a local by its place among the locals in scope, which are listed from the
 -- oldest on; a global or a function by its number in text order.
 -- Read against: with `long x, a[3], m[2][4]; void f() {}` and the locals `p` and `x` in scope, `x` is the local 1, `p` the local 0, `a` the global 1, `m` the
--- global 2 and `f` the function 0. The function of `m` is none.
-use Rattle.std.specs.Prelude.{ℕ, ◌+◌, Bool, false, if◌then◌else◌, List, [], ◌∷◌, Option, Some, None, is_some}
+-- global 2 and `f` the function 0; `y` is unknown. Of two locals `x` the last one counts, and of two globals the first.
+use Rattle.std.specs.Prelude.{ℕ, ◌+◌, if◌then◌else◌, List, [], ◌∷◌, Option, Some, None}
 use Rattle.std.specs.Str.{bytes_eq}
 use Rattle.oss_syntax.specs.declared.tree.program.Function.{Function}
 use Rattle.oss_syntax.specs.declared.tree.program.Item.{Item}
@@ -28,6 +28,7 @@ item_from g f (items.Function d ∷ rest) name = if bytes_eq d.name name then na
 abbrev pub item_found : List Item → List ℕ → Found
 item_found all name = item_from 0 0 all name
 
+-- one, and where it is unknown the other
 abbrev pub or_found : Found → Found → Found
 or_found names.Unknown other = other
 or_found found other = found

@@ -2,7 +2,7 @@
 -- a pointer on the left of `+` and `-` moves.
 -- Read against: `3 / 2` is 1; `1 / 0` is DivideByZero; the pointer to `a[1]` plus 2 is that to `a[3]`; an `int` keeps -2147483648 of
 -- 2147483648; a pointer that is given no value points nowhere.
-use Rattle.std.specs.Prelude.{ℕ, ◌-◌, ◌^◌, ◌==◌, Bool, true, false, if◌then◌else◌, Result, Ok, Err}
+use Rattle.std.specs.Prelude.{◌-◌, ◌^◌, ◌==◌, Bool, true, false, if◌then◌else◌, Result, Ok, Err}
 use Rattle.oss_syntax.specs.declared.fault.FaultKind.{FaultKind}
 use Rattle.oss_syntax.specs.declared.tree.expr.BinOp.{BinOp}
 use Rattle.oss_syntax.specs.declared.tree.expr.BinOp.TheVariants as op
@@ -25,10 +25,12 @@ is_zero v = number_in v == 0
 abbrev pub truth_of : Value → Value
 truth_of v = value.Num (if is_zero v then 0 else 1)
 
+-- values of this kind are pointers
 abbrev pub is_pointer : ValueKind → Bool
 is_pointer (value_kind.Pointer n) = true
 is_pointer _ = false
 
+-- values of this kind are unsigned
 abbrev pub is_unsigned_kind : ValueKind → Bool
 is_unsigned_kind value_kind.Unsigned = true
 is_unsigned_kind _ = false
@@ -38,6 +40,7 @@ abbrev pub is_back : BinOp → Bool
 is_back op.Sub = true
 is_back _ = false
 
+-- a number as a value, or its fault
 abbrev pub as_value : Result Number FaultKind → Result Value FaultKind
 as_value (Ok n) = Ok (value.Num n.value)
 as_value (Err kind) = Err kind

@@ -2,7 +2,7 @@
 -- 2^64; it points to a cell only while the index is one of the global's.
 -- Read against: with `long x, a[3], m[2][4];` the pointer to `a` less 1 points to no cell, and 2 more make it the pointer to `a[1]`, which
 -- is cell 2; row 1 of `m` begins at cell 8; `m[1][4]` and `m[-1][0]` point nowhere.
-use Rattle.std.specs.Prelude.{ℕ, ◌+◌, ◌-◌, ◌/◌, ◌^◌, ◌&&◌, if◌then◌else◌, List, [], ◌∷◌, ℤ, pos, int_lt, int_le, nat_abs, Bool, true, false, Option, Some, None, option_map, slice_get}
+use Rattle.std.specs.Prelude.{ℕ, ◌+◌, ◌-◌, ◌/◌, ◌^◌, ◌&&◌, if◌then◌else◌, List, [], ◌∷◌, ℤ, pos, int_lt, int_le, nat_abs, Bool, true, false, Option, Some, None, slice_get}
 use Rattle.oss_syntax.specs.declared.tree.program.Item.{Item}
 use Rattle.oss_syntax.specs.declared.tree.program.Item.TheVariants as items
 use Rattle.oss_grammar.specs.Layout.{cells_of}
@@ -67,6 +67,7 @@ abbrev pub place_in : Option ℕ → ℕ → ℕ → Option ℕ → Option ℕ
 place_in None count row column = None
 place_in (Some m) count row column = place_of (count / m) m row column
 
+-- the same of a global that may not be there
 abbrev pub place_of_global : Option Extent → ℕ → Option ℕ → Option ℕ
 place_of_global None row column = None
 place_of_global (Some e) row column = place_in e.columns e.count row column

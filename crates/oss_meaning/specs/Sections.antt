@@ -2,11 +2,10 @@
 -- text order, then its test; of a multidependency its first value, its number of turns, and in each turn its indices and their test.
 -- Read against: with `long x, a[4];` the section `a[1;n]` loads what `n` needs, and with 2 it names the range 2..4; with -1 it fails. The multidependency
 -- `{ a[k], k = 0; 3 }` is the one range 1..4, and `{ a[3 - k], k = 0; 2 }` the two ranges 4..5 and 3..4.
-use Rattle.std.specs.Prelude.{ℕ, zero, suc, ◌+◌, ◌==◌, min, nat_le, if◌then◌else◌, List, [], ◌∷◌, ◌++◌, drop, length, map, reverse, Option, Some, None, slice_get, slice_index_or, Result, Ok, Err}
+use Rattle.std.specs.Prelude.{ℕ, zero, suc, ◌+◌, ◌==◌, min, nat_le, if◌then◌else◌, List, [], ◌∷◌, ◌++◌, drop, length, map, reverse, Option, Some, None, slice_get, slice_index_or, Err}
 use Rattle.std.proofs.Math.Nat.{min-le_right, lt_of_le_of_lt}
 use Rattle.oss_syntax.specs.declared.access.Access.{Access}
 use Rattle.oss_syntax.specs.declared.access.Range.{Range}
-use Rattle.oss_syntax.specs.declared.fault.FaultKind.{FaultKind}
 use Rattle.oss_syntax.specs.declared.fault.FaultKind.TheVariants as fault
 use Rattle.oss_syntax.specs.declared.tree.expr.Expr.{Expr}
 use Rattle.oss_syntax.specs.declared.tree.pragma.Form.{Form}
@@ -32,10 +31,11 @@ use Rattle.oss_meaning.specs.Pointers as pointers
 
 -- Ranges
 
--- one cell before ranges: it begins the first of them one cell earlier where it stands directly before it
+-- a range, begun with this cell if it begins behind it
 abbrev pub longer_by : ℕ → Range → Range
 longer_by c r = record { lo = min c r.lo; hi = r.hi; ordered = lt_of_le_of_lt (min-le_right c r.lo) r.ordered; within = r.within }
 
+-- one cell before ranges: the first of them begins with it where it stands directly before that one
 abbrev pub cell_before : ℕ → List Range → List Range
 cell_before c [] = cell_range c ∷ []
 cell_before c (r ∷ rest) = if r.lo == c + 1 then longer_by c r ∷ rest else cell_range c ∷ r ∷ rest
@@ -60,6 +60,7 @@ base_of globals (names.Grid g n) locals = global_base (slice_get globals g)
 base_of globals (names.Variable slot k) locals = value_base globals (value_at locals slot)
 base_of globals _ locals = global_base None
 
+-- an expression that may be left out
 abbrev pub optional : Option Expr → List Expr
 optional None = []
 optional (Some e) = e ∷ []
@@ -81,6 +82,7 @@ operands_in (form.Span l u) = optional l ++ optional u
 operands_in (form.Grid rows columns) = inner_operands rows ++ inner_operands columns
 operands_in (form.Many e f turns) = []
 
+-- the number at this place; one that is not there is 0
 abbrev pub number_at : List ℕ → ℕ → ℕ
 number_at vs i = slice_index_or vs i 0
 

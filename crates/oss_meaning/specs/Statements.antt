@@ -66,9 +66,11 @@ pub record Meaning : Type 0 where
 
 -- Statements without others in them
 
+-- behind it is where it stands: it declares nothing, and no task statement stands in it
 abbrev pub same_place : Around → Around
 same_place around = around
 
+-- no task statement stands in it
 abbrev pub no_bodies : Around → List Body
 no_bodies around = []
 
@@ -76,9 +78,11 @@ no_bodies around = []
 abbrev pub ticked : ℕ → Does → Does
 ticked line does around here ways locals = asking Tick line (λ t. does around here ways locals)
 
+-- a statement on this line without others in it, which does one tick and then this
 abbrev pub simple : ℕ → Does → Meaning
 simple line does = record { behind = same_place; does = ticked line does; bodies = no_bodies }
 
+-- it does nothing
 abbrev pub nothing_done : Does
 nothing_done around here ways locals = ways.next locals
 
@@ -93,10 +97,12 @@ abbrev pub in_order : List Meaning → Does
 in_order [] around here ways locals = ways.next locals
 in_order (m ∷ rest) around here ways locals = m.does around here (going_on (λ us. in_order rest (m.behind around) here ways us) ways) locals
 
+-- the place behind these statements
 abbrev pub behind_all : List Meaning → Around → Around
 behind_all [] around = around
 behind_all (m ∷ rest) around = behind_all rest (m.behind around)
 
+-- the bodies of the task statements in these statements
 abbrev pub bodies_of_all : List Meaning → Around → List Body
 bodies_of_all [] around = []
 bodies_of_all (m ∷ rest) around = m.bodies around ++ bodies_of_all rest (m.behind around)
@@ -105,9 +111,11 @@ bodies_of_all (m ∷ rest) around = m.bodies around ++ bodies_of_all rest (m.beh
 abbrev pub left : Around → Around → Around
 left around inside = record { scope = around.scope; tasks = inside.tasks }
 
+-- a block: what was declared in it is gone behind it
 abbrev pub alone : Does → Does
 alone does around here ways locals = does around here (going_on (λ us. ways.next (take (length around.scope) us)) ways) locals
 
+-- what a block means, which does no tick
 abbrev pub blocked : List Meaning → Meaning
 blocked inner = record {
   behind = λ around. left around (behind_all inner around);
@@ -128,6 +136,7 @@ declared all line [] scope here locals go = go locals
 declared all line (l ∷ rest) scope here locals go =
     first_of all scope l.kind l.first line here locals (λ v. declared all line rest (scope ++ l ∷ []) here (locals ++ kept_value l.kind v ∷ []) go)
 
+-- what a declaration means
 abbrev pub declare : List Item → ℕ → List Local → Meaning
 declare all line ls = record {
   behind = λ around. record { scope = around.scope ++ ls; tasks = around.tasks };
@@ -147,6 +156,7 @@ fold_of op.Or = Some fold_op.Or
 fold_of op.Xor = Some fold_op.Xor
 fold_of _ = None
 
+-- over an `int` none of them is a fold
 abbrev pub folded_by : NumKind → BinOp → Option Op
 folded_by num.Int o = None
 folded_by _ o = fold_of o
@@ -175,19 +185,23 @@ assigned globals line (target.Local slot k) t o e here locals go = local_assigne
 assigned globals line (target.Cell n) t o e here locals go = cell_assigned globals line t o e n here locals (go locals)
 assigned globals line _ t o e here locals go = go locals
 
+-- what an assignment does
 abbrev pub assignment : List Item → ℕ → Expr → Option BinOp → Expr → Does
 assignment all line t o e around here ways locals =
     assigned (extents_of all) line (sense_of all around.scope t).typed.target (sense_of all around.scope t) o (sense_of all around.scope e) here locals ways.next
 
 -- Calls, prints and returns
 
+-- a call as a statement: its value is dropped
 abbrev pub call_done : List Item → ℕ → List ℕ → List Expr → Does
 call_done all line name es around here ways locals = call_value all (item_found all name) (map (sense_of all around.scope) es) line here locals (λ v. ways.next locals)
 
+-- `printf`: its arguments, and then one print, of an empty string too
 abbrev pub print_done : List Item → ℕ → List ℕ → List Expr → Does
 print_done all line format es around here ways locals =
     arguments (map (sense_of all around.scope) es) line here locals [] (λ made. asking (Print (printed format (map number_in (reverse made)))) line (λ t. ways.next locals))
 
+-- a `return`, with its value if it has one
 abbrev pub returned : List Item → ℕ → Option Expr → Does
 returned all line None around here ways locals = ways.give line (value.Num 0)
 returned all line (Some e) around here ways locals = (sense_of all around.scope e).value line here locals (λ v. ways.give line v)
@@ -199,10 +213,12 @@ abbrev pub part_does : Option Meaning → Does
 part_does None around here ways locals = ways.next locals
 part_does (Some m) around here ways locals = m.does around here ways locals
 
+-- the place behind such a part
 abbrev pub part_behind : Option Meaning → Around → Around
 part_behind None around = around
 part_behind (Some m) around = m.behind around
 
+-- the bodies of the task statements in such a part
 abbrev pub part_bodies : Option Meaning → Around → List Body
 part_bodies None around = []
 part_bodies (Some m) around = m.bodies around
@@ -211,10 +227,12 @@ part_bodies (Some m) around = m.bodies around
 abbrev pub other_place : Meaning → Around → Around
 other_place side around = left around (side.behind around)
 
+-- the side that a test chooses
 abbrev pub chosen : Meaning → Option Meaning → Value → Does
 chosen side other v around here ways locals =
     if is_zero v then part_does other (other_place side around) here ways locals else side.does around here ways locals
 
+-- what an `if` means: the test, and then one side
 abbrev pub choice : List Item → ℕ → Expr → Meaning → Option Meaning → Meaning
 choice all line e side other = record {
   behind = λ around. left around (part_behind other (other_place side around));
@@ -267,6 +285,7 @@ for_done all line first test last body around here ways locals =
     part_does first around here (going_on (λ us.
     loops all line test last body (part_behind first around) here (going_on (λ ls. ways.next (take (length around.scope) ls)) ways) us) ways) locals
 
+-- what a `for` means
 abbrev pub for_loop : List Item → ℕ → Option Meaning → Option Expr → Option Meaning → Meaning → Meaning
 for_loop all line first test last body = record {
   behind = λ around. left around (body.behind (body_place last (part_behind first around)));
@@ -296,11 +315,13 @@ task all line clauses body = record {
   bodies = λ around. (λ here copies. body.does (in_task around) here (body_ends line) copies) ∷ body.bodies (in_task around);
 }
 
+-- a `taskwait`, or one on the cells of these sections
 abbrev pub wait_done : List Item → ℕ → Option (List Section) → Does
 wait_done all line None around here ways locals = asking Wait line (λ t. ways.next locals)
 wait_done all line (Some sections) around here ways locals =
     sections_run all around.scope waited_for sections line here locals [] (λ named. asking (WaitOn named) line (λ t. ways.next locals))
 
+-- a `release`: its clauses, and then what they declare is released
 abbrev pub release_done : List Item → ℕ → List Clause → Does
 release_done all line clauses around here ways locals =
     clauses_run all around.scope clauses line here locals nothing_made (λ made. asking (Release made.accesses) line (λ t. ways.next locals))
@@ -329,5 +350,6 @@ stmt_step all (open_stmt.Release clauses) line = simple line (release_done all l
 abbrev pub meaning_of : List Item → Stmt → Meaning
 meaning_of all = fold-Stmt (ℕ → Meaning) Meaning (stmt_step all) (λ s. s.what s.line)
 
+-- what each of these statements means
 abbrev pub meanings_of : List Item → List Stmt → List Meaning
 meanings_of all ss = map (meaning_of all) ss
