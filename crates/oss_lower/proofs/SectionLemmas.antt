@@ -1,9 +1,10 @@
 -- The instructions of sections and clauses do what these mean, and those of a creation ask for the same new task.
-use Rattle.std.proofs.Common.{◌≡◌, ◌∙◌, ℕ, zero, suc, ◌+◌, ◌-◌, ◌<◌, ◌≤◌, List, [], ◌∷◌, ◌++◌, length, map, Option, Some, None, Bool, true, false, refl, sym, ap, subst, arith, length-append, drop, reverse, Result, Ok, Err}
+use Rattle.std.proofs.Common.{◌≡◌, ◌∙◌, ℕ, zero, suc, ◌+◌, ◌-◌, ◌<◌, ◌≤◌, List, [], ◌∷◌, ◌++◌, length, map, Option, Some, None, Bool, true, false, refl, sym, ap, subst, arith, length-append, append_assoc, drop, reverse, Result, Ok, Err}
 use Rattle.std.specs.Prelude.{◌==◌, nat_le, if◌then◌else◌, slice_get}
 use Rattle.std.proofs.lemmas.Bool.Decides.{nat_tests}
-use Rattle.std.proofs.lemmas.List.{length-map}
+use Rattle.std.proofs.lemmas.List.{append-nil, length-map, map-append}
 use Rattle.oss_syntax.specs.declared.access.Access.{Access}
+use Rattle.oss_syntax.specs.declared.access.Range.{Range}
 use Rattle.oss_syntax.specs.declared.fault.FaultKind.TheVariants as fault
 use Rattle.oss_syntax.specs.declared.tree.expr.Expr.{Expr}
 use Rattle.oss_syntax.specs.declared.tree.pragma.Clause.{Clause}
@@ -401,16 +402,26 @@ module _ (all : List Item) where
   abbrev pub with_accesses : List Access → Made → Made
   with_accesses accesses made = record made { accesses = accesses }
 
+  -- the accesses of the clauses before, and those of more ranges
+  abbrev pub with_ranges : Declared → List Range → List Access → List Access
+  with_ranges d ranges accesses = accesses ++ declared_on d ranges
+
   pub sections_ok : (scope : List Local) (d : Declared) (ss : List Section) (n : ℕ) (cl : Option ℕ) (S : Standing all n cl) (pc to line : ℕ) (locals : List Value) (made : Made) (go : List Access → TreeRun)
       → HasAt S.code pc (sections_code all scope d ss line) → to ≡ pc + length (sections_code all scope d ss line)
-      → ((accesses : List Access) → Comes S to [] (kept locals (with_accesses accesses made)) (go accesses))
+      → ((ranges : List Range) → Comes S to [] (kept locals (with_accesses (with_ranges d ranges made.accesses) made)) (go (with_ranges d ranges made.accesses)))
       → Comes S pc [] (kept locals made) (sections_run all scope d ss (or_line cl line) S.here locals made.accesses go)
-  sections_ok scope d [] n cl S pc to line locals made go has t comes = comes_at S pc to [] (kept locals made) (go made.accesses) (omega (arith, t)) (comes made.accesses)
+  sections_ok scope d [] n cl S pc to line locals made go has t comes =
+      comes_at S pc to [] (kept locals made) (go made.accesses) (omega (arith, t))
+      (subst (λ accesses. Comes S to [] (kept locals (with_accesses accesses made)) (go accesses)) (append-nil made.accesses) (comes []))
   sections_ok scope d (s ∷ ss) n cl S pc to line locals made go has t comes =
       let first = section_code all scope d s line in
       let later = sections_code all scope d ss line in
       section_by_ok scope d s.base s.form s.line s.base_line n cl S pc (pc + length first) line locals made _ (has_front S.code pc first later has) refl
-      (λ cells. sections_ok scope d ss n cl S (pc + length first) to line locals (with_section d cells made) go (has_back S.code pc first later has) (omega (arith, t, length-append first later)) comes)
+      (λ cells. sections_ok scope d ss n cl S (pc + length first) to line locals (with_section d cells made) go (has_back S.code pc first later has) (omega (arith, t, length-append first later))
+      (λ ranges. subst (λ accesses. Comes S to [] (kept locals (with_accesses accesses made)) (go accesses)) (joined cells ranges) (comes (ranges_of cells ++ ranges))))
+    where
+      joined : (cells : List ℕ) (ranges : List Range) → with_ranges d (ranges_of cells ++ ranges) made.accesses ≡ with_ranges d ranges (with_ranges d (ranges_of cells) made.accesses)
+      joined cells ranges = ap (λ l. made.accesses ++ l) (map-append _ (ranges_of cells) ranges) ∙ sym (append_assoc made.accesses (declared_on d (ranges_of cells)) (declared_on d ranges))
 
   -- a clause with a value
   valued_ok : (scope : List Local) (e : Expr) (n : ℕ) (cl : Option ℕ) (S : Standing all n cl) (pc to line : ℕ) (locals : List Value) (made : Made) (x : Lined) (gives : Value → Made) (go : Made → TreeRun)
@@ -428,7 +439,7 @@ module _ (all : List Item) where
       → HasAt S.code pc (clause_code all scope c line) → to ≡ pc + length (clause_code all scope c line)
       → ((m : Made) → Comes S to [] (kept locals m) (go m)) → Comes S pc [] (kept locals made) (clause_run all scope c (or_line cl line) S.here locals made go)
   clause_ok scope (clause.Depend mode strong fresh sections) n cl S pc to line locals made go has t comes =
-      sections_ok scope (record { mode = mode; strong = strong; fresh = fresh }) sections n cl S pc to line locals made _ has t (λ accesses. comes (with_accesses accesses made))
+      sections_ok scope (record { mode = mode; strong = strong; fresh = fresh }) sections n cl S pc to line locals made _ has t (λ ranges. comes (with_accesses (with_ranges (record { mode = mode; strong = strong; fresh = fresh }) ranges made.accesses) made))
   clause_ok scope (clause.If e) n cl S pc to line locals made go has t comes = valued_ok scope e n cl S pc to line locals made _ (λ v. record made { when = holds v }) go (λ at v. refl) has t comes
   clause_ok scope (clause.Final e) n cl S pc to line locals made go has t comes = valued_ok scope e n cl S pc to line locals made _ (λ v. record made { last = holds v }) go (λ at v. refl) has t comes
   clause_ok scope clause.Wait n cl S pc to line locals made go has t comes =

@@ -2,6 +2,7 @@
 use Rattle.std.proofs.Common.{◌≡◌, ◌∙◌, ℕ, suc, ◌+◌, ◌-◌, ◌<◌, ◌≤◌, List, [], ◌∷◌, ◌++◌, length, map, Option, Some, None, Bool, true, false, refl, sym, ap, subst, arith, length-append, take, drop, reverse}
 use Rattle.std.specs.Prelude.{if◌then◌else◌, slice_set}
 use Rattle.oss_syntax.specs.declared.access.Op.{Op}
+use Rattle.oss_syntax.specs.declared.access.Range.{Range}
 use Rattle.oss_syntax.specs.declared.tree.expr.BinOp.{BinOp}
 use Rattle.oss_syntax.specs.declared.tree.expr.Expr.{Expr}
 use Rattle.oss_syntax.specs.declared.tree.pragma.Clause.{Clause}
@@ -15,6 +16,7 @@ use Rattle.oss_grammar.specs.Formats.{pieces_of, printed, printed_pieces, writte
 use Rattle.oss_grammar.specs.Values.{kept as kept_number}
 use Rattle.oss_grammar.specs.declared.format.Piece.{Piece}
 use Rattle.oss_model.specs.Bodies.Ask.{Fold, Print, Read, Release, Tick, Wait, WaitOn, Write}
+use Rattle.oss_meaning.specs.declared.clauses.Declared.{Declared}
 use Rattle.oss_meaning.specs.declared.names.Target.{Target}
 use Rattle.oss_meaning.specs.declared.names.Target.TheVariants as target
 use Rattle.oss_meaning.specs.declared.value.Value.{Value}
@@ -25,6 +27,7 @@ use Rattle.oss_meaning.specs.Names.{item_found}
 use Rattle.oss_meaning.specs.Operators.{is_pointer, is_unsigned_kind, kept_value, operated_by}
 use Rattle.oss_meaning.specs.Pointers.{cell_of, extents_of, number_in}
 use Rattle.oss_meaning.specs.Runs.{asking}
+use Rattle.oss_meaning.specs.Sections.{declared_on}
 use Rattle.oss_meaning.specs.Statements.{Around, Body, Does, Meaning, Ways, assigned, assignment, call_done, cell_assigned, cell_changed, declared, first_of, folded_by, local_assigned, nothing_done, print_done, release_done, returned, simple, stored, ticked, wait_done}
 use Rattle.oss_code.specs.declared.instr.Instr.TheVariants as i
 use Rattle.oss_machine.specs.Steps.{On, Asks, Effect, effect}
@@ -100,6 +103,11 @@ pub record StmtAgrees (all : List Item) (s : Meaning) (c : StmtCode) : Type 0 wh
 -- no task statement more
 pub none_more : (around : Around) (scope : List Local) → ◌≡◌ {A = Around} (record { scope = scope; tasks = around.tasks }) (record { scope = scope; tasks = around.tasks + 0 })
 none_more around scope = ap {B = Around} (λ k. record { scope = scope; tasks = k }) (omega arith)
+
+-- the ranges of what is declared of ranges
+ranges_are : (d : Declared) (ranges : List Range) → map (λ a. a.range) (declared_on d ranges) ≡ ranges
+ranges_are d [] = refl
+ranges_are d (r ∷ rest) = ap (λ l. r ∷ l) (ranges_are d rest)
 
 written_is : (o : Option (List Piece)) (vs : List ℕ) → written_pieces (pieces_in o) vs ≡ printed_pieces o vs
 written_is None vs = refl
@@ -351,8 +359,9 @@ module _ (all : List Item) where
       let code = sections_code all spot.scope waited_for sections line in
       let last = one line 0 i.WaitOn in
       sections_ok all spot.scope waited_for sections n None S pc (pc + length code) line locals nothing_made _ (has_front S.code pc code last has) refl
-      (λ accesses. comes_asking S (pc + length code) to [] (λ u. []) (kept locals (with_accesses all accesses nothing_made)) (plain locals) _ (WaitOn accesses) (λ u. ways.next locals)
-      (has_back S.code pc code last has).0 refl (omega (arith, t, length-append code last)) (λ u. l.next locals))
+      (λ ranges. comes_asking S (pc + length code) to [] (λ u. []) (kept locals (with_accesses all (declared_on waited_for ranges) nothing_made)) (plain locals) _ (WaitOn (declared_on waited_for ranges)) (λ u. ways.next locals)
+      (has_back S.code pc code last has).0 (ap (λ r. Asks (WaitOn (declared_on waited_for r)) (λ u. framed None (pc + length code + 1 + 0) [] (plain locals))) (ranges_are waited_for ranges))
+      (omega (arith, t, length-append code last)) (λ u. l.next locals))
 
   pub release_ok : (line : ℕ) (cs : List Clause) → Executes all (release_done all line cs) (release_code all line cs) no_entries
   release_ok line cs n S spot tasks ways pc to locals has t num l =

@@ -9,8 +9,8 @@ use Rattle.oss_code.specs.declared.code.CodeParts.{CodeParts}
 use Rattle.oss_machine.specs.Frames.{CodeScript, Config, start_of}
 use Rattle.oss_machine.specs.Machines.{Standing, asked_in, asked_now, asks, machine_at, resumed, settled, standing}
 use Rattle.oss_machine.specs.Steps.{Step, Goes, Waits, one_step}
+use Rattle.oss_machine.proofs.SettleLemmas.{resumed_waits, settled_goes, settled_waits}
 use Rattle.oss_lower.specs.Programs.{moved_ask, moved_asked}
-use Rattle.oss_lower.proofs.Settling.{resumed_waits, settled_goes, settled_waits}
 
 module _ (code : CodeParts) where
   -- what a body that stands so asks after these answers, the oldest first
