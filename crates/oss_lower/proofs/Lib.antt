@@ -8,3 +8,5 @@ pub mod StatementLemmas
 pub mod NestedLemmas
 pub mod LoopLemmas
 pub mod TaskLemmas
+pub mod PlaceLemmas
+pub mod ProgramLemmas
