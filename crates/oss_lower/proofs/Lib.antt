@@ -10,3 +10,7 @@ pub mod LoopLemmas
 pub mod TaskLemmas
 pub mod PlaceLemmas
 pub mod ProgramLemmas
+pub mod FlowLemmas
+pub mod SoundExpressions
+pub mod SoundStatements
+pub mod SoundPrograms

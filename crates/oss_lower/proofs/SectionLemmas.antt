@@ -55,7 +55,7 @@ inner_count (inner.Span None (Some u)) = refl
 inner_count (inner.Span (Some l) None) = refl
 inner_count (inner.Span (Some l) (Some u)) = refl
 
-form_count : (f : Form) → operands_of (form_code f) ≡ length (operands_in f)
+pub form_count : (f : Form) → operands_of (form_code f) ≡ length (operands_in f)
 form_count form.Whole = refl
 form_count form.Deref = refl
 form_count (form.Shape m) = refl
