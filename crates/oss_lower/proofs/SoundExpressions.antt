@@ -40,7 +40,7 @@ use Rattle.oss_lower.proofs.ExpressionFolds.{Keeps, Pair, map_twice}
 use Rattle.oss_lower.proofs.SectionLemmas.{form_count}
 use Rattle.oss_lower.proofs.FlowLemmas.{DepthsAt, Flows, IsSimple, SoundFrom, at_depth, call_sound, create_sound, depths_back, depths_front, flows_none, flows_one, flows_then, next_turn_sound, simple_sound, skip_sound, sound_append, spawn_sound, turns_sound, unless_sound}
 
-operator_simple : (pointer left right : Bool) (o : BinOp) → IsSimple (operator pointer o left right) 2 1
+pub operator_simple : (pointer left right : Bool) (o : BinOp) → IsSimple (operator pointer o left right) 2 1
 operator_simple true left right o = record { takes_is = refl; leaves_is = refl; leads_is = refl; enters_is = refl }
 operator_simple false left right o = record { takes_is = refl; leaves_is = refl; leads_is = refl; enters_is = refl }
 
