@@ -14,3 +14,4 @@ pub mod FlowLemmas
 pub mod SoundExpressions
 pub mod SoundStatements
 pub mod SoundPrograms
+pub mod LiveLemmas

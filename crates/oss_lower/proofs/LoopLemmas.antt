@@ -196,10 +196,12 @@ module _ (all : List Item) (line : ℕ) (test : Option Expr) (last : Option (Agr
   loop_long spot at =
       let bodies = loop_body all line test body.right spot in
       let test_is = test_length all test line spot.scope in
-      omega (arith,
-      length-append (part_entries (code_part all last) (last_spot all line test body.right spot) (at + (6 + test_is + length bodies))) (body.right.entries (body_spot all line test spot) (at + (6 + test_is))),
-      part_long all last (last_spot all line test body.right spot) (at + (6 + test_is + length bodies)),
-      body.related.long (body_spot all line test spot) (at + (6 + test_is)))
+      omega (
+        arith,
+        length-append (part_entries (code_part all last) (last_spot all line test body.right spot) (at + (6 + test_is + length bodies))) (body.right.entries (body_spot all line test spot) (at + (6 + test_is))),
+        part_long all last (last_spot all line test body.right spot) (at + (6 + test_is + length bodies)),
+        body.related.long (body_spot all line test spot) (at + (6 + test_is)),
+      )
 
   -- A `for`
   module _ (first : Option (Agreeing all)) where
@@ -278,9 +280,12 @@ module _ (all : List Item) (line : ℕ) (test : Option Expr) (last : Option (Agr
       behind = λ around. ap {B = Around} (λ k. record { scope = around.scope; tasks = k }) (for_behind around);
       long = λ spot at.
           let k = length (part_code (code_part all first) (behind 1 spot)) in
-          omega (arith,
-          length-append (part_entries (code_part all first) (behind 1 spot) (at + 1)) (entries (loop_spot (code_part all first) (behind 1 spot)) (at + 1 + k)),
-          part_long all first (behind 1 spot) (at + 1), loop_long (loop_spot (code_part all first) (behind 1 spot)) (at + 1 + k));
+          omega (
+            arith,
+            length-append (part_entries (code_part all first) (behind 1 spot) (at + 1)) (entries (loop_spot (code_part all first) (behind 1 spot)) (at + 1 + k)),
+            part_long all first (behind 1 spot) (at + 1),
+            loop_long (loop_spot (code_part all first) (behind 1 spot)) (at + 1 + k),
+          );
       runs = ticked_ok all line (for_done all line (meaning_part all first) test (meaning_part all last) body.left)
           (for_codes all line (code_part all first) test (code_part all last) body.right) (for_entries all line (code_part all first) test (code_part all last) body.right) for_runs;
       bodies = λ n S spot tasks pc none has num.

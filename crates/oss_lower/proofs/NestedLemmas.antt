@@ -280,11 +280,13 @@ module _ (all : List Item) where
           ap {B = Around} (λ a. record { scope = around.scope; tasks = a.tasks }) (part_behind_is other (other_place side.left around))
           ∙ ap {B = Around} (λ a. record { scope = around.scope; tasks = a.tasks + part_tasks (code_part other) }) (side.related.behind around)
           ∙ ap {B = Around} (λ k. record { scope = around.scope; tasks = k }) (omega arith);
-      long = λ spot at. omega (arith,
-          length-append (side.right.entries (side_spot all line e (behind 1 spot)) (at + 1 + choice_test all line e (behind 1 spot)))
-          (part_entries (code_part other) (other_spot all line e side.right (behind 1 spot)) (at + 1 + (choice_test all line e (behind 1 spot) + side_length all line e side.right (behind 1 spot) + 1))),
-          side.related.long (side_spot all line e (behind 1 spot)) (at + 1 + choice_test all line e (behind 1 spot)),
-          part_long other (other_spot all line e side.right (behind 1 spot)) (at + 1 + (choice_test all line e (behind 1 spot) + side_length all line e side.right (behind 1 spot) + 1)));
+      long = λ spot at. omega (
+        arith,
+        length-append (side.right.entries (side_spot all line e (behind 1 spot)) (at + 1 + choice_test all line e (behind 1 spot)))
+            (part_entries (code_part other) (other_spot all line e side.right (behind 1 spot)) (at + 1 + (choice_test all line e (behind 1 spot) + side_length all line e side.right (behind 1 spot) + 1))),
+        side.related.long (side_spot all line e (behind 1 spot)) (at + 1 + choice_test all line e (behind 1 spot)),
+        part_long other (other_spot all line e side.right (behind 1 spot)) (at + 1 + (choice_test all line e (behind 1 spot) + side_length all line e side.right (behind 1 spot) + 1)),
+      );
       runs = ticked_ok all line choice_does _ _ choice_runs;
       bodies = ticked_bodies all line choice_in _ _ choice_bodies;
     }

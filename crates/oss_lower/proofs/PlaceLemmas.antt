@@ -39,10 +39,11 @@ has_all : (code : CodeParts) (xs pre : List Lined) → code.instrs ≡ map (λ l
 has_all code [] pre instrs lines = tt
 has_all code (x ∷ xs) pre instrs lines =
     let over : (pre ++ x ∷ []) ++ xs ≡ pre ++ (x ∷ xs) = append_assoc pre (x ∷ []) xs in
-    let one_more : length (pre ++ x ∷ []) ≡ length pre + 1 = omega (arith, length-append pre (x ∷ [])) in
-    (record { instr = ap (λ l. slice_get l (length pre)) instrs ∙ seam (λ l. l.what) pre x xs; line = ap (λ l. slice_index_or l (length pre) 0) lines ∙ seam_or (λ l. l.line) pre x xs 0 },
-    subst (λ m. HasAt code m xs) one_more
-    (has_all code xs (pre ++ x ∷ []) (instrs ∙ ap (λ l. map (λ y. y.what) l) (sym over)) (lines ∙ ap (λ l. map (λ y. y.line) l) (sym over))))
+    let one_more : length (pre ++ x ∷ []) ≡ length pre + 1 = omega (arith, length-append pre (x ∷ [])) in (
+      record { instr = ap (λ l. slice_get l (length pre)) instrs ∙ seam (λ l. l.what) pre x xs; line = ap (λ l. slice_index_or l (length pre) 0) lines ∙ seam_or (λ l. l.line) pre x xs 0 },
+      subst (λ m. HasAt code m xs) one_more
+          (has_all code xs (pre ++ x ∷ []) (instrs ∙ ap (λ l. map (λ y. y.what) l) (sym over)) (lines ∙ ap (λ l. map (λ y. y.line) l) (sym over))),
+    )
 
 abbrev pub value_or : {A : Type 0} → Option A → A → A
 value_or None d = d
@@ -101,9 +102,10 @@ module _ (all : List Item) where
   numbered_seam [] pre post e = tt
   numbered_seam (x ∷ es) pre post e =
       let over : pre ++ (x ∷ (es ++ post)) ≡ (pre ++ x ∷ []) ++ (es ++ post) = sym (append_assoc pre (x ∷ []) (es ++ post)) in
-      let one_more : length (pre ++ x ∷ []) ≡ length pre + 1 = omega (arith, length-append pre (x ∷ [])) in
-      (ap (λ l. slice_index_or l (length pre) end_entry) e ∙ seam_in pre x (es ++ post) end_entry,
-      subst (λ t. NumberedAt (place_of all) t es) one_more (numbered_seam es (pre ++ x ∷ []) post (e ∙ over)))
+      let one_more : length (pre ++ x ∷ []) ≡ length pre + 1 = omega (arith, length-append pre (x ∷ [])) in (
+        ap (λ l. slice_index_or l (length pre) end_entry) e ∙ seam_in pre x (es ++ post) end_entry,
+        subst (λ t. NumberedAt (place_of all) t es) one_more (numbered_seam es (pre ++ x ∷ []) post (e ∙ over)),
+      )
 
   function_at : (code : CodeParts) (fs : List Function) (from : ℕ) (pre : List ℕ) → statements ≡ pre ++ statements_from all from fs → HasAt code from (function_codes all fs)
       → (f d e tasks : ℕ) (fn : Function) → tasks ≡ length pre → slice_get fs f ≡ Some fn

@@ -334,11 +334,16 @@ module _ (all : List Item) (code : CodeParts) (there : FunctionsThere all code) 
           let p2 = p + 1 + length turn in
           let last : DepthsAt code p2 tail = depths_back code (p + 1) turn tail depths.1 in
           let inside = turn_sound (scope ++ turns.variable ∷ []) over e o (p + 1) line (depths_front code (p + 1) turn tail depths.1) last.0 in
-          let out : IsAtDepth code (p2 + 1 + 1) 0 = at_depth code _ _ 0 0 (omega (arith, length-append turn tail)) refl exit in
-          (depths.0, (turns_sound code p (length turn + 1) (p2 + 1) (omega arith) inside.0 last.1.0,
-          sound_append code (p + 1) turn tail inside.1
-          (next_turn_sound code p2 (length turn) (omega arith) last.1.0 (at_depth code (p + 1) (p2 - length turn) 0 0 (omega arith) refl inside.0),
-          (simple_sound code (p2 + 1) 0 0 0 0 (i.EndTurns d) (record { takes_is = refl; leaves_is = refl; leads_is = refl; enters_is = refl }) (omega arith) (omega arith) out, tt))))
+          let out : IsAtDepth code (p2 + 1 + 1) 0 = at_depth code _ _ 0 0 (omega (arith, length-append turn tail)) refl exit in (
+            depths.0,
+            (
+              turns_sound code p (length turn + 1) (p2 + 1) (omega arith) inside.0 last.1.0,
+              sound_append code (p + 1) turn tail inside.1 (
+                next_turn_sound code p2 (length turn) (omega arith) last.1.0 (at_depth code (p + 1) (p2 - length turn) 0 0 (omega arith) refl inside.0),
+                (simple_sound code (p2 + 1) 0 0 0 0 (i.EndTurns d) (record { takes_is = refl; leaves_is = refl; leads_is = refl; enters_is = refl }) (omega arith) (omega arith) out, tt),
+              ),
+            ),
+          )
 
   abbrev section_by : List ℕ → Form → ℕ → ℕ → Section
   section_by base f first name_line = record { base = base; form = f; line = first; base_line = name_line }

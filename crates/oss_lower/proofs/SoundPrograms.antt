@@ -39,9 +39,10 @@ depths_all : (code : CodeParts) (xs pre : List Lined) → code.depths ≡ map (�
 depths_all code [] pre same = tt
 depths_all code (x ∷ xs) pre same =
     let over : (pre ++ x ∷ []) ++ xs ≡ pre ++ (x ∷ xs) = append_assoc pre (x ∷ []) xs in
-    let one_more : length (pre ++ x ∷ []) ≡ length pre + 1 = omega (arith, length-append pre (x ∷ [])) in
-    (ap (λ l. slice_get l (length pre)) same ∙ seam (λ l. l.depth) pre x xs,
-    subst (λ m. DepthsAt code m xs) one_more (depths_all code xs (pre ++ x ∷ []) (same ∙ ap (λ l. map (λ y. y.depth) l) (sym over))))
+    let one_more : length (pre ++ x ∷ []) ≡ length pre + 1 = omega (arith, length-append pre (x ∷ [])) in (
+      ap (λ l. slice_get l (length pre)) same ∙ seam (λ l. l.depth) pre x xs,
+      subst (λ m. DepthsAt code m xs) one_more (depths_all code xs (pre ++ x ∷ []) (same ∙ ap (λ l. map (λ y. y.depth) l) (sym over))),
+    )
 
 -- each instruction of a sound piece is sound
 sound_at : (code : CodeParts) (xs : List Lined) (from : ℕ) → SoundFrom code from xs → (j depth : ℕ) (what : Instr)
@@ -137,9 +138,11 @@ module _ (all : List Item) (code : CodeParts) (low : IsLowered all code) where
   entered_sound : (f : Function) (mark : Option TaskMark) (pc : ℕ) → DepthsAt code pc (entered_code all f mark) → IsAtDepth code (pc + length (entered_code all f mark) + end_length) 0
       → IsAtDepth code pc 0 × SoundFrom code pc (entered_code all f mark)
   entered_sound f None pc depths body = (depths.0, (skip_sound code pc 0 end_length (pc + 1 + end_length) refl body, tt))
-  entered_sound f (Some mark) pc depths body =
-      (creation_part.0, sound_append code pc creation _ creation_part.1
-      (simple_sound code p1 0 0 1 1 (i.Push 0) (record { takes_is = refl; leaves_is = refl; leads_is = refl; enters_is = refl }) (omega arith) (omega arith) rest.1.0, (return_sound code (p1 + 1), tt)))
+  entered_sound f (Some mark) pc depths body = (
+    creation_part.0,
+    sound_append code pc creation _ creation_part.1
+        (simple_sound code p1 0 0 1 1 (i.Push 0) (record { takes_is = refl; leaves_is = refl; leads_is = refl; enters_is = refl }) (omega arith) (omega arith) rest.1.0, (return_sound code (p1 + 1), tt)),
+  )
     where
       creation : List Lined
       creation = created_code all f.params (2 + end_length) mark.clauses f.line
@@ -159,9 +162,10 @@ module _ (all : List Item) (code : CodeParts) (low : IsLowered all code) where
           (depths_front code pc creation last depths) rest.0
 
   function_sound : (f : Function) (from : ℕ) → DepthsAt code from (function_code all f) → IsAtDepth code (body_entry all f from) 0 × SoundFrom code from (function_code all f)
-  function_sound f from depths =
-      (at_depth code _ _ 0 0 (omega arith) refl body_part.0,
-      sound_append code from (head_code all f) _ (sound_append code from bounds (entered_code all f f.mark) bound_part.1 entered_part.1) body_part.1)
+  function_sound f from depths = (
+    at_depth code _ _ 0 0 (omega arith) refl body_part.0,
+    sound_append code from (head_code all f) _ (sound_append code from bounds (entered_code all f f.mark) bound_part.1 entered_part.1) body_part.1,
+  )
     where
       bounds : List Lined
       bounds = bound_code f.line 0 f.params
@@ -205,11 +209,14 @@ module _ (all : List Item) (code : CodeParts) (low : IsLowered all code) where
   -- The whole code
 
   whole_sound : SoundFrom code 0 (program_code all)
-  whole_sound =
-      (skip_sound code 0 0 (main_place - 1) main_place (omega (arith, body_behind all (functions_of all) first_entry (main_number all) end_entry (omega arith) (omega arith)))
-      (body_there (functions_of all) first_entry at_functions (main_number all) end_entry at_program.1.0),
-      (simple_sound code 1 0 0 1 1 (i.Push 0) (record { takes_is = refl; leaves_is = refl; leads_is = refl; enters_is = refl }) (omega arith) (omega arith) at_program.1.1.0,
-      (return_sound code 2, functions_sound (functions_of all) first_entry at_functions)))
+  whole_sound = (
+    skip_sound code 0 0 (main_place - 1) main_place (omega (arith, body_behind all (functions_of all) first_entry (main_number all) end_entry (omega arith) (omega arith)))
+        (body_there (functions_of all) first_entry at_functions (main_number all) end_entry at_program.1.0),
+    (
+      simple_sound code 1 0 0 1 1 (i.Push 0) (record { takes_is = refl; leaves_is = refl; leads_is = refl; enters_is = refl }) (omega arith) (omega arith) at_program.1.1.0,
+      (return_sound code 2, functions_sound (functions_of all) first_entry at_functions),
+    ),
+  )
     where
       main_place : ℕ
       main_place = body_place all (main_number all)

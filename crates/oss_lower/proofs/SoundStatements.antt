@@ -66,10 +66,13 @@ module _ (code : CodeParts) where
 
   -- an end leads nowhere
   pub end_sound : (pc line : ℕ) (result : Kind) → DepthsAt code pc (end_code line result) → SoundFrom code pc (end_code line result)
-  end_sound pc line result depths =
-      (simple_sound code pc 0 0 1 1 (i.Push 0) (record { takes_is = refl; leaves_is = refl; leads_is = refl; enters_is = refl }) (omega arith) (omega arith) depths.1.0,
-      (simple_sound code (pc + 1) 1 1 1 1 (i.Convert result) (record { takes_is = refl; leaves_is = refl; leads_is = refl; enters_is = refl }) (omega arith) (omega arith) depths.1.1.0,
-      (return_sound code (pc + 1 + 1), tt)))
+  end_sound pc line result depths = (
+    simple_sound code pc 0 0 1 1 (i.Push 0) (record { takes_is = refl; leaves_is = refl; leads_is = refl; enters_is = refl }) (omega arith) (omega arith) depths.1.0,
+    (
+      simple_sound code (pc + 1) 1 1 1 1 (i.Convert result) (record { takes_is = refl; leaves_is = refl; leads_is = refl; enters_is = refl }) (omega arith) (omega arith) depths.1.1.0,
+      (return_sound code (pc + 1 + 1), tt),
+    ),
+  )
 
   -- a body of a function or of a task, which begins with no value
   pub enclosed_sound : (codes : Codes) → CodesSound code codes → (spot : Spot) (pc line : ℕ) → DepthsAt code pc (enclosed_code line spot.result (codes (enclosed_spot spot)))
@@ -230,9 +233,13 @@ module _ (all : List Item) (code : CodeParts) (there : FunctionsThere all code) 
       let after_side : DepthsAt code p2 (one line 0 (i.Skip (length others)) ++ others) = depths_back code (p1 + 1) sides _ depths.1 in
       let out : IsAtDepth code (p2 + 1 + length others) 0 = at_depth code _ _ 0 0 (omega (arith, length-append sides (one line 0 (i.Skip (length others)) ++ others))) refl exit in
       let second = part_sound other (other_spot all line e side.right spot) (p2 + 1) (pads_behind code pc (length tests + 1 + length sides + 1) (p2 + 1) spot.pads (omega arith) pads) after_side.1 out in
-      let first = side.related (side_spot all line e spot) (p1 + 1) (pads_behind code pc (length tests + 1) (p1 + 1) spot.pads (omega arith) pads) (depths_front code (p1 + 1) sides _ depths.1) after_side.0 in
-      (depths.0, (unless_sound code p1 0 (length sides + 1) (p2 + 1) (omega arith) first.0 second.0,
-      sound_append code (p1 + 1) sides _ first.1 (skip_sound code p2 0 (length others) (p2 + 1 + length others) refl out, second.1))))
+      let first = side.related (side_spot all line e spot) (p1 + 1) (pads_behind code pc (length tests + 1) (p1 + 1) spot.pads (omega arith) pads) (depths_front code (p1 + 1) sides _ depths.1) after_side.0 in (
+        depths.0,
+        (
+          unless_sound code p1 0 (length sides + 1) (p2 + 1) (omega arith) first.0 second.0,
+          sound_append code (p1 + 1) sides _ first.1 (skip_sound code p2 0 (length others) (p2 + 1 + length others) refl out, second.1),
+        ),
+      ))
     where
       tests : List Lined
       tests = (expr_code all spot.scope e).value line 0
@@ -258,15 +265,32 @@ module _ (all : List Item) (code : CodeParts) (there : FunctionsThere all code) 
       (λ depths exit. (depths.0, (unless_sound code _ 0 past to (omega (arith, t, length-append ((expr_code all scope e).value line 0) (one line 1 (i.SkipUnless past)))) exit h, tt)))
 
   loop_sound : (line : ℕ) (test : Option Expr) (last : Option Sound) (body : Sound) → CodesSound code (loop_code all line test (code_part last) body.right)
-  loop_sound line test last body spot pc pads depths exit =
-      (depths.0, (skip_sound code pc 0 4 (pc + 1 + 1 + 1 + 1 + 1) (omega arith) depths.1.1.1.1.1.0,
-      (keep_here (pc + 1) depths.1.1.0,
-      (skip_sound code (pc + 1 + 1) 0 (4 + length tests + length bodies + length lasts) out_at (omega arith) out,
-      (keep_here (pc + 1 + 1 + 1) depths.1.1.1.1.0,
-      (skip_sound code (pc + 1 + 1 + 1 + 1) 0 (1 + length tests + length bodies) q8 (omega arith) last_part.0,
-      (simple_sound code (pc + 1 + 1 + 1 + 1 + 1) 0 0 0 0 i.Tick (record { takes_is = refl; leaves_is = refl; leads_is = refl; enters_is = refl }) (omega arith) (omega arith) test_part.0,
-      sound_append code q6 tests _ test_part.1 (sound_append code q7 bodies _ body_part.1 (sound_append code q8 lasts _ last_part.1 (again_sound code q9 (length tests + length bodies + length lasts) (omega arith)
-      (at_depth code q6 (q9 - (length tests + length bodies + length lasts)) 0 0 (omega arith) refl test_part.0), tt))))))))))
+  loop_sound line test last body spot pc pads depths exit = (
+    depths.0,
+    (
+      skip_sound code pc 0 4 (pc + 1 + 1 + 1 + 1 + 1) (omega arith) depths.1.1.1.1.1.0,
+      (
+        keep_here (pc + 1) depths.1.1.0,
+        (
+          skip_sound code (pc + 1 + 1) 0 (4 + length tests + length bodies + length lasts) out_at (omega arith) out,
+          (
+            keep_here (pc + 1 + 1 + 1) depths.1.1.1.1.0,
+            (
+              skip_sound code (pc + 1 + 1 + 1 + 1) 0 (1 + length tests + length bodies) q8 (omega arith) last_part.0,
+              (
+                simple_sound code (pc + 1 + 1 + 1 + 1 + 1) 0 0 0 0 i.Tick (record { takes_is = refl; leaves_is = refl; leads_is = refl; enters_is = refl }) (omega arith) (omega arith) test_part.0,
+                sound_append code q6 tests _ test_part.1 (sound_append code q7 bodies _ body_part.1 (sound_append code q8 lasts _ last_part.1 (
+                  again_sound code q9 (length tests + length bodies + length lasts) (omega arith)
+                      (at_depth code q6 (q9 - (length tests + length bodies + length lasts)) 0 0 (omega arith) refl test_part.0),
+                  tt,
+                ))),
+              ),
+            ),
+          ),
+        ),
+      ),
+    ),
+  )
     where
       bodies : List Lined
       bodies = loop_body all line test body.right spot

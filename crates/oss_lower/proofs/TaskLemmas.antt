@@ -99,12 +99,13 @@ module _ (all : List Item) where
     task_in around = (λ here copies. body.left.does (in_task around) here (body_ends line) copies) ∷ body.left.bodies (in_task around)
 
     task_bodies : BodiesDo all task_in (task_codes all line clauses body.right) (task_entries all line clauses body.right)
-    task_bodies n S spot tasks pc none has num =
-        (λ copies. subst (λ q. Comes S q [] (plain copies) (body.left.does (in_task (placed spot tasks)) S.here (body_ends line) copies)) start_is
-        (enclosed_ok body.left.does body.right.code body.right.entries body.related.runs n S spot (tasks + 1) start line (λ at v. ending End at) copies inside_has
-        (subst (λ q. NumberedAt S.places (tasks + 1) (body.right.entries (enclosed_spot spot) q)) (sym start_is) num.1) (ends_ok n S spot.result none)),
-        body.related.bodies n S (enclosed_spot spot) (tasks + 1) (pc + task_entry all line clauses spot) none
-        (subst (λ q. HasAt S.code q (body.right.code (enclosed_spot spot))) start_is (has_front S.code (start + end_length) (body.right.code (enclosed_spot spot)) (end_code line spot.result) (has_back S.code start (end_code line spot.result) _ inside_has))) num.1)
+    task_bodies n S spot tasks pc none has num = (
+      λ copies. subst (λ q. Comes S q [] (plain copies) (body.left.does (in_task (placed spot tasks)) S.here (body_ends line) copies)) start_is
+          (enclosed_ok body.left.does body.right.code body.right.entries body.related.runs n S spot (tasks + 1) start line (λ at v. ending End at) copies inside_has
+          (subst (λ q. NumberedAt S.places (tasks + 1) (body.right.entries (enclosed_spot spot) q)) (sym start_is) num.1) (ends_ok n S spot.result none)),
+      body.related.bodies n S (enclosed_spot spot) (tasks + 1) (pc + task_entry all line clauses spot) none
+          (subst (λ q. HasAt S.code q (body.right.code (enclosed_spot spot))) start_is (has_front S.code (start + end_length) (body.right.code (enclosed_spot spot)) (end_code line spot.result) (has_back S.code start (end_code line spot.result) _ inside_has))) num.1,
+    )
       where
         creation : List Lined
         creation = created_code all spot.scope (1 + end_length) clauses line

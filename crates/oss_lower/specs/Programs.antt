@@ -4,6 +4,7 @@ use Rattle.std.specs.Prelude.{◌≡◌, ◌≤◌, ℕ, List, length}
 use Rattle.oss_syntax.specs.declared.tree.program.Item.{Item}
 use Rattle.oss_model.specs.Bodies.{Ask, Asked, Order}
 use Rattle.oss_model.specs.Bodies.Ask.{Await, Begin, Create, End, Fails, Fold, Print, Read, Release, Tick, Wait, WaitOn, Write}
+use Rattle.oss_model.specs.Termination.{IsLively}
 use Rattle.oss_meaning.specs.Expressions.{TaskBody, TreeScript}
 use Rattle.oss_meaning.specs.Meaning.{asks_of, run_within}
 use Rattle.oss_code.specs.Soundness.{IsSound}
@@ -56,6 +57,10 @@ CodesAskAlike = (all : List Item) (code : CodeParts) → IsLowered all code → 
 -- The code of a program is sound.
 abbrev pub CodesAreSound : Type 0
 CodesAreSound = (all : List Item) (code : CodeParts) → IsLowered all code → IsSound code
+
+-- A program that has a code is lively: between two ticks a body of it asks for a bounded number of other things.
+abbrev pub ProgramsAreLively : Type 0
+ProgramsAreLively = (all : List Item) (code : CodeParts) → IsLowered all code → IsLively (asks_of all)
 
 -- A program that has a code asks the same under each bound on turns and calls that its answers do not pass.
 abbrev pub BoundsAreEnough : Type 0

@@ -1,0 +1,25 @@
+//! What holds of the code of every program, accepted or not: laws, each carried by a function that does nothing. A crate above calls
+//! the function, and then has the law.
+
+ghost use Rattle.oss_lower.specs.Programs.{BoundsAreEnough, CodesAreSound, CodesAskAlike, ProgramsAreLively};
+
+/// The code of a program asks as the program does: for each body of the program, and after any answers, it asks for the same, on the
+/// same line. A new task is to run the body that stands where `place_of` says.
+pub fn codes_ask_alike()
+    ensures { CodesAskAlike }
+{}
+
+/// The code of a program is sound, so that `Code::build` takes it.
+pub fn codes_are_sound()
+    ensures { CodesAreSound }
+{}
+
+/// A program that has a code is lively: between two ticks a body of it asks for a bounded number of other things.
+pub fn programs_are_lively()
+    ensures { ProgramsAreLively }
+{}
+
+/// A program that has a code asks the same under each bound on calls and turns that its answers do not pass.
+pub fn bounds_are_enough()
+    ensures { BoundsAreEnough }
+{}
