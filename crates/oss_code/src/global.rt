@@ -4,10 +4,12 @@ ghost use Rattle.std.specs.Option.{ForSome};
 
 use oss_syntax::Range;
 
-/// Where a global lies, and how many of its cells make a row of an array of two dimensions: `None` for every other global.
+/// Where a global lies.
 #[derive(Clone, Copy, Debug)]
 pub struct GlobalPlace {
+    /// Its cells.
     pub range: Range,
+    /// How many of them make a row of an array of two dimensions; `None` for every other global.
     pub columns: Option<u32>,
     pub ghost wide: { ForSome columns (λ m. 0 < m) },
 }

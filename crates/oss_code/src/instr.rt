@@ -1,10 +1,13 @@
+//! The instructions that the bodies of tasks run.
 use oss_grammar::Piece;
 use oss_meaning::Declared;
 use oss_syntax::{BinOp, Kind, List, NumKind, Op, UnOp};
+use std::mem::size_of;
 
 /// One instruction. It works on the stack of values of its function and on the locals of it, and goes on with the next
 /// instruction where nothing else is said. A jump tells how many instructions it passes. All jumps go forward but two: `Again`,
-/// which asks for a tick first, and `NextTurn`, of which a multidependency makes a bounded number.
+/// which asks for a tick first, and `NextTurn`, of which a multidependency makes a bounded number. `takes`, `leaves`, `leads` and
+/// `enters` tell of each instruction what they say. An instruction takes at most 64 bytes.
 #[derive(Debug, Drop)]
 pub enum Instr {
     /// Leaves this number.
@@ -41,7 +44,7 @@ pub enum Instr {
     Bind(Kind),
     /// Drops the locals behind the first so many.
     Keep(u32),
-    /// Takes a value.
+    /// Takes a value, and nothing is made of it.
     Drop,
     /// Leaves a copy of the value below the topmost one.
     Under,
@@ -98,18 +101,26 @@ pub enum Instr {
     Release,
 }
 
+// As many instructions as a text asks for are in memory at once.
+const _: () = prove!(size_of::<Instr>() <= 64);
+
 /// Which way a pointer moves (C11 6.5.6p8).
 #[derive(Clone, Copy, Debug, PartialEq, Eq)]
 pub enum Direction {
+    /// By so many elements on.
     Forth,
+    /// By so many elements back.
     Back,
 }
 
 /// A binary operator on two numbers, and which of them are unsigned (C11 6.3.1.8).
 #[derive(Clone, Copy, Debug, PartialEq, Eq)]
 pub struct Operator {
+    /// What is done with the numbers.
     pub op: BinOp,
+    /// The lower of the two numbers is unsigned; else it is signed.
     pub left_unsigned: bool,
+    /// The topmost number is unsigned; else it is signed.
     pub right_unsigned: bool,
 }
 
@@ -147,12 +158,19 @@ pub enum PartForm {
     /// `[l;n]`, with two.
     Length,
     /// `[l:u]`, with a number for each end that is written.
-    Span { lower: bool, upper: bool },
+    Span {
+        /// The first end is written.
+        lower: bool,
+        /// The last one is.
+        upper: bool,
+    },
 }
 
 /// How many indices each turn of a multidependency has.
 #[derive(Clone, Copy, Debug, PartialEq, Eq)]
 pub enum Indices {
+    /// That of an element of an array of one dimension, or of a row of one of two.
     One,
+    /// Those of an element of an array of two dimensions: that of its row, and that of its column.
     Two,
 }

@@ -6,6 +6,8 @@ mod global;
 mod instr;
 mod order;
 mod sound;
+#[cfg(test)]
+mod tests;
 mod ways;
 
 pub use code::{Code, CodeParts};

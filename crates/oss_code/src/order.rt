@@ -1,3 +1,4 @@
+//! What a new task is to run.
 use oss_meaning::Value;
 use oss_syntax::{Access, List};
 

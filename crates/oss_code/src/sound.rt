@@ -147,7 +147,7 @@ fn is_back(parts: &CodeParts, at: usize, passed: u32, depth: usize) -> bool
 {
     match at.checked_sub(passed as usize) {
         None => false,
-        Some(to) => is_at_depth(parts, to, depth),
+        Some(from) => is_at_depth(parts, from, depth),
     }
 }
 

@@ -36,7 +36,7 @@ pub enum Entry {
 }
 
 impl Instr {
-    /// How many values the instruction takes from the stack.
+    /// How many values the instruction takes from the stack of its function.
     pub fn takes(&self) -> usize
         ensures { result ≡ takes self.now }
     {
@@ -71,7 +71,7 @@ impl Instr {
         }
     }
 
-    /// How many values the instruction leaves on the stack.
+    /// How many values it leaves there when it goes on: a `Call` or a `Spawn` when the function that it calls has returned.
     pub fn leaves(&self) -> usize
         ensures value { result ≡ leaves self.now }
         ensures small { result ≤ 3 }
@@ -97,7 +97,7 @@ impl Instr {
         }
     }
 
-    /// Where the instruction may lead in the same function.
+    /// Where it may lead in the same function.
     pub fn leads(&self) -> Ways
         ensures { result ≡ leads self.now }
     {
@@ -113,7 +113,7 @@ impl Instr {
         }
     }
 
-    /// What the instruction enters beside.
+    /// What it enters beside.
     pub fn enters(&self) -> Entry
         ensures { result ≡ enters self.now }
     {

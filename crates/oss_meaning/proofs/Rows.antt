@@ -300,6 +300,11 @@ part_line = simp fronts_and_forms
 left_behind : (ways : Ways) → done (program []) (on 3 (stmts.For None None None (on 3 (stmts.Block (on 4 (stmts.Declare (long (codes "y") None ∷ [])) ∷ on 5 stmts.Break ∷ []))))) (long (codes "z") None ∷ []) (value.Num 7 ∷ []) ways (0 ∷ 0 ∷ 0 ∷ 0 ∷ []) ≡ ways.next (value.Num 7 ∷ []) []
 left_behind ways = simp fronts_and_forms
 
+-- what a `for` declares in its first part is gone behind it
+first_part_gone : (ways : Ways) → done (program []) (on 3 (stmts.For (Some (on 3 (stmts.Declare (long (codes "y") None ∷ [])))) None None (on 4 stmts.Break))) (long (codes "z") None ∷ []) (value.Num 7 ∷ []) ways (0 ∷ 0 ∷ 0 ∷ 0 ∷ [])
+    ≡ ways.next (value.Num 7 ∷ []) []
+first_part_gone ways = simp fronts_and_forms
+
 -- Statements in order
 
 -- `x = 2; x = x + 3;`

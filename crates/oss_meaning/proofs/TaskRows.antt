@@ -22,8 +22,8 @@ use Rattle.oss_model.specs.Bodies.{Asked}
 use Rattle.oss_model.specs.Bodies.Ask.{Begin, Create, End, Fails, Read, Release, Tick, Wait, WaitOn, Write}
 use Rattle.oss_meaning.specs.declared.value.Value.{Value}
 use Rattle.oss_meaning.specs.declared.value.Value.TheVariants as value
-use Rattle.oss_meaning.specs.Expressions.{TaskBody, TreeRun, TreeScript}
-use Rattle.oss_meaning.specs.Meaning.{function_place, statement_run}
+use Rattle.oss_meaning.specs.Expressions.{Calls, TaskBody, TreeRun, TreeScript}
+use Rattle.oss_meaning.specs.Meaning.{function_place, statement_run, within}
 use Rattle.oss_meaning.specs.Sections.{declared_on, ranges_of, section_run}
 use Rattle.oss_meaning.specs.Statements.{Meaning, Ways, bodies_of_all, meanings_of, nothing_done, simple}
 use Rattle.oss_meaning.specs.Statements.{task as task_statement}
@@ -300,6 +300,16 @@ called_in_clause = program_with (function (codes "g") (kind.Num num.Long) (long 
 
 clause_call : asks called_in_clause (0 ∷ 0 ∷ 0 ∷ 0 ∷ []) ≡ asked Tick 3 ∷ asked Begin 3 ∷ asked (Read 0) 3 ∷ asked Tick 3 ∷ asked Tick 13 ∷ []
 clause_call = simp fronts_and_forms
+
+-- a call in a clause of a task function counts the frames of the caller: `task final(h())` before `void t() {}`, called on line 3 with 256 frames
+abbrev called_deep : List Item
+called_deep = globals_before (
+    items.Function (record { name = codes "t"; result = kind.Nothing; params = []; mark = Some (record { clauses = clause.Final (call (codes "h") []) ∷ []; line = 10 }); body = []; line = 11 })
+    ∷ items.Function (function (codes "h") (kind.Num num.Long) [] 12 [])
+    ∷ [])
+
+clause_too_deep : (calls : Calls) (go : Value → TreeRun) → (within called_deep calls 2 256).create 0 [] 3 go (0 ∷ 0 ∷ []) ≡ asked (Fails fault.TooDeep) 3
+clause_too_deep calls go = simp fronts_and_forms
 
 -- Waits and releases
 

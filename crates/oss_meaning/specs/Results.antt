@@ -3,7 +3,7 @@
 -- this much fuel and the cells as they are at the start.
 -- Read against: with `long x, y = 3; int main() { task out(x) x = y; taskwait; printf("%ld", x); }` the cells at the start are 0 and 3; the answer is Done with the output `3` and
 -- the cells 3 and 3; there are 2 tasks, and 3 entries: one for main, one for the task and one for its cell.
-use Rattle.std.specs.Prelude.{◌≡◌, ℕ, zero, suc, ◌+◌, ◌-◌, ◌^◌, true, false, min, List, [], ◌∷◌, ◌++◌, length, map, replicate, pos, Option, Some, None}
+use Rattle.std.specs.Prelude.{◌≡◌, ℕ, zero, suc, ◌+◌, ◌-◌, ◌^◌, true, false, min, List, [], ◌∷◌, ◌++◌, length, map, replicate, pos}
 use Rattle.std.specs.List.{sum}
 use Rattle.oss_syntax.specs.declared.fault.FaultKind.{FaultKind}
 use Rattle.oss_syntax.specs.declared.tree.program.Item.{Item}
@@ -11,7 +11,6 @@ use Rattle.oss_syntax.specs.declared.tree.program.Item.TheVariants as items
 use Rattle.oss_grammar.specs.Layout.{cells_in, cells_of}
 use Rattle.oss_grammar.specs.Values.{kept}
 use Rattle.oss_model.specs.Agreement.{main_start}
-use Rattle.oss_model.specs.Answers.{IsResult}
 use Rattle.oss_model.specs.Bodies.{Order, Program, Start}
 use Rattle.oss_model.specs.Bodies.Act.{Fault, Over}
 use Rattle.oss_model.specs.Context.{right_of}
