@@ -1,6 +1,10 @@
-pub mod Measures
+pub mod AnswerLemmas
 pub mod EffectLemmas
-pub mod StepLemmas
-pub mod SettleLemmas
+pub mod GlobalLemmas
 pub mod LiveTheorem
+pub mod Measures
 pub mod RangeLemmas
+pub mod SettleLemmas
+pub mod StackLemmas
+pub mod StepLemmas
+pub mod TurnLemmas

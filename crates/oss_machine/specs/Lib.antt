@@ -5,3 +5,4 @@ pub mod Laws
 pub mod Machines
 pub mod Outcomes
 pub mod Steps
+pub mod Turnings

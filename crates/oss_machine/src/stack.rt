@@ -1,7 +1,7 @@
 //! Values on the stack of a function.
-ghost use Rattle.std.specs.Prelude.{◌≡◌, ◌+◌, ◌∷◌, ◌++◌, IfOk, drop, reverse, take};
+ghost use Rattle.std.specs.Prelude.{◌≡◌, ◌+◌, ◌-◌, ◌∷◌, IfOk, OnOk, drop, reverse, take};
 ghost use Rattle.oss_meaning.specs.Expressions.{value_at};
-ghost use Rattle.oss_machine.specs.Outcomes.{IsActedAnywhere};
+ghost use Rattle.oss_machine.specs.Outcomes.{IsActedAnywhere, IsMoved};
 ghost use Rattle.oss_machine.specs.Steps.{Effect, ahead, onward};
 
 use crate::activation::Activation;
@@ -9,7 +9,7 @@ use crate::outcome::Outcome;
 use oss_meaning::Value;
 use std::alloc::AllocError;
 
-/// The place so many instructions behind the next one. There is none that no number tells.
+/// The place so many instructions behind the next one. A code with a place that no number tells has no room in any memory.
 pub(crate) fn place_behind(at: usize, passed: u32) -> Result<usize, AllocError>
     ensures { IfOk result (λ to. to ≡ at + 1 + passed) }
 {
@@ -30,23 +30,91 @@ pub(crate) fn value_below(stack: &[Value], depth: usize) -> Value
     }
 }
 
-/// Goes on with one value in the place of so many.
-pub(crate) fn put(frame: &mut Activation, taken: usize, value: Value) -> Result<Outcome, AllocError>
-    ensures { IsActedAnywhere (λ f. Effect.On (onward (value ∷ drop taken f.stack) f)) frame.old frame.new result }
+/// The topmost values of the stack, so many of them, the lowest first.
+#[tactic(auto, using(crate::proofs::StackLemmas::taken))]
+pub(crate) fn arguments(stack: &[Value], count: usize) -> &[Value]
+    ensures { result.now ≡ reverse (take count (reverse stack.now)) }
+{
+    let (_, last) = stack.split_at(stack.len().saturating_sub(count));
+    last
+}
+
+/// Takes the topmost values away, so many of them.
+#[tactic(auto, using(crate::proofs::StackLemmas::dropped))]
+pub(crate) fn lower(stack: &mut Vec<Value>, taken: usize)
+    ensures { reverse stack.new.items ≡ drop taken (reverse stack.old.items) }
+{
+    let left = stack.len().saturating_sub(taken);
+    stack.truncate(left);
+}
+
+/// Lays one value in the place of the topmost, so many of them.
+#[tactic(auto, using(crate::proofs::StackLemmas::laid))]
+pub(crate) fn lay(stack: &mut Vec<Value>, taken: usize, value: Value) -> Result<(), AllocError>
+    ensures { OnOk result (reverse stack.new.items ≡ value ∷ drop taken (reverse stack.old.items)) }
+{
+    let left = stack.len().saturating_sub(taken);
+    stack.truncate(left);
+    stack.push(value)?;
+    Ok(())
+}
+
+/// Goes on with one value in the place of the topmost, so many of them.
+pub(crate) fn put(frame: &mut Activation, taken: usize, value: Value) -> Result<(), AllocError>
+    ensures { IsMoved (λ f. onward (value ∷ drop taken f.stack) f) frame.old frame.new result }
 {
     frame.at = place_behind(frame.at, 0)?;
-    let left = frame.stack.len().saturating_sub(taken);
-    frame.stack.truncate(left);
-    frame.stack.push(value)?;
+    lay(&mut frame.stack, taken, value)
+}
+
+/// Goes on without the topmost values, so many of them.
+pub(crate) fn pass(frame: &mut Activation, taken: usize) -> Result<(), AllocError>
+    ensures { IsMoved (λ f. onward (drop taken f.stack) f) frame.old frame.new result }
+{
+    frame.at = place_behind(frame.at, 0)?;
+    lower(&mut frame.stack, taken);
+    Ok(())
+}
+
+/// The same, as what an instruction comes to.
+pub(crate) fn leave(
+    frame: &mut Activation,
+    taken: usize,
+    value: Value,
+) -> Result<Outcome, AllocError>
+    ensures { IsActedAnywhere (λ f. Effect.On (onward (value ∷ drop taken f.stack) f)) frame.old frame.new result }
+{
+    put(frame, taken, value)?;
     Ok(Outcome::On)
 }
 
-/// Goes on without so many values.
-pub(crate) fn pass(frame: &mut Activation, taken: usize) -> Result<Outcome, AllocError>
-    ensures { IsActedAnywhere (λ f. Effect.On (onward (drop taken f.stack) f)) frame.old frame.new result }
+/// A value is taken.
+pub(crate) fn drop_top(frame: &mut Activation) -> Result<Outcome, AllocError>
+    ensures { IsActedAnywhere (λ f. Effect.On (onward (drop 1 f.stack) f)) frame.old frame.new result }
 {
-    frame.at = place_behind(frame.at, 0)?;
-    let left = frame.stack.len().saturating_sub(taken);
-    frame.stack.truncate(left);
+    pass(frame, 1)?;
+    Ok(Outcome::On)
+}
+
+/// A copy of the value below the topmost one is left.
+pub(crate) fn copy_under(frame: &mut Activation) -> Result<Outcome, AllocError>
+    ensures { IsActedAnywhere (λ f. Effect.On (onward (value_at f.stack 1 ∷ value_at f.stack 0 ∷ value_at f.stack 1 ∷ drop 2 f.stack) f)) frame.old frame.new result }
+{
+    let lower = value_below(frame.stack.as_slice(), 1);
+    let upper = value_below(frame.stack.as_slice(), 0);
+    lay(&mut frame.stack, 2, lower)?;
+    lay(&mut frame.stack, 0, upper)?;
+    put(frame, 0, lower)?;
+    Ok(Outcome::On)
+}
+
+/// The two topmost values change places.
+pub(crate) fn swap(frame: &mut Activation) -> Result<Outcome, AllocError>
+    ensures { IsActedAnywhere (λ f. Effect.On (onward (value_at f.stack 1 ∷ value_at f.stack 0 ∷ drop 2 f.stack) f)) frame.old frame.new result }
+{
+    let lower = value_below(frame.stack.as_slice(), 1);
+    let upper = value_below(frame.stack.as_slice(), 0);
+    lay(&mut frame.stack, 2, upper)?;
+    put(frame, 0, lower)?;
     Ok(Outcome::On)
 }

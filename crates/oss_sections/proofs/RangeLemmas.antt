@@ -11,12 +11,16 @@ range-append first (suc k) j =
     let f : first + suc k ≡ first + 1 + k = omega arith in
     rw e (rw f (ap (λ cells. first ∷ cells) (range-append (first + 1) k j)))
 
--- one cell more, behind those of a range that ends there
-pub range-more : (lo cell : ℕ) → lo ≤ cell → range_with_len lo (cell + 1 - lo) ≡ range_with_len lo (cell - lo) ++ cell ∷ []
-range-more lo cell low =
-    let e : cell + 1 - lo ≡ cell - lo + 1 = omega arith in
-    let f : lo + (cell - lo) ≡ cell = omega arith in
-    rw e (range-append lo (cell - lo) 1 ∙ ap (λ c. range_with_len lo (cell - lo) ++ c ∷ []) f)
+-- the cells of the range of one cell
+pub one_cell : (cell : ℕ) → range_with_len cell (cell + 1 - cell) ≡ cell ∷ []
+one_cell cell = let e : cell + 1 - cell ≡ 1 = omega arith in rw e
+
+-- those of a range behind those of one that ends there
+pub range-more : (lo mid hi : ℕ) → lo ≤ mid → mid ≤ hi → range_with_len lo (hi - lo) ≡ range_with_len lo (mid - lo) ++ range_with_len mid (hi - mid)
+range-more lo mid hi low high =
+    let e : hi - lo ≡ mid - lo + (hi - mid) = omega arith in
+    let f : lo + (mid - lo) ≡ mid = omega arith in
+    rw e (range-append lo (mid - lo) (hi - mid) ∙ ap (λ c. range_with_len lo (mid - lo) ++ range_with_len c (hi - mid)) f)
 
 pub cells_of-append : (xs ys : List Range) → cells_of (xs ++ ys) ≡ cells_of xs ++ cells_of ys
 cells_of-append [] ys = refl
@@ -31,14 +35,15 @@ cells_of-one r first size low high =
 pub cells_of-push : (xs : List Range) (r : Range) (first size : ℕ) → r.lo ≡ first → r.hi ≡ first + size → cells_of (xs ++ r ∷ []) ≡ cells_of xs ++ range_with_len first size
 cells_of-push xs r first size low high = cells_of-append xs (r ∷ []) ∙ ap (λ cells. cells_of xs ++ cells) (cells_of-one r first size low high)
 
--- the last range, one cell longer
-pub cells_of-longer : (xs : List Range) (last longer : Range) (cell : ℕ) → last.hi ≡ cell → longer.lo ≡ last.lo → longer.hi ≡ cell + 1 → cells_of (xs ++ longer ∷ []) ≡ cells_of (xs ++ last ∷ []) ++ cell ∷ []
-cells_of-longer xs last longer cell here low high =
+-- the last range, longer by another one
+pub cells_of-longer : (xs : List Range) (last more longer : Range) → last.hi ≡ more.lo → longer.lo ≡ last.lo → longer.hi ≡ more.hi → cells_of (xs ++ longer ∷ []) ≡ cells_of (xs ++ last ∷ []) ++ range_with_len more.lo (more.hi - more.lo)
+cells_of-longer xs last more longer here low high =
     let some = last.ordered in
-    let e : longer.hi - longer.lo ≡ cell + 1 - last.lo = omega arith in
-    let f : last.hi - last.lo ≡ cell - last.lo = omega arith in
-    let g : range_with_len longer.lo (longer.hi - longer.lo) ≡ range_with_len last.lo (last.hi - last.lo) ++ cell ∷ [] =
-    rw (e, low, f) (range-more last.lo cell (omega arith)) in
+    let others = more.ordered in
+    let e : longer.hi - longer.lo ≡ more.hi - last.lo = omega arith in
+    let f : last.hi - last.lo ≡ more.lo - last.lo = omega arith in
+    let g : range_with_len longer.lo (longer.hi - longer.lo) ≡ range_with_len last.lo (last.hi - last.lo) ++ range_with_len more.lo (more.hi - more.lo) =
+    rw (e, low, f) (range-more last.lo more.lo more.hi (omega arith) (omega arith)) in
     cells_of-append xs (longer ∷ [])
     ∙ ap (λ cells. cells_of xs ++ (cells ++ [])) g
     ∙ rw (cells_of-append xs (last ∷ [])) (simp (append-nil, append_assoc))
@@ -60,7 +65,7 @@ last_push P [] r holds = holds
 last_push P (x ∷ []) r holds = holds
 last_push P (x ∷ y ∷ rest) r holds = last_push P (y ∷ rest) r holds
 
--- the last range, one cell longer, is joined to none more than it was
+-- the last range, made longer, is joined to none more than it was
 pub joined_longer : (xs : List Range) (last longer : Range) → longer.lo ≡ last.lo → AreJoined (xs ++ last ∷ []) → AreJoined (xs ++ longer ∷ [])
 joined_longer xs last longer low = each_last (λ x next. x.hi ≢ next.lo) xs last longer (λ x apart e. apart (e ∙ low))
 

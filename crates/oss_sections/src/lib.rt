@@ -12,7 +12,7 @@ mod stretch;
 #[cfg(test)]
 mod tests;
 
-pub use adding::add_cell;
+pub use adding::{add_cell, add_range};
 pub use base::{Base, Extent, Part};
 pub use place::element_place;
 pub use refused::SectionRefused;

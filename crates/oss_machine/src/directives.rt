@@ -1,0 +1,145 @@
+//! What the clauses of a directive give, and the asks of directives.
+ghost use Rattle.std.specs.Prelude.{◌≡◌, ◌+◌, IfOk, List, Ok, ℕ, true};
+ghost use Rattle.oss_grammar.specs.SectionCells.{signed};
+ghost use Rattle.oss_model.specs.Bodies.Ask.{Create, Release, WaitOn};
+ghost use Rattle.oss_meaning.specs.Clauses.{holds, order_of};
+ghost use Rattle.oss_meaning.specs.declared.value.Value.{Value};
+ghost use Rattle.oss_meaning.specs.Pointers.{number_in};
+ghost use Rattle.oss_machine.specs.Activations.{base_in};
+ghost use Rattle.oss_machine.specs.Outcomes.{IsActed, IsActedAnywhere, IsMoved};
+ghost use Rattle.oss_machine.specs.Steps.{Effect, ahead, directive_done, named_in, onward, spawned, with_stack, with_top};
+
+use crate::accesses::{all_accesses, all_named};
+use crate::activation::{Activation, ClauseValues, Gathered};
+use crate::ask::Ask;
+use crate::outcome::Outcome;
+use crate::stack::{lower, place_behind, value_below};
+use oss_code::TaskOrder;
+use oss_syntax::{FaultKind, List};
+use oss_values::{is_zero, number_in, signed};
+use std::alloc::{AllocError, Global};
+
+/// The value of the clause `if` is taken.
+pub(crate) fn when(frame: &mut Activation) -> Result<Outcome, AllocError>
+    ensures { IsActedAnywhere (λ f. with_top f.stack (λ v rest. Effect.On (record (onward rest f) { made = record (f.made) { when = holds v } }))) frame.old frame.new result }
+{
+    let value = value_below(frame.stack.as_slice(), 0);
+    frame.at = place_behind(frame.at, 0)?;
+    lower(&mut frame.stack, 1);
+    frame.clauses.when = !is_zero(value);
+    Ok(Outcome::On)
+}
+
+/// The value of the clause `final` is taken.
+pub(crate) fn last(frame: &mut Activation) -> Result<Outcome, AllocError>
+    ensures { IsActedAnywhere (λ f. with_top f.stack (λ v rest. Effect.On (record (onward rest f) { made = record (f.made) { last = holds v } }))) frame.old frame.new result }
+{
+    let value = value_below(frame.stack.as_slice(), 0);
+    frame.at = place_behind(frame.at, 0)?;
+    lower(&mut frame.stack, 1);
+    frame.clauses.last = !is_zero(value);
+    Ok(Outcome::On)
+}
+
+/// The clause `wait` stands.
+pub(crate) fn late(frame: &mut Activation) -> Result<Outcome, AllocError>
+    ensures { IsActedAnywhere (λ f. Effect.On (record (ahead 0 f) { made = record (f.made) { wait = true } })) frame.old frame.new result }
+{
+    frame.at = place_behind(frame.at, 0)?;
+    frame.clauses.wait = true;
+    Ok(Outcome::On)
+}
+
+/// The value of the clause `priority` is taken.
+pub(crate) fn priority(frame: &mut Activation) -> Result<Outcome, AllocError>
+    ensures { IsActedAnywhere (λ f. with_top f.stack (λ v rest. Effect.On (record (onward rest f) { made = record (f.made) { priority = signed (number_in v) } }))) frame.old frame.new result }
+{
+    let value = value_below(frame.stack.as_slice(), 0);
+    frame.at = place_behind(frame.at, 0)?;
+    lower(&mut frame.stack, 1);
+    frame.clauses.priority = signed(number_in(value));
+    Ok(Outcome::On)
+}
+
+/// The entry so many instructions behind the next one. A code with an entry that no number of 32 bits tells has no room.
+fn entry_behind(at: usize, passed: u32) -> Result<u32, AllocError>
+    ensures { IfOk result (λ to. to ≡ at + 1 + passed) }
+{
+    match u32::try_from(place_behind(at, passed)?) {
+        Ok(entry) => Ok(entry),
+        Err(_) => Err(AllocError),
+    }
+}
+
+/// The body asks for the creation of a task with what the clauses gave and a copy of the locals.
+pub(crate) fn create(
+    alloc: Global,
+    base: &Gathered,
+    frame: &Activation,
+    passed: u32,
+) -> Result<Outcome, AllocError>
+    ensures { IsActed (base_in base.now) (λ f. Effect.Asks (Create (order_of (record { entry = f.at + 1 + passed; copies = f.locals }) f.made)) (λ t. directive_done f)) frame.now frame.now result }
+{
+    let entry = entry_behind(frame.at, passed)?;
+    let accesses = all_accesses(alloc, base, frame)?;
+    let copies = Vec::from_slice(alloc, frame.locals.as_slice())?;
+    Ok(Outcome::Asks(Ask::Create(TaskOrder {
+        entry,
+        copies: List::from_vec(copies),
+        accesses,
+        when: frame.clauses.when,
+        last: frame.clauses.last,
+        wait: frame.clauses.wait,
+        priority: frame.clauses.priority,
+    })))
+}
+
+/// The body asks for what the tasks that it created declared of the cells that the directive names.
+pub(crate) fn wait_on(
+    alloc: Global,
+    base: &Gathered,
+    frame: &Activation,
+) -> Result<Outcome, AllocError>
+    ensures { IsActed (base_in base.now) (λ f. Effect.Asks (WaitOn (named_in f.made)) (λ t. directive_done f)) frame.now frame.now result }
+{
+    let named = all_named(alloc, base, frame)?;
+    Ok(Outcome::Asks(Ask::WaitOn(named)))
+}
+
+/// The body asks for the release of what the directive declares.
+pub(crate) fn release(
+    alloc: Global,
+    base: &Gathered,
+    frame: &Activation,
+) -> Result<Outcome, AllocError>
+    ensures { IsActed (base_in base.now) (λ f. Effect.Asks (Release f.made.accesses) (λ t. directive_done f)) frame.now frame.now result }
+{
+    let accesses = all_accesses(alloc, base, frame)?;
+    Ok(Outcome::Asks(Ask::Release(accesses)))
+}
+
+/// Behind a directive: the clauses of the next one have given nothing yet.
+pub(crate) fn end_directive(frame: &mut Activation) -> Result<(), AllocError>
+    ensures { IsMoved directive_done frame.old frame.new result }
+{
+    frame.at = place_behind(frame.at, 0)?;
+    frame.clauses = ClauseValues {
+        when: true,
+        last: false,
+        wait: false,
+        priority: 0,
+    };
+    frame.adds_accesses = false;
+    frame.gathered.accesses.clear();
+    Ok(())
+}
+
+/// The creation of a task function begins; none begins inside another.
+pub(crate) fn spawn(frame: &Activation) -> Outcome
+    ensures { (entry : ℕ) (vs : List Value) (rest : List Value) → IsActedAnywhere (λ f. spawned f.call_line entry vs (with_stack rest f)) frame.now frame.now (Ok result) }
+{
+    match frame.call_line {
+        None => Outcome::Creates,
+        Some(_) => Outcome::Stops(FaultKind::TooDeep),
+    }
+}
