@@ -1,5 +1,5 @@
 -- A body of code that follows a run of the tree: where its instructions stand, and what one of them does.
-use Rattle.std.proofs.Common.{◌≡◌, ◌∙◌, ℕ, suc, ◌+◌, ◌<◌, ◌≤◌, List, [], ◌∷◌, ◌++◌, length, Option, Some, None, Bool, true, false, refl, sym, ap, subst, arith, Result, Ok, Err}
+use Rattle.std.proofs.Common.{◌≡◌, ◌∙◌, ℕ, suc, ◌+◌, ◌<◌, ◌≤◌, List, [], ◌∷◌, ◌++◌, length, Option, Some, None, true, false, ap, subst, arith, Result, Ok, Err}
 use Rattle.std.specs.Prelude.{nat_le, if◌then◌else◌, slice_get, slice_index_or}
 use Rattle.oss_syntax.specs.declared.fault.FaultKind.{FaultKind}
 use Rattle.oss_syntax.specs.declared.fault.FaultKind.TheVariants as fault
@@ -15,7 +15,7 @@ use Rattle.oss_meaning.specs.Runs.{asking, ending}
 use Rattle.oss_code.specs.Globals.{extents_in}
 use Rattle.oss_code.specs.declared.code.CodeParts.{CodeParts}
 use Rattle.oss_machine.specs.Frames.{Config, Frame, Turning, counted, first_frame, open_functions}
-use Rattle.oss_machine.specs.Steps.{On, Stops, Asks, Effect, Goes, Waits, after_effect, effect, entry_of, line_of_newest, one_step, onward, or_line, spawned, step_at, touched, unless_failed}
+use Rattle.oss_machine.specs.Steps.{On, Stops, Asks, Effect, Waits, after_effect, effect, entry_of, line_of_newest, one_step, onward, or_line, spawned, step_at, touched, unless_failed}
 use Rattle.oss_lower.specs.declared.lined.Lined.{Lined}
 use Rattle.oss_lower.specs.Programs.{moved_ask}
 use Rattle.oss_lower.proofs.StepLemmas.{Follows, fewer_follow, follow_goes, follow_stays, follow_waits}

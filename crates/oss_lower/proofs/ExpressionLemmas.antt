@@ -1,5 +1,5 @@
 -- The instructions of an expression do what it means.
-use Rattle.std.proofs.Common.{◌≡◌, ◌∙◌, ℕ, suc, ◌+◌, ◌<◌, ◌≤◌, List, [], ◌∷◌, ◌++◌, length, map, Option, Some, None, Bool, true, false, pos, refl, sym, ap, subst, arith, length-append, take, drop, reverse}
+use Rattle.std.proofs.Common.{◌≡◌, ◌∙◌, ℕ, suc, ◌+◌, ◌<◌, List, [], ◌∷◌, ◌++◌, length, map, Option, None, Bool, true, false, pos, refl, sym, ap, subst, arith, length-append, take, drop, reverse}
 use Rattle.std.specs.Prelude.{nat_le, if◌then◌else◌, slice_get}
 use Rattle.std.proofs.lemmas.List.{length-map}
 use Rattle.std.proofs.lemmas.Bool.Decides.{nat_tests}
@@ -38,7 +38,7 @@ use Rattle.oss_lower.specs.ExpressionCode.{ExprCode, Pushes, and_code, arguments
 use Rattle.oss_lower.proofs.ExpressionFolds as folds
 use Rattle.oss_lower.proofs.ExpressionFolds.{Pair, Keeps}
 use Rattle.oss_lower.proofs.StepLemmas.{Follows, fewer_follow, follow_stays, follow_waits}
-use Rattle.oss_lower.proofs.CodeLemmas.{Comes, HasAt, IsAt, Side, Standing, body_at, comes_asking, comes_at, comes_on, comes_result, comes_touching, framed, has_back, has_front, step_by, step_is}
+use Rattle.oss_lower.proofs.CodeLemmas.{Comes, HasAt, IsAt, Side, Standing, body_at, comes_at, comes_on, comes_result, comes_touching, framed, has_back, has_front, step_by}
 
 -- The instructions come to their end with the value, and what follows goes on as the meaning does.
 abbrev pub Evaluates : List Item → Evaluation → Pushes → Type 0

@@ -1,15 +1,13 @@
 -- Pieces of a code that are sound: their depths, where they lead, and how pieces that follow each other are put together.
-use Rattle.std.proofs.Common.{◌≡◌, ◌∙◌, ℕ, zero, suc, ◌+◌, ◌-◌, ◌<◌, ◌≤◌, List, [], ◌∷◌, ◌++◌, length, Option, Some, None, refl, sym, ap, subst, arith, length-append}
+use Rattle.std.proofs.Common.{◌≡◌, ◌∙◌, ℕ, ◌+◌, ◌-◌, ◌≤◌, List, [], ◌∷◌, ◌++◌, length, refl, sym, ap, subst, arith, length-append}
 use Rattle.std.specs.Prelude.{slice_get}
 use Rattle.oss_code.specs.Shapes.{enters, leads, leaves, takes}
 use Rattle.oss_code.specs.Soundness.{AreWays, IsAtDepth, IsEntry, IsFunction, IsSoundAt}
 use Rattle.oss_code.specs.declared.code.CodeParts.{CodeParts}
 use Rattle.oss_code.specs.declared.instr.Instr.{Instr}
 use Rattle.oss_code.specs.declared.instr.Instr.TheVariants as i
-use Rattle.oss_code.specs.declared.ways.Entry.{Entry}
 use Rattle.oss_code.specs.declared.ways.Entry.TheVariants as entry
 use Rattle.oss_code.specs.declared.ways.Way.TheVariants as way
-use Rattle.oss_code.specs.declared.ways.Ways.{Ways}
 use Rattle.oss_code.specs.declared.ways.Ways.TheVariants as ways
 use Rattle.oss_lower.specs.declared.lined.Lined.{Lined}
 

@@ -1,15 +1,13 @@
 -- Programs are lively, since their codes are.
-use Rattle.std.proofs.Common.{◌≡◌, ◌∙◌, ℕ, ◌<◌, List, ◌∷◌, refl, sym, ap, subst}
-use Rattle.oss_syntax.specs.declared.tree.program.Item.{Item}
+use Rattle.std.proofs.Common.{ℕ, ap, subst}
 use Rattle.oss_model.specs.Bodies.{Ask}
 use Rattle.oss_model.specs.Bodies.Ask.{Await, Begin, Create, End, Fails, Fold, Print, Read, Release, Tick, Wait, WaitOn, Write}
 use Rattle.oss_model.specs.Termination.{IsBusy, IsLively}
 use Rattle.oss_meaning.specs.Expressions.{TaskBody, TreeScript}
 use Rattle.oss_meaning.specs.Meaning.{asks_of}
-use Rattle.oss_code.specs.declared.code.CodeParts.{CodeParts}
 use Rattle.oss_machine.specs.Machines.{asks}
 use Rattle.oss_machine.proofs.LiveTheorem.{lively}
-use Rattle.oss_lower.specs.Lowered.{IsLowered, place_of}
+use Rattle.oss_lower.specs.Lowered.{place_of}
 use Rattle.oss_lower.specs.Programs.{ProgramsAreLively, moved_ask, moved_script}
 use Rattle.oss_lower.proofs.ProgramLemmas.{asks_alike}
 

@@ -1,8 +1,7 @@
 -- Loops: their instructions do what they mean, turn by turn, if those of their parts do.
-use Rattle.std.proofs.Common.{◌≡◌, ◌∙◌, ℕ, zero, suc, ◌+◌, ◌-◌, ◌<◌, ◌≤◌, List, [], ◌∷◌, ◌++◌, length, Option, Some, None, refl, sym, ap, subst, arith, length-append, append_assoc, take}
+use Rattle.std.proofs.Common.{◌≡◌, ◌∙◌, ℕ, zero, suc, ◌+◌, ◌-◌, ◌≤◌, List, [], ◌++◌, length, Option, None, refl, sym, ap, subst, arith, length-append, append_assoc, take}
 use Rattle.oss_syntax.specs.declared.tree.expr.Expr.{Expr}
 use Rattle.oss_syntax.specs.declared.tree.program.Item.{Item}
-use Rattle.oss_syntax.specs.declared.tree.program.Local.{Local}
 use Rattle.oss_model.specs.Bodies.Ask.{Tick}
 use Rattle.oss_meaning.specs.declared.value.Value.{Value}
 use Rattle.oss_meaning.specs.Expressions.{TreeRun}
@@ -13,10 +12,10 @@ use Rattle.oss_machine.specs.Frames.{Config}
 use Rattle.oss_machine.specs.Steps.{Waits, one_step}
 use Rattle.oss_lower.specs.declared.lined.Lined.{Lined}
 use Rattle.oss_lower.specs.ExpressionCode.{one}
-use Rattle.oss_lower.specs.StatementCode.{Codes, Entries, Spot, behind, body_spot, for_code, for_codes, for_entries, in_scope, last_spot, loop_body, loop_code, loop_entries, loop_last, loop_spot, part_code, part_entries, part_scope, part_tasks, test_code, test_length}
+use Rattle.oss_lower.specs.StatementCode.{Codes, Entries, Spot, behind, body_spot, for_code, for_codes, for_entries, last_spot, loop_body, loop_code, loop_entries, loop_last, loop_spot, part_code, part_entries, part_scope, part_tasks, test_code, test_length}
 use Rattle.oss_lower.proofs.StepLemmas.{Follows, fewer_follow, follow_once, follow_waits}
 use Rattle.oss_lower.proofs.CodeLemmas.{Comes, HasAt, IsAt, Standing, body_at, comes_at, comes_on, fewer, has_back, has_front, plain, step_by}
-use Rattle.oss_lower.proofs.StatementLemmas.{Bodied, BodiesDo, Executes, Leaves, NumberedAt, StmtAgrees, bodied_append, from_there, later, numbered_back, numbered_front, placed, ticked_bodies, ticked_ok}
+use Rattle.oss_lower.proofs.StatementLemmas.{Bodied, BodiesDo, Executes, Leaves, NumberedAt, StmtAgrees, bodied_append, from_there, later, numbered_back, numbered_front, placed, ticked_ok}
 use Rattle.oss_lower.proofs.NestedLemmas.{Agreeing, code_part, keep_ok, meaning_part, part_behind_is, part_bodies_ok, part_long, part_ok, test_long, tested_ok}
 
 module _ (all : List Item) (line : ℕ) (test : Option Expr) (last : Option (Agreeing all)) (body : Agreeing all) where

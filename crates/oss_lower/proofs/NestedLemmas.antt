@@ -1,5 +1,5 @@
 -- Blocks, choices and parts of statements: their instructions do what they mean if those of the statements in them do.
-use Rattle.std.proofs.Common.{◌≡◌, ◌∙◌, ℕ, suc, ◌+◌, ◌-◌, ◌<◌, ◌≤◌, List, [], ◌∷◌, ◌++◌, length, map, Option, Some, None, Bool, true, false, refl, sym, ap, subst, arith, length-append, take}
+use Rattle.std.proofs.Common.{◌≡◌, ◌∙◌, ℕ, ◌+◌, ◌-◌, List, [], ◌∷◌, ◌++◌, length, map, Option, Some, None, Bool, true, false, refl, sym, ap, subst, arith, length-append, take}
 use Rattle.std.specs.Prelude.{if◌then◌else◌}
 use Rattle.oss_syntax.specs.declared.tree.expr.Expr.{Expr}
 use Rattle.oss_syntax.specs.declared.tree.program.Item.{Item}
@@ -7,16 +7,16 @@ use Rattle.oss_syntax.specs.declared.tree.program.Local.{Local}
 use Rattle.oss_meaning.specs.declared.value.Value.{Value}
 use Rattle.oss_meaning.specs.Expressions.{TreeRun, sense_of}
 use Rattle.oss_meaning.specs.Operators.{is_zero}
-use Rattle.oss_meaning.specs.Statements.{Around, Body, Does, Meaning, Ways, behind_all, blocked, bodies_of_all, choice, chosen, going_on, in_order, other_place, part_behind, part_bodies, part_does, tested}
+use Rattle.oss_meaning.specs.Statements.{Around, Body, Does, Meaning, behind_all, blocked, bodies_of_all, choice, chosen, in_order, other_place, part_behind, part_bodies, part_does, tested}
 use Rattle.oss_code.specs.declared.instr.Instr.TheVariants as i
 use Rattle.oss_machine.specs.Steps.{On}
 use Rattle.oss_lower.specs.declared.lined.Lined.{Lined}
 use Rattle.oss_lower.specs.ExpressionCode.{expr_code, one}
-use Rattle.oss_lower.specs.StatementCode.{Codes, Entries, Spot, StmtCode, behind, blocked_code, choice_code, choice_codes, choice_entries, choice_test, codes_in_order, entries_in_order, in_scope, other_spot, part_code, part_entries, part_scope, part_tasks, side_length, side_spot, tasks_in_order, test_code, test_length}
+use Rattle.oss_lower.specs.StatementCode.{Spot, StmtCode, behind, blocked_code, choice_code, choice_codes, choice_entries, choice_test, codes_in_order, entries_in_order, in_scope, other_spot, part_code, part_entries, part_scope, part_tasks, side_length, side_spot, tasks_in_order, test_code, test_length}
 use Rattle.oss_lower.proofs.ExpressionFolds.{Pair}
 use Rattle.oss_lower.proofs.CodeLemmas.{Comes, HasAt, IsAt, Standing, comes_at, comes_on, framed, has_back, has_front, plain}
 use Rattle.oss_lower.proofs.ExpressionLemmas.{expressions_agree}
-use Rattle.oss_lower.proofs.StatementLemmas.{Bodied, BodiesDo, Executes, Leaves, NumberedAt, StmtAgrees, bodied_append, from_there, none_more, numbered_back, numbered_front, placed, ticked_bodies, ticked_ok}
+use Rattle.oss_lower.proofs.StatementLemmas.{Bodied, BodiesDo, Executes, NumberedAt, StmtAgrees, bodied_append, from_there, none_more, numbered_back, numbered_front, placed, ticked_bodies, ticked_ok}
 
 module _ (all : List Item) where
   -- the meanings, and the instructions, of statements that agree

@@ -1,5 +1,5 @@
 -- Where the functions of a program stand in its code, and the bodies of its task statements.
-use Rattle.std.proofs.Common.{◌≡◌, ◌∙◌, ℕ, zero, suc, ◌+◌, ◌-◌, ◌<◌, ◌≤◌, List, [], ◌∷◌, ◌++◌, length, map, Option, Some, None, refl, sym, ap, subst, arith, length-append, append_assoc}
+use Rattle.std.proofs.Common.{◌≡◌, ◌∙◌, ℕ, zero, suc, ◌+◌, ◌≤◌, List, [], ◌∷◌, ◌++◌, length, map, Option, Some, None, refl, sym, ap, subst, arith, length-append, append_assoc}
 use Rattle.std.specs.Prelude.{slice_get, slice_index_or}
 use Rattle.oss_syntax.specs.declared.tree.program.Function.{Function}
 use Rattle.oss_syntax.specs.declared.tree.program.Item.{Item}
@@ -11,10 +11,10 @@ use Rattle.oss_meaning.specs.Names.{functions_of}
 use Rattle.oss_meaning.specs.Statements.{behind_all, bodies_of_all, in_order, meaning_of, meanings_of}
 use Rattle.oss_code.specs.declared.code.CodeParts.{CodeParts}
 use Rattle.oss_lower.specs.declared.lined.Lined.{Lined}
-use Rattle.oss_lower.specs.StatementCode.{Spot, codes_in_order, end_code, enclosed_code, end_length, entries_in_order, stmt_code, stmt_codes, tasks_in_order}
+use Rattle.oss_lower.specs.StatementCode.{codes_in_order, end_code, enclosed_code, entries_in_order, stmt_code, stmt_codes}
 use Rattle.oss_lower.specs.Lowered.{IsLowered, bodies_from, body_code, body_entry, end_entry, entries_from, first_entry, function_code, function_codes, function_spot, head_code, place_of, program_code, statements_from}
 use Rattle.oss_lower.proofs.ExpressionFolds.{map_twice}
-use Rattle.oss_lower.proofs.CodeLemmas.{HasAt, IsAt, Standing, has_back, has_front}
+use Rattle.oss_lower.proofs.CodeLemmas.{HasAt, Standing, has_back, has_front}
 use Rattle.oss_lower.proofs.StatementLemmas.{Bodied, BodiesDo, Executes, NumberedAt, bodied_append, placed}
 use Rattle.oss_lower.proofs.NestedLemmas.{Agreeing, code_in, in_order_bodies, in_order_ok, entries_long, meaning_in}
 use Rattle.oss_lower.proofs.NestedLemmas as nested

@@ -1,7 +1,7 @@
 -- The code of a program asks as its tree does.
 use Rattle.std.proofs.Common.{◌≡◌, ◌∙◌, ℕ, zero, suc, ◌+◌, ◌-◌, ◌<◌, ◌≤◌, List, [], ◌∷◌, ◌++◌, length, Option, Some, None, Bool, true, false, refl, sym, ap, subst, arith, length-append, reverse}
 use Rattle.std.specs.Prelude.{is_some, nat_le, if◌then◌else◌, slice_get, slice_set, slice_index_or}
-use Rattle.std.proofs.lemmas.List.{length-map, length-reverse}
+use Rattle.std.proofs.lemmas.List.{length-reverse}
 use Rattle.std.proofs.lemmas.Option.{slice_get_past}
 use Rattle.oss_syntax.specs.declared.fault.FaultKind.TheVariants as fault
 use Rattle.oss_syntax.specs.declared.tree.pragma.TaskMark.{TaskMark}
@@ -12,28 +12,27 @@ use Rattle.oss_model.specs.Bodies.Ask.{End, Fails}
 use Rattle.oss_meaning.specs.declared.value.Value.{Value}
 use Rattle.oss_meaning.specs.declared.value.Value.TheVariants as value
 use Rattle.oss_meaning.specs.Clauses.{created}
-use Rattle.oss_meaning.specs.Expressions.{Calls, Here, TaskBody, TreeRun, TreeScript, is_task_function, value_at}
+use Rattle.oss_meaning.specs.Expressions.{TaskBody, TreeRun, TreeScript, is_task_function, value_at}
 use Rattle.oss_meaning.specs.Meaning.{asks_of, body_run, bound, calls_of, clauses_of, ended_by, function_created, function_run, gives, in_clauses, main_number, out_of, run_within, script_run, statement_run, task_function_run, tasks_before, within}
 use Rattle.oss_meaning.specs.Meaning as meant
 use Rattle.oss_meaning.specs.Names.{functions_of}
 use Rattle.oss_meaning.specs.Operators.{kept_value}
-use Rattle.oss_meaning.specs.Pointers.{extents_of}
 use Rattle.oss_meaning.specs.Runs.{ending}
 use Rattle.oss_meaning.specs.Statements.{Body, in_order, meanings_of}
 use Rattle.oss_code.specs.declared.code.CodeParts.{CodeParts}
 use Rattle.oss_code.specs.declared.instr.Instr.TheVariants as i
-use Rattle.oss_machine.specs.Frames.{Config, Frame, counted, first_frame, open_functions, start_of}
-use Rattle.oss_machine.specs.Steps.{Goes, Waits, entry_of, given, line_of_newest, one_step, onward, step_at}
+use Rattle.oss_machine.specs.Frames.{Config, Frame, first_frame, open_functions, start_of}
+use Rattle.oss_machine.specs.Steps.{Waits, entry_of, given, line_of_newest, onward, step_at}
 use Rattle.oss_lower.specs.declared.lined.Lined.{Lined}
 use Rattle.oss_lower.specs.ExpressionCode.{one}
 use Rattle.oss_lower.specs.SectionCode.{created_code}
-use Rattle.oss_lower.specs.StatementCode.{Spot, codes_in_order, enclosed_code, end_code, end_length, entries_in_order, given_code, stmt_codes}
-use Rattle.oss_lower.specs.Lowered.{IsLowered, bodies_from, body_code, body_entry, body_place, bound_code, end_entry, entered_code, first_entry, function_code, function_spot, head_code, place_of, program_code, statements_from}
+use Rattle.oss_lower.specs.StatementCode.{codes_in_order, end_length, entries_in_order, given_code, stmt_codes}
+use Rattle.oss_lower.specs.Lowered.{IsLowered, body_place, bound_code, end_entry, entered_code, first_entry, function_spot, head_code, place_of, program_code, statements_from}
 use Rattle.oss_lower.specs.Programs.{AsksAlike, BoundsAreEnough, CodesAskAlike, moved_asked, moved_script}
-use Rattle.oss_lower.proofs.StepLemmas.{Follows, asks_is, fewer_follow, follow_goes, follow_stays}
+use Rattle.oss_lower.proofs.StepLemmas.{Follows, asks_is, follow_goes, follow_stays}
 use Rattle.oss_lower.proofs.CodeLemmas.{CallsDo, Comes, CreatesDo, HasAt, Side, Standing, body_at, comes_at, comes_on, framed, has_back, has_front, plain, step_by}
 use Rattle.oss_lower.proofs.SectionLemmas.{created_ok}
-use Rattle.oss_lower.proofs.StatementLemmas.{Bodied, NumberedAt, placed}
+use Rattle.oss_lower.proofs.StatementLemmas.{Bodied, NumberedAt}
 use Rattle.oss_lower.proofs.TaskLemmas.{enclosed_ok, ends_ok}
 use Rattle.oss_lower.proofs.PlaceLemmas.{FunctionAt, at_program, bodies_here, body_behind, function_here, list_ok, missing_body, no_entry}
 

@@ -1,5 +1,5 @@
 -- The instructions of sections and clauses do what these mean, and those of a creation ask for the same new task.
-use Rattle.std.proofs.Common.{◌≡◌, ◌∙◌, ℕ, zero, suc, ◌+◌, ◌-◌, ◌<◌, ◌≤◌, List, [], ◌∷◌, ◌++◌, length, map, Option, Some, None, Bool, true, false, refl, sym, ap, subst, arith, length-append, append_assoc, drop, reverse, Result, Ok, Err}
+use Rattle.std.proofs.Common.{◌≡◌, ◌∙◌, ℕ, zero, suc, ◌+◌, ◌-◌, ◌≤◌, List, [], ◌∷◌, ◌++◌, length, map, Option, Some, None, Bool, true, false, refl, sym, ap, subst, arith, length-append, append_assoc, drop, reverse, Err}
 use Rattle.std.specs.Prelude.{◌==◌, nat_le, if◌then◌else◌, slice_get}
 use Rattle.std.proofs.lemmas.Bool.Decides.{nat_tests}
 use Rattle.std.proofs.lemmas.List.{append-nil, length-map, map-append}
@@ -30,19 +30,18 @@ use Rattle.oss_meaning.specs.Expressions.{TaskBody, TreeRun, arguments, sense_of
 use Rattle.oss_meaning.specs.Names.{found}
 use Rattle.oss_meaning.specs.Pointers.{extents_of, global_base, number_in, value_base}
 use Rattle.oss_meaning.specs.Pointers as pointers
-use Rattle.oss_meaning.specs.Runs.{asking}
-use Rattle.oss_meaning.specs.Sections.{base_of, declared_on, extent_at, inner_operands, many_section, operands_in, optional, optional_value, part_at, plain_section, ranges_of, section_run, sections_run, turn_cells, turns_run}
+use Rattle.oss_meaning.specs.Sections.{base_of, declared_on, extent_at, inner_operands, many_section, operands_in, optional_value, part_at, plain_section, ranges_of, section_run, sections_run, turn_cells, turns_run}
 use Rattle.oss_code.specs.Globals.{extents_in}
 use Rattle.oss_code.specs.Shapes.{operands_of, part_operands}
 use Rattle.oss_code.specs.declared.instr.Instr.TheVariants as i
 use Rattle.oss_code.specs.declared.instr.SectionBase.{SectionBase}
 use Rattle.oss_machine.specs.Frames.{Turning}
-use Rattle.oss_machine.specs.Steps.{On, Stops, Asks, Effect, all_but_last, base_at, effect, extent_from, or_line, part_from, stepped, turned, turns_begun, unless_failed, with_section, with_turn}
+use Rattle.oss_machine.specs.Steps.{On, Stops, Asks, Effect, all_but_last, base_at, effect, extent_from, or_line, part_from, stepped, turns_begun, unless_failed, with_section, with_turn}
 use Rattle.oss_lower.specs.declared.lined.Lined.{Lined}
 use Rattle.oss_lower.specs.ExpressionCode.{arguments_code, expr_code, one}
-use Rattle.oss_lower.specs.SectionCode.{base_code, clause_code, clauses_code, created_code, form_code, index_count, indices_code, many_code, optional_code, part_code, plain_code, second_code, section_code, sections_code, turn_code}
+use Rattle.oss_lower.specs.SectionCode.{base_code, clause_code, clauses_code, created_code, form_code, indices_code, many_code, optional_code, part_code, plain_code, section_code, sections_code, turn_code}
 use Rattle.oss_lower.proofs.ExpressionFolds.{map_twice}
-use Rattle.oss_lower.proofs.CodeLemmas.{Comes, HasAt, IsAt, Side, Standing, body_at, comes_asking, comes_at, comes_failing, comes_on, comes_result, comes_to, framed, has_back, has_front, kept, plain}
+use Rattle.oss_lower.proofs.CodeLemmas.{Comes, HasAt, IsAt, Side, Standing, comes_asking, comes_at, comes_failing, comes_on, comes_result, comes_to, framed, has_back, has_front, kept, plain}
 use Rattle.oss_lower.proofs.ExpressionLemmas.{Agreeing, arguments_ok, code_in, expressions_agree, left_is, sense_in, taken_is}
 
 -- Forms

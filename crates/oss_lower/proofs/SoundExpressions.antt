@@ -1,5 +1,5 @@
 -- The instructions of expressions, sections and clauses are sound.
-use Rattle.std.proofs.Common.{◌≡◌, ◌∙◌, ℕ, zero, suc, ◌+◌, ◌-◌, ◌<◌, ◌≤◌, List, [], ◌∷◌, ◌++◌, length, map, Option, Some, None, Bool, true, false, refl, sym, ap, subst, arith, length-append}
+use Rattle.std.proofs.Common.{◌≡◌, ℕ, ◌+◌, ◌-◌, List, [], ◌∷◌, ◌++◌, length, map, Option, Some, None, Bool, true, false, refl, subst, arith, length-append}
 use Rattle.std.specs.Prelude.{slice_get}
 use Rattle.std.proofs.lemmas.List.{length-map}
 use Rattle.oss_syntax.specs.declared.tree.expr.BinOp.{BinOp}
@@ -34,7 +34,7 @@ use Rattle.oss_code.specs.declared.instr.Instr.TheVariants as i
 use Rattle.oss_code.specs.declared.instr.SectionBase.{SectionBase}
 use Rattle.oss_lower.specs.declared.lined.Lined.{Lined}
 use Rattle.oss_lower.specs.ExpressionCode.{ExprCode, Pushes, and_code, arguments_code, binary_code, call_code, call_instr, expr_code, expr_code_step, index_indexed_code, index_place_code, index_value_code, load_code, name_place_code, name_value_code, no_place_code, one, operator, operator_by, or_code, prefix_place_code, prefix_value_code, then_one, then_two}
-use Rattle.oss_lower.specs.SectionCode.{base_code, clause_code, clauses_code, created_code, form_code, index_count, indices_code, many_code, optional_code, plain_code, second_code, section_code, sections_code, turn_code}
+use Rattle.oss_lower.specs.SectionCode.{base_code, clause_code, clauses_code, created_code, form_code, indices_code, many_code, optional_code, plain_code, section_code, sections_code, turn_code}
 use Rattle.oss_lower.proofs.ExpressionFolds as folds
 use Rattle.oss_lower.proofs.ExpressionFolds.{Keeps, Pair, map_twice}
 use Rattle.oss_lower.proofs.SectionLemmas.{form_count}

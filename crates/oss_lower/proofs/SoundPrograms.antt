@@ -1,5 +1,5 @@
 -- The code of a program is sound.
-use Rattle.std.proofs.Common.{◌≡◌, ◌∙◌, ℕ, zero, suc, ◌+◌, ◌-◌, ◌<◌, ◌≤◌, List, [], ◌∷◌, ◌++◌, length, map, Option, Some, None, Bool, true, false, refl, sym, ap, subst, arith, length-append, append_assoc}
+use Rattle.std.proofs.Common.{◌≡◌, ◌∙◌, ℕ, zero, suc, ◌+◌, ◌-◌, ◌≤◌, List, [], ◌∷◌, ◌++◌, length, map, Option, Some, None, Bool, true, false, refl, sym, ap, subst, arith, length-append, append_assoc}
 use Rattle.std.specs.Prelude.{All, if◌then◌else◌, slice_get, slice_index_or}
 use Rattle.std.specs.Str.{bytes_eq}
 use Rattle.std.proofs.lemmas.List.{length-map}
@@ -12,7 +12,7 @@ use Rattle.oss_meaning.specs.declared.names.Found.{Found}
 use Rattle.oss_meaning.specs.declared.names.Found.TheVariants as names
 use Rattle.oss_meaning.specs.Meaning.{main_number}
 use Rattle.oss_meaning.specs.Names.{functions_of, global_found, item_found, item_from}
-use Rattle.oss_code.specs.Soundness.{IsAtDepth, IsFunction, IsSound, IsSoundAt, IsSoundPlace}
+use Rattle.oss_code.specs.Soundness.{IsAtDepth, IsFunction, IsSound, IsSoundAt}
 use Rattle.oss_code.specs.declared.code.CodeParts.{CodeParts}
 use Rattle.oss_code.specs.declared.instr.Instr.{Instr}
 use Rattle.oss_code.specs.declared.instr.Instr.TheVariants as i
@@ -24,7 +24,6 @@ use Rattle.oss_lower.specs.Lowered.{IsLowered, bodies_from, body_code, body_entr
 use Rattle.oss_lower.specs.Programs.{CodesAreSound}
 use Rattle.oss_lower.proofs.FlowLemmas.{DepthsAt, Flows, SoundFrom, at_depth, depths_back, depths_front, flows_none, flows_one, flows_then, return_sound, simple_sound, skip_sound, sound_append}
 use Rattle.oss_lower.proofs.PlaceLemmas.{IsSomething, body_behind, value_or}
-use Rattle.oss_lower.proofs.PlaceLemmas as places
 use Rattle.oss_lower.proofs.SoundExpressions.{FunctionsThere, created_sound}
 use Rattle.oss_lower.proofs.SoundStatements.{enclosed_sound, list_sound}
 

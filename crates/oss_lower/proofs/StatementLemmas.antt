@@ -1,6 +1,6 @@
 -- What it is that the instructions of a statement do what it means, and statements without others in them.
-use Rattle.std.proofs.Common.{◌≡◌, ◌∙◌, ℕ, suc, ◌+◌, ◌-◌, ◌<◌, ◌≤◌, List, [], ◌∷◌, ◌++◌, length, map, Option, Some, None, Bool, true, false, refl, sym, ap, subst, arith, length-append, take, drop, reverse}
-use Rattle.std.specs.Prelude.{if◌then◌else◌, slice_set}
+use Rattle.std.proofs.Common.{◌≡◌, ◌∙◌, ℕ, ◌+◌, ◌-◌, ◌<◌, ◌≤◌, List, [], ◌∷◌, ◌++◌, length, map, Option, Some, None, refl, sym, ap, subst, arith, length-append, drop, reverse}
+use Rattle.std.specs.Prelude.{slice_set}
 use Rattle.oss_syntax.specs.declared.access.Op.{Op}
 use Rattle.oss_syntax.specs.declared.access.Range.{Range}
 use Rattle.oss_syntax.specs.declared.tree.expr.BinOp.{BinOp}
@@ -30,12 +30,11 @@ use Rattle.oss_meaning.specs.Runs.{asking}
 use Rattle.oss_meaning.specs.Sections.{declared_on}
 use Rattle.oss_meaning.specs.Statements.{Around, Body, Does, Meaning, Ways, assigned, assignment, call_done, cell_assigned, cell_changed, declared, first_of, folded_by, local_assigned, nothing_done, print_done, release_done, returned, simple, stored, ticked, wait_done}
 use Rattle.oss_code.specs.declared.instr.Instr.TheVariants as i
-use Rattle.oss_machine.specs.Steps.{On, Asks, Effect, effect}
+use Rattle.oss_machine.specs.Steps.{Asks, Effect, effect}
 use Rattle.oss_lower.specs.declared.lined.Lined.{Lined}
-use Rattle.oss_lower.specs.declared.lined.Pads.{Pads}
 use Rattle.oss_lower.specs.ExpressionCode.{ExprCode, arguments_code, call_code, expr_code, one, operator_by}
 use Rattle.oss_lower.specs.SectionCode.{clauses_code, sections_code}
-use Rattle.oss_lower.specs.StatementCode.{Codes, Entries, Spot, StmtCode, assigned_code, assignment_code, behind, call_done_code, cell_assigned_code, cell_changed_code, declared_code, declare_code, first_code, given_code, jump_code, local_assigned_code, no_code, no_entries, pieces_in, print_code, release_code, returned_code, simple_code, ticked_code, ticked_entries, wait_code}
+use Rattle.oss_lower.specs.StatementCode.{Codes, Entries, Spot, StmtCode, assigned_code, assignment_code, behind, call_done_code, cell_assigned_code, cell_changed_code, declared_code, first_code, given_code, local_assigned_code, no_code, no_entries, pieces_in, print_code, release_code, returned_code, simple_code, ticked_code, ticked_entries, wait_code}
 use Rattle.oss_lower.proofs.StepLemmas.{Follows, fewer_follow, follow_waits}
 use Rattle.oss_lower.proofs.CodeLemmas.{Comes, HasAt, IsAt, Standing, body_at, comes_asking, comes_at, comes_on, comes_touching, fewer, framed, has_back, has_front, kept, plain, step_by}
 use Rattle.oss_lower.proofs.ExpressionLemmas.{Agrees, call_ok, expressions_agree, left_is, operator_ok, taken_is}

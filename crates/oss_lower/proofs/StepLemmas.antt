@@ -1,5 +1,5 @@
 -- How a run of the tree is followed by a body of the code: silent steps, asks, and what comes to no further ask.
-use Rattle.std.proofs.Common.{◌≡◌, ◌∙◌, ℕ, zero, suc, ◌<◌, ◌≤◌, List, [], ◌∷◌, ◌++◌, length, refl, sym, ap, arith, reverse, append_assoc}
+use Rattle.std.proofs.Common.{◌≡◌, ◌∙◌, ℕ, ◌<◌, ◌≤◌, List, [], ◌∷◌, ◌++◌, length, refl, sym, ap, arith, reverse, append_assoc}
 use Rattle.std.proofs.lemmas.Grind.{reverse_onto}
 use Rattle.std.proofs.lemmas.List.{append-nil}
 use Rattle.oss_model.specs.Bodies.{Ask, Asked}
@@ -8,7 +8,7 @@ use Rattle.oss_meaning.specs.Runs.{asking, ending}
 use Rattle.oss_code.specs.declared.code.CodeParts.{CodeParts}
 use Rattle.oss_machine.specs.Frames.{CodeScript, Config, start_of}
 use Rattle.oss_machine.specs.Machines.{Standing, asked_in, asked_now, asks, machine_at, resumed, settled, standing}
-use Rattle.oss_machine.specs.Steps.{Step, Goes, Waits, one_step}
+use Rattle.oss_machine.specs.Steps.{Goes, Waits, one_step}
 use Rattle.oss_machine.proofs.SettleLemmas.{resumed_waits, settled_goes, settled_waits}
 use Rattle.oss_lower.specs.Programs.{moved_ask, moved_asked}
 

@@ -1,6 +1,6 @@
 -- Tasks: a creation asks for the task whose body stands behind it, and that body is done there. With it each kind of statement does what it
 -- means.
-use Rattle.std.proofs.Common.{◌≡◌, ◌∙◌, ℕ, suc, ◌+◌, ◌-◌, ◌<◌, ◌≤◌, List, [], ◌∷◌, ◌++◌, length, map, Option, Some, None, refl, sym, ap, subst, arith, length-append}
+use Rattle.std.proofs.Common.{◌≡◌, ◌∙◌, ℕ, ◌+◌, ◌-◌, ◌≤◌, List, [], ◌∷◌, ◌++◌, length, Some, None, refl, sym, ap, subst, arith, length-append}
 use Rattle.oss_syntax.specs.declared.tree.pragma.Clause.{Clause}
 use Rattle.oss_syntax.specs.declared.tree.program.Item.{Item}
 use Rattle.oss_syntax.specs.declared.tree.program.Kind.{Kind}
@@ -16,20 +16,20 @@ use Rattle.oss_meaning.specs.Expressions.{TaskBody, TreeRun}
 use Rattle.oss_meaning.specs.Meaning.{out_of}
 use Rattle.oss_meaning.specs.Operators.{kept_value}
 use Rattle.oss_meaning.specs.Runs.{ending}
-use Rattle.oss_meaning.specs.Statements.{Around, Body, Does, Meaning, body_ends, declare, declared, in_task, meaning_of, stmt_step, task}
+use Rattle.oss_meaning.specs.Statements.{Around, Body, Does, body_ends, declare, declared, in_task, meaning_of, stmt_step, task}
 use Rattle.oss_code.specs.declared.instr.Instr.TheVariants as i
 use Rattle.oss_machine.specs.Steps.{given}
 use Rattle.oss_lower.specs.declared.lined.Lined.{Lined}
 use Rattle.oss_lower.specs.ExpressionCode.{one}
 use Rattle.oss_lower.specs.SectionCode.{created_code}
-use Rattle.oss_lower.specs.StatementCode.{Codes, Entries, Spot, StmtCode, behind, declare_code, declared_code, enclosed_code, enclosed_spot, end_code, end_length, given_code, no_code, no_entries, stmt_code, stmt_code_step, task_code, task_codes, task_entries, task_entry}
+use Rattle.oss_lower.specs.StatementCode.{Codes, Entries, Spot, behind, declare_code, declared_code, enclosed_code, enclosed_spot, end_code, end_length, given_code, no_code, no_entries, stmt_code, stmt_code_step, task_code, task_codes, task_entries, task_entry}
 use Rattle.oss_lower.proofs.ExpressionFolds.{Pair}
 use Rattle.oss_lower.proofs.StatementFolds as folds
 use Rattle.oss_lower.proofs.StatementFolds.{AtLines, Keeps}
 use Rattle.oss_lower.proofs.StepLemmas.{Follows, fewer_follow, follow_stays}
 use Rattle.oss_lower.proofs.CodeLemmas.{Comes, HasAt, Standing, body_at, comes_on, has_back, has_front, plain, step_by}
 use Rattle.oss_lower.proofs.SectionLemmas.{created_ok}
-use Rattle.oss_lower.proofs.StatementLemmas.{Bodied, BodiesDo, Executes, Leaves, NumberedAt, StmtAgrees, assignment_ok, break_ok, call_done_ok, continue_ok, declare_ok, none_more, nothing_ok, placed, print_ok, release_ok, returned_ok, simple_ok, ticked_bodies, ticked_ok, wait_ok}
+use Rattle.oss_lower.proofs.StatementLemmas.{BodiesDo, Executes, NumberedAt, StmtAgrees, assignment_ok, break_ok, call_done_ok, continue_ok, declare_ok, none_more, nothing_ok, placed, print_ok, release_ok, returned_ok, simple_ok, ticked_bodies, ticked_ok, wait_ok}
 use Rattle.oss_lower.proofs.NestedLemmas.{Agreeing, blocked_ok, choice_ok}
 use Rattle.oss_lower.proofs.LoopLemmas.{for_ok}
 
