@@ -15,3 +15,5 @@ pub mod SoundExpressions
 pub mod SoundStatements
 pub mod SoundPrograms
 pub mod LiveLemmas
+pub mod FormLemmas
+pub mod Rows
