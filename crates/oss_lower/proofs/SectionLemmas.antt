@@ -39,14 +39,14 @@ use Rattle.oss_machine.specs.Frames.{Turning}
 use Rattle.oss_machine.specs.Steps.{On, Stops, Asks, Effect, all_but_last, base_at, effect, extent_from, or_line, part_from, stepped, turns_begun, unless_failed, with_section, with_turn}
 use Rattle.oss_lower.specs.declared.lined.Lined.{Lined}
 use Rattle.oss_lower.specs.ExpressionCode.{arguments_code, expr_code, one}
-use Rattle.oss_lower.specs.SectionCode.{base_code, clause_code, clauses_code, created_code, form_code, indices_code, many_code, optional_code, part_code, plain_code, section_code, sections_code, turn_code}
+use Rattle.oss_lower.specs.SectionCode.{base_code, clause_code, clauses_code, created_code, form_code, indices_code, many_code, optional_code, inner_code, plain_code, section_code, sections_code, turn_code}
 use Rattle.oss_lower.proofs.ExpressionFolds.{map_twice}
 use Rattle.oss_lower.proofs.CodeLemmas.{Comes, HasAt, IsAt, Side, Standing, comes_asking, comes_at, comes_failing, comes_on, comes_result, comes_to, framed, has_back, has_front, kept, plain}
 use Rattle.oss_lower.proofs.ExpressionLemmas.{Agreeing, arguments_ok, code_in, expressions_agree, left_is, sense_in, taken_is}
 
 -- Forms
 
-inner_count : (p : Inner) → part_operands (part_code p) ≡ length (inner_operands p)
+inner_count : (p : Inner) → part_operands (inner_code p) ≡ length (inner_operands p)
 inner_count (inner.Element e) = refl
 inner_count (inner.Length l m) = refl
 inner_count (inner.Span None None) = refl
@@ -67,7 +67,7 @@ form_count (form.Span (Some l) (Some u)) = refl
 form_count (form.Grid rows columns) = omega (arith, inner_count rows, inner_count columns, length-append (inner_operands rows) (inner_operands columns))
 form_count (form.Many e f turns) = refl
 
-part_is : (p : Inner) (vs : List ℕ) → part_from (part_code p) vs ≡ part_at p vs
+part_is : (p : Inner) (vs : List ℕ) → part_from (inner_code p) vs ≡ part_at p vs
 part_is (inner.Element e) vs = refl
 part_is (inner.Length l m) vs = refl
 part_is (inner.Span None None) vs = refl
@@ -86,8 +86,8 @@ form_is (form.Span None (Some u)) vs = refl
 form_is (form.Span (Some l) None) vs = refl
 form_is (form.Span (Some l) (Some u)) vs = refl
 form_is (form.Grid rows columns) vs =
-    ap (λ p. Extent.grid p (part_from (part_code columns) (drop (part_operands (part_code rows)) vs))) (part_is rows vs)
-    ∙ ap (λ k. Extent.grid (part_at rows vs) (part_from (part_code columns) (drop k vs))) (inner_count rows)
+    ap (λ p. Extent.grid p (part_from (inner_code columns) (drop (part_operands (inner_code rows)) vs))) (part_is rows vs)
+    ∙ ap (λ k. Extent.grid (part_at rows vs) (part_from (inner_code columns) (drop k vs))) (inner_count rows)
     ∙ ap (λ p. Extent.grid (part_at rows vs) p) (part_is columns (drop (length (inner_operands rows)) vs))
 form_is (form.Many e f turns) vs = refl
 

@@ -47,6 +47,7 @@ one line depth what = record { what = what; line = line; depth = depth } ∷ []
 
 -- Names
 
+-- the value of a name: that of a local, the number in the cell of a scalar, or a pointer to the first cell of an array
 abbrev pub name_value_code : Found → Pushes
 name_value_code (names.Variable slot k) line depth = one line depth (i.Local slot)
 name_value_code (names.Scalar g n) line depth = one line depth (i.Address g) ++ one line (depth + 1) i.Load
@@ -54,6 +55,7 @@ name_value_code (names.Array g n) line depth = one line depth (i.Address g)
 name_value_code (names.Grid g n) line depth = one line depth (i.Address g)
 name_value_code _ line depth = one line depth i.Nothing
 
+-- the place of a name: that of a scalar's cell
 abbrev pub name_place_code : Found → Pushes
 name_place_code (names.Scalar g n) line depth = one line depth (i.Address g)
 name_place_code _ line depth = one line depth i.Nothing
@@ -72,22 +74,27 @@ then_one part what line depth = part line depth ++ one line (depth + 1) what
 abbrev pub then_two : Pushes → Pushes → Instr → Pushes
 then_two a b what line depth = a line depth ++ (b line (depth + 1) ++ one line (depth + 2) what)
 
+-- the number in a place
 abbrev pub load_code : Pushes → Pushes
 load_code place = then_one place i.Load
 
+-- the place of `a[e]`: of an array of two dimensions the first cell of a row, with a second index the cell of both; else a pointer that is moved
 abbrev pub index_place_code : Target → ExprCode → ExprCode → Pushes
 index_place_code (target.Grid g n) a e = then_one e.value (i.Row g)
 index_place_code (target.Row g n) a e = then_two a.indexed e.value (i.Element g)
 index_place_code _ a e = then_two a.value e.value (i.Move direction.Forth)
 
+-- the value of `a[e]`: a row is the pointer to its first cell, and all else is loaded
 abbrev pub index_value_code : Target → ExprCode → ExprCode → Pushes
 index_value_code (target.Grid g n) a e = index_place_code (target.Grid g n) a e
 index_value_code t a e = load_code (index_place_code t a e)
 
+-- what a second index takes of `a[e]`: of a row the index `e`
 abbrev pub index_indexed_code : Target → ExprCode → ExprCode → Pushes
 index_indexed_code (target.Grid g n) a e = e.value
 index_indexed_code t a e = index_value_code t a e
 
+-- what `a[e]` becomes
 abbrev pub index_code : ExprCode → ExprCode → ExprCode
 index_code a e = record {
   typed = typed_index a.typed;
@@ -102,15 +109,18 @@ index_code a e = record {
 abbrev pub value_code : Typed → Pushes → ExprCode
 value_code typed value = record { typed = typed; value = value; place = no_place_code; indexed = value }
 
+-- the value of a prefix operator: `*` loads, and `&` is the place of its operand
 abbrev pub prefix_value_code : UnOp → ExprCode → Pushes
 prefix_value_code prefix.Deref e = load_code e.value
 prefix_value_code prefix.Address e = e.place
 prefix_value_code o e = then_one e.value (i.Prefix o)
 
+-- the place that `*p` designates: where `p` points
 abbrev pub prefix_place_code : UnOp → ExprCode → Pushes
 prefix_place_code prefix.Deref e = e.value
 prefix_place_code _ e = no_place_code
 
+-- what a prefix operator and its operand become
 abbrev pub prefix_code : UnOp → ExprCode → ExprCode
 prefix_code o e = record {
   typed = typed_prefix o e.typed;
@@ -119,6 +129,7 @@ prefix_code o e = record {
   indexed = prefix_value_code o e;
 }
 
+-- which way a pointer moves: back or forth
 abbrev pub direction_of : Bool → Direction
 direction_of true = direction.Back
 direction_of false = direction.Forth
@@ -128,6 +139,7 @@ abbrev pub operator : Bool → BinOp → Bool → Bool → Instr
 operator true o left right = i.Move (direction_of (is_back o))
 operator false o left right = i.Apply (record { op = o; left_unsigned = left; right_unsigned = right })
 
+-- the same by the kinds of its operands
 abbrev pub operator_by : BinOp → ValueKind → ValueKind → Instr
 operator_by o a b = operator (is_pointer a) o (is_unsigned_kind a) (is_unsigned_kind b)
 
@@ -143,6 +155,7 @@ or_code a b line depth =
     a line depth ++ (one line (depth + 1) (i.SkipUnless 2) ++ (one line depth (i.Push 1)
     ++ (one line (depth + 1) (i.Skip (length (b line depth) + 1)) ++ (b line depth ++ one line (depth + 1) i.Truth))))
 
+-- both sides, and then the operator; `&&` and `||` jump
 abbrev pub binary_code : BinOp → ExprCode → ExprCode → Pushes
 binary_code op.AndAlso a b = and_code a.value b.value
 binary_code op.OrElse a b = or_code a.value b.value
@@ -160,6 +173,7 @@ abbrev pub call_instr : Bool → ℕ → ℕ → Instr
 call_instr false f count = i.Call f count
 call_instr true f count = i.Spawn f count
 
+-- a call by what its name stands for: its arguments, and then the call; what is no function evaluates nothing, and leaves 0
 abbrev pub call_code : List Item → Found → List ExprCode → Pushes
 call_code all (names.Function f) es line depth =
     arguments_code es line depth ++ one line (depth + length es) (call_instr (is_task_function (slice_get (functions_of all) f)) f (length es))

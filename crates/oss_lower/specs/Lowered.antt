@@ -35,6 +35,7 @@ entered_code all f None = one f.line 0 (i.Skip end_length)
 entered_code all f (Some mark) =
     created_code all f.params (2 + end_length) mark.clauses f.line ++ (one f.line 0 (i.Push 0) ++ one f.line 1 i.Return)
 
+-- what stands before the body of a function: its parameters are bound, and what leads to the body
 abbrev pub head_code : List Item → Function → List Lined
 head_code all f = bound_code f.line 0 f.params ++ entered_code all f f.mark
 
@@ -42,9 +43,11 @@ head_code all f = bound_code f.line 0 f.params ++ entered_code all f f.mark
 abbrev pub function_spot : Function → Spot
 function_spot f = record { scope = f.params; result = f.result; pads = record { stop = end_length; again = end_length } }
 
+-- the statements of a function
 abbrev pub body_code : List Item → Function → List Lined
 body_code all f = codes_in_order (stmt_codes all f.body) (function_spot f)
 
+-- a function
 abbrev pub function_code : List Item → Function → List Lined
 function_code all f = head_code all f ++ enclosed_code f.line f.result (body_code all f)
 
@@ -54,6 +57,7 @@ body_entry all f at = at + (length (head_code all f) + end_length)
 
 -- Programs
 
+-- functions in text order
 abbrev pub function_codes : List Item → List Function → List Lined
 function_codes all [] = []
 function_codes all (f ∷ rest) = function_code all f ++ function_codes all rest
@@ -74,10 +78,11 @@ statements_from all at [] = []
 statements_from all at (f ∷ rest) =
     entries_in_order (stmt_codes all f.body) (function_spot f) (body_entry all f at) ++ statements_from all (at + length (function_code all f)) rest
 
--- where the end stands to which a body comes that is not there, and where the first function begins
+-- where the end stands to which a body comes that is not there
 abbrev pub end_entry : ℕ
 end_entry = 1
 
+-- where the first function begins
 abbrev pub first_entry : ℕ
 first_entry = 3
 
@@ -85,6 +90,7 @@ first_entry = 3
 abbrev pub body_place : List Item → ℕ → ℕ
 body_place all number = slice_index_or (bodies_from all first_entry (functions_of all)) number end_entry
 
+-- the instructions of a program
 abbrev pub program_code : List Item → List Lined
 program_code all =
     one 0 0 (i.Skip (body_place all (main_number all) - 1)) ++ (one 0 0 (i.Push 0) ++ (one 0 1 i.Return ++ function_codes all (functions_of all)))

@@ -17,6 +17,7 @@ use Rattle.oss_lower.specs.Lowered.{IsLowered, place_of}
 abbrev pub moved_script : (TaskBody → ℕ) → TreeScript → CodeScript
 moved_script places s = record { entry = places s.body; copies = s.copies }
 
+-- the same task, with the script of a code
 abbrev pub moved_order : (TaskBody → ℕ) → Order TreeScript → Order CodeScript
 moved_order places o = record {
   script = moved_script places o.script;
@@ -43,6 +44,7 @@ moved_ask places (Print text) = Print text
 moved_ask places End = End
 moved_ask places (Fails kind) = Fails kind
 
+-- the same ask on the same line
 abbrev pub moved_asked : (TaskBody → ℕ) → Asked TreeScript → Asked CodeScript
 moved_asked places a = record { ask = moved_ask places a.ask; line = a.line }
 

@@ -42,10 +42,10 @@ base_code (names.Variable slot k) = section_base.Pointer slot
 base_code _ = section_base.Nothing
 
 -- how a section names a part of one dimension
-abbrev pub part_code : Inner → PartForm
-part_code (inner.Element e) = part_form.Element
-part_code (inner.Length l n) = part_form.Length
-part_code (inner.Span l u) = part_form.Span (is_some l) (is_some u)
+abbrev pub inner_code : Inner → PartForm
+inner_code (inner.Element e) = part_form.Element
+inner_code (inner.Length l n) = part_form.Length
+inner_code (inner.Span l u) = part_form.Span (is_some l) (is_some u)
 
 -- how a section that is no multidependency names its cells
 abbrev pub form_code : Form → SectionForm
@@ -55,9 +55,10 @@ form_code (form.Shape n) = section_form.Shape
 form_code (form.Element e) = section_form.Line part_form.Element
 form_code (form.Length l n) = section_form.Line part_form.Length
 form_code (form.Span l u) = section_form.Line (part_form.Span (is_some l) (is_some u))
-form_code (form.Grid rows columns) = section_form.Grid (part_code rows) (part_code columns)
+form_code (form.Grid rows columns) = section_form.Grid (inner_code rows) (inner_code columns)
 form_code (form.Many e f turns) = section_form.Whole
 
+-- a section that is no multidependency: its expressions, and then its cells are added
 abbrev pub plain_code : List Item → List Local → Declared → Section → ℕ → List Lined
 plain_code all scope d s line =
     arguments_code (map (expr_code all scope) (operands_in s.form)) line 0
@@ -96,6 +97,7 @@ many_code all scope d base e f turns line =
     ++ (turn_code all (scope ++ turns.variable ∷ []) base e f line
     ++ (one line 0 (i.NextTurn (length (turn_code all (scope ++ turns.variable ∷ []) base e f line))) ++ one line 0 (i.EndTurns d)))))
 
+-- a section: `{ a[k], k = 0; n }` makes turns, and each other form is one instruction behind its expressions
 abbrev pub section_code : List Item → List Local → Declared → Section → ℕ → List Lined
 section_code all scope d s line = elim (s.form) [
   | form.Many e f turns ↦ many_code all scope d (base_code (found all scope s.base)) e f turns line
@@ -108,12 +110,14 @@ section_code all scope d s line = elim (s.form) [
   | form.Grid rows columns ↦ plain_code all scope d s line
 ]
 
+-- sections in text order
 abbrev pub sections_code : List Item → List Local → Declared → List Section → ℕ → List Lined
 sections_code all scope d [] line = []
 sections_code all scope d (s ∷ rest) line = section_code all scope d s line ++ sections_code all scope d rest line
 
 -- Clauses
 
+-- a clause: what it gives is kept in the frame
 abbrev pub clause_code : List Item → List Local → Clause → ℕ → List Lined
 clause_code all scope (clause.Depend mode strong fresh sections) line = sections_code all scope (record { mode = mode; strong = strong; fresh = fresh }) sections line
 clause_code all scope (clause.If e) line = (expr_code all scope e).value line 0 ++ one line 1 i.When
@@ -123,6 +127,7 @@ clause_code all scope (clause.Label text) line = []
 clause_code all scope (clause.Priority e) line = (expr_code all scope e).value line 0 ++ one line 1 i.Priority
 clause_code all scope (clause.Grain e) line = []
 
+-- clauses in text order
 abbrev pub clauses_code : List Item → List Local → List Clause → ℕ → List Lined
 clauses_code all scope [] line = []
 clauses_code all scope (c ∷ rest) line = clause_code all scope c line ++ clauses_code all scope rest line

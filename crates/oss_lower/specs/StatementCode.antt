@@ -69,12 +69,15 @@ pub record StmtCode : Type 0 where
 
 -- Statements without others in them
 
+-- it declares nothing
 abbrev pub same_scope : List Local → List Local
 same_scope scope = scope
 
+-- no task statement is in it
 abbrev pub no_entries : Entries
 no_entries spot at = []
 
+-- it has no instruction
 abbrev pub no_code : Codes
 no_code spot = []
 
@@ -82,23 +85,28 @@ no_code spot = []
 abbrev pub ticked_code : ℕ → Codes → Codes
 ticked_code line code spot = one line 0 i.Tick ++ code (behind 1 spot)
 
+-- the bodies in it stand one further on
 abbrev pub ticked_entries : Entries → Entries
 ticked_entries entries spot at = entries (behind 1 spot) (at + 1)
 
+-- a statement on this line without others in it: one tick, and then this
 abbrev pub simple_code : ℕ → Codes → StmtCode
 simple_code line code = record { scope = same_scope; code = ticked_code line code; tasks = 0; entries = no_entries }
 
 -- Lists of statements
 
+-- statements in text order, each at the spot that those before it leave
 abbrev pub codes_in_order : List StmtCode → Codes
 codes_in_order [] spot = []
 codes_in_order (c ∷ rest) spot = c.code spot ++ codes_in_order rest (in_scope (c.scope spot.scope) (behind (length (c.code spot)) spot))
 
+-- where the bodies of the task statements in them begin
 abbrev pub entries_in_order : List StmtCode → Entries
 entries_in_order [] spot at = []
 entries_in_order (c ∷ rest) spot at =
     c.entries spot at ++ entries_in_order rest (in_scope (c.scope spot.scope) (behind (length (c.code spot)) spot)) (at + length (c.code spot))
 
+-- how many task statements are in them
 abbrev pub tasks_in_order : List StmtCode → ℕ
 tasks_in_order [] = 0
 tasks_in_order (c ∷ rest) = c.tasks + tasks_in_order rest
@@ -119,14 +127,17 @@ abbrev pub first_instr : Kind → Instr
 first_instr (kind.Pointer n) = i.Nothing
 first_instr _ = i.Push 0
 
+-- the initial value of a local
 abbrev pub first_code : List Item → List Local → Kind → Option Expr → ℕ → List Lined
 first_code all scope k None line = one line 0 (first_instr k)
 first_code all scope k (Some e) line = (expr_code all scope e).value line 0
 
+-- locals are declared from left to right, each in scope behind its initial value
 abbrev pub declared_code : List Item → ℕ → List Local → List Local → List Lined
 declared_code all line [] scope = []
 declared_code all line (l ∷ rest) scope = first_code all scope l.kind l.first line ++ (one line 1 (i.Bind l.kind) ++ declared_code all line rest (scope ++ l ∷ []))
 
+-- what a declaration becomes
 abbrev pub declare_code : List Item → ℕ → List Local → StmtCode
 declare_code all line ls = record {
   scope = λ scope. scope ++ ls;
@@ -135,6 +146,7 @@ declare_code all line ls = record {
   entries = no_entries;
 }
 
+-- an assignment to a local: the right side, with a compound assignment behind the old value and joined with it, is kept
 abbrev pub local_assigned_code : ℕ → ExprCode → Option BinOp → ExprCode → ℕ → Kind → List Lined
 local_assigned_code line t None e slot k = e.value line 0 ++ one line 1 (i.SetLocal slot k)
 local_assigned_code line t (Some o) e slot k =
@@ -146,6 +158,7 @@ cell_changed_code line (Some f) t o e n = one line 2 (i.Fold f)
 cell_changed_code line None t o e n =
     one line 2 i.Under ++ (one line 3 i.Load ++ (one line 3 i.Swap ++ (one line 3 (operator_by o t.typed.kind e.typed.kind) ++ one line 2 (i.Store n))))
 
+-- an assignment to a cell: its place, and then the right side
 abbrev pub cell_assigned_code : ℕ → ExprCode → Option BinOp → ExprCode → NumKind → List Lined
 cell_assigned_code line t None e n = t.place line 0 ++ (e.value line 1 ++ one line 2 (i.Store n))
 cell_assigned_code line t (Some o) e n = t.place line 0 ++ (e.value line 1 ++ cell_changed_code line (folded_by n o) t o e n)
@@ -156,11 +169,13 @@ assigned_code line (target.Local slot k) t o e = local_assigned_code line t o e 
 assigned_code line (target.Cell n) t o e = cell_assigned_code line t o e n
 assigned_code line _ t o e = []
 
+-- what an assignment becomes
 abbrev pub assignment_code : List Item → ℕ → Expr → Option BinOp → Expr → Codes
 assignment_code all line t o e spot = assigned_code line (expr_code all spot.scope t).typed.target (expr_code all spot.scope t) o (expr_code all spot.scope e)
 
 -- Calls, prints and returns
 
+-- a call as a statement: its value is dropped
 abbrev pub call_done_code : List Item → ℕ → List ℕ → List Expr → Codes
 call_done_code all line name es spot = call_code all (item_found all name) (map (expr_code all spot.scope) es) line 0 ++ one line 1 i.Drop
 
@@ -169,6 +184,7 @@ abbrev pub pieces_in : Option (List Piece) → List Piece
 pieces_in None = []
 pieces_in (Some pieces) = pieces
 
+-- `printf`: its arguments, and then the print
 abbrev pub print_code : List Item → ℕ → List ℕ → List Expr → Codes
 print_code all line format es spot =
     arguments_code (map (expr_code all spot.scope) es) line 0 ++ one line (length es) (i.Print (pieces_in (pieces_of format)) (length es))
@@ -177,24 +193,29 @@ print_code all line format es spot =
 abbrev pub given_code : ℕ → Kind → List Lined
 given_code line result = one line 1 (i.Convert result) ++ one line 1 i.Return
 
+-- a `return`: its value, or 0, is given
 abbrev pub returned_code : List Item → ℕ → Option Expr → Codes
 returned_code all line None spot = one line 0 (i.Push 0) ++ given_code line spot.result
 returned_code all line (Some e) spot = (expr_code all spot.scope e).value line 0 ++ given_code line spot.result
 
 -- Choices
 
+-- a part that may be left out
 abbrev pub part_code : Option StmtCode → Codes
 part_code None spot = []
 part_code (Some c) spot = c.code spot
 
+-- the locals in scope behind it
 abbrev pub part_scope : Option StmtCode → List Local → List Local
 part_scope None scope = scope
 part_scope (Some c) scope = c.scope scope
 
+-- how many task statements are in it
 abbrev pub part_tasks : Option StmtCode → ℕ
 part_tasks None = 0
 part_tasks (Some c) = c.tasks
 
+-- where their bodies begin
 abbrev pub part_entries : Option StmtCode → Entries
 part_entries None spot at = []
 part_entries (Some c) spot at = c.entries spot at
@@ -207,9 +228,11 @@ choice_test all line e spot = length ((expr_code all spot.scope e).value line 0)
 abbrev pub side_spot : List Item → ℕ → Expr → Spot → Spot
 side_spot all line e spot = behind (choice_test all line e spot) spot
 
+-- how long the first side is
 abbrev pub side_length : List Item → ℕ → Expr → StmtCode → Spot → ℕ
 side_length all line e side spot = length (side.code (side_spot all line e spot))
 
+-- where the second side stands, behind the first one and its jump
 abbrev pub other_spot : List Item → ℕ → Expr → StmtCode → Spot → Spot
 other_spot all line e side spot = behind (choice_test all line e spot + side_length all line e side spot + 1) spot
 
@@ -217,15 +240,18 @@ other_spot all line e side spot = behind (choice_test all line e spot + side_len
 abbrev pub choice_of : ℕ → List Lined → List Lined → List Lined → List Lined
 choice_of line test side other = test ++ (one line 1 (i.SkipUnless (length side + 1)) ++ (side ++ (one line 0 (i.Skip (length other)) ++ other)))
 
+-- the instructions of an `if`, without its tick
 abbrev pub choice_codes : List Item → ℕ → Expr → StmtCode → Option StmtCode → Codes
 choice_codes all line e side other spot =
     choice_of line ((expr_code all spot.scope e).value line 0) (side.code (side_spot all line e spot)) (part_code other (other_spot all line e side spot))
 
+-- where the bodies of tasks in its sides begin
 abbrev pub choice_entries : List Item → ℕ → Expr → StmtCode → Option StmtCode → Entries
 choice_entries all line e side other spot at =
     side.entries (side_spot all line e spot) (at + choice_test all line e spot)
     ++ part_entries other (other_spot all line e side spot) (at + (choice_test all line e spot + side_length all line e side spot + 1))
 
+-- what an `if` becomes
 abbrev pub choice_code : List Item → ℕ → Expr → StmtCode → Option StmtCode → StmtCode
 choice_code all line e side other = record {
   scope = same_scope;
@@ -260,6 +286,7 @@ loop_of line kept test body last =
 abbrev pub body_spot : List Item → ℕ → Option Expr → Spot → Spot
 body_spot all line test spot = with_pads (5 + test_length all test line spot.scope) (3 + test_length all test line spot.scope) spot
 
+-- the body of a loop
 abbrev pub loop_body : List Item → ℕ → Option Expr → StmtCode → Codes
 loop_body all line test body spot = body.code (body_spot all line test spot)
 
@@ -267,9 +294,11 @@ loop_body all line test body spot = body.code (body_spot all line test spot)
 abbrev pub last_spot : List Item → ℕ → Option Expr → StmtCode → Spot → Spot
 last_spot all line test body spot = behind (6 + test_length all test line spot.scope + length (loop_body all line test body spot)) spot
 
+-- the last part of a loop
 abbrev pub loop_last : List Item → ℕ → Option Expr → Option StmtCode → StmtCode → Codes
 loop_last all line test last body spot = part_code last (last_spot all line test body spot)
 
+-- the instructions of a loop: where its test fails, it passes the body, the last part and the tick
 abbrev pub loop_code : List Item → ℕ → Option Expr → Option StmtCode → StmtCode → Codes
 loop_code all line test last body spot =
     loop_of line (length spot.scope)
@@ -287,14 +316,17 @@ loop_entries all line test last body spot at =
 abbrev pub loop_spot : Option StmtCode → Spot → Spot
 loop_spot first spot = in_scope (part_scope first spot.scope) (behind (length (part_code first spot)) spot)
 
+-- the first part of a `for` and its loop; what the first part declares is dropped behind them
 abbrev pub for_codes : List Item → ℕ → Option StmtCode → Option Expr → Option StmtCode → StmtCode → Codes
 for_codes all line first test last body spot =
     part_code first spot ++ (loop_code all line test last body (loop_spot first spot) ++ one line 0 (i.Keep (length spot.scope)))
 
+-- where the bodies of tasks in its parts begin
 abbrev pub for_entries : List Item → ℕ → Option StmtCode → Option Expr → Option StmtCode → StmtCode → Entries
 for_entries all line first test last body spot at =
     part_entries first spot at ++ loop_entries all line test last body (loop_spot first spot) (at + length (part_code first spot))
 
+-- what a `for` becomes; a `while` is one without a first and a last part
 abbrev pub for_code : List Item → ℕ → Option StmtCode → Option Expr → Option StmtCode → StmtCode → StmtCode
 for_code all line first test last body = record {
   scope = same_scope;
@@ -332,9 +364,11 @@ task_codes all line clauses body spot =
 abbrev pub task_entry : List Item → ℕ → List Clause → Spot → ℕ
 task_entry all line clauses spot = length (created_code all spot.scope (1 + end_length) clauses line) + 1 + end_length
 
+-- where its body begins, and those of the task statements in that
 abbrev pub task_entries : List Item → ℕ → List Clause → StmtCode → Entries
 task_entries all line clauses body spot at = (at + task_entry all line clauses spot) ∷ body.entries (enclosed_spot spot) (at + task_entry all line clauses spot)
 
+-- what a task statement becomes
 abbrev pub task_code : List Item → ℕ → List Clause → StmtCode → StmtCode
 task_code all line clauses body = record {
   scope = same_scope;
@@ -343,10 +377,12 @@ task_code all line clauses body = record {
   entries = ticked_entries (task_entries all line clauses body);
 }
 
+-- a `taskwait`, or one on the cells of these sections
 abbrev pub wait_code : List Item → ℕ → Option (List Section) → Codes
 wait_code all line None spot = one line 0 i.Wait
 wait_code all line (Some sections) spot = sections_code all spot.scope waited_for sections line ++ one line 0 i.WaitOn
 
+-- a `release`: its clauses, and then what they declare is released
 abbrev pub release_code : List Item → ℕ → List Clause → Codes
 release_code all line clauses spot = clauses_code all spot.scope clauses line ++ one line 0 i.Release
 
@@ -377,5 +413,6 @@ stmt_code_step all (open_stmt.Release clauses) line = simple_code line (release_
 abbrev pub stmt_code : List Item → Stmt → StmtCode
 stmt_code all = fold-Stmt (ℕ → StmtCode) StmtCode (stmt_code_step all) (λ s. s.what s.line)
 
+-- what each of these statements becomes
 abbrev pub stmt_codes : List Item → List Stmt → List StmtCode
 stmt_codes all ss = map (stmt_code all) ss
