@@ -7,9 +7,7 @@ use Rattle.oss_meaning.specs.Expressions.{TaskBody, TreeScript}
 use Rattle.oss_meaning.specs.Meaning.{asks_of}
 use Rattle.oss_machine.specs.Machines.{asks}
 use Rattle.oss_machine.proofs.LiveTheorem.{lively}
-use Rattle.oss_lower.specs.Lowered.{place_of}
 use Rattle.oss_lower.specs.Programs.{ProgramsAreLively, moved_ask, moved_script}
-use Rattle.oss_lower.proofs.ProgramLemmas.{asks_alike}
 
 -- an ask that is moved is as busy as before
 busy_is : (places : TaskBody → ℕ) (a : Ask TreeScript) → IsBusy a → IsBusy (moved_ask places a)
@@ -28,12 +26,12 @@ busy_is places End h = h
 busy_is places (Fails kind) h = h
 
 pub programs_are_lively : ProgramsAreLively
-programs_are_lively all code low = record {
+programs_are_lively all code of = record {
   bound = live.bound;
-  rank = λ s answers. live.rank (moved_script (place_of all) s) answers;
-  below = λ s answers. live.below (moved_script (place_of all) s) answers;
+  rank = λ s answers. live.rank (moved_script (of.places) s) answers;
+  below = λ s answers. live.below (moved_script (of.places) s) answers;
   falls = λ s answers answer busy.
-      live.falls (moved_script (place_of all) s) answers answer (subst IsBusy (ap (λ x. x.ask) (asks_alike all code low s answers)) (busy_is (place_of all) (asks_of all s answers).ask busy));
+      live.falls (moved_script (of.places) s) answers answer (subst IsBusy (ap (λ x. x.ask) (of.alike s answers)) (busy_is (of.places) (asks_of all s answers).ask busy));
 }
   where
     live : IsLively (asks code)

@@ -22,13 +22,14 @@ use Rattle.oss_meaning.specs.Statements.{Body, in_order, meanings_of}
 use Rattle.oss_code.specs.declared.code.CodeParts.{CodeParts}
 use Rattle.oss_code.specs.declared.instr.Instr.TheVariants as i
 use Rattle.oss_machine.specs.Frames.{Config, Frame, first_frame, open_functions, start_of}
+use Rattle.oss_machine.specs.Machines.{asks}
 use Rattle.oss_machine.specs.Steps.{Waits, entry_of, given, line_of_newest, onward, step_at}
 use Rattle.oss_lower.specs.declared.lined.Lined.{Lined}
 use Rattle.oss_lower.specs.ExpressionCode.{one}
 use Rattle.oss_lower.specs.SectionCode.{created_code}
 use Rattle.oss_lower.specs.StatementCode.{codes_in_order, end_length, entries_in_order, given_code, stmt_codes}
 use Rattle.oss_lower.specs.Lowered.{IsLowered, body_place, bound_code, end_entry, entered_code, first_entry, function_spot, head_code, place_of, program_code, statements_from}
-use Rattle.oss_lower.specs.Programs.{AsksAlike, BoundsAreEnough, CodesAskAlike, moved_asked, moved_script}
+use Rattle.oss_lower.specs.Programs.{BoundsAreEnough, CodesAskAlike, moved_asked, moved_script}
 use Rattle.oss_lower.proofs.StepLemmas.{Follows, asks_is, follow_goes, follow_stays}
 use Rattle.oss_lower.proofs.CodeLemmas.{CallsDo, Comes, CreatesDo, HasAt, Side, Standing, body_at, comes_at, comes_on, framed, has_back, has_front, plain, step_by}
 use Rattle.oss_lower.proofs.SectionLemmas.{created_ok}
@@ -289,7 +290,7 @@ module _ (all : List Item) where
         statement_in n (alone n) (meant.bodies_in all) (statements_from all first_entry (functions_of all)) k copies refl refl (bodies_here all code low n (alone n) refl refl refl)
 
     -- The tree and the code ask alike, after any answers.
-    pub asks_alike : AsksAlike all code
+    pub asks_alike : (s : TreeScript) (answers : List ℕ) → moved_asked (place_of all) (asks_of all s answers) ≡ asks code (moved_script (place_of all) s) answers
     asks_alike s answers =
         let few : length (reverse answers) ≤ suc (length answers) = omega (arith, length-reverse answers) in
         script_ok (suc (length answers)) s.body s.copies (reverse answers) few ∙ asks_is code (moved_script (place_of all) s) answers
@@ -299,7 +300,7 @@ module _ (all : List Item) where
     bound_is_enough s bound more answers few fewer_more = script_ok bound s.body s.copies answers few ∙ sym (script_ok more s.body s.copies answers fewer_more)
 
 pub codes_ask_alike : CodesAskAlike
-codes_ask_alike all code low = asks_alike all code low
+codes_ask_alike all code low = record { places = place_of all; main_first = refl; alike = asks_alike all code low; first = low.first }
 
 pub bounds_are_enough : BoundsAreEnough
 bounds_are_enough all code low = bound_is_enough all code low

@@ -2,18 +2,16 @@
 -- parameters and goes on to its body; a task function binds them, creates a task of its body, and gives 0.
 -- Read against: `int main() { return 7; }` is `Skip 6`, `Push 0, Return` for want of a main, and from place 3 on `Skip 3`, `Push 0, Convert int,
 -- Return` for jumps that lead out, the body from place 7 on, which is `Tick, Push 7, Convert int, Return`, and `Push 0, Convert int, Return`.
-use Rattle.std.specs.Prelude.{◌≡◌, ℕ, ◌+◌, ◌-◌, List, [], ◌∷◌, ◌++◌, length, map, replicate, Option, Some, None, slice_index_or}
+use Rattle.std.specs.Prelude.{◌≡◌, ℕ, ◌+◌, ◌-◌, List, [], ◌∷◌, ◌++◌, length, map, Option, Some, None, slice_index_or}
 use Rattle.oss_syntax.specs.declared.tree.pragma.TaskMark.{TaskMark}
 use Rattle.oss_syntax.specs.declared.tree.program.Function.{Function}
 use Rattle.oss_syntax.specs.declared.tree.program.Item.{Item}
-use Rattle.oss_syntax.specs.declared.tree.program.Item.TheVariants as items
 use Rattle.oss_syntax.specs.declared.tree.program.Local.{Local}
-use Rattle.oss_grammar.specs.Layout.{cells_of}
-use Rattle.oss_grammar.specs.Values.{kept}
 use Rattle.oss_meaning.specs.Expressions.{TaskBody}
 use Rattle.oss_meaning.specs.Meaning.{main_number}
 use Rattle.oss_meaning.specs.Names.{functions_of}
 use Rattle.oss_meaning.specs.Pointers.{extents_of}
+use Rattle.oss_meaning.specs.Results.{first_cells}
 use Rattle.oss_code.specs.Globals.{extents_in}
 use Rattle.oss_code.specs.declared.code.CodeParts.{CodeParts}
 use Rattle.oss_code.specs.declared.instr.Instr.TheVariants as i
@@ -94,12 +92,6 @@ body_place all number = slice_index_or (bodies_from all first_entry (functions_o
 abbrev pub program_code : List Item → List Lined
 program_code all =
     one 0 0 (i.Skip (body_place all (main_number all) - 1)) ++ (one 0 0 (i.Push 0) ++ (one 0 1 i.Return ++ function_codes all (functions_of all)))
-
--- the cells at the start: in each of a global's its first value, as its type keeps it
-abbrev pub first_cells : List Item → List ℕ
-first_cells [] = []
-first_cells (items.Global d ∷ rest) = replicate (cells_of d.cells) (kept d.kind d.first) ++ first_cells rest
-first_cells (items.Function f ∷ rest) = first_cells rest
 
 -- The parts of a code are those of a program.
 pub record IsLowered (all : List Item) (code : CodeParts) : Type 0 where

@@ -7,6 +7,7 @@ use Rattle.oss_model.specs.Bodies.Ask.{Await, Begin, Create, End, Fails, Fold, P
 use Rattle.oss_model.specs.Termination.{IsLively}
 use Rattle.oss_meaning.specs.Expressions.{TaskBody, TreeScript}
 use Rattle.oss_meaning.specs.Meaning.{asks_of, run_within}
+use Rattle.oss_meaning.specs.Results.{first_cells}
 use Rattle.oss_code.specs.Soundness.{IsSound}
 use Rattle.oss_code.specs.declared.code.CodeParts.{CodeParts}
 use Rattle.oss_machine.specs.Frames.{CodeScript}
@@ -48,13 +49,17 @@ moved_ask places (Fails kind) = Fails kind
 abbrev pub moved_asked : (TaskBody → ℕ) → Asked TreeScript → Asked CodeScript
 moved_asked places a = record { ask = moved_ask places a.ask; line = a.line }
 
--- A code asks as the program does, for each body and after any answers.
-abbrev pub AsksAlike : List Item → CodeParts → Type 0
-AsksAlike all code = (s : TreeScript) (answers : List ℕ) → moved_asked (place_of all) (asks_of all s answers) ≡ asks code (moved_script (place_of all) s) answers
+-- A code is one of a program: each body of the program has a place in it, that of `main` being the first instruction; the body at that place
+-- asks as the program's does, after any answers; and the cells begin as the program's do.
+pub record IsCodeOf (all : List Item) (code : CodeParts) : Type 0 where
+  pub places : TaskBody → ℕ
+  pub main_first : places TaskBody.main ≡ 0
+  pub alike : (s : TreeScript) (answers : List ℕ) → moved_asked places (asks_of all s answers) ≡ asks code (moved_script places s) answers
+  pub first : code.first ≡ first_cells all
 
--- The code of a program asks as the program does.
+-- The code that a program becomes is one of it.
 abbrev pub CodesAskAlike : Type 0
-CodesAskAlike = (all : List Item) (code : CodeParts) → IsLowered all code → AsksAlike all code
+CodesAskAlike = (all : List Item) (code : CodeParts) → IsLowered all code → IsCodeOf all code
 
 -- The code of a program is sound.
 abbrev pub CodesAreSound : Type 0
@@ -62,7 +67,7 @@ CodesAreSound = (all : List Item) (code : CodeParts) → IsLowered all code → 
 
 -- A program that has a code is lively: between two ticks a body of it asks for a bounded number of other things.
 abbrev pub ProgramsAreLively : Type 0
-ProgramsAreLively = (all : List Item) (code : CodeParts) → IsLowered all code → IsLively (asks_of all)
+ProgramsAreLively = (all : List Item) (code : CodeParts) → IsCodeOf all code → IsLively (asks_of all)
 
 -- A program that has a code asks the same under each bound on turns and calls that its answers do not pass.
 abbrev pub BoundsAreEnough : Type 0

@@ -3,8 +3,8 @@
 
 ghost use Rattle.oss_lower.specs.Programs.{BoundsAreEnough, CodesAreSound, CodesAskAlike, ProgramsAreLively};
 
-/// The code of a program asks as the program does: for each body of the program, and after any answers, it asks for the same, on the
-/// same line. A new task is to run the body that stands where `place_of` says.
+/// The code that a program becomes is a code of it: each body of the program has a place in the code, and the body at that place asks
+/// for the same, on the same lines, after any answers. `main` is at the first instruction.
 pub fn codes_ask_alike()
     ensures { CodesAskAlike }
 {}
