@@ -17,3 +17,4 @@ pub mod SoundPrograms
 pub mod LiveLemmas
 pub mod FormLemmas
 pub mod Rows
+pub mod MovedBodies
