@@ -18,3 +18,4 @@ pub mod LiveLemmas
 pub mod FormLemmas
 pub mod Rows
 pub mod MovedBodies
+pub mod MovedRuns

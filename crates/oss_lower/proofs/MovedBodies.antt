@@ -3,7 +3,7 @@ use Rattle.std.proofs.Common.{◌≡◌, ◌∙◌, ℕ, Bool, true, false, List
 use Rattle.std.specs.Prelude.{if◌then◌else◌}
 use Rattle.oss_syntax.specs.declared.fault.FaultKind.{FaultKind}
 use Rattle.oss_syntax.specs.declared.tree.program.Item.{Item}
-use Rattle.oss_model.specs.Bodies.{Act, Ask, Asked, Frame, Order, Program, Stack, Start, act_of, act_of_ask, ask_of, child_start, frame_act, judged_act, next_stack, past_ask, past_silent, settled_frame, settled_parts, settled_stack, stack_act, stack_after, stack_from, stage_act, stage_created, start_frame}
+use Rattle.oss_model.specs.Bodies.{Act, Ask, Frame, Program, Stack, Start, act_of, act_of_ask, ask_of, frame_act, judged_act, next_stack, past_ask, past_silent, settled_frame, settled_parts, settled_stack, stack_act, stack_after, stack_from, stage_act, stage_created, start_frame}
 use Rattle.oss_model.specs.Bodies.Ask.{Await, Begin, Create, End, Fails, Fold, Print, Read, Release, Tick, Wait, WaitOn, Write}
 use Rattle.oss_model.specs.Bodies.Act.{Awaited, Created, Ended, Fault, Folded, Load, Over, Printed, Releases, Store, Ticked, Waited, WaitedOn}
 use Rattle.oss_model.specs.Context.{create_fault, right_of}
@@ -13,7 +13,7 @@ use Rattle.oss_meaning.specs.Meaning.{asks_of}
 use Rattle.oss_code.specs.declared.code.CodeParts.{CodeParts}
 use Rattle.oss_machine.specs.Frames.{CodeScript}
 use Rattle.oss_machine.specs.Machines.{asks}
-use Rattle.oss_lower.specs.Programs.{IsCodeOf, moved_ask, moved_asked, moved_order, moved_script}
+use Rattle.oss_lower.specs.Programs.{IsCodeOf, moved_ask, moved_asked, moved_order, moved_script, moved_start}
 
 -- the same act
 abbrev pub moved_act : (TaskBody → ℕ) → Act TreeScript → Act CodeScript
@@ -36,9 +36,6 @@ moved_frame places f = record { script = moved_script places f.script; context =
 
 abbrev pub moved_stack : (TaskBody → ℕ) → Stack TreeScript → Stack CodeScript
 moved_stack places s = record { base = moved_frame places s.base; inner = map (moved_frame places) s.inner; ended = s.ended }
-
-abbrev pub moved_start : (TaskBody → ℕ) → Start TreeScript → Start CodeScript
-moved_start places b = record { order = moved_order places b.order; context = b.context; path = b.path }
 
 module _ (places : TaskBody → ℕ) where
   judged : (f : Frame TreeScript) (line : ℕ) (o : Option FaultKind) (a : Act TreeScript) → judged_act (moved_frame places f) line o (moved_act places a) ≡ moved_act places (judged_act f line o a)

@@ -1,5 +1,5 @@
 -- Rows worked by hand: the instructions of some texts, of which the pages of definitions speak.
-use Rattle.std.proofs.Common.{◌≡◌, ℕ, Bool, true, false, List, [], ◌∷◌, Some, None, map, refl, ap}
+use Rattle.std.proofs.Common.{◌≡◌, ℕ, true, false, List, [], ◌∷◌, Some, None, map, refl, ap}
 use Rattle.std.specs.Prelude.{codes}
 use Rattle.oss_syntax.specs.declared.access.Mode.TheVariants as mode
 use Rattle.oss_syntax.specs.declared.tree.expr.BinOp.TheVariants as op
@@ -7,13 +7,12 @@ use Rattle.oss_syntax.specs.declared.tree.expr.Expr.{Expr}
 use Rattle.oss_syntax.specs.declared.tree.pragma.Clause.TheVariants as clause
 use Rattle.oss_syntax.specs.declared.tree.pragma.Form.TheVariants as form
 use Rattle.oss_syntax.specs.declared.tree.program.Item.{Item}
-use Rattle.oss_syntax.specs.declared.tree.program.Item.TheVariants as items
 use Rattle.oss_syntax.specs.declared.tree.program.Kind.TheVariants as kind
 use Rattle.oss_syntax.specs.declared.tree.program.Local.{Local}
 use Rattle.oss_syntax.specs.declared.tree.program.NumKind.TheVariants as num
 use Rattle.oss_syntax.specs.declared.tree.stmt.StmtKind.TheVariants as stmts
 use Rattle.oss_meaning.specs.declared.clauses.Declared.{Declared}
-use Rattle.oss_meaning.proofs.RowTrees.{number, element, joined, call, on, name, long, section, task, x, a, m, function, main_of, program, program_with}
+use Rattle.oss_meaning.proofs.RowTrees.{number, element, joined, call, on, name, long, section, task, x, m, function, main_of, program, program_with}
 use Rattle.oss_code.specs.declared.instr.Indices.TheVariants as indices
 use Rattle.oss_code.specs.declared.instr.Instr.{Instr}
 use Rattle.oss_code.specs.declared.instr.Instr.TheVariants as i

@@ -2,12 +2,12 @@
 -- Read against: `int main() { return 7; }` asks for a tick, and then for its end, on the same line; so does its code from place 0 on.
 use Rattle.std.specs.Prelude.{◌≡◌, ◌≤◌, ℕ, List, length}
 use Rattle.oss_syntax.specs.declared.tree.program.Item.{Item}
-use Rattle.oss_model.specs.Bodies.{Ask, Asked, Order}
+use Rattle.oss_model.specs.Bodies.{Ask, Asked, Order, Start}
 use Rattle.oss_model.specs.Bodies.Ask.{Await, Begin, Create, End, Fails, Fold, Print, Read, Release, Tick, Wait, WaitOn, Write}
 use Rattle.oss_model.specs.Termination.{IsLively}
 use Rattle.oss_meaning.specs.Expressions.{TaskBody, TreeScript}
 use Rattle.oss_meaning.specs.Meaning.{asks_of, run_within}
-use Rattle.oss_meaning.specs.Results.{first_cells}
+use Rattle.oss_meaning.specs.Results.{IsOutcome, Outcome, first_cells}
 use Rattle.oss_code.specs.Soundness.{IsSound}
 use Rattle.oss_code.specs.declared.code.CodeParts.{CodeParts}
 use Rattle.oss_machine.specs.Frames.{CodeScript}
@@ -28,6 +28,10 @@ moved_order places o = record {
   wait = o.wait;
   priority = o.priority;
 }
+
+-- the same beginning of a body
+abbrev pub moved_start : (TaskBody → ℕ) → Start TreeScript → Start CodeScript
+moved_start places b = record { order = moved_order places b.order; context = b.context; path = b.path }
 
 -- the same ask
 abbrev pub moved_ask : (TaskBody → ℕ) → Ask TreeScript → Ask CodeScript
@@ -73,3 +77,8 @@ ProgramsAreLively = (all : List Item) (code : CodeParts) → IsCodeOf all code �
 abbrev pub BoundsAreEnough : Type 0
 BoundsAreEnough = (all : List Item) (code : CodeParts) → IsLowered all code → (s : TreeScript) (bound more : ℕ) (answers : List ℕ) → length answers ≤ bound → length answers ≤ more
     → moved_asked (place_of all) (run_within all bound s answers) ≡ moved_asked (place_of all) (run_within all more s answers)
+
+-- What the sequential run of a program gives, that of its code gives too.
+abbrev pub OutcomesAlike : Type 0
+OutcomesAlike = (all : List Item) (code : CodeParts) (of : IsCodeOf all code) (main : Start TreeScript) (cells : List ℕ) (o : Outcome)
+    → IsOutcome (asks_of all) main cells o → IsOutcome (asks code) (moved_start of.places main) cells o

@@ -1,7 +1,7 @@
 //! What holds of the code of every program, accepted or not: laws, each carried by a function that does nothing. A crate above calls
 //! the function, and then has the law.
 
-ghost use Rattle.oss_lower.specs.Programs.{BoundsAreEnough, CodesAreSound, CodesAskAlike, ProgramsAreLively};
+ghost use Rattle.oss_lower.specs.Programs.{BoundsAreEnough, CodesAreSound, CodesAskAlike, OutcomesAlike, ProgramsAreLively};
 
 /// The code that a program becomes is a code of it: each body of the program has a place in the code, and the body at that place asks
 /// for the same, on the same lines, after any answers. `main` is at the first instruction.
@@ -22,4 +22,9 @@ pub fn programs_are_lively()
 /// A program that has a code asks the same under each bound on calls and turns that its answers do not pass.
 pub fn bounds_are_enough()
     ensures { BoundsAreEnough }
+{}
+
+/// What the sequential run of a program gives, that of a code of it gives too: the same answer, as many tasks, and as many entries.
+pub fn outcomes_alike()
+    ensures { OutcomesAlike }
 {}
