@@ -19,3 +19,4 @@ pub mod FormLemmas
 pub mod Rows
 pub mod MovedBodies
 pub mod MovedRuns
+pub mod OneResult

@@ -1,10 +1,13 @@
 -- Two programs that ask alike: the tree's scripts name bodies by their numbers, and the code's by the instructions with which they begin.
 -- Read against: `int main() { return 7; }` asks for a tick, and then for its end, on the same line; so does its code from place 0 on.
-use Rattle.std.specs.Prelude.{◌≡◌, ◌≤◌, ℕ, List, length}
+use Rattle.std.specs.Prelude.{◌≡◌, ◌↔◌, ◌≤◌, ℕ, List, length}
 use Rattle.oss_syntax.specs.declared.tree.program.Item.{Item}
+use Rattle.oss_model.specs.Agreement.{Setting}
+use Rattle.oss_model.specs.Answers.{IsResult}
 use Rattle.oss_model.specs.Bodies.{Ask, Asked, Order, Start}
 use Rattle.oss_model.specs.Bodies.Ask.{Await, Begin, Create, End, Fails, Fold, Print, Read, Release, Tick, Wait, WaitOn, Write}
 use Rattle.oss_model.specs.Termination.{IsLively}
+use Rattle.oss_model.specs.declared.answer.Answer.{Answer}
 use Rattle.oss_meaning.specs.Expressions.{TaskBody, TreeScript}
 use Rattle.oss_meaning.specs.Meaning.{asks_of, run_within}
 use Rattle.oss_meaning.specs.Results.{IsOutcome, Outcome, first_cells}
@@ -82,3 +85,8 @@ BoundsAreEnough = (all : List Item) (code : CodeParts) → IsLowered all code �
 abbrev pub OutcomesAlike : Type 0
 OutcomesAlike = (all : List Item) (code : CodeParts) (of : IsCodeOf all code) (main : Start TreeScript) (cells : List ℕ) (o : Outcome)
     → IsOutcome (asks_of all) main cells o → IsOutcome (asks code) (moved_start of.places main) cells o
+
+-- The result of the sequential run of a program is that of its code.
+abbrev pub ResultsAlike : Type 0
+ResultsAlike = (all : List Item) (code : CodeParts) (of : IsCodeOf all code) (main : Start TreeScript) (cells : List ℕ) → Setting main cells → (b : Answer)
+    → IsResult (asks_of all) main cells b ↔ IsResult (asks code) (moved_start of.places main) cells b

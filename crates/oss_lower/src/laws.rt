@@ -1,7 +1,7 @@
 //! What holds of the code of every program, accepted or not: laws, each carried by a function that does nothing. A crate above calls
 //! the function, and then has the law.
 
-ghost use Rattle.oss_lower.specs.Programs.{BoundsAreEnough, CodesAreSound, CodesAskAlike, OutcomesAlike, ProgramsAreLively};
+ghost use Rattle.oss_lower.specs.Programs.{BoundsAreEnough, CodesAreSound, CodesAskAlike, OutcomesAlike, ProgramsAreLively, ResultsAlike};
 
 /// The code that a program becomes is a code of it: each body of the program has a place in the code, and the body at that place asks
 /// for the same, on the same lines, after any answers. `main` is at the first instruction.
@@ -27,4 +27,10 @@ pub fn bounds_are_enough()
 /// What the sequential run of a program gives, that of a code of it gives too: the same answer, as many tasks, and as many entries.
 pub fn outcomes_alike()
     ensures { OutcomesAlike }
+{}
+
+/// The result of the sequential run of a program is that of a code of it: where the one is Done or a fault, so is the other, with the
+/// same output, the same cells, the same kind and the same line.
+pub fn results_alike()
+    ensures { ResultsAlike }
 {}
