@@ -10,9 +10,11 @@ pub struct Lined {
     pub depth: u32,
 }
 
-/// How many instructions behind the pieces to which `break` and `continue` lead some instructions begin.
+/// How far some instructions of a loop's body, or of the body of a function or of a task, begin behind the pieces to which jumps lead.
 #[derive(Clone, Copy, Debug, PartialEq, Eq)]
 pub struct Pads {
+    /// So many instructions behind the piece of `break`.
     pub stop: u32,
+    /// So many instructions behind the piece of `continue`.
     pub again: u32,
 }
