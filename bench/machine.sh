@@ -5,7 +5,7 @@ top=$(CDPATH='' cd -- "$(dirname -- "$0")/.." && pwd) || exit 1
 work=$(mktemp -d) || exit 1
 trap 'rm -rf "$work"' EXIT
 mkdir -p "$work/crates/bench_machine/src" || exit 1
-crates='oss_syntax oss_grammar oss_model oss_sections oss_meaning oss_code oss_machine'
+crates='oss_syntax oss_grammar oss_model oss_sections oss_meaning oss_code oss_values oss_machine'
 for crate in $crates; do
   mkdir "$work/crates/$crate" || exit 1
   for part in src specs proofs; do

@@ -1,8 +1,6 @@
 -- The sequential run of a program is that of its code, whose scripts are moved.
 use Rattle.std.proofs.Common.{◌≡◌, ◌∙◌, ℕ, zero, suc, ◌+◌, Bool, true, false, List, [], ◌∷◌, length, map, Option, Some, option_map, refl, sym, ap, subst}
 use Rattle.std.specs.Prelude.{◌-◌, ◌^◌, if◌then◌else◌, min}
-use Rattle.std.specs.List.{sum}
-use Rattle.std.proofs.lemmas.List.{length-map}
 use Rattle.oss_syntax.specs.declared.tree.program.Item.{Item}
 use Rattle.oss_model.specs.Agreement.{Setting}
 use Rattle.oss_model.specs.Answers.{IsResult}
@@ -21,7 +19,7 @@ use Rattle.oss_model.specs.declared.answer.Answer.{Answer}
 use Rattle.oss_model.specs.declared.answer.Answer.TheVariants as answers
 use Rattle.oss_meaning.specs.Expressions.{TaskBody, TreeScript}
 use Rattle.oss_meaning.specs.Meaning.{asks_of}
-use Rattle.oss_meaning.specs.Results.{IsOutcome, Outcome, cells_held, entries_in, entries_of, one_held, tasks_in}
+use Rattle.oss_meaning.specs.Results.{IsOutcome, Outcome, cells_held, entries_in, entries_of, is_among, one_held, tasks_in, weighed}
 use Rattle.oss_meaning.specs.Results.IsOutcome.{ends, fails}
 use Rattle.oss_code.specs.declared.code.CodeParts.{CodeParts}
 use Rattle.oss_machine.specs.Frames.{CodeScript}
@@ -144,17 +142,25 @@ module _ (places : TaskBody → ℕ) where
   entries_are n t [] = refl
   entries_are n t (k ∷ p) = ap (λ m. 1 + m) (held_is t n)
 
-  listed_are : (n : ℕ) (ts : List (Task TreeScript)) → map (λ t. entries_of n t t.body.start.path) (map (moved_task places) ts) ≡ map (λ t. entries_of n t t.body.start.path) ts
-  listed_are n [] = refl
-  listed_are n (t ∷ ts) =
-      ap (λ k. k ∷ map (λ u. entries_of n u u.body.start.path) (map (moved_task places) ts)) (entries_are n t t.body.start.path)
-      ∙ ap (λ l. entries_of n t t.body.start.path ∷ l) (listed_are n ts)
+  chosen_are : (b : Bool) (k l m n w v : ℕ) → k ≡ l → m ≡ n → w ≡ v → (if b then k else w + m) ≡ (if b then l else v + n)
+  chosen_are true k l m n w v e f g = e
+  chosen_are false k l m n w v e f g = ap (λ x. x + m) g ∙ ap (λ x. v + x) f
+
+  weighed_are : (weight : Task CodeScript → ℕ) (same : Task TreeScript → ℕ) (alike : (t : Task TreeScript) → weight (moved_task places t) ≡ same t) (ts : List (Task TreeScript)) (seen : List (List ℕ))
+      → weighed weight seen (map (moved_task places) ts) ≡ weighed same seen ts
+  weighed_are weight same alike [] seen = refl
+  weighed_are weight same alike (t ∷ ts) seen =
+      chosen_are (is_among seen t.body.start.path)
+      (weighed weight seen (map (moved_task places) ts)) (weighed same seen ts)
+      (weighed weight (t.body.start.path ∷ seen) (map (moved_task places) ts)) (weighed same (t.body.start.path ∷ seen) ts)
+      (weight (moved_task places t)) (same t)
+      (weighed_are weight same alike ts seen) (weighed_are weight same alike ts (t.body.start.path ∷ seen)) (alike t)
 
   tasks_are : (s : State TreeScript) → tasks_in (moved_state places s) ≡ tasks_in s
-  tasks_are s = ap (λ k. min k (2 ^ 64 - 1)) (length-map s.tasks (moved_task places))
+  tasks_are s = ap (λ k. min k (2 ^ 64 - 1)) (weighed_are (λ t. 1) (λ t. 1) (λ t. refl) s.tasks [])
 
   all_entries_are : (s : State TreeScript) → entries_in (moved_state places s) ≡ entries_in s
-  all_entries_are s = ap sum (listed_are (length s.cells) s.tasks)
+  all_entries_are s = weighed_are (λ t. entries_of (length s.cells) t t.body.start.path) (λ t. entries_of (length s.cells) t t.body.start.path) (λ t. entries_are (length s.cells) t t.body.start.path) s.tasks []
 
 -- a creation is a creation
 abbrev IsCreation : Act CodeScript → Type 0

@@ -3,8 +3,7 @@
 -- this much fuel and the cells as they are at the start.
 -- Read against: with `long x, y = 3; int main() { task out(x) x = y; taskwait; printf("%ld", x); }` the cells at the start are 0 and 3; the answer is Done with the output `3` and
 -- the cells 3 and 3; there are 2 tasks, and 3 entries: one for main, one for the task and one for its cell.
-use Rattle.std.specs.Prelude.{◌≡◌, ℕ, zero, suc, ◌+◌, ◌-◌, ◌^◌, true, false, min, List, [], ◌∷◌, ◌++◌, length, map, replicate, pos}
-use Rattle.std.specs.List.{sum}
+use Rattle.std.specs.Prelude.{◌≡◌, ℕ, zero, suc, ◌+◌, ◌-◌, ◌^◌, Bool, true, false, ◌||◌, if◌then◌else◌, min, List, [], ◌∷◌, ◌++◌, length, replicate, pos}
 use Rattle.oss_syntax.specs.declared.fault.FaultKind.{FaultKind}
 use Rattle.oss_syntax.specs.declared.tree.program.Item.{Item}
 use Rattle.oss_syntax.specs.declared.tree.program.Item.TheVariants as items
@@ -14,7 +13,7 @@ use Rattle.oss_model.specs.Agreement.{main_start}
 use Rattle.oss_model.specs.Bodies.{Order, Program, Start}
 use Rattle.oss_model.specs.Bodies.Act.{Fault, Over}
 use Rattle.oss_model.specs.Context.{right_of}
-use Rattle.oss_model.specs.Machine.{State, Task}
+use Rattle.oss_model.specs.Machine.{State, Task, same_path}
 use Rattle.oss_model.specs.Moves.{act_now}
 use Rattle.oss_model.specs.Rights.{Holds, Right}
 use Rattle.oss_model.specs.Sequence.{IsAtEnd, Running, Sequential}
@@ -37,9 +36,21 @@ main_order = record { script = record { body = TaskBody.main; copies = [] }; cla
 abbrev pub main_of : List Item → ℕ → Start TreeScript
 main_of all fuel = main_start main_order (cells_in all) fuel
 
+-- whether one of these paths is this one
+abbrev pub is_among : List (List ℕ) → List ℕ → Bool
+is_among [] path = false
+is_among (p ∷ rest) path = same_path p path || is_among rest path
+
+-- the weights of tasks, summed: of several with one path the first is the task, as it is where a task is found by its path
+abbrev pub weighed : {S : Type 0} → (Task S → ℕ) → List (List ℕ) → List (Task S) → ℕ
+weighed weight seen [] = 0
+weighed weight seen (t ∷ rest) =
+    if is_among seen t.body.start.path then weighed weight seen rest
+    else weight t + weighed weight (t.body.start.path ∷ seen) rest
+
 -- how many tasks a state has: main and each task that was created and not included; the count stays at its greatest value
 abbrev pub tasks_in : {S : Type 0} → State S → ℕ
-tasks_in s = min (length s.tasks) (2 ^ 64 - 1)
+tasks_in s = min (weighed (λ t. 1) [] s.tasks) (2 ^ 64 - 1)
 
 -- one for a cell to which a task has a right
 abbrev pub one_held : Right → ℕ
@@ -58,7 +69,7 @@ entries_of n t (k ∷ path) = 1 + cells_held t n
 
 -- the entries of all tasks of a state
 abbrev pub entries_in : {S : Type 0} → State S → ℕ
-entries_in s = sum (map (λ t. entries_of (length s.cells) t t.body.start.path) s.tasks)
+entries_in s = weighed (λ t. entries_of (length s.cells) t t.body.start.path) [] s.tasks
 
 -- What a run gives.
 pub record Outcome : Type 0 where
