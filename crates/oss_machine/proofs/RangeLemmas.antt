@@ -1,11 +1,11 @@
 -- Ranges of which none begins where the one before it ends are the ranges of their cells.
-use Rattle.std.proofs.Common.{◌≡◌, ◌≢◌, ℕ, zero, suc, ◌+◌, ◌-◌, ◌<◌, ◌≤◌, min, eqb, List, [], ◌∷◌, ◌++◌, refl, sym, ap, subst, ◌∙◌, true, false, Bool, arith}
+use Rattle.std.proofs.Common.{◌≡◌, ◌≢◌, ℕ, zero, suc, ◌+◌, ◌-◌, ◌<◌, ◌≤◌, min, eqb, List, [], ◌∷◌, ◌++◌, refl, sym, ap, subst, ◌∙◌, true, false, arith}
 use Rattle.std.proofs.lemmas.Bool.Decides.{nat_tests}
 use Rattle.std.specs.List.{range_with_len}
 use Rattle.std.proofs.Props.{props}
 use Rattle.oss_model.specs.Cells.{cell_range}
 use Rattle.oss_syntax.specs.declared.access.Range.{Range}
-use Rattle.oss_sections.specs.RangeCells.{AreApart, AreJoined, EachNext, IsFollowed, cells_of}
+use Rattle.oss_sections.specs.RangeCells.{AreApart, AreJoined, IsFollowed, cells_of}
 use Rattle.oss_meaning.specs.Sections.{cell_before, longer_by, ranges_of}
 
 abbrev range_at : (lo hi : ℕ) → lo < hi → hi ≤ 1048576 → Range

@@ -2,6 +2,9 @@
 
 use crate::activation::Activation;
 
+/// How many functions a task may not have open: it fails with so many.
+pub(crate) const TOO_MANY: usize = 257;
+
 /// A body as it stands: the function that runs, and those that wait for what they called, the newest last.
 #[derive(Debug, Drop)]
 pub(crate) struct Still {

@@ -6,14 +6,11 @@ ghost use Rattle.oss_machine.specs.Runs.{IsRun, config_in};
 ghost use Rattle.oss_machine.specs.Steps.{after_effect, effect, line_of};
 
 use crate::answer::take_answer;
-use crate::bodies::{Run, Still};
+use crate::bodies::{Run, Still, TOO_MANY};
 use crate::moving::enter;
 use crate::outcome::Taken;
 use oss_code::{Code, Instr};
 use std::alloc::{AllocError, Global};
-
-/// How many functions a task may have open, and one more.
-const TOO_MANY: usize = 257;
 
 /// The function that runs takes the answer to what its instruction asks.
 fn take_on(

@@ -13,6 +13,7 @@ use oss_syntax::{BinOp, Cells, FaultKind, Kind, List, Mode, NumKind, Op, Range};
 use std::process::Abort;
 
 /// What is seen of an ask.
+#[derive(Clone, Copy)]
 enum Seen {
     Begin,
     Tick,

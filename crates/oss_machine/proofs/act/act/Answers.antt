@@ -1,4 +1,4 @@
-use Rattle.std.proofs.Common.{◌≡◌, ◌∙◌, refl}
+use Rattle.std.proofs.Common.{◌≡◌, ◌∙◌}
 use Rattle.oss_code.specs.Shapes.{indices_in, operands_of}
 use Rattle.oss_machine.proofs.act.act.Goals as goal
 

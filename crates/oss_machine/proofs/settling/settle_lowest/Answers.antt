@@ -1,4 +1,4 @@
-use Rattle.std.proofs.Common.{◌≡◌, ◌∷◌, ◌+◌, [], List, ap, ◌∙◌, take}
+use Rattle.std.proofs.Common.{◌≡◌, ◌∷◌, [], List, ap, ◌∙◌, take}
 use Rattle.std.specs.Prelude.{slice_index_or}
 use Rattle.oss_machine.specs.declared.activation.Activation.{Activation}
 use Rattle.oss_machine.specs.Activations.{base_in, frame_on, no_base}

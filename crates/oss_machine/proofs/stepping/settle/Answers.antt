@@ -1,4 +1,4 @@
-use Rattle.std.proofs.Common.{◌≡◌, ap, ◌∙◌}
+use Rattle.std.proofs.Common.{◌≡◌}
 use Rattle.oss_machine.specs.Asks.{meant_asked}
 use Rattle.oss_machine.specs.Machines.{IsWaiting, asked_in}
 use Rattle.oss_machine.specs.Runs.{config_in}

@@ -3,7 +3,7 @@ use Rattle.oss_machine.specs.declared.activation.Activation.{Activation}
 use Rattle.oss_machine.specs.declared.bodies.Still.{Still}
 use Rattle.oss_machine.specs.Activations.{frame_on, no_base}
 use Rattle.oss_machine.specs.Asks.{meant_asked, script_of}
-use Rattle.oss_machine.specs.Frames.{Config, Frame, first_frame, start_of}
+use Rattle.oss_machine.specs.Frames.{Frame, first_frame, start_of}
 use Rattle.oss_machine.specs.Machines.{Standing, settled, standing}
 use Rattle.oss_machine.specs.Runs.{config_of, stacked}
 use Rattle.oss_machine.proofs.CommitLemmas.{config_is}
