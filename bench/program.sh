@@ -1,0 +1,22 @@
+#!/bin/sh
+# Proves, builds and runs a bench program in a folder of its own, and prints its lines of times.
+# usage: program.sh NAME CRATES LIBRARIES: the program is bench/NAME.program; it stands on LIBRARIES, and all that these stand on are CRATES.
+top=$(CDPATH='' cd -- "$(dirname -- "$0")/.." && pwd) || exit 1
+work=$(mktemp -d) || exit 1
+trap 'rm -rf "$work"' EXIT
+mkdir -p "$work/crates/bench_$1/src" || exit 1
+for crate in $2; do
+  mkdir "$work/crates/$crate" || exit 1
+  for part in src specs proofs; do
+    [ ! -d "$top/crates/$crate/$part" ] || cp -r "$top/crates/$crate/$part" "$work/crates/$crate/" || exit 1
+  done
+  grep "^$crate:" "$top/crates.txt" >>"$work/crates.txt" || exit 1
+done
+cp "$top/HANDLES" "$work/HANDLES"
+printf '%s\n' "bench_$1: $3" >>"$work/crates.txt"
+cp "$top/bench/$1.program" "$work/crates/bench_$1/src/main.rt"
+cd "$work/crates/bench_$1" || exit 1
+rt run >"$work/log" 2>&1
+status=$?
+grep -E ' ms$' "$work/log" || cat "$work/log"
+exit $status
