@@ -21,6 +21,7 @@ pub mod OrderLemmas
 pub mod OrderTheorem
 pub mod OutputLemmas
 pub mod Places
+pub mod PotentialLemmas
 pub mod PointLemmas
 pub mod ProgressTheorem
 pub mod RecallLemmas

@@ -33,14 +33,14 @@ pub data IncludedDone {S : Type 0} (P : Program S) (z : Running S) (base : Frame
   included_finished : (x : Running S) (u : Task S) → Leads P z x → x.active ≡ z.active → At x.state z.active u → stack_from P u.body.start u.body.found ≡ settled_parts P base fs false → AboveSame z x → IncludedDone P z base fs
 
 -- what an act is for the frame on top
-data Kind {S : Type 0} : Act S → Type 0 where
+pub data Kind {S : Type 0} : Act S → Type 0 where
   halts : {a : Act S} → IsHalt a → Kind a
   last_act : Kind Ended
   creates : (o : Order S) (i : Bool) → Kind (Created o i)
   plain : {a : Act S} → (a ≢ Ended) → ((o : Order S) (i : Bool) → a ≢ Created o i) → (IsHalt a → ⊥) → ((v : ℕ) (base : Frame S) → base_after a v base ≡ record { base = frame_after a v base; inner = []; ended = false })
       → ((v : ℕ) (base f : Frame S) (fs : List (Frame S)) → inner_after a v base f fs ≡ record { base = base; inner = frame_after a v f ∷ fs; ended = false }) → Kind a
 
-kind : {S : Type 0} (a : Act S) → Kind a
+pub kind : {S : Type 0} (a : Act S) → Kind a
 kind (Fault k l key) = halts tt
 kind Over = halts tt
 kind Ended = last_act
@@ -55,15 +55,15 @@ kind (WaitedOn named) = plain (λ e. cc) (λ o i e. cc) (λ h. h) (λ v b. refl)
 kind (Releases cl i) = plain (λ e. cc) (λ o i e. cc) (λ h. h) (λ v b. refl) (λ v b f fs. refl)
 kind (Printed key text) = plain (λ e. cc) (λ o i e. cc) (λ h. h) (λ v b. refl) (λ v b f fs. refl)
 
-act_at : {S : Type 0} (P : Program S) (b : Start S) (past : List ℕ) (base : Frame S) (inner : List (Frame S)) → stack_from P b past ≡ record { base = base; inner = inner; ended = false } → stage_act P b past ≡ stack_act P (right_of b.context) base inner false
+pub act_at : {S : Type 0} (P : Program S) (b : Start S) (past : List ℕ) (base : Frame S) (inner : List (Frame S)) → stack_from P b past ≡ record { base = base; inner = inner; ended = false } → stage_act P b past ≡ stack_act P (right_of b.context) base inner false
 unfolding stage_act act_of
 act_at P b past base inner e = ap (λ (s : Stack _). stack_act P (right_of b.context) s.base s.inner s.ended) e
 
-next_at : {S : Type 0} (P : Program S) (b : Start S) (past : List ℕ) (v : ℕ) (base : Frame S) (inner : List (Frame S)) → stack_from P b past ≡ record { base = base; inner = inner; ended = false } → stack_from P b (v ∷ past) ≡ settled_stack P (stack_after (stack_act P (right_of b.context) base inner false) v base inner)
+pub next_at : {S : Type 0} (P : Program S) (b : Start S) (past : List ℕ) (v : ℕ) (base : Frame S) (inner : List (Frame S)) → stack_from P b past ≡ record { base = base; inner = inner; ended = false } → stack_from P b (v ∷ past) ≡ settled_stack P (stack_after (stack_act P (right_of b.context) base inner false) v base inner)
 unfolding stack_from
 next_at P b past v base inner e = ap (λ (s : Stack _). next_stack P (right_of b.context) v s) e
 
-start_at : {S : Type 0} (P : Program S) (b : Start S) → stack_from P b [] ≡ record { base = settled_frame P (start_frame P b); inner = []; ended = false }
+pub start_at : {S : Type 0} (P : Program S) (b : Start S) → stack_from P b [] ≡ record { base = settled_frame P (start_frame P b); inner = []; ended = false }
 unfolding stack_from
 start_at P b = refl
 
@@ -71,22 +71,22 @@ lent_depth : (w : Bool) (given : ℕ → Right) (x : Context) → (lent_when w g
 lent_depth true given x = refl
 lent_depth false given x = refl
 
-after_depth : {S : Type 0} (a : Act S) (v : ℕ) (f : Frame S) → (frame_after a v f).context.depth ≡ f.context.depth
+pub after_depth : {S : Type 0} (a : Act S) (v : ℕ) (f : Frame S) → (frame_after a v f).context.depth ≡ f.context.depth
 after_depth (Created o i) v f = lent_depth o.when (right_of (child_context f.context o.clauses o.last)) (one_more_created f.context)
 after_depth _ v f = refl
 
-settled_depth : {S : Type 0} (P : Program S) (f : Frame S) → (settled_frame P f).context.depth ≡ f.context.depth
+pub settled_depth : {S : Type 0} (P : Program S) (f : Frame S) → (settled_frame P f).context.depth ≡ f.context.depth
 settled_depth P f = ap (λ (x : Context). x.depth) (settle_same P f).context
 
-parts_ended : {S : Type 0} (P : Program S) (base : Frame S) (fs : List (Frame S)) → (settled_parts P base fs false).ended ≡ false
+pub parts_ended : {S : Type 0} (P : Program S) (base : Frame S) (fs : List (Frame S)) → (settled_parts P base fs false).ended ≡ false
 parts_ended P base [] = refl
 parts_ended P base (f ∷ fs) = refl
 
-not_halting : {S : Type 0} {a b : Act S} → a ≡ b → (IsHalt b → ⊥) → IsHalt a → ⊥
+pub not_halting : {S : Type 0} {a b : Act S} → a ≡ b → (IsHalt b → ⊥) → IsHalt a → ⊥
 not_halting e g h = g (subst IsHalt e h)
 
 -- the path of the task that runs after an act
-active_stay : {S : Type 0} (P : Program S) (t : Task S) (p : List ℕ) (v : ℕ) → ((o : Order S) → act_now P t.body ≢ Created o false) → is_ended P (after_answer v t).body ≡ false → active_after P t p v (act_now P t.body) ≡ p
+pub active_stay : {S : Type 0} (P : Program S) (t : Task S) (p : List ℕ) (v : ℕ) → ((o : Order S) → act_now P t.body ≢ Created o false) → is_ended P (after_answer v t).body ≡ false → active_after P t p v (act_now P t.body) ≡ p
 active_stay P t p v n e = go (active_after P t p v (act_now P t.body)) (turn P t p v)
   where
     go : (a : List ℕ) → Turn P t p v a → a ≡ p
@@ -94,7 +94,7 @@ active_stay P t p v n e = go (active_after P t p v (act_now P t.body)) (turn P t
     go a (up m k) = let x : true ≡ false = sym k ∙ e in cc
     go a (stay m k) = refl
 
-active_up : {S : Type 0} (P : Program S) (t : Task S) (p : List ℕ) (v : ℕ) → ((o : Order S) → act_now P t.body ≢ Created o false) → is_ended P (after_answer v t).body ≡ true → active_after P t p v (act_now P t.body) ≡ path_above p
+pub active_up : {S : Type 0} (P : Program S) (t : Task S) (p : List ℕ) (v : ℕ) → ((o : Order S) → act_now P t.body ≢ Created o false) → is_ended P (after_answer v t).body ≡ true → active_after P t p v (act_now P t.body) ≡ path_above p
 active_up P t p v n e = go (active_after P t p v (act_now P t.body)) (turn P t p v)
   where
     go : (a : List ℕ) → Turn P t p v a → a ≡ path_above p
@@ -102,7 +102,7 @@ active_up P t p v n e = go (active_after P t p v (act_now P t.body)) (turn P t p
     go a (up m k) = refl
     go a (stay m k) = let x : true ≡ false = sym e ∙ k in cc
 
-active_down : {S : Type 0} (P : Program S) (t : Task S) (p : List ℕ) (v : ℕ) (o : Order S) → act_now P t.body ≡ Created o false → active_after P t p v (act_now P t.body) ≡ created_now P t.body ∷ p
+pub active_down : {S : Type 0} (P : Program S) (t : Task S) (p : List ℕ) (v : ℕ) (o : Order S) → act_now P t.body ≡ Created o false → active_after P t p v (act_now P t.body) ≡ created_now P t.body ∷ p
 active_down P t p v o e = go (active_after P t p v (act_now P t.body)) (turn P t p v)
   where
     go : (a : List ℕ) → Turn P t p v a → a ≡ created_now P t.body ∷ p

@@ -8,21 +8,20 @@ use Rattle.oss_model.specs.Rights.{Right, Reads, Writes, Folds, touch_fault, is_
 use Rattle.oss_model.specs.Context.{Context, create_fault, tick_fault, creation_fault, clause_fault, or_else, release_fault, wait_on_fault, right_of, lent_of, mark_of, child_context, wrote, waited, waited_on, release}
 use Rattle.oss_model.specs.Bodies.{Order, Ask, Program, Act, Frame, act_of_ask, ask_of, frame_act, answered_frame, one_more_created, lent_when, made_by, after_creation, frame_after, including_frame, past_ask, past_silent, settled_frame, word_of, key_of, IsHalt}
 use Rattle.oss_model.specs.Bodies.Act.{Ticked, Load, Store, Folded, Created, Awaited, Waited, WaitedOn, Releases, Printed, Ended}
+use Rattle.oss_model.specs.Potential.{left_of, most_left, one_if, times}
 use Rattle.oss_model.specs.Termination.{IsBusy, IsLively}
 use Rattle.oss_model.proofs.BodyLemmas.{judged_goes}
-
-pub times : ℕ → ℕ → ℕ
-times zero k = 0
-times (suc n) k = k + times n k
 
 times_falls : (n k : ℕ) → 0 < n → times n k ≡ k + times (n - 1) k
 unfolding times
 times_falls zero k l = absurd (omega arith)
 times_falls (suc n) k l = ap (λ (z : ℕ). k + times z k) (let e : n ≡ suc n - 1 = omega arith in e)
 
-pub one_if : Bool → ℕ
-one_if true = 1
-one_if false = 0
+pub times_grows : (n m k : ℕ) → n ≤ m → times n k ≤ times m k
+unfolding times
+times_grows zero m k l = omega arith
+times_grows (suc n) zero k l = absurd (omega arith)
+times_grows (suc n) (suc m) k l = let r = times_grows n m k (omega (arith, l)) in omega (arith, r)
 
 small : (b : Bool) → one_if b ≤ 1
 unfolding one_if
@@ -31,11 +30,20 @@ small false = omega arith
 
 module _ {S : Type 0} (P : Program S) (lively : IsLively P) where
   -- what is left: by the fuel, then by the rank, then by an await
-  pub weight : Frame S → ℕ
-  weight f = times (f.context.fuel - f.context.ticks) (lively.bound + lively.bound + 2) + (lively.rank f.script f.answers + lively.rank f.script f.answers + one_if f.awaits)
+  abbrev pub weight : Frame S → ℕ
+  weight f = left_of lively.bound (lively.rank f.script f.answers) f.context f.awaits
+
+  -- what is left is bounded by the fuel
+  pub weight_bound : (f : Frame S) → weight f ≤ most_left lively.bound f.context.fuel
+  unfolding left_of most_left
+  weight_bound f =
+      let t = times_grows (f.context.fuel - f.context.ticks) f.context.fuel (lively.bound + lively.bound + 2) (omega arith) in
+      let r = lively.below f.script f.answers in
+      let s = small f.awaits in
+      omega arith
 
   answered_less : (f : Frame S) (v : ℕ) (x : Context) → x.fuel ≡ f.context.fuel → x.ticks ≡ f.context.ticks → IsBusy (ask_of P f).ask → weight (answered_frame v (record f { context = x })) < weight f
-  unfolding weight
+  unfolding left_of
   answered_less f v x a b busy =
       let r = lively.falls f.script f.answers v busy in
       rw (a, b) (omega arith)
@@ -74,7 +82,7 @@ module _ {S : Type 0} (P : Program S) (lively : IsLively P) where
       go false e = let k : Some fault.OutOfFuel ≡ None = rw e at h in cc
 
   tick_less : (f : Frame S) (v : ℕ) → f.context.ticks < f.context.fuel → weight (frame_after Ticked v f) < weight f
-  unfolding weight
+  unfolding left_of
   tick_less f v l =
       let n = f.context.fuel - f.context.ticks in
       let k = lively.bound + lively.bound + 2 in
@@ -84,7 +92,7 @@ module _ {S : Type 0} (P : Program S) (lively : IsLively P) where
       rw (e, t) (omega arith)
 
   creation_less : (o : Order S) (f : Frame S) → IsBusy (ask_of P f).ask → weight (after_creation o f) < weight f
-  unfolding weight one_if
+  unfolding left_of one_if
   creation_less o f busy = go o.when
     where
       go : (w : Bool) → weight (record { script = f.script; context = made_by o f (lent_when w (right_of (child_context f.context o.clauses o.last)) (one_more_created f.context)); path = f.path; answers = 0 ∷ f.answers; awaits = not w }) < weight f
@@ -149,7 +157,7 @@ module _ {S : Type 0} (P : Program S) (lively : IsLively P) where
   ask_costs slots inc f (Ask.Fails kind) line a e h g = absurd (g (subst IsHalt h tt))
 
   await_less : (f : Frame S) → f.awaits ≡ true → (v : ℕ) → weight (frame_after Awaited v f) < weight f
-  unfolding weight one_if
+  unfolding left_of one_if
   await_less f e v = rw e (omega arith)
 
   -- each act of a task that goes on

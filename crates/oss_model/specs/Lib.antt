@@ -13,6 +13,7 @@ pub mod Memory
 pub mod Moves
 pub mod Order
 pub mod Points
+pub mod Potential
 pub mod Rights
 pub mod Sequence
 pub mod Termination

@@ -4,6 +4,7 @@
 ghost use Rattle.oss_model.specs.Claims.{EveryMainIsASetting, OpeningAgrees, StepAgrees, LetAgrees, JoinAgrees, EveryStateAgrees, OpenTasksMove, RunKeepsOutput, ActsUpToFault, ActsUpToEnd, EarlierConflictsAreDone, EveryStopIsTheEnd, EveryAnswerIsTheResult, EveryResultIsTheAnswer, AnswersAreOne, DoneStays, WriteStays, ReadStays, JoinStays, ReadyStays, CompleteStays, WaitStays, TaskGoesOn, StepsExclude, JoinExcludes};
 ghost use Rattle.oss_model.specs.Marks.{EveryReadHasAValue, NoValueIsMissed, OutStartsUnwritten};
 ghost use Rattle.oss_model.specs.Matching.{MatchingForestsAgree, MatchingStateAgrees};
+ghost use Rattle.oss_model.specs.Potential.{BodyFalls, CreationFalls};
 ghost use Rattle.oss_model.specs.Termination.{RunEnds, RunHasResult};
 
 /// Main may start over any memory of 64-bit numbers.
@@ -164,4 +165,14 @@ pub fn no_value_is_missed<S>()
 /// A new task has a cell unwritten exactly where it may write it and names it by `out` alone.
 pub fn out_starts_unwritten<S>()
     ensures { OutStartsUnwritten S }
+{}
+
+/// What is left to do for a body of a lively program falls with each of its acts, but for the creation of a task of its own.
+pub fn every_body_falls<S>()
+    ensures { BodyFalls S }
+{}
+
+/// Behind such a creation, what is left for the creator and for the new task together is less than what was left for the creator.
+pub fn every_creation_falls<S>()
+    ensures { CreationFalls S }
 {}
