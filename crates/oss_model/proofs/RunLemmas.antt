@@ -51,6 +51,9 @@ pub record Next {S : Type 0} (P : Program S) (z : Running S) (t : Task S) : Type
   pub own : At stage.state z.active (after_answer (found_by (act_now P t.body) z.state.cells) t)
   pub made : (o : Order S) → act_now P t.body ≡ Created o false → At stage.state (created_now P t.body ∷ z.active) (new_task P t.body o)
   pub active : stage.active ≡ active_after P t z.active (found_by (act_now P t.body) z.state.cells) (act_now P t.body)
+  -- the list of its tasks has the task as it stands now in front, and behind it a task that it created
+  pub plain_tasks : ((o : Order S) → act_now P t.body ≢ Created o false) → stage.state.tasks ≡ after_answer (found_by (act_now P t.body) z.state.cells) t ∷ z.state.tasks
+  pub grown_tasks : (o : Order S) → act_now P t.body ≡ Created o false → stage.state.tasks ≡ after_answer (found_by (act_now P t.body) z.state.cells) t ∷ new_task P t.body o ∷ z.state.tasks
 
 module _ {S : Type 0} (P : Program S) (z : Running S) (t : Task S) (at_ : At z.state z.active t) (goes : IsHalt (act_now P t.body) → ⊥) where
   answer : ℕ
@@ -107,12 +110,35 @@ module _ {S : Type 0} (P : Program S) (z : Running S) (t : Task S) (at_ : At z.s
   step_tasks (inr n) =
       record { own = own_first z.state.tasks; made = λ o a. absurd (n o a); others = λ q ne f. past_own z.state.tasks q ne }
 
+  plain_after : (c : ((o : Order S) × (act_now P t.body ≡ Created o false)) ⊎ ((o : Order S) → act_now P t.body ≢ Created o false)) → ((o : Order S) → act_now P t.body ≢ Created o false)
+      → tasks_after c ≡ after_answer (found_by (act_now P t.body) z.state.cells) t ∷ z.state.tasks
+  unfolding tasks_after
+  plain_after (inl o) n = absurd (n o.0 o.1)
+  plain_after (inr m) n = refl
+
+  grown_after : (c : ((o : Order S) × (act_now P t.body ≡ Created o false)) ⊎ ((o : Order S) → act_now P t.body ≢ Created o false)) → (o : Order S) → act_now P t.body ≡ Created o false
+      → tasks_after c ≡ after_answer (found_by (act_now P t.body) z.state.cells) t ∷ new_task P t.body o ∷ z.state.tasks
+  unfolding tasks_after
+  grown_after (inl p) o e = ap (λ (x : Order S). after_answer (found_by (act_now P t.body) z.state.cells) t ∷ new_task P t.body x ∷ z.state.tasks) (same_order p.0 p.1)
+    where
+      same_order : (q : Order S) → act_now P t.body ≡ Created q false → q ≡ o
+      same_order q k = let c : Created q false ≡ Created o false = sym k ∙ e in cc
+  grown_after (inr n) o e = absurd (n o e)
+
   pub next : Next P z t
   unfolding stage_after
   next =
       let c = is_creation (act_now P t.body) in
       let k = step_tasks c in
-      record { stage = stage_after c; runs = record { task = t; at_ = at_; goes = goes; tasks = k; cells = refl; active = refl; printed = refl }; own = k.own; made = k.made; active = refl }
+      record {
+        stage = stage_after c;
+        runs = record { task = t; at_ = at_; goes = goes; tasks = k; cells = refl; active = refl; printed = refl };
+        own = k.own;
+        made = k.made;
+        active = refl;
+        plain_tasks = plain_after c;
+        grown_tasks = grown_after c;
+      }
 
 -- the tasks above the one that runs are as before
 abbrev pub AboveSame : {S : Type 0} → Running S → Running S → Type 0
