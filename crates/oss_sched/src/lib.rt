@@ -15,6 +15,7 @@ mod writer;
 
 pub use laws::{a_schedule_has_one_reading, a_trace_is_a_schedule};
 pub use moves::{TextMove, WaveRecord};
+pub use numbers::number_within;
 pub use oss_model::Point;
 pub use reader::read_schedule;
 pub use refused::ScheduleRefused;

@@ -1,0 +1,160 @@
+-- The words of the command line, behind the name of the program: a command, its operands and its options, in any order behind the command. A word that begins
+-- with `--` is an option; an operand is not empty and does not begin with `-`. What is not listed for the command is refused, and so is an option that stands
+-- twice, by its name, or whose value is out of form.
+-- Read against: no words, `run`, `run a.c b.c`, `run -a`, `run a.c --fuel=0`, `run a.c --fuel=01`, `run a.c --fuel=5 --fuel=5`, `run a.c --dump=1`, `run a.c --mode=waves` and `check
+-- a.c --fuel=5` are refused; `run --dump a.c --workers=64` asks to run the file `a.c` with a dump, 64 workers and fuel for 1,000,000 ticks a task.
+use Rattle.std.specs.Prelude.{◌≡◌, ℕ, Bool, true, false, not, ◌&&◌, ◌||◌, ◌==◌, if◌then◌else◌, nat_le, List, [], ◌∷◌, ◌++◌, length, take, drop, Option, Some, None, Result, Ok, Err, codes, option_and_then, option_map}
+use Rattle.std.specs.Str.{bytes_eq}
+use Rattle.oss_sched.specs.Reading.{number_in}
+use Rattle.oss_command.specs.declared.options.Options.{Options}
+use Rattle.oss_command.specs.declared.options.RunMode.{RunMode}
+use Rattle.oss_command.specs.declared.options.RunMode.TheVariants as mode
+use Rattle.oss_command.specs.declared.command.Command.{Command as Told}
+use Rattle.oss_command.specs.declared.command.Command.TheVariants as told
+use Rattle.oss_command.specs.declared.command.WordsRefused.{WordsRefused}
+
+-- What is asked for, of the file of this name.
+pub data Command : Type 0 where
+  run : (file : List ℕ) (options : Options) → Command
+  check : (file : List ℕ) → Command
+
+-- the name of its file
+abbrev pub file_of : Command → List ℕ
+file_of (run file options) = file
+file_of (check file) = file
+
+-- Operands
+
+-- a word that may be an operand
+abbrev pub is_operand : List ℕ → Bool
+is_operand [] = false
+is_operand (b ∷ more) = not (b == 45)
+
+-- the operands among words
+abbrev pub operands_in : List (List ℕ) → List (List ℕ)
+operands_in [] = []
+operands_in (w ∷ ws) = if is_operand w then w ∷ operands_in ws else operands_in ws
+
+-- the one word of a list that has one
+abbrev pub the_one : List (List ℕ) → Option (List ℕ)
+the_one (w ∷ []) = Some w
+the_one _ = None
+
+-- Options
+
+-- what stands behind this front of a word, where it begins so: behind `--fuel=` in `--fuel=5` stands `5`
+abbrev pub behind : List ℕ → List ℕ → Option (List ℕ)
+behind front word = if nat_le (length front) (length word) && bytes_eq (take (length front) word) front then Some (drop (length front) word) else None
+
+-- a word begins so
+abbrev pub is_there : Option (List ℕ) → Bool
+is_there None = false
+is_there (Some v) = true
+
+-- a value in front of others, where it is there
+abbrev pub with_value : Option (List ℕ) → List (List ℕ) → List (List ℕ)
+with_value None values = values
+with_value (Some v) values = v ∷ values
+
+-- the values that these words give to the option with this name, in their order
+abbrev pub values_of : List ℕ → List (List ℕ) → List (List ℕ)
+values_of name [] = []
+values_of name (w ∷ ws) = with_value (behind name w) (values_of name ws)
+
+-- How an option stands among words: not at all, once with a value, or more often.
+pub data Standing : Type 0 where
+  absent : Standing
+  once : (value : List ℕ) → Standing
+  again : Standing
+
+abbrev pub standing : List (List ℕ) → Standing
+standing [] = absent
+standing (v ∷ []) = once v
+standing (v ∷ w ∷ more) = again
+
+-- the number that an option gives, between these two: its default where it does not stand
+abbrev pub number_by : ℕ → ℕ → ℕ → Standing → Option ℕ
+number_by least most default absent = Some default
+number_by least most default (once v) = number_in least most v
+number_by least most default again = None
+
+-- the mode of a run
+abbrev pub mode_by : Standing → Option RunMode
+mode_by absent = Some mode.Serial
+mode_by (once v) = if bytes_eq v (codes "serial") then Some mode.Serial else None
+mode_by again = None
+
+-- an option without a value: whether it stands
+abbrev pub flag_by : Standing → Option Bool
+flag_by absent = Some false
+flag_by (once v) = Some true
+flag_by again = None
+
+abbrev pub mode_name : List ℕ
+mode_name = codes "--mode="
+
+abbrev pub workers_name : List ℕ
+workers_name = codes "--workers="
+
+abbrev pub fuel_name : List ℕ
+fuel_name = codes "--fuel="
+
+abbrev pub dump_name : List ℕ
+dump_name = codes "--dump"
+
+-- a word that `run` may have
+abbrev pub is_listed : List ℕ → Bool
+is_listed w = is_operand w || is_there (behind mode_name w) || is_there (behind workers_name w) || is_there (behind fuel_name w) || bytes_eq w dump_name
+
+-- what the options say, each by itself; none where one of them stands twice or has a value out of form
+abbrev pub options_by : Option RunMode → Option ℕ → Option ℕ → Option Bool → Option Options
+options_by (Some mode) (Some workers) (Some fuel) (Some dump) = Some (record { mode = mode; workers = workers; fuel = fuel; dump = dump })
+options_by _ _ _ _ = None
+
+-- the options of a run: the mode is serial, there are 4 workers of 1 to 64, and each task has fuel for 1,000,000 ticks, of 1 to 1,000,000,000, where nothing is said
+abbrev pub options_in : List (List ℕ) → Option Options
+options_in words = options_by (mode_by (standing (values_of mode_name words))) (number_by 1 64 4 (standing (values_of workers_name words)))
+    (number_by 1 1000000000 1000000 (standing (values_of fuel_name words))) (flag_by (standing (values_of dump_name words)))
+
+-- Commands
+
+-- a run of a file with options, if both are there
+abbrev pub run_of : Option (List ℕ) → Option Options → Option Command
+run_of (Some file) (Some options) = Some (run file options)
+run_of _ _ = None
+
+-- each of the words passes the test
+abbrev pub all_by : (List ℕ → Bool) → List (List ℕ) → Bool
+all_by test [] = true
+all_by test (w ∷ ws) = test w && all_by test ws
+
+-- what is asked for by the words behind a command
+abbrev pub run_asked : List (List ℕ) → Option Command
+run_asked words = if all_by is_listed words then run_of (the_one (operands_in words)) (options_in words) else None
+
+abbrev pub check_asked : List (List ℕ) → Option Command
+check_asked words = if all_by is_operand words then option_map (λ file. check file) (the_one words) else None
+
+abbrev pub asked_by : List ℕ → List (List ℕ) → Option Command
+asked_by word rest = if bytes_eq word (codes "run") then run_asked rest else if bytes_eq word (codes "check") then check_asked rest else None
+
+-- what the words ask for; none where they are refused
+abbrev pub asked_of : List (List ℕ) → Option Command
+asked_of [] = None
+asked_of (word ∷ rest) = asked_by word rest
+
+-- the command that a reader of words tells
+abbrev pub meant : Told → Command
+meant (told.Run file options) = run file.now options
+meant (told.Check file) = check file.now
+
+abbrev pub IsAskedBy : Option Command → Result Told WordsRefused → Type 0
+IsAskedBy command (Ok t) = command ≡ Some (meant t)
+IsAskedBy command (Err e) = command ≡ None
+
+abbrev pub IsAsked : List (List ℕ) → Result Told WordsRefused → Type 0
+IsAsked words told = IsAskedBy (asked_of words) told
+
+-- what is told of words that are refused
+abbrev pub usage_line : List ℕ
+usage_line = codes "usage: nest6 run FILE | check FILE | trace FILE | replay FILE SCHEDULE | soak NUMBER SIZE" ++ 10 ∷ []

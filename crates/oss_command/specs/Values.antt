@@ -1,0 +1,10 @@
+-- How an option stands among words, as a reader tells it.
+use Rattle.oss_command.specs.Commands.{Standing}
+use Rattle.oss_command.specs.Commands.Standing.{absent, again, once}
+use Rattle.oss_command.specs.declared.values.Stands.{Stands}
+use Rattle.oss_command.specs.declared.values.Stands.TheVariants as told
+
+abbrev pub stands : Stands → Standing
+stands told.Absent = absent
+stands (told.Once value) = once value.now
+stands told.Again = again

@@ -1,0 +1,10 @@
+//! The words of the command line.
+#![tactic(auto)]
+
+mod command;
+mod operands;
+mod options;
+mod values;
+
+pub use command::{Command, WordsRefused, read_words};
+pub use options::{Options, RunMode};

@@ -1,0 +1,69 @@
+//! Operands, and the words that a command may have.
+
+ghost use Rattle.std.specs.Prelude.{◌≡◌, map, option_map};
+ghost use Rattle.std.specs.String.{string_bytes};
+ghost use Rattle.oss_command.specs.Commands.{all_by, is_listed, is_operand, operands_in, the_one};
+
+use crate::values::behind;
+
+/// Whether a word may be an operand: it is not empty and does not begin with `-`.
+fn can_be_operand(word: &str) -> bool
+    ensures { result ≡ is_operand word.now }
+{
+    match word.as_bytes() {
+        [] => false,
+        [first, ..] => *first != b'-',
+    }
+}
+
+/// Whether a word may stand behind `run`.
+fn can_be_listed(word: &str) -> bool
+    ensures { result ≡ is_listed word.now }
+{
+    let bytes = word.as_bytes();
+    can_be_operand(word)
+        || behind(b"--mode=", bytes).is_some()
+        || behind(b"--workers=", bytes).is_some()
+        || behind(b"--fuel=", bytes).is_some()
+        || word == "--dump"
+}
+
+/// Whether each of the words may be an operand.
+pub fn are_operands(words: &[String]) -> bool
+    ensures { result ≡ all_by is_operand (map string_bytes words.now) }
+{
+    for word in words {
+        if !can_be_operand(word.as_str()) {
+            return false;
+        }
+    }
+    true
+}
+
+/// Whether each of the words may stand behind `run`.
+pub fn are_listed(words: &[String]) -> bool
+    ensures { result ≡ all_by is_listed (map string_bytes words.now) }
+{
+    for word in words {
+        if !can_be_listed(word.as_str()) {
+            return false;
+        }
+    }
+    true
+}
+
+/// The one operand among the words; none where there is none, or more.
+pub fn the_operand(words: &[String]) -> Option<&str>
+    ensures { option_map (λ file. file.now) result ≡ the_one (operands_in (map string_bytes words.now)) }
+{
+    let mut found: Option<&str> = None;
+    for word in words {
+        if can_be_operand(word.as_str()) {
+            if found.is_some() {
+                return None;
+            }
+            found = Some(word.as_str());
+        }
+    }
+    found
+}
