@@ -30,17 +30,17 @@ pub leads_run : {S : Type 0} (P : Program S) (main : Start S) (cells : List ℕ)
 leads_run P main cells h still = h
 leads_run P main cells h (on k r) = runs_on (leads_run P main cells h k) r
 
-other_path : (p q : List ℕ) → p ≢ q → same_path p q ≡ false
+pub other_path : (p q : List ℕ) → p ≢ q → same_path p q ≡ false
 other_path p q ne = go (same_path p q) refl
   where
     go : (b : Bool) → same_path p q ≡ b → same_path p q ≡ false
     go true e = absurd (ne (same_path_is p q e))
     go false e = e
 
-not_child : (k : ℕ) (p : List ℕ) → p ≢ k ∷ p
+pub not_child : (k : ℕ) (p : List ℕ) → p ≢ k ∷ p
 not_child k p e = let l : length p ≡ length (k ∷ p) = ap (λ (z : List ℕ). length z) e in omega arith
 
-no_creation_path : {S : Type 0} (P : Program S) (b : Start S) (past : List ℕ) (o : Order S) → (child_start (stack_from P b past).base o).path ≡ stage_created P b past ∷ b.path
+pub no_creation_path : {S : Type 0} (P : Program S) (b : Start S) (past : List ℕ) (o : Order S) → (child_start (stack_from P b past).base o).path ≡ stage_created P b past ∷ b.path
 unfolding child_start stage_created
 no_creation_path P b past o = ap (λ (z : List ℕ). (stack_from P b past).base.context.created ∷ z) (stack_ok P b past).path
 
