@@ -1,5 +1,5 @@
 -- Where globals lie: bounds are sums of sizes, they rise, and none passes the limit.
-use Rattle.std.proofs.Common.{◌≡◌, ℕ, zero, suc, ◌+◌, ◌-◌, ◌<◌, ◌≤◌, add-one, not, List, [], ◌∷◌, length, take, get_or, None, refl, ap, ◌∙◌, arith}
+use Rattle.std.proofs.Common.{◌≡◌, ℕ, zero, suc, ◌+◌, ◌-◌, ◌<◌, ◌≤◌, add-one, not, List, [], ◌∷◌, length, take, get_or, None, refl, ap, ◌∙◌, subst, arith}
 use Rattle.std.proofs.Math.Seq.{take-length}
 use Rattle.std.specs.List.{fold, sum}
 use Rattle.oss_syntax.specs.declared.tree.program.Item.{Item}
@@ -9,7 +9,8 @@ use Rattle.oss_syntax.specs.declared.refusal.RefusedKind.TheVariants as refused
 use Rattle.oss_grammar.specs.Broken.{first, where_so}
 use Rattle.oss_grammar.specs.Layout.{cells_in, cells_of, sizes_of, start_of, names_of}
 use Rattle.oss_grammar.specs.ProgramRules.{function_rules, global_rules, has_main, items_rules, program_rules}
-use Rattle.oss_names.specs.Resolved.{bounds_of}
+use Rattle.oss_loops.proofs.KeptLemmas.{names-kept, sizes-kept}
+use Rattle.oss_names.specs.Resolved.{IsWrittenOut, bounds_of}
 use Rattle.oss_names.proofs.Parts.{append-left, append-right}
 use Rattle.oss_names.proofs.ProgramLemmas.{global-cells}
 
@@ -84,24 +85,32 @@ module _ (all : List Item) where
   names-within p b (items.Function f ∷ rest) none few =
       names-within (p + 1) b rest (append-right (function_rules all p f) (items_rules all (p + 1) b rest) none) few
 
-pub names-few : (q : Program) → program_rules q ≡ [] → length (names_of q.items) ≤ 1048576
+-- the globals of a program that breaks no rule
+none-told : (q : Program) → program_rules q ≡ [] → first (items_rules q.items 0 0 q.items) ≡ None
+none-told q well = append-left (items_rules q.items 0 0 q.items) (where_so (not (has_main q.items)) refused.NoMain 1) (ap first well)
+
+pub names-few : (q : Program) → IsWrittenOut q → length (names_of q.items) ≤ 1048576
 names-few q well =
-    let none = append-left (items_rules q.items 0 0 q.items) (where_so (not (has_main q.items)) refused.NoMain 1) (ap first well) in
-    let within = names-within q.items 0 0 q.items none (omega arith) in
-    omega (arith, within)
+    let within = names-within well.source.items 0 0 well.source.items (none-told well.source well.obeys) (omega arith) in
+    let same : names_of q.items ≡ names_of well.source.items = ap (λ p. names_of p.items) well.is_of ∙ names-kept well.source.items in
+    let many : length (names_of q.items) ≡ length (names_of well.source.items) = ap length same in
+    omega (arith, within, many)
 
 sizes-many : (xs : List Item) → length (sizes_of xs) ≡ length (names_of xs)
 sizes-many [] = refl
 sizes-many (items.Global g ∷ rest) = ap suc (sizes-many rest)
 sizes-many (items.Function f ∷ rest) = sizes-many rest
 
-pub sizes-few : (q : Program) → program_rules q ≡ [] → length (sizes_of q.items) ≤ 1048576
+pub sizes-few : (q : Program) → IsWrittenOut q → length (sizes_of q.items) ≤ 1048576
 sizes-few q well = let few = names-few q well in omega (arith, few, sizes-many q.items)
 
--- the bounds of a program that breaks no rule
-module _ (q : Program) (bounds : List ℕ) (well : program_rules q ≡ []) (lie : bounds ≡ bounds_of 0 (sizes_of q.items)) where
-  none : first (items_rules q.items 0 0 q.items) ≡ None
-  none = append-left (items_rules q.items 0 0 q.items) (where_so (not (has_main q.items)) refused.NoMain 1) (ap first well)
+-- the bounds of a program that is written out of one that breaks no rule
+module _ (q : Program) (bounds : List ℕ) (well : IsWrittenOut q) (lie : bounds ≡ bounds_of 0 (sizes_of q.items)) where
+  none : first (items_rules well.source.items 0 0 well.source.items) ≡ None
+  none = none-told well.source well.obeys
+
+  same : sizes_of q.items ≡ sizes_of well.source.items
+  same = ap (λ p. sizes_of p.items) well.is_of ∙ sizes-kept well.source.items
 
   pub bounds-many : length bounds ≡ length (sizes_of q.items) + 1
   bounds-many = ap length lie ∙ bounds-length 0 (sizes_of q.items)
@@ -118,9 +127,14 @@ module _ (q : Program) (bounds : List ℕ) (well : program_rules q ≡ []) (lie 
 
   pub bounds-rise : (k lo hi : ℕ) → k < length (sizes_of q.items) → lo ≡ start_of q.items k → hi ≡ start_of q.items (k + 1) → lo < hi
   bounds-rise k lo hi within a b =
-      let rise = lie-rising q.items 0 0 q.items k none within in
-      let next : sum (take (k + 1) (sizes_of q.items)) ≡ sum (take (suc k) (sizes_of q.items)) = ap (λ n. sum (take n (sizes_of q.items))) (add-one k) in
-      omega (arith, rise, next, a, b)
+      let inside : k < length (sizes_of well.source.items) = subst (λ ss. k < length ss) same within in
+      let rise = lie-rising well.source.items 0 0 well.source.items k none inside in
+      let here : sum (take k (sizes_of q.items)) ≡ sum (take k (sizes_of well.source.items)) = ap (λ ss. sum (take k ss)) same in
+      let next : sum (take (k + 1) (sizes_of q.items)) ≡ sum (take (suc k) (sizes_of well.source.items)) = ap (λ n. sum (take n (sizes_of q.items))) (add-one k) ∙ ap (λ ss. sum (take (suc k) ss)) same in
+      omega (arith, rise, here, next, a, b)
 
   pub bound-fits : (k x : ℕ) → x ≡ start_of q.items k → x ≤ 1048576
-  bound-fits k x is = let small = lie-within q.items 0 0 q.items k none (omega arith) in omega (arith, small, is)
+  bound-fits k x is =
+      let small = lie-within well.source.items 0 0 well.source.items k none (omega arith) in
+      let here : sum (take k (sizes_of q.items)) ≡ sum (take k (sizes_of well.source.items)) = ap (λ ss. sum (take k ss)) same in
+      omega (arith, small, here, is)

@@ -4,4 +4,3 @@ pub mod LayoutLemmas
 pub mod Parts
 pub mod ProgramLemmas
 pub mod StatementLemmas
-pub mod Weights

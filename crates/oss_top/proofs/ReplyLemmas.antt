@@ -8,6 +8,7 @@ use Rattle.oss_grammar.specs.Broken.{first}
 use Rattle.oss_grammar.specs.Built.{is_built}
 use Rattle.oss_grammar.specs.Parsing.{IsParsedOnce}
 use Rattle.oss_grammar.specs.ProgramRules.{refusal_of}
+use Rattle.oss_grammar.specs.TaskLoops.{program_written}
 use Rattle.oss_model.specs.Texts.{refusal_line}
 use Rattle.oss_parse.proofs.OneProgram.{parsed_once}
 use Rattle.oss_top.specs.CommandWords.{Command, asked_of, file_of}
@@ -58,7 +59,7 @@ module _ (text : List ℕ) (once : IsParsedOnce text) where
 
   text_once : (c : Command) (reply other : Reply) → IsTextReply c text reply → IsTextReply c text other → reply ≡ other
   text_once c reply other (accepted p a x) (accepted p' b y) =
-      program_once c p reply other x (subst (λ z. IsProgramReply c z other) (once.one_program p' p b.is_text a.is_text) y)
+      program_once c (program_written p) reply other x (subst (λ z. IsProgramReply c (program_written z) other) (once.one_program p' p b.is_text a.is_text) y)
   text_once c reply other (accepted p a x) (refused_text r w y) = absurd (no_refusal p r a w)
   text_once c reply other (refused_text r w x) (accepted p a y) = absurd (no_refusal p r a w)
   text_once c reply other (refused_text r v x) (refused_text r' w y) = x ∙ ap told (refused_once r r' v w) ∙ sym y where

@@ -13,6 +13,7 @@ use Rattle.oss_grammar.specs.Built.{is_built}
 use Rattle.oss_grammar.specs.Parsing.{IsProgramText, IsTextRefusal}
 use Rattle.oss_grammar.specs.Parsing.IsTextRefusal.{by_tokens}
 use Rattle.oss_grammar.specs.ProgramRules.{program_rules}
+use Rattle.oss_grammar.specs.TaskLoops.{program_written}
 use Rattle.oss_serial.specs.Scalars.{answer_of}
 use Rattle.oss_model.specs.Texts.{refusal_line}
 use Rattle.oss_grammar.specs.Tokens.{Front, IsFront, Tokens, Stops}
@@ -83,7 +84,7 @@ text_reply c text = from (some_parse text) where
   refused r w = (error_reply status.TextRefused (refusal_line r.kind r.line), refused_text r w refl)
 
   ruled : (p : Program) → IsProgramText text p → (rules : List Refused) → program_rules p ≡ rules → (reply : Reply) × IsTextReply c text reply
-  ruled p w [] e = let (reply, is) = program_reply c p in (reply, accepted p (record { is_text = w; obeys = e }) is)
+  ruled p w [] e = let (reply, is) = program_reply c (program_written p) in (reply, accepted p (record { is_text = w; obeys = e }) is)
   ruled p w (r ∷ rest) e = refused r (by_rules p w (ap first e))
 
   from : Parse text → (reply : Reply) × IsTextReply c text reply

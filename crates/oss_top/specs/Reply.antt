@@ -9,7 +9,8 @@
 --     6  OutOfMemory    memory is wanting                nothing                          nothing
 --
 -- Read against: of `long a[2]; int main() { }` the reply to `check` is Done with `ok`, and to `run` TextRefused with Unsupported at
--- line 1; of the empty text it is TextRefused with NoMain at line 1 to both; and of words that are refused, no file is read.
+-- line 1, and so with a task loop in `main`, since its block has a loop; of the empty text it is TextRefused with NoMain at line 1 to
+-- both; and of words that are refused, no file is read.
 use Rattle.std.specs.Prelude.{◌≡◌, ◌≤◌, ◌<◌, ◌⊎◌, ℕ, true, false, List, [], ◌∷◌, ◌++◌, length, Some, None, IfSome, codes}
 use Rattle.oss_io.specs.Spans.{ShelfSpan, ShelfFailed, ShelfQuiet, SinkSpan, SinkFailed, TookWhole, TookPart, Untouched}
 use Rattle.oss_syntax.specs.declared.tree.program.Program.{Program}
@@ -19,6 +20,7 @@ use Rattle.oss_model.specs.declared.answer.Answer.{Answer}
 use Rattle.oss_model.specs.declared.answer.Answer.TheVariants.{Done, Fault}
 use Rattle.oss_model.specs.Texts.{fault_line, refusal_line}
 use Rattle.oss_grammar.specs.Built.{is_built}
+use Rattle.oss_grammar.specs.TaskLoops.{program_written}
 use Rattle.oss_serial.specs.Scalars.{answer_of}
 use Rattle.oss_top.specs.CommandWords.{Command, asked_of, file_of, usage_line}
 use Rattle.oss_top.specs.CommandWords.Command.{run, check}
@@ -69,9 +71,9 @@ pub data IsProgramReply : Command → Program → Reply → Type 0 where
   not_built : {file : List ℕ} {program : Program} {reply : Reply}
       → is_built program ≡ false → reply ≡ error_reply status.TextRefused unsupported_line → IsProgramReply (run file) program reply
 
--- the reply to a text of at most 1,048,576 bytes
+-- the reply to a text of at most 1,048,576 bytes: that to its program with each task loop written out, where it is accepted
 pub data IsTextReply (c : Command) (text : List ℕ) (reply : Reply) : Type 0 where
-  accepted : (program : Program) → Accepts text program → IsProgramReply c program reply → IsTextReply c text reply
+  accepted : (program : Program) → Accepts text program → IsProgramReply c (program_written program) reply → IsTextReply c text reply
   refused_text : (r : Refused) → Refuses text r → reply ≡ error_reply status.TextRefused (refusal_line r.kind r.line) → IsTextReply c text reply
 
 -- the reply to a text of any length

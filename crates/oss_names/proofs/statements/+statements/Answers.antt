@@ -10,7 +10,7 @@ use Rattle.oss_grammar.specs.SectionRules.{clauses_rules, optional_rules}
 use Rattle.oss_grammar.specs.StaticRules.{Judged, assign_rules, in_a_loop, in_a_task, inner, inner_part, judged, may_break, may_continue, part_rules, print_rules, return_rules, rules_of, rules_of_all, then_judge, wait_rules}
 use Rattle.oss_names.proofs.EndLemmas.{ends-along, ends-stop, ends-then, ends-told, prefix-same, statements-left}
 use Rattle.oss_names.proofs.StatementLemmas.{rules-assign, rules-break, rules-call, rules-continue, rules-empty, rules-print, rules-release, rules-return, rules-wait}
-use Rattle.oss_names.proofs.Weights.{weight, weight-one, weights}
+use Rattle.oss_loops.proofs.Weights.{weight, weight-one, weights}
 use Rattle.oss_names.proofs.statements.+statements.Goals as goal
 
 pub branches-returns-in_err-told : goal.branches-returns-in_err-told

@@ -1,5 +1,5 @@
 use Rattle.std.proofs.Common.{◌+◌, ◌*◌, List, drop}
-use Rattle.oss_names.proofs.Weights.{part_weight, weight, weights}
+use Rattle.oss_loops.proofs.Weights.{part_weight, weight, weights}
 use Rattle.std.specs.Prelude.{Result}
 use Rattle.oss_syntax.specs.declared.tree.program.Local.{Local}
 use Rattle.oss_syntax.specs.declared.refusal.Refusal.{Refusal}
