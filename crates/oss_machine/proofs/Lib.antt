@@ -8,6 +8,7 @@ pub mod RangeLemmas
 pub mod RunLemmas
 pub mod RunSteps
 pub mod SettleLemmas
+pub mod SlideLemmas
 pub mod StackLemmas
 pub mod StepLemmas
 pub mod TurnLemmas

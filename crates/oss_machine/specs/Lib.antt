@@ -5,5 +5,6 @@ pub mod Laws
 pub mod Machines
 pub mod Outcomes
 pub mod Runs
+pub mod Slides
 pub mod Steps
 pub mod Turnings

@@ -1,12 +1,13 @@
 //! What the clauses of a directive give, and the asks of directives.
-ghost use Rattle.std.specs.Prelude.{◌≡◌, ◌+◌, IfOk, Ok, true};
+ghost use Rattle.std.specs.Prelude.{◌≡◌, ◌+◌, IfOk, Ok, drop, true};
 ghost use Rattle.oss_grammar.specs.SectionCells.{signed};
 ghost use Rattle.oss_model.specs.Bodies.Ask.{Create, Release, WaitOn};
 ghost use Rattle.oss_meaning.specs.Clauses.{holds, order_of};
+ghost use Rattle.oss_meaning.specs.Expressions.{value_at};
 ghost use Rattle.oss_meaning.specs.Pointers.{number_in};
 ghost use Rattle.oss_machine.specs.Activations.{base_in};
 ghost use Rattle.oss_machine.specs.Outcomes.{IsActed, IsActedAnywhere, IsMoved};
-ghost use Rattle.oss_machine.specs.Steps.{Effect, ahead, directive_done, named_in, onward, spawned, with_arguments, with_stack, with_top};
+ghost use Rattle.oss_machine.specs.Steps.{Effect, ahead, directive_done, named_in, onward, spawned, with_arguments, with_stack};
 
 use crate::accesses::{all_accesses, all_named};
 use crate::activation::{Activation, ClauseValues, Gathered};
@@ -19,45 +20,45 @@ use oss_values::{is_zero, number_in, signed};
 use std::alloc::{AllocError, Global};
 
 /// The value of the clause `if` is taken.
-pub(crate) fn when(frame: &mut Activation) -> Result<Outcome, AllocError>
-    ensures { IsActedAnywhere (λ f. with_top f.stack (λ v rest. Effect.On (record (onward rest f) { made = record (f.made) { when = holds v } }))) frame.old frame.new result }
+pub(crate) fn when(frame: &mut Activation) -> Result<(), AllocError>
+    ensures { IsMoved (λ f. record (onward (drop 1 f.stack) f) { made = record (f.made) { when = holds (value_at f.stack 0) } }) frame.old frame.new result }
 {
     let value = value_below(frame.stack.as_slice(), 0);
     frame.at = place_behind(frame.at, 0)?;
     lower(&mut frame.stack, 1);
     frame.clauses.when = !is_zero(value);
-    Ok(Outcome::On)
+    Ok(())
 }
 
 /// The value of the clause `final` is taken.
-pub(crate) fn last(frame: &mut Activation) -> Result<Outcome, AllocError>
-    ensures { IsActedAnywhere (λ f. with_top f.stack (λ v rest. Effect.On (record (onward rest f) { made = record (f.made) { last = holds v } }))) frame.old frame.new result }
+pub(crate) fn last(frame: &mut Activation) -> Result<(), AllocError>
+    ensures { IsMoved (λ f. record (onward (drop 1 f.stack) f) { made = record (f.made) { last = holds (value_at f.stack 0) } }) frame.old frame.new result }
 {
     let value = value_below(frame.stack.as_slice(), 0);
     frame.at = place_behind(frame.at, 0)?;
     lower(&mut frame.stack, 1);
     frame.clauses.last = !is_zero(value);
-    Ok(Outcome::On)
+    Ok(())
 }
 
 /// The clause `wait` stands.
-pub(crate) fn late(frame: &mut Activation) -> Result<Outcome, AllocError>
-    ensures { IsActedAnywhere (λ f. Effect.On (record (ahead 0 f) { made = record (f.made) { wait = true } })) frame.old frame.new result }
+pub(crate) fn late(frame: &mut Activation) -> Result<(), AllocError>
+    ensures { IsMoved (λ f. record (ahead 0 f) { made = record (f.made) { wait = true } }) frame.old frame.new result }
 {
     frame.at = place_behind(frame.at, 0)?;
     frame.clauses.wait = true;
-    Ok(Outcome::On)
+    Ok(())
 }
 
 /// The value of the clause `priority` is taken.
-pub(crate) fn priority(frame: &mut Activation) -> Result<Outcome, AllocError>
-    ensures { IsActedAnywhere (λ f. with_top f.stack (λ v rest. Effect.On (record (onward rest f) { made = record (f.made) { priority = signed (number_in v) } }))) frame.old frame.new result }
+pub(crate) fn priority(frame: &mut Activation) -> Result<(), AllocError>
+    ensures { IsMoved (λ f. record (onward (drop 1 f.stack) f) { made = record (f.made) { priority = signed (number_in (value_at f.stack 0)) } }) frame.old frame.new result }
 {
     let value = value_below(frame.stack.as_slice(), 0);
     frame.at = place_behind(frame.at, 0)?;
     lower(&mut frame.stack, 1);
     frame.clauses.priority = signed(number_in(value));
-    Ok(Outcome::On)
+    Ok(())
 }
 
 /// The entry so many instructions behind the next one. A code with an entry that no number of 32 bits tells has no room.

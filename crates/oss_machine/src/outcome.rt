@@ -17,6 +17,8 @@ pub(crate) enum Outcome {
     Calls,
     /// It goes to the creation of a task function, which begins with this instruction and takes so many of the values.
     Creates(usize, usize),
+    /// It stands behind the last instruction.
+    Ends,
 }
 
 /// How a function goes on with an answer.

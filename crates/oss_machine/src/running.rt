@@ -1,16 +1,17 @@
 //! What the function that runs does, and where it stands.
-ghost use Rattle.std.specs.Prelude.{◌≡◌, IfOk};
+ghost use Rattle.std.specs.Prelude.{◌≡◌, IfOk, OnOk};
 ghost use Rattle.oss_machine.specs.Activations.{Base, base_in, frame_on, no_base};
-ghost use Rattle.oss_machine.specs.Outcomes.{acted, told};
+ghost use Rattle.oss_machine.specs.Outcomes.{told};
 ghost use Rattle.oss_machine.specs.Runs.{base_above, base_at, config_in};
-ghost use Rattle.oss_machine.specs.Steps.{effect, line_of};
+ghost use Rattle.oss_machine.specs.Slides.{IsToldAt, Slides, acted_at};
+ghost use Rattle.oss_machine.specs.Steps.{line_of};
 
 use crate::act::act;
 use crate::activation::{Activation, Gathered};
 use crate::bodies::{Run, Still};
 use crate::first::nothing_gathered;
 use crate::outcome::Outcome;
-use oss_code::{Code, Instr};
+use oss_code::Code;
 use std::alloc::{AllocError, Global};
 
 /// What the lowest function that has moved continues.
@@ -51,18 +52,51 @@ pub(crate) fn line_of(code: &Code, frame: &Activation) -> u32
     }
 }
 
-/// Runs one instruction in the function that runs.
-pub(crate) fn act_on(
+/// Runs the instruction at which a function stands: the function goes on, or it stays and this tells why.
+fn act_here(
+    alloc: Global,
+    code: &Code,
+    base: &Gathered,
+    frame: &mut Activation,
+) -> Result<Outcome, AllocError>
+    ensures { IfOk result (λ o. acted_at code.now (frame_on (base_in base.now) frame.old) ≡ (frame_on (base_in base.now) frame.new, told (frame_on (base_in base.now) frame.old) o)) }
+{
+    match code.get(frame.at) {
+        Some(instr) => act(alloc, code, base, frame, instr),
+        None => Ok(Outcome::Ends),
+    }
+}
+
+/// Runs instructions as long as the function goes on. Where it stays, this tells why.
+fn slide(
+    alloc: Global,
+    code: &Code,
+    base: &Gathered,
+    frame: &mut Activation,
+) -> Result<Outcome, AllocError>
+    ensures slides { OnOk result (Slides code.now (frame_on (base_in base.now) frame.old) (frame_on (base_in base.now) frame.new)) }
+    ensures told { IfOk result (λ o. IsToldAt code.now (frame_on (base_in base.now) frame.new) o) }
+{
+    loop {
+        match act_here(alloc, code, base, frame)? {
+            Outcome::On => {}
+            outcome => return Ok(outcome),
+        }
+    }
+}
+
+/// Runs instructions in the function that runs, as long as it goes on. Where it stays, this tells why.
+pub(crate) fn slide_on(
     alloc: Global,
     code: &Code,
     still: &Still,
     run: &mut Run,
-    instr: &Instr,
 ) -> Result<Outcome, AllocError>
-    ensures acted { IfOk result (λ o. acted (effect code.now (config_in still.now run.old).frame instr.now) (config_in still.now run.old).frame ≡ ((config_in still.now run.new).frame, told (config_in still.now run.old).frame o)) }
+    ensures slides { OnOk result (Slides code.now (config_in still.now run.old).frame (config_in still.now run.new).frame) }
+    ensures told { IfOk result (λ o. IsToldAt code.now (config_in still.now run.new).frame o) }
     ensures rest { run.new ≡ record run.old { work = run.new.work } }
 {
     let nothing = nothing_gathered(alloc);
     let base = base(still, run, &nothing);
-    act(alloc, code, base, &mut run.work, instr)
+    slide(alloc, code, base, &mut run.work)
 }

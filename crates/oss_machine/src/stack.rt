@@ -1,11 +1,10 @@
 //! Values on the stack of a function.
 ghost use Rattle.std.specs.Prelude.{◌≡◌, ◌+◌, ◌-◌, ◌∷◌, IfOk, OnOk, drop, reverse, take};
 ghost use Rattle.oss_meaning.specs.Expressions.{value_at};
-ghost use Rattle.oss_machine.specs.Outcomes.{IsActedAnywhere, IsMoved};
-ghost use Rattle.oss_machine.specs.Steps.{Effect, ahead, onward};
+ghost use Rattle.oss_machine.specs.Outcomes.{IsMoved};
+ghost use Rattle.oss_machine.specs.Steps.{ahead, onward};
 
 use crate::activation::Activation;
-use crate::outcome::Outcome;
 use oss_meaning::Value;
 use std::alloc::AllocError;
 
@@ -76,45 +75,23 @@ pub(crate) fn pass(frame: &mut Activation, taken: usize) -> Result<(), AllocErro
     Ok(())
 }
 
-/// The same, as what an instruction comes to.
-pub(crate) fn leave(
-    frame: &mut Activation,
-    taken: usize,
-    value: Value,
-) -> Result<Outcome, AllocError>
-    ensures { IsActedAnywhere (λ f. Effect.On (onward (value ∷ drop taken f.stack) f)) frame.old frame.new result }
-{
-    put(frame, taken, value)?;
-    Ok(Outcome::On)
-}
-
-/// A value is taken.
-pub(crate) fn drop_top(frame: &mut Activation) -> Result<Outcome, AllocError>
-    ensures { IsActedAnywhere (λ f. Effect.On (onward (drop 1 f.stack) f)) frame.old frame.new result }
-{
-    pass(frame, 1)?;
-    Ok(Outcome::On)
-}
-
 /// A copy of the value below the topmost one is left.
-pub(crate) fn copy_under(frame: &mut Activation) -> Result<Outcome, AllocError>
-    ensures { IsActedAnywhere (λ f. Effect.On (onward (value_at f.stack 1 ∷ value_at f.stack 0 ∷ value_at f.stack 1 ∷ drop 2 f.stack) f)) frame.old frame.new result }
+pub(crate) fn copy_under(frame: &mut Activation) -> Result<(), AllocError>
+    ensures { IsMoved (λ f. onward (value_at f.stack 1 ∷ value_at f.stack 0 ∷ value_at f.stack 1 ∷ drop 2 f.stack) f) frame.old frame.new result }
 {
     let lower = value_below(frame.stack.as_slice(), 1);
     let upper = value_below(frame.stack.as_slice(), 0);
     lay(&mut frame.stack, 2, lower)?;
     lay(&mut frame.stack, 0, upper)?;
-    put(frame, 0, lower)?;
-    Ok(Outcome::On)
+    put(frame, 0, lower)
 }
 
 /// The two topmost values change places.
-pub(crate) fn swap(frame: &mut Activation) -> Result<Outcome, AllocError>
-    ensures { IsActedAnywhere (λ f. Effect.On (onward (value_at f.stack 1 ∷ value_at f.stack 0 ∷ drop 2 f.stack) f)) frame.old frame.new result }
+pub(crate) fn swap(frame: &mut Activation) -> Result<(), AllocError>
+    ensures { IsMoved (λ f. onward (value_at f.stack 1 ∷ value_at f.stack 0 ∷ drop 2 f.stack) f) frame.old frame.new result }
 {
     let lower = value_below(frame.stack.as_slice(), 1);
     let upper = value_below(frame.stack.as_slice(), 0);
     lay(&mut frame.stack, 2, upper)?;
-    put(frame, 0, lower)?;
-    Ok(Outcome::On)
+    put(frame, 0, lower)
 }

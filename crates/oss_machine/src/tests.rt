@@ -4,12 +4,12 @@ ghost use Rattle.std.specs.Prelude.{◌<◌, ◌≤◌};
 
 use crate::{Ask, Machine};
 use oss_code::{
-    Code, CodeParts, Direction, GlobalPlace, Instr, Operator, PartForm, SectionBase, SectionForm,
-    TaskOrder,
+    Code, CodeParts, Direction, GlobalPlace, Indices, Instr, Operator, PartForm, SectionBase,
+    SectionForm, TaskOrder,
 };
 use oss_grammar::Piece;
 use oss_meaning::Declared;
-use oss_syntax::{BinOp, Cells, FaultKind, Kind, List, Mode, NumKind, Op, Range};
+use oss_syntax::{Access, BinOp, Cells, FaultKind, Kind, List, Mode, NumKind, Op, Range};
 use std::process::Abort;
 
 /// What is seen of an ask.
@@ -22,6 +22,13 @@ enum Seen {
     Fold(u32, u64),
     /// The entry of the body, and how many accesses there are.
     Create(u32, usize),
+    /// The entry of the body, and the cells of its one access.
+    CreateOver(u32, u32, u32),
+    Wait,
+    /// The cells of one range.
+    WaitOn(u32, u32),
+    /// The cells of one access.
+    Release(u32, u32),
     Print(&'static [u8]),
     End,
     Fault(FaultKind),
@@ -80,6 +87,22 @@ fn code<const N: usize>(
     Code::build(parts).expect(rt, "a code")
 }
 
+/// There is one range, of these cells.
+fn is_one_range(ranges: &List<Range>, lo: u32, hi: u32) -> bool {
+    match ranges.get(0) {
+        Some(range) => ranges.len() == 1 && range.lo == lo && range.hi == hi,
+        None => false,
+    }
+}
+
+/// There is one access, to these cells.
+fn is_one_access(accesses: &List<Access>, lo: u32, hi: u32) -> bool {
+    match accesses.get(0) {
+        Some(access) => accesses.len() == 1 && access.range.lo == lo && access.range.hi == hi,
+        None => false,
+    }
+}
+
 fn is(ask: &Ask, wanted: &Seen) -> bool {
     match (ask, wanted) {
         (Ask::Begin, Seen::Begin) => true,
@@ -95,6 +118,12 @@ fn is(ask: &Ask, wanted: &Seen) -> bool {
         (Ask::Create(order), Seen::Create(entry, count)) => {
             order.entry == *entry && order.accesses.len() == *count
         }
+        (Ask::Create(order), Seen::CreateOver(entry, lo, hi)) => {
+            order.entry == *entry && is_one_access(&order.accesses, *lo, *hi)
+        }
+        (Ask::Wait, Seen::Wait) => true,
+        (Ask::WaitOn(ranges), Seen::WaitOn(lo, hi)) => is_one_range(ranges, *lo, *hi),
+        (Ask::Release(accesses), Seen::Release(lo, hi)) => is_one_access(accesses, *lo, *hi),
         (Ask::Print(text), Seen::Print(other)) => text.as_slice() == *other,
         (Ask::Fault(kind), Seen::Fault(other)) => *kind == *other,
         _ => false,
@@ -108,8 +137,19 @@ fn assert_asks(
     loaded: &[u64],
     wanted: &[(Seen, u32)],
 ) {
+    assert_body_asks(rt, code, 0, loaded, wanted);
+}
+
+/// The same of the body that begins with this instruction.
+fn assert_body_asks(
+    rt: &(impl Abort + AllocGlobal),
+    code: &Code,
+    entry: u32,
+    loaded: &[u64],
+    wanted: &[(Seen, u32)],
+) {
     let order = TaskOrder {
-        entry: 0,
+        entry,
         copies: List::new(rt.alloc()),
         accesses: List::new(rt.alloc()),
         when: true,
@@ -316,4 +356,218 @@ fn a_creation(rt: HostRuntime) {
         (Seen::Fault(FaultKind::OutOfRange), 5),
     ];
     assert_asks(&rt, &code, &[4], &fails);
+}
+
+/// `x = x && i;`: the right side is evaluated where the left one is not 0 alone.
+#[test]
+fn both_hold(rt: HostRuntime) {
+    let instrs = [
+        Instr::Tick,
+        Instr::Address(0),
+        Instr::Address(0),
+        Instr::Load,
+        Instr::SkipUnless(4),
+        Instr::Address(2),
+        Instr::Load,
+        Instr::Truth,
+        Instr::Skip(1),
+        Instr::Push(0),
+        Instr::Store(NumKind::Long),
+        Instr::Nothing,
+        Instr::Return,
+    ];
+    let code = code(&rt, instrs, &[0, 0, 1, 2, 2, 1, 2, 2, 2, 1, 2, 0, 1], &[]);
+    let passed = [
+        (Seen::Tick, 1),
+        (Seen::Read(0), 4),
+        (Seen::Write(0, 0), 11),
+        (Seen::End, 13),
+    ];
+    assert_asks(&rt, &code, &[0], &passed);
+    let evaluated = [
+        (Seen::Tick, 1),
+        (Seen::Read(0), 4),
+        (Seen::Read(4), 7),
+        (Seen::Write(0, 1), 11),
+        (Seen::End, 13),
+    ];
+    assert_asks(&rt, &code, &[2, 5], &evaluated);
+}
+
+/// `while (i) { if (x) break; continue; }`
+#[test]
+fn a_loop_that_is_left(rt: HostRuntime) {
+    let instrs = [
+        Instr::Tick,
+        Instr::Address(2),
+        Instr::Load,
+        Instr::SkipUnless(8),
+        Instr::Tick,
+        Instr::Address(0),
+        Instr::Load,
+        Instr::SkipUnless(2),
+        Instr::Tick,
+        Instr::Skip(2),
+        Instr::Tick,
+        Instr::Again(10),
+        Instr::Nothing,
+        Instr::Return,
+    ];
+    let code = code(
+        &rt,
+        instrs,
+        &[0, 0, 1, 1, 0, 0, 1, 1, 0, 0, 0, 0, 0, 1],
+        &[],
+    );
+    let by_break = [
+        (Seen::Tick, 1),
+        (Seen::Read(4), 3),
+        (Seen::Tick, 5),
+        (Seen::Read(0), 7),
+        (Seen::Tick, 11),
+        (Seen::Tick, 12),
+        (Seen::Read(4), 3),
+        (Seen::Tick, 5),
+        (Seen::Read(0), 7),
+        (Seen::Tick, 9),
+        (Seen::End, 14),
+    ];
+    assert_asks(&rt, &code, &[1, 0, 1, 1], &by_break);
+    let by_its_test = [(Seen::Tick, 1), (Seen::Read(4), 3), (Seen::End, 14)];
+    assert_asks(&rt, &code, &[0], &by_its_test);
+}
+
+/// `printf("%ld %lu\n", x, i);`: the arguments are loaded from left to right.
+#[test]
+fn a_print_of_two_loads(rt: HostRuntime) {
+    let alloc = rt.alloc();
+    let pieces = vec![in alloc;
+        Piece::Signed,
+        Piece::Plain(32),
+        Piece::Unsigned,
+        Piece::Plain(10),
+    ]
+    .expect(&rt, "memory");
+    let instrs = [
+        Instr::Tick,
+        Instr::Address(0),
+        Instr::Load,
+        Instr::Address(2),
+        Instr::Load,
+        Instr::Print {
+            pieces: List::from_vec(pieces),
+            arguments: 2,
+        },
+        Instr::Nothing,
+        Instr::Return,
+    ];
+    let code = code(&rt, instrs, &[0, 0, 1, 1, 2, 2, 0, 1], &[]);
+    let wanted = [
+        (Seen::Tick, 1),
+        (Seen::Read(0), 3),
+        (Seen::Read(4), 5),
+        (Seen::Print(b"-1 18446744073709551615\n"), 6),
+        (Seen::End, 8),
+    ];
+    assert_asks(&rt, &code, &[u64::MAX, u64::MAX], &wanted);
+}
+
+/// `f(2);` with a task function, whose body is `return;`: the creation has the line of the call, and the body its own.
+#[test]
+fn a_task_function_that_returns(rt: HostRuntime) {
+    let instrs = [
+        Instr::Push(2),
+        Instr::Spawn {
+            function: 0,
+            arguments: 1,
+        },
+        Instr::Drop,
+        Instr::Nothing,
+        Instr::Return,
+        Instr::Begin,
+        Instr::Create(2),
+        Instr::Nothing,
+        Instr::Return,
+        Instr::Tick,
+        Instr::Nothing,
+        Instr::Return,
+    ];
+    let code = code(&rt, instrs, &[0, 1, 1, 0, 1, 0, 0, 0, 1, 0, 0, 1], &[5]);
+    let caller = [(Seen::Begin, 2), (Seen::Create(9, 0), 2), (Seen::End, 5)];
+    assert_asks(&rt, &code, &[], &caller);
+    let body = [(Seen::Tick, 10), (Seen::End, 12), (Seen::End, 12)];
+    assert_body_asks(&rt, &code, 9, &[], &body);
+}
+
+/// `in({ a[k], k = 0; i })`: the number of turns is loaded; without a turn nothing is declared, and the fourth has no cell.
+#[test]
+fn a_multidependency(rt: HostRuntime) {
+    let instrs = [
+        Instr::Begin,
+        Instr::Push(0),
+        Instr::Address(2),
+        Instr::Load,
+        Instr::Turns(3),
+        Instr::Local(0),
+        Instr::Turn(SectionBase::Global(1), Indices::One),
+        Instr::NextTurn(2),
+        Instr::EndTurns(IN),
+        Instr::Create(2),
+        Instr::Nothing,
+        Instr::Return,
+        Instr::Nothing,
+        Instr::Return,
+    ];
+    let code = code(
+        &rt,
+        instrs,
+        &[0, 0, 1, 2, 2, 0, 1, 0, 0, 0, 0, 1, 0, 1],
+        &[],
+    );
+    let two = [
+        (Seen::Begin, 1),
+        (Seen::Read(4), 4),
+        (Seen::CreateOver(12, 1, 3), 10),
+        (Seen::End, 12),
+    ];
+    assert_asks(&rt, &code, &[2], &two);
+    let none = [
+        (Seen::Begin, 1),
+        (Seen::Read(4), 4),
+        (Seen::Create(12, 0), 10),
+    ];
+    assert_asks(&rt, &code, &[0], &none);
+    let four = [
+        (Seen::Begin, 1),
+        (Seen::Read(4), 4),
+        (Seen::Fault(FaultKind::OutOfRange), 7),
+    ];
+    assert_asks(&rt, &code, &[4], &four);
+}
+
+/// `taskwait on(a)`, `release in(a[1])` and `taskwait`.
+#[test]
+fn waits_and_a_release(rt: HostRuntime) {
+    let instrs = [
+        Instr::Section(SectionBase::Global(1), SectionForm::Whole, IN),
+        Instr::WaitOn,
+        Instr::Push(1),
+        Instr::Section(
+            SectionBase::Global(1),
+            SectionForm::Line(PartForm::Element),
+            IN,
+        ),
+        Instr::Release,
+        Instr::Wait,
+        Instr::Nothing,
+        Instr::Return,
+    ];
+    let code = code(&rt, instrs, &[0, 0, 0, 1, 0, 0, 0, 1], &[]);
+    let wanted = [
+        (Seen::WaitOn(1, 4), 2),
+        (Seen::Release(2, 3), 5),
+        (Seen::Wait, 6),
+        (Seen::End, 8),
+    ];
+    assert_asks(&rt, &code, &[], &wanted);
 }
