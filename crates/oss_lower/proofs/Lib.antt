@@ -20,3 +20,10 @@ pub mod Rows
 pub mod MovedBodies
 pub mod MovedRuns
 pub mod OneResult
+pub mod ListingLemmas
+pub mod NameLemmas
+pub mod ExprWeights
+pub mod FormCases
+pub mod OperandLemmas
+pub mod SpotLemmas
+pub mod TargetLemmas
