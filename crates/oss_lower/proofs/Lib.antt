@@ -27,3 +27,5 @@ pub mod FormCases
 pub mod OperandLemmas
 pub mod SpotLemmas
 pub mod TargetLemmas
+pub mod StmtWeights
+pub mod WrittenLemmas

@@ -22,13 +22,24 @@ pub still-behind : (a : Around) (k m : ℕ) → IsBehind a k → k ≤ m → IsB
 still-behind a k m is h = let x = is.stop in let y = is.again in record { stop = omega arith; again = omega arith }
 
 -- the locals before a statement stay in scope behind it, below those that it declares
-take-same : (xs : List Local) → take (length xs) xs ≡ xs
+pub take-same : (xs : List Local) → take (length xs) xs ≡ xs
 take-same [] = refl
 take-same (x ∷ xs) = ap (λ ys. x ∷ ys) (take-same xs)
 
 take-front : (xs ys : List Local) → take (length xs) (xs ++ ys) ≡ xs
 take-front [] ys = refl
 take-front (x ∷ xs) ys = ap (λ zs. x ∷ zs) (take-front xs ys)
+
+-- old locals that stand in front of those in the middle stand in front of the new ones
+pub prefix-trans : (old mid now : List Local) → take (length old) mid ≡ old → take (length mid) now ≡ mid → take (length old) now ≡ old
+prefix-trans [] mid now a b = refl
+prefix-trans (o ∷ old) [] now a b = absurd (cc)
+prefix-trans (o ∷ old) (m ∷ mid) [] a b = absurd (cc)
+prefix-trans (o ∷ old) (m ∷ mid) (n ∷ now) a b =
+    let here : n ≡ m = cc in
+    let there : m ≡ o = cc in
+    let rest : take (length old) now ≡ old = prefix-trans old mid now (cc) (cc) in
+    cc
 
 abbrev Stays : StmtCode → StmtCode → Type 0
 Stays c d = (scope : List Local) → take (length scope) (c.scope scope) ≡ scope

@@ -13,6 +13,7 @@ mod scope;
 mod sections;
 mod simple;
 mod site;
+mod statements;
 mod typed;
 
 pub use laws::{

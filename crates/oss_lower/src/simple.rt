@@ -1,15 +1,17 @@
 //! The instructions of statements without others in them.
-ghost use Rattle.std.specs.Prelude.{◌≡◌, ◌++◌, None, IfOk, OnOk, MatchOption};
-ghost use Rattle.oss_grammar.specs.Kinds.{number_kind, value_kind};
-ghost use Rattle.oss_meaning.specs.Expressions.{typed_name};
-ghost use Rattle.oss_meaning.specs.Statements.{folded_by, fold_of};
-ghost use Rattle.oss_meaning.specs.declared.names.Found.TheVariants.{Variable as IsVariable};
-ghost use Rattle.oss_lower.specs.ExpressionCode.{ExprCode, expr_code};
-ghost use Rattle.oss_lower.specs.StatementCode.{assigned_code, call_done_code, cell_changed_code, declared_code, end_code, first_code, first_instr, local_assigned_code, pieces_in as pieces_told, print_code, release_code, returned_code, wait_code};
-ghost use Rattle.oss_syntax.specs.declared.tree.program.Kind.{Kind as Given};
-ghost use Rattle.oss_lower.specs.Spots.{local_in};
-ghost use Rattle.oss_lower.specs.declared.lined.Pads.{Pads};
+ghost use Rattle.std.specs.Prelude.{◌≡◌, ◌++◌, None, IfOk, OnOk, MatchOption, length, map};
 ghost use Rattle.oss_grammar.specs.Formats.{pieces_of};
+ghost use Rattle.oss_grammar.specs.Kinds.{number_kind, value_kind};
+ghost use Rattle.oss_meaning.specs.Clauses.{waited_for};
+ghost use Rattle.oss_meaning.specs.Expressions.{typed_name};
+ghost use Rattle.oss_meaning.specs.Names.{item_found};
+ghost use Rattle.oss_meaning.specs.Statements.{fold_of, folded_by};
+ghost use Rattle.oss_meaning.specs.declared.names.Found.TheVariants.{Variable as IsVariable};
+ghost use Rattle.oss_code.specs.declared.instr.Instr.TheVariants as i;
+ghost use Rattle.oss_lower.specs.ExpressionCode.{ExprCode, arguments_code, call_code, expr_code, one};
+ghost use Rattle.oss_lower.specs.SectionCode.{clauses_code, sections_code};
+ghost use Rattle.oss_lower.specs.Spots.{local_in};
+ghost use Rattle.oss_lower.specs.StatementCode.{assigned_code, cell_changed_code, declared_code, end_code, first_code, first_instr, given_code, local_assigned_code, pieces_in as pieces_told};
 
 use crate::clauses::clauses;
 use crate::expressions::{arguments, call, place, value};
@@ -208,7 +210,7 @@ pub fn call_alone(
     name: &Name,
     values: &[Expr],
 ) -> Result<(), AllocError>
-    ensures { (given : Given) (pads : Pads) → OnOk result (out.new ≡ out.old ++ call_done_code site.now.names.now site.now.line name.now values.now (record { scope = site.now.scope.now; result = given; pads = pads })) }
+    ensures { OnOk result (out.new ≡ out.old ++ (call_code site.now.names.now (item_found site.now.names.now name.now) (map (expr_code site.now.names.now site.now.scope.now) values.now) site.now.line 0 ++ one site.now.line 1 i.Drop)) }
 {
     call(site, out, 0, name.as_slice(), values)?;
     out.push(Instr::Drop, site.line, 1)
@@ -221,7 +223,7 @@ pub fn print(
     format: &Bytes,
     values: &[Expr],
 ) -> Result<(), AllocError>
-    ensures { (given : Given) (pads : Pads) → OnOk result (out.new ≡ out.old ++ print_code site.now.names.now site.now.line format.now values.now (record { scope = site.now.scope.now; result = given; pads = pads })) }
+    ensures { OnOk result (out.new ≡ out.old ++ (arguments_code (map (expr_code site.now.names.now site.now.scope.now) values.now) site.now.line 0 ++ one site.now.line (length values.now) (i.Print (pieces_told (pieces_of format.now)) (length values.now)))) }
 {
     arguments(site, out, 0, values)?;
     let arguments = narrow(values.len())?;
@@ -239,23 +241,16 @@ fn pieces_in(alloc: Global, format: &[u8]) -> Result<List<Piece>, AllocError>
     }
 }
 
-/// Writes a `return`: its value, or 0, is given.
+/// Writes a `return` with a value, which is given.
 pub fn give(
     site: &Site<'_, '_>,
     out: &mut Listing,
     kind: Kind,
-    given: &Option<Expr>,
+    given: &Expr,
 ) -> Result<(), AllocError>
-    ensures { (pads : Pads) → OnOk result (out.new ≡ out.old ++ returned_code site.now.names.now site.now.line given.now (record { scope = site.now.scope.now; result = kind; pads = pads })) }
+    ensures { OnOk result (out.new ≡ out.old ++ ((expr_code site.now.names.now site.now.scope.now given.now).value site.now.line 0 ++ given_code site.now.line kind)) }
 {
-    match given {
-        Some(given) => {
-            value(site, out, 0, given)?;
-        }
-        None => {
-            out.push(Instr::Push(0), site.line, 0)?;
-        }
-    }
+    value(site, out, 0, given)?;
     out.push(Instr::Convert(kind), site.line, 1)?;
     out.push(Instr::Return, site.line, 1)
 }
@@ -269,26 +264,21 @@ pub fn end(out: &mut Listing, line: u32, kind: Kind) -> Result<(), AllocError>
     out.push(Instr::Return, line, 1)
 }
 
-/// Writes a `taskwait`, or one on the cells of these sections.
-pub fn wait<'p>(
+/// Writes a `taskwait` on the cells of these sections.
+pub fn wait_on<'p>(
     site: &Site<'_, 'p>,
     out: &mut Listing,
-    list: &'p Option<List<Section>>,
+    list: &'p [Section],
 ) -> Result<(), AllocError>
-    ensures { (given : Given) (pads : Pads) → OnOk result (out.new ≡ out.old ++ wait_code site.now.names.now site.now.line list.now (record { scope = site.now.scope.now; result = given; pads = pads })) }
+    ensures { OnOk result (out.new ≡ out.old ++ (sections_code site.now.names.now site.now.scope.now waited_for list.now site.now.line ++ one site.now.line 0 i.WaitOn)) }
 {
-    match list {
-        None => out.push(Instr::Wait, site.line, 0),
-        Some(list) => {
-            let declared = Declared {
-                mode: Mode::Read,
-                strong: true,
-                fresh: false,
-            };
-            sections(site, out, declared, list.as_slice())?;
-            out.push(Instr::WaitOn, site.line, 0)
-        }
-    }
+    let declared = Declared {
+        mode: Mode::Read,
+        strong: true,
+        fresh: false,
+    };
+    sections(site, out, declared, list)?;
+    out.push(Instr::WaitOn, site.line, 0)
 }
 
 /// Writes a `release`: its clauses, and then what they declare is released.
@@ -297,7 +287,7 @@ pub fn release<'p>(
     out: &mut Listing,
     list: &'p [Clause],
 ) -> Result<(), AllocError>
-    ensures { (given : Given) (pads : Pads) → OnOk result (out.new ≡ out.old ++ release_code site.now.names.now site.now.line list.now (record { scope = site.now.scope.now; result = given; pads = pads })) }
+    ensures { OnOk result (out.new ≡ out.old ++ (clauses_code site.now.names.now site.now.scope.now list.now site.now.line ++ one site.now.line 0 i.Release)) }
 {
     clauses(site, out, list)?;
     out.push(Instr::Release, site.line, 0)
