@@ -90,6 +90,7 @@ pub fn first_of(found: Finding) -> Option<Refused>
     before(found.at_first, found.behind)
 }
 
+/// The kind of a number of this type.
 pub fn kind_of_number(kind: NumKind) -> ValueKind
     ensures { result ≡ number_kind kind }
 {

@@ -56,7 +56,8 @@ fn object_of_name(named: Named) -> Object
     }
 }
 
-fn kind_of_element(kind: ValueKind) -> ValueKind
+/// The kind of what stands behind a pointer of this kind.
+pub fn kind_of_element(kind: ValueKind) -> ValueKind
     ensures { result ≡ element_kind kind }
 {
     match kind {
@@ -197,7 +198,8 @@ fn wanted_on_the_left(op: BinOp) -> Wanted
     }
 }
 
-fn kind_of_binary(op: BinOp, left: ValueKind, right: ValueKind) -> ValueKind
+/// The kind of a binary operator on operands of these kinds.
+pub fn kind_of_binary(op: BinOp, left: ValueKind, right: ValueKind) -> ValueKind
     ensures { result ≡ binary_kind op left right }
 {
     match op {

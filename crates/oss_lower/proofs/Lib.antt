@@ -20,3 +20,12 @@ pub mod Rows
 pub mod MovedBodies
 pub mod MovedRuns
 pub mod OneResult
+pub mod ListingLemmas
+pub mod NameLemmas
+pub mod ExprWeights
+pub mod FormCases
+pub mod OperandLemmas
+pub mod SpotLemmas
+pub mod TargetLemmas
+pub mod StmtWeights
+pub mod WrittenLemmas

@@ -1,5 +1,9 @@
 pub mod ExpressionCode
-pub mod SectionCode
-pub mod StatementCode
+pub mod Indices
+pub mod Jumps
 pub mod Lowered
 pub mod Programs
+pub mod SectionCode
+pub mod Spots
+pub mod StatementCode
+pub mod Tables

@@ -1,0 +1,13 @@
+//! What stands around a statement.
+use oss_syntax::Kind;
+
+/// What stands around a statement.
+#[derive(Clone, Copy, Debug)]
+pub struct Around {
+    /// The type of what the function gives.
+    pub result: Kind,
+    /// The place of the piece to which `break` leads.
+    pub stop: usize,
+    /// The place of the piece to which `continue` leads.
+    pub again: usize,
+}
