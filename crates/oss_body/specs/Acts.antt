@@ -5,7 +5,6 @@ use Rattle.std.specs.Prelude.{◌≡◌, ℕ, suc, nat_eq, Bool, true, false, �
 use Rattle.oss_syntax.specs.declared.fault.FaultKind.{FaultKind}
 use Rattle.oss_model.specs.Context.{Context, child_context, create_fault, tick_fault}
 use Rattle.oss_model.specs.Bodies.{Act as Meant, Frame, word_of}
-use Rattle.oss_model.specs.Bodies.Act as meant
 use Rattle.oss_meaning.specs.Clauses.{waited_for}
 use Rattle.oss_meaning.specs.Sections.{declared_on}
 use Rattle.oss_machine.specs.Asks.{meant_order}
@@ -16,18 +15,18 @@ use Rattle.oss_body.specs.Places.{unwritten}
 
 -- An act of a body, as one of the definitions: `Store 2 5` is the store of 5 in cell 2.
 abbrev pub act_seen : Act → Meant CodeScript
-act_seen acts.Tick = meant.Ticked
-act_seen (acts.Load c) = meant.Load c
-act_seen (acts.Store c v) = meant.Store c (word_of v)
-act_seen (acts.Fold c op v slot) = meant.Folded c op (word_of v) slot
-act_seen (acts.Create creation included) = meant.Created (meant_order creation.order) included
-act_seen acts.Await = meant.Awaited
-act_seen acts.Wait = meant.Waited
-act_seen (acts.WaitOn ranges) = meant.WaitedOn (declared_on waited_for ranges)
-act_seen (acts.Release clauses included) = meant.Releases clauses included
-act_seen (acts.Print key text) = meant.Printed (unwritten key) text
-act_seen acts.End = meant.Ended
-act_seen (acts.Fault kind line key) = meant.Fault kind line (unwritten key)
+act_seen acts.Tick = Meant.Ticked
+act_seen (acts.Load c) = Meant.Load c
+act_seen (acts.Store c v) = Meant.Store c (word_of v)
+act_seen (acts.Fold c op v slot) = Meant.Folded c op (word_of v) slot
+act_seen (acts.Create creation included) = Meant.Created (meant_order creation.order) included
+act_seen acts.Await = Meant.Awaited
+act_seen acts.Wait = Meant.Waited
+act_seen (acts.WaitOn ranges) = Meant.WaitedOn (declared_on waited_for ranges)
+act_seen (acts.Release clauses included) = Meant.Releases clauses included
+act_seen (acts.Print key text) = Meant.Printed (unwritten key) text
+act_seen acts.End = Meant.Ended
+act_seen (acts.Fault kind line key) = Meant.Fault kind line (unwritten key)
 
 -- Beside a creation stands the context in which the new task starts, which the task with this context creates. Beside
 -- no other act stands one.
@@ -49,7 +48,7 @@ passed _ x = true
 
 -- The answer to an act, where a load finds this value: that value for a load, and else 0.
 abbrev pub answer_to : Meant CodeScript → ℕ → ℕ
-answer_to (meant.Load c) v = v
+answer_to (Meant.Load c) v = v
 answer_to _ v = 0
 
 -- The act is no fault: a tick is none.

@@ -6,7 +6,7 @@ ghost use Rattle.oss_meaning.specs.Clauses.{waited_for};
 ghost use Rattle.oss_meaning.specs.Sections.{declared_on};
 ghost use Rattle.oss_machine.specs.Asks.{meant_ask, meant_order};
 ghost use Rattle.oss_machine.specs.Frames.{CodeScript};
-ghost use Rattle.oss_model.specs.Bodies.{Frame as Meant, Begin, Create, WaitOn, Release, Fault, act_of_ask, judged_act, key_of};
+ghost use Rattle.oss_model.specs.Bodies.{Frame as Meant, Begin, Create, Fold, Print, WaitOn, Release, Fault, act_of_ask, judged_act, key_of};
 ghost use Rattle.oss_model.specs.Context.{child_context, create_fault, creation_fault, right_of};
 ghost use Rattle.oss_model.specs.Rights.{NoRight};
 ghost use Rattle.oss_syntax.specs.declared.fault.FaultKind.TheVariants as fault;
@@ -166,7 +166,10 @@ impl Place {
         ensures refused { IfErr result (IsRefusal (creation_fault self.now.context order.now.accesses (self.now.context.final || order.now.last))) }
     {
         match self.context.may_create() {
-            Ok(()) => self.context.child(&order.accesses, order.last),
+            Ok(()) => match self.context.child(&order.accesses, order.last) {
+                Ok(child) => Ok(child),
+                Err(refused) => Err(refused),
+            },
             Err(kind) => Err(JudgeRefused::Fault(kind)),
         }
     }

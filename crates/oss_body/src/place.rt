@@ -1,6 +1,7 @@
 //! A task as the judge knows it, and what its acts change there.
 ghost use Rattle.std.specs.Prelude.{◌≡◌, ◌+◌, ◌<◌, ◌≤◌, suc, length, map, None, Some, IfErr, IfOk, OnErr, OnOk};
 ghost use Rattle.oss_judge.specs.Parts.{reading};
+ghost use Rattle.oss_machine.specs.Frames.{CodeScript};
 ghost use Rattle.oss_model.specs.Bodies.{Frame as Meant, key_of, lent_when, one_more_created};
 ghost use Rattle.oss_model.specs.Context.{create_fault, made, release, right_of, tick_fault, waited, waited_on, wrote};
 ghost use Rattle.oss_model.specs.Order.{written};
@@ -57,7 +58,7 @@ impl Place {
 
     /// The key at which the task acts, which is also the point of the next task that it creates.
     pub(crate) fn key(&self) -> Result<Point, AllocError>
-        ensures key { IfOk result (λ key. (S : Type 0) (f : Meant S) → self.now ≡ place_of f → key ≡ written (key_of f)) }
+        ensures key { IfOk result (λ key. (f : Meant CodeScript) → self.now ≡ place_of f → key ≡ written (key_of f)) }
         ensures numbers { IfOk result (λ key. length key ≡ suc (suc self.now.context.depth)) }
     {
         self.path.child(self.context.created_count() as u16)

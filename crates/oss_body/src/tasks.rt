@@ -41,25 +41,20 @@ impl Tasks {
         ensures { OnOk result ((s : Stack CodeScript) → self.old ≡ kept_stack code.now s → HasContext (top_frame s.base s.inner).context act.now → self.new ≡ kept_stack code.now (stack_after (act_seen act.now) (answer_to (act_seen act.now) loaded) s.base s.inner)) }
     {
         match act {
-            Act::Tick => self.top.tick(code),
-            Act::Load(_) => self.top.answer(code, loaded),
-            Act::Store(cell, _) => self.top.wrote(code, *cell),
-            Act::Fold { cell, .. } => self.top.wrote(code, *cell),
-            Act::Create { creation, included } => self.create(alloc, code, creation, *included),
-            Act::Await => {
-                self.top.end_await();
-                Ok(())
-            }
-            Act::Wait => self.top.end_wait(code),
-            Act::WaitOn(ranges) => self.top.end_wait_on(code, ranges),
-            Act::Release { clauses, .. } => self.top.release(code, clauses),
-            Act::Print { .. } => self.top.answer(code, 0),
-            Act::End => {
-                self.end();
-                Ok(())
-            }
+            Act::Tick => self.top.tick(code)?,
+            Act::Load(_) => self.top.answer(code, loaded)?,
+            Act::Store(cell, _) => self.top.wrote(code, *cell)?,
+            Act::Fold { cell, .. } => self.top.wrote(code, *cell)?,
+            Act::Create { creation, included } => self.create(alloc, code, creation, *included)?,
+            Act::Await => self.top.end_await(),
+            Act::Wait => self.top.end_wait(code)?,
+            Act::WaitOn(ranges) => self.top.end_wait_on(code, ranges)?,
+            Act::Release { clauses, .. } => self.top.release(code, clauses)?,
+            Act::Print { .. } => self.top.answer(code, 0)?,
+            Act::End => self.end(),
             Act::Fault { .. } => unreachable!(),
         }
+        Ok(())
     }
 
     /// A creation has happened. A task that is included acts next.
