@@ -64,7 +64,7 @@ rising_slot (a ∷ rest) c op s h e = go (both_cases (in_access a c)) (rising_sl
     go (inl here) more =
         let none = none_behind a rest h c (in_high a c here) in
         let right : Holds a.mode a.strong ≡ Holds (Fold op) true =
-            sym (ap (λ b. if b then joined_right a.mode (false || a.strong) (right_from false rest c) else right_from false rest c) here ∙ ap (joined_right a.mode (false || a.strong)) (right_none rest c none)) ∙ e in
+        sym (ap (λ b. if b then joined_right a.mode (false || a.strong) (right_from false rest c) else right_from false rest c) here ∙ ap (joined_right a.mode (false || a.strong)) (right_none rest c none)) ∙ e in
         let parts = holds_mode a.mode (Fold op) a.strong true right in
         ap (λ b. slot_from rest c (if b then added (strong_op a.mode a.strong) s else s)) here
         ∙ slot_none rest c (added (strong_op a.mode a.strong) s) none

@@ -29,7 +29,10 @@ pub enum Act {
         slot: bool,
     },
     /// The creation of a task. One that is included runs in this body.
-    Create { creation: Creation, included: bool },
+    Create {
+        creation: Creation,
+        included: bool,
+    },
     /// The wait for the task that was created last, under a false `if`.
     Await,
     /// The wait for all tasks that the body's task created.
@@ -42,7 +45,10 @@ pub enum Act {
         included: bool,
     },
     /// A print of these bytes, and its key.
-    Print { key: Point, text: Bytes },
+    Print {
+        key: Point,
+        text: Bytes,
+    },
     /// The end of the task that acts: the body's own, or one that is included.
     End,
     /// A fault in the place of an act, with its line and its key.

@@ -117,8 +117,13 @@ impl Frame {
         if self.awaits {
             return Ok(Act::Await);
         }
-        self.place
-            .judged(alloc, own, included, self.machine.ask(), self.machine.line())
+        self.place.judged(
+            alloc,
+            own,
+            included,
+            self.machine.ask(),
+            self.machine.line(),
+        )
     }
 }
 
@@ -186,7 +191,11 @@ impl Frame {
     }
 
     /// After a wait for cells.
-    pub(crate) fn end_wait_on(&mut self, code: &Code, ranges: &List<Range>) -> Result<(), AllocError>
+    pub(crate) fn end_wait_on(
+        &mut self,
+        code: &Code,
+        ranges: &List<Range>,
+    ) -> Result<(), AllocError>
         ensures { OnOk result ((f : Meant CodeScript) → self.old ≡ kept code.now f → self.new ≡ kept code.now (frame_after (WaitedOn (declared_on waited_for ranges.now)) 0 f)) }
     {
         self.place.wait_on(ranges)?;

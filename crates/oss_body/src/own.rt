@@ -56,7 +56,10 @@ impl Own {
     {
         match act {
             Act::Fold {
-                cell, value, slot, ..
+                cell,
+                value,
+                slot,
+                ..
             } => {
                 if *slot {
                     fold_into(&mut self.slots, *cell, *value);
@@ -114,13 +117,7 @@ fn op_of(access: &Access) -> Option<Op>
     ensures { result ≡ strong_op access.now.mode access.now.strong }
 {
     match access.mode {
-        Mode::Fold(op) => {
-            if access.strong {
-                Some(op)
-            } else {
-                None
-            }
-        }
+        Mode::Fold(op) => { if access.strong { Some(op) } else { None } }
         Mode::Read => None,
         Mode::Write => None,
     }

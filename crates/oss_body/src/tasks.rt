@@ -77,12 +77,7 @@ impl Tasks {
     }
 
     /// The creation of an included task has happened.
-    fn include(
-        &mut self,
-        alloc: Global,
-        code: &Code,
-        creation: &Creation,
-    ) -> Result<(), AllocError>
+    fn include(&mut self, alloc: Global, code: &Code, creation: &Creation) -> Result<(), AllocError>
         requires running { self.old.ended ≡ false }
         requires passed { create_fault self.old.top.place.context ≡ None }
         requires depth { creation.now.context.depth ≡ suc self.old.top.place.context.depth }

@@ -20,10 +20,10 @@ returns-then-self c = λ start found is.
     let h : c.apply.new.self ≡ kept_stack code (stack_after (act_seen old.act) v s.base s.inner) =
     subst (λ (a : Act). c.apply.new.self ≡ kept_stack code (stack_after (act_seen a) (answer_to (act_seen a) c.args.loaded) s.base s.inner)) c.replace-act.ensures.value (c.in_ok-apply.ensures s (is.tasks c.requires.running) child) in
     let kept : OwnAfter old.own (act_seen c.replace-act.result) c.keep.new.self = record {
-        context = ap (λ (o : Own). o.context) c.keep.ensures.rest;
-        wait = ap (λ (o : Own). o.wait) c.keep.ensures.rest;
-        priority = ap (λ (o : Own). o.priority) c.keep.ensures.rest;
-        slots = c.keep.ensures.slots;
+      context = ap (λ (o : Own). o.context) c.keep.ensures.rest;
+      wait = ap (λ (o : Own). o.wait) c.keep.ensures.rest;
+      priority = ap (λ (o : Own). o.priority) c.keep.ensures.rest;
+      slots = c.keep.ensures.slots;
     } in
     let own : OwnAfter old.own (act_seen old.act) c.keep.new.self = subst (λ (a : Act). OwnAfter old.own (act_seen a) c.keep.new.self) c.replace-act.ensures.value kept in
     advancing.ends code start found old v is c.requires.running c.apply.new.self h c.if-self.true _ own refl refl
@@ -39,10 +39,10 @@ returns c = λ start found is.
     let h : c.apply.new.self ≡ kept_stack code m =
     subst (λ (a : Act). c.apply.new.self ≡ kept_stack code (stack_after (act_seen a) (answer_to (act_seen a) c.args.loaded) s.base s.inner)) c.replace-act.ensures.value (c.in_ok-apply.ensures s (is.tasks c.requires.running) child) in
     let kept : OwnAfter old.own (act_seen c.replace-act.result) c.keep.new.self = record {
-        context = ap (λ (o : Own). o.context) c.keep.ensures.rest;
-        wait = ap (λ (o : Own). o.wait) c.keep.ensures.rest;
-        priority = ap (λ (o : Own). o.priority) c.keep.ensures.rest;
-        slots = c.keep.ensures.slots;
+      context = ap (λ (o : Own). o.context) c.keep.ensures.rest;
+      wait = ap (λ (o : Own). o.wait) c.keep.ensures.rest;
+      priority = ap (λ (o : Own). o.priority) c.keep.ensures.rest;
+      slots = c.keep.ensures.slots;
     } in
     let own : OwnAfter old.own (act_seen old.act) c.keep.new.self = subst (λ (a : Act). OwnAfter old.own (act_seen a) c.keep.new.self) c.replace-act.ensures.value kept in
     let top = ap (λ (t : Tasks). t.top) h in

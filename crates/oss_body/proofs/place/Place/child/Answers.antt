@@ -20,5 +20,5 @@ returns-in-Err-child-clause-refused c =
     let x = c.self.inside.context in
     let none : create_fault x ≡ None = sym c.may_create.ensures ∙ ap result_err c.in-Ok.is in
     let whole = ap (λ (p : Placed). creation_fault p.context c.args.order.now.accesses (p.context.final || c.args.order.now.last)) (sym c.self.view_is)
-        ∙ ap (λ (k : Option FaultKind). or_else k (clause_fault x c.args.order.now.accesses (x.final || c.args.order.now.last))) none in
+    ∙ ap (λ (k : Option FaultKind). or_else k (clause_fault x c.args.order.now.accesses (x.final || c.args.order.now.last))) none in
     subst (λ (k : Option FaultKind). IsRefusal k c.in-Err-child.refused) (sym whole) c.in-Err-child.ensures.refused

@@ -21,6 +21,7 @@ pub returns : goal.returns
 returns c = on_ok_then c.include.result (λ goes s e h.
     let below : (s.inner ≡ []) → c.args.self.now.below ≡ [] = λ none. ap (λ (x : Tasks). x.below) e ∙ ap (rest_of c.args.code.now s.base) none in
     let never : c.args.included ≡ false → s.inner ≡ [] → ⊥ = λ i none. elim c.else-not-included.branch [
-        else-not-included-via-then-not-included+else-is_empty w ↦ let there = w.is_empty.ensures.1 (below none) in let not_so = w.if-is_empty.false in cc (there, not_so)
-        | else-not-included-via-else-not-included w ↦ let so = w.if-not-included.false in cc (so, i) ] in
+      | else-not-included-via-then-not-included+else-is_empty w ↦ let there = w.is_empty.ensures.1 (below none) in let not_so = w.if-is_empty.false in cc (there, not_so)
+      | else-not-included-via-else-not-included w ↦ let so = w.if-not-included.false in cc (so, i)
+    ] in
     goes s e h ∙ ap (kept_stack c.args.code.now) (sym (includes (meant_order c.args.creation.now.order) c.args.included s never))) c.include.ensures
