@@ -1,6 +1,6 @@
 ghost use Rattle.std.specs.Prelude.{◌≡◌, ℕ, ◌+◌, ◌<◌, ◌≤◌, ◌||◌, false, true, if◌then◌else◌, [], length, map, Some, None, IfErr, IfOk, OnErr, OnOk};
 ghost use Rattle.std.specs.Result.{result_err};
-ghost use Rattle.oss_model.specs.Rights.{Folds, Holds, Reads, Writes, mark_from, right_from, touch_fault};
+ghost use Rattle.oss_model.specs.Rights.{Folds, Holds, Reads, Writes, is_released, mark_from, right_from, touch_fault};
 ghost use Rattle.oss_model.specs.Context.{child_context, clause_fault, create_fault, lend, lent_of, made, main_context, mark_of, release, release_fault, right_of, tick_fault, wait_on_fault, waited, waited_on, wrote};
 ghost use Rattle.oss_judge.specs.Joined.{IsRising, held_mark, held_right};
 ghost use Rattle.oss_judge.specs.Parts.{fold_part, given_fault, reading};
@@ -123,6 +123,13 @@ impl Context {
         ensures { result ≡ fold_part (right_of self.now cell) }
     {
         self.right(cell).fold_op()
+    }
+
+    /// Whether the task has released a cell. It takes no memory.
+    pub fn has_released(&self, cell: u32) -> bool
+        ensures { result ≡ is_released (right_of self.now cell) }
+    {
+        self.right(cell).is_released()
     }
 
     /// Marks a cell as written. A cell that is written already takes no memory. Where memory is wanting the context stays.

@@ -1,6 +1,6 @@
 ghost use Rattle.std.specs.Prelude.{◌≡◌, ◌++◌, ◌-◌, true, is_some, None, Some, OnErr, OnOk, replicate};
 ghost use Rattle.oss_ranges.specs.Cells.{value_at};
-ghost use Rattle.oss_slots.specs.Slots.{Adds, Changes, HasSlot, SameSlots, emptied, folded, none, value_in};
+ghost use Rattle.oss_slots.specs.Slots.{Adds, Changes, HasSlot, SameSlots, emptied, folded, none, slot_at, value_in};
 
 use crate::home::Home;
 use crate::operators::{combined, neutral};
@@ -55,6 +55,13 @@ impl Slots {
                 first,
             },
         )
+    }
+
+    /// Whether a cell has a slot. It takes no memory.
+    pub fn has(&self, cell: u32) -> bool
+        ensures { result ≡ is_some (slot_at self.now cell) }
+    {
+        self.homes.get(cell).is_some()
     }
 
     /// Folds a value into the slot of a cell, by the operator of the slot. Condition: the cell has a slot. It takes no memory.

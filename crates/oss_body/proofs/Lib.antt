@@ -1,0 +1,5 @@
+mod Advancing
+mod CreationLemmas
+mod Results
+mod SlotLemmas
+mod StackLemmas

@@ -1,0 +1,6 @@
+pub mod Acts
+pub mod Kept
+pub mod Places
+pub mod Relation
+pub mod Slots
+pub mod Stacks

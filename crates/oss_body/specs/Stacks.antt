@@ -1,0 +1,41 @@
+-- What is kept of all tasks of a body.
+-- Read against: a final task that runs an included one is kept as the included one, and below it the final one.
+use Rattle.std.specs.Prelude.{ℕ, false, List, [], ◌∷◌, ◌++◌}
+use Rattle.oss_model.specs.Bodies.{Order, Frame as Meant, Stack, child_frame, including_frame, top_frame}
+use Rattle.oss_code.specs.declared.code.CodeParts.{CodeParts}
+use Rattle.oss_machine.specs.Frames.{CodeScript}
+use Rattle.oss_body.specs.declared.frame.Frame.{Frame}
+use Rattle.oss_body.specs.declared.tasks.Tasks.{Tasks}
+use Rattle.oss_body.specs.Kept.{kept}
+use Rattle.oss_body.specs.Places.{Placed}
+
+-- The body's own task and these above it, the newest last: of a body with two included tasks, three.
+abbrev pub all_of : CodeParts → Meant CodeScript → List (Meant CodeScript) → List Frame
+all_of code base [] = kept code base ∷ []
+all_of code base (f ∷ fs) = all_of code base fs ++ kept code f ∷ []
+
+-- The tasks below the newest: of a body whose own task acts, none.
+abbrev pub rest_of : CodeParts → Meant CodeScript → List (Meant CodeScript) → List Frame
+rest_of code base [] = []
+rest_of code base (f ∷ fs) = all_of code base fs
+
+-- What is kept of a body's tasks: the one that acts, those below it, and whether the body has ended.
+abbrev pub kept_stack : CodeParts → Stack CodeScript → Tasks
+kept_stack code s = record { top = kept code (top_frame s.base s.inner); below = rest_of code s.base s.inner; ended = s.ended }
+
+-- The tasks of a body, the one that acts having included a new one.
+abbrev pub including_parts : Order CodeScript → Meant CodeScript → List (Meant CodeScript) → Stack CodeScript
+including_parts o base [] = record { base = including_frame o base; inner = child_frame base o ∷ []; ended = false }
+including_parts o base (f ∷ fs) = record { base = base; inner = child_frame f o ∷ including_frame o f ∷ fs; ended = false }
+
+-- A body, the task that acts having included a new one: then that one acts.
+abbrev pub including : Order CodeScript → Stack CodeScript → Stack CodeScript
+including o s = including_parts o s.base s.inner
+
+-- Where the body's own task stands: of one that runs an included task, below that.
+abbrev pub first_place : Frame → List Frame → Placed
+first_place top [] = top.place
+first_place top (f ∷ fs) = f.place
+
+abbrev pub own_place : Tasks → Placed
+own_place t = first_place t.top t.below

@@ -1,0 +1,60 @@
+//! Acts of a body.
+
+use oss_code::TaskOrder;
+use oss_judge::Context;
+use oss_model::{FaultKind, Point};
+use oss_syntax::{Access, Bytes, List, Op, Range};
+
+/// A creation that the judge has let pass: what the new task is to run, and the context in which it starts.
+#[derive(Drop)]
+pub struct Creation {
+    pub order: TaskOrder,
+    pub(crate) context: Context,
+}
+
+/// What a body does next, once it is judged (OmpSs-2, execution model).
+#[derive(Drop)]
+pub enum Act {
+    /// A tick.
+    Tick,
+    /// A load of a cell.
+    Load(u32),
+    /// A store of a number in a cell.
+    Store(u32, u64),
+    /// A fold of a number into a cell, or, where `slot` is true, into the slot of the body's own task for it.
+    Fold {
+        cell: u32,
+        op: Op,
+        value: u64,
+        slot: bool,
+    },
+    /// The creation of a task. One that is included runs in this body.
+    Create {
+        creation: Creation,
+        included: bool,
+    },
+    /// The wait for the task that was created last, under a false `if`.
+    Await,
+    /// The wait for all tasks that the body's task created.
+    Wait,
+    /// The wait for what these tasks declared of the cells of these ranges.
+    WaitOn(List<Range>),
+    /// The release of what these accesses declare, by the body's own task, or by one that is included.
+    Release {
+        clauses: List<Access>,
+        included: bool,
+    },
+    /// A print of these bytes, and its key.
+    Print {
+        key: Point,
+        text: Bytes,
+    },
+    /// The end of the task that acts: the body's own, or one that is included.
+    End,
+    /// A fault in the place of an act, with its line and its key.
+    Fault {
+        kind: FaultKind,
+        line: u32,
+        key: Point,
+    },
+}

@@ -1,0 +1,203 @@
+//! A body.
+ghost use Rattle.std.specs.Prelude.{◌≡◌, ◌∷◌, ◌≤◌, [], List as Items, ℕ, Bool, suc, length, true, false, IfOk, OnOk};
+ghost use Rattle.oss_code.specs.declared.code.CodeParts.{CodeParts};
+ghost use Rattle.oss_judge.specs.Joined.{IsRising, held_mark, held_right};
+ghost use Rattle.oss_machine.specs.Asks.{meant_order, script_of};
+ghost use Rattle.oss_machine.specs.Frames.{CodeScript};
+ghost use Rattle.oss_machine.specs.Machines.{asks};
+ghost use Rattle.oss_model.specs.Bodies.{Order, Start, Created, child_start, stack_from, stage_act, start_frame};
+ghost use Rattle.oss_model.specs.Context.{mark_of, right_of};
+ghost use Rattle.oss_model.specs.Moves.{slot_of};
+ghost use Rattle.oss_model.specs.Order.{written};
+ghost use Rattle.oss_model.specs.Rights.{Holds, is_released, mark_from, right_from};
+ghost use Rattle.oss_syntax.specs.declared.access.Mode.TheVariants.{Fold};
+ghost use Rattle.oss_syntax.specs.declared.access.Op.{Op};
+ghost use Rattle.oss_body.specs.Acts.{act_seen, answer_to, creates, goes_on, passed};
+
+use crate::act::Act;
+use crate::frame::Frame;
+use crate::own::Own;
+use crate::place::Place;
+use crate::tasks::Tasks;
+use oss_code::{Code, TaskOrder};
+use oss_judge::Context;
+use oss_model::Point;
+use oss_syntax::{Access, List};
+use std::alloc::{AllocError, Global};
+use std::mem;
+
+/// A body: one task of a program, and the tasks that it includes (OmpSs-2, execution model; the task directive, its clause `final`). It
+/// tells the act that stands next, and goes on behind it. Of what it has done nothing is kept: it costs the contexts and the
+/// machines of its tasks, and the slots of its own task.
+///
+/// Contracts say what holds for each start and each list of answers of which this is the body (`IsBody`).
+#[derive(Drop)]
+pub struct Body {
+    alloc: Global,
+    own: Own,
+    begun: bool,
+    tasks: Tasks,
+    act: Act,
+    ghost judged: { passed act tasks.top.place.context ≡ true },
+}
+
+impl Body {
+    ghost use Rattle.oss_body.specs.Kept.{kept};
+    ghost use Rattle.oss_body.specs.Relation.{HasStarted, IsBody, is_over, is_some, pending_of};
+
+    /// The body of a task at its start: with this order, in this context, at this point. The code is the one in which the order was asked
+    /// for. Condition: the point has one number more than there are tasks above the task, which are 64 at most.
+    pub fn start(
+        alloc: Global,
+        code: &Code,
+        order: &TaskOrder,
+        context: Context,
+        point: Point,
+    ) -> Result<Body, AllocError>
+        requires numbers { length point ≡ suc context.depth }
+        requires depth { context.depth ≤ 64 }
+        ensures { IfOk result (λ body. (path : Items ℕ) → point ≡ written path → IsBody code.now (record { order = meant_order order.now; context = context; path = path }) [] body) }
+    {
+        let own = Own::new(alloc, order, &context)?;
+        let top = Frame::new(alloc, code, order, Place::new(context, point))?;
+        Body::begin(alloc, code, own, top)
+    }
+
+    /// The body of a task that has done nothing.
+    fn begin(alloc: Global, code: &Code, own: Own, top: Frame) -> Result<Body, AllocError>
+        ensures { IfOk result (λ body. (start : Start CodeScript) → HasStarted start own → top ≡ kept code.now (start_frame (asks code.now) start) → IsBody code.now start [] body) }
+    {
+        let mut top = top;
+        let act = top.next(alloc, code, &own.context, false)?;
+        Ok(Body {
+            alloc,
+            own,
+            begun: false,
+            tasks: Tasks {
+                top,
+                below: List::new(alloc),
+                ended: false,
+            },
+            act,
+        })
+    }
+
+    /// The act that stands next, or the fault in its place. Condition: the body has not ended. It takes no memory.
+    pub fn pending(&self) -> &Act
+        requires running { is_over self.now ≡ false }
+        ensures kept { result.now ≡ pending_of self.now }
+        ensures act { (code : CodeParts) (start : Start CodeScript) (found : Items ℕ) → IsBody code start found self.now → act_seen result.now ≡ stage_act (asks code) start found }
+    {
+        &self.act
+    }
+
+    /// The pending act has happened, and a load found this number, which else says nothing. The code is the one with which the body was
+    /// started. Condition: the body has not ended, and the act is no fault.
+    pub fn advance(&mut self, code: &Code, loaded: u64) -> Result<(), AllocError>
+        requires running { is_over self.old ≡ false }
+        requires goes { goes_on (pending_of self.old) ≡ true }
+        ensures { OnOk result ((start : Start CodeScript) (found : Items ℕ) → IsBody code.now start found self.old → IsBody code.now start (answer_to (act_seen (pending_of self.old)) loaded ∷ found) self.new) }
+    {
+        let act = mem::replace(&mut self.act, Act::End);
+        self.own.keep(&act);
+        self.tasks.apply(self.alloc, code, &act, loaded)?;
+        self.begun = true;
+        if self.tasks.ended {
+            return Ok(());
+        }
+        let included = !self.tasks.below.is_empty();
+        self.act = self
+            .tasks
+            .top
+            .next(self.alloc, code, &self.own.context, included)?;
+        Ok(())
+    }
+
+    /// The end of the body's own task is done.
+    pub fn ended(&self) -> bool
+        ensures kept { result ≡ is_over self.now }
+        ensures ended { (code : CodeParts) (start : Start CodeScript) (found : Items ℕ) → IsBody code start found self.now → result ≡ (stack_from (asks code) start found).ended }
+    {
+        self.tasks.ended
+    }
+
+    /// The body, at its start, of the task that the pending act creates. The code is the one with which this body was started. Condition: the body
+    /// has not ended, and the act is the creation of a task that is not included.
+    pub fn child(&self, code: &Code) -> Result<Body, AllocError>
+        requires running { is_over self.now ≡ false }
+        requires creates { creates (pending_of self.now) ≡ true }
+        ensures { IfOk result (λ child. (start : Start CodeScript) (found : Items ℕ) (order : Order CodeScript) → IsBody code.now start found self.now → stage_act (asks code.now) start found ≡ Created order false → IsBody code.now (child_start (stack_from (asks code.now) start found).base order) [] child) }
+    {
+        match &self.act {
+            Act::Create { creation, .. } => {
+                let own = Own::new(self.alloc, &creation.order, &creation.context)?;
+                let top = self.tasks.top.child(self.alloc, code, creation)?;
+                Body::begin(self.alloc, code, own, top)
+            }
+            Act::Tick => unreachable!(),
+            Act::Load(_) => unreachable!(),
+            Act::Store(_, _) => unreachable!(),
+            Act::Fold { .. } => unreachable!(),
+            Act::Await => unreachable!(),
+            Act::Wait => unreachable!(),
+            Act::WaitOn(_) => unreachable!(),
+            Act::Release { .. } => unreachable!(),
+            Act::Print { .. } => unreachable!(),
+            Act::End => unreachable!(),
+            Act::Fault { .. } => unreachable!(),
+        }
+    }
+
+    /// The accesses of the task, as it started with them: they give its rights and the marks of the cells that it may write, each cell
+    /// once, in rising order and as few as can be.
+    pub fn accesses(&self) -> Result<List<Access>, AllocError>
+        ensures rights { IfOk result (λ accesses. (code : CodeParts) (start : Start CodeScript) (found : Items ℕ) → IsBody code start found self.now → (c : ℕ) → right_from false accesses c ≡ held_right (right_of start.context c)) }
+        ensures marks { IfOk result (λ accesses. (code : CodeParts) (start : Start CodeScript) (found : Items ℕ) → IsBody code start found self.now → (c : ℕ) → mark_from false accesses c ≡ held_mark (right_of start.context c) (mark_of start.context c)) }
+        ensures rising { IfOk result (λ accesses. IsRising accesses) }
+    {
+        self.own.context.accesses()
+    }
+
+    /// What is in the slot of a cell of which the task has the right of a strong reduction: the fold of all that was folded into it. For every other
+    /// cell the number says nothing. It takes no memory.
+    pub fn slot(&self, cell: u32) -> u64
+        ensures { (code : CodeParts) (start : Start CodeScript) (found : Items ℕ) (op : Op) → IsBody code start found self.now → right_of start.context cell ≡ Holds (Fold op) true → result ≡ slot_of (asks code) start cell op found }
+    {
+        self.own.slot(cell)
+    }
+
+    /// The point of the task.
+    pub fn point(&self) -> &Point
+        ensures { (code : CodeParts) (start : Start CodeScript) (found : Items ℕ) → IsBody code start found self.now → result.now ≡ written start.path }
+    {
+        self.tasks.own_place().path()
+    }
+
+    /// Whether the task has released a cell. A task that it includes has not: that releases a right of its own. It takes no memory.
+    pub fn has_released(&self, cell: u32) -> bool
+        ensures { (code : CodeParts) (start : Start CodeScript) (found : Items ℕ) → IsBody code start found self.now → result ≡ is_released (right_of (stack_from (asks code) start found).base.context cell) }
+    {
+        self.tasks.own_place().context().has_released(cell)
+    }
+
+    /// Whether the task has the clause `wait`.
+    pub fn waits(&self) -> bool
+        ensures { (code : CodeParts) (start : Start CodeScript) (found : Items ℕ) → IsBody code start found self.now → result ≡ start.order.wait }
+    {
+        self.own.wait
+    }
+
+    /// The priority of the task. It orders nothing that the program can see.
+    pub fn priority(&self) -> i64
+        ensures { (code : CodeParts) (start : Start CodeScript) (found : Items ℕ) → IsBody code start found self.now → result ≡ start.order.priority }
+    {
+        self.own.priority
+    }
+
+    /// Whether an act of the body is done.
+    pub fn begun(&self) -> bool
+        ensures { (code : CodeParts) (start : Start CodeScript) (found : Items ℕ) → IsBody code start found self.now → result ≡ is_some found }
+    {
+        self.begun
+    }
+}

@@ -1,0 +1,14 @@
+//! Bodies: one task of a program and the tasks that it includes, each with its machine and what the judge knows of it.
+#![tactic(auto)]
+
+mod act;
+mod body;
+mod copies;
+mod frame;
+mod judging;
+mod own;
+mod place;
+mod tasks;
+
+pub use act::{Act, Creation};
+pub use body::Body;
