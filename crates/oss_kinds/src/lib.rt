@@ -11,7 +11,8 @@ mod table;
 
 pub use expressions::{call, expression, is_named_main, value, value_in};
 pub use finding::{
-    Finding, at_place, before, first_of, kind_of, kind_of_number, refused, refused_if, taken_by, wrong,
+    Finding, at_place, before, first_of, kind_of, kind_of_number, refused, refused_if, taken_by,
+    wrong,
 };
 pub use globals::Globals;
 pub use locals::Locals;
