@@ -92,7 +92,8 @@ impl Body {
     }
 
     /// The pending act has happened, and a load found this number, which else says nothing. The code is the one with which the body was
-    /// started. Condition: the body has not ended, and the act is no fault.
+    /// started. Where memory is wanting nothing is told of the body any more, and it is of no use but to be dropped. Condition: the body has
+    /// not ended, and the act is no fault.
     pub fn advance(&mut self, code: &Code, loaded: u64) -> Result<(), AllocError>
         requires running { is_over self.old ≡ false }
         requires goes { goes_on (pending_of self.old) ≡ true }
