@@ -1,0 +1,3 @@
+pub mod Turns
+pub mod Stages
+pub mod Runs
