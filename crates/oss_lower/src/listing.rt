@@ -3,6 +3,7 @@ ghost use Rattle.std.specs.Prelude.{◌≡◌, ◌+◌, ◌<◌, ◌∷◌, ◌+
 ghost use Rattle.oss_lower.specs.declared.lined.Lined.{Lined as Written};
 ghost use Rattle.oss_lower.specs.ExpressionCode.{one};
 ghost use Rattle.oss_lower.specs.Jumps.{jump_by};
+ghost use Rattle.oss_lower.specs.declared.listing.Jump.TheVariants.{Always as AlwaysMade};
 
 use crate::lined::Lined;
 use crate::numbers::{deeper, narrow};
@@ -85,6 +86,14 @@ impl Listing {
         let passed = deeper(narrow(self.code.len() - (at + 1))?, more)?;
         self.code[at].what = jump_by(jump, passed);
         Ok(())
+    }
+
+    /// Lets the first instruction, a jump that is made always, pass so many.
+    pub fn lead(&mut self, passed: u32)
+        requires { 0 < length self.old }
+        ensures { (l : Written) (rest : List Written) → self.old ≡ l ∷ rest → self.new ≡ one l.line l.depth (jump_by AlwaysMade passed) ++ rest }
+    {
+        self.code[0].what = Instr::Skip(passed);
     }
 
     /// Takes the instructions away behind the first so many.
