@@ -1,5 +1,4 @@
 pub mod Broken
-pub mod Built
 pub mod ExpressionRules
 pub mod Expressions
 pub mod Formats

@@ -1,10 +1,8 @@
--- What writing out task loops keeps: the globals, and each program that is built.
+-- What writing out task loops keeps: the globals.
 -- Read against: with `long x, a[3];` before a `main` with a task loop the names are `x` and `a`, and the sizes 1 and 3, before and
--- behind; `long x; int main() { x = 1; }` is built, and stays as it is; a program with a task loop in it is not built, and the one that
--- it is written out as is not built either.
-use Rattle.std.specs.Prelude.{◌≡◌, true}
+-- behind.
+use Rattle.std.specs.Prelude.{◌≡◌}
 use Rattle.oss_syntax.specs.declared.tree.program.Program.{Program}
-use Rattle.oss_grammar.specs.Built.{is_built}
 use Rattle.oss_grammar.specs.Layout.{names_of, sizes_of}
 use Rattle.oss_grammar.specs.TaskLoops.{program_written}
 
@@ -12,5 +10,3 @@ use Rattle.oss_grammar.specs.TaskLoops.{program_written}
 pub record Keeps (p : Program) : Type 0 where
   pub names : names_of (program_written p).items ≡ names_of p.items
   pub sizes : sizes_of (program_written p).items ≡ sizes_of p.items
-  pub built : is_built (program_written p) ≡ is_built p
-  pub same : is_built p ≡ true → program_written p ≡ p

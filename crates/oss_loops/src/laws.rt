@@ -4,8 +4,7 @@ ghost use Rattle.oss_loops.specs.Keeping.{Keeps};
 
 use oss_syntax::Program;
 
-/// Writing out task loops keeps the globals of a program, their names and their sizes. A program that is built stays as it is, and none
-/// becomes one that is built.
+/// Writing out task loops keeps the globals of a program, their names and their sizes.
 pub fn writing_out_keeps(program: &Program)
     ensures { Keeps program.now }
 {}

@@ -1,11 +1,9 @@
 //! Programs that break no rule.
 ghost use Rattle.std.specs.Prelude.{◌≡◌, ◌+◌, ◌<◌, ◌≤◌, [], length};
-ghost use Rattle.oss_grammar.specs.Built.{is_built};
 ghost use Rattle.oss_grammar.specs.Layout.{cells_in, sizes_of, start_of, names_of};
 ghost use Rattle.oss_grammar.specs.ProgramRules.{program_rules};
 ghost use Rattle.oss_names.specs.Resolved.{IsResolved, IsWrittenOut, bounds_of};
 
-use crate::built::program_is_built;
 use crate::program::check;
 use oss_loops::write_out;
 use oss_syntax::{Program, Range, Refusal};
@@ -70,15 +68,6 @@ impl Known {
         ensures few { length (names_of result.now.items) ≤ 1048576 }
     {
         &self.program
-    }
-
-    /// Whether the sequential run of scalars means the program: its globals are scalars, `main` is its one function, and
-    /// its statements are assignments and prints of sums, blocks, tasks with `in`, `out` and `inout` of scalars, and waits. A
-    /// task loop that is written out has a loop, so a program with one is none of these. It takes no memory.
-    pub fn built(&self) -> bool
-        ensures { result ≡ is_built self.now }
-    {
-        program_is_built(&self.program)
     }
 
     /// How many globals there are, scalars and arrays.

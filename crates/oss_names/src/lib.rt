@@ -1,7 +1,6 @@
 //! The static rules of programs, and where each global lies.
 #![tactic(auto)]
 
-mod built;
 mod heads;
 mod known;
 mod program;

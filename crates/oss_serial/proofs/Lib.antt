@@ -1,2 +1,3 @@
-pub mod GlobalLemmas
-pub mod RunLemmas
+pub mod CountLemmas
+pub mod TurnLemmas
+pub mod StageLemmas

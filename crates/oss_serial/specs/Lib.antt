@@ -1,3 +1,3 @@
-pub mod Endings
-pub mod Globals
-pub mod Scalars
+pub mod Turns
+pub mod Stages
+pub mod Runs

@@ -1,10 +1,8 @@
-//! The sequential run: one statement after the other, each task where it is created.
+//! The sequential run: one act after the other, each task where it is created.
 #![tactic(auto)]
 
-mod accesses;
 mod run;
-mod state;
-mod stop;
-mod variables;
+mod stage;
+mod turn;
 
-pub use run::{Ran, main_statements, serial_tree};
+pub use run::{Ran, serial};

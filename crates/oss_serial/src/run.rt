@@ -1,162 +1,81 @@
-ghost use Rattle.std.specs.Prelude.{◌≡◌, ◌≤◌, length, IfOk};
-ghost use Rattle.oss_grammar.specs.Layout.{names_of};
-ghost use Rattle.oss_serial.specs.Scalars.{answer_of, main_body, mark_accesses, run_of, runs_of, task_run, tasks_of};
-ghost use Rattle.oss_serial.specs.Endings.{EndsAs};
+//! The sequential run of a code.
 
-use crate::accesses::declared;
-use crate::state::State;
-use crate::stop::{Stop, stop_at};
-use crate::variables::Variables;
-use oss_model::Answer;
-use oss_syntax::{Item, Program, Stmt, StmtKind, TaskMark};
+ghost use Rattle.std.specs.Prelude.{◌≡◌, ◌≤◌, length, IfOk};
+ghost use Rattle.oss_model.specs.Agreement.{AreWords, Setting};
+ghost use Rattle.oss_machine.specs.Asks.{meant_order};
+ghost use Rattle.oss_serial.specs.Runs.{IsRan, code_main, main_order as main_order_of_code};
+ghost use Rattle.oss_serial.specs.Stages.{IsStage};
+
+use crate::stage::{Stage, Turned};
+use oss_body::Body;
+use oss_code::{Code, TaskOrder};
+use oss_judge::Context;
+use oss_model::{Answer, Point};
+use oss_syntax::List;
 use std::alloc::{AllocError, Global};
 
-/// The answer of a run, and how many tasks it had: main, and each that was created and not included.
+/// What a sequential run gives.
 #[derive(Debug, Drop)]
 pub struct Ran {
+    /// The output and the cells at its end, or the fault that stopped it with the output before it.
     pub answer: Answer,
+    /// How many tasks it had: main and each that was created and not included. The count stays at its greatest value.
     pub tasks: u64,
 }
 
-/// Runs a program one statement after the other, where a task may do `fuel` ticks. Its meaning is that of programs of
-/// scalars with tasks: what else a tree may have (branches, loops, calls, returns, other clauses) means no more than its
-/// tick. Condition: it has at most 1,048,576 globals. Want of memory is the one error.
-pub fn serial_tree(alloc: Global, program: &Program, fuel: u32) -> Result<Ran, AllocError>
-    requires { length (names_of program.now.items) ≤ 1048576 }
-    ensures answer { IfOk result (λ ran. ran.answer ≡ answer_of program.now fuel) }
-    ensures tasks { IfOk result (λ ran. ran.tasks ≡ tasks_of program.now fuel) }
+/// Runs a code on one thread: a task runs where it is created, and its creator goes on behind its end (OmpSs-2, execution model). Each
+/// task has fuel for so many ticks. The answer and the number of tasks are those of the definition; want of memory is the one other answer.
+/// Condition: the code has at most 1,048,576 cells.
+pub fn serial(alloc: Global, code: &Code, fuel: u32) -> Result<Ran, AllocError>
+    requires { length code.now.first ≤ 1048576 }
+    ensures { IfOk result (λ ran. IsRan code.now fuel ran) }
 {
-    let items = program.items.as_slice();
-    let variables = Variables::of(alloc, items)?;
-    let mut state = State::opening(alloc, items, fuel)?;
-    match run_all(alloc, &variables, main_statements(items), &mut state) {
-        Ok(()) => {
-            let (answer, tasks) = state.into_answer();
-            Ok(Ran { answer, tasks })
+    let mut stage = begin(alloc, code, fuel)?;
+    'turns: loop {
+        match stage.turn(code)? {
+            Turned::On => {}
+            Turned::Ended => return Ok(stage.done()),
+            Turned::Failed(kind, line) => return Ok(stage.failed(kind, line)),
         }
-        Err(Stop::Fault(kind, line)) => {
-            let (output, tasks) = state.into_output();
-            Ok(Ran {
-                answer: Answer::Fault(kind, line, output),
-                tasks,
-            })
-        }
-        Err(Stop::Memory(full)) => Err(full),
     }
 }
 
-/// The statements of the function `main`.
-pub fn main_statements(items: &[Item]) -> &[Stmt]
-    ensures { result.now ≡ main_body items.now }
+/// The run at its beginning.
+fn begin(alloc: Global, code: &Code, fuel: u32) -> Result<Stage, AllocError>
+    requires { length code.now.first ≤ 1048576 }
+    ensures stage { IfOk result (λ stage. IsStage code.now (code_main code.now fuel) code.now.first stage) }
+    ensures setting { IfOk result (λ stage. Setting (code_main code.now fuel) code.now.first) }
 {
-    for item in items {
-        match item {
-            Item::Function(function) => {
-                if function.name.as_slice() == b"main".as_slice() {
-                    return function.body.as_slice();
-                }
-            }
-            Item::Global(_) => {}
-        }
-    }
-    &[]
+    let first = code.first().as_slice();
+    are_words(first);
+    let order = main_order(alloc);
+    let context = Context::main(alloc, first.len() as u32, fuel)?;
+    let current = Body::start(alloc, code, &order, context, Point::main(alloc)?)?;
+    Ok(Stage {
+        current,
+        above: List::new(alloc),
+        cells: Vec::from_slice(alloc, first)?,
+        output: Vec::new(alloc),
+        tasks: 1,
+    })
 }
 
-/// Runs statements in order.
-#[cycle(statements)]
-fn run_all(
-    alloc: Global,
-    variables: &Variables<'_>,
-    statements: &[Stmt],
-    state: &mut State,
-) -> Result<(), Stop>
-    ensures { EndsAs (runs_of statements.now variables.now.names variables.now.kinds state.old) result state.new }
-{
-    for statement in statements {
-        run_one(alloc, variables, statement, state)?;
-    }
-    Ok(())
-}
+/// A fact alone: a number of 64 bits is one.
+fn are_words(cells: &[u64])
+    ensures { AreWords cells.now }
+{}
 
-/// Runs one statement.
-#[cycle(statements)]
-fn run_one(
-    alloc: Global,
-    variables: &Variables<'_>,
-    statement: &Stmt,
-    state: &mut State,
-) -> Result<(), Stop>
-    ensures { EndsAs (run_of statement.now variables.now.names variables.now.kinds state.old) result state.new }
+/// What main is to run.
+fn main_order(alloc: Global) -> TaskOrder
+    ensures { meant_order result ≡ main_order_of_code }
 {
-    let line = statement.line;
-    match &statement.what {
-        StmtKind::Block(all) => run_all(alloc, variables, all.as_slice(), state),
-        StmtKind::Assign(target, None, value) => {
-            state.tick(line)?;
-            state.assign(variables, line, target, value)
-        }
-        StmtKind::Print(format, arguments) => {
-            state.tick(line)?;
-            state.print(
-                alloc,
-                variables,
-                line,
-                format.as_slice(),
-                arguments.as_slice(),
-            )
-        }
-        StmtKind::Task(mark, body) => {
-            state.tick(line)?;
-            run_task(alloc, variables, line, mark, body.get(), state)
-        }
-        StmtKind::TaskWait(None) => {
-            state.tick(line)?;
-            state.wait();
-            Ok(())
-        }
-        StmtKind::Assign(_, Some(_), _) => state.tick(line),
-        StmtKind::TaskWait(Some(_)) => state.tick(line),
-        StmtKind::Empty => state.tick(line),
-        StmtKind::Declare(_) => state.tick(line),
-        StmtKind::Call(_, _) => state.tick(line),
-        StmtKind::If(_, _, _) => state.tick(line),
-        StmtKind::While(_, _) => state.tick(line),
-        StmtKind::For(_, _, _, _) => state.tick(line),
-        StmtKind::Return(_) => state.tick(line),
-        StmtKind::Break => state.tick(line),
-        StmtKind::Continue => state.tick(line),
-        StmtKind::TaskLoop(_, _) => state.tick(line),
-        StmtKind::Release(_) => state.tick(line),
-    }
-}
-
-/// Creates a task and runs it to its end, and then goes on with its creator.
-#[cycle(statements)]
-fn run_task(
-    alloc: Global,
-    variables: &Variables<'_>,
-    line: u32,
-    mark: &TaskMark,
-    body: &Stmt,
-    state: &mut State,
-) -> Result<(), Stop>
-    ensures { EndsAs (task_run (mark_accesses variables.now.names mark.now.clauses) line (λ child. run_of body.now variables.now.names variables.now.kinds child) state.old) result state.new }
-{
-    match state.may_create() {
-        Ok(()) => {}
-        Err(kind) => return Err(Stop::Fault(kind, line)),
-    }
-    let accesses = match declared(alloc, variables, mark.clauses.as_slice()) {
-        Ok(accesses) => accesses,
-        Err(full) => return Err(Stop::Memory(full)),
-    };
-    let creator = match state.enter(&accesses) {
-        Ok(creator) => creator,
-        Err(refused) => return Err(stop_at(line, refused)),
-    };
-    run_one(alloc, variables, body, state)?;
-    match state.leave(creator, &accesses) {
-        Ok(()) => Ok(()),
-        Err(full) => Err(Stop::Memory(full)),
+    TaskOrder {
+        entry: 0,
+        copies: List::new(alloc),
+        accesses: List::new(alloc),
+        when: true,
+        last: false,
+        wait: false,
+        priority: 0,
     }
 }

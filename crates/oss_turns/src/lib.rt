@@ -1,8 +1,0 @@
-//! The sequential run: one act after the other, each task where it is created.
-#![tactic(auto)]
-
-mod run;
-mod stage;
-mod turn;
-
-pub use run::{Ran, serial};
