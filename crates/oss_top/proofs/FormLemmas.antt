@@ -4,7 +4,7 @@ use Rattle.std.specs.Prelude.{IfOk, IfSome}
 use Rattle.std.specs.Io.KnownBytes.{append_known}
 use Rattle.std.proofs.lemmas.List.{append-nil, length-replicate}
 use Rattle.oss_io.specs.Spans.{ShelfSpan, ShelfQuiet, SinkSpan, TookWhole}
-use Rattle.oss_top.specs.CommandWords.{Command, asked_of, file_of}
+use Rattle.oss_command.specs.Commands.{Command, asked_of, file_of}
 use Rattle.oss_top.specs.Reply.{IsReply, IsOutcome, error_reply, most_bytes, too_large_line}
 use Rattle.oss_top.specs.Reply.IsFileReply.{too_large}
 use Rattle.oss_top.specs.Reply.IsOutcome.{written}

@@ -1,4 +1,5 @@
 pub mod FormLemmas
 pub mod KnownLemmas
+pub mod OutcomeLemmas
 pub mod ReplyLemmas
 pub mod SomeReply

@@ -1,23 +1,24 @@
 -- A text has one reply at most, and where nothing fails it is the one that comes.
-use Rattle.std.proofs.Common.{◌≡◌, ℕ, Bool, true, false, List, Option, Some, None, sym, ap, ◌∙◌, subst, arith, ◌⊎◌, inl, inr}
+use Rattle.std.proofs.Common.{◌≡◌, ℕ, List, Option, Some, None, sym, ap, ◌∙◌, subst, arith, ◌⊎◌, inl, inr}
 use Rattle.std.specs.Prelude.{IfSome}
 use Rattle.oss_io.specs.Spans.{ShelfSpan, ShelfFailed, SinkSpan, SinkFailed}
 use Rattle.oss_syntax.specs.declared.tree.program.Program.{Program}
 use Rattle.oss_syntax.specs.declared.refusal.Refused.{Refused}
 use Rattle.oss_grammar.specs.Broken.{first}
-use Rattle.oss_grammar.specs.Built.{is_built}
 use Rattle.oss_grammar.specs.Parsing.{IsParsedOnce}
 use Rattle.oss_grammar.specs.ProgramRules.{refusal_of}
 use Rattle.oss_grammar.specs.TaskLoops.{program_written}
 use Rattle.oss_model.specs.Texts.{refusal_line}
 use Rattle.oss_parse.proofs.OneProgram.{parsed_once}
-use Rattle.oss_top.specs.CommandWords.{Command, asked_of, file_of}
+use Rattle.oss_command.specs.Commands.{Command, asked_of, file_of}
+use Rattle.oss_command.specs.declared.options.Options.{Options}
+use Rattle.oss_top.proofs.OutcomeLemmas.{one_outcome}
 use Rattle.oss_top.specs.OneReply.{IsReplied}
 use Rattle.oss_top.specs.ProgramTexts.{Accepts, Refuses}
 use Rattle.oss_top.specs.ProgramTexts.Refuses.{by_grammar, by_rules}
 use Rattle.oss_top.proofs.SomeReply.{file_reply}
-use Rattle.oss_top.specs.Reply.{IsReply, IsFileReply, IsTextReply, IsProgramReply, IsUnwritten, IsOutcome, IsComplete, error_reply}
-use Rattle.oss_top.specs.Reply.IsProgramReply.{checked, ran, not_built}
+use Rattle.oss_top.specs.Reply.{IsReply, IsFileReply, IsTextReply, IsProgramReply, IsRunReply, IsUnwritten, IsOutcome, IsComplete, answer_reply, error_reply}
+use Rattle.oss_top.specs.Reply.IsProgramReply.{checked, ran}
 use Rattle.oss_top.specs.Reply.IsTextReply.{accepted, refused_text}
 use Rattle.oss_top.specs.Reply.IsFileReply.{too_large, fits}
 use Rattle.oss_top.specs.Reply.IsReply.{usage, unread, by_text, no_memory}
@@ -27,18 +28,16 @@ use Rattle.oss_top.specs.Statuses.{number_of}
 use Rattle.oss_top.specs.declared.reply.Reply.{Reply}
 use Rattle.oss_top.specs.declared.status.Status.TheVariants as status
 
-not_both : (b : Bool) → b ≡ true → b ≡ false → ⊥
-not_both b t f = absurd (cc)
-
 one_some : (r other : Refused) (o : Option Refused) → o ≡ Some r → o ≡ Some other → r ≡ other
 one_some r other o a b = cc
 
+run_once : (options : Options) (p : Program) (reply other : Reply) → IsRunReply options p reply → IsRunReply options p other → reply ≡ other
+run_once options p reply other x y =
+    x.is_reply ∙ ap (λ o. answer_reply options.dump p o.answer) (one_outcome p.items options.fuel x.outcome y.outcome x.is_outcome y.is_outcome) ∙ sym y.is_reply
+
 program_once : (c : Command) (p : Program) (reply other : Reply) → IsProgramReply c p reply → IsProgramReply c p other → reply ≡ other
 program_once c p reply other (checked x) (checked y) = x ∙ sym y
-program_once c p reply other (ran b x) (ran d y) = x ∙ sym y
-program_once c p reply other (ran b x) (not_built n y) = absurd (not_both (is_built p) b n)
-program_once c p reply other (not_built n x) (ran b y) = absurd (not_both (is_built p) b n)
-program_once c p reply other (not_built n x) (not_built m y) = x ∙ sym y
+program_once c p reply other (ran {options} x) (ran y) = run_once options p reply other x y
 
 module _ (text : List ℕ) (once : IsParsedOnce text) where
   -- a text that is accepted is not refused

@@ -9,12 +9,10 @@ use Rattle.oss_syntax.specs.declared.refusal.Refused.{Refused}
 use Rattle.oss_syntax.specs.declared.refusal.RefusedKind.{RefusedKind}
 use Rattle.oss_syntax.specs.declared.refusal.Refusal.TheVariants as refusal
 use Rattle.oss_grammar.specs.Broken.{first}
-use Rattle.oss_grammar.specs.Built.{is_built}
 use Rattle.oss_grammar.specs.Parsing.{IsProgramText, IsTextRefusal}
 use Rattle.oss_grammar.specs.Parsing.IsTextRefusal.{by_tokens}
 use Rattle.oss_grammar.specs.ProgramRules.{program_rules}
 use Rattle.oss_grammar.specs.TaskLoops.{program_written}
-use Rattle.oss_serial.specs.Scalars.{answer_of}
 use Rattle.oss_model.specs.Texts.{refusal_line}
 use Rattle.oss_grammar.specs.Tokens.{Front, IsFront, Tokens, Stops}
 use Rattle.oss_grammar.specs.Tokens.Tokens.{done, step}
@@ -25,12 +23,13 @@ use Rattle.oss_lex.proofs.Walk.{step_shorter}
 use Rattle.oss_parse.specs.Parsed.{told_of}
 use Rattle.oss_parse.specs.ProgramReading.{read_text}
 use Rattle.oss_parse.proofs.ParsedLemmas.{parsed}
-use Rattle.oss_top.specs.CommandWords.{Command}
-use Rattle.oss_top.specs.CommandWords.Command.{run, check}
+use Rattle.oss_command.specs.Commands.{Command}
+use Rattle.oss_command.specs.Commands.Command.{run, check}
+use Rattle.oss_top.proofs.OutcomeLemmas.{some_outcome}
 use Rattle.oss_top.specs.ProgramTexts.{Refuses}
 use Rattle.oss_top.specs.ProgramTexts.Refuses.{by_grammar, by_rules}
-use Rattle.oss_top.specs.Reply.{IsFileReply, IsTextReply, IsProgramReply, accepted_line, answer_reply, done_reply, error_reply, most_bytes, run_fuel, too_large_line, unsupported_line}
-use Rattle.oss_top.specs.Reply.IsProgramReply.{checked, ran, not_built}
+use Rattle.oss_top.specs.Reply.{IsFileReply, IsTextReply, IsProgramReply, accepted_line, answer_reply, done_reply, error_reply, most_bytes, too_large_line}
+use Rattle.oss_top.specs.Reply.IsProgramReply.{checked, ran}
 use Rattle.oss_top.specs.Reply.IsTextReply.{accepted, refused_text}
 use Rattle.oss_top.specs.Reply.IsFileReply.{too_large, fits}
 use Rattle.oss_top.specs.declared.reply.Reply.{Reply}
@@ -73,10 +72,9 @@ some_parse text = from (some_reading (length text) Beginning 1 text (omega arith
 
 program_reply : (c : Command) (p : Program) → (reply : Reply) × IsProgramReply c p reply
 program_reply (check file) p = (done_reply accepted_line, checked refl)
-program_reply (run file) p = on (is_built p) refl where
-  on : (b : Bool) → is_built p ≡ b → (reply : Reply) × IsProgramReply (run file) p reply
-  on true e = (answer_reply (answer_of p run_fuel), ran e refl)
-  on false e = (error_reply status.TextRefused unsupported_line, not_built e refl)
+program_reply (run file options) p =
+    let (o, is) = some_outcome p.items options.fuel in
+    (answer_reply options.dump p o.answer, ran (record { outcome = o; is_outcome = is; is_reply = refl }))
 
 text_reply : (c : Command) (text : List ℕ) → (reply : Reply) × IsTextReply c text reply
 text_reply c text = from (some_parse text) where

@@ -1,4 +1,3 @@
-pub mod CommandWords
 pub mod OneReply
 pub mod ProgramTexts
 pub mod Reply

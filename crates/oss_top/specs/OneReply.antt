@@ -1,8 +1,8 @@
 -- A text has one reply to a command: there is one, and two by their definition are equal in status, output and error output.
 -- Read against: a text is accepted as one program or refused for one reason, since its grammar leaves no choice; and a text that is
--- too long is refused as that, whatever stands in it.
+-- too long is refused as that, whatever stands in it; and the sequential run of a program comes to its end, and to one.
 use Rattle.std.specs.Prelude.{◌≡◌, ℕ, List}
-use Rattle.oss_top.specs.CommandWords.{Command}
+use Rattle.oss_command.specs.Commands.{Command}
 use Rattle.oss_top.specs.Reply.{IsFileReply}
 use Rattle.oss_top.specs.declared.reply.Reply.{Reply}
 

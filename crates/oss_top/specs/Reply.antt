@@ -8,10 +8,10 @@
 --     5  Unwritten      a text could not be written      a prefix of it                   a prefix of it, behind the whole output alone
 --     6  OutOfMemory    memory is wanting                nothing                          nothing
 --
--- Read against: of `long a[2]; int main() { }` the reply to `check` is Done with `ok`, and to `run` TextRefused with Unsupported at
--- line 1, and so with a task loop in `main`, since its block has a loop; of the empty text it is TextRefused with NoMain at line 1 to
--- both; and of words that are refused, no file is read.
-use Rattle.std.specs.Prelude.{◌≡◌, ◌≤◌, ◌<◌, ◌⊎◌, ℕ, true, false, List, [], ◌∷◌, ◌++◌, length, Some, None, IfSome, codes}
+-- Read against: of `long x; int main() { x = 1; }` the reply to `check` is Done with `ok`, to `run` Done with nothing, and to `run --dump` Done with the line
+-- `x = 1`; with `x = 1 / x;` in its place the reply to `run`, with a dump or without, is Fault with nothing on the output and DivideByZero at line 1; of the empty text
+-- it is TextRefused with NoMain at line 1 to both commands; and of words that are refused, no file is read.
+use Rattle.std.specs.Prelude.{◌≡◌, ◌≤◌, ◌<◌, ◌⊎◌, ℕ, Bool, true, false, List, [], ◌∷◌, ◌++◌, length, Some, None, IfSome, codes}
 use Rattle.oss_io.specs.Spans.{ShelfSpan, ShelfFailed, ShelfQuiet, SinkSpan, SinkFailed, TookWhole, TookPart, Untouched}
 use Rattle.oss_syntax.specs.declared.tree.program.Program.{Program}
 use Rattle.oss_syntax.specs.declared.refusal.Refused.{Refused}
@@ -19,29 +19,24 @@ use Rattle.oss_syntax.specs.declared.refusal.RefusedKind.TheVariants as refused
 use Rattle.oss_model.specs.declared.answer.Answer.{Answer}
 use Rattle.oss_model.specs.declared.answer.Answer.TheVariants.{Done, Fault}
 use Rattle.oss_model.specs.Texts.{fault_line, refusal_line}
-use Rattle.oss_grammar.specs.Built.{is_built}
 use Rattle.oss_grammar.specs.TaskLoops.{program_written}
-use Rattle.oss_serial.specs.Scalars.{answer_of}
-use Rattle.oss_top.specs.CommandWords.{Command, asked_of, file_of, usage_line}
-use Rattle.oss_top.specs.CommandWords.Command.{run, check}
+use Rattle.oss_meaning.specs.Results.{IsOutcomeOf, Outcome}
+use Rattle.oss_report.specs.Dumps.{dump_text}
+use Rattle.oss_command.specs.Commands.{Command, asked_of, file_of, usage_line}
+use Rattle.oss_command.specs.Commands.Command.{run, check}
+use Rattle.oss_command.specs.declared.options.Options.{Options}
 use Rattle.oss_top.specs.ProgramTexts.{Accepts, Refuses}
 use Rattle.oss_top.specs.Statuses.{number_of}
 use Rattle.oss_top.specs.declared.reply.Reply.{Reply}
 use Rattle.oss_top.specs.declared.status.Status.{Status}
 use Rattle.oss_top.specs.declared.status.Status.TheVariants as status
 
--- the most bytes of a program text, and the ticks of a task
+-- the most bytes of a program text
 abbrev pub most_bytes : ℕ
 most_bytes = 1048576
 
-abbrev pub run_fuel : ℕ
-run_fuel = 1000000
-
 abbrev pub accepted_line : List ℕ
 accepted_line = codes "ok" ++ 10 ∷ []
-
-abbrev pub unsupported_line : List ℕ
-unsupported_line = refusal_line refused.Unsupported 1
 
 abbrev pub too_large_line : List ℕ
 too_large_line = refusal_line refused.TooLarge 1
@@ -57,19 +52,26 @@ done_reply text = record { status = status.Done; out = text; err = [] }
 abbrev pub error_reply : Status → List ℕ → Reply
 error_reply s line = record { status = s; out = []; err = line }
 
--- the reply to a run that has this answer
-abbrev pub answer_reply : Answer → Reply
-answer_reply (Done text cells) = done_reply text
-answer_reply (Fault kind line text) = record { status = status.Fault; out = text; err = fault_line kind line }
+-- what stands behind the output of a run that ended with these cells: what the globals hold, where a dump is asked for
+abbrev pub dump_behind : Bool → Program → List ℕ → List ℕ
+dump_behind false program cells = []
+dump_behind true program cells = dump_text program.items cells
 
--- The reply to a program that breaks no rule. A check accepts it. A run has the answer of the program's sequential run, or refuses it
--- where that run is not built.
+-- the reply to a run of the program that has this answer, with a dump or without
+abbrev pub answer_reply : Bool → Program → Answer → Reply
+answer_reply dump program (Done text cells) = done_reply (text ++ dump_behind dump program cells)
+answer_reply dump program (Fault kind line text) = record { status = status.Fault; out = text; err = fault_line kind line }
+
+-- The reply to a run of a program that breaks no rule, with these options: that of the answer of its sequential run, in which each task has so much fuel.
+pub record IsRunReply (options : Options) (program : Program) (reply : Reply) : Type 0 where
+  pub outcome : Outcome
+  pub is_outcome : IsOutcomeOf program.items options.fuel outcome
+  pub is_reply : reply ≡ answer_reply options.dump program outcome.answer
+
+-- The reply to a program that breaks no rule: a check accepts it, and a run runs it.
 pub data IsProgramReply : Command → Program → Reply → Type 0 where
   checked : {file : List ℕ} {program : Program} {reply : Reply} → reply ≡ done_reply accepted_line → IsProgramReply (check file) program reply
-  ran : {file : List ℕ} {program : Program} {reply : Reply}
-      → is_built program ≡ true → reply ≡ answer_reply (answer_of program run_fuel) → IsProgramReply (run file) program reply
-  not_built : {file : List ℕ} {program : Program} {reply : Reply}
-      → is_built program ≡ false → reply ≡ error_reply status.TextRefused unsupported_line → IsProgramReply (run file) program reply
+  ran : {file : List ℕ} {options : Options} {program : Program} {reply : Reply} → IsRunReply options program reply → IsProgramReply (run file options) program reply
 
 -- the reply to a text of at most 1,048,576 bytes: that to its program with each task loop written out, where it is accepted
 pub data IsTextReply (c : Command) (text : List ℕ) (reply : Reply) : Type 0 where

@@ -4,14 +4,14 @@
 mod known;
 mod laws;
 mod reply;
+mod run;
 mod status;
 #[cfg(test)]
 mod tests;
 mod texts;
 mod top;
-mod words;
 
 pub use laws::a_text_has_one_reply;
+pub use oss_command::{Command, Options, RunMode, WordsRefused, read_words};
 pub use status::Status;
 pub use top::{Sinks, nest6};
-pub use words::{Asked, WordsRefused, read_words};

@@ -4,26 +4,22 @@ ghost use Rattle.std.specs.Prelude.{◌≡◌, ◌≤◌, length, map, IfOk};
 ghost use Rattle.std.specs.String.{string_bytes};
 ghost use Rattle.oss_io.specs.Spans.{shelf_span};
 ghost use Rattle.oss_model.specs.Texts.{refusal_line as line_of_refusal};
-ghost use Rattle.oss_top.specs.CommandWords.{meant};
-ghost use Rattle.oss_top.specs.Reply.{IsProgramReply, IsReply, IsTextReply, answer_reply, done_reply, error_reply};
+ghost use Rattle.oss_command.specs.Commands.{meant};
+ghost use Rattle.oss_top.specs.Reply.{IsProgramReply, IsReply, IsTextReply, done_reply, error_reply};
 
 use crate::known::known;
+use crate::run::reply_to_run;
 use crate::status::Status;
 use crate::texts;
-use crate::words::{Asked, read_words};
+use oss_command::{Command, read_words};
 use oss_io::{Shelf, ShelfFault};
-use oss_model::Answer;
 use oss_names::Known;
-use oss_report::{fault_line, refusal_line};
-use oss_serial::serial_tree;
+use oss_report::refusal_line;
 use oss_syntax::{Bytes, Refusal, Refused, RefusedKind};
 use std::alloc::{AllocError, Global};
 
 /// The most bytes of a program text.
 const MOST_BYTES: usize = 1_048_576;
-
-/// The ticks of a task.
-const FUEL: u32 = 1_000_000;
 
 /// A status, and the texts for the output and the error output.
 #[derive(Debug, Drop)]
@@ -46,7 +42,7 @@ impl Reply {
     }
 
     /// The reply to a command that is done.
-    fn done(alloc: Global, text: Bytes) -> Reply
+    pub fn done(alloc: Global, text: Bytes) -> Reply
         ensures { result ≡ done_reply text }
     {
         Reply {
@@ -65,18 +61,18 @@ pub fn reply_to<S: Shelf>(
 ) -> Result<Reply, AllocError>
     ensures { IfOk result (λ reply. IsReply (map string_bytes words.now) (shelf_span S.held S.faults S.last shelf.old shelf.new) reply) }
 {
-    let asked = match read_words(words) {
-        Ok(asked) => asked,
+    let command = match read_words(words) {
+        Ok(command) => command,
         Err(_) => {
             let line = texts::usage(alloc)?;
             return Ok(Reply::error(alloc, Status::WordsRefused, line));
         }
     };
     let mut text = Vec::new(alloc);
-    match shelf.read(asked.file(), MOST_BYTES, &mut text) {
-        Ok(()) => reply_to_text(alloc, asked, text.as_slice()),
+    match shelf.read(command.file(), MOST_BYTES, &mut text) {
+        Ok(()) => reply_to_text(alloc, command, text.as_slice()),
         Err(ShelfFault::Failed) => {
-            let line = texts::unread(alloc, asked.file())?;
+            let line = texts::unread(alloc, command.file())?;
             Ok(Reply::error(alloc, Status::Unread, line))
         }
         Err(ShelfFault::TooLong) => refused(alloc, RefusedKind::TooLarge),
@@ -85,12 +81,12 @@ pub fn reply_to<S: Shelf>(
 }
 
 /// The reply to the text of a file.
-fn reply_to_text(alloc: Global, asked: Asked<'_>, text: &[u8]) -> Result<Reply, AllocError>
+fn reply_to_text(alloc: Global, command: Command<'_>, text: &[u8]) -> Result<Reply, AllocError>
     requires { length text.now ≤ 1048576 }
-    ensures { IfOk result (λ reply. IsTextReply (meant asked.entry) text.now reply) }
+    ensures { IfOk result (λ reply. IsTextReply (meant command.entry) text.now reply) }
 {
     match known(alloc, text) {
-        Ok(known) => reply_to_program(alloc, asked, &known),
+        Ok(known) => reply_to_program(alloc, command, &known),
         Err(Refusal::Refused(refused)) => {
             let line = refusal_line(alloc, &refused)?;
             Ok(Reply::error(alloc, Status::TextRefused, line))
@@ -100,35 +96,16 @@ fn reply_to_text(alloc: Global, asked: Asked<'_>, text: &[u8]) -> Result<Reply, 
 }
 
 /// The reply to a program that breaks no rule.
-fn reply_to_program(alloc: Global, asked: Asked<'_>, known: &Known) -> Result<Reply, AllocError>
-    ensures { IfOk result (λ reply. IsProgramReply (meant asked.entry) known.now reply) }
+fn reply_to_program(
+    alloc: Global,
+    command: Command<'_>,
+    known: &Known,
+) -> Result<Reply, AllocError>
+    ensures { IfOk result (λ reply. IsProgramReply (meant command.entry) known.now reply) }
 {
-    match asked {
-        Asked::Check(_) => Ok(Reply::done(alloc, texts::accepted(alloc)?)),
-        Asked::Run(_) => {
-            if !known.built() {
-                return refused(alloc, RefusedKind::Unsupported);
-            }
-            let ran = serial_tree(alloc, known.program(), FUEL)?;
-            reply_to_answer(alloc, ran.answer)
-        }
-    }
-}
-
-/// The reply to a run, which has its output.
-fn reply_to_answer(alloc: Global, answer: Answer) -> Result<Reply, AllocError>
-    ensures { IfOk result (λ reply. reply ≡ answer_reply answer) }
-{
-    match answer {
-        Answer::Done(output, _) => Ok(Reply::done(alloc, output)),
-        Answer::Fault(kind, line, output) => {
-            let line = fault_line(alloc, kind, line)?;
-            Ok(Reply {
-                status: Status::Fault,
-                out: output,
-                err: line,
-            })
-        }
+    match command {
+        Command::Check(_) => Ok(Reply::done(alloc, texts::accepted(alloc)?)),
+        Command::Run(_, options) => reply_to_run(alloc, known, options),
     }
 }
 

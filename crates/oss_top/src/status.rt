@@ -12,7 +12,7 @@ pub enum Status {
     Fault,
     /// The words are no command with its operands.
     WordsRefused,
-    /// The file is too long, its text is no program, or the program cannot be run yet.
+    /// The file is too long, or its text is no program.
     TextRefused,
     /// The file could not be read.
     Unread,

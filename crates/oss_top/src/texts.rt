@@ -1,7 +1,7 @@
 //! The lines that the top call tells of words, of files and of a check.
 
 ghost use Rattle.std.specs.Prelude.{◌≡◌, IfOk};
-ghost use Rattle.oss_top.specs.CommandWords.{usage_line};
+ghost use Rattle.oss_command.specs.Commands.{usage_line};
 ghost use Rattle.oss_top.specs.Reply.{accepted_line, unread_line};
 
 use oss_syntax::Bytes;

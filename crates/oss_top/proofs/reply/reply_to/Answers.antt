@@ -1,6 +1,6 @@
 use Rattle.std.proofs.Common.{◌≡◌, ◌∙◌, ◌<◌, ◌≤◌, Err, List, ℕ, ap, length, sym, subst}
 use Rattle.std.specs.Prelude.{IfSome}
-use Rattle.oss_top.specs.CommandWords.{meant}
+use Rattle.oss_command.specs.Commands.{meant}
 use Rattle.oss_top.specs.Reply.{error_reply, most_bytes, unread_line}
 use Rattle.oss_top.specs.Reply.IsFileReply.{fits}
 use Rattle.oss_top.specs.Reply.IsReply.{by_text, unread}
@@ -16,17 +16,17 @@ returns-in-Ok-read g c =
     let few : length text ≤ most_bytes = subst (λ (xs : List ℕ). length xs ≤ most_bytes) (sym c.as_slice.ensures.value) c.in-Ok-read.ensures.within in
     let all : IfSome (held c.file.result.now) (λ t. text ≡ t) = subst (λ (xs : List ℕ). IfSome (held c.file.result.now) (λ t. xs ≡ t)) (sym c.as_slice.ensures.value) c.in-Ok-read.ensures.whole in
     let same = subst (λ (name : List ℕ). IfSome (held name) (λ t. text ≡ t)) c.file.ensures all in
-    if_ok c.reply_to_text.result (λ reply is. by_text (meant c.in-Ok.asked) text c.in-Ok.ensures still same (fits few is)) c.reply_to_text.ensures
+    if_ok c.reply_to_text.result (λ reply is. by_text (meant c.in-Ok.command) text c.in-Ok.ensures still same (fits few is)) c.reply_to_text.ensures
 
 pub returns-in-Err-TooLong : goal.returns-in-Err-TooLong
 returns-in-Err-TooLong g c =
     let held = g.S.Shelf.held c.args.shelf.now in
     let still = (c.in-Err-TooLong.ensures.count (λ failed. absurd (cc))).0 in
     let long = subst (λ (name : List ℕ). IfSome (held name) (λ t. most_bytes < length t)) c.file.ensures (c.in-Err-TooLong.ensures.too_long (ap Err c.in-Err-TooLong.field-0-is)) in
-    if_ok c.refused.result (λ reply is. long_replies _ _ (meant c.in-Ok.asked) reply c.in-Ok.ensures still long is) c.refused.ensures
+    if_ok c.refused.result (λ reply is. long_replies _ _ (meant c.in-Ok.command) reply c.in-Ok.ensures still long is) c.refused.ensures
 
 pub returns-in-Err-Failed : goal.returns-in-Err-Failed
 returns-in-Err-Failed g c =
     let failed = c.in-Err-Failed.ensures.failed (ap Err c.in-Err-Failed.field-0-is) in
     let line = c.in_ok-line-in-Err-Failed.ensures ∙ ap unread_line c.file-in-Err-Failed.ensures in
-    unread (meant c.in-Ok.asked) c.in-Ok.ensures failed.0 (failed.1 ∙ c.file.ensures) (c.error-in-Err-Failed.ensures ∙ ap (error_reply status.Unread) line)
+    unread (meant c.in-Ok.command) c.in-Ok.ensures failed.0 (failed.1 ∙ c.file.ensures) (c.error-in-Err-Failed.ensures ∙ ap (error_reply status.Unread) line)

@@ -1,6 +1,6 @@
 use Rattle.std.proofs.Common.{◌∙◌, Err, ap, subst}
 use Rattle.oss_top.specs.ProgramTexts.{IsKnown}
-use Rattle.oss_top.specs.CommandWords.{meant}
+use Rattle.oss_command.specs.Commands.{meant}
 use Rattle.oss_top.specs.Reply.{IsProgramReply, error_reply}
 use Rattle.oss_top.specs.Reply.IsTextReply.{accepted, refused_text}
 use Rattle.oss_top.specs.declared.status.Status.TheVariants as status
@@ -10,7 +10,7 @@ use Rattle.oss_top.proofs.reply.reply_to_text.Goals as goal
 pub returns-in-Ok : goal.returns-in-Ok
 returns-in-Ok c =
     let known = c.in-Ok.ensures in
-    if_ok c.reply_to_program.result (λ reply is. accepted known.program known.accepts (subst (λ p. IsProgramReply (meant c.args.asked) p reply) known.is_of is)) c.reply_to_program.ensures
+    if_ok c.reply_to_program.result (λ reply is. accepted known.program known.accepts (subst (λ p. IsProgramReply (meant c.args.command) p reply) known.is_of is)) c.reply_to_program.ensures
 
 pub returns-in_ok-line-in-Err-Refused : goal.returns-in_ok-line-in-Err-Refused
 returns-in_ok-line-in-Err-Refused c =
