@@ -1,5 +1,6 @@
 pub mod FormLemmas
+pub mod GlobalLemmas
 pub mod KnownLemmas
-pub mod OutcomeLemmas
 pub mod ReplyLemmas
+pub mod RunLemmas
 pub mod SomeReply

@@ -12,7 +12,8 @@ use Rattle.oss_model.specs.Texts.{refusal_line}
 use Rattle.oss_parse.proofs.OneProgram.{parsed_once}
 use Rattle.oss_command.specs.Commands.{Command, asked_of, file_of}
 use Rattle.oss_command.specs.declared.options.Options.{Options}
-use Rattle.oss_top.proofs.OutcomeLemmas.{one_outcome}
+use Rattle.oss_meaning.specs.Results.{first_cells, main_of}
+use Rattle.oss_lower.proofs.OutcomeLaws.{outcomes_are_one}
 use Rattle.oss_top.specs.OneReply.{IsReplied}
 use Rattle.oss_top.specs.ProgramTexts.{Accepts, Refuses}
 use Rattle.oss_top.specs.ProgramTexts.Refuses.{by_grammar, by_rules}
@@ -33,7 +34,8 @@ one_some r other o a b = cc
 
 run_once : (options : Options) (p : Program) (reply other : Reply) → IsRunReply options p reply → IsRunReply options p other → reply ≡ other
 run_once options p reply other x y =
-    x.is_reply ∙ ap (λ o. answer_reply options.dump p o.answer) (one_outcome p.items options.fuel x.outcome y.outcome x.is_outcome y.is_outcome) ∙ sym y.is_reply
+    let same = outcomes_are_one p.items (main_of p.items options.fuel) (first_cells p.items) x.outcome y.outcome x.is_outcome y.is_outcome in
+    x.is_reply ∙ ap (λ o. answer_reply options.dump p o.answer) same ∙ sym y.is_reply
 
 program_once : (c : Command) (p : Program) (reply other : Reply) → IsProgramReply c p reply → IsProgramReply c p other → reply ≡ other
 program_once c p reply other (checked x) (checked y) = x ∙ sym y

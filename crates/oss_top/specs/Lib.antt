@@ -1,4 +1,5 @@
 pub mod OneReply
 pub mod ProgramTexts
 pub mod Reply
+pub mod Runs
 pub mod Statuses

@@ -1,7 +1,9 @@
 //! The reply to a run of a program.
 
 ghost use Rattle.std.specs.Prelude.{◌≡◌, ◌++◌, IfOk, OnOk};
+ghost use Rattle.oss_model.specs.Agreement.{AreWords};
 ghost use Rattle.oss_top.specs.Reply.{IsRunReply, answer_reply, dump_behind};
+ghost use Rattle.oss_top.specs.Runs.{IsRanOf};
 
 use crate::reply::Reply;
 use crate::status::Status;
@@ -10,7 +12,7 @@ use oss_lower::lower;
 use oss_model::Answer;
 use oss_names::Known;
 use oss_report::{dump_bytes, fault_line};
-use oss_serial::serial;
+use oss_serial::{Ran, serial};
 use oss_syntax::{Bytes, Cells, Program};
 use std::alloc::{AllocError, Global};
 
@@ -18,10 +20,23 @@ use std::alloc::{AllocError, Global};
 pub fn reply_to_run(alloc: Global, known: &Known, options: Options) -> Result<Reply, AllocError>
     ensures { IfOk result (λ reply. IsRunReply options known.now reply) }
 {
-    let code = lower(alloc, known)?;
-    let ran = serial(alloc, &code, options.fuel)?;
+    let ran = serial_run(alloc, known, options.fuel)?;
     reply_to_answer(alloc, known.program(), options.dump, ran.answer)
 }
+
+/// The sequential run of a program, by its code.
+fn serial_run(alloc: Global, known: &Known, fuel: u32) -> Result<Ran, AllocError>
+    ensures { IfOk result (λ ran. IsRanOf known.now.items fuel ran) }
+{
+    let code = lower(alloc, known)?;
+    are_words(code.first().as_slice());
+    serial(alloc, &code, fuel)
+}
+
+/// A fact alone: a number of 64 bits is one.
+fn are_words(cells: &[u64])
+    ensures { AreWords cells.now }
+{}
 
 /// The reply to a run that has this answer.
 fn reply_to_answer(
