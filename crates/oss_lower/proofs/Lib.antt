@@ -21,6 +21,7 @@ pub mod MovedBodies
 pub mod MovedRuns
 pub mod OutcomeLemmas
 pub mod OutcomeLaws
+pub mod TextPlaces
 pub mod OneResult
 pub mod ListingLemmas
 pub mod NameLemmas

@@ -5,7 +5,11 @@ use Rattle.std.specs.Option.{ForSome}
 use Rattle.oss_syntax.specs.declared.tree.program.GlobalDef.{GlobalDef}
 use Rattle.oss_syntax.specs.declared.tree.program.Item.{Item}
 use Rattle.oss_syntax.specs.declared.tree.program.Item.TheVariants as items
+use Rattle.oss_syntax.specs.declared.tree.program.Program.{Program as Tree}
 use Rattle.oss_grammar.specs.Layout.{cells_of}
+use Rattle.oss_grammar.specs.Parsing.{IsProgramText}
+use Rattle.oss_grammar.specs.ProgramRules.{program_rules}
+use Rattle.oss_grammar.specs.TaskLoops.{program_written}
 use Rattle.oss_model.specs.Agreement.{AreWords, Setting, main_start}
 use Rattle.oss_model.specs.Bodies.{Ask, Asked, Order, Program, Start}
 use Rattle.oss_model.specs.Bodies.Ask.{Await, Begin, Create, End, Fails, Fold, Print, Read, Release, Tick, Wait, WaitOn, Write}
@@ -136,3 +140,8 @@ ProgramsHaveCodes = (all : List Item) → HavePlaces 0 all → (code : CodeParts
 -- Its sequential run, with so much fuel for each task, has one outcome.
 abbrev pub AProgramHasOneOutcome : Type 0
 AProgramHasOneOutcome = (all : List Item) → HavePlaces 0 all → (fuel : ℕ) → OneOutcome (asks_of all) (main_of all fuel) (first_cells all)
+
+-- So has that of a program as which a text is accepted, each task loop in it written out.
+abbrev pub AcceptedProgramsHaveOneOutcome : Type 0
+AcceptedProgramsHaveOneOutcome = (text : List ℕ) (p : Tree) → IsProgramText text p → program_rules p ≡ [] → (fuel : ℕ)
+    → OneOutcome (asks_of (program_written p).items) (main_of (program_written p).items fuel) (first_cells (program_written p).items)

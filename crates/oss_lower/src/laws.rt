@@ -1,7 +1,7 @@
 //! What holds of the code of every program, accepted or not: laws, each carried by a function that does nothing. A crate above calls
 //! the function, and then has the law.
 
-ghost use Rattle.oss_lower.specs.Programs.{AProgramHasOneOutcome, BoundsAreEnough, CodesAreSound, CodesAskAlike, MainOutcomesAlike, OutcomesAlike, OutcomesAreOne, ProgramsAreLively, ProgramsHaveCodes, ProgramsHaveOneOutcome};
+ghost use Rattle.oss_lower.specs.Programs.{AProgramHasOneOutcome, AcceptedProgramsHaveOneOutcome, BoundsAreEnough, CodesAreSound, CodesAskAlike, MainOutcomesAlike, OutcomesAlike, OutcomesAreOne, ProgramsAreLively, ProgramsHaveCodes, ProgramsHaveOneOutcome};
 
 /// The code that a program becomes is a code of it: each body of the program has a place in the code, and the body at that place asks
 /// for the same, on the same lines, after any answers. `main` is at the first instruction.
@@ -54,4 +54,9 @@ pub fn programs_have_codes()
 /// The sequential run of such a program, from the start and with so much fuel for each task, has one outcome.
 pub fn a_program_has_one_outcome()
     ensures { AProgramHasOneOutcome }
+{}
+
+/// So has that of a program as which a text is accepted, each task loop in it written out.
+pub fn accepted_programs_have_one_outcome()
+    ensures { AcceptedProgramsHaveOneOutcome }
 {}
