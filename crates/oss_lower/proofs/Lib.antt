@@ -19,6 +19,9 @@ pub mod FormLemmas
 pub mod Rows
 pub mod MovedBodies
 pub mod MovedRuns
+pub mod OutcomeLemmas
+pub mod OutcomeLaws
+pub mod TextPlaces
 pub mod OneResult
 pub mod ListingLemmas
 pub mod NameLemmas

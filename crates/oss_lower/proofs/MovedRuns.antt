@@ -3,11 +3,8 @@ use Rattle.std.proofs.Common.{◌≡◌, ◌∙◌, ℕ, zero, suc, ◌+◌, Boo
 use Rattle.std.specs.Prelude.{◌-◌, ◌^◌, if◌then◌else◌, min}
 use Rattle.oss_syntax.specs.declared.tree.program.Item.{Item}
 use Rattle.oss_model.specs.Agreement.{Setting}
-use Rattle.oss_model.specs.Answers.{IsResult}
-use Rattle.oss_model.specs.Answers.IsResult.{ends as result_ends, fails as result_fails}
-use Rattle.oss_model.proofs.TerminationTheorem.{run_has_result}
 use Rattle.oss_lower.proofs.LiveLemmas.{programs_are_lively}
-use Rattle.oss_lower.proofs.OneResult.{one_result}
+use Rattle.oss_lower.proofs.OutcomeLemmas.{one_outcome, run_has_one}
 use Rattle.oss_model.specs.Bodies.{Act, Body, IsHalt, Order, Program, Start, child_start, stack_from}
 use Rattle.oss_model.specs.Bodies.Act.{Awaited, Created, Ended, Fault, Folded, Load, Over, Printed, Releases, Store, Ticked, Waited, WaitedOn}
 use Rattle.oss_model.specs.Context.{right_of}
@@ -24,7 +21,7 @@ use Rattle.oss_meaning.specs.Results.IsOutcome.{ends, fails}
 use Rattle.oss_code.specs.declared.code.CodeParts.{CodeParts}
 use Rattle.oss_machine.specs.Frames.{CodeScript}
 use Rattle.oss_machine.specs.Machines.{asks}
-use Rattle.oss_lower.specs.Programs.{IsCodeOf, OutcomesAlike, ResultsAlike, moved_order, moved_start}
+use Rattle.oss_lower.specs.Programs.{IsCodeOf, OutcomesAlike, moved_order, moved_start}
 use Rattle.oss_lower.proofs.MovedBodies.{acts_alike, created_alike, moved_act, moved_frame, stands_alike}
 
 abbrev pub moved_body : (TaskBody → ℕ) → Body TreeScript → Body CodeScript
@@ -292,21 +289,12 @@ module _ (all : List Item) (code : CodeParts) (of : IsCodeOf all code) where
       (subst (λ k. IsOutcome Q (moved_start of.places main) cells (outcome_with (answers.Fault kind line z.printed) (tasks_in (moved_state of.places z.state)) k)) (all_entries_are of.places z.state)
       (fails (sequential_alike run) (end_is z end) (act_is end.task.body ∙ ap (moved_act of.places) fault)))
 
--- A result of the program is one of its code,
-result_alike : (all : List Item) (code : CodeParts) (of : IsCodeOf all code) {main : Start TreeScript} {cells : List ℕ} (b : Answer) → IsResult (asks_of all) main cells b → IsResult (asks code) (moved_start of.places main) cells b
-unfolding end_is
-result_alike all code of b (result_ends {z} run end over) = result_ends (sequential_alike all code of run) (end_is all code of z end) (act_is all code of end.task.body ∙ ap (moved_act of.places) over)
-result_alike all code of b (result_fails {z} run end fault) = result_fails (sequential_alike all code of run) (end_is all code of z end) (act_is all code of end.task.body ∙ ap (moved_act of.places) fault)
-
--- and since each has one, the other way too.
-result_back : (all : List Item) (code : CodeParts) (of : IsCodeOf all code) (main : Start TreeScript) (cells : List ℕ) → Setting main cells → (b : Answer)
-    → IsResult (asks code) (moved_start of.places main) cells b → IsResult (asks_of all) main cells b
-result_back all code of main cells setting b r =
-    let own = run_has_result TreeScript (asks_of all) main cells setting (programs_are_lively all code of) in
-    subst (λ a. IsResult (asks_of all) main cells a) (one_result (asks code) own.0 b (result_alike all code of own.0 own.1) r) own.1
-
-pub results_alike : ResultsAlike
-results_alike all code of main cells setting b = (λ r. result_alike all code of b r, λ r. result_back all code of main cells setting b r)
+-- Since each has one outcome, what the code gives the program gives too.
+outcome_back : (all : List Item) (code : CodeParts) (of : IsCodeOf all code) (main : Start TreeScript) (cells : List ℕ) → Setting main cells → (o : Outcome)
+    → IsOutcome (asks code) (moved_start of.places main) cells o → IsOutcome (asks_of all) main cells o
+outcome_back all code of main cells setting o outcome =
+    let own = (run_has_one (asks_of all) main cells setting (programs_are_lively all code of)).some in
+    subst (λ x. IsOutcome (asks_of all) main cells x) (one_outcome (asks code) own.0 o (outcome_alike all code of own.0 own.1) outcome) own.1
 
 pub outcomes_alike : OutcomesAlike
-outcomes_alike all code of main cells o outcome = outcome_alike all code of o outcome
+outcomes_alike all code of main cells setting o = (λ outcome. outcome_alike all code of o outcome, λ outcome. outcome_back all code of main cells setting o outcome)

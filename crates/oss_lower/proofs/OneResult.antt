@@ -16,15 +16,15 @@ use Rattle.oss_syntax.specs.declared.fault.FaultKind.{FaultKind}
 use Rattle.oss_model.proofs.Exclusive.{same_self}
 use Rattle.oss_model.proofs.TreeLemmas.{same_path_is}
 
-abbrev value_or : {A : Type 0} → Option A → A → A
+abbrev pub value_or : {A : Type 0} → Option A → A → A
 value_or None d = d
 value_or (Some a) d = a
 
-abbrev IsSomething : {A : Type 0} → Option A → Type 0
+abbrev pub IsSomething : {A : Type 0} → Option A → Type 0
 IsSomething None = ⊥
 IsSomething (Some a) = Unit {0}
 
-abbrev IsYes : Bool → Type 0
+abbrev pub IsYes : Bool → Type 0
 IsYes true = Unit {0}
 IsYes false = ⊥
 

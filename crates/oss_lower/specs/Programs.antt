@@ -1,16 +1,22 @@
 -- Two programs that ask alike: the tree's scripts name bodies by their numbers, and the code's by the instructions with which they begin.
 -- Read against: `int main() { return 7; }` asks for a tick, and then for its end, on the same line; so does its code from place 0 on.
-use Rattle.std.specs.Prelude.{◌≡◌, ◌↔◌, ◌≤◌, ℕ, List, length}
+use Rattle.std.specs.Prelude.{◌≡◌, ◌↔◌, ◌<◌, ◌≤◌, ◌+◌, ◌^◌, ℕ, true, false, List, [], ◌∷◌, length, pos}
+use Rattle.std.specs.Option.{ForSome}
+use Rattle.oss_syntax.specs.declared.tree.program.GlobalDef.{GlobalDef}
 use Rattle.oss_syntax.specs.declared.tree.program.Item.{Item}
-use Rattle.oss_model.specs.Agreement.{Setting}
-use Rattle.oss_model.specs.Answers.{IsResult}
-use Rattle.oss_model.specs.Bodies.{Ask, Asked, Order, Start}
+use Rattle.oss_syntax.specs.declared.tree.program.Item.TheVariants as items
+use Rattle.oss_syntax.specs.declared.tree.program.Program.{Program as Tree}
+use Rattle.oss_grammar.specs.Layout.{cells_of}
+use Rattle.oss_grammar.specs.Parsing.{IsProgramText}
+use Rattle.oss_grammar.specs.ProgramRules.{program_rules}
+use Rattle.oss_grammar.specs.TaskLoops.{program_written}
+use Rattle.oss_model.specs.Agreement.{AreWords, Setting, main_start}
+use Rattle.oss_model.specs.Bodies.{Ask, Asked, Order, Program, Start}
 use Rattle.oss_model.specs.Bodies.Ask.{Await, Begin, Create, End, Fails, Fold, Print, Read, Release, Tick, Wait, WaitOn, Write}
 use Rattle.oss_model.specs.Termination.{IsLively}
-use Rattle.oss_model.specs.declared.answer.Answer.{Answer}
 use Rattle.oss_meaning.specs.Expressions.{TaskBody, TreeScript}
 use Rattle.oss_meaning.specs.Meaning.{asks_of, run_within}
-use Rattle.oss_meaning.specs.Results.{IsOutcome, Outcome, first_cells}
+use Rattle.oss_meaning.specs.Results.{IsOutcome, IsOutcomeOf, Outcome, first_cells, main_of}
 use Rattle.oss_code.specs.Soundness.{IsSound}
 use Rattle.oss_code.specs.declared.code.CodeParts.{CodeParts}
 use Rattle.oss_machine.specs.Frames.{CodeScript}
@@ -81,12 +87,61 @@ abbrev pub BoundsAreEnough : Type 0
 BoundsAreEnough = (all : List Item) (code : CodeParts) → IsLowered all code → (s : TreeScript) (bound more : ℕ) (answers : List ℕ) → length answers ≤ bound → length answers ≤ more
     → moved_asked (place_of all) (run_within all bound s answers) ≡ moved_asked (place_of all) (run_within all more s answers)
 
--- What the sequential run of a program gives, that of its code gives too.
-abbrev pub OutcomesAlike : Type 0
-OutcomesAlike = (all : List Item) (code : CodeParts) (of : IsCodeOf all code) (main : Start TreeScript) (cells : List ℕ) (o : Outcome)
-    → IsOutcome (asks_of all) main cells o → IsOutcome (asks code) (moved_start of.places main) cells o
+-- The sequential run has one outcome and no other.
+pub record OneOutcome {S : Type 0} (P : Program S) (main : Start S) (cells : List ℕ) : Type 0 where
+  pub some : (o : Outcome) × IsOutcome P main cells o
+  pub one : (a b : Outcome) → IsOutcome P main cells a → IsOutcome P main cells b → a ≡ b
 
--- The result of the sequential run of a program is that of its code.
-abbrev pub ResultsAlike : Type 0
-ResultsAlike = (all : List Item) (code : CodeParts) (of : IsCodeOf all code) (main : Start TreeScript) (cells : List ℕ) → Setting main cells → (b : Answer)
-    → IsResult (asks_of all) main cells b ↔ IsResult (asks code) (moved_start of.places main) cells b
+-- The sequential run of a program has at most one outcome, whatever main and the cells are.
+abbrev pub OutcomesAreOne : Type 0
+OutcomesAreOne = (all : List Item) (main : Start TreeScript) (cells : List ℕ) (a b : Outcome) → IsOutcome (asks_of all) main cells a → IsOutcome (asks_of all) main cells b → a ≡ b
+
+-- That of a program that has a code has one.
+abbrev pub ProgramsHaveOneOutcome : Type 0
+ProgramsHaveOneOutcome = (all : List Item) (code : CodeParts) → IsCodeOf all code → (main : Start TreeScript) (cells : List ℕ) → Setting main cells → OneOutcome (asks_of all) main cells
+
+-- It gives what that of its code gives: the same answer, as many tasks, and as many entries.
+abbrev pub OutcomesAlike : Type 0
+OutcomesAlike = (all : List Item) (code : CodeParts) (of : IsCodeOf all code) (main : Start TreeScript) (cells : List ℕ) → Setting main cells → (o : Outcome)
+    → IsOutcome (asks_of all) main cells o ↔ IsOutcome (asks code) (moved_start of.places main) cells o
+
+-- what main of a code is to run: it begins at the first instruction, and no clause says anything of it
+abbrev pub code_order : Order CodeScript
+code_order = record { script = record { entry = 0; copies = [] }; clauses = []; when = true; last = false; wait = false; priority = pos 0 }
+
+-- how main of a code starts, with this much fuel
+abbrev pub code_start : CodeParts → ℕ → Start CodeScript
+code_start code fuel = main_start code_order (length code.first) fuel
+
+-- A program and its code give the same from the start, where the cells begin with numbers of 64 bits.
+abbrev pub MainOutcomesAlike : Type 0
+MainOutcomesAlike = (all : List Item) (code : CodeParts) → IsCodeOf all code → AreWords code.first → (fuel : ℕ) (o : Outcome)
+    → IsOutcomeOf all fuel o ↔ IsOutcome (asks code) (code_start code fuel) code.first o
+
+-- The global has a place from this cell on: it has a cell, and a row of it has one; with those before it there are at most 1,048,576 cells;
+-- and it begins with a number of 64 bits.
+-- Read against: with `long x, a[3];` the places are from the cells 0 and 1 on; `long m[3][0];` has none, nor has `b` of `long a[1048576], b;`.
+pub record HasPlace (start : ℕ) (d : GlobalDef) : Type 0 where
+  pub some : 0 < cells_of d.cells
+  pub few : start + cells_of d.cells ≤ 1048576
+  pub wide : ForSome d.columns (λ columns. 0 < columns)
+  pub word : d.first < 2 ^ 64
+
+-- each global among these items has its place, the first of them from this cell on
+abbrev pub HavePlaces : ℕ → List Item → Type 0
+HavePlaces start [] = Unit {0}
+HavePlaces start (items.Global d ∷ rest) = HasPlace start d × HavePlaces (start + cells_of d.cells) rest
+HavePlaces start (items.Function f ∷ rest) = HavePlaces start rest
+
+-- A program whose globals have their places has a code.
+abbrev pub ProgramsHaveCodes : Type 0
+ProgramsHaveCodes = (all : List Item) → HavePlaces 0 all → (code : CodeParts) × IsLowered all code
+
+-- Its sequential run, with so much fuel for each task, has one outcome.
+abbrev pub AProgramHasOneOutcome : Type 0
+AProgramHasOneOutcome = (all : List Item) → HavePlaces 0 all → (fuel : ℕ) → OneOutcome (asks_of all) (main_of all fuel) (first_cells all)
+
+-- So has that of a program as which a text is accepted, each task loop in it written out.
+abbrev pub AcceptedProgramsHaveOneOutcome : Type 0
+AcceptedProgramsHaveOneOutcome = (text : List ℕ) (p : Tree) → IsProgramText text p → program_rules p ≡ [] → (fuel : ℕ)
+    → OneOutcome (asks_of (program_written p).items) (main_of (program_written p).items fuel) (first_cells (program_written p).items)

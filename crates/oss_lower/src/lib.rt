@@ -20,7 +20,9 @@ mod statements;
 mod typed;
 
 pub use laws::{
-    bounds_are_enough, codes_are_sound, codes_ask_alike, outcomes_alike, programs_are_lively,
+    a_program_has_one_outcome, accepted_programs_have_one_outcome, bounds_are_enough,
+    codes_are_sound, codes_ask_alike, main_outcomes_alike, outcomes_alike, outcomes_are_one,
+    programs_are_lively, programs_have_codes, programs_have_one_outcome,
 };
 pub use lined::{Lined, Pads};
 pub use program::lower;
