@@ -26,6 +26,7 @@ pub mod OneResult
 pub mod ListingLemmas
 pub mod NameLemmas
 pub mod ExprWeights
+pub mod FewCells
 pub mod FormCases
 pub mod OperandLemmas
 pub mod SpotLemmas

@@ -1,5 +1,5 @@
 //! The code of a program.
-ghost use Rattle.std.specs.Prelude.{◌≡◌, IfOk, map};
+ghost use Rattle.std.specs.Prelude.{◌≡◌, ◌≤◌, IfOk, length, map};
 ghost use Rattle.oss_meaning.specs.Meaning.{main_number};
 ghost use Rattle.oss_meaning.specs.Names.{functions_of};
 ghost use Rattle.oss_lower.specs.Lowered.{IsLowered, bodies_from, body_place, first_entry};
@@ -20,11 +20,12 @@ use oss_syntax::{Cells, List, Program};
 use std::alloc::{AllocError, Global};
 
 /// The code of a program that breaks no rule. It asks for the same as the program, on the same lines, after any answers: each body of the
-/// program has a place in the code, that of `main` being the first instruction. Want of memory is the one error; a place that no number of
-/// 32 bits tells, as in a tree that no text of 1,048,576 bytes has, is told as that.
+/// program has a place in the code, that of `main` being the first instruction. It has at most 1,048,576 cells, as the program has. Want of
+/// memory is the one error; a place that no number of 32 bits tells, as in a tree that no text of 1,048,576 bytes has, is told as that.
 pub fn lower(alloc: Global, known: &Known) -> Result<Code, AllocError>
     ensures code_of { IfOk result (λ code. IsCodeOf known.now.items code) }
     ensures sound { IfOk result (λ code. IsSound code) }
+    ensures few { IfOk result (λ code. length code.first ≤ 1048576) }
 {
     codes_ask_alike();
     lower_program(alloc, known.program())

@@ -1,5 +1,4 @@
 pub mod FormLemmas
-pub mod GlobalLemmas
 pub mod KnownLemmas
 pub mod ReplyLemmas
 pub mod RunLemmas

@@ -25,9 +25,7 @@ use Rattle.oss_parse.specs.ProgramReading.{read_text}
 use Rattle.oss_parse.proofs.ParsedLemmas.{parsed}
 use Rattle.oss_command.specs.Commands.{Command}
 use Rattle.oss_command.specs.Commands.Command.{run, check}
-use Rattle.oss_lower.specs.Programs.{HavePlaces}
-use Rattle.oss_lower.proofs.OutcomeLaws.{a_program_has_one_outcome}
-use Rattle.oss_top.proofs.GlobalLemmas.{accepted-places}
+use Rattle.oss_lower.proofs.TextPlaces.{accepted_programs_have_one_outcome}
 use Rattle.oss_top.specs.ProgramTexts.{Accepts, Refuses}
 use Rattle.oss_top.specs.ProgramTexts.Refuses.{by_grammar, by_rules}
 use Rattle.oss_top.specs.Reply.{IsFileReply, IsTextReply, IsProgramReply, accepted_line, answer_reply, done_reply, error_reply, most_bytes, too_large_line}
@@ -72,11 +70,11 @@ some_parse text = from (some_reading (length text) Beginning 1 text (omega arith
   from (inl (ts, w)) = told ts w (told_of text ts (read_text ts)) refl
   from (inr (kind, at, w)) = inr (record { kind = kind; line = at; token = 0 }, by_tokens w refl)
 
-program_reply : (c : Command) (p : Program) → HavePlaces 0 p.items → (reply : Reply) × IsProgramReply c p reply
-program_reply (check file) p places = (done_reply accepted_line, checked refl)
-program_reply (run file options) p places =
-    let (o, is) = (a_program_has_one_outcome p.items places options.fuel).some in
-    (answer_reply options.dump p o.answer, ran (record { outcome = o; is_outcome = is; is_reply = refl }))
+program_reply : (c : Command) (text : List ℕ) (p : Program) → Accepts text p → (reply : Reply) × IsProgramReply c (program_written p) reply
+program_reply (check file) text p a = (done_reply accepted_line, checked refl)
+program_reply (run file options) text p a =
+    let (o, is) = (accepted_programs_have_one_outcome text p a.is_text a.obeys options.fuel).some in
+    (answer_reply options.dump (program_written p) o.answer, ran (record { outcome = o; is_outcome = is; is_reply = refl }))
 
 text_reply : (c : Command) (text : List ℕ) → (reply : Reply) × IsTextReply c text reply
 text_reply c text = from (some_parse text) where
@@ -86,7 +84,7 @@ text_reply c text = from (some_parse text) where
   ruled : (p : Program) → IsProgramText text p → (rules : List Refused) → program_rules p ≡ rules → (reply : Reply) × IsTextReply c text reply
   ruled p w [] e =
       let accepts : Accepts text p = record { is_text = w; obeys = e } in
-      let (reply, is) = program_reply c (program_written p) (accepted-places text p accepts) in
+      let (reply, is) = program_reply c text p accepts in
       (reply, accepted p accepts is)
   ruled p w (r ∷ rest) e = refused r (by_rules p w (ap first e))
 
