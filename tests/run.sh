@@ -122,7 +122,7 @@ awk 'BEGIN { printf "@"; for (i = 0; i < 1048576; i++) printf " " }' >long_bytes
 expect "no words" 2 ../nothing usage
 expect "one word" 2 ../nothing usage run
 expect "two files" 2 ../nothing usage run short.c empty.c
-expect "an option" 2 ../nothing usage run short.c --fuel=5
+expect "an option that is not listed" 2 ../nothing usage run short.c --frob
 expect "an empty word" 2 ../nothing usage ''
 expect "an empty command" 2 ../nothing usage '' short.c
 expect "an empty file name" 2 ../nothing usage run ''
