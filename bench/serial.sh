@@ -1,0 +1,185 @@
+#!/bin/sh
+# Times programs in the sequential run of the built program, and the same loops in CPython where `python3` is there, in one and the same call, and prints a row
+# each: the program, its seconds, those of CPython and their ratio. Then it prints what twice the work takes, as a ratio: the growth of ticks, of
+# tasks of one creator, of nested tasks, of cells of an array and of lent ranges. `bench/serial.sh PROGRAM` times another program.
+top=$(CDPATH='' cd -- "$(dirname -- "$0")/.." && pwd) || exit 1
+program=${1:-$top/nest6}
+case $program in
+  /*) ;;
+  *) program=$PWD/$program ;;
+esac
+work=$(mktemp -d) || exit 1
+trap 'rm -rf "$work"' EXIT
+cd "$work" || exit 1
+"$program" check /dev/null >/dev/null 2>&1
+
+# timed WORD..: the seconds that a call takes, the best of three
+timed() {
+  python3 - "$@" <<'PROGRAM'
+import subprocess, sys, time
+best = None
+for _ in range(3):
+    begin = time.monotonic()
+    status = subprocess.call(sys.argv[1:], stdout=subprocess.DEVNULL, stderr=subprocess.DEVNULL)
+    took = time.monotonic() - begin
+    best = took if best is None or took < best else best
+    if status:
+        print("status", status, file=sys.stderr)
+print("%.3f" % best)
+PROGRAM
+}
+
+ratio() { awk -v a="$1" -v b="$2" 'BEGIN { printf "%.2f", a / b }'; }
+
+# beside NAME FILE: NAME.c in the program and NAME.py in CPython
+beside() {
+  own=$(timed "$program" run --fuel=1000000000 "$2.c")
+  other=$(timed python3 "$2.py")
+  echo "$1 | $own s | $other s | $(ratio "$own" "$other")"
+}
+
+# growth NAME: NAME_1.c, and NAME_2.c with twice the work
+growth() {
+  once=$(timed "$program" run --fuel=1000000000 "$2_1.c")
+  twice=$(timed "$program" run --fuel=1000000000 "$2_2.c")
+  echo "$1 | $once s | $twice s | $(ratio "$twice" "$once")"
+}
+
+cat >arrays.c <<'PROGRAM'
+long a[1000];
+int main() {
+  for (long k = 0; k < 300; k++)
+    for (long i = 0; i < 1000; i++) a[i] = a[i] * 3 + i;
+  printf("%ld\n", a[999]);
+}
+PROGRAM
+cat >arrays.py <<'PROGRAM'
+a = [0] * 1000
+def main():
+    k = 0
+    while k < 300:
+        i = 0
+        while i < 1000:
+            a[i] = (a[i] * 3 + i) & 0xFFFFFFFFFFFFFFFF
+            i += 1
+        k += 1
+    print(a[999])
+main()
+PROGRAM
+cat >calls.c <<'PROGRAM'
+long fibonacci(long n) { if (n < 2) return n; return fibonacci(n - 1) + fibonacci(n - 2); }
+int main() { printf("%ld\n", fibonacci(24)); }
+PROGRAM
+cat >calls.py <<'PROGRAM'
+def fibonacci(n):
+    if n < 2:
+        return n
+    return fibonacci(n - 1) + fibonacci(n - 2)
+print(fibonacci(24))
+PROGRAM
+cat >reduction.c <<'PROGRAM'
+unsigned long s;
+int main() {
+  for (long k = 0; k < 10; k++) {
+#pragma oss task reduction(+: s)
+    for (long i = 0; i < 30000; i++) s += i ^ k;
+  }
+#pragma oss taskwait
+  printf("%lu\n", s);
+}
+PROGRAM
+cat >reduction.py <<'PROGRAM'
+s = 0
+def task(k):
+    global s
+    i = 0
+    while i < 30000:
+        s = (s + (i ^ k)) & 0xFFFFFFFFFFFFFFFF
+        i += 1
+def main():
+    k = 0
+    while k < 10:
+        task(k)
+        k += 1
+    print(s)
+main()
+PROGRAM
+cat >creators.c <<'PROGRAM'
+long a[4];
+int main() {
+  for (long c = 0; c < 4; c++) {
+#pragma oss task inout(a[c])
+    {
+      for (long i = 0; i < 25000; i++) {
+#pragma oss task inout(a[c])
+        a[c] = a[c] + i;
+      }
+    }
+  }
+#pragma oss taskwait
+  printf("%ld\n", a[3]);
+}
+PROGRAM
+cat >creators.py <<'PROGRAM'
+a = [0] * 4
+def task(c, i):
+    a[c] = a[c] + i
+def creator(c):
+    i = 0
+    while i < 25000:
+        task(c, i)
+        i += 1
+def main():
+    c = 0
+    while c < 4:
+        creator(c)
+        c += 1
+    print(a[3])
+main()
+PROGRAM
+
+for times in 1 2; do
+  cat >"ticks_$times.c" <<PROGRAM
+int main() { long s = 0, i = 0; while (i < $((times * 300000))) { s = s + i * 3; i = i + 1; } printf("%ld\\n", s); }
+PROGRAM
+  cat >"tasks_$times.c" <<PROGRAM
+long x;
+int main() {
+  for (long i = 0; i < $((times * 30000)); i++) {
+#pragma oss task inout(x)
+    x = x + i;
+  }
+}
+PROGRAM
+  cat >"nested_$times.c" <<PROGRAM
+long x;
+#pragma oss task inout(*p)
+void down(long *p, long n) { *p = *p + 1; if (n > 0) down(p, n - 1); }
+int main() { for (long i = 0; i < $((times * 500)); i++) { down(&x, 50); } }
+PROGRAM
+  cat >"cells_$times.c" <<PROGRAM
+long a[$((times * 200000))];
+int main() { for (long i = 0; i < $((times * 200000)); i++) a[i] = i; }
+PROGRAM
+  cat >"lent_$times.c" <<PROGRAM
+long a[$((times * 60000))];
+int main() {
+  for (long i = 0; i < $((times * 30000)); i++) {
+#pragma oss task out(a[2 * i])
+    a[2 * i] = i;
+  }
+}
+PROGRAM
+done
+
+echo 'program | nest6 | CPython | ratio'
+beside 'array loops, 300,000 turns' arrays
+beside 'nested calls, 75,025 leaves' calls
+beside 'a reduction in ten tasks, 300,000 folds' reduction
+beside 'four creators of 25,000 tasks each' creators
+echo 'growth | once | twice | ratio'
+growth 'ticks: 300,000 turns of a loop' ticks
+growth 'tasks of one creator: 30,000' tasks
+growth 'nested tasks: 500 chains of 51' nested
+growth 'cells of an array: 200,000 written' cells
+growth 'lent ranges: 30,000 single cells apart' lent
