@@ -13,7 +13,7 @@ use Rattle.oss_lower.proofs.OutcomeLaws.{cells_are}
 pub few_cells : (p : Program) (cells : List ℕ) → IsWrittenOut p → cells ≡ first_cells p.items → length cells ≤ 1048576
 few_cells p cells well is =
     let few : cells_in p.items ≤ 1048576 =
-        bound-fits p (bounds_of 0 (sizes_of p.items)) well refl (length (sizes_of p.items)) (cells_in p.items) (ap sum (sym (take-length (sizes_of p.items)))) in
+    bound-fits p (bounds_of 0 (sizes_of p.items)) well refl (length (sizes_of p.items)) (cells_in p.items) (ap sum (sym (take-length (sizes_of p.items)))) in
     let same : length cells ≡ cells_in p.items = ap length is ∙ cells_are p.items in
     omega (arith, few, same)
 

@@ -89,7 +89,7 @@ words_more v zero cells h words c = words c
 words_more v (suc n) cells h words zero = h
 words_more v (suc n) cells h words (suc c) = words_more v n cells h words c
 
-words_from : (start : ℕ) (all : List Item) → HavePlaces start all → AreWords (first_cells all)
+pub words_from : (start : ℕ) (all : List Item) → HavePlaces start all → AreWords (first_cells all)
 words_from start [] h c = no_word c
 words_from start (items.Global d ∷ rest) h c =
     words_more (kept d.kind d.first) (cells_of d.cells) (first_cells rest) (kept_word d.kind d.first h.0.word) (words_from (start + cells_of d.cells) rest h.1) c
@@ -120,7 +120,7 @@ cells_are (items.Global d ∷ rest) =
     ∙ sym (sum_first (cells_of d.cells) (sizes_of rest))
 cells_are (items.Function f ∷ rest) = cells_are rest
 
-main_setting : (all : List Item) (fuel : ℕ) → AreWords (first_cells all) → Setting (main_of all fuel) (first_cells all)
+pub main_setting : (all : List Item) (fuel : ℕ) → AreWords (first_cells all) → Setting (main_of all fuel) (first_cells all)
 main_setting all fuel words =
     subst (λ n. Setting (main_start main_order n fuel) (first_cells all)) (cells_are all) (every_main_is_a_setting TreeScript main_order (first_cells all) fuel words)
 

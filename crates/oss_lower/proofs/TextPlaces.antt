@@ -28,11 +28,13 @@ use Rattle.oss_grammar.specs.Tokens.{Front, IsFront, Tokens, found_before}
 use Rattle.oss_grammar.specs.Tokens.IsFront.{directive, gap, include, newline, other_pragma, pragma_end, pragma_oss, token}
 use Rattle.oss_grammar.specs.Tokens.Tokens.{done, step}
 use Rattle.oss_grammar.specs.Words.{IsWord}
+use Rattle.oss_model.specs.Agreement.{Setting}
+use Rattle.oss_meaning.specs.Results.{first_cells, main_of}
 use Rattle.oss_names.proofs.Parts.{append-left, append-right}
 use Rattle.oss_names.proofs.ProgramLemmas.{global-cells}
 use Rattle.oss_lower.specs.Programs.{AcceptedProgramsHaveOneOutcome, HasPlace, HavePlaces}
 use Rattle.oss_lower.proofs.OneResult.{IsSomething, value_or}
-use Rattle.oss_lower.proofs.OutcomeLaws.{a_program_has_one_outcome}
+use Rattle.oss_lower.proofs.OutcomeLaws.{a_program_has_one_outcome, main_setting, words_from}
 
 -- Tokens
 
@@ -164,6 +166,12 @@ accepted_places : (text : List ℕ) (p : Program) → IsProgramText text p → p
 accepted_places text p is obeys =
     let none = append-left (items_rules p.items 0 0 p.items) _ (ap first obeys) in
     places_written 0 p.items (places_by p.items 0 0 p.items none (program_sized is.tokens p is.is_program (all_fit is.tokens is.are_tokens)))
+
+-- main and the cells at the start of such a program
+pub accepted_setting : (text : List ℕ) (p : Program) → IsProgramText text p → program_rules p ≡ [] → (fuel : ℕ)
+    → Setting (main_of (program_written p).items fuel) (first_cells (program_written p).items)
+accepted_setting text p is obeys fuel =
+    main_setting (program_written p).items fuel (words_from 0 (program_written p).items (accepted_places text p is obeys))
 
 pub accepted_programs_have_one_outcome : AcceptedProgramsHaveOneOutcome
 accepted_programs_have_one_outcome text p is obeys fuel = a_program_has_one_outcome (program_written p).items (accepted_places text p is obeys) fuel

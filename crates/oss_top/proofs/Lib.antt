@@ -1,5 +1,6 @@
 pub mod FormLemmas
 pub mod KnownLemmas
+pub mod OrderLemmas
 pub mod ReplyLemmas
 pub mod RunLemmas
 pub mod SomeReply

@@ -1,3 +1,4 @@
+pub mod EveryOrder
 pub mod OneReply
 pub mod ProgramTexts
 pub mod Reply

@@ -1,9 +1,17 @@
-//! The law of the replies of the top call.
+//! The laws of the replies of the top call.
 
+ghost use Rattle.oss_top.specs.EveryOrder.{IsRunInEveryOrder};
 ghost use Rattle.oss_top.specs.OneReply.{IsReplied};
 
 /// A law, with nothing to run: a text has one reply to a command, and no other. So status, output and error output of a check or
 /// a run are settled by the text.
 pub fn a_text_has_one_reply(text: &[u8])
     ensures { IsReplied text.now }
+{}
+
+/// A law, with nothing to run: in whatever order the tasks of an accepted text run, as far as the moves of the machine of tasks allow
+/// it, the answer is that of the reply to its run. Moves lead from the beginning of its program to a state in which no move is
+/// left; such a state has an answer, and status, output and error output of a run are those of this answer.
+pub fn every_order_gives_the_reply(text: &[u8])
+    ensures { IsRunInEveryOrder text.now }
 {}

@@ -11,7 +11,7 @@ mod tests;
 mod texts;
 mod top;
 
-pub use laws::a_text_has_one_reply;
+pub use laws::{a_text_has_one_reply, every_order_gives_the_reply};
 pub use oss_command::{Command, Options, RunMode, WordsRefused, read_words};
 pub use status::Status;
 pub use top::{Sinks, nest6};

@@ -96,11 +96,7 @@ fn reply_to_text(alloc: Global, command: Command<'_>, text: &[u8]) -> Result<Rep
 }
 
 /// The reply to a program that breaks no rule.
-fn reply_to_program(
-    alloc: Global,
-    command: Command<'_>,
-    known: &Known,
-) -> Result<Reply, AllocError>
+fn reply_to_program(alloc: Global, command: Command<'_>, known: &Known) -> Result<Reply, AllocError>
     ensures { IfOk result (λ reply. IsProgramReply (meant command.entry) known.now reply) }
 {
     match command {
