@@ -1,7 +1,7 @@
 #!/bin/sh
 # Times programs in the sequential run of the built program, and the same loops in CPython where `python3` is there, in one and the same call, and prints a row
 # each: the program, its seconds, those of CPython and their ratio. Then it prints what twice the work takes, as a ratio: the growth of ticks, of
-# tasks of one creator, of nested tasks, of cells of an array and of lent ranges. `bench/serial.sh PROGRAM` times another program.
+# tasks of one creator, of nested tasks, of cells of an array and of lent ranges. `bench/programs.sh PROGRAM` times another program.
 top=$(CDPATH='' cd -- "$(dirname -- "$0")/.." && pwd) || exit 1
 program=${1:-$top/nest6}
 case $program in
