@@ -79,7 +79,7 @@ impl Place {
                 line,
             ),
             Ask::Fold(cell, op, value) => self.folds(own, *cell, *op, *value, line),
-            Ask::Create(order) => self.creates(alloc, order, line),
+            Ask::Create(order) => self.creates(alloc, order.get(), line),
             Ask::Await => self.fault(FaultKind::TooManyTasks, line),
             Ask::Wait => Ok(Act::Wait),
             Ask::WaitOn(ranges) => self.waits_on(alloc, ranges, line),
