@@ -131,6 +131,7 @@ impl Body {
     {
         match &self.act {
             Act::Create { creation, .. } => {
+                let creation = creation.get();
                 let own = Own::new(self.alloc, &creation.order, &creation.context)?;
                 let top = self.tasks.top.child(self.alloc, code, creation)?;
                 Body::begin(self.alloc, code, own, top)
