@@ -7,7 +7,7 @@ use Rattle.oss_model.specs.Order.{written}
 use Rattle.oss_model.specs.Rights.{Right, Holds}
 use Rattle.oss_model.specs.Moves.{slot_more, slot_of}
 use Rattle.oss_model.specs.Context.{Context, child_context, right_of}
-use Rattle.oss_model.specs.Bodies.{Order, Program, Act as MeantAct, Created, Start, Frame as Meant, Stack, act_of, child_frame, child_start, frame_act, settled_frame, settled_parts, settled_stack, stack_act, stack_after, stack_from, stage_act, start_frame, top_frame}
+use Rattle.oss_model.specs.Bodies.{Order, Program, Act as MeantAct, Created, Start, Frame as Meant, Stack, act_of, child_frame, child_start, frame_act, settled_frame, settled_parts, settled_stack, stack_after, stack_from, stage_act, start_frame, top_frame}
 use Rattle.oss_model.proofs.BodyLemmas.{settle_same, stack_ok}
 use Rattle.oss_model.proofs.StageLemmas.{creating}
 use Rattle.oss_code.specs.declared.code.CodeParts.{CodeParts}
@@ -15,8 +15,7 @@ use Rattle.oss_code.specs.declared.order.TaskOrder.{TaskOrder}
 use Rattle.oss_machine.specs.Asks.{meant_order, script_of}
 use Rattle.oss_machine.specs.Frames.{CodeScript}
 use Rattle.oss_machine.specs.Machines.{asks, machine_start}
-use Rattle.oss_slots.specs.Slots.{Slot, fresh, slot_at}
-use Rattle.oss_body.specs.declared.act.Act.{Act}
+use Rattle.oss_slots.specs.Slots.{fresh, slot_at}
 use Rattle.oss_body.specs.declared.act.Act.TheVariants as acts
 use Rattle.oss_body.specs.declared.act.Creation.{Creation}
 use Rattle.oss_body.specs.declared.body.Body.{Body}
@@ -26,7 +25,7 @@ use Rattle.oss_body.specs.declared.tasks.Tasks.{Tasks}
 use Rattle.oss_body.specs.Acts.{HasContext, act_seen}
 use Rattle.oss_body.specs.Kept.{kept}
 use Rattle.oss_body.specs.Places.{Placed, place_of}
-use Rattle.oss_body.specs.Stacks.{first_place, kept_stack, own_place, rest_of}
+use Rattle.oss_body.specs.Stacks.{kept_stack, own_place, rest_of}
 use Rattle.oss_body.specs.Relation.{HasStarted, IsBody}
 use Rattle.oss_body.proofs.StackLemmas.{own_place_is, some_task}
 

@@ -1,5 +1,5 @@
 -- What is kept of the tasks of a body.
-use Rattle.std.proofs.Common.{◌≡◌, ℕ, refl, sym, ap, ◌∙◌, List, [], ◌∷◌, ◌++◌, length, arith, Bool, true, false}
+use Rattle.std.proofs.Common.{◌≡◌, refl, sym, ap, ◌∙◌, List, [], ◌∷◌, ◌++◌, length, arith, Bool, true, false}
 use Rattle.std.proofs.lemmas.List.{length-append}
 use Rattle.oss_code.specs.declared.code.CodeParts.{CodeParts}
 use Rattle.oss_machine.specs.Frames.{CodeScript}

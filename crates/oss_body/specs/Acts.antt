@@ -4,7 +4,7 @@
 use Rattle.std.specs.Prelude.{◌≡◌, ℕ, suc, nat_eq, Bool, true, false, ◌&&◌, Option, Some, None}
 use Rattle.oss_syntax.specs.declared.fault.FaultKind.{FaultKind}
 use Rattle.oss_model.specs.Context.{Context, child_context, create_fault, tick_fault}
-use Rattle.oss_model.specs.Bodies.{Act as Meant, Frame, word_of}
+use Rattle.oss_model.specs.Bodies.{Act as Meant, word_of}
 use Rattle.oss_meaning.specs.Clauses.{waited_for}
 use Rattle.oss_meaning.specs.Sections.{declared_on}
 use Rattle.oss_machine.specs.Asks.{meant_order}

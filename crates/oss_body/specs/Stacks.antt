@@ -1,6 +1,6 @@
 -- What is kept of all tasks of a body.
 -- Read against: a final task that runs an included one is kept as the included one, and below it the final one.
-use Rattle.std.specs.Prelude.{ℕ, false, List, [], ◌∷◌, ◌++◌}
+use Rattle.std.specs.Prelude.{false, List, [], ◌∷◌, ◌++◌}
 use Rattle.oss_model.specs.Bodies.{Order, Frame as Meant, Stack, child_frame, including_frame, top_frame}
 use Rattle.oss_code.specs.declared.code.CodeParts.{CodeParts}
 use Rattle.oss_machine.specs.Frames.{CodeScript}

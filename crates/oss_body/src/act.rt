@@ -3,7 +3,7 @@
 use oss_code::TaskOrder;
 use oss_judge::Context;
 use oss_model::{FaultKind, Point};
-use oss_syntax::{Access, Bytes, List, Op, Range};
+use oss_syntax::{Access, Boxed, Bytes, List, Op, Range};
 
 /// A creation that the judge has let pass: what the new task is to run, and the context in which it starts.
 #[derive(Drop)]
@@ -30,7 +30,7 @@ pub enum Act {
     },
     /// The creation of a task. One that is included runs in this body.
     Create {
-        creation: Creation,
+        creation: Boxed<Creation>,
         included: bool,
     },
     /// The wait for the task that was created last, under a false `if`.

@@ -24,7 +24,6 @@ use oss_judge::Context;
 use oss_model::Point;
 use oss_syntax::{Access, List};
 use std::alloc::{AllocError, Global};
-use std::mem;
 
 /// A body: one task of a program, and the tasks that it includes (OmpSs-2, execution model; the task directive, its clause `final`). It
 /// tells the act that stands next, and goes on behind it. Of what it has done nothing is kept: it costs the contexts and the
@@ -99,9 +98,10 @@ impl Body {
         requires goes { goes_on (pending_of self.old) ≡ true }
         ensures { OnOk result ((start : Start CodeScript) (found : Items ℕ) → IsBody code.now start found self.old → IsBody code.now start (answer_to (act_seen (pending_of self.old)) loaded ∷ found) self.new) }
     {
-        let act = mem::replace(&mut self.act, Act::End);
-        self.own.keep(&act);
-        self.tasks.apply(self.alloc, code, &act, loaded)?;
+        let applied = self.tasks.apply(self.alloc, code, &self.act, loaded);
+        self.own.keep(&self.act);
+        put(&mut self.act, Act::End);
+        applied?;
         self.begun = true;
         if self.tasks.ended {
             return Ok(());
@@ -131,6 +131,7 @@ impl Body {
     {
         match &self.act {
             Act::Create { creation, .. } => {
+                let creation = creation.get();
                 let own = Own::new(self.alloc, &creation.order, &creation.context)?;
                 let top = self.tasks.top.child(self.alloc, code, creation)?;
                 Body::begin(self.alloc, code, own, top)
@@ -201,4 +202,11 @@ impl Body {
     {
         self.begun
     }
+}
+
+/// Puts an act in the place of one that has happened.
+fn put(place: &mut Act, act: Act)
+    ensures { place.new ≡ act }
+{
+    *place = act;
 }

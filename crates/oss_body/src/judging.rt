@@ -20,7 +20,7 @@ use oss_code::TaskOrder;
 use oss_judge::{Context, JudgeRefused};
 use oss_machine::Ask;
 use oss_model::FaultKind;
-use oss_syntax::{Access, Bytes, List, Op, Range};
+use oss_syntax::{Access, Boxed, Bytes, List, Op, Range};
 use std::alloc::{AllocError, Global};
 
 impl Place {
@@ -79,7 +79,7 @@ impl Place {
                 line,
             ),
             Ask::Fold(cell, op, value) => self.folds(own, *cell, *op, *value, line),
-            Ask::Create(order) => self.creates(alloc, order, line),
+            Ask::Create(order) => self.creates(alloc, order.get(), line),
             Ask::Await => self.fault(FaultKind::TooManyTasks, line),
             Ask::Wait => Ok(Act::Wait),
             Ask::WaitOn(ranges) => self.waits_on(alloc, ranges, line),
@@ -148,8 +148,9 @@ impl Place {
         match self.child(order) {
             Ok(context) => {
                 let order = copy_order(alloc, order)?;
+                let creation = Boxed::new(alloc, Creation { order, context })?;
                 Ok(Act::Create {
-                    creation: Creation { order, context },
+                    creation,
                     included: self.context.is_final(),
                 })
             }

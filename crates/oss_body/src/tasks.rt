@@ -45,7 +45,9 @@ impl Tasks {
             Act::Load(_) => self.top.answer(code, loaded)?,
             Act::Store(cell, _) => self.top.wrote(code, *cell)?,
             Act::Fold { cell, .. } => self.top.wrote(code, *cell)?,
-            Act::Create { creation, included } => self.create(alloc, code, creation, *included)?,
+            Act::Create { creation, included } => {
+                self.create(alloc, code, creation.get(), *included)?
+            }
             Act::Await => self.top.end_await(),
             Act::Wait => self.top.end_wait(code)?,
             Act::WaitOn(ranges) => self.top.end_wait_on(code, ranges)?,

@@ -1,4 +1,5 @@
 pub mod AnswerLemmas
+pub mod AskLemmas
 pub mod CommitLemmas
 pub mod EffectLemmas
 pub mod GlobalLemmas
@@ -12,3 +13,4 @@ pub mod SlideLemmas
 pub mod StackLemmas
 pub mod StepLemmas
 pub mod TurnLemmas
+pub mod TellLemmas

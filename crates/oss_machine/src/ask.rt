@@ -1,5 +1,5 @@
 use oss_code::TaskOrder;
-use oss_syntax::{Access, Bytes, FaultKind, List, Op, Range};
+use oss_syntax::{Access, Boxed, Bytes, FaultKind, List, Op, Range};
 
 /// What a body asks for before it goes on. The answer to a load is the number that was found; every other answer is 0.
 #[derive(Debug, Drop)]
@@ -15,7 +15,7 @@ pub enum Ask {
     /// A fold of this number into this cell.
     Fold(u32, Op, u64),
     /// The creation of a task.
-    Create(TaskOrder),
+    Create(Boxed<TaskOrder>),
     /// That the task created last is done, which stands behind a creation under a false `if`. No machine asks for it.
     Await,
     /// That all tasks that the body created are done.

@@ -1,12 +1,13 @@
 //! Pointers of a code, and the asks for the cells to which they point.
-ghost use Rattle.std.specs.Prelude.{◌≡◌, ◌∷◌, Ok, None};
+ghost use Rattle.std.specs.Prelude.{◌≡◌, ◌∷◌, Ok, None, reverse};
 ghost use Rattle.std.specs.Option.{option_map};
 ghost use Rattle.oss_grammar.specs.Values.{kept};
 ghost use Rattle.oss_model.specs.Bodies.Ask.{Fold, Read, Write};
+ghost use Rattle.oss_meaning.specs.Expressions.{value_at};
 ghost use Rattle.oss_meaning.specs.Pointers.{cell_in, cell_of, element_of, number_in, place_of_global, pointer_to, row_of};
 ghost use Rattle.oss_meaning.specs.declared.value.Value.TheVariants as value;
 ghost use Rattle.oss_code.specs.Globals.{extent_of, extents_in};
-ghost use Rattle.oss_machine.specs.Outcomes.{IsActedAnywhere};
+ghost use Rattle.oss_machine.specs.Outcomes.{IsAskedAnywhere, touch_told};
 ghost use Rattle.oss_machine.specs.Steps.{Effect, onward, touched, with_top, with_two};
 
 use crate::activation::Activation;
@@ -84,38 +85,49 @@ pub(crate) fn element_of(code: &Code, global: u32, row: Value, column: Value) ->
     )
 }
 
-/// A pointer is taken, and the body asks for a load of its cell.
-pub(crate) fn load(code: &Code, frame: &Activation) -> Outcome
-    ensures { IsActedAnywhere (λ f. with_top f.stack (λ p rest. touched (cell_of (extents_in code.now.globals) p) (λ cell. Effect.Asks (Read cell) (λ v. onward (value.Num v ∷ rest) f)))) frame.now frame.now (Ok result) }
+/// What is told of a touch of the cell to which the value at a place of the stack points, counted from the topmost: the body asks, or the
+/// value points to no cell.
+pub(crate) fn touch(code: &Code, frame: &Activation, depth: usize) -> Outcome
+    ensures { result ≡ touch_told (cell_of (extents_in code.now.globals) (value_at (reverse frame.now.stack.items) depth)) }
+{
+    match cell_of(code, value_below(frame.stack.as_slice(), depth)) {
+        Some(_) => Outcome::Asks,
+        None => Outcome::Stops(FaultKind::OutOfRange),
+    }
+}
+
+/// The ask for a load of the cell to which the topmost value points.
+pub(crate) fn load(code: &Code, frame: &Activation) -> Ask
+    ensures { IsAskedAnywhere (λ f. with_top f.stack (λ p rest. touched (cell_of (extents_in code.now.globals) p) (λ cell. Effect.Asks (Read cell) (λ v. onward (value.Num v ∷ rest) f)))) frame.now (Ok result) }
 {
     match cell_of(code, value_below(frame.stack.as_slice(), 0)) {
-        Some(cell) => Outcome::Asks(Ask::Read(cell)),
-        None => Outcome::Stops(FaultKind::OutOfRange),
+        Some(cell) => Ask::Read(cell),
+        None => Ask::End,
     }
 }
 
-/// A pointer and a number are taken, and the body asks for a store of what the cell keeps of it.
-pub(crate) fn store(code: &Code, frame: &Activation, kind: NumKind) -> Outcome
-    ensures { IsActedAnywhere (λ f. with_two f.stack (λ p v rest. touched (cell_of (extents_in code.now.globals) p) (λ cell. Effect.Asks (Write cell (kept kind (number_in v))) (λ t. onward rest f)))) frame.now frame.now (Ok result) }
+/// The ask for a store of what the cell keeps of the topmost value.
+pub(crate) fn store(code: &Code, frame: &Activation, kind: NumKind) -> Ask
+    ensures { IsAskedAnywhere (λ f. with_two f.stack (λ p v rest. touched (cell_of (extents_in code.now.globals) p) (λ cell. Effect.Asks (Write cell (kept kind (number_in v))) (λ t. onward rest f)))) frame.now (Ok result) }
 {
     match cell_of(code, value_below(frame.stack.as_slice(), 1)) {
         Some(cell) => {
             let number = number_in(value_below(frame.stack.as_slice(), 0));
-            Outcome::Asks(Ask::Write(cell, keep(kind, number)))
+            Ask::Write(cell, keep(kind, number))
         }
-        None => Outcome::Stops(FaultKind::OutOfRange),
+        None => Ask::End,
     }
 }
 
-/// A pointer and a number are taken, and the body asks for a fold of it into the cell.
-pub(crate) fn fold(code: &Code, frame: &Activation, op: Op) -> Outcome
-    ensures { IsActedAnywhere (λ f. with_two f.stack (λ p v rest. touched (cell_of (extents_in code.now.globals) p) (λ cell. Effect.Asks (Fold cell op (number_in v)) (λ t. onward rest f)))) frame.now frame.now (Ok result) }
+/// The ask for a fold of the topmost value into the cell.
+pub(crate) fn fold(code: &Code, frame: &Activation, op: Op) -> Ask
+    ensures { IsAskedAnywhere (λ f. with_two f.stack (λ p v rest. touched (cell_of (extents_in code.now.globals) p) (λ cell. Effect.Asks (Fold cell op (number_in v)) (λ t. onward rest f)))) frame.now (Ok result) }
 {
     match cell_of(code, value_below(frame.stack.as_slice(), 1)) {
         Some(cell) => {
             let number = number_in(value_below(frame.stack.as_slice(), 0));
-            Outcome::Asks(Ask::Fold(cell, op, number))
+            Ask::Fold(cell, op, number)
         }
-        None => Outcome::Stops(FaultKind::OutOfRange),
+        None => Ask::End,
     }
 }

@@ -1,21 +1,23 @@
 //! What the clauses of a directive give, and the asks of directives.
-ghost use Rattle.std.specs.Prelude.{◌≡◌, ◌+◌, IfOk, Ok, drop, true};
+ghost use Rattle.std.specs.Prelude.{◌≡◌, ◌+◌, ℕ, IfOk, Ok, drop, slice_get, true};
 ghost use Rattle.oss_grammar.specs.SectionCells.{signed};
 ghost use Rattle.oss_model.specs.Bodies.Ask.{Create, Release, WaitOn};
 ghost use Rattle.oss_meaning.specs.Clauses.{holds, order_of};
 ghost use Rattle.oss_meaning.specs.Expressions.{value_at};
 ghost use Rattle.oss_meaning.specs.Pointers.{number_in};
 ghost use Rattle.oss_machine.specs.Activations.{base_in};
-ghost use Rattle.oss_machine.specs.Outcomes.{IsActed, IsActedAnywhere, IsMoved};
+ghost use Rattle.oss_machine.specs.Outcomes.{IsActedAnywhere, IsAsked, IsMoved};
+ghost use Rattle.oss_machine.specs.Slides.{spawn_of};
 ghost use Rattle.oss_machine.specs.Steps.{Effect, ahead, directive_done, named_in, onward, spawned, with_arguments, with_stack};
 
 use crate::accesses::{all_accesses, all_named};
+use crate::act::entry_of;
 use crate::activation::{Activation, ClauseValues, Gathered};
 use crate::ask::Ask;
 use crate::outcome::Outcome;
 use crate::stack::{lower, place_behind, value_below};
-use oss_code::TaskOrder;
-use oss_syntax::{FaultKind, List};
+use oss_code::{Code, Instr, TaskOrder};
+use oss_syntax::{Boxed, FaultKind, List};
 use oss_values::{is_zero, number_in, signed};
 use std::alloc::{AllocError, Global};
 
@@ -71,19 +73,19 @@ fn entry_behind(at: usize, passed: u32) -> Result<u32, AllocError>
     }
 }
 
-/// The body asks for the creation of a task with what the clauses gave and a copy of the locals.
+/// The ask for the creation of a task with what the clauses gave and a copy of the locals.
 pub(crate) fn create(
     alloc: Global,
     base: &Gathered,
     frame: &Activation,
     passed: u32,
-) -> Result<Outcome, AllocError>
-    ensures { IsActed (base_in base.now) (λ f. Effect.Asks (Create (order_of (record { entry = f.at + 1 + passed; copies = f.locals }) f.made)) (λ t. directive_done f)) frame.now frame.now result }
+) -> Result<Ask, AllocError>
+    ensures { IsAsked (base_in base.now) (λ f. Effect.Asks (Create (order_of (record { entry = f.at + 1 + passed; copies = f.locals }) f.made)) (λ t. directive_done f)) frame.now result }
 {
     let entry = entry_behind(frame.at, passed)?;
     let accesses = all_accesses(alloc, base, frame)?;
     let copies = Vec::from_slice(alloc, frame.locals.as_slice())?;
-    Ok(Outcome::Asks(Ask::Create(TaskOrder {
+    let order = TaskOrder {
         entry,
         copies: List::from_vec(copies),
         accesses,
@@ -91,31 +93,24 @@ pub(crate) fn create(
         last: frame.clauses.last,
         wait: frame.clauses.wait,
         priority: frame.clauses.priority,
-    })))
+    };
+    Ok(Ask::Create(Boxed::new(alloc, order)?))
 }
 
-/// The body asks for what the tasks that it created declared of the cells that the directive names.
-pub(crate) fn wait_on(
-    alloc: Global,
-    base: &Gathered,
-    frame: &Activation,
-) -> Result<Outcome, AllocError>
-    ensures { IsActed (base_in base.now) (λ f. Effect.Asks (WaitOn (named_in f.made)) (λ t. directive_done f)) frame.now frame.now result }
+/// The ask for what the tasks that the body created declared of the cells that the directive names.
+pub(crate) fn wait_on(alloc: Global, base: &Gathered, frame: &Activation) -> Result<Ask, AllocError>
+    ensures { IsAsked (base_in base.now) (λ f. Effect.Asks (WaitOn (named_in f.made)) (λ t. directive_done f)) frame.now result }
 {
     let named = all_named(alloc, base, frame)?;
-    Ok(Outcome::Asks(Ask::WaitOn(named)))
+    Ok(Ask::WaitOn(named))
 }
 
-/// The body asks for the release of what the directive declares.
-pub(crate) fn release(
-    alloc: Global,
-    base: &Gathered,
-    frame: &Activation,
-) -> Result<Outcome, AllocError>
-    ensures { IsActed (base_in base.now) (λ f. Effect.Asks (Release f.made.accesses) (λ t. directive_done f)) frame.now frame.now result }
+/// The ask for the release of what the directive declares.
+pub(crate) fn release(alloc: Global, base: &Gathered, frame: &Activation) -> Result<Ask, AllocError>
+    ensures { IsAsked (base_in base.now) (λ f. Effect.Asks (Release f.made.accesses) (λ t. directive_done f)) frame.now result }
 {
     let accesses = all_accesses(alloc, base, frame)?;
-    Ok(Outcome::Asks(Ask::Release(accesses)))
+    Ok(Ask::Release(accesses))
 }
 
 /// Behind a directive: the clauses of the next one have given nothing yet.
@@ -134,12 +129,27 @@ pub(crate) fn end_directive(frame: &mut Activation) -> Result<(), AllocError>
     Ok(())
 }
 
-/// The creation of a task function begins with this instruction and takes so many of the values; none begins inside another.
-pub(crate) fn spawn(frame: &Activation, entry: usize, count: usize) -> Outcome
-    ensures { IsActedAnywhere (λ f. with_arguments count f.stack (λ vs rest. spawned f.call_line entry vs (with_stack rest f))) frame.now frame.now (Ok result) }
+/// The creation of a task function begins; none begins inside another.
+pub(crate) fn spawn(frame: &Activation) -> Outcome
+    ensures { (entry count : ℕ) → IsActedAnywhere (λ f. with_arguments count f.stack (λ vs rest. spawned f.call_line entry vs (with_stack rest f))) frame.now frame.now (Ok result) }
 {
     match frame.call_line {
-        None => Outcome::Creates(entry, count),
+        None => Outcome::Creates,
         Some(_) => Outcome::Stops(FaultKind::TooDeep),
+    }
+}
+
+/// Where the creation of a task function begins to which the instruction at a place leads, and how many of the values it takes.
+pub(crate) fn spawn_at(code: &Code, at: usize) -> (usize, usize)
+    ensures { result ≡ spawn_of code.now (slice_get code.now.instrs at) }
+{
+    match code.get(at) {
+        Some(
+            Instr::Spawn {
+                function,
+                arguments,
+            },
+        ) => (entry_of(code, *function), *arguments as usize),
+        _ => (0, 0),
     }
 }

@@ -71,10 +71,8 @@ pub(crate) fn first_activation(
 pub(crate) fn continue_from(work: &mut Activation, still: &Activation) -> Result<(), AllocError>
     ensures { OnOk result (frame_on (base_in still.now.gathered) work.new ≡ frame_on no_base still.now) }
 {
-    work.stack.clear();
-    work.stack.extend_from_slice(still.stack.as_slice())?;
-    work.locals.clear();
-    work.locals.extend_from_slice(still.locals.as_slice())?;
+    copy_values(&mut work.stack, still.stack.as_slice())?;
+    copy_values(&mut work.locals, still.locals.as_slice())?;
     work.at = still.at;
     work.call_line = still.call_line;
     work.clauses = still.clauses;
@@ -83,5 +81,18 @@ pub(crate) fn continue_from(work: &mut Activation, still: &Activation) -> Result
     work.adds_ranges = true;
     work.gathered.accesses.clear();
     work.gathered.ranges.clear();
+    Ok(())
+}
+
+/// Makes values those of others.
+fn copy_values(values: &mut Vec<Value>, others: &[Value]) -> Result<(), AllocError>
+    ensures { OnOk result (values.new.items ≡ others.now) }
+{
+    if values.len() == others.len() {
+        values.as_mut_slice().copy_from_slice(others);
+        return Ok(());
+    }
+    values.clear();
+    values.extend_from_slice(others)?;
     Ok(())
 }

@@ -6,6 +6,7 @@ mod act;
 mod activation;
 mod answer;
 mod ask;
+mod asking;
 mod bodies;
 mod cells;
 mod directives;

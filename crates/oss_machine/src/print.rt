@@ -3,12 +3,11 @@ ghost use Rattle.std.specs.Prelude.{◌≡◌, ◌++◌, IfOk, map};
 ghost use Rattle.oss_grammar.specs.Formats.{written_pieces};
 ghost use Rattle.oss_model.specs.Bodies.Ask.{Print};
 ghost use Rattle.oss_meaning.specs.Pointers.{number_in};
-ghost use Rattle.oss_machine.specs.Outcomes.{IsActedAnywhere};
+ghost use Rattle.oss_machine.specs.Outcomes.{IsAskedAnywhere};
 ghost use Rattle.oss_machine.specs.Steps.{Effect, onward, with_arguments};
 
 use crate::activation::Activation;
 use crate::ask::Ask;
-use crate::outcome::Outcome;
 use crate::stack::arguments;
 use oss_grammar::{Piece, write_pieces};
 use oss_meaning::Value;
@@ -27,17 +26,17 @@ fn numbers(alloc: Global, values: &[Value]) -> Result<Vec<u64>, AllocError>
     Ok(found)
 }
 
-/// So many numbers are taken, and the body asks for a print of the pieces of a string with them.
+/// The ask for a print of the pieces of a string with so many numbers.
 pub(crate) fn print(
     alloc: Global,
     frame: &Activation,
     pieces: &[Piece],
     count: u32,
-) -> Result<Outcome, AllocError>
-    ensures { IsActedAnywhere (λ f. with_arguments count f.stack (λ vs rest. Effect.Asks (Print (written_pieces pieces.now (map number_in vs))) (λ t. onward rest f))) frame.now frame.now result }
+) -> Result<Ask, AllocError>
+    ensures { IsAskedAnywhere (λ f. with_arguments count f.stack (λ vs rest. Effect.Asks (Print (written_pieces pieces.now (map number_in vs))) (λ t. onward rest f))) frame.now result }
 {
     let values = numbers(alloc, arguments(frame.stack.as_slice(), count as usize))?;
     let mut text = Vec::new(alloc);
     write_pieces(alloc, pieces, values.as_slice(), &mut text)?;
-    Ok(Outcome::Asks(Ask::Print(Bytes::from_vec(text))))
+    Ok(Ask::Print(Bytes::from_vec(text)))
 }

@@ -1,13 +1,15 @@
 //! What the function that runs does, and where it stands.
 ghost use Rattle.std.specs.Prelude.{◌≡◌, IfOk, OnOk};
 ghost use Rattle.oss_machine.specs.Activations.{Base, base_in, frame_on, no_base};
-ghost use Rattle.oss_machine.specs.Outcomes.{told};
+ghost use Rattle.oss_machine.specs.Asks.{meant_ask};
 ghost use Rattle.oss_machine.specs.Runs.{base_above, base_at, config_in};
-ghost use Rattle.oss_machine.specs.Slides.{IsToldAt, Slides, acted_at};
+ghost use Rattle.oss_machine.specs.Slides.{IsToldAt, Slides, acted_at, ask_at};
 ghost use Rattle.oss_machine.specs.Steps.{line_of};
 
 use crate::act::act;
 use crate::activation::{Activation, Gathered};
+use crate::ask::Ask;
+use crate::asking::ask_of;
 use crate::bodies::{Run, Still};
 use crate::first::nothing_gathered;
 use crate::outcome::Outcome;
@@ -59,7 +61,7 @@ fn act_here(
     base: &Gathered,
     frame: &mut Activation,
 ) -> Result<Outcome, AllocError>
-    ensures { IfOk result (λ o. acted_at code.now (frame_on (base_in base.now) frame.old) ≡ (frame_on (base_in base.now) frame.new, told (frame_on (base_in base.now) frame.old) o)) }
+    ensures { IfOk result (λ o. acted_at code.now (frame_on (base_in base.now) frame.old) ≡ (frame_on (base_in base.now) frame.new, o)) }
 {
     match code.get(frame.at) {
         Some(instr) => act(alloc, code, base, frame, instr),
@@ -99,4 +101,23 @@ pub(crate) fn slide_on(
     let nothing = nothing_gathered(alloc);
     let base = base(still, run, &nothing);
     slide(alloc, code, base, &mut run.work)
+}
+
+/// What the instruction asks for at which the function that runs stands.
+pub(crate) fn ask_here(
+    alloc: Global,
+    code: &Code,
+    still: &Still,
+    run: &Run,
+) -> Result<Ask, AllocError>
+    ensures { IfOk result (λ ask. meant_ask ask ≡ ask_at code.now (config_in still.now run.now).frame) }
+{
+    match code.get(run.work.at) {
+        Some(instr) => {
+            let nothing = nothing_gathered(alloc);
+            let base = base(still, run, &nothing);
+            ask_of(alloc, code, base, &run.work, instr)
+        }
+        None => Ok(Ask::End),
+    }
 }

@@ -33,10 +33,10 @@ fn gather(
     ensures err { OnErr result (base_in base.new ≡ base_in base.old) }
 {
     let count = base.accesses.len();
-    if adds_accesses {
+    if adds_accesses && !more.accesses.is_empty() {
         base.accesses.extend_from_slice(more.accesses.as_slice())?;
     }
-    if adds_ranges {
+    if adds_ranges && !more.ranges.is_empty() {
         match base.ranges.extend_from_slice(more.ranges.as_slice()) {
             Ok(()) => {}
             Err(full) => {

@@ -1,5 +1,5 @@
 //! Values on the stack of a function.
-ghost use Rattle.std.specs.Prelude.{◌≡◌, ◌+◌, ◌-◌, ◌∷◌, IfOk, OnOk, drop, reverse, take};
+ghost use Rattle.std.specs.Prelude.{◌≡◌, ◌+◌, ◌-◌, ◌∷◌, ◌++◌, [], IfOk, OnOk, drop, reverse, take};
 ghost use Rattle.oss_meaning.specs.Expressions.{value_at};
 ghost use Rattle.oss_machine.specs.Outcomes.{IsMoved};
 ghost use Rattle.oss_machine.specs.Steps.{ahead, onward};
@@ -9,6 +9,7 @@ use oss_meaning::Value;
 use std::alloc::AllocError;
 
 /// The place so many instructions behind the next one. A code with a place that no number tells has no room in any memory.
+#[inline(always)]
 pub(crate) fn place_behind(at: usize, passed: u32) -> Result<usize, AllocError>
     ensures { IfOk result (λ to. to ≡ at + 1 + passed) }
 {
@@ -19,6 +20,7 @@ pub(crate) fn place_behind(at: usize, passed: u32) -> Result<usize, AllocError>
 }
 
 /// The value at a place of the stack, counted from the topmost.
+#[inline(always)]
 pub(crate) fn value_below(stack: &[Value], depth: usize) -> Value
     ensures { result ≡ value_at (reverse stack.now) depth }
 {
@@ -39,6 +41,7 @@ pub(crate) fn arguments(stack: &[Value], count: usize) -> &[Value]
 }
 
 /// Takes the topmost values away, so many of them.
+#[inline(always)]
 #[tactic(auto, using(crate::proofs::StackLemmas::dropped))]
 pub(crate) fn lower(stack: &mut Vec<Value>, taken: usize)
     ensures { reverse stack.new.items ≡ drop taken (reverse stack.old.items) }
@@ -48,17 +51,41 @@ pub(crate) fn lower(stack: &mut Vec<Value>, taken: usize)
 }
 
 /// Lays one value in the place of the topmost, so many of them.
+#[inline(always)]
 #[tactic(auto, using(crate::proofs::StackLemmas::laid))]
 pub(crate) fn lay(stack: &mut Vec<Value>, taken: usize, value: Value) -> Result<(), AllocError>
     ensures { OnOk result (reverse stack.new.items ≡ value ∷ drop taken (reverse stack.old.items)) }
 {
     let left = stack.len().saturating_sub(taken);
     stack.truncate(left);
-    stack.push(value)?;
+    push(stack, value)
+}
+
+/// Lays one value on top.
+#[inline(always)]
+fn push(values: &mut Vec<Value>, value: Value) -> Result<(), AllocError>
+    ensures { OnOk result (values.new.items ≡ values.old.items ++ value ∷ []) }
+{
+    if values.len() < values.capacity() {
+        values.push_reserved(value);
+        Ok(())
+    } else {
+        push_more(values, value)
+    }
+}
+
+/// The same where there is no room yet.
+#[cold]
+#[inline(never)]
+fn push_more(values: &mut Vec<Value>, value: Value) -> Result<(), AllocError>
+    ensures { OnOk result (values.new.items ≡ values.old.items ++ value ∷ []) }
+{
+    values.push(value)?;
     Ok(())
 }
 
 /// Goes on with one value in the place of the topmost, so many of them.
+#[inline(always)]
 pub(crate) fn put(frame: &mut Activation, taken: usize, value: Value) -> Result<(), AllocError>
     ensures { IsMoved (λ f. onward (value ∷ drop taken f.stack) f) frame.old frame.new result }
 {
@@ -67,6 +94,7 @@ pub(crate) fn put(frame: &mut Activation, taken: usize, value: Value) -> Result<
 }
 
 /// Goes on without the topmost values, so many of them.
+#[inline(always)]
 pub(crate) fn pass(frame: &mut Activation, taken: usize) -> Result<(), AllocError>
     ensures { IsMoved (λ f. onward (drop taken f.stack) f) frame.old frame.new result }
 {

@@ -116,9 +116,11 @@ fn is(ask: &Ask, wanted: &Seen) -> bool {
             *cell == *other && *number == *value
         }
         (Ask::Create(order), Seen::Create(entry, count)) => {
+            let order = order.get();
             order.entry == *entry && order.accesses.len() == *count
         }
         (Ask::Create(order), Seen::CreateOver(entry, lo, hi)) => {
+            let order = order.get();
             order.entry == *entry && is_one_access(&order.accesses, *lo, *hi)
         }
         (Ask::Wait, Seen::Wait) => true,

@@ -1,6 +1,6 @@
 use Rattle.std.proofs.Common.{◌≡◌, refl}
 use Rattle.oss_machine.specs.Activations.{base_in, frame_on}
-use Rattle.oss_machine.specs.Outcomes.{Told}
+use Rattle.oss_machine.specs.declared.outcome.Outcome.TheVariants as outcome
 use Rattle.oss_machine.specs.Slides.{acted_at}
 use Rattle.oss_machine.specs.Slides.Slides.{stays, goes}
 use Rattle.oss_machine.proofs.SlideLemmas.{goes_less, stopped}
@@ -14,7 +14,7 @@ loop-outcome-smaller c =
     let code = c.args.code.now in
     let here = frame_on (base_in c.args.base.now) c.loop-outcome.frame in
     let next = frame_on (base_in c.args.base.now) c.act_here.new.frame in
-    let went : acted_at code here ≡ (next, Told.On) = rw c.in-On.is at c.in_ok-outcome.ensures in
+    let went : acted_at code here ≡ (next, outcome.On) = rw c.in-On.is at c.in_ok-outcome.ensures in
     goes_less code here next went
 
 pub loop-outcome-preserved : goal.loop-outcome-preserved
@@ -22,7 +22,7 @@ loop-outcome-preserved c =
     let code = c.args.code.now in
     let here = frame_on (base_in c.args.base.now) c.loop-outcome.frame in
     let next = frame_on (base_in c.args.base.now) c.act_here.new.frame in
-    let went : acted_at code here ≡ (next, Told.On) = rw c.in-On.is at c.in_ok-outcome.ensures in
+    let went : acted_at code here ≡ (next, outcome.On) = rw c.in-On.is at c.in_ok-outcome.ensures in
     goes here c.loop-outcome.invariant went
 
 pub returns-in_default : goal.returns-in_default

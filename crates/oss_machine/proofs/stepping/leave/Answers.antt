@@ -1,13 +1,16 @@
 use Rattle.std.proofs.Common.{◌≡◌, ◌∷◌, ◌∙◌, ◌<◌, Some, drop, reverse, slice_get, take, sym, ap, subst, refl, arith}
-use Rattle.oss_model.specs.Bodies.Ask.{End, Fails, Tick}
-use Rattle.oss_machine.specs.Asks.{meant_ask}
-use Rattle.oss_machine.specs.Frames.{first_frame, open_functions}
-use Rattle.oss_machine.specs.Outcomes.{Told}
+use Rattle.oss_model.specs.Bodies.{Ask}
+use Rattle.oss_model.specs.Bodies.Ask.{End, Fails}
+use Rattle.oss_meaning.specs.declared.value.Value.{Value}
+use Rattle.oss_meaning.specs.Expressions.{value_at}
+use Rattle.oss_machine.specs.declared.outcome.Outcome.TheVariants as outcome
+use Rattle.oss_machine.specs.Frames.{CodeScript, first_frame, open_functions}
+use Rattle.oss_machine.specs.Machines.{IsWaiting, asked_in}
 use Rattle.oss_machine.specs.Runs.{IsStepped, base_above, base_at, config_in}
-use Rattle.oss_machine.specs.Slides.{acted_at}
-use Rattle.oss_machine.specs.Steps.{given, line_of, with_stack}
+use Rattle.oss_machine.specs.Slides.{acted_at, ask_at}
+use Rattle.oss_machine.specs.Steps.{Goes, given, line_of, one_step, with_stack}
 use Rattle.oss_machine.proofs.RunSteps.{goes_is}
-use Rattle.oss_machine.proofs.SlideLemmas.{at_asks, at_calls, at_creates, at_end, at_gives, at_stops, few_step, waits_told}
+use Rattle.oss_machine.proofs.SlideLemmas.{at_asks, at_creates, at_end, at_gives, at_stops, creating, few_step, waits_told}
 use Rattle.oss_machine.proofs.stepping.leave.Goals as goal
 
 pub returns-in_ok-give-in-Gives-clause-step : goal.returns-in_ok-give-in-Gives-clause-step
@@ -16,12 +19,12 @@ returns-in_ok-give-in-Gives-clause-step c =
     let old = config_in c.args.still.now c.args.run.now in
     let few : open_functions (old.frame ∷ old.callers) < 257 = omega (arith, c.requires.run.counted, c.requires.few) in
     let lines : c.line_of-line.result ≡ line_of code old.frame = c.line_of-line.ensures (base_above (base_at c.args.still.now c.args.run.now.live) c.args.run.now.waiting.items) in
-    let v = c.in-Gives.value in
-    let h : acted_at code old.frame ≡ (old.frame, Told.Gives v) = rw c.in-Gives.is at c.requires.told in
+    let v : c.value_below-value.result ≡ value_at old.frame.stack 0 = rw (c.value_below-value.ensures, c.as_slice.ensures.value) in
+    let h : acted_at code old.frame ≡ (old.frame, outcome.Gives) = rw c.in-Gives.is at c.requires.told in
     let new = config_in c.args.still.now c.give.new.run in
     let answer = c.in_ok-give-in-Gives.field-0 in
-    let at_line = subst (λ l. IsStepped (given old.callers v l old) old new answer) lines c.in_ok-give-in-Gives.ensures.step in
-    subst (λ s. IsStepped s old new answer) (sym (few_step code old few ∙ at_gives code old v (slice_get code.instrs old.frame.at) h)) at_line
+    let at_line = subst (λ (x : Value). IsStepped (given old.callers x (line_of code old.frame) old) old new answer) v (subst (λ l. IsStepped (given old.callers c.value_below-value.result l old) old new answer) lines c.in_ok-give-in-Gives.ensures.step) in
+    subst (λ s. IsStepped s old new answer) (sym (few_step code old few ∙ at_gives code old (slice_get code.instrs old.frame.at) h)) at_line
 
 pub returns-in-Stops-clause-step : goal.returns-in-Stops-clause-step
 returns-in-Stops-clause-step c =
@@ -29,26 +32,18 @@ returns-in-Stops-clause-step c =
     let old = config_in c.args.still.now c.args.run.now in
     let few : open_functions (old.frame ∷ old.callers) < 257 = omega (arith, c.requires.run.counted, c.requires.few) in
     let lines : c.line_of-line.result ≡ line_of code old.frame = c.line_of-line.ensures (base_above (base_at c.args.still.now c.args.run.now.live) c.args.run.now.waiting.items) in
-    let h : acted_at code old.frame ≡ (old.frame, Told.Stops c.in-Stops.kind) = rw c.in-Stops.is at c.requires.told in
+    let h : acted_at code old.frame ≡ (old.frame, outcome.Stops c.in-Stops.kind) = rw c.in-Stops.is at c.requires.told in
     waits_told code old (Fails c.in-Stops.kind) (line_of code old.frame) c.line_of-line.result few (at_stops code old c.in-Stops.kind (slice_get code.instrs old.frame.at) h) lines
 
-pub returns-in-Asks-clause-step : goal.returns-in-Asks-clause-step
-returns-in-Asks-clause-step c =
+pub returns-in_ok-ask-in-Asks-clause-step : goal.returns-in_ok-ask-in-Asks-clause-step
+returns-in_ok-ask-in-Asks-clause-step c =
     let code = c.args.code.now in
     let old = config_in c.args.still.now c.args.run.now in
     let few : open_functions (old.frame ∷ old.callers) < 257 = omega (arith, c.requires.run.counted, c.requires.few) in
     let lines : c.line_of-line.result ≡ line_of code old.frame = c.line_of-line.ensures (base_above (base_at c.args.still.now c.args.run.now.live) c.args.run.now.waiting.items) in
-    let h : acted_at code old.frame ≡ (old.frame, Told.Asks (meant_ask c.in-Asks.ask)) = rw c.in-Asks.is at c.requires.told in
-    waits_told code old (meant_ask c.in-Asks.ask) (line_of code old.frame) c.line_of-line.result few (at_asks code old (meant_ask c.in-Asks.ask) (slice_get code.instrs old.frame.at) h) lines
-
-pub returns-in-Calls-clause-step : goal.returns-in-Calls-clause-step
-returns-in-Calls-clause-step c =
-    let code = c.args.code.now in
-    let old = config_in c.args.still.now c.args.run.now in
-    let few : open_functions (old.frame ∷ old.callers) < 257 = omega (arith, c.requires.run.counted, c.requires.few) in
-    let lines : c.line_of-line.result ≡ line_of code old.frame = c.line_of-line.ensures (base_above (base_at c.args.still.now c.args.run.now.live) c.args.run.now.waiting.items) in
-    let h : acted_at code old.frame ≡ (old.frame, Told.Calls) = rw c.in-Calls.is at c.requires.told in
-    waits_told code old Tick (line_of code old.frame) c.line_of-line.result few (at_calls code old (slice_get code.instrs old.frame.at) h) lines
+    let h : acted_at code old.frame ≡ (old.frame, outcome.Asks) = rw c.in-Asks.is at c.requires.told in
+    subst (λ (a : Ask CodeScript). IsWaiting (one_step code old) × (asked_in (one_step code old) ≡ record { ask = a; line = c.line_of-line.result }) × (old ≡ old)) (sym c.in_ok-ask-in-Asks.ensures)
+    (waits_told code old (ask_at code old.frame) (line_of code old.frame) c.line_of-line.result few (at_asks code old (slice_get code.instrs old.frame.at) h) lines)
 
 pub returns-in_ok-enter-in-Creates-clause-step : goal.returns-in_ok-enter-in-Creates-clause-step
 returns-in_ok-enter-in-Creates-clause-step c =
@@ -56,15 +51,16 @@ returns-in_ok-enter-in-Creates-clause-step c =
     let old = config_in c.args.still.now c.args.run.now in
     let few : open_functions (old.frame ∷ old.callers) < 257 = omega (arith, c.requires.run.counted, c.requires.few) in
     let lines : c.line_of-line.result ≡ line_of code old.frame = c.line_of-line.ensures (base_above (base_at c.args.still.now c.args.run.now.live) c.args.run.now.waiting.items) in
-    let entry = c.in-Creates.entry in
-    let count = c.in-Creates.count in
+    let entry = c.spawn_at-entry.result.0 in
+    let count = c.spawn_at-entry.result.1 in
     let vs = reverse (take count old.frame.stack) in
     let k = with_stack (drop count old.frame.stack) old.frame in
-    let h : acted_at code old.frame ≡ (old.frame, Told.Creates entry vs k) = rw c.in-Creates.is at c.requires.told in
+    let h : acted_at code old.frame ≡ (old.frame, outcome.Creates) = rw c.in-Creates.is at c.requires.told in
     let d = config_in c.args.still.now c.enter.new.run in
     let frame : d.frame ≡ first_frame (Some (line_of code old.frame)) entry vs = c.in_ok-enter-in-Creates.ensures.frame ∙ ap (λ l. first_frame (Some l) entry vs) lines in
     few_step code old few
-    ∙ at_creates code old entry vs k (slice_get code.instrs old.frame.at) h
+    ∙ at_creates code old (slice_get code.instrs old.frame.at) h
+    ∙ ap (λ p. Goes (creating code old p)) (sym c.spawn_at-entry.ensures)
     ∙ goes_is d (first_frame (Some (line_of code old.frame)) entry vs) (k ∷ old.callers) frame c.in_ok-enter-in-Creates.ensures.callers
 
 pub returns-in-Ends-clause-step : goal.returns-in-Ends-clause-step
@@ -72,5 +68,5 @@ returns-in-Ends-clause-step c =
     let code = c.args.code.now in
     let old = config_in c.args.still.now c.args.run.now in
     let few : open_functions (old.frame ∷ old.callers) < 257 = omega (arith, c.requires.run.counted, c.requires.few) in
-    let h : acted_at code old.frame ≡ (old.frame, Told.Ends) = rw c.in-Ends.is at c.requires.told in
+    let h : acted_at code old.frame ≡ (old.frame, outcome.Ends) = rw c.in-Ends.is at c.requires.told in
     waits_told code old End 0 0 few (at_end code old (slice_get code.instrs old.frame.at) h) refl

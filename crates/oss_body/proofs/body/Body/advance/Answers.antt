@@ -1,10 +1,9 @@
-use Rattle.std.proofs.Common.{◌≡◌, refl, sym, ap, subst}
+use Rattle.std.proofs.Common.{◌≡◌, refl, ap}
 use Rattle.oss_machine.specs.Machines.{asks}
 use Rattle.oss_model.specs.Bodies.{stack_after, stack_from, top_frame}
-use Rattle.oss_body.specs.declared.act.Act.{Act}
 use Rattle.oss_body.specs.declared.own.Own.{Own}
 use Rattle.oss_body.specs.declared.tasks.Tasks.{Tasks}
-use Rattle.oss_body.specs.Acts.{HasContext, act_seen, answer_to}
+use Rattle.oss_body.specs.Acts.{act_seen, answer_to}
 use Rattle.oss_body.specs.Stacks.{kept_stack}
 use Rattle.oss_body.proofs.Advancing.{OwnAfter}
 use Rattle.oss_body.proofs.Advancing as advancing
@@ -16,17 +15,14 @@ returns-then-self c = λ start found is.
     let old = c.args.self.now in
     let v = answer_to (act_seen old.act) c.args.loaded in
     let s = stack_from (asks code) start found in
-    let child : HasContext (top_frame s.base s.inner).context c.replace-act.result = subst (HasContext (top_frame s.base s.inner).context) (sym c.replace-act.ensures.value) (is.child c.requires.running) in
-    let h : c.apply.new.self ≡ kept_stack code (stack_after (act_seen old.act) v s.base s.inner) =
-    subst (λ (a : Act). c.apply.new.self ≡ kept_stack code (stack_after (act_seen a) (answer_to (act_seen a) c.args.loaded) s.base s.inner)) c.replace-act.ensures.value (c.in_ok-apply.ensures s (is.tasks c.requires.running) child) in
-    let kept : OwnAfter old.own (act_seen c.replace-act.result) c.keep.new.self = record {
+    let h : c.apply-applied.new.self ≡ kept_stack code (stack_after (act_seen old.act) v s.base s.inner) = c.in_ok-applied.ensures s (is.tasks c.requires.running) (is.child c.requires.running) in
+    let own : OwnAfter old.own (act_seen old.act) c.keep.new.self = record {
       context = ap (λ (o : Own). o.context) c.keep.ensures.rest;
       wait = ap (λ (o : Own). o.wait) c.keep.ensures.rest;
       priority = ap (λ (o : Own). o.priority) c.keep.ensures.rest;
       slots = c.keep.ensures.slots;
     } in
-    let own : OwnAfter old.own (act_seen old.act) c.keep.new.self = subst (λ (a : Act). OwnAfter old.own (act_seen a) c.keep.new.self) c.replace-act.ensures.value kept in
-    advancing.ends code start found old v is c.requires.running c.apply.new.self h c.if-self.true _ own refl refl
+    advancing.ends code start found old v is c.requires.running c.apply-applied.new.self h c.if-self.true _ own refl refl
 
 pub returns : goal.returns
 returns c = λ start found is.
@@ -35,17 +31,14 @@ returns c = λ start found is.
     let v = answer_to (act_seen old.act) c.args.loaded in
     let s = stack_from (asks code) start found in
     let m = stack_after (act_seen old.act) v s.base s.inner in
-    let child : HasContext (top_frame s.base s.inner).context c.replace-act.result = subst (HasContext (top_frame s.base s.inner).context) (sym c.replace-act.ensures.value) (is.child c.requires.running) in
-    let h : c.apply.new.self ≡ kept_stack code m =
-    subst (λ (a : Act). c.apply.new.self ≡ kept_stack code (stack_after (act_seen a) (answer_to (act_seen a) c.args.loaded) s.base s.inner)) c.replace-act.ensures.value (c.in_ok-apply.ensures s (is.tasks c.requires.running) child) in
-    let kept : OwnAfter old.own (act_seen c.replace-act.result) c.keep.new.self = record {
+    let h : c.apply-applied.new.self ≡ kept_stack code m = c.in_ok-applied.ensures s (is.tasks c.requires.running) (is.child c.requires.running) in
+    let own : OwnAfter old.own (act_seen old.act) c.keep.new.self = record {
       context = ap (λ (o : Own). o.context) c.keep.ensures.rest;
       wait = ap (λ (o : Own). o.wait) c.keep.ensures.rest;
       priority = ap (λ (o : Own). o.priority) c.keep.ensures.rest;
       slots = c.keep.ensures.slots;
     } in
-    let own : OwnAfter old.own (act_seen old.act) c.keep.new.self = subst (λ (a : Act). OwnAfter old.own (act_seen a) c.keep.new.self) c.replace-act.ensures.value kept in
     let top = ap (λ (t : Tasks). t.top) h in
-    advancing.goes code start found old v is c.requires.running c.apply.new.self h c.if-self.false
+    advancing.goes code start found old v is c.requires.running c.apply-applied.new.self h c.if-self.false
     c.is_empty-included.result c.is_empty-included.ensures.0 c.is_empty-included.ensures.1
     c.next.new.self (c.in_ok-self.ensures.frame (top_frame m.base m.inner) top) _ (c.in_ok-self.ensures.act (top_frame m.base m.inner) top) c.in_ok-self.ensures.child own refl refl

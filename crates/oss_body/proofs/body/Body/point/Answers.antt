@@ -1,4 +1,4 @@
-use Rattle.std.proofs.Common.{◌≡◌, ap, ◌∙◌}
+use Rattle.std.proofs.Common.{ap, ◌∙◌}
 use Rattle.oss_body.specs.Places.{Placed}
 use Rattle.oss_body.proofs.Advancing.{point_is}
 use Rattle.oss_body.proofs.body.Body.point.Goals as goal

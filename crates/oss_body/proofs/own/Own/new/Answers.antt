@@ -1,4 +1,4 @@
-use Rattle.std.proofs.Common.{◌≡◌, ap, ◌∙◌, List, None}
+use Rattle.std.proofs.Common.{ap, ◌∙◌, List, None}
 use Rattle.oss_syntax.specs.declared.access.Access.{Access}
 use Rattle.oss_judge.specs.Joined.{held_right}
 use Rattle.oss_body.specs.Slots.{slot_from}

@@ -1,9 +1,6 @@
-use Rattle.std.proofs.Common.{◌≡◌, ℕ, rules, sym, ap, ◌∙◌, List, [], true, false}
-use Rattle.oss_code.specs.declared.code.CodeParts.{CodeParts}
+use Rattle.std.proofs.Common.{◌≡◌, rules, sym, ap, ◌∙◌, [], false}
 use Rattle.oss_machine.specs.Asks.{meant_order}
-use Rattle.oss_machine.specs.Frames.{CodeScript}
-use Rattle.oss_model.specs.Bodies.{Frame as Meant, Stack, top_frame}
-use Rattle.oss_body.specs.declared.frame.Frame.{Frame}
+use Rattle.oss_model.specs.Bodies.{top_frame}
 use Rattle.oss_body.specs.declared.tasks.Tasks.{Tasks}
 use Rattle.oss_body.specs.Stacks.{kept_stack, rest_of}
 use Rattle.oss_body.proofs.Results.{on_ok_then}

@@ -1,4 +1,4 @@
-use Rattle.std.proofs.Common.{◌≡◌, ap, ◌∙◌, List}
+use Rattle.std.proofs.Common.{ap, ◌∙◌, List}
 use Rattle.oss_machine.specs.Asks.{meant_order}
 use Rattle.oss_model.specs.Bodies.{top_frame}
 use Rattle.oss_body.specs.declared.frame.Frame.{Frame}
