@@ -17,6 +17,8 @@ mod sections;
 mod simple;
 mod site;
 mod statements;
+#[cfg(test)]
+mod tests;
 mod typed;
 
 pub use laws::{
