@@ -1,0 +1,5 @@
+pub mod ListLemmas
+pub mod PointLemmas
+pub mod TreeLemmas
+pub mod MarkLemmas
+pub mod MoveLemmas
