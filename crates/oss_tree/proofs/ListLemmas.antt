@@ -1,5 +1,5 @@
 -- The places of a list that is written to and grows.
-use Rattle.std.proofs.Common.{◌≡◌, ℕ, zero, suc, ◌<◌, ◌≤◌, ◌+◌, ◌⊎◌, inl, inr, refl, sym, ap, ◌∙◌, List, [], ◌∷◌, ◌++◌, Option, Some, None, length, arith, length-append}
+use Rattle.std.proofs.Common.{◌≡◌, ℕ, zero, suc, ◌<◌, ◌≤◌, ◌+◌, ◌⊎◌, inl, inr, refl, sym, ap, ◌∙◌, List, [], ◌∷◌, ◌++◌, Option, Some, None, length, take, arith, length-append}
 use Rattle.std.specs.Prelude.{slice_get, slice_set}
 use Rattle.std.proofs.lemmas.Option.{slice_get_within, same_Some}
 
@@ -63,3 +63,10 @@ pub there_is : {A : Type 0} (xs : List A) (i : ℕ) → i < length xs → (x : A
 there_is [] i l = absurd (omega arith)
 there_is (x ∷ xs) zero l = (x, refl)
 there_is (x ∷ xs) (suc i) l = there_is xs i (omega arith)
+
+-- the list of a vector after its slice was written
+pub front_is : {A : Type 0} (xs zs : List A) (n : ℕ) → length xs ≡ n → take n (xs ++ zs) ≡ xs
+front_is [] zs zero e = refl
+front_is [] zs (suc n) e = absurd (omega (arith, e))
+front_is (x ∷ xs) zs zero e = absurd (omega (arith, e))
+front_is (x ∷ xs) zs (suc n) e = let f : length xs ≡ n = omega (arith, e) in ap (λ (ys : List _). x ∷ ys) (front_is xs zs n f)

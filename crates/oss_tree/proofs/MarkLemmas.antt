@@ -60,7 +60,7 @@ none_from [] i g = omega arith
 none_from (x ∷ xs) zero g = cc
 none_from (x ∷ xs) (suc i) g = let l = none_from xs i g in omega (arith, l)
 
-true_not : true ≡ false → ⊥
+pub true_not : true ≡ false → ⊥
 true_not e = cc
 
 -- with all marks in their places a task is settled just where it is complete

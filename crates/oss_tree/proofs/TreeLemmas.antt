@@ -133,7 +133,7 @@ module _ {tasks : List Task} (tree : IsTree tasks) where
   below_complete (suc n) (suc u) other t one (k ∷ r) l e f g h =
       let m = made (suc u) other (omega arith) e in
       let go : EndsIn m.creator.point m.place one.point k → IsComplete tasks m.by = λ (x : EndsIn m.creator.point m.place one.point k). elim x [
-        here p q ↦ subst (IsComplete tasks) (one_point t m.by one m.creator f m.at_ (sym p)) h
+        | here p q ↦ subst (IsComplete tasks) (one_point t m.by one m.creator f m.at_ (sym p)) h
         | below more p ↦ below_complete n m.by m.creator t one (k ∷ more) (omega (arith, m.later)) m.at_ f p h
       ] in
       child_complete m.by m.creator m.place (suc u) (go (ends_in m.creator.point m.place one.point k r (sym m.point ∙ g))) m.at_ m.is

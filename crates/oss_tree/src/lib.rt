@@ -3,6 +3,7 @@
 
 mod marks;
 mod output;
+mod paths;
 mod task;
 #[cfg(test)]
 mod tests;

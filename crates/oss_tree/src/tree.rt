@@ -1,9 +1,11 @@
-ghost use Rattle.std.specs.Prelude.{◌≡◌, ◌<◌, ◌++◌, ◌∷◌, ◌↔◌, ℕ, [], length, slice_get, Some, IfOk, IsTrue, MatchOption, OnErr, OnOk};
+ghost use Rattle.std.specs.Prelude.{◌≡◌, ◌<◌, ◌++◌, ◌∷◌, ◌↔◌, ℕ, [], length, slice_get, slice_set, Some, IfOk, IsTrue, MatchOption, OnErr, OnOk};
 ghost use Rattle.oss_tree.specs.Tasks.{AreChildrenComplete, AreComplete, HasPoint, IsComplete, IsFirstChildLeft, IsLeastOpen, IsTree, MayCreate, changed, ended_task, given_task, grown, number, opening};
 ghost use Rattle.oss_tree.specs.Output.{IsOutput, up_to};
+ghost use Rattle.oss_tree.specs.declared.task.Task.{Task as Meant};
 
 use crate::marks::{is_settled, reopen, settle};
 use crate::output::{Print, output, output_before};
+use crate::paths::find;
 use crate::task::{Task, TaskNo};
 use oss_model::Point;
 use oss_syntax::{Bytes, List};
@@ -112,19 +114,7 @@ impl Tree {
     pub fn find(&self, point: &[u16]) -> Option<TaskNo>
         ensures { MatchOption result ((t : ℕ) → HasPoint self.now.tasks t point.now → ⊥) (λ task. HasPoint self.now.tasks task.0 point.now) }
     {
-        let (first, rest) = point.split_first()?;
-        if *first != 0 {
-            return None;
-        }
-        let mut at = TaskNo(0);
-        for place in rest {
-            let children = self.tasks[at.0 as usize].children.as_slice();
-            match children.get(usize::from(*place)) {
-                Some(child) => at = *child,
-                None => return None,
-            }
-        }
-        Some(at)
+        find(self.tasks.as_slice(), point)
     }
 
     /// The body of this task has ended. Condition: it is one of the tree. It takes no memory.
@@ -176,11 +166,10 @@ impl Tree {
     pub fn least_open(&self) -> Option<TaskNo>
         ensures { MatchOption result (AreComplete self.now.tasks) (λ task. IsLeastOpen self.now.tasks task.0) }
     {
-        let main = TaskNo(0);
-        if self.complete(main) {
+        if is_settled(self.tasks.as_slice(), self.marks.as_slice(), 0) {
             return None;
         }
-        let mut at = main;
+        let mut at = TaskNo(0);
         while let Some(child) = self.open_child(at) {
             at = child;
         }
@@ -217,7 +206,11 @@ fn push_child(
     creator: usize,
     child: TaskNo,
     task: Task,
-) -> Result<(), AllocError> {
+) -> Result<(), AllocError>
+    requires { creator < length tasks.old.items }
+    ensures added { OnOk result ((one : Meant) → slice_get tasks.old.items creator ≡ Some one → tasks.new.items ≡ slice_set tasks.old.items creator (record one { children = one.children ++ child ∷ [] }) ++ task ∷ []) }
+    ensures refused { OnErr result (tasks.new.items ≡ tasks.old.items) }
+{
     tasks.reserve(1)?;
     tasks[creator].children.push(child)?;
     tasks.push(task)?;

@@ -51,10 +51,10 @@ returns c =
     let n = c.loop-mark.mark in
     let held = c.loop-mark.invariant in
     let left : (k : ℕ) → slice_get one.children n ≡ Some (number k) → is_settled tasks marks k ≡ false =
-        elim c.loop-mark-test.branch [
-          then-loop-mark-test+else-is_settled w ↦ left_at tasks marks c.as_slice-children.result.now one.children n kids w.loop-mark-test.true (sym w.is_settled.ensures ∙ w.if-is_settled.false)
-          | else-loop-mark-test w ↦ none_left tasks marks c.as_slice-children.result.now one.children n kids w.loop-mark-test.false
-        ] in
+    elim c.loop-mark-test.branch [
+      | then-loop-mark-test+else-is_settled w ↦ left_at tasks marks c.as_slice-children.result.now one.children n kids w.loop-mark-test.true (sym w.is_settled.ensures ∙ w.if-is_settled.false)
+      | else-loop-mark-test w ↦ none_left tasks marks c.as_slice-children.result.now one.children n kids w.loop-mark-test.false
+    ] in
     advanced tasks marks c.requires.tree c.args.at one at_ c.requires.marked.each n c.requires.marked held.above
     (subst (λ (xs : List TaskNo). n ≤ length xs) kids held.within)
     (subst (λ (xs : List TaskNo). (k c : ℕ) → k < n → slice_get xs k ≡ Some (number c) → is_settled tasks marks c ≡ true) kids held.settled)
