@@ -1,10 +1,10 @@
 -- A tree in which one task has changed, but for its place and its children.
-use Rattle.std.proofs.Common.{◌≡◌, ℕ, ◌<◌, ◌≤◌, ◌⊎◌, inl, inr, refl, sym, ap, subst, ◌∙◌, Bool, true, false, List, [], ◌∷◌, ◌++◌, Option, Some, None, length, arith}
+use Rattle.std.proofs.Common.{◌≡◌, ℕ, ◌≤◌, ◌⊎◌, inl, inr, refl, sym, ap, subst, ◌∙◌, true, false, List, [], ◌∷◌, ◌++◌, Option, Some, length}
 use Rattle.std.specs.Prelude.{slice_get, slice_set, slice_index}
 use Rattle.std.proofs.lemmas.List.{length-set}
 use Rattle.oss_tree.specs.declared.task.Task.{Task}
-use Rattle.oss_tree.specs.Tasks.{HasCreator, IsChildOf, IsClosed, IsTree, number}
-use Rattle.oss_tree.specs.Marks.{Alone, AreMarked, AreMarkedBut, IsMarked, Nobody, is_settled, settles}
+use Rattle.oss_tree.specs.Tasks.{IsClosed, IsTree}
+use Rattle.oss_tree.specs.Marks.{Alone, AreMarked, AreMarkedBut, Nobody, is_settled, settles}
 use Rattle.oss_tree.proofs.ListLemmas.{get_set_other, get_set_same, some_is, which}
 use Rattle.oss_tree.proofs.MarkLemmas.{settled_if, settled_is, sure}
 

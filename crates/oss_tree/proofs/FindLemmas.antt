@@ -1,15 +1,15 @@
 -- The way down the tree to a point, and to the least open task.
-use Rattle.std.proofs.Common.{◌≡◌, ℕ, zero, suc, ◌<◌, ◌≤◌, ◌+◌, ◌⊎◌, inl, inr, refl, sym, ap, subst, ◌∙◌, List, [], ◌∷◌, ◌++◌, Option, Some, None, length, take, drop, arith, length-append, append_assoc, get_or, add-one, drop-cons}
+use Rattle.std.proofs.Common.{◌≡◌, ℕ, zero, suc, ◌<◌, ◌≤◌, ◌+◌, refl, sym, ap, subst, ◌∙◌, List, [], ◌∷◌, ◌++◌, Some, None, length, take, drop, arith, append_assoc, get_or, add-one, drop-cons}
 use Rattle.std.specs.Prelude.{slice_get}
 use Rattle.std.proofs.lemmas.Option.{get_or_from_slice_get, slice_get_within}
 use Rattle.std.proofs.lemmas.List.{take-append-drop, take_more}
-use Rattle.oss_model.specs.Order.{IsBefore, shorter, less, same}
+use Rattle.oss_model.specs.Order.{IsBefore, less, same}
 use Rattle.oss_tree.specs.declared.task.Task.{Task}
 use Rattle.oss_tree.specs.declared.task.TaskNo.{TaskNo}
-use Rattle.oss_tree.specs.Tasks.{AreChildrenComplete, AreComplete, HasPoint, IsChildOf, IsClosed, IsComplete, IsFirstChildLeft, IsLeastOpen, IsTree, complete, key_of, number}
-use Rattle.oss_tree.proofs.ListLemmas.{none_some, some_is, there_is, which}
+use Rattle.oss_tree.specs.Tasks.{AreChildrenComplete, AreComplete, HasPoint, IsClosed, IsComplete, IsFirstChildLeft, IsLeastOpen, IsTree, complete, key_of, number}
+use Rattle.oss_tree.proofs.ListLemmas.{none_some, some_is}
 use Rattle.oss_tree.proofs.PointLemmas.{Lies, above, before, lies, own, under}
-use Rattle.oss_tree.proofs.TreeLemmas.{Made, below_complete, complete_closed, made, on_way, one_point, some_numbers}
+use Rattle.oss_tree.proofs.TreeLemmas.{below_complete, complete_closed, made, on_way, one_point, some_numbers}
 
 -- each task whose key is before this point is closed
 pub record AllClosedBefore (tasks : List Task) (p : List ℕ) : Type 0 where
@@ -73,7 +73,7 @@ module _ {tasks : List Task} (tree : IsTree tasks) where
       let none : slice_get here.task.children (get_or rest i 0) ≡ None = ap (λ (z : Task). slice_get z.children (get_or rest i 0)) (sym o ∙ e) ∙ sym f in
       let cut : take i rest ++ get_or rest i 0 ∷ drop (i + 1) rest ≡ rest = ap (λ (z : List ℕ). take i rest ++ z) (sym (drop_at rest i l)) ∙ take-append-drop i rest in
       let way = on_way tree (u + 1) u h.task t here.task (get_or rest i 0) (drop (i + 1) rest) (omega arith) h.at_ here.at_
-          (h.point ∙ ap (λ (z : List ℕ). 0 ∷ z) (sym cut) ∙ ap (λ (z : List ℕ). z ++ get_or rest i 0 ∷ drop (i + 1) rest) (sym here.point)) in
+      (h.point ∙ ap (λ (z : List ℕ). 0 ∷ z) (sym cut) ∙ ap (λ (z : List ℕ). z ++ get_or rest i 0 ∷ drop (i + 1) rest) (sym here.point)) in
       none_some none way.1
 
   -- the least open task

@@ -1,13 +1,12 @@
 -- A tree to which one task has been added.
-use Rattle.std.proofs.Common.{◌≡◌, ℕ, ◌<◌, ◌≤◌, ◌+◌, ◌⊎◌, inl, inr, refl, sym, ap, subst, ◌∙◌, Bool, true, false, List, [], ◌∷◌, ◌++◌, Option, Some, None, length, arith, length-append, get_or}
+use Rattle.std.proofs.Common.{◌≡◌, ℕ, ◌<◌, ◌≤◌, ◌⊎◌, inl, inr, refl, sym, ap, subst, ◌∙◌, Bool, true, false, List, [], ◌∷◌, ◌++◌, Option, Some, length, arith}
 use Rattle.std.specs.Prelude.{slice_get, slice_set, slice_index}
 use Rattle.std.proofs.lemmas.List.{length-set, get_or_append_left}
 use Rattle.std.proofs.lemmas.Option.{slice_get_within}
 use Rattle.oss_tree.specs.declared.task.Task.{Task}
-use Rattle.oss_tree.specs.declared.task.TaskNo.{TaskNo}
 use Rattle.oss_tree.specs.Tasks.{HasCreator, IsChildOf, IsTree, main_task, new_task, number, with_child}
 use Rattle.oss_tree.specs.Marks.{Alone, AreMarked, AreMarkedBut, IsMarked, Nobody, is_settled, settles}
-use Rattle.oss_tree.proofs.ListLemmas.{get_added, get_front, get_last, get_set_other, get_set_same, longer_by, none_some, some_is, which}
+use Rattle.oss_tree.proofs.ListLemmas.{get_added, get_front, get_last, get_set_other, get_set_same, longer_by, some_is, which}
 use Rattle.oss_tree.proofs.TreeLemmas.{same_number}
 use Rattle.oss_tree.proofs.MarkLemmas.{not_settled, sure}
 

@@ -6,3 +6,4 @@ pub mod MoveLemmas
 pub mod ChangeLemmas
 pub mod GrowLemmas
 pub mod FindLemmas
+pub mod OutputLemmas

@@ -1,14 +1,12 @@
 -- Marks tell which tasks are complete, and stay so when they are moved.
-use Rattle.std.proofs.Common.{◌≡◌, ℕ, zero, suc, ◌<◌, ◌≤◌, ◌+◌, ◌-◌, ◌⊎◌, inl, inr, refl, sym, ap, subst, ◌∙◌, Bool, true, false, List, [], ◌∷◌, ◌++◌, Option, Some, None, length, arith, eqb-true, eq-eqb, get_or, ◌↔◌}
-use Rattle.std.specs.Prelude.{slice_get, slice_set, slice_index, ◌&&◌, ◌==◌, MatchOption}
-use Rattle.std.proofs.lemmas.List.{get_or-set_same, get_or-set_other, length-set}
+use Rattle.std.proofs.Common.{◌≡◌, ℕ, zero, suc, ◌<◌, ◌≤◌, ◌+◌, ◌⊎◌, inl, inr, refl, sym, ap, ◌∙◌, Bool, true, false, List, [], ◌∷◌, Option, Some, None, length, arith, eqb-true, eq-eqb, ◌↔◌}
+use Rattle.std.specs.Prelude.{slice_get, slice_index, ◌&&◌, ◌==◌, MatchOption}
 use Rattle.std.proofs.lemmas.Option.{slice_get_within, slice_get_past}
 use Rattle.oss_tree.specs.declared.task.Task.{Task}
 use Rattle.oss_tree.specs.declared.task.TaskNo.{TaskNo}
-use Rattle.oss_tree.specs.Tasks.{AreChildrenComplete, IsFirstChildLeft, IsChildOf, IsClosed, IsComplete, IsTree, complete, number}
-use Rattle.oss_tree.specs.Marks.{Alone, AreMarked, AreMarkedBut, Below, IsMarked, Nobody, is_settled, settles}
-use Rattle.oss_tree.proofs.ListLemmas.{none_some, some_is, there_is, which, get_last}
-use Rattle.oss_tree.proofs.TreeLemmas.{same_number}
+use Rattle.oss_tree.specs.Tasks.{AreChildrenComplete, IsFirstChildLeft, IsClosed, IsComplete, IsTree, complete, number}
+use Rattle.oss_tree.specs.Marks.{AreMarked, IsMarked, Nobody, is_settled, settles}
+use Rattle.oss_tree.proofs.ListLemmas.{none_some, some_is, there_is}
 
 both : (a b : Bool) → (a && b) ≡ true → (a ≡ true) × (b ≡ true)
 both true b e = (refl, e)

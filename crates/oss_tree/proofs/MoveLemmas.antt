@@ -1,13 +1,13 @@
 -- What moving one mark leaves.
-use Rattle.std.proofs.Common.{◌≡◌, ℕ, zero, suc, ◌<◌, ◌≤◌, ◌+◌, ◌-◌, ◌⊎◌, inl, inr, refl, sym, ap, subst, ◌∙◌, Bool, true, false, List, [], ◌∷◌, ◌++◌, Option, Some, None, length, arith, get_or}
+use Rattle.std.proofs.Common.{◌≡◌, ℕ, ◌<◌, ◌≤◌, ◌+◌, ◌-◌, ◌⊎◌, inl, inr, refl, sym, ap, subst, ◌∙◌, true, false, List, Some, None, length, arith, get_or}
 use Rattle.std.specs.Prelude.{slice_get, slice_set, slice_index}
 use Rattle.std.proofs.lemmas.List.{get_or-set_same, get_or-set_other, length-set}
 use Rattle.std.proofs.lemmas.Option.{slice_get_within, slice_get-get_or, slice_get_read}
 use Rattle.oss_tree.specs.declared.task.Task.{Task}
 use Rattle.oss_tree.specs.declared.task.TaskNo.{TaskNo}
-use Rattle.oss_tree.specs.Tasks.{IsChildOf, IsTree, number}
+use Rattle.oss_tree.specs.Tasks.{IsTree, number}
 use Rattle.oss_tree.specs.Marks.{Alone, AreMarked, AreMarkedBut, Below, IsMarked, Nobody, is_settled, settles}
-use Rattle.oss_tree.proofs.ListLemmas.{none_some, some_is, which, get_last, longer_by}
+use Rattle.oss_tree.proofs.ListLemmas.{none_some, some_is, which}
 use Rattle.oss_tree.proofs.PointLemmas.{same_ends}
 use Rattle.oss_tree.proofs.TreeLemmas.{place_is, read_parent, same_number}
 use Rattle.oss_tree.proofs.MarkLemmas.{settled_if, settled_is, not_settled, sure}

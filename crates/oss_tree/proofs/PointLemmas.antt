@@ -1,5 +1,5 @@
 -- Points with numbers behind them.
-use Rattle.std.proofs.Common.{◌≡◌, ℕ, ◌<◌, ◌≤◌, ◌+◌, refl, sym, ap, ◌∙◌, List, [], ◌∷◌, ◌++◌, length, arith, length-append}
+use Rattle.std.proofs.Common.{◌≡◌, ℕ, ◌<◌, ◌+◌, refl, sym, ap, ◌∙◌, List, [], ◌∷◌, ◌++◌, length, arith, length-append}
 use Rattle.oss_model.specs.Order.{IsBefore, shorter, less, same}
 
 -- a list that has a number in front of its end, and one at its end: they are one, or the first list is longer

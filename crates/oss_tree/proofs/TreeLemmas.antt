@@ -1,10 +1,10 @@
 -- What is so of each tree: a point is that of one task, and what stands below a task stands below one of its children.
-use Rattle.std.proofs.Common.{◌≡◌, ℕ, zero, suc, ◌<◌, ◌≤◌, ◌+◌, ◌⊎◌, inl, inr, refl, sym, ap, subst, ◌∙◌, List, [], ◌∷◌, ◌++◌, Some, None, length, arith, length-append, get_or, ◌-◌}
+use Rattle.std.proofs.Common.{◌≡◌, ℕ, zero, suc, ◌<◌, ◌+◌, refl, sym, ap, subst, ◌∙◌, List, [], ◌∷◌, ◌++◌, Some, None, length, arith, length-append, get_or, ◌-◌}
 use Rattle.std.specs.Prelude.{slice_get}
-use Rattle.std.proofs.lemmas.Option.{get_or_from_slice_get, slice_get-get_or, slice_get_within}
+use Rattle.std.proofs.lemmas.Option.{get_or_from_slice_get, slice_get-get_or}
 use Rattle.oss_tree.specs.declared.task.Task.{Task}
 use Rattle.oss_tree.specs.declared.task.TaskNo.{TaskNo}
-use Rattle.oss_tree.specs.Tasks.{HasCreator, IsChildOf, IsClosed, IsComplete, IsTree, complete, number}
+use Rattle.oss_tree.specs.Tasks.{IsClosed, IsComplete, IsTree, complete, number}
 use Rattle.oss_tree.proofs.ListLemmas.{get_last, longer_by, none_some, some_is}
 use Rattle.oss_tree.proofs.PointLemmas.{EndsIn, here, below, ends_in, same_ends}
 

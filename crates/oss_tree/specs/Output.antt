@@ -4,10 +4,10 @@
 -- includes it.
 -- Read against: `b` at 0.1, then `a` at 0.0, then `c` at 0.1, then `d` at 0.0.3. The output is `a`, `d`, `b`, `c`, and that up to
 -- 0.0 is `a`, that up to 0.0.3 `a`, `d`, and that up to 0.1 all of it.
-use Rattle.std.specs.Prelude.{◌≡◌, ℕ, Bool, true, not, List, [], ◌∷◌, ◌++◌, nat_eq}
+use Rattle.std.specs.Prelude.{◌≡◌, ℕ, Bool, List, [], ◌∷◌, ◌++◌, nat_eq}
 use Rattle.std.specs.List.{filter}
 use Rattle.std.specs.Cmp.Lexicographic.{pointwise, slice_cmp}
-use Rattle.std.specs.Ordering.{is_lt, nat_cmp}
+use Rattle.std.specs.Ordering.{is_le, nat_cmp}
 use Rattle.oss_model.specs.Order.{IsBefore, IsIn}
 use Rattle.oss_tree.specs.declared.output.Print.{Print}
 
@@ -17,7 +17,7 @@ is_at p one = pointwise nat_eq p one.at
 
 -- The print's point is not past this one: that of `a` is not past 0.0, and that of `d` is.
 abbrev pub is_up_to : List ℕ → Print → Bool
-is_up_to last one = not (is_lt (slice_cmp nat_cmp last one.at))
+is_up_to last one = is_le (slice_cmp nat_cmp one.at last)
 
 -- The prints whose points are not past this one: those up to 0.0 are `a` alone.
 abbrev pub up_to : List ℕ → List Print → List Print

@@ -6,7 +6,7 @@
 -- Read against: main creates a and b, and a creates c. Their points are 0, 0.0, 0.1 and 0.0.0, and their keys 0.2, 0.0.1, 0.1.0
 -- and 0.0.0.0: so of all four c is the least, then a, b and main. Where a has ended, a is complete only once c is. Where c has
 -- ended too, b is the least that is open.
-use Rattle.std.specs.Prelude.{◌≡◌, ◌<◌, ◌≤◌, ◌⊎◌, ℕ, Bool, true, false, List, [], ◌∷◌, ◌++◌, length, Option, Some, None, slice_get, slice_set}
+use Rattle.std.specs.Prelude.{◌≡◌, ◌<◌, ◌≤◌, ℕ, Bool, true, false, List, [], ◌∷◌, ◌++◌, length, Option, Some, None, slice_get, slice_set}
 use Rattle.oss_model.specs.Order.{IsBefore}
 use Rattle.oss_tree.specs.declared.output.Print.{Print}
 use Rattle.oss_tree.specs.declared.task.Task.{Task}

@@ -1,11 +1,10 @@
-use Rattle.std.proofs.Common.{◌≡◌, ◌<◌, ◌≤◌, ◌+◌, ℕ, length, get_or, refl, Some, true, false, sym, ap, subst, ◌∙◌, arith, rules, below_more, List}
-use Rattle.std.specs.Prelude.{slice_get, slice_index}
-use Rattle.std.proofs.lemmas.Option.{slice_get_read, slice_get-get_or, slice_get_within}
+use Rattle.std.proofs.Common.{◌≡◌, ◌<◌, ◌≤◌, ℕ, length, refl, Some, true, false, sym, ap, subst, ◌∙◌, arith, List}
+use Rattle.std.specs.Prelude.{slice_get}
+use Rattle.std.proofs.lemmas.Option.{slice_get_read}
 use Rattle.oss_tree.specs.declared.task.Task.{Task}
 use Rattle.oss_tree.specs.declared.task.TaskNo.{TaskNo}
 use Rattle.oss_tree.specs.Tasks.{number}
 use Rattle.oss_tree.specs.Marks.{is_settled}
-use Rattle.oss_tree.proofs.ListLemmas.{some_is}
 use Rattle.oss_tree.proofs.MoveLemmas.{advanced, child_within, left_at, none_left, settled_more}
 use Rattle.oss_tree.proofs.marks.advance.Goals as goal
 use Rattle.oss_tree.proofs.marks.advance.Goals.{then-loop-mark-test+else-is_settled, else-loop-mark-test}

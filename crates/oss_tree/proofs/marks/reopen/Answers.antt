@@ -1,10 +1,6 @@
-use Rattle.std.proofs.Common.{◌≡◌, ◌<◌, ◌≤◌, ◌*◌, ℕ, length, Some, sym, ap, subst, ◌∙◌, arith, rules, get_or}
-use Rattle.std.specs.Prelude.{slice_get, slice_index}
-use Rattle.oss_tree.specs.declared.task.Task.{Task}
-use Rattle.oss_tree.specs.Tasks.{number}
-use Rattle.oss_tree.proofs.ListLemmas.{some_is}
-use Rattle.oss_tree.proofs.TreeLemmas.{place_is, read_none, read_parent}
-use Rattle.oss_tree.proofs.MoveLemmas.{Above, above, far_enough, main_reopened, moved_back, not_whole}
+use Rattle.std.proofs.Common.{◌<◌, length, arith, rules}
+use Rattle.oss_tree.proofs.TreeLemmas.{read_none, read_parent}
+use Rattle.oss_tree.proofs.MoveLemmas.{above, far_enough, main_reopened, moved_back, not_whole}
 use Rattle.oss_tree.proofs.marks.reopen.Goals as goal
 
 pub offset_bounds-marks-at : goal.offset_bounds-marks-at

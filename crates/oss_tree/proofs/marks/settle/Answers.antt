@@ -1,7 +1,5 @@
-use Rattle.std.proofs.Common.{◌≡◌, ◌<◌, ◌≤◌, ℕ, length, Some, sym, ap, ◌∙◌, arith, rules}
-use Rattle.std.specs.Prelude.{slice_get}
+use Rattle.std.proofs.Common.{sym, ap, ◌∙◌, arith}
 use Rattle.oss_tree.specs.declared.task.Task.{Task}
-use Rattle.oss_tree.specs.Tasks.{number}
 use Rattle.oss_tree.proofs.ListLemmas.{some_is}
 use Rattle.oss_tree.proofs.TreeLemmas.{read_none, read_parent}
 use Rattle.oss_tree.proofs.MoveLemmas.{main_done, open_done, to_below}

@@ -1,11 +1,11 @@
-use Rattle.std.proofs.Common.{◌≡◌, ◌<◌, ◌≤◌, ◌++◌, ◌∷◌, [], ℕ, Bool, false, List, length, get_or, take, drop, refl, Option, Some, sym, ap, subst, ◌∙◌, arith, rules}
+use Rattle.std.proofs.Common.{◌≡◌, ◌++◌, ◌∷◌, [], ℕ, Bool, false, List, length, get_or, take, drop, Option, Some, sym, ap, subst, ◌∙◌, rules}
 use Rattle.std.specs.Prelude.{slice_get, slice_set}
 use Rattle.std.proofs.lemmas.Option.{get_or_from_slice_get, slice_get_within}
 use Rattle.oss_tree.specs.declared.task.Task.{Task}
 use Rattle.oss_tree.specs.declared.task.TaskNo.{TaskNo}
-use Rattle.oss_tree.specs.Marks.{Alone, AreMarked, AreMarkedBut, Nobody, is_settled}
-use Rattle.oss_tree.specs.Tasks.{IsTree, Kept, MayCreate, created_by, grown, new_task, number, with_child}
-use Rattle.oss_tree.proofs.ListLemmas.{front_is, some_is}
+use Rattle.oss_tree.specs.Marks.{AreMarked}
+use Rattle.oss_tree.specs.Tasks.{IsTree, Kept, MayCreate, created_by, grown, number, with_child}
+use Rattle.oss_tree.proofs.ListLemmas.{front_is}
 use Rattle.oss_tree.proofs.GrowLemmas.{creator_now, creator_open, marked_more, more, tree_more}
 use Rattle.oss_tree.proofs.tree.Tree.add.Goals as goal
 

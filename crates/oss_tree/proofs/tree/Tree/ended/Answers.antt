@@ -1,8 +1,8 @@
-use Rattle.std.proofs.Common.{◌≡◌, ◌<◌, ◌++◌, ℕ, List, length, get_or, take, drop, refl, Option, Some, sym, ap, subst, ◌∙◌, arith, rules}
+use Rattle.std.proofs.Common.{◌≡◌, ◌<◌, ◌++◌, ℕ, List, length, take, drop, refl, Option, Some, sym, ap, subst, ◌∙◌, rules}
 use Rattle.std.specs.Prelude.{slice_get, slice_set}
 use Rattle.std.proofs.lemmas.Option.{slice_get_read}
 use Rattle.oss_tree.specs.declared.task.Task.{Task}
-use Rattle.oss_tree.specs.Marks.{Alone, AreMarked, AreMarkedBut, Nobody}
+use Rattle.oss_tree.specs.Marks.{AreMarked}
 use Rattle.oss_tree.specs.Tasks.{IsTree, Kept, changed, changed_to, ended_task}
 use Rattle.oss_tree.proofs.ListLemmas.{front_is}
 use Rattle.oss_tree.proofs.ChangeLemmas.{marked_after, tree_after}

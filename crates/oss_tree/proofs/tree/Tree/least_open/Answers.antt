@@ -1,7 +1,6 @@
-use Rattle.std.proofs.Common.{◌≡◌, ◌<◌, ℕ, Bool, true, false, List, length, ap, sym, subst, ◌∙◌, arith, rules}
+use Rattle.std.proofs.Common.{◌≡◌, true, false, sym, ◌∙◌, arith, rules}
 use Rattle.std.proofs.lemmas.Option.{slice_get_within}
 use Rattle.oss_tree.specs.Marks.{is_settled}
-use Rattle.oss_tree.specs.Tasks.{IsComplete}
 use Rattle.oss_tree.proofs.FindLemmas.{all_complete, at_main, least_is, step_on}
 use Rattle.oss_tree.proofs.MarkLemmas.{complete_if, settled_when, true_not}
 use Rattle.oss_tree.proofs.tree.Tree.least_open.Goals as goal

@@ -1,7 +1,4 @@
-use Rattle.std.proofs.Common.{◌≡◌, ◌-◌, length, Some}
-use Rattle.std.specs.Prelude.{slice_get}
-use Rattle.oss_tree.specs.declared.task.Task.{Task}
-use Rattle.oss_tree.specs.Tasks.{IsComplete, IsTree}
+use Rattle.std.proofs.Common.{◌-◌, length}
 use Rattle.oss_tree.proofs.FindLemmas.{Standing}
 use Rattle.oss_tree.proofs.tree.Tree.least_open.Given as goal
 

@@ -1,7 +1,5 @@
-use Rattle.std.proofs.Common.{◌≡◌, ℕ, List, [], ◌∷◌, sym, subst, rules}
-use Rattle.oss_tree.specs.Marks.{AreMarked}
-use Rattle.oss_tree.specs.Tasks.{IsTree, main_task}
-use Rattle.oss_tree.specs.declared.task.Task.{Task}
+use Rattle.std.proofs.Common.{◌≡◌, [], ◌∷◌, rules}
+use Rattle.oss_tree.specs.Tasks.{main_task}
 use Rattle.oss_tree.proofs.GrowLemmas.{main_marked, main_tree}
 use Rattle.oss_tree.proofs.tree.Tree.new.Goals as goal
 
