@@ -6,7 +6,7 @@ use Rattle.std.proofs.lemmas.List.{take-append-drop, take_more}
 use Rattle.oss_model.specs.Order.{IsBefore, less, same}
 use Rattle.oss_tree.specs.declared.task.Task.{Task}
 use Rattle.oss_tree.specs.declared.task.TaskNo.{TaskNo}
-use Rattle.oss_tree.specs.Tasks.{AreChildrenComplete, AreComplete, HasPoint, IsClosed, IsComplete, IsFirstChildLeft, IsLeastOpen, IsTree, complete, key_of, number}
+use Rattle.oss_tree.specs.Tasks.{AreChildrenComplete, AreComplete, HasPoint, IsClosed, IsComplete, IsFirstUnfinished, IsLeastOpen, IsTree, complete, key_of, number}
 use Rattle.oss_tree.proofs.ListLemmas.{none_some, some_is}
 use Rattle.oss_tree.proofs.PointLemmas.{Lies, above, before, lies, own, under}
 use Rattle.oss_tree.proofs.TreeLemmas.{below_complete, complete_closed, made, on_way, one_point, some_numbers}
@@ -128,7 +128,7 @@ module _ {tasks : List Task} (tree : IsTree tasks) where
 
 module _ {tasks : List Task} {t : ℕ} (s : Standing tasks t) where
   -- a step down to the first child that is left
-  pub step_on : (c : ℕ) → IsFirstChildLeft tasks t c → Standing tasks c × (t < c) × (c < length tasks)
+  pub step_on : (c : ℕ) → IsFirstUnfinished tasks t c → Standing tasks c × (t < c) × (c < length tasks)
   step_on c x =
       let o : x.creator ≡ s.task = some_is x.at_ s.at_ in
       let is : slice_get s.task.children x.place ≡ Some (number c) = ap (λ (z : Task). slice_get z.children x.place) (sym o) ∙ x.is in

@@ -4,7 +4,7 @@ use Rattle.std.specs.Prelude.{slice_get, slice_index, ◌&&◌, ◌==◌, MatchO
 use Rattle.std.proofs.lemmas.Option.{slice_get_within, slice_get_past}
 use Rattle.oss_tree.specs.declared.task.Task.{Task}
 use Rattle.oss_tree.specs.declared.task.TaskNo.{TaskNo}
-use Rattle.oss_tree.specs.Tasks.{AreChildrenComplete, IsFirstChildLeft, IsClosed, IsComplete, IsTree, complete, number}
+use Rattle.oss_tree.specs.Tasks.{AreChildrenComplete, IsFirstUnfinished, IsClosed, IsComplete, IsTree, complete, number}
 use Rattle.oss_tree.specs.Marks.{AreMarked, IsMarked, Nobody, is_settled, settles}
 use Rattle.oss_tree.proofs.ListLemmas.{none_some, some_is, there_is}
 
@@ -110,7 +110,7 @@ module _ {tasks : List Task} {marks : List ℕ} (tree : IsTree tasks) (m : AreMa
   behind_mark t one e k c l f = complete_if c (sure ((m.marked t one e).behind k c l f))
 
   -- what stands at the mark of a task is its first child that is left
-  pub first_left : (t : ℕ) (one : Task) → slice_get tasks t ≡ Some one → (mark : ℕ) → mark ≡ slice_index marks t → (r : Option TaskNo) → r ≡ slice_get one.children mark → MatchOption r (AreChildrenComplete tasks t) (λ child. IsFirstChildLeft tasks t child.0)
+  pub first_left : (t : ℕ) (one : Task) → slice_get tasks t ≡ Some one → (mark : ℕ) → mark ≡ slice_index marks t → (r : Option TaskNo) → r ≡ slice_get one.children mark → MatchOption r (AreChildrenComplete tasks t) (λ child. IsFirstUnfinished tasks t child.0)
   first_left t one e mark w None f = λ other g k c h.
       let here : slice_get one.children k ≡ Some (number c) = ap (λ (x : Task). slice_get x.children k) (some_is e g) ∙ h in
       let past = none_from one.children mark (sym f) in

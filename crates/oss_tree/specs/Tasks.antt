@@ -104,7 +104,7 @@ abbrev pub AreChildrenComplete : List Task → ℕ → Type 0
 AreChildrenComplete tasks t = (one : Task) → slice_get tasks t ≡ Some one → (k c : ℕ) → slice_get one.children k ≡ Some (number c) → IsComplete tasks c
 
 -- The second task is the first child of the first that is not complete.
-pub record IsFirstChildLeft (tasks : List Task) (t child : ℕ) : Type 0 where
+pub record IsFirstUnfinished (tasks : List Task) (t child : ℕ) : Type 0 where
   pub creator : Task
   pub at_ : slice_get tasks t ≡ Some creator
   pub place : ℕ

@@ -1,5 +1,5 @@
 ghost use Rattle.std.specs.Prelude.{◌≡◌, IfOk, map};
-ghost use Rattle.oss_tree.specs.Output.{IsOutput, up_to};
+ghost use Rattle.oss_tree.specs.Output.{IsOutput, is_up_to as passes, up_to};
 
 use oss_model::Point;
 use oss_syntax::Bytes;
@@ -10,6 +10,15 @@ use std::alloc::{AllocError, Global};
 pub struct Print {
     pub at: Point,
     pub text: Bytes,
+}
+
+impl Print {
+    /// Whether it stands at this point or before it.
+    fn is_up_to(&self, last: &Point) -> bool
+        ensures { result ≡ passes last.now self.now }
+    {
+        self.at <= *last
+    }
 }
 
 /// The texts of all prints in point order.
@@ -33,7 +42,7 @@ pub(crate) fn output_before(
 {
     let mut shown = Vec::new(alloc);
     for print in prints {
-        if print.at <= *last {
+        if print.is_up_to(last) {
             shown.push(print)?;
         }
     }

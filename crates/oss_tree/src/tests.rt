@@ -44,9 +44,9 @@ fn is_complete(tree: &Tree, task: u64) -> bool {
     task < tree.count() && tree.complete(TaskNo(task))
 }
 
-fn open_child(tree: &Tree, task: u64) -> Option<TaskNo> {
+fn unfinished_child(tree: &Tree, task: u64) -> Option<TaskNo> {
     if task < tree.count() {
-        tree.open_child(TaskNo(task))
+        tree.unfinished_child(TaskNo(task))
     } else {
         None
     }
@@ -77,7 +77,7 @@ fn tasks_are_found_by_their_points(rt: HostRuntime) -> Result<(), Fail> {
 /// Which is the least open task, and which child of main is the first that is not complete.
 fn assert_open(rt: &impl Abort, tree: &Tree, least: Option<u64>, child: Option<u64>) {
     assert!(rt; tree.least_open() == least.map(TaskNo));
-    assert!(rt; open_child(tree, 0) == child.map(TaskNo));
+    assert!(rt; unfinished_child(tree, 0) == child.map(TaskNo));
 }
 
 #[test]

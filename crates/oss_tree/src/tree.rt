@@ -1,5 +1,5 @@
 ghost use Rattle.std.specs.Prelude.{◌≡◌, ◌<◌, ◌++◌, ◌∷◌, ◌↔◌, ℕ, [], length, slice_get, slice_set, Some, IfOk, IsTrue, MatchOption, OnErr, OnOk};
-ghost use Rattle.oss_tree.specs.Tasks.{AreChildrenComplete, AreComplete, HasPoint, IsComplete, IsFirstChildLeft, IsLeastOpen, IsTree, MayCreate, changed, ended_task, given_task, grown, number, opening};
+ghost use Rattle.oss_tree.specs.Tasks.{AreChildrenComplete, AreComplete, HasPoint, IsComplete, IsFirstUnfinished, IsLeastOpen, IsTree, MayCreate, changed, ended_task, given_task, grown, number, opening};
 ghost use Rattle.oss_tree.specs.Output.{IsOutput, up_to};
 ghost use Rattle.oss_tree.specs.declared.task.Task.{Task as Meant};
 
@@ -152,9 +152,9 @@ impl Tree {
 
     /// The first child of this task that is not complete; `None` exactly where each is. Condition: it is a task of the tree. It
     /// takes no memory, and costs the same for each tree.
-    pub fn open_child(&self, task: TaskNo) -> Option<TaskNo>
+    pub fn unfinished_child(&self, task: TaskNo) -> Option<TaskNo>
         requires { task.0 < length self.now.tasks }
-        ensures { MatchOption result (AreChildrenComplete self.now.tasks task.0) (λ child. IsFirstChildLeft self.now.tasks task.0 child.0) }
+        ensures { MatchOption result (AreChildrenComplete self.now.tasks task.0) (λ child. IsFirstUnfinished self.now.tasks task.0 child.0) }
     {
         let at = task.0 as usize;
         let mark = self.marks[at];
@@ -170,7 +170,7 @@ impl Tree {
             return None;
         }
         let mut at = TaskNo(0);
-        while let Some(child) = self.open_child(at) {
+        while let Some(child) = self.unfinished_child(at) {
             at = child;
         }
         Some(at)

@@ -17,8 +17,8 @@ loop-child-init c =
     let is : is_settled c.self.inside.tasks.items c.self.inside.marks.items 0 ≡ false = search rules in
     rw (← c.self.view_is) (at_main tree (λ h. true_not (sym (settled_when tree c.self.invariant.1 h) ∙ is)))
 
-pub open_child-requires : goal.open_child-requires
-open_child-requires c = slice_get_within c.args.self.now.tasks c.loop-child.at.0 c.loop-child.invariant.task c.loop-child.invariant.at_
+pub unfinished_child-requires : goal.unfinished_child-requires
+unfinished_child-requires c = slice_get_within c.args.self.now.tasks c.loop-child.at.0 c.loop-child.invariant.task c.loop-child.invariant.at_
 
 pub loop-child-smaller : goal.loop-child-smaller
 loop-child-smaller c =

@@ -4,7 +4,7 @@ use Rattle.std.proofs.lemmas.Option.{slice_get_read}
 use Rattle.std.proofs.lemmas.List.{get_or_read}
 use Rattle.oss_tree.specs.Tasks.{Kept}
 use Rattle.oss_tree.proofs.MarkLemmas.{first_left}
-use Rattle.oss_tree.proofs.tree.Tree.open_child.Goals as goal
+use Rattle.oss_tree.proofs.tree.Tree.unfinished_child.Goals as goal
 
 pub returns : goal.returns
 returns c =
