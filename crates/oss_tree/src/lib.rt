@@ -1,0 +1,15 @@
+//! The tree of the tasks of a run: where each stands, which are complete, and what they printed, in point order.
+#![tactic(auto)]
+
+mod marks;
+mod output;
+mod paths;
+mod task;
+#[cfg(test)]
+mod tests;
+mod tree;
+
+pub use oss_model::Point;
+pub use output::Print;
+pub use task::{Task, TaskNo};
+pub use tree::Tree;

@@ -1,0 +1,23 @@
+use oss_model::Point;
+use oss_syntax::List;
+
+/// The number of a task. Main is 0, and each new task has the next number.
+#[derive(Clone, Copy, Debug, PartialEq, Eq)]
+pub struct TaskNo(pub u64);
+
+/// A task of a tree.
+#[derive(Drop)]
+pub struct Task {
+    /// Its point.
+    pub point: Point,
+    /// The task that created it; `None` for main.
+    pub parent: Option<TaskNo>,
+    /// The tasks that it created, in the order of their creation.
+    pub children: List<TaskNo>,
+    /// Whether it has the clause `wait`.
+    pub wait: bool,
+    /// Whether its body has ended.
+    pub ended: bool,
+    /// Whether it has given up each of its cells.
+    pub gave_all: bool,
+}
