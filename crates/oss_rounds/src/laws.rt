@@ -1,0 +1,30 @@
+//! What holds of runs by waves, whatever the program is: laws, each carried by a function that does nothing. A crate above calls
+//! the function for its type of scripts, and then has the law.
+
+ghost use Rattle.oss_rounds.specs.Alone.{PartFollows, PartGoesOn, WaveBegins, WaveFollows, WaveGoesOn};
+
+/// A wave begins.
+pub fn wave_begins<S>()
+    ensures { WaveBegins S }
+{}
+
+/// An act that a task of a wave may do alone may be made after the parts of other tasks, and finds the same.
+pub fn wave_goes_on<S>()
+    ensures { WaveGoesOn S }
+{}
+
+/// The next act of a part that a body computes alone, over the memory of the wave's beginning, is a step of the machine in
+/// the wave.
+pub fn part_goes_on<S>()
+    ensures { PartGoesOn S }
+{}
+
+/// A whole part that a body computes alone can be done in the wave.
+pub fn part_follows<S>()
+    ensures { PartFollows S }
+{}
+
+/// All parts of a wave, each computed over the memory of its beginning, can be done one after the other, in any order.
+pub fn wave_follows<S>()
+    ensures { WaveFollows S }
+{}
