@@ -81,14 +81,14 @@ module _ {S : Type 0} (P : Program S) (main : Start S) (cells : List ℕ) (z : R
     }
 
   -- the parts, of which that of one task is twice another
-  part_twice : (b d : State S) (alone : List ℕ → State S) (q : List ℕ) → with_part p d (with_part p b alone) q ≡ with_part p d alone q
+  pub part_twice : (b d : State S) (alone : List ℕ → State S) (q : List ℕ) → with_part p d (with_part p b alone) q ≡ with_part p d alone q
   part_twice b d alone q = by_test (same_path q p)
     where
       by_test : (k : Bool) → (if k then d else (if k then b else alone q)) ≡ (if k then d else alone q)
       by_test true = refl
       by_test false = refl
 
-  own_same : (alone : List ℕ → State S) (b : State S) → alone p ≡ b → (q : List ℕ) → alone q ≡ with_part p b alone q
+  pub own_same : (alone : List ℕ → State S) (b : State S) → alone p ≡ b → (q : List ℕ) → alone q ≡ with_part p b alone q
   own_same alone b e q = by_test (same_path q p) refl
     where
       by_test : (k : Bool) → same_path q p ≡ k → alone q ≡ (if k then b else alone q)

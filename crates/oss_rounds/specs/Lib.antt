@@ -1,1 +1,5 @@
 pub mod Alone
+pub mod Parts
+pub mod Waves
+pub mod Passes
+pub mod Rounds

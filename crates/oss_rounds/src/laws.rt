@@ -2,6 +2,8 @@
 //! the function for its type of scripts, and then has the law.
 
 ghost use Rattle.oss_rounds.specs.Alone.{PartFollows, PartGoesOn, WaveBegins, WaveFollows, WaveGoesOn};
+ghost use Rattle.oss_rounds.specs.Parts.{OnePart, PartRuns};
+ghost use Rattle.oss_rounds.specs.Waves.{TurnsStand, WaveCanBeMade};
 
 /// A wave begins.
 pub fn wave_begins<S>()
@@ -27,4 +29,24 @@ pub fn part_follows<S>()
 /// All parts of a wave, each computed over the memory of its beginning, can be done one after the other, in any order.
 pub fn wave_follows<S>()
     ensures { WaveFollows S }
+{}
+
+/// The acts of a part are acts that its body may do alone.
+pub fn part_runs<S>()
+    ensures { PartRuns S }
+{}
+
+/// A body has one part only.
+pub fn one_part<S>()
+    ensures { OnePart S }
+{}
+
+/// In the state behind a wave each task has come where its part has come alone.
+pub fn turns_stand<S>()
+    ensures { TurnsStand S }
+{}
+
+/// Each act of the turns of a wave may be made at its turn.
+pub fn wave_can_be_made<S>()
+    ensures { WaveCanBeMade S }
 {}
