@@ -3,3 +3,4 @@ pub mod Parts
 pub mod Waves
 pub mod Passes
 pub mod Rounds
+pub mod Left

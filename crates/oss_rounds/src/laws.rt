@@ -2,6 +2,7 @@
 //! the function for its type of scripts, and then has the law.
 
 ghost use Rattle.oss_rounds.specs.Alone.{PartFollows, PartGoesOn, WaveBegins, WaveFollows, WaveGoesOn};
+ghost use Rattle.oss_rounds.specs.Left.{EveryRunIsFinite, MovesFall, WeightsAreSummed};
 ghost use Rattle.oss_rounds.specs.Parts.{OnePart, PartRuns};
 ghost use Rattle.oss_rounds.specs.Waves.{TurnsStand, WaveCanBeMade};
 
@@ -49,4 +50,19 @@ pub fn turns_stand<S>()
 /// Each act of the turns of a wave may be made at its turn.
 pub fn wave_can_be_made<S>()
     ensures { WaveCanBeMade S }
+{}
+
+/// Weights may be summed over the tasks of a state in whatever order they are listed.
+pub fn weights_are_summed<S>()
+    ensures { WeightsAreSummed S }
+{}
+
+/// Each move leaves less to do.
+pub fn moves_fall<S>()
+    ensures { MovesFall S }
+{}
+
+/// No run of a lively program has more moves than are left at its beginning.
+pub fn every_run_is_finite<S>()
+    ensures { EveryRunIsFinite S }
 {}
