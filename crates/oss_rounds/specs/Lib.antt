@@ -4,3 +4,4 @@ pub mod Waves
 pub mod Passes
 pub mod Rounds
 pub mod Left
+pub mod Claims

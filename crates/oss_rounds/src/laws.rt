@@ -2,6 +2,7 @@
 //! the function for its type of scripts, and then has the law.
 
 ghost use Rattle.oss_rounds.specs.Alone.{PartFollows, PartGoesOn, WaveBegins, WaveFollows, WaveGoesOn};
+ghost use Rattle.oss_rounds.specs.Claims.{AnswerIsTheResult, PassMoves, ResultIsTheAnswer, RoundMoves, RoundsStop, RunsGoOn, WaveMoves};
 ghost use Rattle.oss_rounds.specs.Left.{EveryRunIsFinite, MovesFall, WeightsAreSummed};
 ghost use Rattle.oss_rounds.specs.Parts.{OnePart, PartRuns};
 ghost use Rattle.oss_rounds.specs.Waves.{TurnsStand, WaveCanBeMade};
@@ -65,4 +66,39 @@ pub fn moves_fall<S>()
 /// No run of a lively program has more moves than are left at its beginning.
 pub fn every_run_is_finite<S>()
     ensures { EveryRunIsFinite S }
+{}
+
+/// A state to which moves lead from a state of a run is one of a run.
+pub fn runs_go_on<S>()
+    ensures { RunsGoOn S }
+{}
+
+/// A wave is made of moves.
+pub fn wave_moves<S>()
+    ensures { WaveMoves S }
+{}
+
+/// So is a pass.
+pub fn pass_moves<S>()
+    ensures { PassMoves S }
+{}
+
+/// And a round.
+pub fn round_moves<S>()
+    ensures { RoundMoves S }
+{}
+
+/// A run by waves comes to a state of a run of the machine in which no move is left.
+pub fn rounds_stop<S>()
+    ensures { RoundsStop S }
+{}
+
+/// The result of the sequential run is the answer of that state.
+pub fn result_is_the_answer<S>()
+    ensures { ResultIsTheAnswer S }
+{}
+
+/// And it has no other.
+pub fn answer_is_the_result<S>()
+    ensures { AnswerIsTheResult S }
 {}

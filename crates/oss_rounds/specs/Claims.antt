@@ -1,0 +1,42 @@
+-- What holds of runs by waves: each state on the way is one of a run of the machine, and where the run stops its answer is that of the sequential run.
+use Rattle.std.specs.Prelude.{◌≡◌, ℕ, List}
+use Rattle.oss_model.specs.declared.answer.Answer.{Answer}
+use Rattle.oss_model.specs.Bodies.{Program, Start}
+use Rattle.oss_model.specs.Machine.{State}
+use Rattle.oss_model.specs.Moves.{Reached}
+use Rattle.oss_model.specs.Agreement.{Setting}
+use Rattle.oss_model.specs.Answers.{IsResult, IsStopped, IsAnswer}
+use Rattle.oss_rounds.specs.Alone.{Runs}
+use Rattle.oss_rounds.specs.Waves.{Turn, IsWave}
+use Rattle.oss_rounds.specs.Passes.{GivenUp, IsPass}
+use Rattle.oss_rounds.specs.Rounds.{Round, IsRound, RunsByWaves}
+
+-- A state to which moves lead from a state of a run is one of a run.
+abbrev pub RunsGoOn : Type 0 → Type 0
+RunsGoOn S = (P : Program S) (main : Start S) (cells : List ℕ) (s n : State S) → Reached P main cells s → Runs P s n → Reached P main cells n
+
+-- A wave is made of moves.
+abbrev pub WaveMoves : Type 0 → Type 0
+WaveMoves S = (P : Program S) (s n : State S) (turns : List Turn) → IsWave P s turns n → Runs P s n
+
+-- So is a pass.
+abbrev pub PassMoves : Type 0 → Type 0
+PassMoves S = (P : Program S) (s n : State S) (done : List GivenUp) → IsPass P s done n → Runs P s n
+
+-- And a round.
+abbrev pub RoundMoves : Type 0 → Type 0
+RoundMoves S = (P : Program S) (s n : State S) (round : Round) → IsRound P s round n → Runs P s n
+
+-- A run by waves comes to a state of a run of the machine in which no move is left.
+abbrev pub RoundsStop : Type 0 → Type 0
+RoundsStop S = (P : Program S) (main : Start S) (cells : List ℕ) (rounds : List Round) (n : State S) → RunsByWaves P main cells rounds n → Reached P main cells n × IsStopped P n
+
+-- The result of the sequential run is the answer there.
+abbrev pub ResultIsTheAnswer : Type 0 → Type 0
+ResultIsTheAnswer S = (P : Program S) (main : Start S) (cells : List ℕ) (rounds : List Round) (n : State S) (b : Answer)
+    → Setting main cells → RunsByWaves P main cells rounds n → IsResult P main cells b → IsAnswer P n b
+
+-- And there is no other.
+abbrev pub AnswerIsTheResult : Type 0 → Type 0
+AnswerIsTheResult S = (P : Program S) (main : Start S) (cells : List ℕ) (rounds : List Round) (n : State S) (a b : Answer)
+    → Setting main cells → RunsByWaves P main cells rounds n → IsAnswer P n a → IsResult P main cells b → a ≡ b
