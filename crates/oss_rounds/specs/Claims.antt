@@ -2,14 +2,14 @@
 use Rattle.std.specs.Prelude.{◌≡◌, ℕ, List}
 use Rattle.oss_model.specs.declared.answer.Answer.{Answer}
 use Rattle.oss_model.specs.Bodies.{Program, Start}
-use Rattle.oss_model.specs.Machine.{State}
+use Rattle.oss_model.specs.Machine.{State, find}
 use Rattle.oss_model.specs.Moves.{Reached}
 use Rattle.oss_model.specs.Agreement.{Setting}
 use Rattle.oss_model.specs.Answers.{IsResult, IsStopped, IsAnswer}
 use Rattle.oss_rounds.specs.Alone.{Runs}
 use Rattle.oss_rounds.specs.Waves.{Turn, IsWave}
 use Rattle.oss_rounds.specs.Passes.{GivenUp, IsPass}
-use Rattle.oss_rounds.specs.Rounds.{Round, IsRound, RunsByWaves}
+use Rattle.oss_rounds.specs.Rounds.{Round, IsRound, RunsByWaves, Trace, IsTrace}
 
 -- A state to which moves lead from a state of a run is one of a run.
 abbrev pub RunsGoOn : Type 0 → Type 0
@@ -40,3 +40,17 @@ ResultIsTheAnswer S = (P : Program S) (main : Start S) (cells : List ℕ) (round
 abbrev pub AnswerIsTheResult : Type 0 → Type 0
 AnswerIsTheResult S = (P : Program S) (main : Start S) (cells : List ℕ) (rounds : List Round) (n : State S) (a b : Answer)
     → Setting main cells → RunsByWaves P main cells rounds n → IsAnswer P n a → IsResult P main cells b → a ≡ b
+
+-- The states are one, but for how they list their tasks.
+pub record IsSame {S : Type 0} (s n : State S) : Type 0 where
+  pub cells : n.cells ≡ s.cells
+  pub tasks : (p : List ℕ) → find n.tasks p ≡ find s.tasks p
+
+-- The text of a program settles its run by waves: the rounds, and the state to which they come.
+abbrev pub OneRunByWaves : Type 0 → Type 0
+OneRunByWaves S = (P : Program S) (main : Start S) (cells : List ℕ) (xs ys : List Round) (n m : State S)
+    → RunsByWaves P main cells xs n → RunsByWaves P main cells ys m → (xs ≡ ys) × IsSame n m
+
+-- And so its trace.
+abbrev pub OneTrace : Type 0 → Type 0
+OneTrace S = (P : Program S) (main : Start S) (cells : List ℕ) (a b : Trace) → IsTrace P main cells a → IsTrace P main cells b → a ≡ b

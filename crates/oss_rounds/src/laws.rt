@@ -2,7 +2,7 @@
 //! the function for its type of scripts, and then has the law.
 
 ghost use Rattle.oss_rounds.specs.Alone.{PartFollows, PartGoesOn, WaveBegins, WaveFollows, WaveGoesOn};
-ghost use Rattle.oss_rounds.specs.Claims.{AnswerIsTheResult, PassMoves, ResultIsTheAnswer, RoundMoves, RoundsStop, RunsGoOn, WaveMoves};
+ghost use Rattle.oss_rounds.specs.Claims.{AnswerIsTheResult, OneRunByWaves, OneTrace, PassMoves, ResultIsTheAnswer, RoundMoves, RoundsStop, RunsGoOn, WaveMoves};
 ghost use Rattle.oss_rounds.specs.Left.{EveryRunIsFinite, MovesFall, WeightsAreSummed};
 ghost use Rattle.oss_rounds.specs.Parts.{OnePart, PartRuns};
 ghost use Rattle.oss_rounds.specs.Waves.{TurnsStand, WaveCanBeMade};
@@ -101,4 +101,14 @@ pub fn result_is_the_answer<S>()
 /// And it has no other.
 pub fn answer_is_the_result<S>()
     ensures { AnswerIsTheResult S }
+{}
+
+/// A program has one run by waves: the rounds, and the state to which they come, but for how it lists its tasks.
+pub fn one_run_by_waves<S>()
+    ensures { OneRunByWaves S }
+{}
+
+/// So it has one trace.
+pub fn one_trace<S>()
+    ensures { OneTrace S }
 {}
