@@ -19,63 +19,9 @@ use Rattle.oss_rounds.specs.Rounds.{Round, IsRound, Rounds, stopped, follows, ro
 use Rattle.oss_rounds.specs.Left.{AreTasks, summed}
 use Rattle.oss_rounds.specs.Claims.{IsSame, OneRunByWaves, OneTrace}
 use Rattle.oss_rounds.proofs.PartLemmas.{one_part}
+use Rattle.oss_rounds.proofs.GatherLemmas.{Sorted, sorted_one, TurnBefore, turns_never, turns_sorted, places_never, places_sorted}
 use Rattle.oss_rounds.proofs.SumLemmas.{in_cases, in_none, chosen, listed, weights_are_summed}
 use Rattle.oss_rounds.proofs.SameLemmas.{same_itself, same_back, at_forth, at_back, can_step_forth, can_let_forth, can_join_forth, stopped_forth, step_same, let_same, join_same}
-
--- two sorted lists with the same members are one
-module _ {A : Type 0} (Before : A → A → Type 0) (never : (a b : A) → Before a b → Before b a → ⊥) where
-  abbrev pub Sorted : List A → Type 0
-  Sorted [] = Unit {0}
-  Sorted (x ∷ xs) = ((y : A) → IsIn y xs → Before x y) × Sorted xs
-
-  pub sorted_one : (xs ys : List A) → Sorted xs → Sorted ys → ((a : A) → IsIn a xs → IsIn a ys) → ((a : A) → IsIn a ys → IsIn a xs) → xs ≡ ys
-  sorted_one [] [] s r f g = refl
-  sorted_one [] (y ∷ ys) s r f g = absurd (in_none (g y here))
-  sorted_one (x ∷ xs) [] s r f g = absurd (in_none (f x here))
-  sorted_one (x ∷ xs) (y ∷ ys) s r f g = join (sorted_one xs ys s.1 r.1 (λ a h. forth a h (in_cases (f a (there h)))) (λ a h. back a h (in_cases (g a (there h)))))
-    where
-      heads_from : (x ≡ y) ⊎ IsIn x ys → (y ≡ x) ⊎ IsIn y xs → x ≡ y
-      heads_from (inl e) h = e
-      heads_from (inr h) (inl e) = sym e
-      heads_from (inr h) (inr k) = absurd (never x y (s.0 y k) (r.0 x h))
-
-      heads : x ≡ y
-      heads = heads_from (in_cases (f x here)) (in_cases (g y here))
-
-      itself : (a b : A) → a ≡ b → Before a b → ⊥
-      itself a b e h = let k : Before b b = subst (λ (z : A). Before z b) e h in never b b k k
-
-      forth : (a : A) → IsIn a xs → (a ≡ y) ⊎ IsIn a ys → IsIn a ys
-      forth a h (inl e) = absurd (itself x a (heads ∙ sym e) (s.0 a h))
-      forth a h (inr k) = k
-
-      back : (a : A) → IsIn a ys → (a ≡ x) ⊎ IsIn a xs → IsIn a xs
-      back a h (inl e) = absurd (itself y a (sym heads ∙ sym e) (r.0 a h))
-      back a h (inr k) = k
-
-      join : xs ≡ ys → x ∷ xs ≡ y ∷ ys
-      join e = λ i. heads i ∷ e i
-
-never_both : (xs ys : List ℕ) → IsBefore xs ys → IsBefore ys xs → ⊥
-never_both xs ys h k = before_not (before_trans h k) refl
-
--- turns by their paths
-abbrev TurnBefore : Turn → Turn → Type 0
-TurnBefore k j = IsBefore (reverse k.path) (reverse j.path)
-
-turns_sorted : (turns : List Turn) → AreInOrder turns → Sorted TurnBefore (λ k j. never_both (reverse k.path) (reverse j.path)) turns
-turns_sorted [] h = tt
-turns_sorted (k ∷ rest) h = (h.0, turns_sorted rest h.1)
-
-places_never : (a b : Place) → IsEarlierPlace a b → IsEarlierPlace b a → ⊥
-places_never a b (inl h) (inl k) = never_both (reverse a.path) (reverse b.path) h k
-places_never a b (inl h) (inr k) = before_not h (ap reverse (sym k.0))
-places_never a b (inr h) (inl k) = before_not k (ap reverse (sym h.0))
-places_never a b (inr h) (inr k) = let x = h.1 in let y = k.1 in omega arith
-
-places_sorted : (places : List Place) → AreSorted places → Sorted IsEarlierPlace places_never places
-places_sorted [] h = tt
-places_sorted (a ∷ rest) h = (h.0, places_sorted rest h.1)
 
 module _ {S : Type 0} (P : Program S) where
   -- the turn of a task is settled
@@ -108,7 +54,7 @@ module _ {S : Type 0} (P : Program S) where
 
   turns_one : {s n : State S} → IsSame s n → (xs ys : List Turn) → AreTurns P s xs → AreTurns P n ys → xs ≡ ys
   turns_one same xs ys a b =
-      sorted_one TurnBefore (λ k j. never_both (reverse k.path) (reverse j.path)) xs ys (turns_sorted xs a.ordered) (turns_sorted ys b.ordered)
+      sorted_one TurnBefore turns_never xs ys (turns_sorted xs a.ordered) (turns_sorted ys b.ordered)
       (λ k h. turn_forth same xs ys a b k h) (λ k h. turn_forth (same_back same) ys xs b a k h)
 
   place_forth : {s n : State S} → IsSame s n → (a : Place) → IsPlace s a → IsPlace n a

@@ -1,14 +1,17 @@
 -- What holds of runs by waves: each state on the way is one of a run of the machine, and where the run stops its answer is that of the sequential run.
-use Rattle.std.specs.Prelude.{◌≡◌, ℕ, List}
+use Rattle.std.specs.Prelude.{◌≡◌, ◌<◌, ℕ, List}
 use Rattle.oss_model.specs.declared.answer.Answer.{Answer}
 use Rattle.oss_model.specs.Bodies.{Program, Start}
 use Rattle.oss_model.specs.Machine.{State, find}
 use Rattle.oss_model.specs.Moves.{Reached}
-use Rattle.oss_model.specs.Agreement.{Setting}
+use Rattle.oss_model.specs.Sequence.{Running, Sequential}
+use Rattle.oss_model.specs.Agreement.{Setting, Agrees}
+use Rattle.oss_model.specs.Termination.{IsLively}
 use Rattle.oss_model.specs.Answers.{IsResult, IsStopped, IsAnswer}
 use Rattle.oss_rounds.specs.Alone.{Runs}
 use Rattle.oss_rounds.specs.Waves.{Turn, IsWave}
 use Rattle.oss_rounds.specs.Passes.{GivenUp, IsPass}
+use Rattle.oss_rounds.specs.Left.{left}
 use Rattle.oss_rounds.specs.Rounds.{Round, IsRound, RunsByWaves, Trace, IsTrace}
 
 -- A state to which moves lead from a state of a run is one of a run.
@@ -54,3 +57,16 @@ OneRunByWaves S = (P : Program S) (main : Start S) (cells : List ℕ) (xs ys : L
 -- And so its trace.
 abbrev pub OneTrace : Type 0 → Type 0
 OneTrace S = (P : Program S) (main : Start S) (cells : List ℕ) (a b : Trace) → IsTrace P main cells a → IsTrace P main cells b → a ≡ b
+
+-- A lively program has a run by waves.
+abbrev pub HasRunByWaves : Type 0 → Type 0
+HasRunByWaves S = (P : Program S) (main : Start S) (cells : List ℕ) → Setting main cells → IsLively P → (rounds : List Round) × (n : State S) × RunsByWaves P main cells rounds n
+
+-- And so a trace.
+abbrev pub HasTrace : Type 0 → Type 0
+HasTrace S = (P : Program S) (main : Start S) (cells : List ℕ) → Setting main cells → IsLively P → (trace : Trace) × IsTrace P main cells trace
+
+-- A round that begins where some move may be made leaves less to do.
+abbrev pub RoundFalls : Type 0 → Type 0
+RoundFalls S = (P : Program S) (main : Start S) (cells : List ℕ) (z : Running S) (s n : State S) (round : Round) (lively : IsLively P)
+    → Setting main cells → Sequential P main cells z → Agrees P main cells z s → (IsStopped P s → ⊥) → IsRound P s round n → left lively n < left lively s

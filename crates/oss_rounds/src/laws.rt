@@ -2,7 +2,7 @@
 //! the function for its type of scripts, and then has the law.
 
 ghost use Rattle.oss_rounds.specs.Alone.{PartFollows, PartGoesOn, WaveBegins, WaveFollows, WaveGoesOn};
-ghost use Rattle.oss_rounds.specs.Claims.{AnswerIsTheResult, OneRunByWaves, OneTrace, PassMoves, ResultIsTheAnswer, RoundMoves, RoundsStop, RunsGoOn, WaveMoves};
+ghost use Rattle.oss_rounds.specs.Claims.{AnswerIsTheResult, OneRunByWaves, OneTrace, PassMoves, ResultIsTheAnswer, RoundFalls, RoundMoves, RoundsStop, RunsGoOn, WaveMoves};
 ghost use Rattle.oss_rounds.specs.Left.{EveryRunIsFinite, MovesFall, WeightsAreSummed};
 ghost use Rattle.oss_rounds.specs.Parts.{OnePart, PartRuns};
 ghost use Rattle.oss_rounds.specs.Waves.{TurnsStand, WaveCanBeMade};
@@ -111,4 +111,9 @@ pub fn one_run_by_waves<S>()
 /// So it has one trace.
 pub fn one_trace<S>()
     ensures { OneTrace S }
+{}
+
+/// A round that begins where some move may be made leaves less to do.
+pub fn round_falls<S>()
+    ensures { RoundFalls S }
 {}
