@@ -111,12 +111,11 @@ module _ {S : Type 0} (P : Program S) (main : Start S) (cells : List ℕ) (z : R
         record { agrees = moved_agrees P main cells z set_ run a n b.agrees (steps can step); falls = omega (arith, l, f) }
 
     -- the acts of these turns
-    pub acts_of : List Turn → ℕ
+    abbrev pub acts_of : List Turn → ℕ
     acts_of [] = 0
     acts_of (k ∷ rest) = k.acts + acts_of rest
 
     pub turns_behind : (turns : List Turn) {s n : State S} → Agrees P main cells z s → TakeTurns P s turns n → Behind s n (acts_of turns)
-    unfolding acts_of
     turns_behind [] agrees no_turns = record { agrees = agrees; falls = omega arith }
     turns_behind (k ∷ rest) agrees (turn_first r more) =
         let b = takes_behind agrees k.path k.acts r in
@@ -140,12 +139,11 @@ module _ {S : Type 0} (P : Program S) (main : Start S) (cells : List ℕ) (z : R
         record { agrees = b.agrees; falls = omega (arith, l, f) }
 
     -- the cells that these passes give up
-    pub given_of : List (List GivenUp) → ℕ
+    abbrev pub given_of : List (List GivenUp) → ℕ
     given_of [] = 0
     given_of (done ∷ rest) = length done + given_of rest
 
     pub passes_behind : {s n : State S} {done : List (List GivenUp)} → Agrees P main cells z s → Passes P s done n → Behind s n (given_of done)
-    unfolding given_of
     passes_behind agrees (idles a) = visits_behind a.places agrees a.visits
     passes_behind agrees (passes a r) =
         let b = visits_behind a.places agrees a.visits in
@@ -155,7 +153,6 @@ module _ {S : Type 0} (P : Program S) (main : Start S) (cells : List ℕ) (z : R
         record { agrees = c.agrees; falls = omega (arith, f, g) }
 
     pub round_falls_at : (s n : State S) (round : Round) → Agrees P main cells z s → (IsStopped P s → ⊥) → IsRound P s round n → left lively n < left lively s
-    unfolding acts_of given_of
     round_falls_at s n round agrees moving r = by_turns round.turns r.wave.turns_are r.wave.acts r.behind
       where
         by_passes : {done : List (List GivenUp)} → AreTurns P s [] → Passes P s done n → left lively n < left lively s

@@ -31,11 +31,11 @@ weighed_chosen {S = S} weight seen (t ∷ ts) = go (is_among seen t.body.start.p
     go true e f = e
     go false e f = ap (λ (k : ℕ). weight t + k) f
 
-found_here : {S : Type 0} (t : Task S) (ts : List (Task S)) → find (t ∷ ts) t.body.start.path ≡ Some t
+pub found_here : {S : Type 0} (t : Task S) (ts : List (Task S)) → find (t ∷ ts) t.body.start.path ≡ Some t
 unfolding find
 found_here t ts = rw (same_self t.body.start.path) refl
 
-found_past : {S : Type 0} (u : Task S) (ts : List (Task S)) (p : List ℕ) → u.body.start.path ≢ p → find (u ∷ ts) p ≡ find ts p
+pub found_past : {S : Type 0} (u : Task S) (ts : List (Task S)) (p : List ℕ) → u.body.start.path ≢ p → find (u ∷ ts) p ≡ find ts p
 unfolding find
 found_past u ts p ne = rw (other_path u.body.start.path p ne) refl
 

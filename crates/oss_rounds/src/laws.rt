@@ -2,7 +2,7 @@
 //! the function for its type of scripts, and then has the law.
 
 ghost use Rattle.oss_rounds.specs.Alone.{PartFollows, PartGoesOn, WaveBegins, WaveFollows, WaveGoesOn};
-ghost use Rattle.oss_rounds.specs.Claims.{AnswerIsTheResult, OneRunByWaves, OneTrace, PassMoves, ResultIsTheAnswer, RoundFalls, RoundMoves, RoundsStop, RunsGoOn, WaveMoves};
+ghost use Rattle.oss_rounds.specs.Claims.{AnswerIsTheResult, HasRunByWaves, HasTrace, OneRunByWaves, OneTrace, PassMoves, ResultIsTheAnswer, RoundFalls, RoundMoves, RoundsStop, RunsGoOn, WaveMoves};
 ghost use Rattle.oss_rounds.specs.Left.{EveryRunIsFinite, MovesFall, WeightsAreSummed};
 ghost use Rattle.oss_rounds.specs.Parts.{OnePart, PartRuns};
 ghost use Rattle.oss_rounds.specs.Waves.{TurnsStand, WaveCanBeMade};
@@ -116,4 +116,14 @@ pub fn one_trace<S>()
 /// A round that begins where some move may be made leaves less to do.
 pub fn round_falls<S>()
     ensures { RoundFalls S }
+{}
+
+/// A lively program has a run by waves.
+pub fn has_run_by_waves<S>()
+    ensures { HasRunByWaves S }
+{}
+
+/// So it has a trace.
+pub fn has_trace<S>()
+    ensures { HasTrace S }
 {}
