@@ -1,15 +1,14 @@
 -- A lively program has a run by waves.
-use Rattle.std.proofs.Common.{◌≡◌, ◌≢◌, ℕ, zero, suc, ◌+◌, ◌<◌, ◌≤◌, ◌⊎◌, inl, inr, refl, sym, subst, ap, ◌∙◌, arith, List, [], ◌∷◌, ◌++◌, length, reverse, Bool, true, false, Option, Some, None}
-use Rattle.oss_syntax.specs.declared.access.Mode.{Mode}
+use Rattle.std.proofs.Common.{◌≡◌, ◌≢◌, ℕ, zero, suc, ◌+◌, ◌<◌, ◌⊎◌, inl, inr, refl, sym, subst, ◌∙◌, arith, List, [], ◌∷◌, ◌++◌, length, reverse, Bool, true, false, Some, None}
 use Rattle.oss_syntax.specs.declared.access.Op.{Op}
-use Rattle.oss_syntax.specs.declared.access.Mode.TheVariants.{Read, Write, Fold}
+use Rattle.oss_syntax.specs.declared.access.Mode.TheVariants.{Fold}
 use Rattle.oss_model.specs.Order.{IsIn, here, there}
-use Rattle.oss_model.specs.Rights.{Right, NoRight, Released, Holds}
+use Rattle.oss_model.specs.Rights.{Right, Holds}
 use Rattle.oss_model.specs.Context.{right_of}
-use Rattle.oss_model.specs.Bodies.{Order, Program, Act, Start, Body, stage_act, IsHalt}
+use Rattle.oss_model.specs.Bodies.{Order, Program, Start, IsHalt}
 use Rattle.oss_model.specs.Bodies.Act.{Created}
 use Rattle.oss_model.specs.Machine.{Task, State, At, find, Owes}
-use Rattle.oss_model.specs.Moves.{act_now, cells_after, found_by, after_answer, after_giving, CanStep, CanLet, CanJoin, GaveUp, LetGo, Joined, joined_cells, opening, SomeMove, a_step}
+use Rattle.oss_model.specs.Moves.{act_now, found_by, after_answer, after_giving, CanStep, CanLet, CanJoin, GaveUp, LetGo, Joined, joined_cells, opening, a_step}
 use Rattle.oss_model.specs.Sequence.{Running, Sequential, opens}
 use Rattle.oss_model.specs.Agreement.{Setting, Agrees}
 use Rattle.oss_model.specs.Answers.{IsStopped}
@@ -23,17 +22,17 @@ use Rattle.oss_model.proofs.SortLemmas.{reverse_same}
 use Rattle.oss_model.proofs.TreeLemmas.{at_same, path_found}
 use Rattle.oss_rounds.specs.Alone.{with_found}
 use Rattle.oss_rounds.specs.Parts.{Stage, stage_after, ticks_after, act_after, stops_after, IsPart}
-use Rattle.oss_rounds.specs.Waves.{Turn, first_stage, wave_ticks, IsTurn, TakeTurns, no_turns, AreTurns, IsWave}
+use Rattle.oss_rounds.specs.Waves.{Turn, first_stage, wave_ticks, IsTurn, no_turns, AreTurns, IsWave}
 use Rattle.oss_rounds.specs.Passes.{Place, IsEarlierPlace, IsPlace, ArePlaces, GivenUp, IsKept, Visits, visits_none, keeps, gives, merges, IsPass, Passes, idles, passes}
-use Rattle.oss_rounds.specs.Rounds.{Round, IsRound, Rounds, stopped, follows, trace_of}
+use Rattle.oss_rounds.specs.Rounds.{Round, Rounds, stopped, follows, trace_of}
 use Rattle.oss_rounds.specs.Left.{left}
 use Rattle.oss_rounds.specs.Claims.{HasRunByWaves, HasTrace}
 use Rattle.oss_rounds.proofs.PartLemmas.{goes_from, one_part}
 use Rattle.oss_rounds.proofs.WaveLemmas.{made}
-use Rattle.oss_rounds.proofs.SumLemmas.{in_cases, in_none, listed, found_here, found_past}
+use Rattle.oss_rounds.proofs.SumLemmas.{in_none, listed, found_here, found_past}
 use Rattle.oss_rounds.proofs.DecideLemmas.{Decided, all_tasks, most_cells, cell_below, is_there, not_there, owes_it, can_step, can_let, can_join}
 use Rattle.oss_rounds.proofs.GatherLemmas.{TurnBefore, turns_never, sorted_turns, places_never, places_compared, places_through, sorted_places, Gathered, gather}
-use Rattle.oss_rounds.proofs.FallLemmas.{turn_acts, some_given, nothing_left, Behind, acts_of, turns_behind, visits_behind, passes_behind}
+use Rattle.oss_rounds.proofs.FallLemmas.{turn_acts, some_given, nothing_left, acts_of, turns_behind, visits_behind, passes_behind}
 
 -- an act leaves less to do for its body
 potential_falls : {S : Type 0} (P : Program S) (lively : IsLively P) (t : Task S) (v : ℕ) → (IsHalt (act_now P t.body) → ⊥) → potential lively (after_answer v t).body < potential lively t.body

@@ -1,24 +1,24 @@
 -- Each turn of a wave has an act, and what a wave and a pass do leaves less.
-use Rattle.std.proofs.Common.{◌≡◌, ◌≢◌, ℕ, zero, suc, ◌+◌, ◌<◌, ◌≤◌, ◌⊎◌, inl, inr, refl, sym, subst, ap, ◌∙◌, arith, List, [], ◌∷◌, length, Bool, true, false}
+use Rattle.std.proofs.Common.{◌≡◌, ℕ, zero, suc, ◌+◌, ◌<◌, ◌≤◌, ◌⊎◌, inl, inr, refl, sym, subst, ap, ◌∙◌, arith, List, [], ◌∷◌, length, true, false}
 use Rattle.std.proofs.lemmas.Bool.Decides.{nat_tests}
 use Rattle.oss_syntax.specs.declared.access.Mode.TheVariants.{Write, Fold}
 use Rattle.oss_syntax.specs.declared.access.Op.{Op}
-use Rattle.oss_model.specs.Order.{IsIn, here, there}
+use Rattle.oss_model.specs.Order.{IsIn, here}
 use Rattle.oss_model.specs.Rights.{Holds}
 use Rattle.oss_model.specs.Context.{right_of}
-use Rattle.oss_model.specs.Bodies.{Program, Act, Start, stage_act, IsHalt}
+use Rattle.oss_model.specs.Bodies.{Program, Act, Start, IsHalt}
 use Rattle.oss_model.specs.Bodies.Act.{Ticked, Load, Store, Folded, Created, Awaited, Waited, WaitedOn, Releases, Printed, Ended, Fault, Over}
-use Rattle.oss_model.specs.Machine.{Task, State, At, Owes}
-use Rattle.oss_model.specs.Moves.{act_now, CanStep, CanLet, CanJoin, steps, lets, joins, SomeMove, a_step, a_let, a_join}
+use Rattle.oss_model.specs.Machine.{Task, State, Owes}
+use Rattle.oss_model.specs.Moves.{act_now, CanLet, CanJoin, steps, lets, joins, SomeMove, a_step, a_let, a_join}
 use Rattle.oss_model.specs.Sequence.{Running, Sequential}
 use Rattle.oss_model.specs.Agreement.{Setting, Agrees}
 use Rattle.oss_model.specs.Answers.{IsStopped}
 use Rattle.oss_model.specs.Termination.{IsLively}
 use Rattle.oss_model.proofs.AgreementTheorem.{moved_agrees}
 use Rattle.oss_model.proofs.TreeLemmas.{at_same}
-use Rattle.oss_rounds.specs.Parts.{Stage, stops_before, stage_after, ticks_after, act_after, stops_after, IsPart}
-use Rattle.oss_rounds.specs.Waves.{Turn, first_stage, wave_ticks, IsTurn, Takes, takes_none, takes_more, TakeTurns, no_turns, turn_first, AreTurns, IsWave}
-use Rattle.oss_rounds.specs.Passes.{Place, IsPlace, ArePlaces, GivenUp, IsKept, Visits, visits_none, keeps, gives, merges, IsPass, Passes, idles, passes}
+use Rattle.oss_rounds.specs.Parts.{stops_before, stage_after, ticks_after, stops_after, IsPart}
+use Rattle.oss_rounds.specs.Waves.{Turn, first_stage, wave_ticks, IsTurn, Takes, takes_none, takes_more, TakeTurns, no_turns, turn_first, AreTurns}
+use Rattle.oss_rounds.specs.Passes.{Place, ArePlaces, GivenUp, IsKept, Visits, visits_none, keeps, gives, merges, Passes, idles, passes}
 use Rattle.oss_rounds.specs.Rounds.{Round, IsRound}
 use Rattle.oss_rounds.specs.Left.{left}
 use Rattle.oss_rounds.specs.Claims.{RoundFalls}

@@ -10,7 +10,7 @@ use Rattle.oss_model.specs.Context.{right_of}
 use Rattle.oss_model.specs.Bodies.{Order, Program, Start, IsHalt}
 use Rattle.oss_model.specs.Bodies.Act.{Created}
 use Rattle.oss_model.specs.Machine.{Task, State, At}
-use Rattle.oss_model.specs.Moves.{act_now, created_now, found_by, after_answer, after_giving, new_task, CanStep, TaskStep, Stepped, CanLet, CanJoin, GaveUp, Moved, steps, lets, joins, opening}
+use Rattle.oss_model.specs.Moves.{act_now, created_now, found_by, after_answer, after_giving, new_task, CanStep, TaskStep, Stepped, GaveUp, Moved, steps, lets, joins, opening}
 use Rattle.oss_model.specs.Sequence.{Running, Sequential, opens}
 use Rattle.oss_model.specs.Agreement.{Setting, Agrees}
 use Rattle.oss_model.specs.Termination.{IsLively}
@@ -20,11 +20,10 @@ use Rattle.oss_model.proofs.MoveLemmas.{is_creation, StepView, own, new, old, st
 use Rattle.oss_model.proofs.PotentialLemmas.{body_falls, creation_falls}
 use Rattle.oss_model.proofs.RecallLemmas.{right_in_memory}
 use Rattle.oss_model.proofs.RunLemmas.{not_child, no_creation_path}
-use Rattle.oss_model.proofs.TreeLemmas.{at_same, path_found}
+use Rattle.oss_model.proofs.TreeLemmas.{path_found}
 use Rattle.oss_model.proofs.WeightLemmas.{times_grows}
-use Rattle.oss_rounds.specs.Rounds.{weighed}
-use Rattle.oss_rounds.specs.Left.{is_held, is_given, is_owed, owed, task_left, left, AreApart, AreTasks, summed, MovesFall, ReachedIn, opens_in, moves_in, EveryRunIsFinite}
-use Rattle.oss_rounds.proofs.SumLemmas.{in_cases, in_none, chosen, weighed_chosen, listed, Without, without, same_tasks, weights_are_summed}
+use Rattle.oss_rounds.specs.Left.{is_held, is_given, is_owed, owed, task_left, left, AreTasks, summed, MovesFall, ReachedIn, opens_in, moves_in, EveryRunIsFinite}
+use Rattle.oss_rounds.proofs.SumLemmas.{in_cases, in_none, chosen, weighed_chosen, listed, Without, without, weights_are_summed}
 
 times_next : (n k : ℕ) → times (n + 1) k ≡ k + times n k
 unfolding times

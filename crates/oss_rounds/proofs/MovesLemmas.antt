@@ -1,15 +1,15 @@
 -- Waves, passes and rounds are made of moves.
 use Rattle.std.proofs.Common.{ℕ, zero, suc, List, [], ◌∷◌}
-use Rattle.oss_model.specs.Bodies.{Program, Start}
+use Rattle.oss_model.specs.Bodies.{Program}
 use Rattle.oss_model.specs.Machine.{State}
-use Rattle.oss_model.specs.Moves.{steps, lets, joins, opening, Reached, opens, moves}
+use Rattle.oss_model.specs.Moves.{steps, lets, joins, opening, opens, moves}
 use Rattle.oss_model.specs.Answers.{IsStopped}
 use Rattle.oss_model.proofs.AgreementTheorem.{every_state_agrees}
 use Rattle.oss_model.proofs.ResultTheorem.{every_answer_is_the_result, every_result_is_the_answer}
 use Rattle.oss_rounds.specs.Alone.{Runs, stays, moves as runs_on}
 use Rattle.oss_rounds.specs.Waves.{Turn, Takes, takes_none, takes_more, TakeTurns, no_turns, turn_first}
 use Rattle.oss_rounds.specs.Passes.{Place, GivenUp, Visits, visits_none, keeps, gives, merges, Passes, idles, passes}
-use Rattle.oss_rounds.specs.Rounds.{Round, IsRound, Rounds, stopped, follows, RunsByWaves}
+use Rattle.oss_rounds.specs.Rounds.{Round, IsRound, Rounds, stopped, follows}
 use Rattle.oss_rounds.specs.Claims.{RunsGoOn, WaveMoves, PassMoves, RoundMoves, RoundsStop, ResultIsTheAnswer, AnswerIsTheResult}
 
 pub runs_trans : {S : Type 0} {P : Program S} {s m n : State S} → Runs P s m → Runs P m n → Runs P s n

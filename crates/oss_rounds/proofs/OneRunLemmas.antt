@@ -1,26 +1,24 @@
 -- A program has one run by waves.
-use Rattle.std.proofs.Common.{◌≡◌, ◌≢◌, ℕ, zero, suc, ◌<◌, ◌⊎◌, inl, inr, refl, sym, subst, ap, ◌∙◌, arith, List, [], ◌∷◌, length, reverse, Bool, true, false}
+use Rattle.std.proofs.Common.{◌≡◌, ℕ, zero, suc, refl, sym, subst, ap, ◌∙◌, List, [], ◌∷◌, true, false}
 use Rattle.std.specs.Prelude.{map, min, ◌-◌, ◌^◌}
-use Rattle.oss_syntax.specs.declared.access.Mode.{Mode}
 use Rattle.oss_syntax.specs.declared.access.Op.{Op}
 use Rattle.oss_syntax.specs.declared.access.Mode.TheVariants.{Fold}
-use Rattle.oss_model.specs.Order.{IsIn, here, there, IsBefore}
+use Rattle.oss_model.specs.Order.{IsIn}
 use Rattle.oss_model.specs.Rights.{Holds}
 use Rattle.oss_model.specs.Context.{right_of}
-use Rattle.oss_model.specs.Bodies.{Program, Start}
+use Rattle.oss_model.specs.Bodies.{Program}
 use Rattle.oss_model.specs.Machine.{Task, State, At}
-use Rattle.oss_model.specs.Moves.{CanStep, Stepped, CanLet, LetGo, CanJoin, Joined, opening}
-use Rattle.oss_model.proofs.OrderLemmas.{before_trans, before_not}
+use Rattle.oss_model.specs.Moves.{Stepped, CanLet, LetGo, CanJoin, Joined, opening}
 use Rattle.oss_model.proofs.TreeLemmas.{at_same}
-use Rattle.oss_rounds.specs.Parts.{Stage, IsPart}
-use Rattle.oss_rounds.specs.Waves.{Turn, IsTurn, Takes, takes_none, takes_more, TakeTurns, no_turns, turn_first, AreInOrder, AreTurns, IsWave, wave_ticks}
-use Rattle.oss_rounds.specs.Passes.{Place, IsEarlierPlace, IsPlace, AreSorted, ArePlaces, GivenUp, Visits, visits_none, keeps, gives, merges, IsPass, Passes, idles, passes}
-use Rattle.oss_rounds.specs.Rounds.{Round, IsRound, Rounds, stopped, follows, round_lines, widest, tasks_in, trace_of, weighed, Trace, IsTrace}
+use Rattle.oss_rounds.specs.Parts.{IsPart}
+use Rattle.oss_rounds.specs.Waves.{Turn, IsTurn, Takes, takes_none, takes_more, TakeTurns, no_turns, turn_first, AreTurns, IsWave, wave_ticks}
+use Rattle.oss_rounds.specs.Passes.{Place, IsEarlierPlace, IsPlace, ArePlaces, GivenUp, Visits, visits_none, keeps, gives, merges, IsPass, Passes, idles, passes}
+use Rattle.oss_rounds.specs.Rounds.{Round, IsRound, Rounds, stopped, follows, round_lines, widest, tasks_in, trace_of, weighed}
 use Rattle.oss_rounds.specs.Left.{AreTasks, summed}
 use Rattle.oss_rounds.specs.Claims.{IsSame, OneRunByWaves, OneTrace}
 use Rattle.oss_rounds.proofs.PartLemmas.{one_part}
-use Rattle.oss_rounds.proofs.GatherLemmas.{Sorted, sorted_one, TurnBefore, turns_never, turns_sorted, places_never, places_sorted}
-use Rattle.oss_rounds.proofs.SumLemmas.{in_cases, in_none, chosen, listed, weights_are_summed}
+use Rattle.oss_rounds.proofs.GatherLemmas.{sorted_one, TurnBefore, turns_never, turns_sorted, places_never, places_sorted}
+use Rattle.oss_rounds.proofs.SumLemmas.{chosen, listed, weights_are_summed}
 use Rattle.oss_rounds.proofs.SameLemmas.{same_itself, same_back, at_forth, at_back, can_step_forth, can_let_forth, can_join_forth, stopped_forth, step_same, let_same, join_same}
 
 module _ {S : Type 0} (P : Program S) where

@@ -1,15 +1,12 @@
 -- What may happen in a state does not hang on how it lists its tasks.
-use Rattle.std.proofs.Common.{◌≡◌, ◌≢◌, ℕ, ◌⊎◌, inl, inr, refl, sym, subst, ap, ◌∙◌, List, [], ◌∷◌, true, false}
-use Rattle.oss_syntax.specs.declared.access.Mode.{Mode}
+use Rattle.std.proofs.Common.{◌≡◌, ◌≢◌, ℕ, ◌⊎◌, inl, inr, refl, sym, subst, ap, ◌∙◌, List, [], ◌∷◌, false}
 use Rattle.oss_syntax.specs.declared.access.Op.{Op}
-use Rattle.oss_syntax.specs.declared.access.Mode.TheVariants.{Fold}
-use Rattle.oss_model.specs.Rights.{Right, Holds}
-use Rattle.oss_model.specs.Context.{Context, right_of, in_clauses}
+use Rattle.oss_model.specs.Context.{Context}
 use Rattle.oss_model.specs.Bodies.{Order, Program, Act}
 use Rattle.oss_model.specs.Bodies.Act.{Created, Awaited, Waited, WaitedOn, Ticked, Load, Store, Folded, Releases, Printed, Ended, Fault, Over}
 use Rattle.oss_model.specs.Machine.{Task, State, At, find, HasAccess, IsTop, is_top, IsChild, is_child, IsEarlier, is_earlier, HasGiven, accesses, mode_in, IsReady, IsComplete, complete, IsWaitMet}
 use Rattle.oss_model.specs.Matching.{Matches, HaveSameFlags}
-use Rattle.oss_model.specs.Moves.{act_now, created_now, found_by, cells_after, after_answer, new_task, WaitClause, CanStep, TaskStep, Stepped, IsGone, CanLet, CanJoin, GaveUp, LetGo, Joined, joined_cells, SomeMove, a_step, a_let, a_join}
+use Rattle.oss_model.specs.Moves.{act_now, created_now, found_by, cells_after, after_answer, WaitClause, CanStep, Stepped, IsGone, CanLet, CanJoin, GaveUp, LetGo, Joined, joined_cells, SomeMove, a_step, a_let, a_join}
 use Rattle.oss_model.specs.Answers.{IsStopped}
 use Rattle.oss_model.proofs.MatchingLemmas.{same_flags}
 use Rattle.oss_model.proofs.MoveLemmas.{which_path, is_creation}

@@ -1,9 +1,9 @@
 -- Weights of tasks are summed alike over each list of the tasks of a state.
-use Rattle.std.proofs.Common.{◌≡◌, ◌≢◌, ℕ, ◌+◌, ◌⊎◌, inl, inr, refl, sym, subst, ap, ◌∙◌, arith, List, [], ◌∷◌, Bool, true, false, Option, Some, None}
+use Rattle.std.proofs.Common.{◌≡◌, ◌≢◌, ℕ, ◌+◌, ◌⊎◌, inl, inr, refl, sym, subst, ap, ◌∙◌, arith, List, [], ◌∷◌, Bool, true, false, Some}
 use Rattle.std.specs.Prelude.{◌||◌, if◌then◌else◌}
 use Rattle.oss_model.specs.Order.{IsIn, here, there}
-use Rattle.oss_model.specs.Machine.{Task, State, At, find, same_path}
-use Rattle.oss_model.proofs.TreeLemmas.{same_path_is, path_found}
+use Rattle.oss_model.specs.Machine.{Task, State, find, same_path}
+use Rattle.oss_model.proofs.TreeLemmas.{same_path_is}
 use Rattle.oss_model.proofs.RunLemmas.{other_path}
 use Rattle.oss_model.proofs.Exclusive.{same_self}
 use Rattle.oss_rounds.specs.Rounds.{is_among, weighed}

@@ -1,15 +1,15 @@
 -- The turns of a wave: each act may be made at its turn, and each task comes where its part has come alone.
-use Rattle.std.proofs.Common.{◌≡◌, ◌≢◌, ℕ, zero, suc, ◌<◌, ◌≤◌, ◌⊎◌, inl, inr, refl, sym, subst, ap, ◌∙◌, arith, List, [], ◌∷◌, reverse}
+use Rattle.std.proofs.Common.{◌≡◌, ◌≢◌, ℕ, zero, suc, ◌<◌, ◌≤◌, refl, sym, subst, ap, ◌∙◌, arith, List, [], ◌∷◌, reverse}
 use Rattle.oss_model.specs.Order.{IsIn, here, there, IsEarlierKey}
-use Rattle.oss_model.specs.Bodies.{Program, Act, Start}
+use Rattle.oss_model.specs.Bodies.{Program, Start}
 use Rattle.oss_model.specs.Machine.{Task, State, At}
-use Rattle.oss_model.specs.Moves.{act_now, found_by, cells_after, CanStep, Stepped}
+use Rattle.oss_model.specs.Moves.{CanStep, Stepped}
 use Rattle.oss_model.specs.Sequence.{Running, Sequential}
 use Rattle.oss_model.specs.Agreement.{Setting, Agrees}
 use Rattle.oss_model.proofs.OrderLemmas.{before_not}
 use Rattle.oss_model.proofs.TreeLemmas.{at_same}
 use Rattle.oss_rounds.specs.Alone.{IsInWave, with_part, with_found, IsAlonePart, PartGoes}
-use Rattle.oss_rounds.specs.Parts.{Stage, stage_after, act_after, ticks_after, stops_after, IsPart}
+use Rattle.oss_rounds.specs.Parts.{Stage, stage_after, act_after, ticks_after, IsPart}
 use Rattle.oss_rounds.specs.Waves.{Turn, first_stage, part_stage, wave_ticks, IsTurn, Takes, takes_none, takes_more, TakeTurns, no_turns, turn_first, AreInOrder, AreTurns, IsWave, WaveStands, TurnsStand, WaveCanBeMade}
 use Rattle.oss_rounds.proofs.WaveTheorem.{part_own, part_other, wave_begins}
 use Rattle.oss_rounds.proofs.PartTheorem.{goes_on, step_made, part_twice, own_same}

@@ -1,8 +1,6 @@
--- Parts of a wave: acts of one task alone, and states in which several tasks have done their parts.
--- In a wave each task runs its acts from the state at which the wave began, as if it were alone. The law says
--- that these acts may then be done one part after the other, and find the same.
--- Read against: two tasks with in(x) that each read x and write a cell of their own; and two tasks of one
--- reduction(+: s), which both add to s.
+-- Parts of a wave: acts of one task alone, and states in which several tasks have done their parts. In a wave each task runs its acts from the
+-- state at which the wave began, as if it were alone. The law says that these acts may then be done one part after the other, and find the same.
+-- Read against: two tasks with in(x) that each read x and write a cell of their own; and two tasks of one reduction(+: s), which both add to s.
 use Rattle.std.specs.Prelude.{◌≡◌, ◌≢◌, ℕ, ◌<◌, false, if◌then◌else◌, List, [], ◌∷◌, length, slice_index, ◌⊎◌}
 use Rattle.oss_model.specs.Order.{IsSuffix, IsIn}
 use Rattle.oss_model.specs.Rights.{Touch, Reads}

@@ -1,4 +1,5 @@
--- What holds of runs by waves: each state on the way is one of a run of the machine, and where the run stops its answer is that of the sequential run.
+-- What holds of runs by waves: each state on the way is one of a run of the machine, and where the run stops its answer is that of the
+-- sequential run.
 use Rattle.std.specs.Prelude.{◌≡◌, ◌<◌, ℕ, List}
 use Rattle.oss_model.specs.declared.answer.Answer.{Answer}
 use Rattle.oss_model.specs.Bodies.{Program, Start}

@@ -1,7 +1,8 @@
--- How much is left to do in a state: a number that falls with each move, so every run is finite. A task counts for what is left of its body, where each unit is more than all cells that
--- a new task may have, and for the cells that it has not given up.
--- Read against: in a memory of 2 cells a task with both, whose body counts for 3, counts for 3 * 3 + 2; when its last act is done, so that its body counts for nothing, for 2; and behind the let of one cell for 1.
--- A task whose body counts for 5, and which creates one with both cells, counts for 15; behind it the bodies of both count together for 4 at most, so the two tasks for 4 * 3 + 2.
+-- How much is left to do in a state: a number that falls with each move, so every run is finite. A task counts for what is left of its body,
+-- where each unit is more than all cells that a new task may have, and for the cells that it has not given up.
+-- Read against: in a memory of 2 cells a task with both, whose body counts for 3, counts for 3 * 3 + 2; when its last act is done, so that its
+-- body counts for nothing, for 2; and behind the let of one cell for 1. A task whose body counts for 5, and which creates one with both cells,
+-- counts for 15; behind it the bodies of both count together for 4 at most, so the two tasks for 4 * 3 + 2.
 use Rattle.std.specs.Prelude.{◌≡◌, ◌≢◌, ◌<◌, ◌≤◌, ℕ, zero, suc, ◌+◌, ◌==◌, Bool, true, false, ◌&&◌, ◌||◌, not, List, [], ◌∷◌, length}
 use Rattle.oss_model.specs.Order.{IsIn}
 use Rattle.oss_model.specs.Rights.{Right, Holds}

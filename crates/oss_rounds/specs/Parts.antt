@@ -1,9 +1,10 @@
--- The part of one task in a wave: what its body does alone over the memory with which the wave began, and where it stops.
--- That a task waits only at the beginning of its part, and ticks a bounded number of times in it, are rules of this language: so a part needs nothing
--- of what others do in the wave, and no task keeps the others waiting.
--- Read against: a main that creates two tasks, waits and prints. Its first part has the acts up to the wait and stops before it; once both tasks are
--- complete, its next part begins with that wait and goes on to the end. A task that stands before a fault has no more acts in its part. A loop with one tick and nothing else a turn
--- does 4,096 turns in a part under a quota of 4,096 ticks, and the next part begins with the 4,097th tick.
+-- The part of one task in a wave: what its body does alone over the memory with which the wave began, and where it stops. That a task waits only
+-- at the beginning of its part, and ticks a bounded number of times in it, are rules of this language: so a part needs nothing of what others do
+-- in the wave, and no task keeps the others waiting.
+-- Read against: a main that creates two tasks, waits and prints. Its first part has the acts up to the wait and stops before it; once both tasks
+-- are complete, its next part begins with that wait and goes on to the end. A task that stands before a fault has no more acts in its part. A
+-- loop with one tick and nothing else a turn does 4,096 turns in a part under a quota of 4,096 ticks, and the next part begins with the 4,097th
+-- tick.
 use Rattle.std.specs.Prelude.{◌≡◌, ℕ, zero, suc, ◌+◌, ◌<◌, nat_le, Bool, true, false, not, if◌then◌else◌, List, [], ◌∷◌, ◌++◌}
 use Rattle.oss_model.specs.Bodies.{Program, Act, Start, stack_from, stage_act, child_start}
 use Rattle.oss_model.specs.Bodies.Act.{Ticked, Created, Awaited, Waited, WaitedOn, Fault, Over}
@@ -28,7 +29,8 @@ is_halt (Fault kind line key) = true
 is_halt Over = true
 is_halt _ = false
 
--- A part stops before the act, after so many acts and ticks of it: where the body does not go on, before a tick more than the quota, and before an act
+-- A part stops before the act, after so many acts and ticks of it: where the body does not go on, before a tick more than the quota, and before
+-- an act
 -- that waits and is not the first.
 abbrev pub stops_before : {S : Type 0} → Act S → ℕ → ℕ → ℕ → Bool
 stops_before act count ticks quota = if is_halt act then true else if is_tick act then nat_le quota ticks else if is_waiting act then not (nat_le count 0) else false

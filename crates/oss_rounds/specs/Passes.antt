@@ -1,10 +1,12 @@
--- A pass: each task in point order, and of each task its cells in rising order, gives up or joins what it may at its turn.
--- A cell is given up at the end of its task or by its early release, and a slot is joined when its turn has come (OmpSs-2, release and reduction clauses;
--- Perez, Beltran, Labarta and Ayguadé, IPDPS 2017); the order of a pass is this language's own.
--- Read against: a task 0.0 with weakinout(a) wait over four cells that has ended, and its children 0.0.0 with out(a[0;2]) and 0.0.1 with out(a[2;2]), which have ended too. The first pass
--- comes to 0.0 first, whose children are not complete, and then gives up the cells 0 and 1 of 0.0.0 and 2 and 3 of 0.0.1; the second gives up the four cells of 0.0, and the third does
--- nothing. Without the clause wait the cells of 0.0 were given up in the pass in which its body had ended. Four tasks of one reduction(+: s) that have ended join their slots in one pass, one
--- after the other. And a task with out(a) over four cells that has released a[0:1] gives up the cells 0 and 1 in the first pass behind, and 2 and 3 in one behind its end.
+-- A pass: each task in point order, and of each task its cells in rising order, gives up or joins what it may at its turn. A cell is given up at
+-- the end of its task or by its early release, and a slot is joined when its turn has come (OmpSs-2, release and reduction clauses; Perez,
+-- Beltran, Labarta and Ayguadé, IPDPS 2017); the order of a pass is this language's own.
+-- Read against: a task 0.0 with weakinout(a) wait over four cells that has ended, and its children 0.0.0 with out(a[0;2]) and 0.0.1 with
+-- out(a[2;2]), which have ended too. The first pass comes to 0.0 first, whose children are not complete, and then gives up the cells 0 and 1 of
+-- 0.0.0 and 2 and 3 of 0.0.1; the second gives up the four cells of 0.0, and the third does nothing. Without the clause wait the cells of 0.0
+-- were given up in the pass in which its body had ended. Four tasks of one reduction(+: s) that have ended join their slots in one pass, one
+-- after the other. And a task with out(a) over four cells that has released a[0:1] gives up the cells 0 and 1 in the first pass behind, and 2
+-- and 3 in one behind its end.
 use Rattle.std.specs.Prelude.{◌≡◌, ℕ, ◌<◌, Bool, true, false, List, [], ◌∷◌, ◌⊎◌}
 use Rattle.oss_syntax.specs.declared.access.Op.{Op}
 use Rattle.oss_model.specs.Order.{IsIn, IsEarlierKey}

@@ -1,7 +1,8 @@
 -- Rounds: waves, each with the passes behind it, from the opening state until no move is left; and what a trace tells of them.
--- Read against the program with out(x), in(x) out(y) and a taskwait of the definition of waves: round 1 has the turn `step 0 5` and no pass that does something, round 2 `step 0.0 3` and the
--- pass `let 0.0 0 1`, round 3 `step 0.1 4` and `let 0.1 0 2`, since x and y are neighbours, round 4 `step 0 5`. The trace ends with `# tasks 3 waves 4 widest 1`. In `a[4], b` a task
--- with in(a[2;2]) out(b) has `let 0.1 2 3`: the modes are two, and the run is one; one with in(a[0;2]) out(b) has `let 0.1 0 2`, `let 0.1 4 1`. A main that stands before a fault at once has no round, and
+-- Read against the program with out(x), in(x) out(y) and a taskwait of the definition of waves: round 1 has the turn `step 0 5` and no pass that
+-- does something, round 2 `step 0.0 3` and the pass `let 0.0 0 1`, round 3 `step 0.1 4` and `let 0.1 0 2`, since x and y are neighbours, round 4
+-- `step 0 5`. The trace ends with `# tasks 3 waves 4 widest 1`. In `a[4], b` a task with in(a[2;2]) out(b) has `let 0.1 2 3`: the modes are two,
+-- and the run is one; one with in(a[0;2]) out(b) has `let 0.1 0 2`, `let 0.1 4 1`. A main that stands before a fault at once has no round, and
 -- the trace `# tasks 1 waves 0 widest 0`.
 use Rattle.std.specs.Prelude.{◌≡◌, ℕ, ◌+◌, ◌-◌, ◌^◌, ◌==◌, min, max, Bool, true, false, ◌&&◌, ◌||◌, not, if◌then◌else◌, List, [], ◌∷◌, ◌++◌, length, map}
 use Rattle.std.specs.List.{flat_map}

@@ -1,11 +1,11 @@
--- A wave: the part of each task that may act, one after the other in point order.
--- Waves are this language's way to run a program by turns: which tasks act, and how far each goes, is settled by the state at the beginning of the wave,
--- whatever the threads do that make the parts.
--- Read against: `long x, y;`, a main that creates a task with out(x) that stores 5, and one with in(x) out(y) that stores x + 1, waits and prints y. Wave 1 is
--- the part of main, `step 0 5`: a tick and a creation, twice, and a tick. Wave 2 is `step 0.0 3`, tick, store, end; main's wait is not met and task 0.1 is not ready. In wave 3 it is,
--- `step 0.1 4`; and wave 4 is `step 0 5`: wait, tick, load, print, end. With `long a[2], b;`, out(a) over a[2] = 1 and inout(b) over b = 1 / b, wave 1 is `step 0 5`, main's end its last
--- act, and wave 2 `step 0.0 1`, `step 0.1 2`: a tick, and a tick and a load; both stand before a fault then. Of reduction(+: s) in four tasks all four may act
--- in wave 2, since a reduction asks for nothing. With a false `if` wave 1 is `step 0 2`, tick and creation; the await behind it begins main's next part.
+-- A wave: the part of each task that may act, one after the other in point order. Waves are this language's way to run a program by turns: which
+-- tasks act, and how far each goes, is settled by the state at the beginning of the wave, whatever the threads do that make the parts.
+-- Read against: `long x, y;`, a main that creates a task with out(x) that stores 5, and one with in(x) out(y) that stores x + 1, waits and
+-- prints y. Wave 1 is the part of main, `step 0 5`: a tick and a creation, twice, and a tick. Wave 2 is `step 0.0 3`, tick, store, end; main's
+-- wait is not met and task 0.1 is not ready. In wave 3 it is, `step 0.1 4`; and wave 4 is `step 0 5`: wait, tick, load, print, end. With `long
+-- a[2], b;`, out(a) over a[2] = 1 and inout(b) over b = 1 / b, wave 1 is `step 0 5`, main's end its last act, and wave 2 `step 0.0 1`, `step 0.1
+-- 2`: a tick, and a tick and a load; both stand before a fault then. Of reduction(+: s) in four tasks all four may act in wave 2, since a
+-- reduction asks for nothing. With a false `if` wave 1 is `step 0 2`, tick and creation; the await behind it begins main's next part.
 use Rattle.std.specs.Prelude.{◌≡◌, ℕ, zero, suc, List, [], ◌∷◌}
 use Rattle.oss_model.specs.Order.{IsIn, IsEarlierKey}
 use Rattle.oss_model.specs.Bodies.{Program, Start}
@@ -65,7 +65,8 @@ pub record IsWave {S : Type 0} (P : Program S) (s : State S) (turns : List Turn)
   pub turns_are : AreTurns P s turns
   pub acts : TakeTurns P s turns n
 
--- What holds of a state in which the turns of a wave are done: it is in the wave, where each task has done its part alone, with the memory and the answers of its part.
+-- What holds of a state in which the turns of a wave are done: it is in the wave, where each task has done its part alone, with the memory and
+-- the answers of its part.
 pub record WaveStands {S : Type 0} (P : Program S) (s : State S) (turns : List Turn) (n : State S) : Type 0 where
   pub alone : List ℕ → State S
   pub wave : IsInWave P s alone n
