@@ -1,5 +1,5 @@
 -- Waves, passes and rounds are made of moves.
-use Rattle.std.proofs.Common.{ℕ, zero, suc, List, [], ◌∷◌}
+use Rattle.std.proofs.Common.{ℕ, zero, suc, List, [], ◌∷◌, ◌++◌}
 use Rattle.oss_model.specs.Bodies.{Program}
 use Rattle.oss_model.specs.Machine.{State}
 use Rattle.oss_model.specs.Moves.{steps, lets, joins, opening, opens, moves}
@@ -70,3 +70,8 @@ pub answer_is_the_result : (S : Type 0) → AnswerIsTheResult S
 answer_is_the_result S P main cells rounds n a b set_ r answer result =
     let e = rounds_stop S P main cells rounds n r in
     every_answer_is_the_result S P main cells n a b set_ (λ z run. every_state_agrees S P main cells z n set_ run e.0) e.1 answer result
+
+-- one more turn behind others
+pub turns_last : {S : Type 0} {P : Program S} {s m n : State S} (turns : List Turn) (k : Turn) → TakeTurns P s turns m → Takes P k.path m k.acts n → TakeTurns P s (turns ++ k ∷ []) n
+turns_last turns k no_turns r = turn_first r no_turns
+turns_last turns k (turn_first {turn = j} {rest = rest} q more) r = turn_first q (turns_last rest k more r)

@@ -43,7 +43,7 @@ is_or : (a b : Bool) → (a || b) ≡ false → (a ≡ false) × (b ≡ false)
 is_or true b e = cc
 is_or false b e = (refl, e)
 
-true_false : true ≡ false → ⊥
+pub true_false : true ≡ false → ⊥
 true_false e = cc
 
 -- where one list is the other's choice by a test

@@ -90,7 +90,7 @@ pub wave_begins : (S : Type 0) → WaveBegins S
 wave_begins S P s = record { run = stays; each = λ q t h. begins; same = λ q t w h k. k; touched = λ q t c x h i l. refl; rest = λ c l. inl refl }
 
 module _ {S : Type 0} (P : Program S) (main : Start S) (cells : List ℕ) (z : Running S) (set_ : Setting main cells) (run : Sequential P main cells z) (s : State S) (s_agrees : Agrees P main cells z s) where
-  runs_agree : {n : State S} → Runs P s n → Agrees P main cells z n
+  pub runs_agree : {n : State S} → Runs P s n → Agrees P main cells z n
   runs_agree stays = s_agrees
   runs_agree {n = n} (moves {m = m} r k) = moved_agrees P main cells z set_ run m n (runs_agree r) k
 

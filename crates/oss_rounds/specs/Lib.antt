@@ -5,3 +5,4 @@ pub mod Passes
 pub mod Rounds
 pub mod Left
 pub mod Claims
+pub mod AtOnce

@@ -2,6 +2,7 @@
 //! the function for its type of scripts, and then has the law.
 
 ghost use Rattle.oss_rounds.specs.Alone.{PartFollows, PartGoesOn, WaveBegins, WaveFollows, WaveGoesOn};
+ghost use Rattle.oss_rounds.specs.AtOnce.{PartAtOnce};
 ghost use Rattle.oss_rounds.specs.Claims.{AnswerIsTheResult, HasRunByWaves, HasTrace, OneRunByWaves, OneTrace, PassMoves, ResultIsTheAnswer, RoundFalls, RoundMoves, RoundsStop, RunsGoOn, WaveMoves};
 ghost use Rattle.oss_rounds.specs.Left.{EveryRunIsFinite, MovesFall, WeightsAreSummed};
 ghost use Rattle.oss_rounds.specs.Parts.{OnePart, PartRuns};
@@ -31,6 +32,11 @@ pub fn part_follows<S>()
 /// All parts of a wave, each computed over the memory of its beginning, can be done one after the other, in any order.
 pub fn wave_follows<S>()
     ensures { WaveFollows S }
+{}
+
+/// A part may be done at once: where a state has just what the whole part leaves, its acts lead there.
+pub fn part_at_once<S>()
+    ensures { PartAtOnce S }
 {}
 
 /// The acts of a part are acts that its body may do alone.
