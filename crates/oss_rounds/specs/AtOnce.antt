@@ -1,7 +1,8 @@
--- A part that is done at once: what a whole part leaves, told without its acts in between. Whoever keeps the tasks and the memory of a state may put
--- in what a body has done alone: its new memory where it wrote, its answers, and the tasks that it has made.
--- Read against: a task that stores 5 into cell 0, where other tasks of the wave have stored into cell 1: behind it the memory has 5 in cell 0 and what they
--- have stored in cell 1. And a main that creates two tasks before its wait: behind its part there are both, which have done nothing.
+-- A part that is done at once: what a whole part leaves, told without its acts in between. Whoever keeps the tasks and the memory of a state
+-- may put in what a body has done alone: its new memory where it wrote, its answers, and the tasks that it has made.
+-- Read against: a task that stores 5 into cell 0, where other tasks of the wave have stored into cell 1: behind it the memory has 5 in cell 0
+-- and what they have stored in cell 1. And a main that creates two tasks before its wait: behind its part there are both, which have done
+-- nothing.
 use Rattle.std.specs.Prelude.{◌≡◌, ◌≢◌, ℕ, zero, suc, ◌<◌, ◌==◌, ◌||◌, Bool, true, false, List, [], length, slice_index}
 use Rattle.oss_model.specs.Order.{IsIn}
 use Rattle.oss_model.specs.Bodies.{Program, Act, Start}
@@ -29,8 +30,9 @@ is_changed P start s (suc n) c = changes_cell (act_after P start s n) c || is_ch
 abbrev pub new_from : {S : Type 0} → Start S → Task S
 new_from b = record { body = record { start = b; found = [] }; given = [] }
 
--- The state after a part of so many acts of the task, which began its wave in s, where the wave had come to n. A cell that the part has changed is as the part has left it, and all others are as
--- they were in n; the task has the answers of the part; each task that it has made is there, and has done nothing; and all others are as in n.
+-- The state after a part of so many acts of the task, which began its wave in s, where the wave had come to n. A cell that the part has
+-- changed is as the part has left it, and all others are as they were in n; the task has the answers of the part; each task that it has made
+-- is there, and has done nothing; and all others are as in n.
 pub record IsTaken {S : Type 0} (P : Program S) (s n : State S) (p : List ℕ) (t : Task S) (count : ℕ) (m : State S) : Type 0 where
   pub size : length m.cells ≡ length n.cells
   pub changed : (c : ℕ) → c < length n.cells → is_changed P t.body.start (first_stage s t) count c ≡ true → slice_index m.cells c ≡ slice_index (stage_after P t.body.start (first_stage s t) count).cells c
