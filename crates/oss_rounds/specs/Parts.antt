@@ -3,8 +3,10 @@
 -- in the wave, and no task keeps the others waiting.
 -- Read against: a main that creates two tasks, waits and prints. Its first part has the acts up to the wait and stops before it; once both tasks
 -- are complete, its next part begins with that wait and goes on to the end. A task that stands before a fault has no more acts in its part. A
--- loop with one tick and nothing else a turn does 4,096 turns in a part under a quota of 4,096 ticks, and the next part begins with the 4,097th
--- tick.
+-- task that stores twice, releases, waits and stores again has `step 0.0 7` first, tick, store, tick, store, tick, release, tick, and then `step
+-- 0.0 4`, wait, tick, store, end. A final task whose statement creates a task with a[0] += 10, and then does a[1] += a[0], has nine acts in one
+-- part: tick, creation, the tick, fold and end of the included task, tick, load, fold, end. A loop with one tick and nothing else a turn does
+-- 4,096 turns in a part under a quota of 4,096 ticks, and the next part begins with the 4,097th tick.
 use Rattle.std.specs.Prelude.{◌≡◌, ℕ, zero, suc, ◌+◌, ◌<◌, nat_le, Bool, true, false, not, if◌then◌else◌, List, [], ◌∷◌, ◌++◌}
 use Rattle.oss_model.specs.Bodies.{Program, Act, Start, stack_from, stage_act, child_start}
 use Rattle.oss_model.specs.Bodies.Act.{Ticked, Created, Awaited, Waited, WaitedOn, Fault, Over}

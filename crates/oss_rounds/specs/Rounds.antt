@@ -85,9 +85,9 @@ span_line span = line_from span.joined (written span.path) span.first span.count
 abbrev pub pass_lines : List GivenUp → List Line
 pass_lines done = map span_line (spans done)
 
--- The line of a turn: `step 0.0 3`.
+-- The line of a turn: `step 0.0 3`. The number stays at its greatest value.
 abbrev pub turn_line : Turn → Line
-turn_line turn = step_line (written turn.path) turn.acts
+turn_line turn = step_line (written turn.path) (min turn.acts (2 ^ 64 - 1))
 
 -- The lines of a round: its turns, and then its passes.
 abbrev pub round_lines : Round → List Line
