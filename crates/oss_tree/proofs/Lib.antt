@@ -7,3 +7,5 @@ pub mod ChangeLemmas
 pub mod GrowLemmas
 pub mod FindLemmas
 pub mod OutputLemmas
+pub mod SortLemmas
+pub mod RunLemmas

@@ -57,7 +57,7 @@ up_to_when last one n = go (slice_cmp nat_cmp one.at last) (ordered one.at last)
 abbrev ties_of : List ℕ → List ℕ → Bool
 ties_of p q = not (is_lt (slice_cmp nat_cmp p q)) && not (is_lt (slice_cmp nat_cmp q p))
 
-other_point : (p q : List ℕ) → (p ≡ q → ⊥) → pointwise nat_eq p q ≡ false
+pub other_point : (p q : List ℕ) → (p ≡ q → ⊥) → pointwise nat_eq p q ≡ false
 other_point p q n = go (pointwise nat_eq p q) refl
   where
     go : (b : Bool) → pointwise nat_eq p q ≡ b → b ≡ false
@@ -91,7 +91,7 @@ cond_map : {X Y : Type 0} (h : X → Y) (b : Bool) (x : X) (xs : List X) → map
 cond_map h true x xs = refl
 cond_map h false x xs = refl
 
-filter_map : {X Y : Type 0} (h : X → Y) (f : Y → Bool) (xs : List X) → filter f (map h xs) ≡ map h (filter (λ x. f (h x)) xs)
+pub filter_map : {X Y : Type 0} (h : X → Y) (f : Y → Bool) (xs : List X) → filter f (map h xs) ≡ map h (filter (λ x. f (h x)) xs)
 filter_map h f [] = refl
 filter_map h f (x ∷ xs) = ap (λ (ys : List _). cond (f (h x)) (h x ∷ ys) ys) (filter_map h f xs) ∙ sym (cond_map h (f (h x)) x (filter (λ x. f (h x)) xs))
 

@@ -1,3 +1,4 @@
 pub mod Tasks
 pub mod Output
 pub mod Marks
+pub mod Runs

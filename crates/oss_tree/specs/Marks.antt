@@ -6,11 +6,12 @@ use Rattle.std.specs.Prelude.{◌≡◌, ◌<◌, ◌≤◌, ◌==◌, ◌&&◌,
 use Rattle.oss_tree.specs.Tasks.{number}
 use Rattle.oss_tree.specs.declared.task.Task.{Task}
 
--- The task is closed, and its mark stands behind all its children.
+-- The task is closed, and its mark stands behind all its children: a with the mark 1.
 abbrev pub settles : Option Task → ℕ → Bool
 settles None mark = false
 settles (Some one) mark = one.ended && one.gave_all && (mark == length one.children)
 
+-- The same of the task with this number, and its mark.
 abbrev pub is_settled : List Task → List ℕ → ℕ → Bool
 is_settled tasks marks t = settles (slice_get tasks t) (slice_index marks t)
 
@@ -21,14 +22,16 @@ pub record IsMarked (tasks : List Task) (marks : List ℕ) (reopened closed : �
   pub behind : (k c : ℕ) → k < slice_index marks t → slice_get one.children k ≡ Some (number c) → (is_settled tasks marks c ≡ true) ⊎ reopened c
   pub before : (c : ℕ) → slice_get one.children (slice_index marks t) ≡ Some (number c) → (is_settled tasks marks c ≡ false) ⊎ closed c
 
+-- The same of each task.
 pub record AreMarkedBut (tasks : List Task) (marks : List ℕ) (reopened closed : ℕ → Type 0) : Type 0 where
   pub each : length marks ≡ length tasks
   pub marked : (t : ℕ) (one : Task) → slice_get tasks t ≡ Some one → IsMarked tasks marks reopened closed t one
 
--- No task is among these, and one alone is.
+-- No task is among these.
 abbrev pub Nobody : ℕ → Type 0
 Nobody c = ⊥
 
+-- One task alone is.
 abbrev pub Alone : ℕ → ℕ → Type 0
 Alone t c = c ≡ t
 

@@ -50,6 +50,7 @@ abbrev pub created_by : List Task → ℕ → Bool → Option Task → List Task
 created_by tasks t wait None = tasks
 created_by tasks t wait (Some creator) = slice_set tasks t (with_child creator (length tasks)) ++ new_task creator t wait ∷ []
 
+-- The same, where the creator is the one with this number: with 1, it is a.
 abbrev pub grown : List Task → ℕ → Bool → List Task
 grown tasks t wait = created_by tasks t wait (slice_get tasks t)
 
@@ -60,10 +61,11 @@ pub record MayCreate (tasks : List Task) (t : ℕ) : Type 0 where
   pub few : length creator.children < 65535
   pub shallow : length creator.point ≤ 64
 
--- A task whose body has ended, and one that has given up all its cells; all else stays.
+-- A task whose body has ended; all else stays.
 abbrev pub ended_task : Task → Task
 ended_task one = record one { ended = true }
 
+-- A task that has given up all its cells; all else stays.
 abbrev pub given_task : Task → Task
 given_task one = record one { gave_all = true }
 
@@ -72,6 +74,7 @@ abbrev pub changed_to : List Task → ℕ → (Task → Task) → Option Task �
 changed_to tasks t change None = tasks
 changed_to tasks t change (Some one) = slice_set tasks t (change one)
 
+-- The same, where the task is the one with this number.
 abbrev pub changed : List Task → ℕ → (Task → Task) → List Task
 changed tasks t change = changed_to tasks t change (slice_get tasks t)
 
@@ -84,7 +87,7 @@ IsClosed one = (one.ended ≡ true) × (one.gave_all ≡ true)
 pub data IsComplete (tasks : List Task) : ℕ → Type 0 where
   complete : {t : ℕ} (one : Task) → slice_get tasks t ≡ Some one → IsClosed one → ((k c : ℕ) → slice_get one.children k ≡ Some (number c) → IsComplete tasks c) → IsComplete tasks t
 
--- Each task is complete.
+-- Each task is complete: all four are once all are closed.
 abbrev pub AreComplete : List Task → Type 0
 AreComplete tasks = (t : ℕ) (one : Task) → slice_get tasks t ≡ Some one → IsComplete tasks t
 
@@ -92,18 +95,19 @@ AreComplete tasks = (t : ℕ) (one : Task) → slice_get tasks t ≡ Some one �
 abbrev pub key_of : Task → List ℕ
 key_of one = one.point ++ length one.children ∷ []
 
--- The task with this number is the least that is open: each task with a key before its own is closed.
+-- The task with this number is the least that is open: each task with a key before its own is closed. In the example c is, and
+-- b is where a and c are closed.
 pub record IsLeastOpen (tasks : List Task) (t : ℕ) : Type 0 where
   pub task : Task
   pub at_ : slice_get tasks t ≡ Some task
   pub open_ : IsClosed task → ⊥
   pub least : (u : ℕ) (other : Task) → slice_get tasks u ≡ Some other → IsBefore (key_of other) (key_of task) → IsClosed other
 
--- Each child of the task is complete.
+-- Each child of the task is complete: those of b are, since it has none.
 abbrev pub AreChildrenComplete : List Task → ℕ → Type 0
 AreChildrenComplete tasks t = (one : Task) → slice_get tasks t ≡ Some one → (k c : ℕ) → slice_get one.children k ≡ Some (number c) → IsComplete tasks c
 
--- The second task is the first child of the first that is not complete.
+-- The second task is the first child of the first that is not complete: a of main, also where b is complete.
 pub record IsFirstUnfinished (tasks : List Task) (t child : ℕ) : Type 0 where
   pub creator : Task
   pub at_ : slice_get tasks t ≡ Some creator

@@ -1,6 +1,7 @@
 //! The tree of the tasks of a run: where each stands, which are complete, and what they printed, in point order.
 #![tactic(auto)]
 
+pub mod laws;
 mod marks;
 mod output;
 mod paths;
