@@ -4,14 +4,13 @@ use Rattle.std.proofs.lemmas.List.{length-append, length-replicate}
 use Rattle.std.proofs.Math.Nat.{add-sub_cancel_left, mod-lt}
 use Rattle.std.specs.List.{fold, sum}
 use Rattle.std.specs.Prelude.{◌-◌, ◌%◌, ◌^◌, if◌then◌else◌, nat_lt, replicate}
-use Rattle.oss_syntax.specs.declared.access.Range.{Range}
 use Rattle.oss_syntax.specs.declared.tree.program.GlobalDef.{GlobalDef}
 use Rattle.oss_syntax.specs.declared.tree.program.Item.{Item}
 use Rattle.oss_syntax.specs.declared.tree.program.Item.TheVariants as items
 use Rattle.oss_syntax.specs.declared.tree.program.NumKind.{NumKind}
 use Rattle.oss_syntax.specs.declared.tree.program.NumKind.TheVariants as num
 use Rattle.oss_grammar.specs.Layout.{cells_in, cells_of, sizes_of}
-use Rattle.oss_grammar.specs.Values.{kept, widened}
+use Rattle.oss_grammar.specs.Values.{kept}
 use Rattle.oss_model.specs.Agreement.{AreWords, Setting, main_start}
 use Rattle.oss_model.specs.Bodies.{Start}
 use Rattle.oss_model.proofs.Exclusive.{every_main_is_a_setting}
@@ -19,13 +18,13 @@ use Rattle.oss_meaning.specs.Expressions.{TreeScript}
 use Rattle.oss_meaning.specs.Meaning.{asks_of}
 use Rattle.oss_meaning.specs.Names.{functions_of}
 use Rattle.oss_meaning.specs.Pointers.{Extent, extents_from}
-use Rattle.oss_meaning.specs.Results.{IsOutcome, IsOutcomeOf, Outcome, first_cells, main_of, main_order}
+use Rattle.oss_meaning.specs.Results.{IsOutcome, first_cells, main_of, main_order}
 use Rattle.oss_code.specs.Globals.{extents_in}
 use Rattle.oss_code.specs.declared.code.CodeParts.{CodeParts}
 use Rattle.oss_code.specs.declared.global.GlobalPlace.{GlobalPlace}
 use Rattle.oss_machine.specs.Frames.{CodeScript}
 use Rattle.oss_machine.specs.Machines.{asks}
-use Rattle.oss_lower.specs.Lowered.{IsLowered, entries_from, first_entry, program_code}
+use Rattle.oss_lower.specs.Lowered.{entries_from, first_entry, program_code}
 use Rattle.oss_lower.specs.Programs.{AProgramHasOneOutcome, HasPlace, HavePlaces, IsCodeOf, MainOutcomesAlike, OutcomesAreOne, ProgramsHaveCodes, ProgramsHaveOneOutcome, code_order, code_start, moved_start}
 use Rattle.oss_lower.proofs.LiveLemmas.{programs_are_lively}
 use Rattle.oss_lower.proofs.MovedRuns.{outcomes_alike}

@@ -1,5 +1,5 @@
 -- The globals of an accepted program have their places: the numbers of its tokens have 64 bits, and the rules ask for the rest.
-use Rattle.std.proofs.Common.{◌≡◌, ◌∙◌, ◌<◌, ℕ, zero, suc, ◌+◌, ◌*◌, Bool, List, [], ◌∷◌, ◌++◌, map, Option, Some, None, refl, sym, ap, subst, arith}
+use Rattle.std.proofs.Common.{◌≡◌, ◌<◌, ℕ, zero, suc, ◌+◌, ◌*◌, List, [], ◌∷◌, ◌++◌, map, Option, Some, None, sym, ap, subst, arith}
 use Rattle.std.proofs.Math.Nat.{mod-lt}
 use Rattle.std.specs.Option.{ForSome}
 use Rattle.std.specs.Prelude.{◌-◌, ◌^◌, if◌then◌else◌, nat_lt}
@@ -15,7 +15,7 @@ use Rattle.oss_grammar.specs.declared.line_part.LinePart.{LinePart}
 use Rattle.oss_grammar.specs.Broken.{first}
 use Rattle.oss_grammar.specs.Layout.{cells_of}
 use Rattle.oss_grammar.specs.Parsing.{IsProgramText}
-use Rattle.oss_grammar.specs.ProgramRules.{function_rules, global_rules, has_main, items_rules, program_rules}
+use Rattle.oss_grammar.specs.ProgramRules.{function_rules, global_rules, items_rules, program_rules}
 use Rattle.oss_grammar.specs.Programs.{IsFirstValue, IsGlobal, IsGlobals, IsItem, IsProgram, IsProgramItems, cells_of_rows}
 use Rattle.oss_grammar.specs.Programs.IsFirstValue.{negative_value, plain_value}
 use Rattle.oss_grammar.specs.Programs.IsGlobal.{array_global, first_global, grid_global, scalar_global}
@@ -32,7 +32,7 @@ use Rattle.oss_model.specs.Agreement.{Setting}
 use Rattle.oss_meaning.specs.Results.{first_cells, main_of}
 use Rattle.oss_names.proofs.Parts.{append-left, append-right}
 use Rattle.oss_names.proofs.ProgramLemmas.{global-cells}
-use Rattle.oss_lower.specs.Programs.{AcceptedProgramsHaveOneOutcome, HasPlace, HavePlaces}
+use Rattle.oss_lower.specs.Programs.{AcceptedProgramsHaveOneOutcome, HavePlaces}
 use Rattle.oss_lower.proofs.OneResult.{IsSomething, value_or}
 use Rattle.oss_lower.proofs.OutcomeLaws.{a_program_has_one_outcome, main_setting, words_from}
 

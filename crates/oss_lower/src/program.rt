@@ -2,7 +2,7 @@
 ghost use Rattle.std.specs.Prelude.{◌≡◌, ◌≤◌, IfOk, length, map};
 ghost use Rattle.oss_meaning.specs.Meaning.{main_number};
 ghost use Rattle.oss_meaning.specs.Names.{functions_of};
-ghost use Rattle.oss_lower.specs.Lowered.{IsLowered, bodies_from, body_place, first_entry};
+ghost use Rattle.oss_lower.specs.Lowered.{IsLowered, bodies_from, body_place, entries_from, first_entry, program_code};
 ghost use Rattle.oss_lower.specs.Programs.{IsCodeOf};
 ghost use Rattle.oss_code.specs.Soundness.{IsSound};
 
@@ -16,7 +16,7 @@ use crate::numbers::narrow;
 use oss_code::{Code, CodeParts, Instr};
 use oss_meaning::Found;
 use oss_names::Known;
-use oss_syntax::{Cells, List, Program};
+use oss_syntax::{Cells, Item, List, Program};
 use std::alloc::{AllocError, Global};
 
 /// The code of a program that breaks no rule. It asks for the same as the program, on the same lines, after any answers: each body of the
@@ -48,6 +48,36 @@ fn parts(alloc: Global, program: &Program) -> Result<CodeParts, AllocError>
     ensures { IfOk result (λ parts. IsLowered program.now.items parts) }
 {
     let items = program.items.as_slice();
+    let Instructions { code, functions } = written(alloc, items)?;
+    let first = Cells::from_vec(first_cells(alloc, items)?);
+    let globals = List::from_vec(places(alloc, items)?);
+    let Columns {
+        instrs,
+        lines,
+        depths,
+    } = taken_apart(alloc, code)?;
+    Ok(CodeParts {
+        instrs: List::from_vec(instrs),
+        lines: List::from_vec(lines),
+        depths: List::from_vec(depths),
+        first,
+        globals,
+        functions: List::from_vec(functions),
+    })
+}
+
+/// What is written of a program: its instructions, and where its functions begin.
+#[derive(Drop)]
+struct Instructions {
+    code: Vec<Lined>,
+    functions: Vec<u32>,
+}
+
+/// Writes a program: the jump to the body of `main`, the end that stands for one that is not there, and the functions.
+fn written(alloc: Global, items: &[Item]) -> Result<Instructions, AllocError>
+    ensures code { IfOk result (λ w. w.code.items ≡ program_code items.now) }
+    ensures functions { IfOk result (λ w. w.functions.items ≡ entries_from items.now first_entry (functions_of items.now)) }
+{
     let names = Names::of(alloc, items)?;
     let mut out = Listing::new(alloc);
     out.push(Instr::Skip(0), 0, 0)?;
@@ -56,21 +86,9 @@ fn parts(alloc: Global, program: &Program) -> Result<CodeParts, AllocError>
     let beginnings = functions(&names, &mut out)?;
     let main = body_of_main(&names, beginnings.bodies.as_slice());
     out.lead(narrow(main.saturating_sub(1))?);
-    let first = Cells::from_vec(first_cells(alloc, items)?);
-    let globals = List::from_vec(places(alloc, items)?);
-    let functions = List::from_vec(beginnings.functions);
-    let Columns {
-        instrs,
-        lines,
-        depths,
-    } = taken_apart(alloc, out.into_vec())?;
-    Ok(CodeParts {
-        instrs: List::from_vec(instrs),
-        lines: List::from_vec(lines),
-        depths: List::from_vec(depths),
-        first,
-        globals,
-        functions,
+    Ok(Instructions {
+        code: out.into_vec(),
+        functions: beginnings.functions,
     })
 }
 
