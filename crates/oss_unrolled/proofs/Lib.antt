@@ -1,3 +1,6 @@
 pub mod Singles
 pub mod PlainBodies
 pub mod PlainRuns
+pub mod SpelledNames
+pub mod SpelledValues
+pub mod TurnCells
