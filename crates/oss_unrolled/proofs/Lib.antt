@@ -4,3 +4,5 @@ pub mod PlainRuns
 pub mod SpelledNames
 pub mod SpelledValues
 pub mod TurnCells
+pub mod UnrolledClauses
+pub mod GroupingLemmas

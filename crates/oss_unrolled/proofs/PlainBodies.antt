@@ -1,36 +1,16 @@
 -- Two programs that ask alike, each cell of a creation in an access of its own: their bodies do the same acts, the clauses written alike.
-use Rattle.std.proofs.Common.{◌≡◌, ◌∙◌, ℕ, Bool, true, false, List, [], ◌∷◌, map, Option, Some, None, refl, sym, ap, subst}
+use Rattle.std.proofs.Common.{◌≡◌, ◌∙◌, ℕ, Bool, true, false, List, [], ◌∷◌, Option, Some, None, refl, sym, ap, subst}
 use Rattle.std.specs.Prelude.{if◌then◌else◌, ◌||◌}
 use Rattle.oss_syntax.specs.declared.fault.FaultKind.{FaultKind}
-use Rattle.oss_model.specs.Bodies.{Act, Ask, Asked, Frame, Order, Program, Stack, Start, act_of, act_of_ask, after_creation, ask_of, child_frame, frame_act, including_frame, judged_act, lent_when, next_stack, one_more_created, past_ask, past_silent, settled_frame, settled_parts, settled_stack, stack_act, stack_after, stack_from, stage_act, stage_created, start_frame}
+use Rattle.oss_model.specs.Bodies.{Act, Ask, Frame, Order, Program, Stack, Start, act_of, act_of_ask, after_creation, ask_of, child_frame, frame_act, including_frame, judged_act, lent_when, next_stack, one_more_created, past_ask, past_silent, settled_frame, settled_parts, settled_stack, stack_act, stack_after, stack_from, stage_act, stage_created, start_frame}
 use Rattle.oss_model.specs.Bodies.Ask.{Await, Begin, Create, End, Fails, Fold, Print, Read, Release, Tick, Wait, WaitOn, Write}
 use Rattle.oss_model.specs.Bodies.Act.{Awaited, Created, Ended, Fault, Folded, Load, Over, Printed, Releases, Store, Ticked, Waited, WaitedOn}
-use Rattle.oss_model.specs.Context.{Context, create_fault, made, right_of}
+use Rattle.oss_model.specs.Context.{create_fault, made, right_of}
 use Rattle.oss_model.specs.Rights.{Right}
-use Rattle.oss_unrolled.proofs.Singles.{child_same, creation_same, singles}
+use Rattle.oss_unrolled.specs.Grouping.{plain_ask, plain_asked, plain_order, plain_start}
+use Rattle.oss_unrolled.proofs.Singles.{child_same, creation_same}
 
--- the same order, each cell of its clauses alone
-abbrev pub plain_order : {S : Type 0} → Order S → Order S
-plain_order o = record { script = o.script; clauses = singles o.clauses; when = o.when; last = o.last; wait = o.wait; priority = o.priority }
-
-abbrev pub plain_ask : {S : Type 0} → Ask S → Ask S
-plain_ask Begin = Begin
-plain_ask Tick = Tick
-plain_ask (Read cell) = Read cell
-plain_ask (Write cell v) = Write cell v
-plain_ask (Fold cell o v) = Fold cell o v
-plain_ask (Create o) = Create (plain_order o)
-plain_ask Await = Await
-plain_ask Wait = Wait
-plain_ask (WaitOn named) = WaitOn named
-plain_ask (Release clauses) = Release clauses
-plain_ask (Print text) = Print text
-plain_ask End = End
-plain_ask (Fails kind) = Fails kind
-
-abbrev pub plain_asked : {S : Type 0} → Asked S → Asked S
-plain_asked a = record { ask = plain_ask a.ask; line = a.line }
-
+-- the same act
 abbrev pub plain_act : {S : Type 0} → Act S → Act S
 plain_act Ticked = Ticked
 plain_act (Load cell) = Load cell
@@ -45,9 +25,6 @@ plain_act (Printed key text) = Printed key text
 plain_act Ended = Ended
 plain_act (Fault kind line key) = Fault kind line key
 plain_act Over = Over
-
-abbrev pub plain_start : {S : Type 0} → Start S → Start S
-plain_start b = record { order = plain_order b.order; context = b.context; path = b.path }
 
 -- the script that a creation runs is one of these
 abbrev pub IsGoodAsk : {S : Type 0} → (S → Type 0) → Ask S → Type 0

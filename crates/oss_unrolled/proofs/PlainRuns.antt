@@ -3,7 +3,7 @@ use Rattle.std.proofs.Common.{◌≡◌, ◌∙◌, ℕ, zero, suc, ◌+◌, Boo
 use Rattle.std.specs.Prelude.{◌-◌, ◌^◌, ◌≢◌, if◌then◌else◌, min}
 use Rattle.oss_model.specs.Bodies.{Act, Body, Frame, IsHalt, Order, Program, Start, child_start, stack_from}
 use Rattle.oss_model.specs.Bodies.Act.{Awaited, Created, Ended, Fault, Folded, Load, Over, Printed, Releases, Store, Ticked, Waited, WaitedOn}
-use Rattle.oss_model.specs.Context.{Context, right_of}
+use Rattle.oss_model.specs.Context.{right_of}
 use Rattle.oss_model.specs.Machine.{At, State, Task, find, same_path}
 use Rattle.oss_model.specs.Moves.{TaskStep, act_now, after_answer, created_now, found_by, is_ended, new_task, opening}
 use Rattle.oss_model.specs.Sequence.{IsAtEnd, Running, RunsOn, Sequential, active_after, direct_cells, path_above, printed_after}
@@ -15,7 +15,8 @@ use Rattle.oss_model.proofs.TreeLemmas.{same_path_is}
 use Rattle.oss_meaning.specs.Results.{IsOutcome, Outcome, cells_held, entries_in, entries_of, is_among, one_held, tasks_in, weighed}
 use Rattle.oss_meaning.specs.Results.IsOutcome.{ends, fails}
 use Rattle.oss_unrolled.proofs.Singles.{child_same}
-use Rattle.oss_unrolled.proofs.PlainBodies.{AskAlike, IsGoodAct, acts_alike, acts_good, created_alike, plain_act, plain_order, plain_start, stands_alike}
+use Rattle.oss_unrolled.proofs.PlainBodies.{AskAlike, IsGoodAct, acts_alike, acts_good, created_alike, plain_act, stands_alike}
+use Rattle.oss_unrolled.specs.Grouping.{plain_order, plain_start}
 
 abbrev pub plain_body : {S : Type 0} → Body S → Body S
 plain_body b = record { start = plain_start b.start; found = b.found }

@@ -1,28 +1,14 @@
 -- The clauses of a creation with each cell in an access of its own give the same rights.
-use Rattle.std.proofs.Common.{◌≡◌, ◌∙◌, ℕ, zero, suc, ◌+◌, ◌-◌, ◌<◌, ◌≤◌, min, Bool, true, false, List, [], ◌∷◌, ◌++◌, map, Option, Some, None, refl, sym, ap, subst, arith, length, ◌⊎◌, inl, inr}
+use Rattle.std.proofs.Common.{◌≡◌, ◌∙◌, ℕ, zero, suc, ◌+◌, ◌-◌, ◌<◌, ◌≤◌, min, Bool, true, false, List, [], ◌∷◌, ◌++◌, map, Option, Some, None, refl, sym, ap, arith, length, ◌⊎◌, inl, inr}
 use Rattle.std.specs.Prelude.{◌&&◌, ◌||◌, nat_le, nat_lt, if◌then◌else◌}
 use Rattle.std.specs.List.{range_with_len}
 use Rattle.std.proofs.lemmas.Bool.Decides.{nat_tests}
 use Rattle.oss_syntax.specs.declared.access.Access.{Access}
-use Rattle.oss_syntax.specs.declared.access.Mode.{Mode}
 use Rattle.oss_syntax.specs.declared.fault.FaultKind.{FaultKind}
 use Rattle.oss_syntax.specs.declared.fault.FaultKind.TheVariants as fault
-use Rattle.oss_model.specs.Cells.{cell_range}
 use Rattle.oss_model.specs.Context.{Context, Entry, child_context, clause_fault, create_fault, creation_fault, or_else, right_of, table_from}
+use Rattle.oss_unrolled.specs.Grouping.{single, singles}
 use Rattle.oss_model.specs.Rights.{Right, Free, any_cell, any_from, first_mark, holds_uncovered, in_access, is_fresh, is_mixed, is_released, is_unjoinable, joined_right, mark_from, right_from}
-
--- an access of one cell
-abbrev pub single : Access → ℕ → Access
-single a c = record { range = cell_range c; mode = a.mode; strong = a.strong; fresh = a.fresh }
-
--- the cells of an access, each alone
-abbrev pub singles_of : Access → List Access
-singles_of a = map (single a) (range_with_len a.range.lo (a.range.hi - a.range.lo))
-
--- clauses, each cell alone
-abbrev pub singles : List Access → List Access
-singles [] = []
-singles (a ∷ rest) = singles_of a ++ singles rest
 
 if_true : {A : Type 0} (b : Bool) (x y : A) → b ≡ true → (if b then x else y) ≡ x
 if_true b x y e = ap (λ (c : Bool). if c then x else y) e
@@ -154,10 +140,10 @@ pub clause_same : (x : Context) (xs : List Access) (final : Bool) → clause_fau
 clause_same x xs final =
     let rest : Bool → Bool → Bool → Option FaultKind = λ m r n. if m then Some fault.MixedAccess else if r then Some fault.Released else if n then Some fault.NotCovered else None in
     let mixed : any_cell (is_mixed final (singles xs)) (singles xs) ≡ any_cell (is_mixed final xs) xs =
-        any_same (is_mixed final (singles xs)) xs ∙ ap (λ (t : ℕ → Bool). any_cell t xs) (λ i. λ c. mixed_same final xs c i) in
+    any_same (is_mixed final (singles xs)) xs ∙ ap (λ (t : ℕ → Bool). any_cell t xs) (λ i. λ c. mixed_same final xs c i) in
     let covered : any_cell (λ c. holds_uncovered (right_of x c) (right_from final (singles xs) c)) (singles xs) ≡ any_cell (λ c. holds_uncovered (right_of x c) (right_from final xs c)) xs =
-        any_same (λ c. holds_uncovered (right_of x c) (right_from final (singles xs) c)) xs
-        ∙ ap (λ (t : ℕ → Right). any_cell (λ c. holds_uncovered (right_of x c) (t c)) xs) (λ i. λ c. right_same final xs c i) in
+    any_same (λ c. holds_uncovered (right_of x c) (right_from final (singles xs) c)) xs
+    ∙ ap (λ (t : ℕ → Right). any_cell (λ c. holds_uncovered (right_of x c) (t c)) xs) (λ i. λ c. right_same final xs c i) in
     ap (λ m. rest m (any_cell (λ c. is_released (right_of x c)) (singles xs)) (any_cell (λ c. holds_uncovered (right_of x c) (right_from final (singles xs) c)) (singles xs))) mixed
     ∙ ap (λ r. rest (any_cell (is_mixed final xs) xs) r (any_cell (λ c. holds_uncovered (right_of x c) (right_from final (singles xs) c)) (singles xs))) (any_same (λ c. is_released (right_of x c)) xs)
     ∙ ap (λ n. rest (any_cell (is_mixed final xs) xs) (any_cell (λ c. is_released (right_of x c)) xs) n) covered

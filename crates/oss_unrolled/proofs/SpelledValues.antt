@@ -1,11 +1,10 @@
 -- An expression in which a number stands in place of the newest local means what the expression means where that local has this number.
-use Rattle.std.proofs.Common.{◌≡◌, ◌∙◌, ℕ, zero, suc, ◌+◌, Bool, true, false, List, [], ◌∷◌, ◌++◌, length, map, reverse, refl, sym, ap, subst, rules}
+use Rattle.std.proofs.Common.{◌≡◌, ◌∙◌, ℕ, Bool, true, false, List, [], ◌∷◌, ◌++◌, length, map, reverse, refl, sym, ap, subst, rules}
 use Rattle.std.specs.Prelude.{if◌then◌else◌, slice_get}
 use Rattle.std.specs.Str.{bytes_eq}
 use Rattle.oss_syntax.specs.declared.tree.expr.BinOp.{BinOp}
 use Rattle.oss_syntax.specs.declared.tree.expr.BinOp.TheVariants as op
 use Rattle.oss_syntax.specs.declared.tree.expr.Expr.{Expr}
-use Rattle.oss_syntax.specs.declared.tree.expr.ExprKind.{ExprKind}
 use Rattle.oss_syntax.specs.declared.tree.expr.ExprKind.TheOpen as open_expr
 use Rattle.oss_syntax.specs.declared.tree.expr.ExprKind.TheFolds.{the_lemmas as expr_folds}
 use Rattle.oss_syntax.specs.declared.tree.expr.ExprKind.TheVariants as exprs
@@ -29,7 +28,7 @@ use Rattle.oss_meaning.specs.declared.names.Target.TheVariants as target
 use Rattle.oss_meaning.specs.declared.names.Typed.{Typed}
 use Rattle.oss_meaning.specs.declared.value.Value.{Value}
 use Rattle.oss_meaning.specs.declared.value.Value.TheVariants as value
-use Rattle.oss_meaning.specs.Expressions.{Evaluation, Here, Sense, TreeRun, arguments, binary_value, both, both_then, call_value, called_kind, called_or_created, expr_step, index_indexed, index_place, index_sense, index_value, is_task_function, loaded, name_place, name_value, no_place, prefix_place, prefix_sense, prefix_value, sense_of, then_load, typed_index, typed_name, typed_number, typed_prefix, typed_value, unless_fault, value_at, value_sense}
+use Rattle.oss_meaning.specs.Expressions.{Evaluation, Here, Sense, TreeRun, arguments, binary_value, both, both_then, call_value, called_or_created, expr_step, index_indexed, index_place, index_sense, index_value, is_task_function, loaded, name_place, name_value, no_place, prefix_place, prefix_sense, prefix_value, sense_of, then_load, typed_index, typed_name, typed_prefix, unless_fault}
 use Rattle.oss_meaning.specs.Names.{found, functions_of, item_found}
 use Rattle.oss_meaning.specs.Operators.{is_zero, operated_by, prefixed, truth_of}
 use Rattle.oss_meaning.specs.Pointers.{Extent, element_of, extents_of, moved, number_in, row_of}

@@ -1,6 +1,6 @@
 -- The sections of the turns of a multidependency name its cells: with each cell alone, the clauses are the same.
-use Rattle.std.proofs.Common.{◌≡◌, ◌∙◌, ℕ, zero, suc, ◌+◌, ◌-◌, ◌<◌, ◌≤◌, min, eqb, Bool, true, false, List, [], ◌∷◌, ◌++◌, length, map, reverse, Option, Some, None, option_map, refl, sym, ap, subst, arith, rules, append_assoc}
-use Rattle.std.specs.Prelude.{◌^◌, ◌%◌, ◌&&◌, if◌then◌else◌, nat_le, nat_lt}
+use Rattle.std.proofs.Common.{◌≡◌, ◌∙◌, ℕ, zero, suc, ◌+◌, ◌-◌, ◌<◌, min, eqb, Bool, true, false, List, [], ◌∷◌, ◌++◌, length, map, Option, Some, None, refl, sym, ap, arith, append_assoc}
+use Rattle.std.specs.Prelude.{◌^◌, if◌then◌else◌}
 use Rattle.std.specs.List.{range_with_len}
 use Rattle.std.proofs.lemmas.Bool.Decides.{nat_tests}
 use Rattle.oss_syntax.specs.declared.access.Access.{Access}
@@ -21,7 +21,7 @@ use Rattle.oss_meaning.specs.Names.{found}
 use Rattle.oss_meaning.specs.Pointers.{extents_of, number_in}
 use Rattle.oss_meaning.specs.Sections.{base_of, cell_before, declared_on, longer_by, ranges_of, section_run, sections_run, turn_cells, turns_run}
 use Rattle.oss_unrolled.specs.Unrolling.{is_signed, spelled, turn_section, turn_sections}
-use Rattle.oss_unrolled.proofs.Singles.{single, singles, singles_of}
+use Rattle.oss_unrolled.specs.Grouping.{IsSteady, singles, singles_of}
 use Rattle.oss_unrolled.proofs.SpelledValues.{spells}
 
 -- Cells of ranges
@@ -115,10 +115,6 @@ two_places b (Some m) i j = refl
 
 wraps_not : (k : ℕ) → k + 1 < 2 ^ 64 → sum_of k 1 ≡ k + 1
 wraps_not k h = omega arith
-
--- What goes on with accesses does so in one way for clauses that are the same with each cell alone.
-abbrev pub IsSteady : (List Access → TreeRun) → Type 0
-IsSteady go = (a b : List Access) → singles a ≡ singles b → go a ≡ go b
 
 pub steady_behind : (all : List Item) (scope : List Local) (d : Declared) (rest : List Section) (line : ℕ) (here : Here) (locals : List Value) (go : List Access → TreeRun)
     → IsSteady go → IsSteady (λ made. sections_run all scope d rest line here locals made go)
