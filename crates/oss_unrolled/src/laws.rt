@@ -1,0 +1,24 @@
+//! What holds of every program with multidependencies, accepted or not: laws, each carried by a function that does nothing.
+
+ghost use Rattle.oss_unrolled.specs.Claims.{GroupingsHaveOneOutcome, SpelledMeansTheSame, UnrolledClausesMeanTheSame, UnrolledSectionsMeanTheSame};
+
+/// An expression with a number spelled in place of a name means what it means where the newest local has this name and this number, and
+/// is signed.
+pub fn spelled_means_the_same()
+    ensures { SpelledMeansTheSame }
+{}
+
+/// Sections with their multidependencies unrolled evaluate the same, have the same faults, and declare the same cells in the same order.
+pub fn unrolled_sections_mean_the_same()
+    ensures { UnrolledSectionsMeanTheSame }
+{}
+
+/// So do clauses.
+pub fn unrolled_clauses_mean_the_same()
+    ensures { UnrolledClausesMeanTheSame }
+{}
+
+/// However the clauses of creations group their cells, the sequential run has one outcome.
+pub fn groupings_have_one_outcome<S>()
+    ensures { GroupingsHaveOneOutcome S }
+{}
