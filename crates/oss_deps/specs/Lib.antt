@@ -1,2 +1,6 @@
 pub mod Opens
 pub mod Seen
+pub mod Kept
+pub mod Places
+pub mod Wants
+pub mod Columns

@@ -1,8 +1,26 @@
 //! What the tasks of a run wait for: the dependency systems, and the plain lists, which are the simplest of them.
 #![tactic(auto)]
 
+mod asking;
+mod closing;
+mod column;
 mod deps;
+mod frame;
+mod giving;
+mod growing;
+mod lookups;
 mod opened;
+mod opening;
+mod plain;
+pub mod probe;
+mod reserved;
+mod reserving;
+mod splitting;
+#[cfg(test)]
+mod tests;
+mod walking;
+mod want;
 
 pub use deps::Deps;
 pub use opened::Open;
+pub use plain::PlainDeps;

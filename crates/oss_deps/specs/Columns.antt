@@ -1,0 +1,86 @@
+-- When the lists of all stretches stand for what was opened and given up.
+use Rattle.std.specs.Prelude.{◌≡◌, ℕ, ◌+◌, ◌≤◌, ◌<◌, ◌⊎◌, Bool, true, false, List, [], length, slice_get, vec_capacity, Option, Some, None}
+use Rattle.oss_syntax.specs.declared.access.Access.{Access}
+use Rattle.oss_model.specs.Order.{IsIn}
+use Rattle.oss_ranges.specs.declared.piece.Piece.{Piece}
+use Rattle.oss_ranges.specs.Cells.{value_at}
+use Rattle.oss_deps.specs.declared.opened.Open.{Open}
+use Rattle.oss_deps.specs.declared.frame.Frame.{Frame}
+use Rattle.oss_deps.specs.declared.frame.Mark.{Mark}
+use Rattle.oss_deps.specs.declared.column.Column.{Column}
+use Rattle.oss_deps.specs.Opens.{AreOpens, mode_at, names}
+use Rattle.oss_deps.specs.Places.{AreLinked, AreMarked}
+
+-- The entry is the one of its number, counted from 1.
+abbrev pub IsNumber : List Open → ℕ → Open → Type 0
+IsNumber opens n o = (i : ℕ) × (n ≡ i + 1) × (slice_get opens i ≡ Some o)
+
+-- The task whose access stands at a place; main's stands at 0.
+abbrev pub IsTaskAt : List Frame → ℕ → ℕ → Type 0
+IsTaskAt frames k t = (k ≡ 0 → t ≡ 0) × ((k ≡ 0 → ⊥) → (f : Frame) × (slice_get frames k ≡ Some f) × (f.task ≡ t))
+
+-- A frame is that of an entry's access to the cell.
+pub record IsFrameOf (opens : List Open) (c : ℕ) (frames : List Frame) (f : Frame) : Type 0 where
+  pub entry : Open
+  pub is : IsNumber opens f.number entry
+  pub task : entry.task ≡ f.task
+  pub named : names c entry ≡ true
+  pub mode : mode_at c entry ≡ f.mode
+  pub parent : IsTaskAt frames f.up entry.parent
+
+-- An entry's access to a cell stands in the list.
+pub record IsShown (frames : List Frame) (n : ℕ) : Type 0 where
+  pub place : ℕ
+  pub not_main : place ≡ 0 → ⊥
+  pub frame : Frame
+  pub is : slice_get frames place ≡ Some frame
+  pub number : frame.number ≡ n
+
+-- A list has the accesses to the cell.
+pub record AreShown (opens : List Open) (c : ℕ) (frames : List Frame) : Type 0 where
+  pub main : (f : Frame) → slice_get frames 0 ≡ Some f → f.task ≡ 0
+  pub frame : (k : ℕ) (f : Frame) → slice_get frames k ≡ Some f → (k ≡ 0 → ⊥) → IsFrameOf opens c frames f
+  pub all : (o : Open) (n : ℕ) → IsNumber opens n o → names c o ≡ true → IsShown frames n
+
+-- The list of a stretch that has the cell is right.
+pub record IsColumn (opens : List Open) (c : ℕ) (column : Column) : Type 0 where
+  pub linked : AreLinked column.frames.items
+  pub marked : AreMarked column.frames.items column.marks.items None
+  pub shown : AreShown opens c column.frames.items
+
+-- The stretches, and which one each cell is in.
+pub record AreStretches (pieces : List (Piece ℕ)) (columns : List Column) : Type 0 where
+  pub here : (c i : ℕ) → value_at pieces c ≡ Some i → (column : Column) × (slice_get columns i ≡ Some column) × (column.lo ≤ c) × (c < column.hi)
+  pub there : (i : ℕ) (column : Column) (c : ℕ) → slice_get columns i ≡ Some column → column.lo ≤ c → c < column.hi → value_at pieces c ≡ Some i
+  pub some : (i : ℕ) (column : Column) → slice_get columns i ≡ Some column → (column.lo < column.hi) × (column.hi ≤ 1048576)
+  -- there are none, or each cell is in one
+  pub whole : (columns ≡ []) ⊎ ((c : ℕ) → c < 1048576 → (i : ℕ) × (value_at pieces c ≡ Some i))
+
+-- The lists stand for what was opened.
+pub record AreColumns (opens : List Open) (pieces : List (Piece ℕ)) (columns : List Column) : Type 0 where
+  pub stretches : AreStretches pieces columns
+  pub right : (i : ℕ) (column : Column) (c : ℕ) → slice_get columns i ≡ Some column → column.lo ≤ c → c < column.hi → IsColumn opens c column
+  pub none : columns ≡ [] → opens ≡ []
+
+-- No stretch has both this cell and the one before it.
+abbrev pub IsDivided : List Column → ℕ → Type 0
+IsDivided columns k = (i : ℕ) (column : Column) → slice_get columns i ≡ Some column → (k ≤ column.lo) ⊎ (column.hi ≤ k)
+
+-- A stretch has room for one more access.
+abbrev pub HasRoom : Column → Type 0
+HasRoom column = (length column.frames.items < vec_capacity column.frames) × (length column.marks.items < vec_capacity column.marks)
+
+-- Each stretch of a range has.
+abbrev pub HaveRoom : List Column → ℕ → ℕ → Type 0
+HaveRoom columns lo hi = (i : ℕ) (column : Column) → slice_get columns i ≡ Some column → lo < column.hi → column.lo < hi → HasRoom column
+
+-- An access may be added to each stretch of a range, and to no other.
+pub record IsReady (columns : List Column) (lo hi : ℕ) : Type 0 where
+  pub begins : IsDivided columns lo
+  pub ends : IsDivided columns hi
+  pub room : HaveRoom columns lo hi
+
+-- The reserved accesses may be added without memory.
+abbrev pub AreReady : Option (List Access) → List Column → Type 0
+AreReady None columns = Unit {0}
+AreReady (Some accesses) columns = ((columns ≡ []) → ⊥) × ((a : Access) → IsIn a accesses → IsReady columns a.range.lo a.range.hi)

@@ -1,0 +1,145 @@
+use crate::asking::{are_accesses_met, are_children_done, may_join};
+use crate::column::Column;
+use crate::deps::Deps;
+use crate::giving::give_over;
+use crate::lookups::number_of;
+use crate::opened::Open;
+use crate::opening::{add_all, ask_all, ask_ends};
+use crate::reserved::{copied, is_reserved};
+use crate::reserving::{make_ready, split_around};
+use crate::splitting::cover;
+use oss_ranges::RangeMap;
+use oss_syntax::{Access, List, Range};
+use std::alloc::{AllocError, Global};
+use std::marker::Model;
+
+/// The lists themselves, one for each stretch of cells that no cut divides.
+#[derive(Drop)]
+pub struct PlainDeps {
+    alloc: Global,
+    opens: Vec<Open>,
+    map: RangeMap<usize>,
+    columns: Vec<Column>,
+    ended: bool,
+    reserved: Option<List<Access>>,
+}
+
+impl Model for PlainDeps {
+    ghost use Rattle.oss_deps.specs.Kept.{Kept};
+
+    ghost Value = { Kept };
+
+    ghost view = { λ d. record { opens = d.opens.items; pieces = d.map.pieces; columns = d.columns.items; ended = d.ended; reserved = d.reserved } };
+}
+
+impl PlainDeps {
+    /// No task is opened. It takes no memory.
+    pub fn new(alloc: Global) -> PlainDeps {
+        PlainDeps {
+            alloc,
+            opens: Vec::new(alloc),
+            map: RangeMap::new(alloc),
+            columns: Vec::new(alloc),
+            ended: false,
+            reserved: None,
+        }
+    }
+}
+
+impl Deps for PlainDeps {
+    ghost use Rattle.oss_deps.specs.Kept.{seen_of};
+
+    ghost seen = { seen_of };
+
+    fn reserve(&mut self, accesses: &List<Access>) -> Result<(), AllocError> {
+        self.opens.reserve(1)?;
+        cover(self.alloc, &mut self.map, &mut self.columns)?;
+        make_ready(
+            self.alloc,
+            &mut self.map,
+            &mut self.columns,
+            accesses.as_slice(),
+        )?;
+        self.reserved = Some(copied(self.alloc, accesses)?);
+        Ok(())
+    }
+
+    fn open(&mut self, task: u64, parent: u64, accesses: &List<Access>) -> Result<(), AllocError> {
+        if !is_reserved(&self.reserved, accesses) {
+            self.reserve(accesses)?;
+        }
+        let number = self.opens.len() + 1;
+        match (
+            self.reserved.take(),
+            number_of(self.opens.as_slice(), parent),
+        ) {
+            (Some(kept), Some(creator)) => {
+                add_all(
+                    &self.map,
+                    &mut self.columns,
+                    number,
+                    task,
+                    creator,
+                    kept.as_slice(),
+                );
+                ask_all(
+                    &self.map,
+                    &mut self.columns,
+                    &mut self.ended,
+                    kept.as_slice(),
+                );
+                self.opens.push_reserved(Open {
+                    task,
+                    parent,
+                    accesses: kept,
+                });
+                Ok(())
+            }
+            _ => unreachable!(),
+        }
+    }
+
+    fn prepare(&mut self, range: Range) -> Result<(), AllocError> {
+        cover(self.alloc, &mut self.map, &mut self.columns)?;
+        split_around(self.alloc, &mut self.map, &mut self.columns, range)?;
+        ask_ends(&self.map, &mut self.columns, &mut self.ended, range);
+        self.reserved = None;
+        Ok(())
+    }
+
+    fn give(&mut self, task: u64, range: Range) {
+        match number_of(self.opens.as_slice(), task) {
+            Some(number) => give_over(&self.map, &mut self.columns, number, range),
+            None => unreachable!(),
+        }
+    }
+
+    fn met(&mut self, task: u64) -> bool {
+        match number_of(self.opens.as_slice(), task) {
+            Some(number) => {
+                number == 0
+                    || are_accesses_met(
+                        &self.map,
+                        self.columns.as_slice(),
+                        number,
+                        self.opens[number - 1].accesses.as_slice(),
+                    )
+            }
+            None => unreachable!(),
+        }
+    }
+
+    fn may_join(&mut self, task: u64, cell: u32) -> bool {
+        match number_of(self.opens.as_slice(), task) {
+            Some(number) => may_join(&self.map, self.columns.as_slice(), number, cell),
+            None => unreachable!(),
+        }
+    }
+
+    fn children_done(&mut self, task: u64, range: Range) -> bool {
+        match number_of(self.opens.as_slice(), task) {
+            Some(number) => are_children_done(&self.map, self.columns.as_slice(), number, range),
+            None => unreachable!(),
+        }
+    }
+}
