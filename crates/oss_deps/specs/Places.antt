@@ -102,3 +102,13 @@ AreModesCovered frames = (k : ℕ) (f g : Frame) → slice_get frames k ≡ Some
 -- The place is one of the list, and not main's.
 abbrev pub IsWithin : List Frame → ℕ → Type 0
 IsWithin frames k = (0 < k) × (k < length frames)
+
+-- The first access that is not done of those of siblings behind a place, where `up` is that of the creator.
+abbrev pub IsNextOpen : List Frame → List Mark → ℕ → ℕ → Option ℕ → Type 0
+IsNextOpen frames marks up at None = (j : ℕ) → IsBelow frames up j → at < j → closed_at marks j ≡ true
+IsNextOpen frames marks up at (Some l) = IsBelow frames up l × (at < l) × (closed_at marks l ≡ false) × ((j : ℕ) → IsBelow frames up j → at < j → j < l → closed_at marks j ≡ true)
+
+-- An access further up has come to be done, or none has.
+abbrev pub IsPassed : List Frame → List Mark → ℕ → Option ℕ → Type 0
+IsPassed frames marks at None = Unit {0}
+IsPassed frames marks at (Some up) = IsWithin frames up × (up < at) × (closed_at marks up ≡ true)

@@ -1,4 +1,5 @@
 ghost use Rattle.std.specs.Prelude.{◌≡◌};
+ghost use Rattle.oss_deps.specs.Places.{is_closed};
 
 use oss_syntax::Mode;
 
@@ -25,6 +26,7 @@ pub(crate) struct Mark {
 impl Mark {
     /// Whether the access is done: its cells are given up, and no child has one that is not done.
     pub(crate) fn is_closed(self) -> bool
+        ensures { result ≡ is_closed self }
     {
         self.given && self.first.is_none()
     }

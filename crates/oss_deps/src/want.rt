@@ -1,3 +1,7 @@
+ghost use Rattle.std.specs.Prelude.{◌≡◌};
+ghost use Rattle.oss_model.specs.Rights.{op_eq};
+ghost use Rattle.oss_deps.specs.Wants.{is_fold_of, is_read, may_pass, want_above};
+
 use oss_syntax::{Mode, Op};
 
 /// What an access waits for: a write, a read, or the join of a reduction.
@@ -8,7 +12,9 @@ pub(crate) enum Want {
     ToJoin(Op),
 }
 
-fn is_same_op(left: Op, right: Op) -> bool {
+fn is_same_op(left: Op, right: Op) -> bool
+    ensures { result ≡ op_eq left right }
+{
     match left {
         Op::Add => matches!(right, Op::Add),
         Op::And => matches!(right, Op::And),
@@ -18,7 +24,9 @@ fn is_same_op(left: Op, right: Op) -> bool {
 }
 
 /// The access is a reduction by this operator.
-fn is_fold_of(op: Op, mode: Mode) -> bool {
+fn is_fold_of(op: Op, mode: Mode) -> bool
+    ensures { result ≡ is_fold_of op mode }
+{
     match mode {
         Mode::Read => false,
         Mode::Write => false,
@@ -26,7 +34,9 @@ fn is_fold_of(op: Op, mode: Mode) -> bool {
     }
 }
 
-fn is_read(mode: Mode) -> bool {
+fn is_read(mode: Mode) -> bool
+    ensures { result ≡ is_read mode }
+{
     match mode {
         Mode::Read => true,
         Mode::Write => false,
@@ -36,7 +46,9 @@ fn is_read(mode: Mode) -> bool {
 
 /// An access of an earlier sibling does not stand in the way: it has this mode, and is done or not. It is the first one that is not
 /// done, or stands behind that.
-pub(crate) fn may_pass(want: Want, mode: Mode, is_closed: bool) -> bool {
+pub(crate) fn may_pass(want: Want, mode: Mode, is_closed: bool) -> bool
+    ensures { result ≡ may_pass want mode is_closed }
+{
     match want {
         Want::ToWrite => is_closed,
         Want::ToRead => is_closed || is_read(mode),
@@ -45,7 +57,9 @@ pub(crate) fn may_pass(want: Want, mode: Mode, is_closed: bool) -> bool {
 }
 
 /// What is wanted of the level above, where the access there has this mode.
-pub(crate) fn want_above(want: Want, mode: Mode) -> Want {
+pub(crate) fn want_above(want: Want, mode: Mode) -> Want
+    ensures { result ≡ want_above want mode }
+{
     match want {
         Want::ToWrite => Want::ToWrite,
         Want::ToRead => Want::ToRead,
