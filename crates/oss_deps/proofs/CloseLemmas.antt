@@ -253,6 +253,10 @@ module _ (frames : List Frame) (marks : List Mark) (linked : AreLinked frames) (
     pub moved_closed : closed_at changed up ≡ is_closed moved
     moved_closed = ap closed_mark moved_is
 
+    -- the mark as it is read behind the write
+    pub read_closed : is_closed (get_or changed up unmarked) ≡ is_closed moved
+    read_closed = ap is_closed (get_or-set_same marks up moved unmarked up_within)
+
     pub moved_given : (t : ℕ) → given_by frames changed t ≡ given_by frames marks t
     moved_given t = given_same frames marks up above moved t above_is refl
 
@@ -329,5 +333,39 @@ module _ (frames : List Frame) (marks : List Mark) (at : ℕ) (marked : AreMarke
   pub flagged_closed : is_closed flagged ≡ true → closed_at after at ≡ true
   flagged_closed h = ap closed_mark flagged_is ∙ h
 
+  pub flagged_read : is_closed (get_or after at unmarked) ≡ is_closed flagged
+  flagged_read = ap is_closed (get_or-set_same marks at flagged unmarked at_within)
+
   pub flagged_given : (f : Frame) (t : ℕ) → slice_get frames at ≡ Some f → given_by frames after t ≡ (given_by frames marks t || (f.task == t))
   flagged_given f t is = given_more frames marks at f flagged t is at_within refl
+
+-- The access that has come to be done is done, and is not main's.
+abbrev pub IsDoneNow : List Frame → List Mark → Option ℕ → Type 0
+IsDoneNow frames marks None = Unit {0}
+IsDoneNow frames marks (Some one) = IsWithin frames one × (closed_at marks one ≡ true)
+
+abbrev pub done_left : Option ℕ → ℕ
+done_left None = 0
+done_left (Some one) = one
+
+-- What was noted of the access that is given up.
+abbrev pub IsNoted : Bool → ℕ → Option ℕ → Type 0
+IsNoted closed at done = ((closed ≡ true) × (done ≡ Some at)) ⊎ ((closed ≡ false) × (done ≡ None))
+
+module _ (frames : List Frame) (marks : List Mark) (at : ℕ) (marked : AreMarked frames marks None) (within : IsWithin frames at) (closed : Bool)
+    (tests : closed ≡ is_closed (get_or (after frames marks at marked within) at unmarked)) (done : Option ℕ) (noted : IsNoted closed at done) where
+  pub noted_marked : AreMarked frames (after frames marks at marked within) done
+  noted_marked = flagged_marked frames marks at marked within done (λ h. go noted h)
+    where
+      go : IsNoted closed at done → is_closed (flagged frames marks at marked within) ≡ true → done ≡ Some at
+      go (inl (yes_, e)) h = e
+      go (inr (no_, e)) h = clash closed (tests ∙ flagged_read frames marks at marked within ∙ h) no_
+
+  pub noted_here : IsDoneNow frames (after frames marks at marked within) done
+  noted_here = go noted
+    where
+      go : IsNoted closed at done → IsDoneNow frames (after frames marks at marked within) done
+      go (inl (yes_, e)) =
+          subst (λ (o : Option ℕ). IsDoneNow frames (after frames marks at marked within) o) (sym e)
+          (within, flagged_closed frames marks at marked within (sym (flagged_read frames marks at marked within) ∙ sym tests ∙ yes_))
+      go (inr (no_, e)) = subst (λ (o : Option ℕ). IsDoneNow frames (after frames marks at marked within) o) (sym e) tt
