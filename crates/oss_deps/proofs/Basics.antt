@@ -1,9 +1,6 @@
 -- Small facts on tests, options and lists.
 use Rattle.std.proofs.Common.{◌≡◌, ℕ, ◌<◌, ◌≤◌, zero, suc, refl, sym, ap, subst, ◌∙◌, List, [], ◌∷◌, ◌++◌, ◌⊎◌, inl, inr, Bool, true, false, Option, Some, None, arith, length}
 use Rattle.std.specs.Prelude.{◌&&◌, ◌||◌, slice_get}
-use Rattle.oss_syntax.specs.declared.access.Mode.TheVariants.{Read}
-use Rattle.oss_deps.specs.declared.frame.Frame.{Frame}
-use Rattle.oss_deps.specs.declared.frame.Mark.{Mark}
 
 pub bools : (b : Bool) → (b ≡ true) ⊎ (b ≡ false)
 bools true = inl refl
@@ -60,10 +57,3 @@ compared (suc a) (suc b) = go (compared a b)
     go (inl h) = inl (omega (arith, h))
     go (inr (inl e)) = inr (inl (ap suc e))
     go (inr (inr h)) = inr (inr (omega (arith, h)))
-
--- what a read of a list gives where there is nothing
-abbrev pub blank : Frame
-blank = record { number = 0; task = 0; up = 0; mode = Read; last = None; next = None }
-
-abbrev pub unmarked : Mark
-unmarked = record { given = false; first = None }

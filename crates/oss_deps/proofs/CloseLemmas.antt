@@ -8,7 +8,8 @@ use Rattle.oss_deps.specs.declared.frame.Frame.{Frame}
 use Rattle.oss_deps.specs.declared.frame.Mark.{Mark}
 use Rattle.oss_deps.specs.Kept.{given_by}
 use Rattle.oss_deps.specs.Places.{is_closed, closed_at, closed_mark, given_mark, IsBelow, IsNext, IsFirst, IsNextOpen, IsPassed, AreLinked, AreMarked, IsWithin}
-use Rattle.oss_deps.proofs.Basics.{bools, both, clash, some_is, some_none, same_at, options, value_within, compared, blank, unmarked}
+use Rattle.oss_deps.proofs.Basics.{bools, both, clash, some_is, some_none, same_at, options, value_within, compared}
+use Rattle.oss_deps.specs.Places.{blank, unmarked}
 use Rattle.oss_deps.proofs.DoneLemmas.{closed_is, closed_of, below_within}
 use Rattle.oss_deps.proofs.LevelLemmas.{one_creator}
 use Rattle.oss_deps.proofs.WalkLemmas.{ahead_of}

@@ -5,3 +5,5 @@ pub mod OpenLemmas
 pub mod MatchLemmas
 pub mod WalkLemmas
 pub mod CloseLemmas
+pub mod LookupLemmas
+pub mod GrowLemmas

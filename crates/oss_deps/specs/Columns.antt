@@ -84,3 +84,11 @@ pub record IsReady (columns : List Column) (lo hi : ℕ) : Type 0 where
 abbrev pub AreReady : Option (List Access) → List Column → Type 0
 AreReady None columns = Unit {0}
 AreReady (Some accesses) columns = ((columns ≡ []) → ⊥) × ((a : Access) → IsIn a accesses → IsReady columns a.range.lo a.range.hi)
+
+-- The number of a task: 0 for main, and else that of its entry.
+abbrev pub IsNumberOf : List Open → ℕ → ℕ → Type 0
+IsNumberOf opens n t = ((n ≡ 0) × (t ≡ 0)) ⊎ ((o : Open) × IsNumber opens n o × (o.task ≡ t))
+
+-- The access with a number stands at the place.
+abbrev pub IsPlaceOf : List Frame → ℕ → ℕ → Type 0
+IsPlaceOf frames n k = (f : Frame) × (slice_get frames k ≡ Some f) × (f.number ≡ n)

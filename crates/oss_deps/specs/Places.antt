@@ -2,7 +2,7 @@
 -- main's stands at place 0.
 -- Read against: main at 0, task 1 at 1 with the children 2 and 3, and task 4 at 4. The first children not done are 1 for main and 2
 -- for task 1; once 2 is done, 3 is; once 3 is done and task 1 has given up its cells, 4 is for main.
-use Rattle.std.specs.Prelude.{◌≡◌, ℕ, ◌≤◌, ◌<◌, ◌&&◌, not, is_some, Bool, true, false, List, length, slice_get, Option, Some, None}
+use Rattle.std.specs.Prelude.{◌≡◌, ℕ, ◌≤◌, ◌<◌, ◌+◌, ◌&&◌, not, is_some, Bool, true, false, List, length, slice_get, slice_set, slice_index_or, Option, Some, None}
 use Rattle.oss_syntax.specs.declared.access.Mode.{Mode}
 use Rattle.oss_syntax.specs.declared.access.Mode.TheVariants.{Read}
 use Rattle.oss_model.specs.Rights.{covers}
@@ -112,3 +112,54 @@ IsNextOpen frames marks up at (Some l) = IsBelow frames up l × (at < l) × (clo
 abbrev pub IsPassed : List Frame → List Mark → ℕ → Option ℕ → Type 0
 IsPassed frames marks at None = Unit {0}
 IsPassed frames marks at (Some up) = IsWithin frames up × (up < at) × (closed_at marks up ≡ true)
+
+-- What a read of a list gives where there is nothing.
+abbrev pub blank : Frame
+blank = record { number = 0; task = 0; up = 0; mode = Read; last = None; next = None }
+
+abbrev pub unmarked : Mark
+unmarked = record { given = false; first = None }
+
+-- The frames, where the last sibling has got a next one.
+abbrev pub with_next : Option ℕ → ℕ → List Frame → List Frame
+with_next None new frames = frames
+with_next (Some last) new frames = slice_set frames last (record (slice_index_or frames last blank) { next = Some new })
+
+-- The first one that is not done, where there is one more behind all others.
+abbrev pub first_or : Option ℕ → ℕ → Option ℕ
+first_or None new = Some new
+first_or (Some l) new = Some l
+
+-- What becomes of a frame where an access is added at a place: its own links alone change.
+pub record IsOldFrame (new up : ℕ) (last : Option ℕ) (k : ℕ) (old : Frame) (now : Option Frame) : Type 0 where
+  pub frame : Frame
+  pub is : now ≡ Some frame
+  pub number : frame.number ≡ old.number
+  pub task : frame.task ≡ old.task
+  pub up_is : frame.up ≡ old.up
+  pub mode : frame.mode ≡ old.mode
+  pub last_here : k ≡ up → frame.last ≡ Some new
+  pub last_other : (k ≡ up → ⊥) → frame.last ≡ old.last
+  pub next_here : last ≡ Some k → frame.next ≡ Some new
+  pub next_other : (last ≡ Some k → ⊥) → frame.next ≡ old.next
+
+-- And of a mark.
+pub record IsOldMark (new up : ℕ) (k : ℕ) (old : Mark) (now : Option Mark) : Type 0 where
+  pub mark : Mark
+  pub is : now ≡ Some mark
+  pub given : mark.given ≡ old.given
+  pub first_some : (l : ℕ) → old.first ≡ Some l → mark.first ≡ Some l
+  pub first_here : k ≡ up → old.first ≡ None → mark.first ≡ Some new
+  pub first_other : (k ≡ up → ⊥) → mark.first ≡ old.first
+
+-- A list has one access more, behind all others: it has this frame, and stands below the one at `up`.
+pub record AreGrown (old new : List Frame) (up : ℕ) (last : Option ℕ) (added : Frame) : Type 0 where
+  pub size : length new ≡ length old + 1
+  pub here : slice_get new (length old) ≡ Some added
+  pub frame : (k : ℕ) (f : Frame) → slice_get old k ≡ Some f → IsOldFrame (length old) up last k f (slice_get new k)
+
+-- The same of its marks.
+pub record AreMarksGrown (old new : List Mark) (up : ℕ) : Type 0 where
+  pub size : length new ≡ length old + 1
+  pub here : slice_get new (length old) ≡ Some (record { given = false; first = None })
+  pub mark : (k : ℕ) (m : Mark) → slice_get old k ≡ Some m → IsOldMark (length old) up k m (slice_get new k)

@@ -1,10 +1,16 @@
-use crate::column::Column;
+ghost use Rattle.std.specs.Prelude.{◌≡◌, ◌↔◌, ◌<◌, ℕ, length, IfSome, IfNone, IsTrue};
+ghost use Rattle.oss_deps.specs.Opens.{IsKnown};
+ghost use Rattle.oss_deps.specs.Places.{AreLinked};
+ghost use Rattle.oss_deps.specs.Columns.{IsNumberOf, IsPlaceOf};
+
 use crate::frame::Frame;
 use crate::opened::Open;
-use oss_ranges::RangeMap;
 
 /// How many tasks were opened up to this one: 0 for main.
-pub(crate) fn number_of(opens: &[Open], task: u64) -> Option<usize> {
+pub(crate) fn number_of(opens: &[Open], task: u64) -> Option<usize>
+    ensures found { IfSome result (λ n. IsNumberOf opens.now n task) }
+    ensures none { IfNone result (IsKnown opens.now task → ⊥) }
+{
     if task == 0 {
         return Some(0);
     }
@@ -20,20 +26,30 @@ pub(crate) fn number_of(opens: &[Open], task: u64) -> Option<usize> {
 }
 
 /// The task was opened as the one of its number, as it is where tasks are opened in the order of their numbers.
-fn is_in_order(opens: &[Open], task: u64) -> bool {
-    task >= 1 && task <= opens.len() as u64 && opens[(task - 1) as usize].task == task
+fn is_in_order(opens: &[Open], task: u64) -> bool
+    ensures { IsTrue result → IsNumberOf opens.now task task }
+{
+    if task == 0 || task > opens.len() as u64 {
+        return false;
+    }
+    opens[(task - 1) as usize].task == task
 }
 
 /// Where the access of the task with a number stands.
-pub(crate) fn place_of(frames: &[Frame], number: usize) -> Option<usize> {
+pub(crate) fn place_of(frames: &[Frame], number: usize) -> Option<usize>
+    requires { AreLinked frames.now }
+    ensures found { IfSome result (λ at. IsPlaceOf frames.now number at) }
+    ensures none { IfNone result ((at : ℕ) → IsPlaceOf frames.now number at → ⊥) }
+{
     let mut lo = 0;
     let mut hi = frames.len();
     'halves: while lo < hi {
         let middle = lo + (hi - lo) / 2;
-        if frames[middle].number == number {
+        let here = frames[middle].number;
+        if here == number {
             return Some(middle);
         }
-        if frames[middle].number < number {
+        if here < number {
             lo = middle + 1;
         } else {
             hi = middle;

@@ -3,7 +3,8 @@ use Rattle.std.proofs.lemmas.Option.{slice_get-get_or}
 use Rattle.std.specs.Prelude.{slice_get, false, true}
 use Rattle.oss_deps.specs.declared.frame.Frame.{Frame}
 use Rattle.oss_deps.specs.Places.{IsNextOpen, closed_at, closed_mark}
-use Rattle.oss_deps.proofs.Basics.{blank, unmarked, same_at}
+use Rattle.oss_deps.proofs.Basics.{same_at}
+use Rattle.oss_deps.specs.Places.{blank, unmarked}
 use Rattle.oss_deps.proofs.CloseLemmas.{IsNextLeft, next_begins, next_within, next_stops, next_goes, next_falls}
 use Rattle.oss_deps.proofs.closing.next_open.Goals as goal
 

@@ -1,5 +1,5 @@
 use Rattle.std.proofs.Common.{get_or}
-use Rattle.oss_deps.proofs.Basics.{blank}
+use Rattle.oss_deps.specs.Places.{blank}
 use Rattle.oss_deps.proofs.WalkLemmas.{ahead_of}
 use Rattle.oss_deps.proofs.CloseLemmas.{IsNextLeft}
 use Rattle.oss_deps.proofs.closing.next_open.Given as goal

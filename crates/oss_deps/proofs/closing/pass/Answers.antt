@@ -1,6 +1,7 @@
 use Rattle.std.proofs.Common.{◌≡◌, ℕ, get_or, sym, ap, ◌∙◌, refl, arith, Some, None}
 use Rattle.std.proofs.lemmas.Option.{slice_get-get_or}
-use Rattle.oss_deps.proofs.Basics.{blank, some_is, some_none, clash}
+use Rattle.oss_deps.proofs.Basics.{some_is, some_none, clash}
+use Rattle.oss_deps.specs.Places.{blank}
 use Rattle.oss_deps.proofs.CloseLemmas.{pass_stays, moved_marked, moved_closed, moved_given, read_closed, up_some, up_behind}
 use Rattle.oss_deps.proofs.closing.pass.Goals as goal
 
