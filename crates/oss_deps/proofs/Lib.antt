@@ -7,3 +7,4 @@ pub mod WalkLemmas
 pub mod CloseLemmas
 pub mod LookupLemmas
 pub mod GrowLemmas
+pub mod StretchLemmas

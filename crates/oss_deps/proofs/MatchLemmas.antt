@@ -102,17 +102,17 @@ module _ (opens : List Open) (c : ℕ) (frames : List Frame) (are : AreOpens ope
       go (inr (inl h)) = h
       go (inr (inr h)) = absurd (apart are.ordered (frame_of l v s).entry (frame_of k v r).entry (number_order l k v v s r h) ((frame_of l v s).task ∙ s.task ∙ sym r.task ∙ sym (frame_of k v r).task))
 
-  task_node : (k t : ℕ) → IsTaskAt frames k t → (k ≡ 0 → ⊥) → R k t
+  pub task_node : (k t : ℕ) → IsTaskAt frames k t → (k ≡ 0 → ⊥) → R k t
   task_node k t a n = let f = a.1 n in record { not_main = n; frame = f.0; is = f.1; task = f.2 }
 
-  one_task : (k s t : ℕ) → IsTaskAt frames k s → IsTaskAt frames k t → s ≡ t
+  pub one_task : (k s t : ℕ) → IsTaskAt frames k s → IsTaskAt frames k t → s ≡ t
   one_task k s t a b = go (zero_or k)
     where
       go : (k ≡ 0) ⊎ (k ≡ 0 → ⊥) → s ≡ t
       go (inl z) = a.0 z ∙ sym (b.0 z)
       go (inr n) = let x = a.1 n in let y = b.1 n in sym x.2 ∙ ap (λ (f : Frame). f.task) (same_at x.1 y.1) ∙ y.2
 
-  one_up : (k l t : ℕ) → IsTaskAt frames k t → IsTaskAt frames l t → k ≡ l
+  pub one_up : (k l t : ℕ) → IsTaskAt frames k t → IsTaskAt frames l t → k ≡ l
   one_up k l t a b = go (zero_or k) (zero_or l)
     where
       go : (k ≡ 0) ⊎ (k ≡ 0 → ⊥) → (l ≡ 0) ⊎ (l ≡ 0 → ⊥) → k ≡ l

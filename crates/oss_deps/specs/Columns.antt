@@ -8,6 +8,8 @@ use Rattle.oss_deps.specs.declared.opened.Open.{Open}
 use Rattle.oss_deps.specs.declared.frame.Frame.{Frame}
 use Rattle.oss_deps.specs.declared.frame.Mark.{Mark}
 use Rattle.oss_deps.specs.declared.column.Column.{Column}
+use Rattle.oss_deps.specs.declared.want.Want.{Want}
+use Rattle.oss_deps.specs.declared.want.Want.TheVariants.{ToWrite, ToRead, ToJoin}
 use Rattle.oss_deps.specs.Opens.{AreOpens, mode_at, names}
 use Rattle.oss_deps.specs.Places.{AreLinked, AreMarked}
 
@@ -92,3 +94,22 @@ IsNumberOf opens n t = ((n ≡ 0) × (t ≡ 0)) ⊎ ((o : Open) × IsNumber open
 -- The access with a number stands at the place.
 abbrev pub IsPlaceOf : List Frame → ℕ → ℕ → Type 0
 IsPlaceOf frames n k = (f : Frame) × (slice_get frames k ≡ Some f) × (f.number ≡ n)
+
+-- The lists are right, and hold what the reserved accesses need.
+pub record AreRight (opens : List Open) (capacity : ℕ) (pieces : List (Piece ℕ)) (columns : List Column) (reserved : Option (List Access)) : Type 0 where
+  pub opens_are : AreOpens opens
+  pub columns_are : AreColumns opens pieces columns
+  pub ready : AreReady reserved columns
+  pub room : (accesses : List Access) → reserved ≡ Some accesses → length opens < capacity
+
+-- A read or a write is wanted.
+abbrev pub IsPlain : Want → Type 0
+IsPlain ToWrite = Unit {0}
+IsPlain ToRead = Unit {0}
+IsPlain (ToJoin op) = ⊥
+
+-- The entry of a number has an access to each cell of a range.
+pub record IsNamedOver (opens : List Open) (n lo hi : ℕ) : Type 0 where
+  pub entry : Open
+  pub is : IsNumber opens n entry
+  pub named : (c : ℕ) → lo ≤ c → c < hi → names c entry ≡ true

@@ -4,3 +4,4 @@ pub mod Kept
 pub mod Places
 pub mod Wants
 pub mod Columns
+pub mod Met

@@ -1,4 +1,3 @@
-use crate::asking::{are_accesses_met, are_children_done, may_join};
 use crate::column::Column;
 use crate::deps::Deps;
 use crate::giving::give_over;
@@ -16,12 +15,12 @@ use std::marker::Model;
 /// The lists themselves, one for each stretch of cells that no cut divides.
 #[derive(Drop)]
 pub struct PlainDeps {
-    alloc: Global,
-    opens: Vec<Open>,
-    map: RangeMap<usize>,
-    columns: Vec<Column>,
-    ended: bool,
-    reserved: Option<List<Access>>,
+    pub(crate) alloc: Global,
+    pub(crate) opens: Vec<Open>,
+    pub(crate) map: RangeMap<usize>,
+    pub(crate) columns: Vec<Column>,
+    pub(crate) ended: bool,
+    pub(crate) reserved: Option<List<Access>>,
 }
 
 impl Model for PlainDeps {
@@ -29,7 +28,13 @@ impl Model for PlainDeps {
 
     ghost Value = { Kept };
 
+    ghost use Rattle.oss_deps.specs.Columns.{AreRight};
+
+    ghost use Rattle.std.specs.Prelude.{vec_capacity};
+
     ghost view = { λ d. record { opens = d.opens.items; pieces = d.map.pieces; columns = d.columns.items; ended = d.ended; reserved = d.reserved } };
+
+    ghost invariant = { λ d. AreRight d.opens.items (vec_capacity d.opens) d.map.pieces d.columns.items d.reserved };
 }
 
 impl PlainDeps {
@@ -116,29 +121,21 @@ impl Deps for PlainDeps {
 
     fn met(&mut self, task: u64) -> bool {
         match number_of(self.opens.as_slice(), task) {
-            Some(number) => {
-                number == 0
-                    || are_accesses_met(
-                        &self.map,
-                        self.columns.as_slice(),
-                        number,
-                        self.opens[number - 1].accesses.as_slice(),
-                    )
-            }
+            Some(number) => number == 0 || self.are_accesses_met(number),
             None => unreachable!(),
         }
     }
 
     fn may_join(&mut self, task: u64, cell: u32) -> bool {
         match number_of(self.opens.as_slice(), task) {
-            Some(number) => may_join(&self.map, self.columns.as_slice(), number, cell),
+            Some(number) => self.is_joinable(number, cell),
             None => unreachable!(),
         }
     }
 
     fn children_done(&mut self, task: u64, range: Range) -> bool {
         match number_of(self.opens.as_slice(), task) {
-            Some(number) => are_children_done(&self.map, self.columns.as_slice(), number, range),
+            Some(number) => self.are_done_over(number, range),
             None => unreachable!(),
         }
     }
