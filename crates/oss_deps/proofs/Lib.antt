@@ -8,3 +8,4 @@ pub mod CloseLemmas
 pub mod LookupLemmas
 pub mod GrowLemmas
 pub mod StretchLemmas
+pub mod AskLemmas

@@ -8,9 +8,10 @@ use Rattle.oss_deps.specs.declared.frame.Frame.{Frame}
 use Rattle.oss_deps.specs.Opens.{IsKnown, IsOpened}
 use Rattle.oss_deps.specs.Places.{AreLinked}
 use Rattle.oss_deps.specs.Columns.{IsNumber, IsNumberOf, IsPlaceOf}
-use Rattle.oss_deps.proofs.Basics.{same_at, compared}
+use Rattle.oss_deps.proofs.Basics.{some_is, same_at, compared}
 use Rattle.oss_deps.specs.Places.{blank}
 use Rattle.oss_deps.proofs.OpenLemmas.{in_get}
+use Rattle.oss_deps.proofs.CloseLemmas.{same_number}
 
 -- The accesses with smaller numbers end before a place, and those with greater ones begin at another.
 pub record IsSought (frames : List Frame) (n lo hi : ℕ) : Type 0 where
@@ -76,3 +77,29 @@ others_all opens t at others h n (inl z) = n z
 others_all opens t at others h n (inr k) =
     let i = in_get opens k.listed in
     others i.0 k.entry i.1 (omega (arith, slice_get_within opens i.0 k.entry i.1, h)) k.number
+
+-- one number stands at one place
+pub one_place_of : (frames : List Frame) → AreLinked frames → (n k l : ℕ) → IsPlaceOf frames n k → IsPlaceOf frames n l → k ≡ l
+one_place_of frames linked n k l p q = go (compared k l)
+  where
+    go : (k < l) ⊎ ((k ≡ l) ⊎ (l < k)) → k ≡ l
+    go (inl h) = absurd (omega (arith, linked.rising k l p.0 q.0 p.1 q.1 h, p.2, q.2))
+    go (inr (inl e)) = e
+    go (inr (inr h)) = absurd (omega (arith, linked.rising l k q.0 p.0 q.1 p.1 h, p.2, q.2))
+
+-- a number stands at a place or at none
+pub look_at : (frames : List Frame) (n : ℕ) → ((k : ℕ) × IsPlaceOf frames n k) ⊎ ((k : ℕ) → IsPlaceOf frames n k → ⊥)
+look_at [] n = inr (λ k p. none p.1)
+  where
+    none : {o : Frame} → None ≡ Some o → ⊥
+    none e = absurd cc
+look_at (f ∷ rest) n = go (same_number f.number n) (look_at rest n)
+  where
+    nowhere : (f.number ≡ n → ⊥) → ((k : ℕ) → IsPlaceOf rest n k → ⊥) → (k : ℕ) → IsPlaceOf (f ∷ rest) n k → ⊥
+    nowhere d h zero p = d (ap (λ (x : Frame). x.number) (some_is p.1) ∙ p.2)
+    nowhere d h (suc k) p = h k p
+
+    go : (f.number ≡ n) ⊎ (f.number ≡ n → ⊥) → ((k : ℕ) × IsPlaceOf rest n k) ⊎ ((k : ℕ) → IsPlaceOf rest n k → ⊥) → ((k : ℕ) × IsPlaceOf (f ∷ rest) n k) ⊎ ((k : ℕ) → IsPlaceOf (f ∷ rest) n k → ⊥)
+    go (inl e) r = inl (0, (f, refl, e))
+    go (inr d) (inl (k, p)) = inl (suc k, p)
+    go (inr d) (inr h) = inr (nowhere d h)

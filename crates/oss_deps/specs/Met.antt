@@ -6,7 +6,8 @@ use Rattle.oss_model.specs.Order.{IsIn}
 use Rattle.oss_deps.specs.declared.opened.Open.{Open}
 use Rattle.oss_deps.specs.declared.want.Want.{Want}
 use Rattle.oss_deps.specs.declared.want.Want.TheVariants.{ToWrite, ToRead}
-use Rattle.oss_deps.specs.Opens.{opened_forest}
+use Rattle.oss_deps.specs.Opens.{AreOpens, opened_forest}
+use Rattle.oss_deps.specs.Columns.{AreColumns}
 use Rattle.oss_deps.specs.Wants.{IsSatisfied}
 use Rattle.oss_deps.specs.Kept.{Kept, given_at}
 
@@ -22,3 +23,8 @@ pub record IsAccessMet (kept : Kept) (o : Open) (a : Access) : Type 0 where
 -- The same of each access of an entry.
 abbrev pub AreAccessesMet : Kept → Open → Type 0
 AreAccessesMet kept o = (a : Access) → IsIn a o.accesses → IsAccessMet kept o a
+
+-- The lists stand for what was opened.
+pub record IsStanding (kept : Kept) : Type 0 where
+  pub opens_are : AreOpens kept.opens
+  pub columns_are : AreColumns kept.opens kept.pieces kept.columns

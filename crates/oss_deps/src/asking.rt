@@ -56,7 +56,10 @@ impl Column {
         ensures none { ((k : ℕ) → IsPlaceOf self.now.frames.items number k → ⊥) → IsTrue result }
     {
         match place_of(self.frames.as_slice(), number) {
-            Some(at) => self.marks[at].first.is_none(),
+            Some(at) => {
+                let mark = self.marks[at];
+                mark.has_no_open()
+            }
             None => true,
         }
     }
