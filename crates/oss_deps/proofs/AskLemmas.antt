@@ -1,6 +1,7 @@
 -- What is asked of a range, one stretch after the other.
-use Rattle.std.proofs.Common.{◌≡◌, ℕ, ◌+◌, ◌-◌, ◌<◌, ◌≤◌, zero, suc, refl, sym, ap, subst, ◌∙◌, List, [], ◌∷◌, ◌⊎◌, inl, inr, Bool, true, false, Option, Some, None, arith, length, get_or, ◌↔◌, IsTrue}
-use Rattle.std.proofs.lemmas.Option.{slice_get_within, slice_get-get_or, slice_get_read}
+use Rattle.std.proofs.Common.{◌≡◌, ℕ, ◌+◌, ◌-◌, ◌<◌, ◌≤◌, zero, suc, refl, sym, ap, subst, ◌∙◌, List, [], ◌∷◌, ◌⊎◌, inl, inr, Bool, true, false, Option, Some, None, arith, length, get_or, drop, ◌↔◌, IsTrue}
+use Rattle.std.proofs.lemmas.Option.{slice_get_within, slice_get-get_or, slice_get_read, get_or_from_slice_get}
+use Rattle.std.proofs.lemmas.List.{drop_more, drop_all}
 use Rattle.std.specs.Prelude.{slice_get}
 use Rattle.oss_syntax.specs.declared.access.Access.{Access}
 use Rattle.oss_syntax.specs.declared.access.Mode.{Mode}
@@ -215,3 +216,42 @@ none_done kept e t c o i = absurd (nowhere (subst (λ (xs : List Open). IsIn o x
   where
     nowhere : {x : Open} → IsIn x [] → ⊥
     nowhere j = elim j [ ]
+
+-- The entry that the code reads.
+pub entry_of : (view seen : Kept) → view ≡ seen → (n : ℕ) (o entry : Open) → IsNumber seen.opens n o → entry ≡ get_or view.opens (n - 1) entry → entry ≡ o
+entry_of view seen e n o entry is read =
+    let i : n - 1 ≡ is.0 = omega (arith, is.1) in
+    read ∙ ap (λ (j : ℕ). get_or view.opens j entry) i ∙ ap (λ (k : Kept). get_or k.opens is.0 entry) e ∙ get_or_from_slice_get seen.opens is.0 o entry is.2
+
+pub in_drop : {A : Type 0} {x : A} (i : ℕ) (xs : List A) → IsIn x (drop i xs) → IsIn x xs
+in_drop zero xs h = h
+in_drop (suc i) [] h = h
+in_drop (suc i) (y ∷ xs) h = there (in_drop i xs h)
+
+first_or_later : {A : Type 0} {x y : A} {xs : List A} → IsIn x (y ∷ xs) → (x ≡ y) ⊎ IsIn x xs
+first_or_later here = inl refl
+first_or_later (there i) = inr i
+
+pub next_item : {A : Type 0} (xs : List A) (i : ℕ) (item x : A) → i < length xs → item ≡ get_or xs i item → IsIn x (drop i xs) → (x ≡ item) ⊎ IsIn x (drop (i + 1) xs)
+next_item xs i item x l e h = first_or_later (subst (λ ys. IsIn x ys) (drop_more xs i item l ∙ ap (λ y. y ∷ drop (i + 1) xs) (sym e)) h)
+
+pub item_in : {A : Type 0} (xs : List A) (i : ℕ) (item : A) → i < length xs → item ≡ get_or xs i item → IsIn item xs
+item_in xs i item l e = in_drop i xs (subst (λ ys. IsIn item ys) (sym (drop_more xs i item l ∙ ap (λ y. y ∷ drop (i + 1) xs) (sym e))) here)
+
+pub none_left : {A : Type 0} (xs : List A) (i : ℕ) (x : A) → length xs ≤ i → IsIn x (drop i xs) → ⊥
+none_left xs i x l h = nowhere (subst (λ ys. IsIn x ys) (drop_all i xs l) h)
+  where
+    nowhere : {A : Type 0} {y : A} → IsIn y [] → ⊥
+    nowhere j = elim j [ ]
+
+not_write : Read ≡ Write → ⊥
+not_write e = absurd cc
+
+not_read : Write ≡ Read → ⊥
+not_read e = absurd cc
+
+pub read_met : (kept : Kept) (o : Open) (a : Access) → a.strong ≡ true → a.mode ≡ Read → (AreClear kept ToRead o a.range.lo a.range.hi → IsAccessMet kept o a) × (IsAccessMet kept o a → AreClear kept ToRead o a.range.lo a.range.hi)
+read_met kept o a s m = (λ f. record { reads = λ x y. f; writes = λ x y. absurd (not_write (sym m ∙ y)) }, λ r. r.reads s m)
+
+pub write_met : (kept : Kept) (o : Open) (a : Access) → a.strong ≡ true → a.mode ≡ Write → (AreClear kept ToWrite o a.range.lo a.range.hi → IsAccessMet kept o a) × (IsAccessMet kept o a → AreClear kept ToWrite o a.range.lo a.range.hi)
+write_met kept o a s m = (λ f. record { reads = λ x y. absurd (not_read (sym m ∙ y)); writes = λ x y. f }, λ r. r.writes s m)

@@ -1,6 +1,6 @@
 -- Small facts on tests, options and lists.
 use Rattle.std.proofs.Common.{◌≡◌, ℕ, ◌<◌, ◌≤◌, zero, suc, refl, sym, ap, subst, ◌∙◌, List, [], ◌∷◌, ◌++◌, ◌⊎◌, inl, inr, Bool, true, false, Option, Some, None, arith, length}
-use Rattle.std.specs.Prelude.{◌&&◌, ◌||◌, slice_get}
+use Rattle.std.specs.Prelude.{◌&&◌, ◌||◌, not, slice_get}
 
 pub bools : (b : Bool) → (b ≡ true) ⊎ (b ≡ false)
 bools true = inl refl
@@ -57,3 +57,7 @@ compared (suc a) (suc b) = go (compared a b)
     go (inl h) = inl (omega (arith, h))
     go (inr (inl e)) = inr (inl (ap suc e))
     go (inr (inr h)) = inr (inr (omega (arith, h)))
+
+pub not_false : (b : Bool) → not b ≡ false → b ≡ true
+not_false true h = refl
+not_false false h = absurd cc

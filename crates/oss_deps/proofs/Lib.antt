@@ -9,3 +9,4 @@ pub mod LookupLemmas
 pub mod GrowLemmas
 pub mod StretchLemmas
 pub mod AskLemmas
+pub mod GiveLemmas

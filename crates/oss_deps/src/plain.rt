@@ -113,10 +113,13 @@ impl Deps for PlainDeps {
     }
 
     fn give(&mut self, task: u64, range: Range) {
-        match number_of(self.opens.as_slice(), task) {
-            Some(number) => give_over(&self.map, &mut self.columns, number, range),
-            None => unreachable!(),
-        }
+        give_over(
+            self.opens.as_slice(),
+            &self.map,
+            &mut self.columns,
+            task,
+            range,
+        )
     }
 
     fn met(&mut self, task: u64) -> bool {
