@@ -14,14 +14,14 @@ use Rattle.oss_deps.specs.declared.opened.Open.{Open}
 use Rattle.oss_deps.specs.declared.column.Column.{Column}
 use Rattle.oss_deps.specs.declared.want.Want.{Want}
 use Rattle.oss_deps.specs.declared.want.Want.TheVariants.{ToWrite, ToRead, ToJoin}
-use Rattle.oss_deps.specs.Opens.{access_at, names, mode_at, is_some_access, Asks, AreChildrenDone, IsMet, IsOnce, HasCover, opened_forest}
+use Rattle.oss_deps.specs.Opens.{access_at, names, mode_at, mode_in, is_some_access, Asks, AreChildrenDone, HasOpened, IsFolding, IsMet, IsOnce, HasCover, opened_forest}
 use Rattle.oss_deps.specs.Kept.{Kept, given_at}
 use Rattle.oss_deps.specs.Places.{first_at, mode_at_place, place_forest, AreLinked, AreMarked, AreModesCovered}
 use Rattle.oss_deps.specs.Wants.{IsSatisfied}
 use Rattle.oss_deps.specs.Columns.{IsNumber, IsNumberOf, IsPlaceOf, IsShown, IsColumn, AreRight, IsNamedOver}
 use Rattle.oss_deps.specs.Met.{AreClear, IsAccessMet, AreAccessesMet, IsStanding}
 use Rattle.oss_deps.proofs.Basics.{clash, some_is, some_none, same_at, options, compared}
-use Rattle.oss_deps.proofs.OpenLemmas.{get_in, in_get, one_entry, not_main, access_found, in_bounds, bounds_in, named_at}
+use Rattle.oss_deps.proofs.OpenLemmas.{get_in, in_get, one_entry, mode_is, not_main, access_found, in_bounds, bounds_in, named_at}
 use Rattle.oss_deps.proofs.LookupLemmas.{look_at}
 use Rattle.oss_deps.proofs.StretchLemmas.{one_number, exact, shown_here, mode_here, children_exact, covered_here, first_cell, right_at}
 
@@ -255,3 +255,43 @@ read_met kept o a s m = (λ f. record { reads = λ x y. f; writes = λ x y. absu
 
 pub write_met : (kept : Kept) (o : Open) (a : Access) → a.strong ≡ true → a.mode ≡ Write → (AreClear kept ToWrite o a.range.lo a.range.hi → IsAccessMet kept o a) × (IsAccessMet kept o a → AreClear kept ToWrite o a.range.lo a.range.hi)
 write_met kept o a s m = (λ f. record { reads = λ x y. absurd (not_read (sym m ∙ y)); writes = λ x y. f }, λ r. r.writes s m)
+
+pub main_met : (kept : Kept) → IsStanding kept → (n t : ℕ) → IsNumberOf kept.opens n t → n ≡ 0 → IsMet kept.opens (given_at kept.pieces kept.columns) t
+main_met kept standing n t number z = record { reads = λ c asks. absurd (none Read c asks (is_main number)); writes = λ c asks. absurd (none Write c asks (is_main number)) }
+  where
+    is_main : IsNumberOf kept.opens n t → t ≡ 0
+    is_main (inl (y, e)) = e
+    is_main (inr (o, is, e)) = absurd (omega (arith, is.1, z))
+
+    none : (m : Mode) (c : ℕ) → Asks kept.opens t c m → t ≡ 0 → ⊥
+    none m c asks e = not_main standing.opens_are.ordered asks.entry asks.listed (asks.number ∙ e)
+
+pub entry_number : (kept : Kept) (n t : ℕ) → IsNumberOf kept.opens n t → (n ≡ 0 → ⊥) → (o : Open) × IsNumber kept.opens n o
+entry_number kept n t (inl (z, e)) h = absurd (h z)
+entry_number kept n t (inr (o, is, e)) h = (o, is)
+
+pub task_met : (kept : Kept) → IsStanding kept → (n t : ℕ) → IsNumberOf kept.opens n t → (n ≡ 0 → ⊥) → (result : Bool) → ((o : Open) → IsNumber kept.opens n o → (IsTrue result ↔ AreAccessesMet kept o)) → IsTrue result ↔ IsMet kept.opens (given_at kept.pieces kept.columns) t
+task_met kept standing n t (inl (z, e)) h result tells = absurd (h z)
+task_met kept standing n t (inr (o, is, e)) h result tells =
+    let a = tells o is in
+    let b = met_exact kept standing n o is in
+    (λ r. subst (λ (x : ℕ). IsMet kept.opens (given_at kept.pieces kept.columns) x) e (b.0 (a.0 r)), λ m. a.1 (b.1 (subst (λ (x : ℕ). IsMet kept.opens (given_at kept.pieces kept.columns) x) (sym e) m)))
+
+pub folding_entry : (kept : Kept) → IsStanding kept → (n t c : ℕ) → IsNumberOf kept.opens n t → HasOpened kept.opens c t → (o : Open) × IsNumber kept.opens n o × (o.task ≡ t) × (names c o ≡ true)
+folding_entry kept standing n t c (inl (z, e)) h = absurd (not_main standing.opens_are.ordered h.entry h.listed (h.number ∙ e))
+folding_entry kept standing n t c (inr (o, is, e)) h =
+    (o, is, e, subst (λ (x : Open). names c x ≡ true) (one_entry standing.opens_are.ordered h.entry o h.listed (get_in kept.opens is.0 o is.2) (h.number ∙ sym e)) h.named)
+
+pub folding_named : (kept : Kept) → IsStanding kept → (n t c : ℕ) → IsNumberOf kept.opens n t → IsFolding kept.opens t c → IsNamedOver kept.opens n c (c + 1)
+folding_named kept standing n t c number f =
+    let o = folding_entry kept standing n t c number f.opened in
+    record { entry = o.0; is = o.1; named = λ d l h. subst (λ (x : ℕ). names x o.0 ≡ true) (omega (arith, l, h)) o.3 }
+
+pub join_told : (kept : Kept) → IsStanding kept → (n t c : ℕ) → IsNumberOf kept.opens n t → IsFolding kept.opens t c → (result : Bool)
+    → ((o : Open) (op : Op) → IsNumber kept.opens n o → mode_at c o ≡ Fold op → (IsTrue result ↔ IsJoinSatisfied (opened_forest kept.opens (given_at kept.pieces kept.columns) c) op o.task))
+    → (op : Op) → mode_in kept.opens c t ≡ Fold op → IsTrue result ↔ IsJoinSatisfied (opened_forest kept.opens (given_at kept.pieces kept.columns) c) op t
+join_told kept standing n t c number f result tells op m =
+    let o = folding_entry kept standing n t c number f.opened in
+    let mode : mode_at c o.0 ≡ Fold op = sym (mode_is c standing.opens_are.ordered o.0 (get_in kept.opens o.1.0 o.0 o.1.2)) ∙ ap (λ (x : ℕ). mode_in kept.opens c x) o.2 ∙ m in
+    let a = tells o.0 op o.1 mode in
+    (λ r. subst (λ (x : ℕ). IsJoinSatisfied (opened_forest kept.opens (given_at kept.pieces kept.columns) c) op x) o.2 (a.0 r), λ s. a.1 (subst (λ (x : ℕ). IsJoinSatisfied (opened_forest kept.opens (given_at kept.pieces kept.columns) c) op x) (sym o.2) s))

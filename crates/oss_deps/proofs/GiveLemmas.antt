@@ -12,7 +12,7 @@ use Rattle.oss_deps.specs.declared.opened.Open.{Open}
 use Rattle.oss_deps.specs.declared.frame.Frame.{Frame}
 use Rattle.oss_deps.specs.declared.frame.Mark.{Mark}
 use Rattle.oss_deps.specs.declared.column.Column.{Column}
-use Rattle.oss_deps.specs.Opens.{names, AreOpens, HasOpened}
+use Rattle.oss_deps.specs.Opens.{names, AreOpens, HasOpened, IsKnown}
 use Rattle.oss_deps.specs.Kept.{given_by, given_in, column_at, given_at, is_asked}
 use Rattle.oss_deps.specs.Places.{AreLinked, AreMarked}
 use Rattle.oss_deps.specs.Columns.{IsNumber, IsNumberOf, IsPlaceOf, IsShown, AreShown, IsColumn, AreStretches, AreColumns, IsDivided, HasRoom, HaveRoom, IsReady, AreReady}
@@ -379,3 +379,6 @@ give_ends opens pieces old new are k task lo hi named begins ends g t c = go (op
         read new (Some i) e ∙ ap (λ (o : Option Column). given_in o t) r.1 ∙ ap (λ (fs : List Frame). given_by fs r.0.marks.items t) r.2.frames ∙ r.3 t
         ∙ ap (λ (z : Bool). given_by a.0.frames.items a.0.marks.items t || ((task == t) && z)) (same_part a.0 i a.1 a.2 a.3)
         ∙ ap (λ (z : Bool). z || ((task == t) && (nat_le lo c && nat_lt c hi))) (sym (read old (Some i) e ∙ ap (λ (o : Option Column). given_in o t) a.1))
+
+pub known_at : (opens : List Open) (t c : ℕ) → HasOpened opens c t → IsKnown opens t
+known_at opens t c h = inr (record { entry = h.entry; listed = h.listed; number = h.number })

@@ -124,7 +124,13 @@ impl Deps for PlainDeps {
 
     fn met(&mut self, task: u64) -> bool {
         match number_of(self.opens.as_slice(), task) {
-            Some(number) => number == 0 || self.are_accesses_met(number),
+            Some(number) => {
+                if number == 0 {
+                    true
+                } else {
+                    self.are_accesses_met(number)
+                }
+            }
             None => unreachable!(),
         }
     }
