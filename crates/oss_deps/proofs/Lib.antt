@@ -10,3 +10,4 @@ pub mod GrowLemmas
 pub mod StretchLemmas
 pub mod AskLemmas
 pub mod GiveLemmas
+pub mod DivideLemmas

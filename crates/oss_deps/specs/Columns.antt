@@ -3,7 +3,7 @@ use Rattle.std.specs.Prelude.{◌≡◌, ℕ, ◌+◌, ◌≤◌, ◌<◌, ◌�
 use Rattle.oss_syntax.specs.declared.access.Access.{Access}
 use Rattle.oss_model.specs.Order.{IsIn}
 use Rattle.oss_ranges.specs.declared.piece.Piece.{Piece}
-use Rattle.oss_ranges.specs.Cells.{value_at}
+use Rattle.oss_ranges.specs.Cells.{Assigns, value_at}
 use Rattle.oss_deps.specs.declared.opened.Open.{Open}
 use Rattle.oss_deps.specs.declared.frame.Frame.{Frame}
 use Rattle.oss_deps.specs.declared.frame.Mark.{Mark}
@@ -11,6 +11,7 @@ use Rattle.oss_deps.specs.declared.column.Column.{Column}
 use Rattle.oss_deps.specs.declared.want.Want.{Want}
 use Rattle.oss_deps.specs.declared.want.Want.TheVariants.{ToWrite, ToRead, ToJoin}
 use Rattle.oss_deps.specs.Opens.{AreOpens, mode_at, names}
+use Rattle.oss_deps.specs.Kept.{given_at, is_asked}
 use Rattle.oss_deps.specs.Places.{AreLinked, AreMarked}
 
 -- The entry is the one of its number, counted from 1.
@@ -113,3 +114,32 @@ pub record IsNamedOver (opens : List Open) (n lo hi : ℕ) : Type 0 where
   pub entry : Open
   pub is : IsNumber opens n entry
   pub named : (c : ℕ) → lo ≤ c → c < hi → names c entry ≡ true
+
+-- The stretches stand for the same as before: at most, some were divided, or have got room.
+pub record IsFiner (pieces : List (Piece ℕ)) (columns : List Column) (new_pieces : List (Piece ℕ)) (new_columns : List Column) : Type 0 where
+  pub stretches : AreStretches pieces columns → AreStretches new_pieces new_columns
+  pub columns_are : (opens : List Open) → AreColumns opens pieces columns → AreColumns opens new_pieces new_columns
+  pub given : AreStretches pieces columns → (t c : ℕ) → given_at new_pieces new_columns t c ≡ given_at pieces columns t c
+  pub asked : (k : ℕ) → is_asked new_columns k ≡ is_asked columns k
+  pub divided : (k : ℕ) → IsDivided columns k → IsDivided new_columns k
+  pub room : (lo hi : ℕ) → HaveRoom columns lo hi → HaveRoom new_columns lo hi
+  pub some : (columns ≡ [] → ⊥) → new_columns ≡ [] → ⊥
+
+-- A stretch was divided at a cell.
+pub record IsDividedAt (pieces : List (Piece ℕ)) (columns : List Column) (new_pieces : List (Piece ℕ)) (new_columns : List Column) (at cell : ℕ) : Type 0 where
+  pub old : Column
+  pub old_is : slice_get columns at ≡ Some old
+  pub begins : old.lo < cell
+  pub ends : cell < old.hi
+  pub size : length new_columns ≡ length columns + 1
+  pub front : slice_get new_columns at ≡ Some (record old { hi = cell })
+  pub back : Column
+  pub back_is : slice_get new_columns (length columns) ≡ Some back
+  pub back_lo : back.lo ≡ cell
+  pub back_hi : back.hi ≡ old.hi
+  pub back_asked : back.asked ≡ false
+  pub back_frames : back.frames.items ≡ old.frames.items
+  pub back_marks : back.marks.items ≡ old.marks.items
+  pub back_room : HasRoom back
+  pub other : (i : ℕ) → (i ≡ at → ⊥) → i < length columns → slice_get new_columns i ≡ slice_get columns i
+  pub map : Assigns cell old.hi (Some (length columns)) pieces new_pieces

@@ -1,0 +1,284 @@
+-- Stretches that are divided stand for the same as before.
+use Rattle.std.proofs.Common.{◌≡◌, ℕ, ◌+◌, ◌-◌, ◌<◌, ◌≤◌, zero, suc, refl, sym, ap, subst, ◌∙◌, List, [], ◌∷◌, ◌++◌, ◌⊎◌, inl, inr, Bool, true, false, Option, Some, None, arith, length, get_or, set, eqb-true}
+use Rattle.std.proofs.lemmas.Bool.Decides.{nat_tests}
+use Rattle.std.proofs.lemmas.Option.{slice_get_within, slice_get-get_or}
+use Rattle.std.specs.Prelude.{◌&&◌, ◌||◌, ◌==◌, nat_le, nat_lt, if◌then◌else◌, slice_get, option_and_then}
+use Rattle.oss_syntax.specs.declared.access.Access.{Access}
+use Rattle.oss_ranges.specs.declared.piece.Piece.{Piece}
+use Rattle.oss_ranges.specs.Cells.{Assigns, is_within, value_at}
+use Rattle.oss_deps.specs.declared.opened.Open.{Open}
+use Rattle.oss_deps.specs.declared.frame.Frame.{Frame}
+use Rattle.oss_deps.specs.declared.frame.Mark.{Mark}
+use Rattle.oss_deps.specs.declared.column.Column.{Column}
+use Rattle.oss_deps.specs.Kept.{given_by, given_in, column_at, given_at, is_asked, is_cut}
+use Rattle.oss_deps.specs.Places.{AreLinked, AreMarked}
+use Rattle.oss_deps.specs.Columns.{AreShown, IsColumn, AreStretches, AreColumns, IsDivided, HasRoom, HaveRoom, IsReady, AreReady, IsFiner, IsDividedAt}
+use Rattle.oss_deps.proofs.Basics.{bools, both, both_of, or_cases, clash, some_is, some_none, same_at, options, value_within, compared}
+use Rattle.oss_deps.proofs.CloseLemmas.{same_number}
+use Rattle.oss_deps.proofs.GiveLemmas.{one_stretch}
+
+pub finer_same : (pieces : List (Piece ℕ)) (columns : List Column) → IsFiner pieces columns pieces columns
+finer_same pieces columns = record { stretches = λ s. s; columns_are = λ o k. k; given = λ s t c. refl; asked = λ k. refl; divided = λ k d. d; room = λ lo hi r. r; some = λ n. n }
+
+pub finer_both : (pieces : List (Piece ℕ)) (columns : List Column) (pieces2 : List (Piece ℕ)) (columns2 : List Column) (pieces3 : List (Piece ℕ)) (columns3 : List Column)
+    → IsFiner pieces columns pieces2 columns2 → IsFiner pieces2 columns2 pieces3 columns3 → IsFiner pieces columns pieces3 columns3
+finer_both pieces columns pieces2 columns2 pieces3 columns3 f g = record {
+  stretches = λ s. g.stretches (f.stretches s);
+  columns_are = λ o k. g.columns_are o (f.columns_are o k);
+  given = λ s t c. g.given (f.stretches s) t c ∙ f.given s t c;
+  asked = λ k. g.asked k ∙ f.asked k;
+  divided = λ k d. g.divided k (f.divided k d);
+  room = λ lo hi r. g.room lo hi (f.room lo hi r);
+  some = λ n. g.some (f.some n);
+}
+
+pub finer_ready : (pieces : List (Piece ℕ)) (columns : List Column) (pieces2 : List (Piece ℕ)) (columns2 : List Column) → IsFiner pieces columns pieces2 columns2 → (reserved : Option (List Access)) → AreReady reserved columns → AreReady reserved columns2
+finer_ready pieces columns pieces2 columns2 f None r = tt
+finer_ready pieces columns pieces2 columns2 f (Some accesses) r = (f.some r.0, λ a i. let k = r.1 a i in record { begins = f.divided a.range.lo k.begins; ends = f.divided a.range.hi k.ends; room = f.room a.range.lo a.range.hi k.room })
+
+asked_in : (columns : List Column) (k : ℕ) → is_asked columns k ≡ true → (i : ℕ) × (a : Column) × (slice_get columns i ≡ Some a) × (a.lo ≡ k)
+asked_in [] k h = absurd cc
+asked_in (a ∷ rest) k h = go (or_cases (a.asked && (a.lo == k)) (is_asked rest k) h) (asked_in rest k)
+  where
+    go : ((a.asked && (a.lo == k)) ≡ true) ⊎ (is_asked rest k ≡ true) → (is_asked rest k ≡ true → (i : ℕ) × (b : Column) × (slice_get rest i ≡ Some b) × (b.lo ≡ k)) → (i : ℕ) × (b : Column) × (slice_get (a ∷ rest) i ≡ Some b) × (b.lo ≡ k)
+    go (inl e) again = (0, a, refl, eqb-true a.lo k (both a.asked (a.lo == k) e).1)
+    go (inr e) again = let r = again e in (suc r.0, r.1, r.2, r.3)
+
+-- no stretch goes on over a cut
+pub cut_divides : (pieces : List (Piece ℕ)) (columns : List Column) (ended : Bool) (k : ℕ) → AreStretches pieces columns → is_cut columns ended k ≡ true → IsDivided columns k
+cut_divides pieces columns ended k s h j b e = go (or_cases (is_asked columns k) (ended && (k == 1048576)) h)
+  where
+    at_begin : (i : ℕ) (a : Column) → slice_get columns i ≡ Some a → a.lo ≡ k → (b.lo < k) ⊎ ((b.lo ≡ k) ⊎ (k < b.lo)) → (k < b.hi) ⊎ ((k ≡ b.hi) ⊎ (b.hi < k)) → (k ≤ b.lo) ⊎ (b.hi ≤ k)
+    at_begin i a is lo (inr (inl x)) y = inl (omega (arith, x))
+    at_begin i a is lo (inr (inr x)) y = inl (omega (arith, x))
+    at_begin i a is lo (inl x) (inr (inl y)) = inr (omega (arith, y))
+    at_begin i a is lo (inl x) (inr (inr y)) = inr (omega (arith, y))
+    at_begin i a is lo (inl x) (inl y) =
+        let same = one_stretch pieces columns s i j a b k is e (omega (arith, lo)) (omega (arith, lo, (s.some i a is).0)) (omega (arith, x)) y in
+        let eq = same_at (subst (λ (z : ℕ). slice_get columns z ≡ Some a) same is) e in
+        absurd (omega (arith, x, lo, ap (λ (z : Column). z.lo) eq))
+
+    go : (is_asked columns k ≡ true) ⊎ ((ended && (k == 1048576)) ≡ true) → (k ≤ b.lo) ⊎ (b.hi ≤ k)
+    go (inl x) = let a = asked_in columns k x in at_begin a.0 a.1 a.2 a.3 (compared b.lo k) (compared k b.hi)
+    go (inr x) = inr (omega (arith, (s.some j b e).1, eqb-true k 1048576 (both ended (k == 1048576) x).1))
+
+same_asked_more : (columns new : List Column) (k : ℕ) → length new ≡ length columns + 1 → ((i : ℕ) (a : Column) → slice_get columns i ≡ Some a → (b : Column) × (slice_get new i ≡ Some b) × (b.lo ≡ a.lo) × (b.asked ≡ a.asked)) → ((b : Column) → slice_get new (length columns) ≡ Some b → b.asked ≡ false) → is_asked new k ≡ is_asked columns k
+same_asked_more [] [] k size f last = absurd (omega (arith, size))
+same_asked_more [] (b ∷ []) k size f last = rw (last b refl) refl
+same_asked_more [] (b ∷ c ∷ new) k size f last = absurd (omega (arith, size))
+same_asked_more (a ∷ columns) [] k size f last = absurd (omega (arith, size))
+same_asked_more (a ∷ columns) (b ∷ new) k size f last =
+    let r = f 0 a refl in
+    let e : r.0 ≡ b = some_is (sym r.1) in
+    rw (ap (λ (x : Column). x.asked) (sym e) ∙ r.3, ap (λ (x : Column). x.lo) (sym e) ∙ r.2, same_asked_more columns new k (omega (arith, size)) (λ i c h. f (suc i) c h) (λ c h. last c h)) refl
+
+module _ (pieces : List (Piece ℕ)) (columns : List Column) (new_pieces : List (Piece ℕ)) (new_columns : List Column) (at cell : ℕ) (d : IsDividedAt pieces columns new_pieces new_columns at cell) where
+  abbrev n : ℕ
+  n = length columns
+
+  within_test : (c : ℕ) → cell ≤ c → c < d.old.hi → value_at new_pieces c ≡ Some n
+  within_test c l h = d.map c ∙ rw (both_of (nat_le cell c) (nat_lt c d.old.hi) (grind (arith, nat_tests)) (grind (arith, nat_tests))) refl
+
+  outside_test : (c : ℕ) → (c < cell) ⊎ (d.old.hi ≤ c) → value_at new_pieces c ≡ value_at pieces c
+  outside_test c o = d.map c ∙ rw (none o) refl
+    where
+      none : (c < cell) ⊎ (d.old.hi ≤ c) → (nat_le cell c && nat_lt c d.old.hi) ≡ false
+      none x = go x (bools (nat_le cell c && nat_lt c d.old.hi))
+        where
+          go : (c < cell) ⊎ (d.old.hi ≤ c) → ((nat_le cell c && nat_lt c d.old.hi) ≡ true) ⊎ ((nat_le cell c && nat_lt c d.old.hi) ≡ false) → (nat_le cell c && nat_lt c d.old.hi) ≡ false
+          go x (inr e) = e
+          go (inl x) (inl e) = let k = both (nat_le cell c) (nat_lt c d.old.hi) e in absurd (grind (arith, nat_tests, k.0, x))
+          go (inr x) (inl e) = let k = both (nat_le cell c) (nat_lt c d.old.hi) e in absurd (grind (arith, nat_tests, k.1, x))
+
+  -- A stretch of the new ones is one of the old, the front, or the back.
+  pub data IsPart (i : ℕ) (b : Column) : Type 0 where
+    old_part : (i ≡ at → ⊥) → i < n → slice_get columns i ≡ Some b → IsPart i b
+    front_part : i ≡ at → b ≡ record d.old { hi = cell } → IsPart i b
+    back_part : i ≡ n → b ≡ d.back → IsPart i b
+
+  part_of : (i : ℕ) (b : Column) → slice_get new_columns i ≡ Some b → IsPart i b
+  part_of i b e = go (compared i n) (same_number i at)
+    where
+      go : (i < n) ⊎ ((i ≡ n) ⊎ (n < i)) → (i ≡ at) ⊎ (i ≡ at → ⊥) → IsPart i b
+      go (inl l) (inr x) = old_part x l (sym (d.other i x l) ∙ e)
+      go (inl l) (inl x) = front_part x (same_at e (subst (λ (j : ℕ). slice_get new_columns j ≡ Some (record d.old { hi = cell })) (sym x) d.front))
+      go (inr (inl x)) k = back_part x (same_at e (subst (λ (j : ℕ). slice_get new_columns j ≡ Some d.back) (sym x) d.back_is))
+      go (inr (inr x)) k = absurd (omega (arith, x, slice_get_within new_columns i b e, d.size))
+
+  at_within : at < n
+  at_within = slice_get_within columns at d.old d.old_is
+
+  module _ (s : AreStretches pieces columns) where
+    here_of : (c i : ℕ) → value_at new_pieces c ≡ Some i → (b : Column) × (slice_get new_columns i ≡ Some b) × (b.lo ≤ c) × (c < b.hi)
+    here_of c i e = go (compared c cell) (compared c d.old.hi)
+      where
+        old_one : (c < cell) ⊎ (d.old.hi ≤ c) → (b : Column) × (slice_get new_columns i ≡ Some b) × (b.lo ≤ c) × (c < b.hi)
+        old_one o = let a = s.here c i (sym (outside_test c o) ∙ e) in in_two a.0 a.1 a.2 a.3 o (same_number i at)
+          where
+            in_two : (a : Column) → slice_get columns i ≡ Some a → a.lo ≤ c → c < a.hi → (c < cell) ⊎ (d.old.hi ≤ c) → (i ≡ at) ⊎ (i ≡ at → ⊥) → (b : Column) × (slice_get new_columns i ≡ Some b) × (b.lo ≤ c) × (c < b.hi)
+            in_two a is l h o (inr x) = (a, d.other i x (slice_get_within columns i a is) ∙ is, l, h)
+            in_two a is l h o (inl x) =
+                let same : a ≡ d.old = same_at (subst (λ (j : ℕ). slice_get columns j ≡ Some a) x is) d.old_is in
+                (record d.old { hi = cell }, subst (λ (j : ℕ). slice_get new_columns j ≡ Some (record d.old { hi = cell })) (sym x) d.front, omega (arith, l, ap (λ (z : Column). z.lo) same), front_end o)
+              where
+                front_end : (c < cell) ⊎ (d.old.hi ≤ c) → c < cell
+                front_end (inl y) = y
+                front_end (inr y) = let same : a ≡ d.old = same_at (subst (λ (j : ℕ). slice_get columns j ≡ Some a) x is) d.old_is in absurd (omega (arith, y, h, ap (λ (z : Column). z.hi) same))
+
+        new_one : cell ≤ c → c < d.old.hi → (b : Column) × (slice_get new_columns i ≡ Some b) × (b.lo ≤ c) × (c < b.hi)
+        new_one l h =
+            let same : n ≡ i = some_is (sym (within_test c l h) ∙ e) in
+            (d.back, subst (λ (j : ℕ). slice_get new_columns j ≡ Some d.back) same d.back_is, omega (arith, d.back_lo, l), omega (arith, d.back_hi, h))
+
+        go : (c < cell) ⊎ ((c ≡ cell) ⊎ (cell < c)) → (c < d.old.hi) ⊎ ((c ≡ d.old.hi) ⊎ (d.old.hi < c)) → (b : Column) × (slice_get new_columns i ≡ Some b) × (b.lo ≤ c) × (c < b.hi)
+        go (inl l) y = old_one (inl l)
+        go (inr (inl x)) (inl y) = new_one (omega (arith, x)) y
+        go (inr (inr x)) (inl y) = new_one (omega (arith, x)) y
+        go x (inr (inl y)) = old_one (inr (omega (arith, y)))
+        go x (inr (inr y)) = old_one (inr (omega (arith, y)))
+
+    there_of : (i : ℕ) (b : Column) (c : ℕ) → IsPart i b → b.lo ≤ c → c < b.hi → value_at new_pieces c ≡ Some i
+    there_of i b c (old_part x l is) lo hi = outside_test c (away (compared c cell) (compared c d.old.hi)) ∙ s.there i b c is lo hi
+      where
+        away : (c < cell) ⊎ ((c ≡ cell) ⊎ (cell < c)) → (c < d.old.hi) ⊎ ((c ≡ d.old.hi) ⊎ (d.old.hi < c)) → (c < cell) ⊎ (d.old.hi ≤ c)
+        away (inl y) z = inl y
+        away (inr y) (inr (inl z)) = inr (omega (arith, z))
+        away (inr y) (inr (inr z)) = inr (omega (arith, z))
+        away (inr y) (inl z) = absurd (x (one_stretch pieces columns s i at b d.old c is d.old_is lo hi (at_least y) z))
+          where
+            at_least : (c ≡ cell) ⊎ (cell < c) → d.old.lo ≤ c
+            at_least (inl w) = omega (arith, w, d.begins)
+            at_least (inr w) = omega (arith, w, d.begins)
+    there_of i b c (front_part x same) lo hi =
+        let l : d.old.lo ≤ c = omega (arith, lo, ap (λ (z : Column). z.lo) same) in
+        let h : c < cell = omega (arith, hi, ap (λ (z : Column). z.hi) same) in
+        outside_test c (inl h) ∙ s.there at d.old c d.old_is l (omega (arith, h, d.ends)) ∙ ap Some (sym x)
+    there_of i b c (back_part x same) lo hi = within_test c (omega (arith, lo, ap (λ (z : Column). z.lo) same, d.back_lo)) (omega (arith, hi, ap (λ (z : Column). z.hi) same, d.back_hi)) ∙ ap Some (sym x)
+
+    some_of : (i : ℕ) (b : Column) → IsPart i b → (b.lo < b.hi) × (b.hi ≤ 1048576)
+    some_of i b (old_part x l is) = s.some i b is
+    some_of i b (front_part x same) = let k = s.some at d.old d.old_is in (omega (arith, ap (λ (z : Column). z.lo) same, ap (λ (z : Column). z.hi) same, d.begins), omega (arith, ap (λ (z : Column). z.hi) same, d.ends, k.1))
+    some_of i b (back_part x same) = let k = s.some at d.old d.old_is in (omega (arith, ap (λ (z : Column). z.lo) same, ap (λ (z : Column). z.hi) same, d.back_lo, d.back_hi, d.ends), omega (arith, ap (λ (z : Column). z.hi) same, d.back_hi, k.1))
+
+    all_of : (columns ≡ []) ⊎ ((c : ℕ) → c < 1048576 → (i : ℕ) × (value_at pieces c ≡ Some i)) → (new_columns ≡ []) ⊎ ((c : ℕ) → c < 1048576 → (i : ℕ) × (value_at new_pieces c ≡ Some i))
+    all_of (inl z) = absurd (omega (arith, at_within, ap length z))
+    all_of (inr f) = inr (λ c l. go c l (compared c cell) (compared c d.old.hi))
+      where
+        go : (c : ℕ) → c < 1048576 → (c < cell) ⊎ ((c ≡ cell) ⊎ (cell < c)) → (c < d.old.hi) ⊎ ((c ≡ d.old.hi) ⊎ (d.old.hi < c)) → (i : ℕ) × (value_at new_pieces c ≡ Some i)
+        go c l (inl x) y = let r = f c l in (r.0, outside_test c (inl x) ∙ r.1)
+        go c l x (inr (inl y)) = let r = f c l in (r.0, outside_test c (inr (omega (arith, y))) ∙ r.1)
+        go c l x (inr (inr y)) = let r = f c l in (r.0, outside_test c (inr (omega (arith, y))) ∙ r.1)
+        go c l (inr (inl x)) (inl y) = (n, within_test c (omega (arith, x)) y)
+        go c l (inr (inr x)) (inl y) = (n, within_test c (omega (arith, x)) y)
+
+    pub divided_stretches : AreStretches new_pieces new_columns
+    divided_stretches = record { here = here_of; there = λ i b c e l h. there_of i b c (part_of i b e) l h; some = λ i b e. some_of i b (part_of i b e); whole = all_of s.whole }
+
+    divided_given : (t c : ℕ) → given_at new_pieces new_columns t c ≡ given_at pieces columns t c
+    divided_given t c = go (options (value_at pieces c)) (options (value_at new_pieces c))
+      where
+        read : (ps : List (Piece ℕ)) (xs : List Column) (o : Option ℕ) → value_at ps c ≡ o → given_at ps xs t c ≡ given_in (option_and_then (slice_get xs) o) t
+        read ps xs o e = ap (λ (x : Option ℕ). given_in (option_and_then (slice_get xs) x) t) e
+
+        same_given : (i : ℕ) (b : Column) → IsPart i b → b.lo ≤ c → c < b.hi → (a : Column) (j : ℕ) → slice_get columns j ≡ Some a → a.lo ≤ c → c < a.hi → given_by b.frames.items b.marks.items t ≡ given_by a.frames.items a.marks.items t
+        same_given i b (old_part x l is) lo hi a j a_is al ah =
+            let e = one_stretch pieces columns s i j b a c is a_is lo hi al ah in
+            ap (λ (z : Column). given_by z.frames.items z.marks.items t) (same_at (subst (λ (z : ℕ). slice_get columns z ≡ Some b) e is) a_is)
+        same_given i b (front_part x same) lo hi a j a_is al ah =
+            let e = one_stretch pieces columns s at j d.old a c d.old_is a_is (omega (arith, lo, ap (λ (z : Column). z.lo) same)) (omega (arith, hi, ap (λ (z : Column). z.hi) same, d.ends)) al ah in
+            ap (λ (z : Column). given_by z.frames.items z.marks.items t) same ∙ ap (λ (z : Column). given_by z.frames.items z.marks.items t) (same_at (subst (λ (z : ℕ). slice_get columns z ≡ Some d.old) e d.old_is) a_is)
+        same_given i b (back_part x same) lo hi a j a_is al ah =
+            let e = one_stretch pieces columns s at j d.old a c d.old_is a_is (omega (arith, lo, ap (λ (z : Column). z.lo) same, d.back_lo, d.begins)) (omega (arith, hi, ap (λ (z : Column). z.hi) same, d.back_hi)) al ah in
+            ap (λ (z : Column). given_by z.frames.items z.marks.items t) same
+            ∙ ap (λ (fs : List Frame). given_by fs d.back.marks.items t) d.back_frames ∙ ap (λ (ms : List Mark). given_by d.old.frames.items ms t) d.back_marks
+            ∙ ap (λ (z : Column). given_by z.frames.items z.marks.items t) (same_at (subst (λ (z : ℕ). slice_get columns z ≡ Some d.old) e d.old_is) a_is)
+
+        go : (value_at pieces c ≡ None) ⊎ ((i : ℕ) × (value_at pieces c ≡ Some i)) → (value_at new_pieces c ≡ None) ⊎ ((i : ℕ) × (value_at new_pieces c ≡ Some i)) → given_at new_pieces new_columns t c ≡ given_at pieces columns t c
+        go (inl e) (inl f) = read new_pieces new_columns None f ∙ sym (read pieces columns None e)
+        go (inr (i, e)) (inr (j, f)) =
+            let a = s.here c i e in
+            let b = here_of c j f in
+            read new_pieces new_columns (Some j) f ∙ ap (λ (o : Option Column). given_in o t) b.1 ∙ same_given j b.0 (part_of j b.0 b.1) b.2 b.3 a.0 i a.1 a.2 a.3 ∙ sym (read pieces columns (Some i) e ∙ ap (λ (o : Option Column). given_in o t) a.1)
+        go (inl e) (inr (j, f)) = absurd (gone (compared c cell) (compared c d.old.hi))
+          where
+            in_old : d.old.lo ≤ c → c < d.old.hi → ⊥
+            in_old l h = some_none (sym (s.there at d.old c d.old_is l h) ∙ e)
+
+            gone : (c < cell) ⊎ ((c ≡ cell) ⊎ (cell < c)) → (c < d.old.hi) ⊎ ((c ≡ d.old.hi) ⊎ (d.old.hi < c)) → ⊥
+            gone (inl x) y = some_none (sym f ∙ outside_test c (inl x) ∙ e)
+            gone x (inr (inl y)) = some_none (sym f ∙ outside_test c (inr (omega (arith, y))) ∙ e)
+            gone x (inr (inr y)) = some_none (sym f ∙ outside_test c (inr (omega (arith, y))) ∙ e)
+            gone (inr (inl x)) (inl y) = in_old (omega (arith, x, d.begins)) y
+            gone (inr (inr x)) (inl y) = in_old (omega (arith, x, d.begins)) y
+        go (inr (i, e)) (inl f) = absurd (gone (compared c cell) (compared c d.old.hi))
+          where
+            gone : (c < cell) ⊎ ((c ≡ cell) ⊎ (cell < c)) → (c < d.old.hi) ⊎ ((c ≡ d.old.hi) ⊎ (d.old.hi < c)) → ⊥
+            gone (inl x) y = some_none (sym e ∙ sym (outside_test c (inl x)) ∙ f)
+            gone x (inr (inl y)) = some_none (sym e ∙ sym (outside_test c (inr (omega (arith, y)))) ∙ f)
+            gone x (inr (inr y)) = some_none (sym e ∙ sym (outside_test c (inr (omega (arith, y)))) ∙ f)
+            gone (inr (inl x)) (inl y) = some_none (sym (within_test c (omega (arith, x)) y) ∙ f)
+            gone (inr (inr x)) (inl y) = some_none (sym (within_test c (omega (arith, x)) y) ∙ f)
+
+  divided_right : (opens : List Open) → AreColumns opens pieces columns → (i : ℕ) (b : Column) (c : ℕ) → IsPart i b → b.lo ≤ c → c < b.hi → IsColumn opens c b
+  divided_right opens k i b c (old_part x l is) lo hi = k.right i b c is lo hi
+  divided_right opens k i b c (front_part x same) lo hi =
+      let r = k.right at d.old c d.old_is (omega (arith, lo, ap (λ (z : Column). z.lo) same)) (omega (arith, hi, ap (λ (z : Column). z.hi) same, d.ends)) in
+      subst (λ (z : Column). IsColumn opens c z) (sym same) (record { linked = r.linked; marked = r.marked; shown = r.shown })
+  divided_right opens k i b c (back_part x same) lo hi =
+      let r = k.right at d.old c d.old_is (omega (arith, lo, ap (λ (z : Column). z.lo) same, d.back_lo, d.begins)) (omega (arith, hi, ap (λ (z : Column). z.hi) same, d.back_hi)) in
+      subst (λ (z : Column). IsColumn opens c z) (sym same) (record {
+        linked = subst AreLinked (sym d.back_frames) r.linked;
+        marked = subst (λ (fs : List Frame). AreMarked fs d.back.marks.items None) (sym d.back_frames) (subst (λ (ms : List Mark). AreMarked d.old.frames.items ms None) (sym d.back_marks) r.marked);
+        shown = subst (λ (fs : List Frame). AreShown opens c fs) (sym d.back_frames) r.shown;
+      })
+
+  pub divided_here : AreStretches pieces columns → IsDivided new_columns cell
+  divided_here s i b e = go (part_of i b e)
+    where
+      go : IsPart i b → (cell ≤ b.lo) ⊎ (b.hi ≤ cell)
+      go (front_part x same) = inr (omega (arith, ap (λ (z : Column). z.hi) same))
+      go (back_part x same) = inl (omega (arith, ap (λ (z : Column). z.lo) same, d.back_lo))
+      go (old_part x l is) = in_two (compared b.lo cell) (compared cell b.hi)
+        where
+          in_two : (b.lo < cell) ⊎ ((b.lo ≡ cell) ⊎ (cell < b.lo)) → (cell < b.hi) ⊎ ((cell ≡ b.hi) ⊎ (b.hi < cell)) → (cell ≤ b.lo) ⊎ (b.hi ≤ cell)
+          in_two (inr (inl y)) z = inl (omega (arith, y))
+          in_two (inr (inr y)) z = inl (omega (arith, y))
+          in_two (inl y) (inr (inl z)) = inr (omega (arith, z))
+          in_two (inl y) (inr (inr z)) = inr (omega (arith, z))
+          in_two (inl y) (inl z) = absurd (x (one_stretch pieces columns s i at b d.old cell is d.old_is (omega (arith, y)) z (omega (arith, d.begins)) d.ends))
+
+  pub divided_finer : IsFiner pieces columns new_pieces new_columns
+  divided_finer =
+      record {
+        stretches = λ s. divided_stretches s;
+        columns_are = λ opens k. record { stretches = divided_stretches k.stretches; right = λ i b c e l h. divided_right opens k i b c (part_of i b e) l h; none = λ z. absurd (omega (arith, d.size, ap length z)) };
+        given = λ s t c. divided_given s t c;
+        asked = λ k. same_asked_more columns new_columns k d.size (λ i a e. kept i a e (same_number i at)) (λ b e. ap (λ (z : Column). z.asked) (same_at e d.back_is) ∙ d.back_asked);
+        divided = λ k old i b e. still k old i b (part_of i b e);
+        room = λ lo hi r i b e l h. roomy lo hi r i b l h (part_of i b e);
+        some = λ s z. absurd (omega (arith, d.size, ap length z));
+      }
+    where
+      kept : (i : ℕ) (a : Column) → slice_get columns i ≡ Some a → (i ≡ at) ⊎ (i ≡ at → ⊥) → (b : Column) × (slice_get new_columns i ≡ Some b) × (b.lo ≡ a.lo) × (b.asked ≡ a.asked)
+      kept i a e (inr x) = (a, d.other i x (slice_get_within columns i a e) ∙ e, refl, refl)
+      kept i a e (inl x) =
+          let same : a ≡ d.old = same_at (subst (λ (j : ℕ). slice_get columns j ≡ Some a) x e) d.old_is in
+          (record d.old { hi = cell }, subst (λ (j : ℕ). slice_get new_columns j ≡ Some (record d.old { hi = cell })) (sym x) d.front, ap (λ (z : Column). z.lo) (sym same), ap (λ (z : Column). z.asked) (sym same))
+
+      still : (k : ℕ) → IsDivided columns k → (i : ℕ) (b : Column) → IsPart i b → (k ≤ b.lo) ⊎ (b.hi ≤ k)
+      still k old i b (old_part x l is) = old i b is
+      still k old i b (front_part x same) = go (old at d.old d.old_is)
+        where
+          go : (k ≤ d.old.lo) ⊎ (d.old.hi ≤ k) → (k ≤ b.lo) ⊎ (b.hi ≤ k)
+          go (inl y) = inl (omega (arith, y, ap (λ (z : Column). z.lo) same))
+          go (inr y) = inr (omega (arith, y, ap (λ (z : Column). z.hi) same, d.ends))
+      still k old i b (back_part x same) = go (old at d.old d.old_is)
+        where
+          go : (k ≤ d.old.lo) ⊎ (d.old.hi ≤ k) → (k ≤ b.lo) ⊎ (b.hi ≤ k)
+          go (inl y) = inl (omega (arith, y, ap (λ (z : Column). z.lo) same, d.back_lo, d.begins))
+          go (inr y) = inr (omega (arith, y, ap (λ (z : Column). z.hi) same, d.back_hi))
+
+      roomy : (lo hi : ℕ) → HaveRoom columns lo hi → (i : ℕ) (b : Column) → lo < b.hi → b.lo < hi → IsPart i b → HasRoom b
+      roomy lo hi r i b l h (old_part x m is) = r i b is l h
+      roomy lo hi r i b l h (front_part x same) = subst HasRoom (sym same) (r at d.old d.old_is (omega (arith, l, ap (λ (z : Column). z.hi) same, d.ends)) (omega (arith, h, ap (λ (z : Column). z.lo) same)))
+      roomy lo hi r i b l h (back_part x same) = subst HasRoom (sym same) d.back_room
