@@ -1,6 +1,7 @@
 -- Stretches that are divided stand for the same as before.
 use Rattle.std.proofs.Common.{◌≡◌, ℕ, ◌+◌, ◌-◌, ◌<◌, ◌≤◌, zero, suc, refl, sym, ap, subst, ◌∙◌, List, [], ◌∷◌, ◌++◌, ◌⊎◌, inl, inr, Bool, true, false, Option, Some, None, arith, length, get_or, set, eqb-true}
 use Rattle.std.proofs.lemmas.Bool.Decides.{nat_tests}
+use Rattle.std.proofs.lemmas.List.{length-set, length_push}
 use Rattle.std.proofs.lemmas.Option.{slice_get_within, slice_get-get_or}
 use Rattle.std.specs.Prelude.{◌&&◌, ◌||◌, ◌==◌, nat_le, nat_lt, if◌then◌else◌, slice_get, option_and_then}
 use Rattle.oss_syntax.specs.declared.access.Access.{Access}
@@ -11,14 +12,14 @@ use Rattle.oss_deps.specs.declared.frame.Frame.{Frame}
 use Rattle.oss_deps.specs.declared.frame.Mark.{Mark}
 use Rattle.oss_deps.specs.declared.column.Column.{Column}
 use Rattle.oss_deps.specs.Kept.{given_by, given_in, column_at, given_at, is_asked, is_cut}
-use Rattle.oss_deps.specs.Places.{AreLinked, AreMarked}
-use Rattle.oss_deps.specs.Columns.{AreShown, IsColumn, AreStretches, AreColumns, IsDivided, HasRoom, HaveRoom, IsReady, AreReady, IsFiner, IsDividedAt}
+use Rattle.oss_deps.specs.Places.{IsFirst, IsLast, AreLinked, AreMarked, unmarked}
+use Rattle.oss_deps.specs.Columns.{AreShown, IsColumn, AreStretches, AreColumns, IsDivided, HasRoom, HaveRoom, IsReady, AreReady, IsFiner, IsDividedAt, root}
 use Rattle.oss_deps.proofs.Basics.{bools, both, both_of, or_cases, clash, some_is, some_none, same_at, options, value_within, compared}
-use Rattle.oss_deps.proofs.CloseLemmas.{same_number}
+use Rattle.oss_deps.proofs.CloseLemmas.{same_number, get_set_same, get_set_other}
 use Rattle.oss_deps.proofs.GiveLemmas.{one_stretch}
 
 pub finer_same : (pieces : List (Piece ℕ)) (columns : List Column) → IsFiner pieces columns pieces columns
-finer_same pieces columns = record { stretches = λ s. s; columns_are = λ o k. k; given = λ s t c. refl; asked = λ k. refl; divided = λ k d. d; room = λ lo hi r. r; some = λ n. n }
+finer_same pieces columns = record { stretches = λ s. s; columns_are = λ o k. k; given = λ s t c. refl; asked = λ k. refl; divided = λ n k d. d; room = λ n lo hi r. r; some = λ n. n }
 
 pub finer_both : (pieces : List (Piece ℕ)) (columns : List Column) (pieces2 : List (Piece ℕ)) (columns2 : List Column) (pieces3 : List (Piece ℕ)) (columns3 : List Column)
     → IsFiner pieces columns pieces2 columns2 → IsFiner pieces2 columns2 pieces3 columns3 → IsFiner pieces columns pieces3 columns3
@@ -27,14 +28,14 @@ finer_both pieces columns pieces2 columns2 pieces3 columns3 f g = record {
   columns_are = λ o k. g.columns_are o (f.columns_are o k);
   given = λ s t c. g.given (f.stretches s) t c ∙ f.given s t c;
   asked = λ k. g.asked k ∙ f.asked k;
-  divided = λ k d. g.divided k (f.divided k d);
-  room = λ lo hi r. g.room lo hi (f.room lo hi r);
+  divided = λ n k d. g.divided (f.some n) k (f.divided n k d);
+  room = λ n lo hi r. g.room (f.some n) lo hi (f.room n lo hi r);
   some = λ n. g.some (f.some n);
 }
 
 pub finer_ready : (pieces : List (Piece ℕ)) (columns : List Column) (pieces2 : List (Piece ℕ)) (columns2 : List Column) → IsFiner pieces columns pieces2 columns2 → (reserved : Option (List Access)) → AreReady reserved columns → AreReady reserved columns2
 finer_ready pieces columns pieces2 columns2 f None r = tt
-finer_ready pieces columns pieces2 columns2 f (Some accesses) r = (f.some r.0, λ a i. let k = r.1 a i in record { begins = f.divided a.range.lo k.begins; ends = f.divided a.range.hi k.ends; room = f.room a.range.lo a.range.hi k.room })
+finer_ready pieces columns pieces2 columns2 f (Some accesses) r = (f.some r.0, λ a i. let k = r.1 a i in record { begins = f.divided r.0 a.range.lo k.begins; ends = f.divided r.0 a.range.hi k.ends; room = f.room r.0 a.range.lo a.range.hi k.room })
 
 asked_in : (columns : List Column) (k : ℕ) → is_asked columns k ≡ true → (i : ℕ) × (a : Column) × (slice_get columns i ≡ Some a) × (a.lo ≡ k)
 asked_in [] k h = absurd cc
@@ -254,8 +255,8 @@ module _ (pieces : List (Piece ℕ)) (columns : List Column) (new_pieces : List 
         columns_are = λ opens k. record { stretches = divided_stretches k.stretches; right = λ i b c e l h. divided_right opens k i b c (part_of i b e) l h; none = λ z. absurd (omega (arith, d.size, ap length z)) };
         given = λ s t c. divided_given s t c;
         asked = λ k. same_asked_more columns new_columns k d.size (λ i a e. kept i a e (same_number i at)) (λ b e. ap (λ (z : Column). z.asked) (same_at e d.back_is) ∙ d.back_asked);
-        divided = λ k old i b e. still k old i b (part_of i b e);
-        room = λ lo hi r i b e l h. roomy lo hi r i b l h (part_of i b e);
+        divided = λ x k old i b e. still k old i b (part_of i b e);
+        room = λ x lo hi r i b e l h. roomy lo hi r i b l h (part_of i b e);
         some = λ s z. absurd (omega (arith, d.size, ap length z));
       }
     where
@@ -282,3 +283,201 @@ module _ (pieces : List (Piece ℕ)) (columns : List Column) (new_pieces : List 
       roomy lo hi r i b l h (old_part x m is) = r i b is l h
       roomy lo hi r i b l h (front_part x same) = subst HasRoom (sym same) (r at d.old d.old_is (omega (arith, l, ap (λ (z : Column). z.hi) same, d.ends)) (omega (arith, h, ap (λ (z : Column). z.lo) same)))
       roomy lo hi r i b l h (back_part x same) = subst HasRoom (sym same) d.back_room
+
+get_front : {A : Type 0} (xs ys : List A) (k : ℕ) → k < length xs → slice_get (xs ++ ys) k ≡ slice_get xs k
+get_front [] ys k h = absurd (omega (arith, h))
+get_front (x ∷ xs) ys zero h = refl
+get_front (x ∷ xs) ys (suc k) h = get_front xs ys k (omega (arith, h))
+
+get_last : {A : Type 0} (xs : List A) (y : A) → slice_get (xs ++ y ∷ []) (length xs) ≡ Some y
+get_last [] y = refl
+get_last (x ∷ xs) y = get_last xs y
+
+pub divided_of : (pieces : List (Piece ℕ)) (columns : List Column) (new_pieces : List (Piece ℕ)) (new_columns : List Column) (at cell : ℕ) (old b : Column) → slice_get columns at ≡ Some old → old.lo < cell → cell < old.hi
+    → new_columns ≡ set columns at (record old { hi = cell }) ++ b ∷ [] → b.lo ≡ cell → b.hi ≡ old.hi → b.asked ≡ false → b.frames.items ≡ old.frames.items → b.marks.items ≡ old.marks.items → HasRoom b
+    → Assigns cell old.hi (Some (length columns)) pieces new_pieces → IsDividedAt pieces columns new_pieces new_columns at cell
+divided_of pieces columns new_pieces new_columns at cell old b old_is begins ends is lo hi asked frames marks room map = record {
+  old = old;
+  old_is = old_is;
+  begins = begins;
+  ends = ends;
+  size = ap length is ∙ length_push (set columns at (record old { hi = cell })) b ∙ ap (λ (k : ℕ). k + 1) (length-set columns at (record old { hi = cell }));
+  front = ap (λ (xs : List Column). slice_get xs at) is ∙ get_front (set columns at (record old { hi = cell })) (b ∷ []) at (omega (arith, length-set columns at (record old { hi = cell }), slice_get_within columns at old old_is)) ∙ get_set_same columns at (record old { hi = cell }) (slice_get_within columns at old old_is);
+  back = b;
+  back_is = ap (λ (xs : List Column). slice_get xs (length columns)) is ∙ subst (λ (k : ℕ). slice_get (set columns at (record old { hi = cell }) ++ b ∷ []) k ≡ Some b) (length-set columns at (record old { hi = cell })) (get_last (set columns at (record old { hi = cell })) b);
+  back_lo = lo;
+  back_hi = hi;
+  back_asked = asked;
+  back_frames = frames;
+  back_marks = marks;
+  back_room = room;
+  other = λ i n l. ap (λ (xs : List Column). slice_get xs i) is ∙ get_front (set columns at (record old { hi = cell })) (b ∷ []) i (omega (arith, length-set columns at (record old { hi = cell }), l)) ∙ get_set_other columns at i (record old { hi = cell }) n;
+  map = map;
+}
+
+pub assigned_as : (lo hi hi2 n n2 : ℕ) (pieces pieces2 new_pieces : List (Piece ℕ)) → Assigns lo hi (Some n) pieces new_pieces → hi ≡ hi2 → n ≡ n2 → pieces ≡ pieces2 → Assigns lo hi2 (Some n2) pieces2 new_pieces
+assigned_as lo hi hi2 n n2 pieces pieces2 new_pieces a e f g =
+    subst (λ (h : ℕ). Assigns lo h (Some n2) pieces2 new_pieces) e (subst (λ (k : ℕ). Assigns lo hi (Some k) pieces2 new_pieces) f (subst (λ (ps : List (Piece ℕ)). Assigns lo hi (Some n) ps new_pieces) g a))
+
+-- the last cell of a stretch is not that of the division
+pub inside_ends : (pieces : List (Piece ℕ)) (columns : List Column) (at cell : ℕ) (old : Column) → AreStretches pieces columns → value_at pieces cell ≡ Some at → slice_get columns at ≡ Some old → cell < old.hi
+inside_ends pieces columns at cell old s here is = let a = s.here cell at here in subst (λ (x : Column). cell < x.hi) (same_at a.1 is) a.3
+
+pub inside_within : (pieces : List (Piece ℕ)) (columns : List Column) (at cell : ℕ) → AreStretches pieces columns → value_at pieces cell ≡ Some at → at < length columns
+inside_within pieces columns at cell s here = let a = s.here cell at here in slice_get_within columns at a.0 a.1
+
+-- a stretch that begins at the cell is divided there
+pub begun_divides : (pieces : List (Piece ℕ)) (columns : List Column) (at cell : ℕ) (a : Column) → AreStretches pieces columns → value_at pieces cell ≡ Some at → slice_get columns at ≡ Some a → cell ≤ a.lo → IsDivided columns cell
+begun_divides pieces columns at cell a s here is le i b e = go (compared b.lo cell) (compared cell b.hi)
+  where
+    begin : a.lo ≡ cell
+    begin = let k = s.here cell at here in omega (arith, le, subst (λ (x : Column). x.lo ≤ cell) (same_at k.1 is) k.2)
+
+    go : (b.lo < cell) ⊎ ((b.lo ≡ cell) ⊎ (cell < b.lo)) → (cell < b.hi) ⊎ ((cell ≡ b.hi) ⊎ (b.hi < cell)) → (cell ≤ b.lo) ⊎ (b.hi ≤ cell)
+    go (inr (inl x)) y = inl (omega (arith, x))
+    go (inr (inr x)) y = inl (omega (arith, x))
+    go (inl x) (inr (inl y)) = inr (omega (arith, y))
+    go (inl x) (inr (inr y)) = inr (omega (arith, y))
+    go (inl x) (inl y) =
+        let same = one_stretch pieces columns s i at b a cell e is (omega (arith, x)) y (omega (arith, begin)) (inside_ends pieces columns at cell a s here is) in
+        let eq = same_at (subst (λ (z : ℕ). slice_get columns z ≡ Some b) same e) is in
+        absurd (omega (arith, x, begin, ap (λ (z : Column). z.lo) eq))
+
+-- where a cell is in no stretch, none has it and the one before
+pub gap_divides : (pieces : List (Piece ℕ)) (columns : List Column) (cell : ℕ) → AreStretches pieces columns → value_at pieces cell ≡ None → IsDivided columns cell
+gap_divides pieces columns cell s none i b e = go (compared b.lo cell) (compared cell b.hi)
+  where
+    go : (b.lo < cell) ⊎ ((b.lo ≡ cell) ⊎ (cell < b.lo)) → (cell < b.hi) ⊎ ((cell ≡ b.hi) ⊎ (b.hi < cell)) → (cell ≤ b.lo) ⊎ (b.hi ≤ cell)
+    go (inr (inl x)) y = inl (omega (arith, x))
+    go (inr (inr x)) y = inl (omega (arith, x))
+    go (inl x) (inr (inl y)) = inr (omega (arith, y))
+    go (inl x) (inr (inr y)) = inr (omega (arith, y))
+    go (inl x) (inl y) = absurd (some_none (sym (s.there i b cell e (omega (arith, x)) y) ∙ none))
+
+-- one stretch of all cells
+module _ (whole : Column) (new_pieces : List (Piece ℕ)) (lo_is : whole.lo ≡ 0) (hi_is : whole.hi ≡ 1048576) (asked_is : whole.asked ≡ false) (frames_is : whole.frames.items ≡ root ∷ []) (marks_is : whole.marks.items ≡ unmarked ∷ []) where
+  root_linked : AreLinked (root ∷ [])
+  root_linked = record {
+    main = (root, refl, refl);
+    above = λ k f is some. absurd (some (only k f is));
+    rising = λ j k f g is js less. absurd (omega (arith, less, only k g js));
+    last = λ k f is. subst (λ (x : Frame). IsLast (root ∷ []) k x.last) (one_frame k f is) (λ j b. b.not_main (only j b.frame b.is));
+    next = λ k f is some. absurd (some (only k f is));
+  }
+    where
+      only : (k : ℕ) (f : Frame) → slice_get (root ∷ []) k ≡ Some f → k ≡ 0
+      only zero f is = refl
+      only (suc k) f is = absurd cc
+
+      one_frame : (k : ℕ) (f : Frame) → slice_get (root ∷ []) k ≡ Some f → root ≡ f
+      one_frame zero f is = some_is is
+      one_frame (suc k) f is = absurd cc
+
+  root_marked : AreMarked (root ∷ []) (unmarked ∷ []) None
+  root_marked = record {
+    same = refl;
+    main = λ m is. ap (λ (x : Mark). x.given) (sym (some_is is));
+    first = λ k m is. subst (λ (x : Mark). IsFirst (root ∷ []) (unmarked ∷ []) None k x.first) (one_mark k m is) (λ j b. absurd (b.not_main (only j b.frame b.is)));
+  }
+    where
+      only : (k : ℕ) (f : Frame) → slice_get (root ∷ []) k ≡ Some f → k ≡ 0
+      only zero f is = refl
+      only (suc k) f is = absurd cc
+
+      one_mark : (k : ℕ) (m : Mark) → slice_get (unmarked ∷ []) k ≡ Some m → unmarked ≡ m
+      one_mark zero m is = some_is is
+      one_mark (suc k) m is = absurd cc
+
+  root_shown : (c : ℕ) → AreShown [] c (root ∷ [])
+  root_shown c = record {
+    main = λ f is. ap (λ (x : Frame). x.task) (sym (some_is is));
+    frame = λ k f is some. absurd (some (only k f is));
+    all = λ o n number named. absurd (nothing number.2);
+  }
+    where
+      only : (k : ℕ) (f : Frame) → slice_get (root ∷ []) k ≡ Some f → k ≡ 0
+      only zero f is = refl
+      only (suc k) f is = absurd cc
+
+      nothing : {o : Open} → None ≡ Some o → ⊥
+      nothing e = absurd cc
+
+  whole_at : (i : ℕ) (b : Column) → slice_get (whole ∷ []) i ≡ Some b → (i ≡ 0) × (whole ≡ b)
+  whole_at zero b e = (refl, some_is e)
+  whole_at (suc i) b e = absurd cc
+
+  pub cover_finer : (pieces : List (Piece ℕ)) → Assigns 0 1048576 (Some 0) pieces new_pieces → AreStretches pieces [] → IsFiner pieces [] new_pieces (whole ∷ [])
+  cover_finer pieces map old =
+      record {
+        stretches = λ s. stretches;
+        columns_are = λ opens k. record { stretches = stretches; right = λ i b c e l h. right opens k i b c e; none = λ z. absurd (omega (arith, ap length z)) };
+        given = λ s t c. given t c;
+        asked = λ k. rw asked_is refl;
+        divided = λ n. absurd (n refl);
+        room = λ n. absurd (n refl);
+        some = λ n z. absurd (n refl);
+      }
+    where
+      in_all : (c : ℕ) → c < 1048576 → value_at new_pieces c ≡ Some 0
+      in_all c l = map c ∙ rw (both_of (nat_le 0 c) (nat_lt c 1048576) (grind (arith, nat_tests)) (grind (arith, nat_tests))) refl
+
+      out : (c : ℕ) → 1048576 ≤ c → value_at new_pieces c ≡ value_at pieces c
+      out c l = map c ∙ rw (go (bools (is_within 0 1048576 c))) refl
+        where
+          go : (is_within 0 1048576 c ≡ true) ⊎ (is_within 0 1048576 c ≡ false) → is_within 0 1048576 c ≡ false
+          go (inr e) = e
+          go (inl e) = let k = both (nat_le 0 c) (nat_lt c 1048576) e in absurd (grind (arith, nat_tests, k.1, l))
+
+      none_before : (c : ℕ) → value_at pieces c ≡ None
+      none_before c = go (options (value_at pieces c))
+        where
+          go : (value_at pieces c ≡ None) ⊎ ((i : ℕ) × (value_at pieces c ≡ Some i)) → value_at pieces c ≡ None
+          go (inl e) = e
+          go (inr (i, e)) = let a = old.here c i e in let h : None ≡ Some a.0 = a.1 in absurd cc
+
+      side : (c : ℕ) → (c < 1048576) ⊎ (1048576 ≤ c)
+      side c = go (compared c 1048576)
+        where
+          go : (c < 1048576) ⊎ ((c ≡ 1048576) ⊎ (1048576 < c)) → (c < 1048576) ⊎ (1048576 ≤ c)
+          go (inl h) = inl h
+          go (inr (inl h)) = inr (omega (arith, h))
+          go (inr (inr h)) = inr (omega (arith, h))
+
+      here_of : (c i : ℕ) → value_at new_pieces c ≡ Some i → (c < 1048576) ⊎ (1048576 ≤ c) → (b : Column) × (slice_get (whole ∷ []) i ≡ Some b) × (b.lo ≤ c) × (c < b.hi)
+      here_of c i e (inl l) = (whole, ap (λ (j : ℕ). slice_get (whole ∷ []) j) (some_is (sym e ∙ in_all c l)), omega (arith, lo_is), omega (arith, hi_is, l))
+      here_of c i e (inr l) = absurd (some_none (sym e ∙ out c l ∙ none_before c))
+
+      there_of : (i : ℕ) (b : Column) (c : ℕ) → slice_get (whole ∷ []) i ≡ Some b → c < b.hi → value_at new_pieces c ≡ Some i
+      there_of i b c e h = let k = whole_at i b e in in_all c (omega (arith, h, ap (λ (z : Column). z.hi) k.1, hi_is)) ∙ ap Some (sym k.0)
+
+      stretches : AreStretches new_pieces (whole ∷ [])
+      stretches = record {
+        here = λ c i e. here_of c i e (side c);
+        there = λ i b c e l h. there_of i b c e h;
+        some = λ i b e. let k = whole_at i b e in (omega (arith, ap (λ (z : Column). z.lo) k.1, ap (λ (z : Column). z.hi) k.1, lo_is, hi_is), omega (arith, ap (λ (z : Column). z.hi) k.1, hi_is));
+        whole = inr (λ c l. (0, in_all c l));
+      }
+
+      right : (opens : List Open) → AreColumns opens pieces [] → (i : ℕ) (b : Column) (c : ℕ) → slice_get (whole ∷ []) i ≡ Some b → IsColumn opens c b
+      right opens k i b c e =
+          subst (λ (z : Column). IsColumn opens c z) (whole_at i b e).1 (subst (λ (xs : List Open). IsColumn xs c whole) (sym (k.none refl)) (record {
+            linked = subst AreLinked (sym frames_is) root_linked;
+            marked = subst (λ (fs : List Frame). AreMarked fs whole.marks.items None) (sym frames_is) (subst (λ (ms : List Mark). AreMarked (root ∷ []) ms None) (sym marks_is) root_marked);
+            shown = subst (λ (fs : List Frame). AreShown [] c fs) (sym frames_is) (root_shown c);
+          }))
+
+      read : (ps : List (Piece ℕ)) (xs : List Column) (t c : ℕ) (o : Option ℕ) → value_at ps c ≡ o → given_at ps xs t c ≡ given_in (option_and_then (slice_get xs) o) t
+      read ps xs t c o e = ap (λ (x : Option ℕ). given_in (option_and_then (slice_get xs) x) t) e
+
+      given_of : (t c : ℕ) → (c < 1048576) ⊎ (1048576 ≤ c) → given_at new_pieces (whole ∷ []) t c ≡ given_at pieces [] t c
+      given_of t c (inl l) =
+          read new_pieces (whole ∷ []) t c (Some 0) (in_all c l) ∙ ap (λ (fs : List Frame). given_by fs whole.marks.items t) frames_is ∙ ap (λ (ms : List Mark). given_by (root ∷ []) ms t) marks_is ∙ nothing (0 == t)
+          ∙ sym (read pieces [] t c None (none_before c))
+        where
+          nothing : (x : Bool) → ((x && false) || false) ≡ false
+          nothing true = refl
+          nothing false = refl
+      given_of t c (inr l) = read new_pieces (whole ∷ []) t c None (out c l ∙ none_before c) ∙ sym (read pieces [] t c None (none_before c))
+
+      given : (t c : ℕ) → given_at new_pieces (whole ∷ []) t c ≡ given_at pieces [] t c
+      given t c = given_of t c (side c)

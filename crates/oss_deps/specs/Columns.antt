@@ -1,6 +1,7 @@
 -- When the lists of all stretches stand for what was opened and given up.
 use Rattle.std.specs.Prelude.{◌≡◌, ℕ, ◌+◌, ◌≤◌, ◌<◌, ◌⊎◌, Bool, true, false, List, [], length, slice_get, vec_capacity, Option, Some, None}
 use Rattle.oss_syntax.specs.declared.access.Access.{Access}
+use Rattle.oss_syntax.specs.declared.access.Mode.TheVariants.{Write}
 use Rattle.oss_model.specs.Order.{IsIn}
 use Rattle.oss_ranges.specs.declared.piece.Piece.{Piece}
 use Rattle.oss_ranges.specs.Cells.{Assigns, value_at}
@@ -121,8 +122,8 @@ pub record IsFiner (pieces : List (Piece ℕ)) (columns : List Column) (new_piec
   pub columns_are : (opens : List Open) → AreColumns opens pieces columns → AreColumns opens new_pieces new_columns
   pub given : AreStretches pieces columns → (t c : ℕ) → given_at new_pieces new_columns t c ≡ given_at pieces columns t c
   pub asked : (k : ℕ) → is_asked new_columns k ≡ is_asked columns k
-  pub divided : (k : ℕ) → IsDivided columns k → IsDivided new_columns k
-  pub room : (lo hi : ℕ) → HaveRoom columns lo hi → HaveRoom new_columns lo hi
+  pub divided : (columns ≡ [] → ⊥) → (k : ℕ) → IsDivided columns k → IsDivided new_columns k
+  pub room : (columns ≡ [] → ⊥) → (lo hi : ℕ) → HaveRoom columns lo hi → HaveRoom new_columns lo hi
   pub some : (columns ≡ [] → ⊥) → new_columns ≡ [] → ⊥
 
 -- A stretch was divided at a cell.
@@ -143,3 +144,7 @@ pub record IsDividedAt (pieces : List (Piece ℕ)) (columns : List Column) (new_
   pub back_room : HasRoom back
   pub other : (i : ℕ) → (i ≡ at → ⊥) → i < length columns → slice_get new_columns i ≡ slice_get columns i
   pub map : Assigns cell old.hi (Some (length columns)) pieces new_pieces
+
+-- Main's access, which each list has.
+abbrev pub root : Frame
+root = record { number = 0; task = 0; up = 0; mode = Write; last = None; next = None }

@@ -1,3 +1,7 @@
+ghost use Rattle.std.specs.Prelude.{◌≡◌, ◌∷◌, [], false, true, IfOk, OnOk, OnErr};
+ghost use Rattle.oss_deps.specs.Columns.{HasRoom, root};
+ghost use Rattle.oss_deps.specs.Places.{unmarked};
+
 use crate::frame::{Frame, Mark};
 use oss_syntax::Mode;
 use std::alloc::{AllocError, Global};
@@ -15,7 +19,13 @@ pub(crate) struct Column {
 
 impl Column {
     /// All cells that a program may have, with main's access alone.
-    pub(crate) fn whole(alloc: Global, hi: u32) -> Result<Column, AllocError> {
+    pub(crate) fn whole(alloc: Global, hi: u32) -> Result<Column, AllocError>
+        ensures lo { IfOk result (λ b. b.lo ≡ 0) }
+        ensures hi { IfOk result (λ b. b.hi ≡ hi) }
+        ensures asked { IfOk result (λ b. b.asked ≡ false) }
+        ensures frames { IfOk result (λ b. b.frames.items ≡ root ∷ []) }
+        ensures marks { IfOk result (λ b. b.marks.items ≡ unmarked ∷ []) }
+    {
         let mut frames = Vec::with_capacity(alloc, 1)?;
         let mut marks = Vec::with_capacity(alloc, 1)?;
         frames.push_reserved(Frame {
@@ -40,7 +50,14 @@ impl Column {
     }
 
     /// A copy for the cells from `lo` on, with room for one more access.
-    pub(crate) fn from(&self, alloc: Global, lo: u32) -> Result<Column, AllocError> {
+    pub(crate) fn from(&self, alloc: Global, lo: u32) -> Result<Column, AllocError>
+        ensures lo { IfOk result (λ b. b.lo ≡ lo) }
+        ensures hi { IfOk result (λ b. b.hi ≡ self.now.hi) }
+        ensures asked { IfOk result (λ b. b.asked ≡ false) }
+        ensures frames { IfOk result (λ b. b.frames.items ≡ self.now.frames.items) }
+        ensures marks { IfOk result (λ b. b.marks.items ≡ self.now.marks.items) }
+        ensures room { IfOk result (λ b. HasRoom b) }
+    {
         let mut frames = Vec::new(alloc);
         let mut marks = Vec::new(alloc);
         frames.extend_from_slice(self.frames.as_slice())?;
@@ -57,7 +74,15 @@ impl Column {
     }
 
     /// Makes room for one more access.
-    pub(crate) fn reserve(&mut self) -> Result<(), AllocError> {
+    pub(crate) fn reserve(&mut self) -> Result<(), AllocError>
+        ensures lo { self.new.lo ≡ self.old.lo }
+        ensures hi { self.new.hi ≡ self.old.hi }
+        ensures asked { self.new.asked ≡ self.old.asked }
+        ensures frames { self.new.frames.items ≡ self.old.frames.items }
+        ensures marks { self.new.marks.items ≡ self.old.marks.items }
+        ensures room { HasRoom self.old → HasRoom self.new }
+        ensures ok { OnOk result (HasRoom self.new) }
+    {
         self.frames.reserve(1)?;
         self.marks.reserve(1)
     }

@@ -1,3 +1,8 @@
+ghost use Rattle.std.specs.Prelude.{◌≡◌, ◌<◌, [], Some, OnErr, OnOk, slice_get};
+ghost use Rattle.oss_ranges.specs.Cells.{value_at};
+ghost use Rattle.oss_deps.specs.declared.column.Column.{Column as Stretch};
+ghost use Rattle.oss_deps.specs.Columns.{AreStretches, IsDivided, IsDividedAt, IsFiner};
+
 use crate::column::Column;
 use oss_ranges::RangeMap;
 use oss_syntax::Range;
@@ -11,15 +16,20 @@ pub(crate) fn cover(
     alloc: Global,
     map: &mut RangeMap<usize>,
     columns: &mut Vec<Column>,
-) -> Result<(), AllocError> {
+) -> Result<(), AllocError>
+    requires { AreStretches map.old.pieces columns.old.items }
+    ensures finer { IsFiner map.old.pieces columns.old.items map.new.pieces columns.new.items }
+    ensures some { OnOk result (columns.new.items ≡ [] → ⊥) }
+{
     if !columns.is_empty() {
         return Ok(());
     }
     map.reserve(1)?;
     columns.reserve(1)?;
     let column = Column::whole(alloc, CELLS)?;
+    map.assign(Range { lo: 0, hi: CELLS }, 0)?;
     columns.push_reserved(column);
-    map.assign(Range { lo: 0, hi: CELLS }, 0)
+    Ok(())
 }
 
 /// Divides the stretch that has a cell and the one before it.
@@ -28,7 +38,11 @@ pub(crate) fn split(
     map: &mut RangeMap<usize>,
     columns: &mut Vec<Column>,
     cell: u32,
-) -> Result<(), AllocError> {
+) -> Result<(), AllocError>
+    requires { AreStretches map.old.pieces columns.old.items }
+    ensures finer { IsFiner map.old.pieces columns.old.items map.new.pieces columns.new.items }
+    ensures divided { OnOk result (IsDivided columns.new.items cell) }
+{
     match map.get(cell) {
         Some(at) => {
             if columns[at].lo < cell {
@@ -41,22 +55,32 @@ pub(crate) fn split(
     }
 }
 
+/// Divides a stretch at a cell inside of it.
 fn divide(
     alloc: Global,
     map: &mut RangeMap<usize>,
     columns: &mut Vec<Column>,
     at: usize,
     cell: u32,
-) -> Result<(), AllocError> {
+) -> Result<(), AllocError>
+    requires stretches { AreStretches map.old.pieces columns.old.items }
+    requires here { value_at map.old.pieces cell ≡ Some at }
+    requires begins { (a : Stretch) → slice_get columns.old.items at ≡ Some a → a.lo < cell }
+    ensures ok { OnOk result (IsDividedAt map.old.pieces columns.old.items map.new.pieces columns.new.items at cell) }
+    ensures map { OnErr result (map.new.pieces ≡ map.old.pieces) }
+    ensures columns { OnErr result (columns.new.items ≡ columns.old.items) }
+{
     map.reserve(1)?;
     columns.reserve(1)?;
     let part = columns[at].from(alloc, cell)?;
-    let range = Range {
-        lo: cell,
-        hi: part.hi,
-    };
     let new = columns.len();
-    map.assign(range, new)?;
+    map.assign(
+        Range {
+            lo: cell,
+            hi: part.hi,
+        },
+        new,
+    )?;
     columns[at].hi = cell;
     columns.push_reserved(part);
     Ok(())
