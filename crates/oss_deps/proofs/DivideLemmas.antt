@@ -1,5 +1,5 @@
 -- Stretches that are divided stand for the same as before.
-use Rattle.std.proofs.Common.{◌≡◌, ℕ, ◌+◌, ◌-◌, ◌<◌, ◌≤◌, zero, suc, refl, sym, ap, subst, ◌∙◌, List, [], ◌∷◌, ◌++◌, ◌⊎◌, inl, inr, Bool, true, false, Option, Some, None, arith, length, get_or, set, eqb-true}
+use Rattle.std.proofs.Common.{◌≡◌, ℕ, ◌+◌, ◌-◌, ◌<◌, ◌≤◌, zero, suc, refl, sym, ap, subst, ◌∙◌, List, [], ◌∷◌, ◌++◌, ◌⊎◌, inl, inr, Bool, true, false, Option, Some, None, Result, Ok, Err, OnOk, OnErr, arith, length, get_or, set, eqb-true}
 use Rattle.std.proofs.lemmas.Bool.Decides.{nat_tests}
 use Rattle.std.proofs.lemmas.List.{length-set, length_push}
 use Rattle.std.proofs.lemmas.Option.{slice_get_within, slice_get-get_or}
@@ -481,3 +481,19 @@ module _ (whole : Column) (new_pieces : List (Piece ℕ)) (lo_is : whole.lo ≡ 
 
       given : (t c : ℕ) → given_at new_pieces (whole ∷ []) t c ≡ given_at pieces [] t c
       given t c = given_of t c (side c)
+
+pub finer_divide : {E : Type 0} (r : Result (Unit {0}) E) (pieces : List (Piece ℕ)) (columns : List Column) (new_pieces : List (Piece ℕ)) (new_columns : List Column) (at cell : ℕ) → OnOk r (IsDividedAt pieces columns new_pieces new_columns at cell)
+    → OnErr r (new_pieces ≡ pieces) → OnErr r (new_columns ≡ columns) → IsFiner pieces columns new_pieces new_columns
+finer_divide (Ok x) pieces columns new_pieces new_columns at cell d e f = divided_finer pieces columns new_pieces new_columns at cell d
+finer_divide (Err x) pieces columns new_pieces new_columns at cell d e f = subst (λ (ps : List (Piece ℕ)). IsFiner pieces columns ps new_columns) (sym e) (subst (λ (xs : List Column). IsFiner pieces columns pieces xs) (sym f) (finer_same pieces columns))
+
+pub ok_divides : {E : Type 0} (r : Result (Unit {0}) E) (pieces : List (Piece ℕ)) (columns : List Column) (new_pieces : List (Piece ℕ)) (new_columns : List Column) (at cell : ℕ) → AreStretches pieces columns → OnOk r (IsDividedAt pieces columns new_pieces new_columns at cell)
+    → OnOk r (IsDivided new_columns cell)
+ok_divides (Ok x) pieces columns new_pieces new_columns at cell s d = divided_here pieces columns new_pieces new_columns at cell d s
+ok_divides (Err x) pieces columns new_pieces new_columns at cell s d = tt
+
+pub covered_finer : (whole : Column) (pieces : List (Piece ℕ)) (columns : List Column) (new_pieces : List (Piece ℕ)) (new_columns : List Column) → whole.lo ≡ 0 → whole.hi ≡ 1048576 → whole.asked ≡ false → whole.frames.items ≡ root ∷ [] → whole.marks.items ≡ unmarked ∷ []
+    → columns ≡ [] → new_columns ≡ whole ∷ [] → Assigns 0 1048576 (Some 0) pieces new_pieces → AreStretches pieces columns → IsFiner pieces columns new_pieces new_columns
+covered_finer whole pieces columns new_pieces new_columns lo hi asked frames marks none is map old =
+    subst (λ (xs : List Column). IsFiner pieces xs new_pieces new_columns) (sym none) (subst (λ (xs : List Column). IsFiner pieces [] new_pieces xs) (sym is)
+    (cover_finer whole new_pieces lo hi asked frames marks pieces map (subst (λ (xs : List Column). AreStretches pieces xs) none old)))

@@ -83,7 +83,7 @@ le_true a b h = grind (arith, nat_tests)
 lt_true : (a b : ℕ) → a < b → nat_lt a b ≡ true
 lt_true a b h = grind (arith, nat_tests)
 
-none_in : (x : Bool) (lo : ℕ) (y : Bool) (a : Column) → x ≡ (x || (y && begins_in lo lo a))
+pub none_in : (x : Bool) (lo : ℕ) (y : Bool) (a : Column) → x ≡ (x || (y && begins_in lo lo a))
 none_in x lo y a = go (compared a.lo lo)
   where
     outside : begins_in lo lo a ≡ false → x ≡ (x || (y && begins_in lo lo a))

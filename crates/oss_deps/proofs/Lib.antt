@@ -11,3 +11,4 @@ pub mod StretchLemmas
 pub mod AskLemmas
 pub mod GiveLemmas
 pub mod DivideLemmas
+pub mod RoomLemmas

@@ -1,3 +1,8 @@
+ghost use Rattle.std.specs.Prelude.{◌≡◌, ◌≤◌, ◌<◌, [], OnOk};
+ghost use Rattle.oss_syntax.specs.declared.access.Access.{Access as Meant};
+ghost use Rattle.oss_model.specs.Order.{IsIn};
+ghost use Rattle.oss_deps.specs.Columns.{AreStretches, HaveRoom, IsDivided, IsFiner, IsReady};
+
 use crate::column::Column;
 use crate::splitting::split;
 use oss_ranges::RangeMap;
@@ -10,9 +15,16 @@ pub(crate) fn split_around(
     map: &mut RangeMap<usize>,
     columns: &mut Vec<Column>,
     range: Range,
-) -> Result<(), AllocError> {
+) -> Result<(), AllocError>
+    requires stretches { AreStretches map.old.pieces columns.old.items }
+    requires some { columns.old.items ≡ [] → ⊥ }
+    ensures finer { IsFiner map.old.pieces columns.old.items map.new.pieces columns.new.items }
+    ensures begins { OnOk result (IsDivided columns.new.items range.lo) }
+    ensures ends { OnOk result (IsDivided columns.new.items range.hi) }
+{
     split(alloc, map, columns, range.lo)?;
-    split(alloc, map, columns, range.hi)
+    split(alloc, map, columns, range.hi)?;
+    Ok(())
 }
 
 /// Makes room for one more access in each stretch of a range.
@@ -20,15 +32,22 @@ fn make_room(
     map: &RangeMap<usize>,
     columns: &mut Vec<Column>,
     range: Range,
-) -> Result<(), AllocError> {
+) -> Result<(), AllocError>
+    requires stretches { AreStretches map.now.pieces columns.old.items }
+    requires some { columns.old.items ≡ [] → ⊥ }
+    requires begins { IsDivided columns.old.items range.lo }
+    ensures finer { IsFiner map.now.pieces columns.old.items map.now.pieces columns.new.items }
+    ensures room { OnOk result (HaveRoom columns.new.items range.lo range.hi) }
+{
     let mut cell = range.lo;
     'stretches: while cell < range.hi {
         match map.get(cell) {
             Some(at) => {
-                columns[at].reserve()?;
-                cell = columns[at].hi;
+                let column = &mut columns[at];
+                column.reserve()?;
+                cell = column.hi;
             }
-            None => return Ok(()),
+            None => unreachable!(),
         }
     }
     Ok(())
@@ -40,7 +59,12 @@ pub(crate) fn make_ready(
     map: &mut RangeMap<usize>,
     columns: &mut Vec<Column>,
     accesses: &[Access],
-) -> Result<(), AllocError> {
+) -> Result<(), AllocError>
+    requires stretches { AreStretches map.old.pieces columns.old.items }
+    requires some { columns.old.items ≡ [] → ⊥ }
+    ensures finer { IsFiner map.old.pieces columns.old.items map.new.pieces columns.new.items }
+    ensures ready { OnOk result ((a : Meant) → IsIn a accesses.now → IsReady columns.new.items a.range.lo a.range.hi) }
+{
     for access in accesses {
         split_around(alloc, map, columns, access.range)?;
         make_room(map, columns, access.range)?;
