@@ -497,3 +497,6 @@ pub covered_finer : (whole : Column) (pieces : List (Piece ℕ)) (columns : List
 covered_finer whole pieces columns new_pieces new_columns lo hi asked frames marks none is map old =
     subst (λ (xs : List Column). IsFiner pieces xs new_pieces new_columns) (sym none) (subst (λ (xs : List Column). IsFiner pieces [] new_pieces xs) (sym is)
     (cover_finer whole new_pieces lo hi asked frames marks pieces map (subst (λ (xs : List Column). AreStretches pieces xs) none old)))
+
+pub finer_range : (pieces : List (Piece ℕ)) (columns : List Column) (pieces2 : List (Piece ℕ)) (columns2 : List Column) → IsFiner pieces columns pieces2 columns2 → (columns ≡ [] → ⊥) → (lo hi : ℕ) → IsReady columns lo hi → IsReady columns2 lo hi
+finer_range pieces columns pieces2 columns2 f n lo hi r = record { begins = f.divided n lo r.begins; ends = f.divided n hi r.ends; room = f.room n lo hi r.room }

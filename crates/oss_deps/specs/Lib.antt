@@ -5,3 +5,4 @@ pub mod Places
 pub mod Wants
 pub mod Columns
 pub mod Met
+pub mod Adding

@@ -4,6 +4,7 @@
 mod asking;
 mod closing;
 mod column;
+mod cutting;
 mod deps;
 mod frame;
 mod giving;

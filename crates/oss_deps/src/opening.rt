@@ -1,11 +1,27 @@
+ghost use Rattle.std.specs.Prelude.{◌≡◌, ◌≤◌, ◌<◌, ◌||◌, ◌&&◌, ◌==◌, [], ℕ, Bool, false, take};
+ghost use Rattle.oss_syntax.specs.declared.access.Access.{Access as Meant};
+ghost use Rattle.oss_model.specs.Order.{IsIn};
+ghost use Rattle.oss_deps.specs.Opens.{IsRising};
+ghost use Rattle.oss_deps.specs.Adding.{AreAddable, AreAllGrown, AreGrownTo, IsAddable, IsGrown};
+
 use crate::column::Column;
 use crate::growing::add;
 use crate::lookups::place_of;
-use crate::splitting::CELLS;
 use oss_ranges::RangeMap;
-use oss_syntax::{Access, Range};
+use oss_syntax::{Access, Mode};
 
-/// Adds an access of the task with a number to each stretch of its range, below those of its creator, which has another number.
+/// Adds an access of the task with a number to a stretch, below that of its creator with another number.
+fn add_in(column: &mut Column, number: usize, task: u64, parent: usize, mode: Mode)
+    requires { IsAddable parent column.old }
+    ensures { IsGrown number task parent mode column.old column.new }
+{
+    match place_of(column.frames.as_slice(), parent) {
+        Some(up) => add(column, number, task, up, mode),
+        None => unreachable!(),
+    }
+}
+
+/// Adds an access of the task with a number to each stretch of its range.
 fn add_over(
     map: &RangeMap<usize>,
     columns: &mut Vec<Column>,
@@ -13,16 +29,16 @@ fn add_over(
     task: u64,
     parent: usize,
     access: Access,
-) {
+)
+    requires { AreAddable map.now.pieces columns.old.items parent access.range.lo access.range.hi }
+    ensures { AreGrownTo number task parent access.mode access.range.lo access.range.hi columns.old.items columns.new.items }
+{
     let mut cell = access.range.lo;
     'stretches: while cell < access.range.hi {
         match map.get(cell) {
             Some(at) => {
                 let column = &mut columns[at];
-                match place_of(column.frames.as_slice(), parent) {
-                    Some(up) => add(column, number, task, up, access.mode),
-                    None => unreachable!(),
-                }
+                add_in(column, number, task, parent, access.mode);
                 cell = column.hi;
             }
             None => unreachable!(),
@@ -38,43 +54,12 @@ pub(crate) fn add_all(
     task: u64,
     parent: usize,
     accesses: &[Access],
-) {
+)
+    requires rising { IsRising accesses.now }
+    requires addable { (a : Meant) → IsIn a accesses.now → AreAddable map.now.pieces columns.old.items parent a.range.lo a.range.hi }
+    ensures { AreAllGrown number task parent accesses.now columns.old.items columns.new.items }
+{
     for access in accesses {
         add_over(map, columns, number, task, parent, *access);
-    }
-}
-
-/// The cell becomes a cut.
-fn ask(map: &RangeMap<usize>, columns: &mut Vec<Column>, ended: &mut bool, cell: u32) {
-    if cell >= CELLS {
-        *ended = true;
-        return;
-    }
-    match map.get(cell) {
-        Some(at) => columns[at].asked = true,
-        None => unreachable!(),
-    }
-}
-
-/// The ends of a range become cuts.
-pub(crate) fn ask_ends(
-    map: &RangeMap<usize>,
-    columns: &mut Vec<Column>,
-    ended: &mut bool,
-    range: Range,
-) {
-    ask(map, columns, ended, range.lo);
-    ask(map, columns, ended, range.hi);
-}
-
-/// The ends of accesses become cuts.
-pub(crate) fn ask_all(
-    map: &RangeMap<usize>,
-    columns: &mut Vec<Column>,
-    ended: &mut bool,
-    accesses: &[Access],
-) {
-    for access in accesses {
-        ask_ends(map, columns, ended, access.range);
     }
 }
