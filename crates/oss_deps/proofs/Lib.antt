@@ -12,3 +12,4 @@ pub mod AskLemmas
 pub mod GiveLemmas
 pub mod DivideLemmas
 pub mod RoomLemmas
+pub mod AddLemmas
