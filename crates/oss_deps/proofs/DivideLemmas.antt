@@ -39,10 +39,10 @@ finer_ready pieces columns pieces2 columns2 f (Some accesses) r = (f.some r.0, �
 
 asked_in : (columns : List Column) (k : ℕ) → is_asked columns k ≡ true → (i : ℕ) × (a : Column) × (slice_get columns i ≡ Some a) × (a.lo ≡ k)
 asked_in [] k h = absurd cc
-asked_in (a ∷ rest) k h = go (or_cases (a.asked && (a.lo == k)) (is_asked rest k) h) (asked_in rest k)
+asked_in (a ∷ rest) k h = go (or_cases (a.asked && (k == a.lo)) (is_asked rest k) h) (asked_in rest k)
   where
-    go : ((a.asked && (a.lo == k)) ≡ true) ⊎ (is_asked rest k ≡ true) → (is_asked rest k ≡ true → (i : ℕ) × (b : Column) × (slice_get rest i ≡ Some b) × (b.lo ≡ k)) → (i : ℕ) × (b : Column) × (slice_get (a ∷ rest) i ≡ Some b) × (b.lo ≡ k)
-    go (inl e) again = (0, a, refl, eqb-true a.lo k (both a.asked (a.lo == k) e).1)
+    go : ((a.asked && (k == a.lo)) ≡ true) ⊎ (is_asked rest k ≡ true) → (is_asked rest k ≡ true → (i : ℕ) × (b : Column) × (slice_get rest i ≡ Some b) × (b.lo ≡ k)) → (i : ℕ) × (b : Column) × (slice_get (a ∷ rest) i ≡ Some b) × (b.lo ≡ k)
+    go (inl e) again = (0, a, refl, sym (eqb-true k a.lo (both a.asked (k == a.lo) e).1))
     go (inr e) again = let r = again e in (suc r.0, r.1, r.2, r.3)
 
 -- no stretch goes on over a cut

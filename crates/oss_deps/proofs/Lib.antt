@@ -13,3 +13,4 @@ pub mod GiveLemmas
 pub mod DivideLemmas
 pub mod RoomLemmas
 pub mod AddLemmas
+pub mod CutLemmas

@@ -148,3 +148,8 @@ pub record IsDividedAt (pieces : List (Piece ℕ)) (columns : List Column) (new_
 -- Main's access, which each list has.
 abbrev pub root : Frame
 root = record { number = 0; task = 0; up = 0; mode = Write; last = None; next = None }
+
+-- At most, the begins of stretches have become cuts.
+pub record AreSameButAsked (old new : List Column) : Type 0 where
+  pub size : length new ≡ length old
+  pub each : (i : ℕ) (a : Column) → slice_get old i ≡ Some a → (b : Column) × (slice_get new i ≡ Some b) × (b ≡ record a { asked = b.asked })

@@ -42,7 +42,7 @@ given_at pieces columns t c = given_in (column_at pieces columns c) t
 -- A stretch begins at the cell whose begin was asked for.
 abbrev pub is_asked : List Column → ℕ → Bool
 is_asked [] k = false
-is_asked (column ∷ rest) k = (column.asked && (column.lo == k)) || is_asked rest k
+is_asked (column ∷ rest) k = (column.asked && (k == column.lo)) || is_asked rest k
 
 -- The cell is a cut.
 abbrev pub is_cut : List Column → Bool → ℕ → Bool
