@@ -14,3 +14,4 @@ pub mod DivideLemmas
 pub mod RoomLemmas
 pub mod AddLemmas
 pub mod CutLemmas
+pub mod NewLemmas
