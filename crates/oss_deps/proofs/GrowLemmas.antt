@@ -180,7 +180,7 @@ module _ (old new : List Frame) (up : ℕ) (last : Option ℕ) (added : Frame) (
             go j (inr (d, t)) = omega (arith, d, e)
 
   -- the tasks stay at their places
-  task_kept : (k t : ℕ) → IsTaskAt old k t → IsTaskAt new k t
+  pub task_kept : (k t : ℕ) → IsTaskAt old k t → IsTaskAt new k t
   task_kept k t a = (a.0, λ some. let f = a.1 some in let r = grown.frame k f.0 f.1 in (r.frame, r.is, r.task ∙ f.2))
 
   module _ (marks more : List Mark) (marked : AreMarked old marks None) (marks_grown : AreMarksGrown marks more up) (held : given_mark (slice_get marks up) ≡ false) where

@@ -15,3 +15,4 @@ pub mod RoomLemmas
 pub mod AddLemmas
 pub mod CutLemmas
 pub mod NewLemmas
+pub mod SameLemmas

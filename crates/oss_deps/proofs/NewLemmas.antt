@@ -71,11 +71,11 @@ rising_rest a (b ∷ rest) r = r.1
 
 all_later : (a : Access) (rest : List Access) → IsRising (a ∷ rest) → (x : Access) → IsIn x rest → a.range.hi ≤ x.range.lo
 all_later a [] r x i = elim i [ ]
-all_later a (b ∷ rest) r x i = go (first_of i)
+all_later a (b ∷ rest) r x i = go (first_of i) (λ j. all_later b rest r.1 x j)
   where
-    go : (x ≡ b) ⊎ IsIn x rest → a.range.hi ≤ x.range.lo
-    go (inl e) = omega (arith, r.0, ap (λ (z : Access). z.range.lo) e)
-    go (inr j) = omega (arith, r.0, b.range.ordered, all_later b rest r.1 x j)
+    go : (x ≡ b) ⊎ IsIn x rest → (IsIn x rest → b.range.hi ≤ x.range.lo) → a.range.hi ≤ x.range.lo
+    go (inl e) again = omega (arith, r.0, ap (λ (z : Access). z.range.lo) e)
+    go (inr j) again = omega (arith, r.0, b.range.ordered, again j)
 
 pub rising_once : (accesses : List Access) → IsRising accesses → IsOnce accesses
 rising_once [] r a c i h = elim i [ ]
