@@ -16,3 +16,4 @@ pub mod AddLemmas
 pub mod CutLemmas
 pub mod NewLemmas
 pub mod SameLemmas
+pub mod PlainLemmas
