@@ -13,7 +13,7 @@ use Rattle.oss_deps.specs.Seen.{Seen, CanOpen, HasHeldCover, IsSame, Opens, Prep
 use Rattle.oss_deps.specs.Kept.{Kept, given_at, is_asked, is_cut, seen_of}
 use Rattle.oss_deps.specs.Columns.{IsNumberOf, AreStretches, AreColumns, AreReady, IsReady, IsFiner, AreRight, AreSameButAsked}
 use Rattle.oss_deps.specs.Adding.{AreAddable, AreAllGrown}
-use Rattle.oss_deps.proofs.Basics.{some_none}
+use Rattle.oss_deps.proofs.Basics.{some_is}
 use Rattle.oss_deps.proofs.DivideLemmas.{finer_ready, cut_divides}
 use Rattle.oss_deps.proofs.CutLemmas.{asked_columns, asked_given}
 use Rattle.oss_deps.proofs.AddLemmas.{all_edged, edged_asked}
@@ -104,6 +104,13 @@ module _ (view seen : Kept) (is : view ≡ seen) (capacity : ℕ) (right : AreRi
     cuts = λ k. cuts k ∙ ap (λ (x : Bool). x || is_end range k) (cut_same view.columns middle view.ended k (f.asked k) ∙ same_cut k);
     reserved = h;
   }
+
+  -- the reserved accesses are the ones that were asked for
+  pub kept_is : (kept accesses : List Access) → view.reserved ≡ Some kept → seen.reserved ≡ Some accesses → kept ≡ accesses
+  kept_is kept accesses e f = some_is (sym e ∙ ap (λ (k : Kept). k.reserved) is ∙ f)
+
+  pub can_kept : (task parent : ℕ) (kept accesses : List Access) → view.reserved ≡ Some kept → seen.reserved ≡ Some accesses → CanOpen (seen_of seen) (record { task = task; parent = parent; accesses = accesses }) → CanOpen (seen_of seen) (record { task = task; parent = parent; accesses = kept })
+  can_kept task parent kept accesses e f can = subst (λ (xs : List Access). CanOpen (seen_of seen) (record { task = task; parent = parent; accesses = xs })) (sym (kept_is kept accesses e f)) can
 
   -- a task that may be opened, by the lists
   pub can_view : (o : Open) → CanOpen (seen_of seen) o → CanOpen (seen_of view) o

@@ -1,3 +1,8 @@
+ghost use Rattle.std.specs.Prelude.{◌≡◌, IsOk, List as Accesses, OnErr, OnOk, Some};
+ghost use Rattle.oss_syntax.specs.declared.access.Access.{Access as Meant};
+ghost use Rattle.oss_deps.specs.Seen.{CanOpen, IsNew, IsSame, Opens, Reserves};
+ghost use Rattle.oss_deps.specs.Kept.{seen_of};
+
 use crate::column::Column;
 use crate::deps::Deps;
 use crate::giving::give_over;
@@ -40,7 +45,9 @@ impl Model for PlainDeps {
 
 impl PlainDeps {
     /// No task is opened. It takes no memory.
-    pub fn new(alloc: Global) -> PlainDeps {
+    pub fn new(alloc: Global) -> PlainDeps
+        ensures { IsNew (seen_of result) }
+    {
         PlainDeps {
             alloc,
             opens: Vec::new(alloc),
@@ -49,6 +56,55 @@ impl PlainDeps {
             ended: false,
             reserved: None,
         }
+    }
+}
+
+impl PlainDeps {
+    /// Reserves these accesses, where they are not the reserved ones.
+    fn make_reserved(&mut self, accesses: &List<Access>) -> Result<(), AllocError>
+        ensures ok { OnOk result (Reserves accesses.now (seen_of self.old) (seen_of self.new)) }
+        ensures err { OnErr result (IsSame (seen_of self.old) (seen_of self.new)) }
+        ensures sure { self.old.reserved ≡ Some accesses.now → IsOk result }
+    {
+        if is_reserved(&self.reserved, accesses) {
+            return Ok(());
+        }
+        self.reserve(accesses)
+    }
+
+    /// Opens a task with the reserved accesses.
+    fn open_reserved(&mut self, task: u64, parent: u64)
+        requires { (accesses : Accesses Meant) × (self.old.reserved ≡ Some accesses) × CanOpen (seen_of self.old) (record { task = task; parent = parent; accesses = accesses }) }
+        ensures { (accesses : Accesses Meant) → self.old.reserved ≡ Some accesses → Opens (record { task = task; parent = parent; accesses = accesses }) (seen_of self.old) (seen_of self.new) }
+    {
+        let creator = match number_of(self.opens.as_slice(), parent) {
+            Some(creator) => creator,
+            None => unreachable!(),
+        };
+        let number = self.opens.len() + 1;
+        let kept = match self.reserved.take() {
+            Some(kept) => kept,
+            None => unreachable!(),
+        };
+        add_all(
+            &self.map,
+            &mut self.columns,
+            number,
+            task,
+            creator,
+            kept.as_slice(),
+        );
+        ask_all(
+            &self.map,
+            &mut self.columns,
+            &mut self.ended,
+            kept.as_slice(),
+        );
+        self.opens.push_reserved(Open {
+            task,
+            parent,
+            accesses: kept,
+        });
     }
 }
 
@@ -71,38 +127,9 @@ impl Deps for PlainDeps {
     }
 
     fn open(&mut self, task: u64, parent: u64, accesses: &List<Access>) -> Result<(), AllocError> {
-        if !is_reserved(&self.reserved, accesses) {
-            self.reserve(accesses)?;
-        }
-        let number = self.opens.len() + 1;
-        match (
-            self.reserved.take(),
-            number_of(self.opens.as_slice(), parent),
-        ) {
-            (Some(kept), Some(creator)) => {
-                add_all(
-                    &self.map,
-                    &mut self.columns,
-                    number,
-                    task,
-                    creator,
-                    kept.as_slice(),
-                );
-                ask_all(
-                    &self.map,
-                    &mut self.columns,
-                    &mut self.ended,
-                    kept.as_slice(),
-                );
-                self.opens.push_reserved(Open {
-                    task,
-                    parent,
-                    accesses: kept,
-                });
-                Ok(())
-            }
-            _ => unreachable!(),
-        }
+        self.make_reserved(accesses)?;
+        self.open_reserved(task, parent);
+        Ok(())
     }
 
     fn prepare(&mut self, range: Range) -> Result<(), AllocError> {
