@@ -8,7 +8,7 @@ use Rattle.oss_ranges.specs.declared.piece.Piece.{Piece}
 use Rattle.oss_ranges.specs.Cells.{value_at}
 use Rattle.oss_deps.specs.declared.opened.Open.{Open}
 use Rattle.oss_deps.specs.declared.column.Column.{Column}
-use Rattle.oss_deps.specs.Opens.{AreOpens, HasCover, IsKnown, names}
+use Rattle.oss_deps.specs.Opens.{AreOpens, HasCover, IsKnown, IsNested, IsOpened, names}
 use Rattle.oss_deps.specs.Seen.{Seen, CanOpen, HasHeldCover, IsSame, Opens, Prepares, Reserves, is_access_end, is_end}
 use Rattle.oss_deps.specs.Kept.{Kept, given_at, is_asked, is_cut, seen_of}
 use Rattle.oss_deps.specs.Columns.{IsNumberOf, AreStretches, AreColumns, AreReady, IsReady, IsFiner, AreRight, AreSameButAsked}
@@ -155,3 +155,27 @@ module _ (view seen : Kept) (is : view ≡ seen) (capacity : ℕ) (right : AreRi
         cuts = λ k. cuts k ∙ ap (λ (x : Bool). x || is_access_end o.accesses k) (cut_same view.columns middle view.ended k (edged_asked view.columns middle (all_edged n o.task parent o.accesses view.columns middle grown) k) ∙ same_cut k);
         reserved = h;
       }
+
+-- A task may be opened as before, when accesses are reserved,
+pub can_reserved : (accesses : List Access) (old middle : Seen) (o : Open) → Reserves accesses old middle → CanOpen old o → CanOpen middle o
+can_reserved accesses old middle o r can = record {
+  not_main = can.not_main;
+  fresh = subst (λ (xs : List Open). IsOpened xs o.task → ⊥) (sym r.opens) can.fresh;
+  parent = subst (λ (xs : List Open). IsKnown xs o.parent) (sym r.opens) can.parent;
+  shallow = (can.shallow.0, subst (λ (xs : List Open). IsNested xs o.parent can.shallow.0) (sym r.opens) can.shallow.1, can.shallow.2);
+  rising = can.rising;
+  covered = λ c named. go c (can.covered c named);
+}
+  where
+    go : (c : ℕ) → (o.parent ≡ 0) ⊎ HasHeldCover old c o → (o.parent ≡ 0) ⊎ HasHeldCover middle c o
+    go c (inl z) = inl z
+    go c (inr h) = inr (record { cover = subst (λ (xs : List Open). HasCover xs c o) (sym r.opens) h.cover; held = r.given o.parent c ∙ h.held })
+
+-- and what opening it does is the same.
+pub opens_reserved : (accesses : List Access) (old middle new : Seen) (o : Open) → Reserves accesses old middle → Opens o middle new → Opens o old new
+opens_reserved accesses old middle new o r f = record {
+  opens = f.opens ∙ ap (λ (xs : List Open). xs ++ o ∷ []) r.opens;
+  given = λ t c. f.given t c ∙ r.given t c;
+  cuts = λ k. f.cuts k ∙ ap (λ (x : Bool). x || is_access_end o.accesses k) (r.cuts k);
+  reserved = f.reserved;
+}
