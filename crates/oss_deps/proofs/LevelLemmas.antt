@@ -125,6 +125,7 @@ module _ (frames : List Frame) (marks : List Mark) (linked : AreLinked frames) (
       go : IsAhead frames marks u v ⊎ (closed_at marks u ≡ true) → Done u
       go (inl a) = is_done u (clear u a)
       go (inr h) = is_done u h
+
   read_sound : (v : ℕ) → IsLevelClear frames marks ToRead v → (u : ℕ) → IsSibling frames u v → (IsRead (mode_at_place frames u) → ⊥) → Done u
   read_sound v clear u s = go (ahead_or_closed u v s)
     where
@@ -135,6 +136,7 @@ module _ (frames : List Frame) (marks : List Mark) (linked : AreLinked frames) (
       go : IsAhead frames marks u v ⊎ (closed_at marks u ≡ true) → (IsRead (mode_at_place frames u) → ⊥) → Done u
       go (inl a) n = passed (or_cases (closed_at marks u) (is_read (mode_at_place frames u)) (clear u a)) n
       go (inr h) n = is_done u h
+
   join_sound : (op : Op) (v : ℕ) → IsLevelClear frames marks (ToJoin op) v → (u : ℕ) → IsSibling frames u v → InRun (place_forest frames marks) op u v ⊎ Done u
   join_sound op v clear u s = go (ahead_or_closed u v s)
     where

@@ -44,7 +44,11 @@ fn pass(frames: &[Frame], marks: &mut [Mark], done: usize) -> Option<usize>
     }
     let next = next_open(frames, marks, done);
     marks[up].first = next;
-    if marks[up].is_closed() { Some(up) } else { None }
+    if marks[up].is_closed() {
+        Some(up)
+    } else {
+        None
+    }
 }
 
 /// The cells of the access at a place are given up.
@@ -56,7 +60,11 @@ pub(crate) fn give_at(frames: &[Frame], marks: &mut [Mark], at: usize)
     ensures given { (f : Link) (t : ℕ) → slice_get frames.now at ≡ Some f → given_by frames.now marks.new t ≡ (given_by frames.now marks.old t || (f.task == t)) }
 {
     marks[at].given = true;
-    let mut done = if marks[at].is_closed() { Some(at) } else { None };
+    let mut done = if marks[at].is_closed() {
+        Some(at)
+    } else {
+        None
+    };
     'levels: while let Some(one) = done {
         done = pass(frames, marks, one);
     }

@@ -13,12 +13,9 @@ mod lookups;
 mod opened;
 mod opening;
 mod plain;
-pub mod probe;
 mod reserved;
 mod reserving;
 mod splitting;
-#[cfg(test)]
-mod tests;
 mod walking;
 mod want;
 

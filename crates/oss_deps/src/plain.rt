@@ -4,11 +4,11 @@ ghost use Rattle.oss_deps.specs.Seen.{CanOpen, IsNew, IsSame, Opens, Reserves};
 ghost use Rattle.oss_deps.specs.Kept.{seen_of};
 
 use crate::column::Column;
+use crate::cutting::{ask_all, ask_ends};
 use crate::deps::Deps;
 use crate::giving::give_over;
 use crate::lookups::number_of;
 use crate::opened::Open;
-use crate::cutting::{ask_all, ask_ends};
 use crate::opening::add_all;
 use crate::reserved::{copied, is_reserved};
 use crate::reserving::{make_ready, split_around};
@@ -35,7 +35,6 @@ impl Model for PlainDeps {
     ghost Value = { Kept };
 
     ghost use Rattle.oss_deps.specs.Columns.{AreRight};
-
     ghost use Rattle.std.specs.Prelude.{vec_capacity};
 
     ghost view = { λ d. record { opens = d.opens.items; pieces = d.map.pieces; columns = d.columns.items; ended = d.ended; reserved = d.reserved } };

@@ -14,8 +14,11 @@ is_access_met-requires c =
     (subst (λ (xs : List Access). IsIn c.access-item.result xs) (c.as_slice-access-items.ensures ∙ ap (λ (x : Open). x.accesses) (entry_of (record { opens = c.self.inside.opens.items; pieces = c.self.inside.map.pieces; columns = c.self.inside.columns.items; ended = c.self.inside.ended; reserved = c.self.inside.reserved }) c.args.self.now c.self.view_is c.args.number c.requires.0 c.index.result.now c.requires.1 c.index.ensures)) (item_in c.as_slice-access-items.result.now c.loop-access.access-index c.access-item.result c.loop-access-test.true c.access-item.is))
 
 pub returns-then-not-is_access_met : goal.returns-then-not-is_access_met
-returns-then-not-is_access_met c = λ o number. (λ e. absurd cc, λ f.
-    let k = (c.is_access_met.ensures o number).1 (f c.access-item.result (subst (λ (xs : List Access). IsIn c.access-item.result xs) (c.as_slice-access-items.ensures ∙ ap (λ (x : Open). x.accesses) (entry_of (record { opens = c.self.inside.opens.items; pieces = c.self.inside.map.pieces; columns = c.self.inside.columns.items; ended = c.self.inside.ended; reserved = c.self.inside.reserved }) c.args.self.now c.self.view_is c.args.number o c.index.result.now number c.index.ensures)) (item_in c.as_slice-access-items.result.now c.loop-access.access-index c.access-item.result c.loop-access-test.true c.access-item.is))) in absurd cc)
+returns-then-not-is_access_met c = λ o number. (
+  λ e. absurd cc,
+  λ f.
+      let k = (c.is_access_met.ensures o number).1 (f c.access-item.result (subst (λ (xs : List Access). IsIn c.access-item.result xs) (c.as_slice-access-items.ensures ∙ ap (λ (x : Open). x.accesses) (entry_of (record { opens = c.self.inside.opens.items; pieces = c.self.inside.map.pieces; columns = c.self.inside.columns.items; ended = c.self.inside.ended; reserved = c.self.inside.reserved }) c.args.self.now c.self.view_is c.args.number o c.index.result.now number c.index.ensures)) (item_in c.as_slice-access-items.result.now c.loop-access.access-index c.access-item.result c.loop-access-test.true c.access-item.is))) in absurd cc,
+)
 
 pub loop-access-preserved : goal.loop-access-preserved
 loop-access-preserved c = λ o number a i. go o number a (c.loop-access.invariant o number a i)
