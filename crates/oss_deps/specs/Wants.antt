@@ -1,0 +1,57 @@
+-- What an access waits for, and which accesses of earlier siblings it passes.
+use Rattle.std.specs.Prelude.{◌≡◌, ℕ, ◌≤◌, ◌||◌, ◌⊎◌, Bool, true, false, if◌then◌else◌, List, slice_get, Option, Some, None}
+use Rattle.oss_syntax.specs.declared.access.Mode.{Mode}
+use Rattle.oss_syntax.specs.declared.access.Op.{Op}
+use Rattle.oss_syntax.specs.declared.access.Mode.TheVariants.{Read, Write, Fold}
+use Rattle.oss_model.specs.Rights.{op_eq}
+use Rattle.oss_model.specs.Forest.{Forest, IsDone, IsRead, IsWriteSatisfied, IsReadSatisfied, IsJoinSatisfied, InRun}
+use Rattle.oss_deps.specs.declared.frame.Frame.{Frame}
+use Rattle.oss_deps.specs.declared.frame.Mark.{Mark}
+use Rattle.oss_deps.specs.declared.want.Want.{Want}
+use Rattle.oss_deps.specs.declared.want.Want.TheVariants.{ToWrite, ToRead, ToJoin}
+use Rattle.oss_deps.specs.Places.{IsSibling, closed_at, first_at, mode_at_place}
+
+-- The access is a reduction by this operator.
+abbrev pub is_fold_of : Op → Mode → Bool
+is_fold_of op (Fold other) = op_eq op other
+is_fold_of op _ = false
+
+abbrev pub is_read : Mode → Bool
+is_read Read = true
+is_read Write = false
+is_read (Fold op) = false
+
+-- An access of this mode that is the first one not done, or stands behind that, does not stand in the way.
+abbrev pub may_pass : Want → Mode → Bool → Bool
+may_pass ToWrite m closed = closed
+may_pass ToRead m closed = closed || is_read m
+may_pass (ToJoin op) m closed = is_fold_of op m
+
+-- What is wanted of the level above, where the access there has this mode.
+abbrev pub want_above : Want → Mode → Want
+want_above ToWrite m = ToWrite
+want_above ToRead m = ToRead
+want_above (ToJoin op) m = if is_fold_of op m then ToJoin op else ToWrite
+
+-- What is wanted has come.
+abbrev pub IsSatisfied : {K : Type 0} → Forest K → Want → K → Type 0
+IsSatisfied F ToWrite v = IsWriteSatisfied F v
+IsSatisfied F ToRead v = IsReadSatisfied F v
+IsSatisfied F (ToJoin op) v = IsJoinSatisfied F op v
+
+-- Where a join is wanted, the access is a reduction by its operator.
+abbrev pub Fits : List Frame → Want → ℕ → Type 0
+Fits frames ToWrite v = Unit {0}
+Fits frames ToRead v = Unit {0}
+Fits frames (ToJoin op) v = mode_at_place frames v ≡ Fold op
+
+-- An earlier sibling's access that is the first one not done, or stands behind that.
+pub record IsAhead (frames : List Frame) (marks : List Mark) (u v : ℕ) : Type 0 where
+  pub sibling : IsSibling frames u v
+  pub first : ℕ
+  pub first_is : first_at marks sibling.creator ≡ Some first
+  pub behind : first ≤ u
+
+-- None of these stands in the way.
+abbrev pub IsLevelClear : List Frame → List Mark → Want → ℕ → Type 0
+IsLevelClear frames marks want v = (u : ℕ) → IsAhead frames marks u v → may_pass want (mode_at_place frames u) (closed_at marks u) ≡ true

@@ -1,0 +1,40 @@
+ghost use Rattle.std.specs.Prelude.{◌≡◌, ◌↔◌, IsTrue, None};
+ghost use Rattle.oss_deps.specs.Places.{is_closed};
+
+use oss_syntax::Mode;
+
+/// What stands fast of an access to a stretch of cells, and its links in the list of such accesses: where that of the creator
+/// stands, the newest one of a child, and the next one of a sibling.
+#[derive(Clone, Copy, Debug)]
+pub(crate) struct Frame {
+    /// The number of tasks that were opened up to this one.
+    pub(crate) number: usize,
+    pub(crate) task: u64,
+    pub(crate) up: usize,
+    pub(crate) mode: Mode,
+    pub(crate) last: Option<usize>,
+    pub(crate) next: Option<usize>,
+}
+
+/// How far an access has come: whether its task has given up the cells, and the first one of a child that is not done.
+#[derive(Clone, Copy, Debug)]
+pub(crate) struct Mark {
+    pub(crate) given: bool,
+    pub(crate) first: Option<usize>,
+}
+
+impl Mark {
+    /// Whether the access is done: its cells are given up, and no child has one that is not done.
+    pub(crate) fn is_closed(self) -> bool
+        ensures { result ≡ is_closed self }
+    {
+        self.given && self.first.is_none()
+    }
+
+    /// Whether no child has an access that is not done.
+    pub(crate) fn has_no_open(self) -> bool
+        ensures { IsTrue result ↔ (self.first ≡ None) }
+    {
+        self.first.is_none()
+    }
+}

@@ -1,0 +1,178 @@
+ghost use Rattle.std.specs.Prelude.{◌≡◌, IsOk, List as Accesses, OnErr, OnOk, Some};
+ghost use Rattle.oss_syntax.specs.declared.access.Access.{Access as Meant};
+ghost use Rattle.oss_deps.specs.Seen.{CanOpen, IsNew, IsSame, Opens, Reserves};
+ghost use Rattle.oss_deps.specs.Kept.{seen_of};
+
+use crate::column::Column;
+use crate::cutting::{ask_all, ask_ends};
+use crate::deps::Deps;
+use crate::giving::give_over;
+use crate::lookups::number_of;
+use crate::opened::Open;
+use crate::opening::add_all;
+use crate::reserved::{copied, is_reserved};
+use crate::reserving::{make_ready, split_around};
+use crate::splitting::cover;
+use oss_ranges::RangeMap;
+use oss_syntax::{Access, List, Range};
+use std::alloc::{AllocError, Global};
+use std::marker::Model;
+
+/// The lists themselves, one for each stretch of cells that no cut divides.
+#[derive(Drop)]
+pub struct PlainDeps {
+    pub(crate) alloc: Global,
+    pub(crate) opens: Vec<Open>,
+    pub(crate) map: RangeMap<usize>,
+    pub(crate) columns: Vec<Column>,
+    pub(crate) ended: bool,
+    pub(crate) reserved: Option<List<Access>>,
+}
+
+impl Model for PlainDeps {
+    ghost use Rattle.oss_deps.specs.Kept.{Kept};
+
+    ghost Value = { Kept };
+
+    ghost use Rattle.oss_deps.specs.Columns.{AreRight};
+    ghost use Rattle.std.specs.Prelude.{vec_capacity};
+
+    ghost view = { λ d. record { opens = d.opens.items; pieces = d.map.pieces; columns = d.columns.items; ended = d.ended; reserved = d.reserved } };
+
+    ghost invariant = { λ d. AreRight d.opens.items (vec_capacity d.opens) d.map.pieces d.columns.items d.reserved };
+}
+
+impl PlainDeps {
+    /// No task is opened. It takes no memory.
+    pub fn new(alloc: Global) -> PlainDeps
+        ensures { IsNew (seen_of result) }
+    {
+        PlainDeps {
+            alloc,
+            opens: Vec::new(alloc),
+            map: RangeMap::new(alloc),
+            columns: Vec::new(alloc),
+            ended: false,
+            reserved: None,
+        }
+    }
+}
+
+impl PlainDeps {
+    /// Reserves these accesses, where they are not the reserved ones.
+    fn make_reserved(&mut self, accesses: &List<Access>) -> Result<(), AllocError>
+        ensures ok { OnOk result (Reserves accesses.now (seen_of self.old) (seen_of self.new)) }
+        ensures err { OnErr result (IsSame (seen_of self.old) (seen_of self.new)) }
+        ensures sure { self.old.reserved ≡ Some accesses.now → IsOk result }
+    {
+        if is_reserved(&self.reserved, accesses) {
+            return Ok(());
+        }
+        self.reserve(accesses)
+    }
+
+    /// Opens a task with the reserved accesses.
+    fn open_reserved(&mut self, task: u64, parent: u64)
+        requires { (accesses : Accesses Meant) × (self.old.reserved ≡ Some accesses) × CanOpen (seen_of self.old) (record { task = task; parent = parent; accesses = accesses }) }
+        ensures { (accesses : Accesses Meant) → self.old.reserved ≡ Some accesses → Opens (record { task = task; parent = parent; accesses = accesses }) (seen_of self.old) (seen_of self.new) }
+    {
+        let creator = match number_of(self.opens.as_slice(), parent) {
+            Some(creator) => creator,
+            None => unreachable!(),
+        };
+        let number = self.opens.len() + 1;
+        let kept = match self.reserved.take() {
+            Some(kept) => kept,
+            None => unreachable!(),
+        };
+        add_all(
+            &self.map,
+            &mut self.columns,
+            number,
+            task,
+            creator,
+            kept.as_slice(),
+        );
+        ask_all(
+            &self.map,
+            &mut self.columns,
+            &mut self.ended,
+            kept.as_slice(),
+        );
+        self.opens.push_reserved(Open {
+            task,
+            parent,
+            accesses: kept,
+        });
+    }
+}
+
+impl Deps for PlainDeps {
+    ghost use Rattle.oss_deps.specs.Kept.{seen_of};
+
+    ghost seen = { seen_of };
+
+    fn reserve(&mut self, accesses: &List<Access>) -> Result<(), AllocError> {
+        self.opens.reserve(1)?;
+        cover(self.alloc, &mut self.map, &mut self.columns)?;
+        make_ready(
+            self.alloc,
+            &mut self.map,
+            &mut self.columns,
+            accesses.as_slice(),
+        )?;
+        self.reserved = Some(copied(self.alloc, accesses)?);
+        Ok(())
+    }
+
+    fn open(&mut self, task: u64, parent: u64, accesses: &List<Access>) -> Result<(), AllocError> {
+        self.make_reserved(accesses)?;
+        self.open_reserved(task, parent);
+        Ok(())
+    }
+
+    fn prepare(&mut self, range: Range) -> Result<(), AllocError> {
+        cover(self.alloc, &mut self.map, &mut self.columns)?;
+        split_around(self.alloc, &mut self.map, &mut self.columns, range)?;
+        ask_ends(&self.map, &mut self.columns, &mut self.ended, range);
+        self.reserved = None;
+        Ok(())
+    }
+
+    fn give(&mut self, task: u64, range: Range) {
+        give_over(
+            self.opens.as_slice(),
+            &self.map,
+            &mut self.columns,
+            task,
+            range,
+        )
+    }
+
+    fn met(&mut self, task: u64) -> bool {
+        match number_of(self.opens.as_slice(), task) {
+            Some(number) => {
+                if number == 0 {
+                    true
+                } else {
+                    self.are_accesses_met(number)
+                }
+            }
+            None => unreachable!(),
+        }
+    }
+
+    fn may_join(&mut self, task: u64, cell: u32) -> bool {
+        match number_of(self.opens.as_slice(), task) {
+            Some(number) => self.is_joinable(number, cell),
+            None => unreachable!(),
+        }
+    }
+
+    fn children_done(&mut self, task: u64, range: Range) -> bool {
+        match number_of(self.opens.as_slice(), task) {
+            Some(number) => self.are_done_over(number, range),
+            None => unreachable!(),
+        }
+    }
+}
