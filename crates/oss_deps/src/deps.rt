@@ -5,6 +5,7 @@ ghost use Rattle.oss_model.specs.Forest.{IsJoinSatisfied};
 ghost use Rattle.oss_deps.specs.Opens.{AreChildrenDone, IsFolding, IsKnown, IsMet, mode_in, opened_forest};
 ghost use Rattle.oss_deps.specs.Seen.{CanGive, CanOpen, Gives, IsSame, Opens, Prepares, Reserves};
 
+use oss_model::TaskNo;
 use oss_syntax::{Access, List, Range};
 use std::alloc::AllocError;
 
@@ -25,9 +26,14 @@ pub trait Deps: Drop {
     /// Opens a task behind all others. The ends of its accesses become cuts, and no accesses are reserved any more. Condition: the
     /// task is neither main nor open; its creator is main or open, and nested less than 64 deep; the accesses rise, and are covered
     /// by cells of the creator that it has not given up.
-    fn open(&mut self, task: u64, parent: u64, accesses: &List<Access>) -> Result<(), AllocError>
-        requires { CanOpen (seen self.old) (record { task = task; parent = parent; accesses = accesses.now }) }
-        ensures ok { OnOk result (Opens (record { task = task; parent = parent; accesses = accesses.now }) (seen self.old) (seen self.new)) }
+    fn open(
+        &mut self,
+        task: TaskNo,
+        parent: TaskNo,
+        accesses: &List<Access>,
+    ) -> Result<(), AllocError>
+        requires { CanOpen (seen self.old) (record { task = task.0; parent = parent.0; accesses = accesses.now }) }
+        ensures ok { OnOk result (Opens (record { task = task.0; parent = parent.0; accesses = accesses.now }) (seen self.old) (seen self.new)) }
         ensures err { OnErr result (IsSame (seen self.old) (seen self.new)) }
         ensures sure { (seen self.old).reserved ≡ Some accesses.now → IsOk result };
 
@@ -38,27 +44,27 @@ pub trait Deps: Drop {
 
     /// A task gives up the cells of a range. Condition: they are cells of the task that it has not given up, and both ends of the
     /// range are cuts. It takes no memory.
-    fn give(&mut self, task: u64, range: Range)
-        requires { CanGive task range (seen self.old) }
-        ensures { Gives task range (seen self.old) (seen self.new) };
+    fn give(&mut self, task: TaskNo, range: Range)
+        requires { CanGive task.0 range (seen self.old) }
+        ensures { Gives task.0 range (seen self.old) (seen self.new) };
 
     /// Whether the task may begin, as far as its cells go. Main always may. Condition: the task is main or open. It takes no memory.
-    fn met(&mut self, task: u64) -> bool
-        requires { IsKnown (seen self.old).opens task }
-        ensures met { IsTrue result ↔ IsMet (seen self.old).opens (seen self.old).given task }
+    fn met(&mut self, task: TaskNo) -> bool
+        requires { IsKnown (seen self.old).opens task.0 }
+        ensures met { IsTrue result ↔ IsMet (seen self.old).opens (seen self.old).given task.0 }
         ensures same { IsSame (seen self.old) (seen self.new) };
 
     /// Whether the slot of the task may be joined into the cell. Condition: the task is open, and its access to the cell is a
     /// reduction. It takes no memory.
-    fn may_join(&mut self, task: u64, cell: u32) -> bool
-        requires { IsFolding (seen self.old).opens task cell }
-        ensures join { (op : Operator) → mode_in (seen self.old).opens cell task ≡ Fold op → (IsTrue result ↔ IsJoinSatisfied (opened_forest (seen self.old).opens (seen self.old).given cell) op task) }
+    fn may_join(&mut self, task: TaskNo, cell: u32) -> bool
+        requires { IsFolding (seen self.old).opens task.0 cell }
+        ensures join { (op : Operator) → mode_in (seen self.old).opens cell task.0 ≡ Fold op → (IsTrue result ↔ IsJoinSatisfied (opened_forest (seen self.old).opens (seen self.old).given cell) op task.0) }
         ensures same { IsSame (seen self.old) (seen self.new) };
 
     /// Whether each access of a child of the task to a cell of the range is done. Condition: the task is main or open. It takes no
     /// memory.
-    fn children_done(&mut self, task: u64, range: Range) -> bool
-        requires { IsKnown (seen self.old).opens task }
-        ensures done { IsTrue result ↔ ((c : ℕ) → range.lo ≤ c → c < range.hi → AreChildrenDone (seen self.old).opens (seen self.old).given task c) }
+    fn children_done(&mut self, task: TaskNo, range: Range) -> bool
+        requires { IsKnown (seen self.old).opens task.0 }
+        ensures done { IsTrue result ↔ ((c : ℕ) → range.lo ≤ c → c < range.hi → AreChildrenDone (seen self.old).opens (seen self.old).given task.0 c) }
         ensures same { IsSame (seen self.old) (seen self.new) };
 }

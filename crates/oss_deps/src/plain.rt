@@ -13,6 +13,7 @@ use crate::opening::add_all;
 use crate::reserved::{copied, is_reserved};
 use crate::reserving::{make_ready, split_around};
 use crate::splitting::cover;
+use oss_model::TaskNo;
 use oss_ranges::RangeMap;
 use oss_syntax::{Access, List, Range};
 use std::alloc::{AllocError, Global};
@@ -125,9 +126,14 @@ impl Deps for PlainDeps {
         Ok(())
     }
 
-    fn open(&mut self, task: u64, parent: u64, accesses: &List<Access>) -> Result<(), AllocError> {
+    fn open(
+        &mut self,
+        task: TaskNo,
+        parent: TaskNo,
+        accesses: &List<Access>,
+    ) -> Result<(), AllocError> {
         self.make_reserved(accesses)?;
-        self.open_reserved(task, parent);
+        self.open_reserved(task.0, parent.0);
         Ok(())
     }
 
@@ -139,18 +145,18 @@ impl Deps for PlainDeps {
         Ok(())
     }
 
-    fn give(&mut self, task: u64, range: Range) {
+    fn give(&mut self, task: TaskNo, range: Range) {
         give_over(
             self.opens.as_slice(),
             &self.map,
             &mut self.columns,
-            task,
+            task.0,
             range,
         )
     }
 
-    fn met(&mut self, task: u64) -> bool {
-        match number_of(self.opens.as_slice(), task) {
+    fn met(&mut self, task: TaskNo) -> bool {
+        match number_of(self.opens.as_slice(), task.0) {
             Some(number) => {
                 if number == 0 {
                     true
@@ -162,15 +168,15 @@ impl Deps for PlainDeps {
         }
     }
 
-    fn may_join(&mut self, task: u64, cell: u32) -> bool {
-        match number_of(self.opens.as_slice(), task) {
+    fn may_join(&mut self, task: TaskNo, cell: u32) -> bool {
+        match number_of(self.opens.as_slice(), task.0) {
             Some(number) => self.is_joinable(number, cell),
             None => unreachable!(),
         }
     }
 
-    fn children_done(&mut self, task: u64, range: Range) -> bool {
-        match number_of(self.opens.as_slice(), task) {
+    fn children_done(&mut self, task: TaskNo, range: Range) -> bool {
+        match number_of(self.opens.as_slice(), task.0) {
             Some(number) => self.are_done_over(number, range),
             None => unreachable!(),
         }

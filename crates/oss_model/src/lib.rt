@@ -4,11 +4,15 @@
 mod answer;
 mod cell;
 pub mod laws;
+mod moving;
 mod point;
+mod task_no;
 #[cfg(test)]
 mod tests;
 
 pub use answer::Answer;
 pub use cell::range_of;
+pub use moving::Move;
 pub use oss_syntax::{FaultKind, Refusal, Refused, RefusedKind};
 pub use point::{Point, point_text, read_point};
+pub use task_no::TaskNo;

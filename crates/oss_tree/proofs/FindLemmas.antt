@@ -5,7 +5,7 @@ use Rattle.std.proofs.lemmas.Option.{get_or_from_slice_get, slice_get_within}
 use Rattle.std.proofs.lemmas.List.{take-append-drop, take_more}
 use Rattle.oss_model.specs.Order.{IsBefore, less, same}
 use Rattle.oss_tree.specs.declared.task.Task.{Task}
-use Rattle.oss_tree.specs.declared.task.TaskNo.{TaskNo}
+use Rattle.oss_model.specs.declared.task_no.TaskNo.{TaskNo}
 use Rattle.oss_tree.specs.Tasks.{AreChildrenComplete, AreComplete, HasPoint, IsClosed, IsComplete, IsFirstUnfinished, IsLeastOpen, IsTree, complete, key_of, number}
 use Rattle.oss_tree.proofs.ListLemmas.{none_some, some_is}
 use Rattle.oss_tree.proofs.PointLemmas.{Lies, above, before, lies, own, under}

@@ -3,7 +3,7 @@ use Rattle.std.proofs.Common.{◌≡◌, ℕ, zero, suc, ◌<◌, ◌≤◌, ◌
 use Rattle.std.specs.Prelude.{slice_get, slice_index, ◌&&◌, ◌==◌, MatchOption}
 use Rattle.std.proofs.lemmas.Option.{slice_get_within, slice_get_past}
 use Rattle.oss_tree.specs.declared.task.Task.{Task}
-use Rattle.oss_tree.specs.declared.task.TaskNo.{TaskNo}
+use Rattle.oss_model.specs.declared.task_no.TaskNo.{TaskNo}
 use Rattle.oss_tree.specs.Tasks.{AreChildrenComplete, IsFirstUnfinished, IsClosed, IsComplete, IsTree, complete, number}
 use Rattle.oss_tree.specs.Marks.{AreMarked, IsMarked, Nobody, is_settled, settles}
 use Rattle.oss_tree.proofs.ListLemmas.{none_some, some_is, there_is}

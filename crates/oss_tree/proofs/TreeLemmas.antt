@@ -3,7 +3,7 @@ use Rattle.std.proofs.Common.{◌≡◌, ℕ, zero, suc, ◌<◌, ◌+◌, refl,
 use Rattle.std.specs.Prelude.{slice_get}
 use Rattle.std.proofs.lemmas.Option.{get_or_from_slice_get, slice_get-get_or}
 use Rattle.oss_tree.specs.declared.task.Task.{Task}
-use Rattle.oss_tree.specs.declared.task.TaskNo.{TaskNo}
+use Rattle.oss_model.specs.declared.task_no.TaskNo.{TaskNo}
 use Rattle.oss_tree.specs.Tasks.{IsClosed, IsComplete, IsTree, complete, number}
 use Rattle.oss_tree.proofs.ListLemmas.{get_last, longer_by, none_some, some_is}
 use Rattle.oss_tree.proofs.PointLemmas.{EndsIn, here, below, ends_in, same_ends}

@@ -10,7 +10,7 @@ use Rattle.std.specs.Prelude.{◌≡◌, ◌<◌, ◌≤◌, ℕ, Bool, true, fa
 use Rattle.oss_model.specs.Order.{IsBefore}
 use Rattle.oss_tree.specs.declared.output.Print.{Print}
 use Rattle.oss_tree.specs.declared.task.Task.{Task}
-use Rattle.oss_tree.specs.declared.task.TaskNo.{TaskNo}
+use Rattle.oss_model.specs.declared.task_no.TaskNo.{TaskNo}
 
 -- What contracts see of a tree: its tasks, each at the place of its number, and its prints in the order of time. In the example
 -- the tasks are main, a, b, c where they were created in this order.

@@ -10,7 +10,7 @@ mod task;
 mod tests;
 mod tree;
 
-pub use oss_model::Point;
+pub use oss_model::{Point, TaskNo};
 pub use output::Print;
-pub use task::{Task, TaskNo};
+pub use task::Task;
 pub use tree::Tree;

@@ -2,7 +2,8 @@
 ghost use Rattle.std.specs.Prelude.{ℕ, MatchOption};
 ghost use Rattle.oss_tree.specs.Tasks.{HasPoint, IsTree};
 
-use crate::task::{Task, TaskNo};
+use crate::task::Task;
+use oss_model::TaskNo;
 
 /// The task that has this point; `None` exactly where none has.
 pub(crate) fn find(tasks: &[Task], point: &[u16]) -> Option<TaskNo>

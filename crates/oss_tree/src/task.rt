@@ -1,9 +1,5 @@
-use oss_model::Point;
+use oss_model::{Point, TaskNo};
 use oss_syntax::List;
-
-/// The number of a task. Main is 0, and each new task has the next number.
-#[derive(Clone, Copy, Debug, PartialEq, Eq)]
-pub struct TaskNo(pub u64);
 
 /// A task of a tree.
 #[derive(Drop)]

@@ -2,7 +2,7 @@ use Rattle.std.proofs.Common.{◌≡◌, ◌<◌, ◌≤◌, ℕ, length, refl, 
 use Rattle.std.specs.Prelude.{slice_get}
 use Rattle.std.proofs.lemmas.Option.{slice_get_read}
 use Rattle.oss_tree.specs.declared.task.Task.{Task}
-use Rattle.oss_tree.specs.declared.task.TaskNo.{TaskNo}
+use Rattle.oss_model.specs.declared.task_no.TaskNo.{TaskNo}
 use Rattle.oss_tree.specs.Tasks.{number}
 use Rattle.oss_tree.specs.Marks.{is_settled}
 use Rattle.oss_tree.proofs.MoveLemmas.{advanced, child_within, left_at, none_left, settled_more}

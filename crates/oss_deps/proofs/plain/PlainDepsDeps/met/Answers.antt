@@ -7,10 +7,10 @@ use Rattle.oss_deps.proofs.AskLemmas.{standing_of, entry_number, main_met, task_
 use Rattle.oss_deps.proofs.plain.PlainDepsDeps.met.Goals as goal
 
 pub returns-then-number-eq0-clause-met : goal.returns-then-number-eq0-clause-met
-returns-then-number-eq0-clause-met c = (λ e. main_met c.args.self.now (standing_of (record { opens = c.self.inside.opens.items; pieces = c.self.inside.map.pieces; columns = c.self.inside.columns.items; ended = c.self.inside.ended; reserved = c.self.inside.reserved }) c.args.self.now (vec_capacity c.self.inside.opens) c.self.view_is c.self.invariant) c.in-Some.number c.args.task (subst (λ (xs : List Open). IsNumberOf xs c.in-Some.number c.args.task) (c.as_slice.ensures.value ∙ ap (λ (k : Kept). k.opens) c.self.view_is) c.in-Some.ensures.found) c.if-number-eq0.true, λ m. refl)
+returns-then-number-eq0-clause-met c = (λ e. main_met c.args.self.now (standing_of (record { opens = c.self.inside.opens.items; pieces = c.self.inside.map.pieces; columns = c.self.inside.columns.items; ended = c.self.inside.ended; reserved = c.self.inside.reserved }) c.args.self.now (vec_capacity c.self.inside.opens) c.self.view_is c.self.invariant) c.in-Some.number c.args.task.0 (subst (λ (xs : List Open). IsNumberOf xs c.in-Some.number c.args.task.0) (c.as_slice.ensures.value ∙ ap (λ (k : Kept). k.opens) c.self.view_is) c.in-Some.ensures.found) c.if-number-eq0.true, λ m. refl)
 
 pub are_accesses_met-requires : goal.are_accesses_met-requires
-are_accesses_met-requires c = entry_number c.args.self.now c.in-Some.number c.args.task (subst (λ (xs : List Open). IsNumberOf xs c.in-Some.number c.args.task) (c.as_slice.ensures.value ∙ ap (λ (k : Kept). k.opens) c.self.view_is) c.in-Some.ensures.found) c.if-number-eq0.false
+are_accesses_met-requires c = entry_number c.args.self.now c.in-Some.number c.args.task.0 (subst (λ (xs : List Open). IsNumberOf xs c.in-Some.number c.args.task.0) (c.as_slice.ensures.value ∙ ap (λ (k : Kept). k.opens) c.self.view_is) c.in-Some.ensures.found) c.if-number-eq0.false
 
 pub returns-else-number-eq0-clause-met : goal.returns-else-number-eq0-clause-met
-returns-else-number-eq0-clause-met c = task_met c.args.self.now (standing_of (record { opens = c.self.inside.opens.items; pieces = c.self.inside.map.pieces; columns = c.self.inside.columns.items; ended = c.self.inside.ended; reserved = c.self.inside.reserved }) c.args.self.now (vec_capacity c.self.inside.opens) c.self.view_is c.self.invariant) c.in-Some.number c.args.task (subst (λ (xs : List Open). IsNumberOf xs c.in-Some.number c.args.task) (c.as_slice.ensures.value ∙ ap (λ (k : Kept). k.opens) c.self.view_is) c.in-Some.ensures.found) c.if-number-eq0.false c.are_accesses_met.result c.are_accesses_met.ensures
+returns-else-number-eq0-clause-met c = task_met c.args.self.now (standing_of (record { opens = c.self.inside.opens.items; pieces = c.self.inside.map.pieces; columns = c.self.inside.columns.items; ended = c.self.inside.ended; reserved = c.self.inside.reserved }) c.args.self.now (vec_capacity c.self.inside.opens) c.self.view_is c.self.invariant) c.in-Some.number c.args.task.0 (subst (λ (xs : List Open). IsNumberOf xs c.in-Some.number c.args.task.0) (c.as_slice.ensures.value ∙ ap (λ (k : Kept). k.opens) c.self.view_is) c.in-Some.ensures.found) c.if-number-eq0.false c.are_accesses_met.result c.are_accesses_met.ensures

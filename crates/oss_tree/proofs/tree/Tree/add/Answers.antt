@@ -2,7 +2,7 @@ use Rattle.std.proofs.Common.{◌≡◌, ◌++◌, ◌∷◌, [], ℕ, Bool, fal
 use Rattle.std.specs.Prelude.{slice_get, slice_set}
 use Rattle.std.proofs.lemmas.Option.{get_or_from_slice_get, slice_get_within}
 use Rattle.oss_tree.specs.declared.task.Task.{Task}
-use Rattle.oss_tree.specs.declared.task.TaskNo.{TaskNo}
+use Rattle.oss_model.specs.declared.task_no.TaskNo.{TaskNo}
 use Rattle.oss_tree.specs.Marks.{AreMarked}
 use Rattle.oss_tree.specs.Tasks.{IsTree, Kept, MayCreate, created_by, grown, number, with_child}
 use Rattle.oss_tree.proofs.ListLemmas.{front_is}
