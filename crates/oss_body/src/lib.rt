@@ -6,9 +6,11 @@ mod body;
 mod copies;
 mod frame;
 mod judging;
+mod mains;
 mod own;
 mod place;
 mod tasks;
 
 pub use act::{Act, Creation};
 pub use body::Body;
+pub use mains::{main_body, main_is_set};

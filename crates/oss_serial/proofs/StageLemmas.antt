@@ -2,9 +2,7 @@
 use Rattle.std.proofs.Common.{◌≡◌, ◌≢◌, ℕ, ◌+◌, ◌<◌, refl, sym, subst, ap, ◌∙◌, List, [], ◌∷◌, ◌++◌, arith, Bool, true, false}
 use Rattle.std.specs.Prelude.{length, slice_index}
 use Rattle.oss_syntax.specs.declared.fault.FaultKind.{FaultKind}
-use Rattle.oss_model.specs.Agreement.{AreWords, Setting}
-use Rattle.oss_model.specs.Context.{Context, main_context}
-use Rattle.oss_model.proofs.Exclusive.{every_main_is_a_setting}
+use Rattle.oss_model.specs.Agreement.{Setting}
 use Rattle.oss_model.specs.Bodies.{Act, Body, Frame, IsHalt, Order, Stack, Start, child_start, stack_from, stage_act, top_frame}
 use Rattle.oss_model.specs.Bodies.Act.{Created, Fault}
 use Rattle.oss_model.specs.Moves.{act_now, found_by, is_ended, new_task}
@@ -30,7 +28,7 @@ use Rattle.oss_serial.specs.declared.stage.Turned.TheVariants as turned
 use Rattle.oss_serial.specs.declared.turn.Turn.{Turn}
 use Rattle.oss_serial.specs.declared.turn.Turn.TheVariants as turns
 use Rattle.oss_serial.specs.Stages.{AreBodies, IsStage, IsTurned, IsUp, body_left, bodies_left, kept_share, kept_shares, left_at, tasks_left, turn_of}
-use Rattle.oss_serial.specs.Runs.{code_main, main_order}
+use Rattle.oss_body.specs.Mains.{code_main}
 use Rattle.oss_serial.specs.Turns.{Stands, answered}
 use Rattle.oss_serial.proofs.TurnLemmas.{begins, creates_less, ends_all, goes_down, goes_less, goes_on as runs_on, goes_up, more_tasks, stops}
 
@@ -355,17 +353,13 @@ pub shown_after : (code : CodeParts) (b : Body CodeScript) (a kept_act : CodeAct
 shown_after code b a kept_act v after e h = subst (λ (x : CodeAct). IsBody code b.start (answer_to (act_seen x) v ∷ b.found) after) (sym e) h
 
 -- the run at its beginning
-pub begun : (code : CodeParts) (fuel : ℕ) (s : Stage) (order : Order CodeScript) (context : Context) → order ≡ main_order → context ≡ main_context (length code.first) fuel → IsBody code (record { order = order; context = context; path = [] }) [] s.current
-    → s.above ≡ [] → s.cells.items ≡ code.first → s.output.items ≡ [] → s.tasks ≡ 1 → Setting (code_main code fuel) code.first → IsStage code (code_main code fuel) code.first s
-begun code fuel s order context e f is above cells output tasks setting =
+pub begun : (code : CodeParts) (fuel : ℕ) (s : Stage) → IsBody code (code_main code fuel) [] s.current → s.above ≡ [] → s.cells.items ≡ code.first → s.output.items ≡ [] → s.tasks ≡ 1 → Setting (code_main code fuel) code.first
+    → IsStage code (code_main code fuel) code.first s
+begun code fuel s is above cells output tasks setting =
     record {
       current = record { start = code_main code fuel; found = [] };
       above = [];
-      is_current = subst (λ (x : Start CodeScript). IsBody code x [] s.current) (λ i. record { order = e i; context = f i; path = [] }) is;
+      is_current = is;
       are_above = subst (λ (ks : List Kept). AreBodies code [] ks) (sym above) tt;
       stands = rw (cells, output, tasks) (begins (asks code) (code_main code fuel) code.first setting);
     }
-
--- main's start is that of a run
-pub main_setting : (code : CodeParts) (fuel : ℕ) → AreWords code.first → Setting (code_main code fuel) code.first
-main_setting code fuel words = every_main_is_a_setting CodeScript main_order code.first fuel words

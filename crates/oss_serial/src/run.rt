@@ -1,16 +1,15 @@
 //! The sequential run of a code.
 
-ghost use Rattle.std.specs.Prelude.{◌≡◌, ◌≤◌, length, IfOk};
-ghost use Rattle.oss_model.specs.Agreement.{AreWords, Setting};
-ghost use Rattle.oss_machine.specs.Asks.{meant_order};
-ghost use Rattle.oss_serial.specs.Runs.{IsRan, code_main, main_order as main_order_of_code};
+ghost use Rattle.std.specs.Prelude.{◌≤◌, length, IfOk};
+ghost use Rattle.oss_model.specs.Agreement.{Setting};
+ghost use Rattle.oss_body.specs.Mains.{code_main};
+ghost use Rattle.oss_serial.specs.Runs.{IsRan};
 ghost use Rattle.oss_serial.specs.Stages.{IsStage};
 
 use crate::stage::{Stage, Turned};
-use oss_body::Body;
-use oss_code::{Code, TaskOrder};
-use oss_judge::Context;
-use oss_model::{Answer, Point};
+use oss_body::{main_body, main_is_set};
+use oss_code::Code;
+use oss_model::Answer;
 use oss_syntax::List;
 use std::alloc::{AllocError, Global};
 
@@ -46,36 +45,13 @@ fn begin(alloc: Global, code: &Code, fuel: u32) -> Result<Stage, AllocError>
     ensures stage { IfOk result (λ stage. IsStage code.now (code_main code.now fuel) code.now.first stage) }
     ensures setting { IfOk result (λ stage. Setting (code_main code.now fuel) code.now.first) }
 {
-    let first = code.first().as_slice();
-    are_words(first);
-    let order = main_order(alloc);
-    let context = Context::main(alloc, first.len() as u32, fuel)?;
-    let current = Body::start(alloc, code, &order, context, Point::main(alloc)?)?;
+    main_is_set(code, fuel);
+    let current = main_body(alloc, code, fuel)?;
     Ok(Stage {
         current,
         above: List::new(alloc),
-        cells: Vec::from_slice(alloc, first)?,
+        cells: Vec::from_slice(alloc, code.first().as_slice())?,
         output: Vec::new(alloc),
         tasks: 1,
     })
-}
-
-/// A fact alone: a number of 64 bits is one.
-fn are_words(cells: &[u64])
-    ensures { AreWords cells.now }
-{}
-
-/// What main is to run.
-fn main_order(alloc: Global) -> TaskOrder
-    ensures { meant_order result ≡ main_order_of_code }
-{
-    TaskOrder {
-        entry: 0,
-        copies: List::new(alloc),
-        accesses: List::new(alloc),
-        when: true,
-        last: false,
-        wait: false,
-        priority: 0,
-    }
 }

@@ -1,5 +1,5 @@
 use Rattle.std.proofs.Common.{subst}
-use Rattle.oss_serial.specs.Runs.{code_main}
+use Rattle.oss_body.specs.Mains.{code_main}
 use Rattle.oss_serial.specs.Stages.{IsTurned}
 use Rattle.oss_serial.proofs.StageLemmas.{runs_still}
 use Rattle.oss_serial.proofs.run.serial.Goals as goal

@@ -1,5 +1,5 @@
 use Rattle.oss_model.specs.Agreement.{Setting}
-use Rattle.oss_serial.specs.Runs.{code_main}
+use Rattle.oss_body.specs.Mains.{code_main}
 use Rattle.oss_serial.specs.Stages.{IsStage, left_at}
 use Rattle.oss_serial.proofs.run.serial.Given as goal
 
