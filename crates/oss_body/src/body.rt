@@ -1,5 +1,5 @@
 //! A body.
-ghost use Rattle.std.specs.Prelude.{◌≡◌, ◌∷◌, ◌≤◌, [], List as Items, ℕ, Bool, suc, length, true, false, IfOk, OnOk};
+ghost use Rattle.std.specs.Prelude.{◌≡◌, ◌∷◌, ◌≤◌, ◌<◌, [], List as Items, ℕ, Bool, suc, length, true, false, IfOk, OnOk};
 ghost use Rattle.oss_code.specs.declared.code.CodeParts.{CodeParts};
 ghost use Rattle.oss_judge.specs.Joined.{IsRising, held_mark, held_right};
 ghost use Rattle.oss_machine.specs.Asks.{meant_order, script_of};
@@ -180,6 +180,17 @@ impl Body {
         ensures { (code : CodeParts) (start : Start CodeScript) (found : Items ℕ) → IsBody code start found self.now → result ≡ is_released (right_of (stack_from (asks code) start found).base.context cell) }
     {
         self.tasks.own_place().context().has_released(cell)
+    }
+
+    /// A run of cells from one on, up to another: whether the task has released each of them, or none, as `has_released` tells, and where the run
+    /// ends. It costs what the ranges that the task has do, and takes no memory.
+    pub fn released_run(&self, from: u32, to: u32) -> (bool, u32)
+        requires { from < to }
+        ensures alike { (code : CodeParts) (start : Start CodeScript) (found : Items ℕ) → IsBody code start found self.now → (cell : ℕ) → from ≤ cell → cell < result.1 → is_released (right_of (stack_from (asks code) start found).base.context cell) ≡ result.0 }
+        ensures some { from < result.1 }
+        ensures within { result.1 ≤ to }
+    {
+        self.tasks.own_place().context().released_run(from, to)
     }
 
     /// Whether the task has the clause `wait`.

@@ -132,6 +132,18 @@ impl Context {
         self.right(cell).is_released()
     }
 
+    /// A run of cells from one on, up to another: whether the task has released each of them, or none, and where the run ends. It costs what the
+    /// ranges that the task has do, and takes no memory.
+    pub fn released_run(&self, from: u32, to: u32) -> (bool, u32)
+        requires { from < to }
+        ensures alike { (cell : ℕ) → from ≤ cell → cell < result.1 → is_released (right_of self.now cell) ≡ result.0 }
+        ensures some { from < result.1 }
+        ensures within { result.1 ≤ to }
+    {
+        let (right, end) = self.rights.run_from(from, to);
+        (right::told(right).is_released(), end)
+    }
+
     /// Marks a cell as written. A cell that is written already takes no memory. Where memory is wanting the context stays.
     pub fn wrote(&mut self, cell: u32) -> Result<(), AllocError>
         ensures ok { OnOk result (self.new ≡ wrote cell self.old) }
