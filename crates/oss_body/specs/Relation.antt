@@ -3,7 +3,7 @@
 use Rattle.std.specs.Prelude.{◌≡◌, ℕ, Bool, true, false, List, [], ◌∷◌, Some}
 use Rattle.oss_syntax.specs.declared.access.Mode.TheVariants.{Fold}
 use Rattle.oss_syntax.specs.declared.access.Op.{Op}
-use Rattle.oss_model.specs.Rights.{Holds}
+use Rattle.oss_model.specs.Rights.{Holds, is_released}
 use Rattle.oss_model.specs.Context.{right_of}
 use Rattle.oss_model.specs.Moves.{slot_of}
 use Rattle.oss_model.specs.Bodies.{Start, stack_from, stage_act, top_frame}
@@ -25,6 +25,18 @@ pending_of b = b.act
 -- The body has ended: its own task has.
 abbrev pub is_over : Body → Bool
 is_over b = b.tasks.ended
+
+-- An act of the body is done.
+abbrev pub has_begun : Body → Bool
+has_begun b = b.begun
+
+-- The body's task has the clause wait.
+abbrev pub has_wait : Body → Bool
+has_wait b = b.own.wait
+
+-- The body's own task has released the cell.
+abbrev pub released_by : Body → ℕ → Bool
+released_by b c = is_released (right_of (own_place b.tasks).context c)
 
 -- There is an answer: after a tick there is one.
 abbrev pub is_some : List ℕ → Bool

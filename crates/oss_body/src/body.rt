@@ -42,7 +42,7 @@ pub struct Body {
 
 impl Body {
     ghost use Rattle.oss_body.specs.Kept.{kept};
-    ghost use Rattle.oss_body.specs.Relation.{HasStarted, IsBody, is_over, is_some, pending_of};
+    ghost use Rattle.oss_body.specs.Relation.{HasStarted, IsBody, has_begun, has_wait, is_over, is_some, pending_of, released_by};
 
     /// The body of a task at its start: with this order, in this context, at this point. The code is the one in which the order was asked
     /// for. Condition: the point has one number more than there are tasks above the task, which are 64 at most.
@@ -177,7 +177,8 @@ impl Body {
 
     /// Whether the task has released a cell. A task that it includes has not: that releases a right of its own. It takes no memory.
     pub fn has_released(&self, cell: u32) -> bool
-        ensures { (code : CodeParts) (start : Start CodeScript) (found : Items ℕ) → IsBody code start found self.now → result ≡ is_released (right_of (stack_from (asks code) start found).base.context cell) }
+        ensures kept { result ≡ released_by self.now cell }
+        ensures released { (code : CodeParts) (start : Start CodeScript) (found : Items ℕ) → IsBody code start found self.now → result ≡ is_released (right_of (stack_from (asks code) start found).base.context cell) }
     {
         self.tasks.own_place().context().has_released(cell)
     }
@@ -186,7 +187,7 @@ impl Body {
     /// ends. It costs what the ranges that the task has do, and takes no memory.
     pub fn released_run(&self, from: u32, to: u32) -> (bool, u32)
         requires { from < to }
-        ensures alike { (code : CodeParts) (start : Start CodeScript) (found : Items ℕ) → IsBody code start found self.now → (cell : ℕ) → from ≤ cell → cell < result.1 → is_released (right_of (stack_from (asks code) start found).base.context cell) ≡ result.0 }
+        ensures alike { (cell : ℕ) → from ≤ cell → cell < result.1 → released_by self.now cell ≡ result.0 }
         ensures some { from < result.1 }
         ensures within { result.1 ≤ to }
     {
@@ -195,7 +196,8 @@ impl Body {
 
     /// Whether the task has the clause `wait`.
     pub fn waits(&self) -> bool
-        ensures { (code : CodeParts) (start : Start CodeScript) (found : Items ℕ) → IsBody code start found self.now → result ≡ start.order.wait }
+        ensures kept { result ≡ has_wait self.now }
+        ensures wait { (code : CodeParts) (start : Start CodeScript) (found : Items ℕ) → IsBody code start found self.now → result ≡ start.order.wait }
     {
         self.own.wait
     }
@@ -209,7 +211,8 @@ impl Body {
 
     /// Whether an act of the body is done.
     pub fn begun(&self) -> bool
-        ensures { (code : CodeParts) (start : Start CodeScript) (found : Items ℕ) → IsBody code start found self.now → result ≡ is_some found }
+        ensures kept { result ≡ has_begun self.now }
+        ensures begun { (code : CodeParts) (start : Start CodeScript) (found : Items ℕ) → IsBody code start found self.now → result ≡ is_some found }
     {
         self.begun
     }

@@ -56,6 +56,17 @@ impl Point {
         })
     }
 
+    /// The same point. Want of memory is the one error.
+    pub fn copy(&self) -> Result<Point, AllocError>
+        ensures { IfOk result (λ copy. copy ≡ self.now) }
+    {
+        let numbers = Vec::from_slice(self.alloc, self.numbers.as_slice())?;
+        Ok(Point {
+            alloc: self.alloc,
+            numbers: List::from_vec(numbers),
+        })
+    }
+
     /// The numbers, from main's 0 down.
     pub fn as_slice(&self) -> &[u16]
         ensures numbers { result.now ≡ self.now }
