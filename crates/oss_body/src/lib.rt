@@ -7,6 +7,7 @@ mod copies;
 mod frame;
 mod judging;
 mod mains;
+pub mod memory;
 mod own;
 mod place;
 mod tasks;

@@ -1,15 +1,13 @@
 //! One act of the body that runs, as far as memory and output go.
 
-ghost use Rattle.std.specs.Prelude.{◌≡◌, OnOk, IfOk, slice_index, slice_set};
-ghost use Rattle.oss_model.specs.Bodies.{word_of};
-ghost use Rattle.oss_model.specs.Moves.{combine};
+ghost use Rattle.std.specs.Prelude.{◌≡◌, OnOk, IfOk};
 ghost use Rattle.oss_model.specs.Sequence.{direct_cells, printed_after};
 ghost use Rattle.oss_body.specs.Acts.{act_seen};
 ghost use Rattle.oss_serial.specs.Stages.{turn_of};
 
 use oss_body::Act;
+use oss_body::memory::{combined, set, value_at, word};
 use oss_model::FaultKind;
-use oss_syntax::Op;
 use std::alloc::AllocError;
 
 /// What comes of a body by its next act.
@@ -63,41 +61,5 @@ pub fn happen(act: &Act, cells: &mut Vec<u64>, output: &mut Vec<u8>) -> Result<T
         Act::WaitOn(_) => Ok(Turn::Goes(0)),
         Act::Release { .. } => Ok(Turn::Goes(0)),
         Act::End => Ok(Turn::Goes(0)),
-    }
-}
-
-/// The number in a cell; past the last cell it is 0.
-fn value_at(cells: &[u64], cell: u32) -> u64
-    ensures { result ≡ slice_index cells.now cell }
-{
-    cells.get(cell as usize).copied().unwrap_or(0)
-}
-
-/// Puts a number into a cell; past the last cell nothing happens.
-fn set(cells: &mut [u64], cell: u32, value: u64)
-    ensures { cells.new ≡ slice_set cells.old cell value }
-{
-    let at = cell as usize;
-    if at < cells.len() {
-        cells[at] = value;
-    }
-}
-
-/// A number of 64 bits keeps all of itself.
-fn word(value: u64) -> u64
-    ensures { result ≡ word_of value }
-{
-    value
-}
-
-/// What a fold makes of two numbers.
-fn combined(op: Op, value: u64, other: u64) -> u64
-    ensures { result ≡ combine op value other }
-{
-    match op {
-        Op::Add => value.wrapping_add(other),
-        Op::And => value & other,
-        Op::Or => value | other,
-        Op::Xor => value ^ other,
     }
 }

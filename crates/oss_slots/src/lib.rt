@@ -9,4 +9,5 @@ mod table;
 mod tests;
 
 pub use home::Home;
+pub use operators::combined;
 pub use table::Slots;

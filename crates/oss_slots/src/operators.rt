@@ -15,8 +15,8 @@ pub(crate) fn neutral(op: Op) -> u64
     }
 }
 
-/// What a fold makes of a value.
-pub(crate) fn combined(op: Op, held: u64, value: u64) -> u64
+/// What a fold makes of the value in a cell or a slot (C11 6.5.6, 6.5.10 to 6.5.12, for 64 bits without sign).
+pub fn combined(op: Op, held: u64, value: u64) -> u64
     ensures { result ≡ combine op held value }
 {
     match op {
