@@ -1,0 +1,11 @@
+pub mod EntryLemmas
+pub mod MatchLemmas
+pub mod WaitLemmas
+pub mod KeepLemmas
+pub mod GrowLemmas
+pub mod PushLemmas
+pub mod OpenLemmas
+pub mod FullOpenLemmas
+pub mod TellLemmas
+pub mod MadeLemmas
+pub mod PrintLemmas

@@ -1,0 +1,70 @@
+-- Which moves may be made, told of what a core keeps alone.
+-- Read against: main has created out(x) and in(x), and waits. The first task may step; the second may not, since it is not met; and main may not, since
+-- the first is not complete. Behind the end of the first task it may give up x by a let, and by no join.
+use Rattle.std.specs.Prelude.{◌≡◌, ℕ, suc, ◌⊎◌, Bool, true, false, List, length, Some, slice_get}
+use Rattle.oss_syntax.specs.declared.access.Op.{Op}
+use Rattle.oss_model.specs.Context.{in_clauses}
+use Rattle.oss_model.specs.Forest.{IsJoinSatisfied}
+use Rattle.oss_model.specs.declared.moving.Move.{Move}
+use Rattle.oss_model.specs.declared.moving.Move.TheVariants as moves
+use Rattle.oss_meaning.specs.Clauses.{waited_for}
+use Rattle.oss_meaning.specs.Sections.{declared_on}
+use Rattle.oss_ranges.specs.Cells.{value_at}
+use Rattle.oss_body.specs.declared.act.Act.{Act}
+use Rattle.oss_body.specs.declared.act.Act.TheVariants as acts
+use Rattle.oss_body.specs.declared.body.Body.{Body}
+use Rattle.oss_body.specs.Acts.{goes_on}
+use Rattle.oss_body.specs.Relation.{has_begun, has_wait, is_over, pending_of, released_by}
+use Rattle.oss_tree.specs.declared.task.Task.{Task as TreeTask}
+use Rattle.oss_tree.specs.Tasks.{AreChildrenComplete, IsComplete, number}
+use Rattle.oss_deps.specs.Opens.{AreChildrenDone, IsMet, opened_forest}
+use Rattle.oss_deps.specs.Seen.{Seen}
+use Rattle.oss_core.specs.declared.held.Held.{Held}
+use Rattle.oss_core.specs.declared.held.Owed.TheVariants as owed
+use Rattle.oss_core.specs.Kept.{Kept}
+
+-- The newest child of the task is complete, if it has one.
+abbrev pub IsNewestComplete : List TreeTask → ℕ → Type 0
+IsNewestComplete tasks v = (one : TreeTask) → slice_get tasks v ≡ Some one → (k c : ℕ) → suc k ≡ length one.children → slice_get one.children k ≡ Some (number c) → IsComplete tasks c
+
+-- What the act waits for has come.
+abbrev pub IsActMet : List TreeTask → Seen → ℕ → Act → Type 0
+IsActMet tree seen v acts.Await = IsNewestComplete tree v
+IsActMet tree seen v acts.Wait = AreChildrenComplete tree v
+IsActMet tree seen v (acts.WaitOn ranges) = (c : ℕ) → in_clauses (declared_on waited_for ranges) c ≡ true → AreChildrenDone seen.opens seen.given v c
+IsActMet tree seen v _ = Unit {0}
+
+-- The next act of the task may be made.
+pub record MayStep (tasks : List Held) (tree : List TreeTask) (seen : Seen) (v : ℕ) : Type 0 where
+  pub held : Held
+  pub is : slice_get tasks v ≡ Some held
+  pub running : is_over held.body ≡ false
+  pub goes : goes_on (pending_of held.body) ≡ true
+  pub met : has_begun held.body ≡ false → (v ≡ 0) ⊎ IsMet seen.opens seen.given v
+  pub waits : IsActMet tree seen v (pending_of held.body)
+
+-- The task has ended, and its clause wait is met.
+pub record IsThrough (tree : List TreeTask) (v : ℕ) (b : Body) : Type 0 where
+  pub over : is_over b ≡ true
+  pub wait : has_wait b ≡ true → AreChildrenComplete tree v
+
+-- The task may give up the cell by a let.
+pub record MayLet (tasks : List Held) (tree : List TreeTask) (v c : ℕ) : Type 0 where
+  pub held : Held
+  pub is : slice_get tasks v ≡ Some held
+  pub owes : value_at held.owed.pieces c ≡ Some owed.Let
+  pub gone : (released_by held.body c ≡ true) ⊎ IsThrough tree v held.body
+
+-- The slot of the task may be joined into the cell.
+pub record MayJoin (tasks : List Held) (tree : List TreeTask) (seen : Seen) (v c : ℕ) (op : Op) : Type 0 where
+  pub held : Held
+  pub is : slice_get tasks v ≡ Some held
+  pub owes : value_at held.owed.pieces c ≡ Some (owed.Join op)
+  pub through : IsThrough tree v held.body
+  pub satisfied : IsJoinSatisfied (opened_forest seen.opens seen.given c) op v
+
+-- The move may be made.
+abbrev pub MayMove : Kept → Move → Type 0
+MayMove k (moves.Step task) = MayStep k.tasks k.tree.tasks k.seen task.0
+MayMove k (moves.Let task cell) = MayLet k.tasks k.tree.tasks task.0 cell
+MayMove k (moves.Join task cell) = (op : Op) × MayJoin k.tasks k.tree.tasks k.seen task.0 cell op

@@ -1,0 +1,19 @@
+use oss_body::Body;
+use oss_ranges::RangeMap;
+use oss_syntax::Op;
+
+/// How a task gives up a cell.
+#[derive(Clone, Copy, Debug, PartialEq, Eq)]
+pub enum Owed {
+    /// By a let.
+    Let,
+    /// By a join of its slot, which was folded with this operator.
+    Join(Op),
+}
+
+/// What a core keeps of a task: its body, and how each cell that it has not given up is to be given up. Main has none to give up.
+#[derive(Drop)]
+pub struct Held {
+    pub body: Body,
+    pub owed: RangeMap<Owed>,
+}
