@@ -9,3 +9,6 @@ pub mod FullOpenLemmas
 pub mod TellLemmas
 pub mod MadeLemmas
 pub mod PrintLemmas
+pub mod CallLemmas
+pub mod GoingLemmas
+pub mod OwedLemmas

@@ -6,3 +6,5 @@ pub mod Printing
 pub mod Kept
 pub mod Enabled
 pub mod Changes
+pub mod Going
+pub mod Cores

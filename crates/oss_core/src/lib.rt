@@ -1,8 +1,13 @@
 //! The task machine: bodies, their tree, a dependency system and memory, moved by exactly the moves of the definitions.
 #![tactic(auto)]
 
+mod creating;
+mod enabling;
+mod happening;
 mod held;
 mod machine;
+mod stepping;
+mod waiting;
 
 pub use held::{Held, Owed};
 pub use machine::Core;

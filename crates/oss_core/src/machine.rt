@@ -6,9 +6,9 @@ use std::alloc::Global;
 /// The machine of tasks over a dependency system.
 #[derive(Drop)]
 pub struct Core<D: Deps> {
-    alloc: Global,
-    tasks: Vec<Held>,
-    tree: Tree,
-    deps: D,
-    cells: Vec<u64>,
+    pub(crate) alloc: Global,
+    pub(crate) tasks: Vec<Held>,
+    pub(crate) tree: Tree,
+    pub(crate) deps: D,
+    pub(crate) cells: Vec<u64>,
 }
