@@ -34,14 +34,18 @@ IsActMet tree seen v acts.Wait = AreChildrenComplete tree v
 IsActMet tree seen v (acts.WaitOn ranges) = (c : ℕ) → in_clauses (declared_on waited_for ranges) c ≡ true → AreChildrenDone seen.opens seen.given v c
 IsActMet tree seen v _ = Unit {0}
 
+-- A task with this body may make its next act.
+pub record MayGoOn (b : Body) (tree : List TreeTask) (seen : Seen) (v : ℕ) : Type 0 where
+  pub running : is_over b ≡ false
+  pub goes : goes_on (pending_of b) ≡ true
+  pub met : has_begun b ≡ false → (v ≡ 0) ⊎ IsMet seen.opens seen.given v
+  pub waits : IsActMet tree seen v (pending_of b)
+
 -- The next act of the task may be made.
 pub record MayStep (tasks : List Held) (tree : List TreeTask) (seen : Seen) (v : ℕ) : Type 0 where
   pub held : Held
   pub is : slice_get tasks v ≡ Some held
-  pub running : is_over held.body ≡ false
-  pub goes : goes_on (pending_of held.body) ≡ true
-  pub met : has_begun held.body ≡ false → (v ≡ 0) ⊎ IsMet seen.opens seen.given v
-  pub waits : IsActMet tree seen v (pending_of held.body)
+  pub goes : MayGoOn held.body tree seen v
 
 -- The task has ended, and its clause wait is met.
 pub record IsThrough (tree : List TreeTask) (v : ℕ) (b : Body) : Type 0 where
