@@ -3,6 +3,7 @@
 -- the first is not complete. Behind the end of the first task it may give up x by a let, and by no join.
 use Rattle.std.specs.Prelude.{◌≡◌, ℕ, suc, ◌⊎◌, Bool, true, false, List, length, Some, slice_get}
 use Rattle.oss_syntax.specs.declared.access.Op.{Op}
+use Rattle.oss_syntax.specs.declared.access.Mode.TheVariants.{Fold}
 use Rattle.oss_model.specs.Context.{in_clauses}
 use Rattle.oss_model.specs.Forest.{IsJoinSatisfied}
 use Rattle.oss_model.specs.declared.moving.Move.{Move}
@@ -17,7 +18,8 @@ use Rattle.oss_body.specs.Acts.{goes_on}
 use Rattle.oss_body.specs.Relation.{has_begun, has_wait, is_over, pending_of, released_by}
 use Rattle.oss_tree.specs.declared.task.Task.{Task as TreeTask}
 use Rattle.oss_tree.specs.Tasks.{AreChildrenComplete, IsComplete, number}
-use Rattle.oss_deps.specs.Opens.{AreChildrenDone, IsMet, opened_forest}
+use Rattle.oss_deps.specs.declared.opened.Open.{Open}
+use Rattle.oss_deps.specs.Opens.{AreChildrenDone, HasOpened, IsMet, mode_in, opened_forest}
 use Rattle.oss_deps.specs.Seen.{Seen}
 use Rattle.oss_core.specs.declared.held.Held.{Held}
 use Rattle.oss_core.specs.declared.held.Owed.TheVariants as owed
@@ -52,20 +54,33 @@ pub record IsThrough (tree : List TreeTask) (v : ℕ) (b : Body) : Type 0 where
   pub over : is_over b ≡ true
   pub wait : has_wait b ≡ true → AreChildrenComplete tree v
 
+-- The task was opened with a reduction of the cell by this operator.
+pub record IsFoldOf (opens : List Open) (v c : ℕ) (op : Op) : Type 0 where
+  pub opened : HasOpened opens c v
+  pub mode : mode_in opens c v ≡ Fold op
+
+-- A task that is kept so may give up the cell by a let.
+pub record MayGive (held : Held) (tree : List TreeTask) (v c : ℕ) : Type 0 where
+  pub owes : value_at held.owed.pieces c ≡ Some owed.Let
+  pub gone : (released_by held.body c ≡ true) ⊎ IsThrough tree v held.body
+
 -- The task may give up the cell by a let.
 pub record MayLet (tasks : List Held) (tree : List TreeTask) (v c : ℕ) : Type 0 where
   pub held : Held
   pub is : slice_get tasks v ≡ Some held
-  pub owes : value_at held.owed.pieces c ≡ Some owed.Let
-  pub gone : (released_by held.body c ≡ true) ⊎ IsThrough tree v held.body
+  pub gives : MayGive held tree v c
+
+-- The slot of a task that is kept so may be joined into the cell.
+pub record MayFold (held : Held) (tree : List TreeTask) (seen : Seen) (v c : ℕ) (op : Op) : Type 0 where
+  pub owes : value_at held.owed.pieces c ≡ Some (owed.Join op)
+  pub through : IsThrough tree v held.body
+  pub satisfied : IsJoinSatisfied (opened_forest seen.opens seen.given c) op v
 
 -- The slot of the task may be joined into the cell.
 pub record MayJoin (tasks : List Held) (tree : List TreeTask) (seen : Seen) (v c : ℕ) (op : Op) : Type 0 where
   pub held : Held
   pub is : slice_get tasks v ≡ Some held
-  pub owes : value_at held.owed.pieces c ≡ Some (owed.Join op)
-  pub through : IsThrough tree v held.body
-  pub satisfied : IsJoinSatisfied (opened_forest seen.opens seen.given c) op v
+  pub folds : MayFold held tree seen v c op
 
 -- The move may be made.
 abbrev pub MayMove : Kept → Move → Type 0
