@@ -10,3 +10,4 @@ pub mod TellLemmas
 pub mod MadeLemmas
 pub mod PrintLemmas
 pub mod TreeFacts
+pub mod ChildFacts
