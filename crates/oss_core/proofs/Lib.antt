@@ -11,3 +11,5 @@ pub mod MadeLemmas
 pub mod PrintLemmas
 pub mod TreeFacts
 pub mod ChildFacts
+pub mod BodyFacts
+pub mod ExactLemmas
