@@ -33,7 +33,7 @@ use Rattle.oss_core.specs.Kept.{Kept, IsCore, IsHeld, own, owed_by, owed_of}
 use Rattle.oss_core.proofs.KeepLemmas.{some_is}
 use Rattle.oss_core.proofs.MatchLemmas.{entry_of}
 use Rattle.oss_core.proofs.TellLemmas as tell
-use Rattle.oss_core.proofs.TreeFacts.{at_number, body_within, complete_tells, kept_within, path_of_point, point_of_path}
+use Rattle.oss_core.proofs.TreeFacts.{at_number, body_within, complete_tells, core_made, kept_within, path_of_point, point_of_path}
 use Rattle.oss_core.proofs.ChildFacts.{children_told, children_tell, newest_told, newest_tells}
 use Rattle.oss_core.proofs.BodyFacts.{IsLetRight, IsOwing, act_running, act_tells, act_told, begun_tells, begun_told, join_right, let_right, over_tells, over_told, owed_let, owing, released_tells, released_told}
 
@@ -150,3 +150,118 @@ module _ {code : CodeParts} {main : Start CodeScript} {first : List ℕ} {k : Ke
       let l = core.sound.tasks.linked h.entry h.listed in
       let same : l.task ≡ b = some_is (sym l.task_is ∙ ap (λ (w : ℕ). slice_get core.bodies w) h.number ∙ e) in
       ap (λ (y : Body CodeScript). right_of y.start.context c) (sym same) ∙ l.rights.held c a h.at_
+
+  -- why a task may give up a cell
+  gone_told : (v c : ℕ) (b : Body CodeScript) (held : Held) → IsHeld code (k.seen.given v) b held → (released_by held.body c ≡ true) ⊎ IsThrough k.tree.tasks v held.body
+      → (right_of (stack_from (asks code) b.start b.found).base.context c ≡ Released) ⊎ ((is_ended (asks code) b ≡ true) × IsClauseTold (asks code) own core.bodies k.seen.opens k.seen.given (IsComplete k.tree.tasks) v b)
+  gone_told v c b held h (inl r) = inl (released_told h.body_is c r)
+  gone_told v c b held h (inr r) = inr (through_told v b held h r)
+
+  gone_tells : (v c : ℕ) (b : Body CodeScript) (held : Held) → IsHeld code (k.seen.given v) b held
+      → (right_of (stack_from (asks code) b.start b.found).base.context c ≡ Released) ⊎ ((is_ended (asks code) b ≡ true) × IsClauseTold (asks code) own core.bodies k.seen.opens k.seen.given (IsComplete k.tree.tasks) v b)
+      → (released_by held.body c ≡ true) ⊎ IsThrough k.tree.tasks v held.body
+  gone_tells v c b held h (inl r) = inl (released_tells h.body_is c r)
+  gone_tells v c b held h (inr r) = inr (through_tells v b held h r.0 r.1)
+
+  -- a let that may be made is one that the core tells
+  pub let_enabled : (v c : ℕ) → MayLet k.tasks k.tree.tasks v c → told.MayLet (asks code) own core.bodies k.seen.opens k.seen.given (IsComplete k.tree.tasks) v c
+  let_enabled v c m =
+      let x = body_of v m.held m.is in
+      let r = right_of x.body.start.context c in
+      let o = owing x.body.start.path (k.seen.given v c) r owed.Let (sym (x.is_held.owed_is c) ∙ m.gives.owes) in
+      let l = let_right r o.by in
+      let a = access_of v c o.number o.above x.body x.at_ o.path l.mode l.strong l.right in
+      record {
+        one = x.body;
+        is = x.at_;
+        access = a.access;
+        has = a.has;
+        no_fold = λ op f g. l.no_fold op (sym a.mode ∙ f) (sym a.strong_is ∙ g);
+        kept = o.kept;
+        gone = gone_told v c x.body m.held x.is_held m.gives.gone;
+      }
+
+  -- the let of a cell that may be made is one of the state
+  pub let_told : (v c : ℕ) → MayLet k.tasks k.tree.tasks v c → (p : List ℕ) × (t : Task CodeScript) × HasPoint k.tree.tasks v (written p) × CanLet (asks code) s p c t
+  let_told v c m =
+      let e = let_enabled v c m in
+      let r = tell.let_told (asks code) own core.bodies k.seen.opens k.seen.given k.cells s core.sound.tasks core.stands core.sound.below (IsComplete k.tree.tasks) (complete_tells core) v c e in
+      (e.one.start.path, r.0, point_of_path core v e.one.start.path (record { one = e.one; is = e.is; path = refl }), r.1)
+
+  -- what a task owes of a cell to which it has this right, and which it has not given up
+  owes_is : (v c j : ℕ) (p : List ℕ) (b : Body CodeScript) (held : Held) → IsHeld code (k.seen.given v) b held → b.start.path ≡ j ∷ p → k.seen.given v c ≡ false → (m : Mode) (strong : Bool) → right_of b.start.context c ≡ Holds m strong
+      → value_at held.owed.pieces c ≡ owed_by (Holds m strong)
+  owes_is v c j p b held h path kept m strong r =
+      h.owed_is c ∙ ap (λ (q : List ℕ). owed_of q (k.seen.given v c) (right_of b.start.context c)) path ∙ ap (λ (g : Bool). owed_of (j ∷ p) g (right_of b.start.context c)) kept ∙ ap (λ x. owed_of (j ∷ p) false x) r
+
+  -- and each let of the state may be made
+  pub let_tells : (v c : ℕ) (p : List ℕ) (t : Task CodeScript) → HasPoint k.tree.tasks v (written p) → CanLet (asks code) s p c t → MayLet k.tasks k.tree.tasks v c
+  let_tells v c [] t h can = absurd (can.not_main refl)
+  let_tells v c (j ∷ p) t h can =
+      let has = path_of_point core v (j ∷ p) h in
+      let m = tell.let_tells (asks code) own core.bodies k.seen.opens k.seen.given k.cells s core.sound.tasks core.stands core.sound.below (IsComplete k.tree.tasks) (complete_tells core) v c (j ∷ p) t has can in
+      let x = kept_of v m.one m.is in
+      let path : m.one.start.path ≡ j ∷ p = ap (λ (b : Body CodeScript). b.start.path) (some_is (sym m.is ∙ has.is)) ∙ has.path in
+      record {
+        held = x.held;
+        is = x.at_;
+        gives = record {
+          owes = owes_is v c j p m.one x.held x.is_held path m.kept m.access.mode m.access.strong (right_is v c m.one m.access m.is m.has) ∙ owed_let m.access.mode m.access.strong m.no_fold;
+          gone = gone_tells v c m.one x.held x.is_held m.gone;
+        };
+      }
+
+  -- a join that may be made is one that the core tells
+  pub join_enabled : (v c : ℕ) (op : Op) → MayJoin k.tasks k.tree.tasks k.seen v c op → told.MayJoin (asks code) own core.bodies k.seen.opens k.seen.given (IsComplete k.tree.tasks) v c op
+  join_enabled v c op m =
+      let x = body_of v m.held m.is in
+      let r = right_of x.body.start.context c in
+      let o = owing x.body.start.path (k.seen.given v c) r (owed.Join op) (sym (x.is_held.owed_is c) ∙ m.folds.owes) in
+      let a = access_of v c o.number o.above x.body x.at_ o.path (Fold op) true (join_right r op o.by) in
+      let g = through_told v x.body m.held x.is_held m.folds.through in
+      record {
+        one = x.body;
+        is = x.at_;
+        access = a.access;
+        has = a.has;
+        fold = a.mode;
+        strong = a.strong_is;
+        kept = o.kept;
+        ended = g.0;
+        wait = g.1;
+        satisfied = m.folds.satisfied;
+      }
+
+  -- the join of a slot that may be made is one of the state
+  pub join_told : (v c : ℕ) (op : Op) → MayJoin k.tasks k.tree.tasks k.seen v c op → (p : List ℕ) × (t : Task CodeScript) × HasPoint k.tree.tasks v (written p) × CanJoin (asks code) s p c op t
+  join_told v c op m =
+      let e = join_enabled v c op m in
+      let r = tell.join_told (asks code) own core.bodies k.seen.opens k.seen.given k.cells s core.sound.tasks core.stands core.sound.below (IsComplete k.tree.tasks) (complete_tells core) v c op e in
+      (e.one.start.path, r.0, point_of_path core v e.one.start.path (record { one = e.one; is = e.is; path = refl }), r.1)
+
+  -- main has no slot
+  main_joins_none : (c : ℕ) (op : Op) (t : Task CodeScript) → CanJoin (asks code) s [] c op t → ⊥
+  main_joins_none c op t can =
+      let made = core_made core in
+      let start : t.body.start ≡ main = ap (λ (x : Task CodeScript). x.body.start) (at_same s [] t made.main_task can.at_ made.main_at) ∙ made.main_start in
+      let e : Fold op ≡ Write = core.setting.writes c (Fold op) true (ap (λ (x : Start CodeScript). right_of x.context c) (sym start) ∙ can.right) in
+      cc
+
+  -- and each join of the state may be made
+  pub join_tells : (v c : ℕ) (op : Op) (p : List ℕ) (t : Task CodeScript) → HasPoint k.tree.tasks v (written p) → CanJoin (asks code) s p c op t → MayJoin k.tasks k.tree.tasks k.seen v c op
+  join_tells v c op [] t h can = absurd (main_joins_none c op t can)
+  join_tells v c op (j ∷ p) t h can =
+      let has = path_of_point core v (j ∷ p) h in
+      let m = tell.join_tells (asks code) own core.bodies k.seen.opens k.seen.given k.cells s core.sound.tasks core.stands core.sound.below (IsComplete k.tree.tasks) (complete_tells core) v c j op p t has can in
+      let x = kept_of v m.one m.is in
+      let path : m.one.start.path ≡ j ∷ p = ap (λ (b : Body CodeScript). b.start.path) (some_is (sym m.is ∙ has.is)) ∙ has.path in
+      let right : right_of m.one.start.context c ≡ Holds (Fold op) true = right_is v c m.one m.access m.is m.has ∙ λ i. Holds (m.fold i) (m.strong i) in
+      record {
+        held = x.held;
+        is = x.at_;
+        folds = record {
+          owes = owes_is v c j p m.one x.held x.is_held path m.kept (Fold op) true right;
+          through = through_tells v m.one x.held x.is_held m.ended m.wait;
+          satisfied = m.satisfied;
+        };
+      }
