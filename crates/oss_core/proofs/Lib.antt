@@ -13,3 +13,4 @@ pub mod TreeFacts
 pub mod ChildFacts
 pub mod BodyFacts
 pub mod ExactLemmas
+pub mod NeedLemmas
