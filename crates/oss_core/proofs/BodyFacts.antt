@@ -1,13 +1,11 @@
 -- What a kept body tells of the body of the definitions that it is.
-use Rattle.std.proofs.Common.{◌≡◌, ℕ, ◌⊎◌, inl, inr, refl, sym, subst, ap, ◌∙◌, List, [], ◌∷◌, Bool, true, false, Option, Some, None}
-use Rattle.std.specs.Prelude.{slice_get}
+use Rattle.std.proofs.Common.{◌≡◌, ℕ, refl, sym, subst, ap, ◌∙◌, List, [], ◌∷◌, Bool, true, false, Some}
 use Rattle.oss_syntax.specs.declared.access.Mode.{Mode}
 use Rattle.oss_syntax.specs.declared.access.Mode.TheVariants.{Read, Write, Fold}
 use Rattle.oss_syntax.specs.declared.access.Op.{Op}
 use Rattle.oss_model.specs.Rights.{Right, NoRight, Released, Holds, is_released}
 use Rattle.oss_model.specs.Context.{right_of}
-use Rattle.oss_model.specs.Bodies.{Body as Meant, Act as MeantAct, stack_from, IsHalt}
-use Rattle.oss_model.specs.Bodies.Act.{Over}
+use Rattle.oss_model.specs.Bodies.{Body as Meant, stack_from, IsHalt}
 use Rattle.oss_model.specs.Moves.{act_now, is_ended}
 use Rattle.oss_model.proofs.TreeLemmas.{over_stops}
 use Rattle.oss_code.specs.declared.code.CodeParts.{CodeParts}
@@ -18,7 +16,7 @@ use Rattle.oss_body.specs.declared.act.Act.TheVariants as acts
 use Rattle.oss_body.specs.declared.body.Body.{Body}
 use Rattle.oss_body.specs.Acts.{act_seen, goes_on}
 use Rattle.oss_body.specs.Places.{Placed}
-use Rattle.oss_body.specs.Relation.{IsBody, has_begun, has_wait, is_over, is_some, pending_of, released_by}
+use Rattle.oss_body.specs.Relation.{IsBody, has_begun, is_over, is_some, pending_of, released_by}
 use Rattle.oss_core.specs.declared.held.Owed.{Owed}
 use Rattle.oss_core.specs.declared.held.Owed.TheVariants as owed
 use Rattle.oss_core.specs.Kept.{owed_by, owed_of}
@@ -33,10 +31,12 @@ pub goes_tells : (a : Act) → (IsHalt (act_seen a) → ⊥) → goes_on a ≡ t
 goes_tells (acts.Fault kind line key) f = absurd (f tt)
 goes_tells _ f = refl
 
+-- a body that has not begun has no answers
 none_found : (found : List ℕ) → is_some found ≡ false → found ≡ []
 none_found [] e = refl
 none_found (v ∷ vs) e = cc
 
+-- a released right
 released_is : (r : Right) → is_released r ≡ true → r ≡ Released
 released_is Released e = refl
 released_is NoRight e = cc
@@ -50,6 +50,7 @@ pub record IsOwing (p : List ℕ) (given : Bool) (r : Right) (x : Owed) : Type 0
   pub kept : given ≡ false
   pub by : owed_by r ≡ Some x
 
+-- what is still to be given up is owed
 pub owing : (p : List ℕ) (given : Bool) (r : Right) (x : Owed) → owed_of p given r ≡ Some x → IsOwing p given r x
 owing [] given r x e = cc
 owing (j ∷ p) true r x e = cc
@@ -97,6 +98,7 @@ module _ {code : CodeParts} {b : Meant CodeScript} {kept : Body} (is : IsBody co
   pub over_told : is_over kept ≡ true → is_ended (asks code) b ≡ true
   over_told h = sym is.ended ∙ h
 
+  -- and the other way
   pub over_tells : is_ended (asks code) b ≡ true → is_over kept ≡ true
   over_tells h = is.ended ∙ h
 
@@ -104,6 +106,7 @@ module _ {code : CodeParts} {b : Meant CodeScript} {kept : Body} (is : IsBody co
   pub act_told : is_over kept ≡ false → goes_on (pending_of kept) ≡ true → IsHalt (act_now (asks code) b) → ⊥
   act_told r g h = goes_told kept.act g (subst IsHalt (sym (is.act r)) h)
 
+  -- a body whose next act goes on has not ended
   pub act_running : (IsHalt (act_now (asks code) b) → ⊥) → is_over kept ≡ false
   act_running f = go (is_over kept) refl
     where
@@ -111,22 +114,26 @@ module _ {code : CodeParts} {b : Meant CodeScript} {kept : Body} (is : IsBody co
       go false e = refl
       go true e = absurd (f (subst IsHalt (sym (over_stops (asks code) b.start b.found (over_told e))) tt))
 
+  -- and its act is no fault
   pub act_tells : (IsHalt (act_now (asks code) b) → ⊥) → goes_on (pending_of kept) ≡ true
   act_tells f = goes_tells kept.act (λ h. f (subst IsHalt (is.act (act_running f)) h))
 
-  -- it has begun
+  -- it has not begun
   pub begun_told : b.found ≡ [] → has_begun kept ≡ false
   begun_told e = is.begun ∙ ap is_some e
 
+  -- and the other way
   pub begun_tells : has_begun kept ≡ false → b.found ≡ []
   begun_tells e = none_found b.found (sym is.begun ∙ e)
 
-  -- its own task has released the cell
+  -- the right of its own task to the cell
   right_now : (c : ℕ) → released_by kept c ≡ is_released (right_of (stack_from (asks code) b.start b.found).base.context c)
   right_now c = ap (λ (x : Placed). is_released (right_of x.context c)) is.place
 
+  -- its own task has released the cell
   pub released_told : (c : ℕ) → released_by kept c ≡ true → right_of (stack_from (asks code) b.start b.found).base.context c ≡ Released
   released_told c h = released_is (right_of (stack_from (asks code) b.start b.found).base.context c) (sym (right_now c) ∙ h)
 
+  -- and the other way
   pub released_tells : (c : ℕ) → right_of (stack_from (asks code) b.start b.found).base.context c ≡ Released → released_by kept c ≡ true
   released_tells c h = right_now c ∙ ap is_released h

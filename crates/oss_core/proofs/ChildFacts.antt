@@ -1,5 +1,5 @@
 -- The children of a task in the tree are those that the entries of a dependency system name.
-use Rattle.std.proofs.Common.{◌≡◌, ℕ, suc, ◌<◌, ◌≤◌, ◌+◌, ◌⊎◌, inl, inr, refl, sym, subst, ap, ◌∙◌, arith, List, [], ◌∷◌, ◌++◌, length, Bool, true, false, Option, Some, None}
+use Rattle.std.proofs.Common.{◌≡◌, ℕ, suc, ◌<◌, ◌+◌, ◌⊎◌, inl, inr, refl, sym, subst, ap, ◌∙◌, arith, List, [], ◌∷◌, ◌++◌, length, false, Some}
 use Rattle.std.specs.Prelude.{slice_get}
 use Rattle.std.proofs.lemmas.Option.{slice_get_within}
 use Rattle.oss_model.specs.Order.{IsIn, written}
@@ -14,7 +14,7 @@ use Rattle.oss_code.specs.declared.code.CodeParts.{CodeParts}
 use Rattle.oss_machine.specs.Frames.{CodeScript}
 use Rattle.oss_machine.specs.Machines.{asks}
 use Rattle.oss_tree.specs.declared.task.Task.{Task as TreeTask}
-use Rattle.oss_tree.specs.Tasks.{AreChildrenComplete, HasPoint, IsComplete, number}
+use Rattle.oss_tree.specs.Tasks.{AreChildrenComplete, IsComplete, number}
 use Rattle.oss_tree.proofs.TreeLemmas.{on_way, one_point}
 use Rattle.oss_deps.specs.declared.opened.Open.{Open}
 use Rattle.oss_core.specs.Standing.{IsNumbered, IsLinked}
@@ -23,8 +23,9 @@ use Rattle.oss_core.specs.Enabled.{IsNewestComplete}
 use Rattle.oss_core.specs.Kept.{Kept, IsCore, own}
 use Rattle.oss_core.proofs.KeepLemmas.{some_is}
 use Rattle.oss_core.proofs.MatchLemmas.{entry_of, path_of, head_is, tail_is}
-use Rattle.oss_core.proofs.TreeFacts.{at_place, AtNumber, at_number, body_within, task_within, core_made, path_of_point, point_of_path}
+use Rattle.oss_core.proofs.TreeFacts.{at_place, at_number, body_within, task_within, core_made, path_of_point, point_of_path}
 
+-- the point of a child is that of its creator, with the number of the child behind it
 written_child : (j : ℕ) (p : List ℕ) → written (j ∷ p) ≡ written p ++ j ∷ []
 written_child j p = ap (λ (z : List ℕ). 0 ∷ z) (reverse_cons j p)
 

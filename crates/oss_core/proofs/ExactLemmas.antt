@@ -1,16 +1,16 @@
 -- The moves that may be made by what a core keeps are those of the state for which it stands.
-use Rattle.std.proofs.Common.{◌≡◌, ℕ, ◌⊎◌, inl, inr, refl, sym, subst, ap, ◌∙◌, List, [], ◌∷◌, Bool, true, false, Option, Some, None}
+use Rattle.std.proofs.Common.{◌≡◌, ℕ, ◌⊎◌, inl, inr, refl, sym, subst, ap, ◌∙◌, List, [], ◌∷◌, Bool, true, false, Some}
 use Rattle.std.specs.Prelude.{slice_get}
 use Rattle.oss_syntax.specs.declared.access.Access.{Access}
 use Rattle.oss_syntax.specs.declared.access.Mode.{Mode}
 use Rattle.oss_syntax.specs.declared.access.Mode.TheVariants.{Fold, Write}
 use Rattle.oss_syntax.specs.declared.access.Op.{Op}
-use Rattle.oss_model.specs.Order.{IsIn, written}
+use Rattle.oss_model.specs.Order.{written}
 use Rattle.oss_model.specs.Rights.{Released, Holds}
-use Rattle.oss_model.specs.Context.{Context, right_of}
+use Rattle.oss_model.specs.Context.{right_of}
 use Rattle.oss_model.specs.Bodies.{Body, Start, stack_from}
-use Rattle.oss_model.specs.Machine.{State, Task, At}
-use Rattle.oss_model.specs.Moves.{act_now, is_ended, CanStep, CanLet, CanJoin}
+use Rattle.oss_model.specs.Machine.{State, Task}
+use Rattle.oss_model.specs.Moves.{is_ended, CanStep, CanLet, CanJoin}
 use Rattle.oss_model.proofs.TreeLemmas.{at_same}
 use Rattle.oss_ranges.specs.Cells.{value_at}
 use Rattle.oss_code.specs.declared.code.CodeParts.{CodeParts}
@@ -19,13 +19,10 @@ use Rattle.oss_machine.specs.Machines.{asks}
 use Rattle.oss_body.specs.declared.act.Act.{Act}
 use Rattle.oss_body.specs.declared.act.Act.TheVariants as acts
 use Rattle.oss_body.specs.Acts.{act_seen}
-use Rattle.oss_body.specs.Relation.{IsBody, pending_of, released_by}
+use Rattle.oss_body.specs.Relation.{pending_of, released_by}
 use Rattle.oss_tree.specs.Tasks.{HasPoint, IsComplete}
-use Rattle.oss_deps.specs.declared.opened.Open.{Open}
-use Rattle.oss_deps.specs.Opens.{access_at}
 use Rattle.oss_core.specs.declared.held.Held.{Held}
 use Rattle.oss_core.specs.declared.held.Owed.TheVariants as owed
-use Rattle.oss_core.specs.Standing.{IsNumbered}
 use Rattle.oss_core.specs.Telling as told
 use Rattle.oss_core.specs.Telling.{HasEntry, IsClauseTold, IsWaitTold}
 use Rattle.oss_core.specs.Enabled.{IsActMet, IsThrough, MayJoin, MayLet, MayStep}
@@ -35,7 +32,7 @@ use Rattle.oss_core.proofs.MatchLemmas.{entry_of}
 use Rattle.oss_core.proofs.TellLemmas as tell
 use Rattle.oss_core.proofs.TreeFacts.{at_number, body_within, complete_tells, core_made, kept_within, path_of_point, point_of_path}
 use Rattle.oss_core.proofs.ChildFacts.{children_told, children_tell, newest_told, newest_tells}
-use Rattle.oss_core.proofs.BodyFacts.{IsLetRight, IsOwing, act_running, act_tells, act_told, begun_tells, begun_told, join_right, let_right, over_tells, over_told, owed_let, owing, released_tells, released_told}
+use Rattle.oss_core.proofs.BodyFacts.{act_running, act_tells, act_told, begun_tells, begun_told, join_right, let_right, over_tells, over_told, owed_let, owing, released_tells, released_told}
 
 module _ {code : CodeParts} {main : Start CodeScript} {first : List ℕ} {k : Kept} {s : State CodeScript} (core : IsCore code main first k s) where
   -- the body of the definitions under a number, of which this is kept
@@ -56,6 +53,7 @@ module _ {code : CodeParts} {main : Start CodeScript} {first : List ℕ} {k : Ke
     pub at_ : slice_get k.tasks v ≡ Some held
     pub is_held : IsHeld code (k.seen.given v) b held
 
+  -- it is kept under its number
   pub kept_of : (v : ℕ) (b : Body CodeScript) → slice_get core.bodies v ≡ Some b → KeptOf v b
   kept_of v b e =
       let x = at_number core v (body_within core v b e) in
@@ -69,6 +67,7 @@ module _ {code : CodeParts} {main : Start CodeScript} {first : List ℕ} {k : Ke
   wait_told v b e (acts.WaitOn ranges) f = f
   wait_told v b e _ f = tt
 
+  -- and the other way
   pub wait_tells : (v : ℕ) (b : Body CodeScript) → slice_get core.bodies v ≡ Some b → (a : Act) → IsWaitTold (asks code) own core.bodies k.seen.opens k.seen.given (IsComplete k.tree.tasks) v b (act_seen a)
       → IsActMet k.tree.tasks k.seen v a
   wait_tells v b e acts.Await f = newest_tells core v b e f
@@ -124,6 +123,7 @@ module _ {code : CodeParts} {main : Start CodeScript} {first : List ℕ} {k : Ke
       → (is_ended (asks code) b ≡ true) × IsClauseTold (asks code) own core.bodies k.seen.opens k.seen.given (IsComplete k.tree.tasks) v b
   through_told v b held h m = (over_told h.body_is m.over, λ w. children_told core v (m.wait (h.body_is.wait ∙ w)))
 
+  -- and the other way
   pub through_tells : (v : ℕ) (b : Body CodeScript) (held : Held) → IsHeld code (k.seen.given v) b held → is_ended (asks code) b ≡ true
       → IsClauseTold (asks code) own core.bodies k.seen.opens k.seen.given (IsComplete k.tree.tasks) v b → IsThrough k.tree.tasks v held.body
   through_tells v b held h e f = record { over = over_tells h.body_is e; wait = λ w. children_tell core v (f (sym h.body_is.wait ∙ w)) }
@@ -157,6 +157,7 @@ module _ {code : CodeParts} {main : Start CodeScript} {first : List ℕ} {k : Ke
   gone_told v c b held h (inl r) = inl (released_told h.body_is c r)
   gone_told v c b held h (inr r) = inr (through_told v b held h r)
 
+  -- and the other way
   gone_tells : (v c : ℕ) (b : Body CodeScript) (held : Held) → IsHeld code (k.seen.given v) b held
       → (right_of (stack_from (asks code) b.start b.found).base.context c ≡ Released) ⊎ ((is_ended (asks code) b ≡ true) × IsClauseTold (asks code) own core.bodies k.seen.opens k.seen.given (IsComplete k.tree.tasks) v b)
       → (released_by held.body c ≡ true) ⊎ IsThrough k.tree.tasks v held.body

@@ -1,6 +1,6 @@
 -- What the calls of a core need of what it keeps.
-use Rattle.std.proofs.Common.{◌≡◌, ℕ, suc, ◌<◌, ◌≤◌, ◌+◌, ◌⊎◌, inl, inr, refl, sym, subst, ap, ◌∙◌, arith, List, [], ◌∷◌, length, reverse, Bool, true, false, Option, Some, None}
-use Rattle.std.specs.Prelude.{slice_get, nat_le, ◌||◌, if◌then◌else◌}
+use Rattle.std.proofs.Common.{◌≡◌, ℕ, suc, ◌<◌, ◌≤◌, ◌⊎◌, inl, inr, refl, sym, ap, ◌∙◌, arith, List, [], ◌∷◌, length, reverse, Bool, true, false, Option, Some, None}
+use Rattle.std.specs.Prelude.{slice_get, nat_le}
 use Rattle.std.proofs.lemmas.Bool.Decides.{nat_tests}
 use Rattle.std.proofs.lemmas.List.{length-reverse}
 use Rattle.std.proofs.lemmas.Option.{slice_get_past}
@@ -8,16 +8,15 @@ use Rattle.oss_syntax.specs.declared.access.Access.{Access}
 use Rattle.oss_syntax.specs.declared.access.Mode.{Mode}
 use Rattle.oss_syntax.specs.declared.access.Mode.TheVariants.{Fold}
 use Rattle.oss_syntax.specs.declared.access.Op.{Op}
-use Rattle.oss_syntax.specs.declared.fault.FaultKind.{FaultKind}
 use Rattle.oss_syntax.specs.declared.fault.FaultKind.TheVariants as fault
 use Rattle.oss_judge.specs.Joined as joined
 use Rattle.oss_judge.specs.Joined.{held_right}
 use Rattle.oss_model.specs.Order.{IsIn, here, there, written}
-use Rattle.oss_model.specs.Rights.{Right, NoRight, Released, Holds, in_access, joined_right, right_from}
+use Rattle.oss_model.specs.Rights.{Right, NoRight, Released, Holds, in_access, right_from}
 use Rattle.oss_model.specs.Context.{Context, create_fault, right_of}
 use Rattle.oss_model.specs.Bodies.{Body as Meant, Order, Start, child_start, stack_from, stage_act, stage_created, act_of}
 use Rattle.oss_model.specs.Bodies.Act.{Created}
-use Rattle.oss_model.specs.Machine.{State, Task, At}
+use Rattle.oss_model.specs.Machine.{State}
 use Rattle.oss_model.specs.Moves.{act_now, created_now, new_task}
 use Rattle.oss_model.proofs.StageLemmas.{creating}
 use Rattle.oss_ranges.specs.Cells.{value_at}
@@ -30,7 +29,6 @@ use Rattle.oss_body.specs.declared.act.Act.TheVariants as acts
 use Rattle.oss_body.specs.declared.body.Body.{Body}
 use Rattle.oss_body.specs.Acts.{act_seen, creates}
 use Rattle.oss_body.specs.Relation.{IsBody, is_over, pending_of}
-use Rattle.oss_tree.specs.declared.task.Task.{Task as TreeTask}
 use Rattle.oss_tree.specs.Tasks.{MayCreate}
 use Rattle.oss_deps.specs.declared.opened.Open.{Open}
 use Rattle.oss_deps.specs.Opens.{access_at, mode_in, mode_of_access, HasOpened, IsFolding, IsKnown, IsRising}
@@ -53,6 +51,7 @@ abbrev right_by : Option Access → Right
 right_by None = NoRight
 right_by (Some a) = Holds a.mode a.strong
 
+-- a cell that no access names
 none_right : (c : ℕ) (rest : List Access) → ((b : Access) → IsIn b rest → in_access b c ≡ true → ⊥) → right_from false rest c ≡ NoRight
 none_right c [] f = refl
 none_right c (b ∷ rest) f = go (bools (in_access b c)) (none_right c rest (λ x i. f x (there i)))
@@ -79,6 +78,7 @@ opens_rising [] h = tt
 opens_rising (a ∷ []) h = tt
 opens_rising (a ∷ b ∷ rest) h = (h.0.behind, opens_rising (b ∷ rest) h.1)
 
+-- a right that is still held
 held_is : (r : Right) (m : Mode) (strong : Bool) → held_right r ≡ Holds m strong → r ≡ Holds m strong
 held_is NoRight m strong e = cc
 held_is Released m strong e = cc
@@ -155,6 +155,7 @@ module _ {code : CodeParts} {main : Start CodeScript} {first : List ℕ} {k : Ke
     pub order : Order CodeScript
     pub act : act_now (asks code) body ≡ Created order false
 
+  -- where a creation stands next there is one
   pub creator_of : (v : ℕ) (held : Held) → slice_get k.tasks v ≡ Some held → is_over held.body ≡ false → creates (pending_of held.body) ≡ true → Creator v held
   creator_of v held e r c =
       let b = body_of core v held e in
@@ -221,6 +222,7 @@ module _ {code : CodeParts} {main : Start CodeScript} {first : List ℕ} {k : Ke
       (are_rights accesses new.start.context up (rights new.start [] is_new))
       up
 
+  -- the same, where the new task is kept with its cells
   pub may_open : (v : ℕ) (before child : Held) (accesses : List Access) → slice_get k.tasks v ≡ Some before → is_over before.body ≡ false → creates (pending_of before.body) ≡ true
       → ((start : Start CodeScript) (found : List ℕ) (order : Order CodeScript) → IsBody code start found before.body → stage_act (asks code) start found ≡ Created order false → IsBody code (child_start (stack_from (asks code) start found).base order) [] child.body)
       → ((start : Start CodeScript) (found : List ℕ) → IsBody code start found child.body → (c : ℕ) → right_from false accesses c ≡ held_right (right_of start.context c))

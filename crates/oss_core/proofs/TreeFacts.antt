@@ -1,14 +1,14 @@
 -- What stands under one number in a core: a body of the definitions, what is kept of it, and its task in the tree, which is a tree of the state.
-use Rattle.std.proofs.Common.{◌≡◌, ℕ, ◌<◌, ◌≤◌, ◌⊎◌, inl, inr, refl, sym, subst, ap, ◌∙◌, arith, List, [], ◌∷◌, length, Bool, true, false, Option, Some, None, ◌↔◌, get_or}
+use Rattle.std.proofs.Common.{◌≡◌, ℕ, ◌<◌, ◌≤◌, ◌⊎◌, inl, inr, sym, subst, ap, ◌∙◌, arith, List, [], ◌∷◌, length, Some, None, ◌↔◌, get_or}
 use Rattle.std.specs.Prelude.{slice_get}
 use Rattle.std.proofs.lemmas.Option.{slice_get_within, slice_get_cases}
-use Rattle.oss_model.specs.Order.{IsIn, written}
+use Rattle.oss_model.specs.Order.{written}
 use Rattle.oss_model.specs.Bodies.{Body, Start}
 use Rattle.oss_model.specs.Machine as machine
 use Rattle.oss_model.specs.Machine.{State, Task, At, Owes}
 use Rattle.oss_model.specs.History.{IsMade, IsStarted}
 use Rattle.oss_model.specs.Moves.{is_ended, opening}
-use Rattle.oss_model.specs.Sequence.{Running, Sequential}
+use Rattle.oss_model.specs.Sequence.{Sequential}
 use Rattle.oss_model.specs.Agreement.{Agrees}
 use Rattle.oss_model.proofs.AgreementTheorem.{reached_agrees}
 use Rattle.oss_model.proofs.SortLemmas.{reverse_same}
