@@ -150,16 +150,18 @@ ordered_added (x ∷ rest) o (one a d p ord) z fresh self par =
     other q (inl k) e = p x here (ap (λ (y : Open). y.task) (sym k) ∙ e)
     other q (inr i) e = last q (in_added rest o i) e
 
-bounds : (a : Access) (c : ℕ) → in_access a c ≡ true → (a.range.lo ≤ c) × (c < a.range.hi)
+-- the cells of an access
+pub bounds : (a : Access) (c : ℕ) → in_access a c ≡ true → (a.range.lo ≤ c) × (c < a.range.hi)
 bounds a c h = let k = both (nat_le a.range.lo c) (nat_lt c a.range.hi) h in (grind (arith, nat_tests, k.0), grind (arith, nat_tests, k.1))
 
 -- each access behind another one begins at or behind its end
-rising_behind : (a : Access) (rest : List Access) → IsRising (a ∷ rest) → (b : Access) → IsIn b rest → a.range.hi ≤ b.range.lo
+pub rising_behind : (a : Access) (rest : List Access) → IsRising (a ∷ rest) → (b : Access) → IsIn b rest → a.range.hi ≤ b.range.lo
 rising_behind a [] r b i = elim i [ ]
 rising_behind a (x ∷ rest) r b here = r.0
 rising_behind a (x ∷ rest) r b (there i) = let k = rising_behind x rest r.1 b i in let l = r.0 in let o = x.range.ordered in omega (arith, k, l, o)
 
-rising_rest : (a : Access) (rest : List Access) → IsRising (a ∷ rest) → IsRising rest
+-- the accesses behind the first rise too
+pub rising_rest : (a : Access) (rest : List Access) → IsRising (a ∷ rest) → IsRising rest
 rising_rest a [] r = tt
 rising_rest a (x ∷ rest) r = r.1
 

@@ -12,3 +12,8 @@ pub mod PrintLemmas
 pub mod CallLemmas
 pub mod GoingLemmas
 pub mod OwedLemmas
+pub mod TreeFacts
+pub mod ChildFacts
+pub mod BodyFacts
+pub mod ExactLemmas
+pub mod NeedLemmas

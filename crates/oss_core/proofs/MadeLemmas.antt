@@ -90,12 +90,12 @@ core_give P body of bodies opens given after v c core l gives = record {
     within w k (inr e) = subst (λ (x : ℕ). x < length bodies) (sym e.0) l
 
 module _ {S B : Type 0} (P : Program S) (body : B → Body S) (of : B → Type 0) (bodies : List B) (opens : List Open) (given : ℕ → ℕ → Bool) (cells : List ℕ) (s : State S) (core : AreSound P body of bodies opens given)
-    (stands : StandsFor body bodies given cells s) (complete : ℕ → Bool) (tells : (v : ℕ) (p : List ℕ) → IsNumbered body bodies v p → (complete v ≡ true ↔ IsComplete P s p)) where
+    (stands : StandsFor body bodies given cells s) (Complete : ℕ → Type 0) (tells : (v : ℕ) (p : List ℕ) → IsNumbered body bodies v p → (Complete v ↔ IsComplete P s p)) where
   -- an act that creates no task
-  pub step_made : (v : ℕ) (e : IsEnabled P body bodies opens given complete v) (loaded : ℕ) → found_by (act_now P (body e.one)) cells ≡ answer_to (act_now P (body e.one)) loaded → ((o : Order S) → act_now P (body e.one) ≢ Created o false)
+  pub step_made : (v : ℕ) (e : IsEnabled P body bodies opens given Complete v) (loaded : ℕ) → found_by (act_now P (body e.one)) cells ≡ answer_to (act_now P (body e.one)) loaded → ((o : Order S) → act_now P (body e.one) ≢ Created o false)
       → (new : List B) → IsAdvanced P body of loaded bodies new v → (after : ℕ → ℕ → Bool) → ((w k : ℕ) → after w k ≡ given w k) → (more : List ℕ) → more ≡ cells_after (act_now P (body e.one)) cells → StepMade P body bodies new after more v s
   step_made v e loaded found_is none new adv after same_given more more_is =
-      let c = step_told P body bodies opens given cells s core.tasks stands core.below complete tells v e in
+      let c = step_told P body bodies opens given cells s core.tasks stands core.below Complete tells v e in
       let t = c.0 in
       let a = act_now P (body e.one) in
       let act_same : act_now P t.body ≡ a = ap (λ (x : Body S). act_now P x) c.2 in
@@ -126,9 +126,9 @@ module _ {S B : Type 0} (P : Program S) (body : B → Body S) (of : B → Type 0
     pub went : LetGo s path c task state
     pub stand_for : StandsFor body bodies after cells state
 
-  pub let_made : (v c : ℕ) → MayLet P body bodies opens given complete v c → (after : ℕ → ℕ → Bool) → ((w k : ℕ) → (after w k ≡ true ↔ ((given w k ≡ true) ⊎ ((w ≡ v) × (k ≡ c))))) → LetMade after v c
+  pub let_made : (v c : ℕ) → MayLet P body bodies opens given Complete v c → (after : ℕ → ℕ → Bool) → ((w k : ℕ) → (after w k ≡ true ↔ ((given w k ≡ true) ⊎ ((w ≡ v) × (k ≡ c))))) → LetMade after v c
   let_made v c m after gives =
-      let t = let_told P body bodies opens given cells s core.tasks stands core.below complete tells v c m in
+      let t = let_told P body bodies opens given cells s core.tasks stands core.below Complete tells v c m in
       let own : TaskOf body bodies s v (body m.one).start.path t.0 = record { has = record { one = m.one; is = m.is; path = refl }; at_ = t.1.at_ } in
       let k = let_keeps P body bodies bodies opens given cells s core.tasks stands v (body m.one).start.path t.0 own after c gives in
       record { path = (body m.one).start.path; task = t.0; state = k.0; has = own.has; can = t.1; went = k.1; stand_for = k.2 }
@@ -143,10 +143,10 @@ module _ {S B : Type 0} (P : Program S) (body : B → Body S) (of : B → Type 0
     pub joined : Joined P s path c op task state
     pub stand_for : StandsFor body bodies after more state
 
-  pub join_made : (v c : ℕ) (op : Op) (m : MayJoin P body bodies opens given complete v c op) → (after : ℕ → ℕ → Bool) → ((w k : ℕ) → (after w k ≡ true ↔ ((given w k ≡ true) ⊎ ((w ≡ v) × (k ≡ c)))))
+  pub join_made : (v c : ℕ) (op : Op) (m : MayJoin P body bodies opens given Complete v c op) → (after : ℕ → ℕ → Bool) → ((w k : ℕ) → (after w k ≡ true ↔ ((given w k ≡ true) ⊎ ((w ≡ v) × (k ≡ c)))))
       → (more : List ℕ) → more ≡ joined_cells P c op (record { body = body m.one; given = [] }) cells → JoinMade after more v c op
   join_made v c op m after gives more more_is =
-      let t = join_told P body bodies opens given cells s core.tasks stands core.below complete tells v c op m in
+      let t = join_told P body bodies opens given cells s core.tasks stands core.below Complete tells v c op m in
       let own : TaskOf body bodies s v (body m.one).start.path t.0 = record { has = record { one = m.one; is = m.is; path = refl }; at_ = t.1.at_ } in
       let k = let_keeps P body bodies bodies opens given cells s core.tasks stands v (body m.one).start.path t.0 own after c gives in
       let same : joined_cells P c op t.0 s.cells ≡ more
@@ -166,7 +166,7 @@ module _ {S B : Type 0} (P : Program S) (body : B → Body S) (of : B → Type 0
     pub made : StepMade P body bodies new after cells v s
     pub core_is : AreSound P body of new more after
 
-  pub creation_made : (new : List B) (more : List Open) (after : ℕ → ℕ → Bool) (v : ℕ) (e : IsEnabled P body bodies opens given complete v) → (o : Order S) → act_now P (body e.one) ≡ Created o false → IsCreated P body of bodies new opens more v → ((w k : ℕ) → after w k ≡ given w k) → Creation new more after v
+  pub creation_made : (new : List B) (more : List Open) (after : ℕ → ℕ → Bool) (v : ℕ) (e : IsEnabled P body bodies opens given Complete v) → (o : Order S) → act_now P (body e.one) ≡ Created o false → IsCreated P body of bodies new opens more v → ((w k : ℕ) → after w k ≡ given w k) → Creation new more after v
   creation_made new more after v e o act cr same_given =
       record {
         made = record {
@@ -187,7 +187,7 @@ module _ {S B : Type 0} (P : Program S) (body : B → Body S) (of : B → Type 0
       }
     where
       c : (t : Task S) × CanStep P s (body e.one).start.path t × (t.body ≡ body e.one)
-      c = step_told P body bodies opens given cells s core.tasks stands core.below complete tells v e
+      c = step_told P body bodies opens given cells s core.tasks stands core.below Complete tells v e
 
       act_t : act_now P c.0.body ≡ Created o false
       act_t = ap (λ (x : Body S). act_now P x) c.2 ∙ act

@@ -28,7 +28,7 @@ not_true false h = refl
 
 module _ {S B : Type 0} (P : Program S) (body : B → Body S) (bodies : List B) (list : List Open) (given : ℕ → ℕ → Bool) (cells : List ℕ) (s : State S)
     (tasks : AreTasks body bodies list) (stands : StandsFor body bodies given cells s) (below : (o : Open) → IsIn o list → (l : IsLinked body bodies o) → l.child < created_now P (body l.creator))
-    (complete : ℕ → Bool) (tells : (v : ℕ) (p : List ℕ) → IsNumbered body bodies v p → (complete v ≡ true ↔ IsComplete P s p)) where
+    (Complete : ℕ → Type 0) (tells : (v : ℕ) (p : List ℕ) → IsNumbered body bodies v p → (Complete v ↔ IsComplete P s p)) where
   -- an entry of a child in the state
   record ChildEntry (k : ℕ) (p : List ℕ) (v : ℕ) : Type 0 where
     pub entry : Open
@@ -72,10 +72,10 @@ module _ {S B : Type 0} (P : Program S) (body : B → Body S) (bodies : List B) 
       }
 
   module _ (v : ℕ) (p : List ℕ) (has : IsNumbered body bodies v p) where
-    pub children_told : ChildrenComplete P body bodies list given complete v → (k : ℕ) (u : Task S) → At s (k ∷ p) u → IsComplete P s (k ∷ p)
+    pub children_told : ChildrenComplete P body bodies list given Complete v → (k : ℕ) (u : Task S) → At s (k ∷ p) u → IsComplete P s (k ∷ p)
     children_told f k u h = let c = child_entry k p v u has h in (tells c.entry.task (k ∷ p) c.has).0 (f c.entry c.listed c.parent)
 
-    pub children_tell : ((k : ℕ) (u : Task S) → k < created_now P (body has.one) → At s (k ∷ p) u → IsComplete P s (k ∷ p)) → ChildrenComplete P body bodies list given complete v
+    pub children_tell : ((k : ℕ) (u : Task S) → k < created_now P (body has.one) → At s (k ∷ p) u → IsComplete P s (k ∷ p)) → ChildrenComplete P body bodies list given Complete v
     children_tell f o i e =
         let c = entry_child o i p v has e in
         let l = tasks.linked o i in
@@ -83,7 +83,7 @@ module _ {S B : Type 0} (P : Program S) (body : B → Body S) (bodies : List B) 
         let m = c.creator has.one (ap (λ (w : ℕ). slice_get bodies w) e ∙ has.is) in
         (tells o.task (l.child ∷ p) c.has).1 (f l.child c.task (omega (arith, n, m)) c.at_)
 
-    pub wait_told : (act : Act S) → IsWaitTold P body bodies list given complete v has.one act → IsWaitMet P s p (created_now P (body has.one)) act
+    pub wait_told : (act : Act S) → IsWaitTold P body bodies list given Complete v has.one act → IsWaitMet P s p (created_now P (body has.one)) act
     wait_told Waited f = λ k u l h. children_told f k u h
     wait_told Awaited f = λ k u e h. let c = child_entry k p v u has h in (tells c.entry.task (k ∷ p) c.has).0 (f c.entry c.listed c.parent (tasks.linked c.entry c.listed) (ap (λ (n : ℕ). n + 1) c.child ∙ e))
     wait_told (WaitedOn named) f = λ k c l i a. children_forth P body bodies list given cells s tasks stands c p v has (f c i) k a
@@ -105,7 +105,7 @@ module _ {S B : Type 0} (P : Program S) (body : B → Body S) (bodies : List B) 
         let t : k.task ≡ l.task = some_is (sym k.task_is ∙ l.task_is) in
         head_is (sym k.path ∙ ap (λ (b : B). (body b).start.path) t ∙ l.path)
 
-    pub wait_tells : (act : Act S) → IsWaitMet P s p (created_now P (body has.one)) act → IsWaitTold P body bodies list given complete v has.one act
+    pub wait_tells : (act : Act S) → IsWaitMet P s p (created_now P (body has.one)) act → IsWaitTold P body bodies list given Complete v has.one act
     wait_tells Waited f = children_tell (λ k u l h. f k u l h)
     wait_tells Awaited f = λ o i e l n. let c = entry_child o i p v has e in (tells o.task ((tasks.linked o i).child ∷ p) c.has).1 (f (tasks.linked o i).child c.task (ap (λ (m : ℕ). m + 1) (child_same o i l) ∙ n) c.at_)
     wait_tells (WaitedOn named) f = λ c i. children_back P body bodies list given cells s tasks stands c p v has below (λ k l a. f k c l i a)
@@ -145,14 +145,14 @@ module _ {S B : Type 0} (P : Program S) (body : B → Body S) (bodies : List B) 
     ready_tells [] e r = inl (tasks.one_number v 0 has.one tasks.main.one has.is tasks.main.is (has.path ∙ e ∙ sym tasks.main.path))
     ready_tells (k ∷ q) e r = inr (met_of body bodies list given cells s tasks stands k q v (record { one = has.one; is = has.is; path = has.path ∙ e }) r)
 
-    clause_told : (t : Task S) → t.body ≡ body has.one → IsClauseTold P body bodies list given complete v has.one → WaitClause P s p t
+    clause_told : (t : Task S) → t.body ≡ body has.one → IsClauseTold P body bodies list given Complete v has.one → WaitClause P s p t
     clause_told t e f = λ w k u h. children_told (f (ap (λ (x : Body S). x.start.order.wait) (sym e) ∙ w)) k u h
 
-    clause_tells : (t : Task S) → t.body ≡ body has.one → WaitClause P s p t → IsClauseTold P body bodies list given complete v has.one
+    clause_tells : (t : Task S) → t.body ≡ body has.one → WaitClause P s p t → IsClauseTold P body bodies list given Complete v has.one
     clause_tells t e f = λ w. children_tell (λ k u l h. f (ap (λ (x : Body S). x.start.order.wait) e ∙ w) k u h)
 
   -- what the core tells of a step is so
-  pub step_told : (v : ℕ) (e : IsEnabled P body bodies list given complete v) → (t : Task S) × CanStep P s (body e.one).start.path t × (t.body ≡ body e.one)
+  pub step_told : (v : ℕ) (e : IsEnabled P body bodies list given Complete v) → (t : Task S) × CanStep P s (body e.one).start.path t × (t.body ≡ body e.one)
   step_told v e =
       let p = (body e.one).start.path in
       let has : IsNumbered body bodies v p = record { one = e.one; is = e.is; path = refl } in
@@ -169,7 +169,7 @@ module _ {S B : Type 0} (P : Program S) (body : B → Body S) (bodies : List B) 
       )
 
   -- and what is so it tells
-  pub step_tells : (v : ℕ) (p : List ℕ) (t : Task S) → IsNumbered body bodies v p → CanStep P s p t → IsEnabled P body bodies list given complete v
+  pub step_tells : (v : ℕ) (p : List ℕ) (t : Task S) → IsNumbered body bodies v p → CanStep P s p t → IsEnabled P body bodies list given Complete v
   step_tells v p t has can =
       let o = own v p has in
       let same : t.body ≡ body has.one = ap (λ (x : Task S). x.body) (sym (own_is v p has t can.at_)) ∙ o.body_is in
@@ -182,7 +182,7 @@ module _ {S B : Type 0} (P : Program S) (body : B → Body S) (bodies : List B) 
       }
 
   -- the right of a task to a cell is that of its entry
-  entry_right : (v c : ℕ) (p : List ℕ) (has : IsNumbered body bodies v p) (a : Access) → HasEntry P body bodies list given complete v c a → right_of (body has.one).start.context c ≡ Holds a.mode a.strong
+  entry_right : (v c : ℕ) (p : List ℕ) (has : IsNumbered body bodies v p) (a : Access) → HasEntry P body bodies list given Complete v c a → right_of (body has.one).start.context c ≡ Holds a.mode a.strong
   entry_right v c p has a h =
       let l = tasks.linked h.entry h.listed in
       let t : l.task ≡ has.one = some_is (sym l.task_is ∙ ap (λ (w : ℕ). slice_get bodies w) h.number ∙ has.is) in
@@ -190,7 +190,7 @@ module _ {S B : Type 0} (P : Program S) (body : B → Body S) (bodies : List B) 
 
   record FoundEntry (v c : ℕ) (m : Mode) (strong : Bool) : Type 0 where
     pub access : Access
-    pub has : HasEntry P body bodies list given complete v c access
+    pub has : HasEntry P body bodies list given Complete v c access
     pub mode : access.mode ≡ m
     pub strong_is : access.strong ≡ strong
 
@@ -206,14 +206,14 @@ module _ {S B : Type 0} (P : Program S) (body : B → Body S) (bodies : List B) 
   held_parts a b x y e = (cc, cc)
 
   -- the path of a task that has an entry is not main's
-  entry_path : (v c : ℕ) (p : List ℕ) (has : IsNumbered body bodies v p) (a : Access) → HasEntry P body bodies list given complete v c a → p ≢ []
+  entry_path : (v c : ℕ) (p : List ℕ) (has : IsNumbered body bodies v p) (a : Access) → HasEntry P body bodies list given Complete v c a → p ≢ []
   entry_path v c p has a h e =
       let l = tasks.linked h.entry h.listed in
       let t : l.task ≡ has.one = some_is (sym l.task_is ∙ ap (λ (w : ℕ). slice_get bodies w) h.number ∙ has.is) in
       let f : l.child ∷ (body l.creator).start.path ≡ [] = sym l.path ∙ ap (λ (b : B). (body b).start.path) t ∙ has.path ∙ e in
       absurd cc
 
-  pub let_told : (v c : ℕ) (m : MayLet P body bodies list given complete v c) → (t : Task S) × CanLet P s (body m.one).start.path c t × (t.body ≡ body m.one)
+  pub let_told : (v c : ℕ) (m : MayLet P body bodies list given Complete v c) → (t : Task S) × CanLet P s (body m.one).start.path c t × (t.body ≡ body m.one)
   let_told v c m =
       let p = (body m.one).start.path in
       let has : IsNumbered body bodies v p = record { one = m.one; is = m.is; path = refl } in
@@ -233,11 +233,11 @@ module _ {S B : Type 0} (P : Program S) (body : B → Body S) (bodies : List B) 
         o.body_is,
       )
     where
-      gone : (t : Task S) → t.body ≡ body m.one → (right_of (stack_from P (body m.one).start (body m.one).found).base.context c ≡ Released) ⊎ ((is_ended P (body m.one) ≡ true) × IsClauseTold P body bodies list given complete v m.one) → IsGone P s (body m.one).start.path c t
+      gone : (t : Task S) → t.body ≡ body m.one → (right_of (stack_from P (body m.one).start (body m.one).found).base.context c ≡ Released) ⊎ ((is_ended P (body m.one) ≡ true) × IsClauseTold P body bodies list given Complete v m.one) → IsGone P s (body m.one).start.path c t
       gone t e (inl h) = inl (subst (λ (x : Body S). right_of (stack_from P x.start x.found).base.context c ≡ Released) (sym e) h)
       gone t e (inr h) = inr (subst (λ (x : Body S). is_ended P x ≡ true) (sym e) h.0, clause_told v (body m.one).start.path (record { one = m.one; is = m.is; path = refl }) t e h.1)
 
-  pub let_tells : (v c : ℕ) (p : List ℕ) (t : Task S) → IsNumbered body bodies v p → CanLet P s p c t → MayLet P body bodies list given complete v c
+  pub let_tells : (v c : ℕ) (p : List ℕ) (t : Task S) → IsNumbered body bodies v p → CanLet P s p c t → MayLet P body bodies list given Complete v c
   let_tells v c [] t has can = absurd (can.not_main refl)
   let_tells v c (k ∷ p) t has can =
       let o = own v (k ∷ p) has in
@@ -253,14 +253,14 @@ module _ {S B : Type 0} (P : Program S) (body : B → Body S) (bodies : List B) 
         gone = gone same can.gone;
       }
     where
-      gone : t.body ≡ body has.one → IsGone P s (k ∷ p) c t → (right_of (stack_from P (body has.one).start (body has.one).found).base.context c ≡ Released) ⊎ ((is_ended P (body has.one) ≡ true) × IsClauseTold P body bodies list given complete v has.one)
+      gone : t.body ≡ body has.one → IsGone P s (k ∷ p) c t → (right_of (stack_from P (body has.one).start (body has.one).found).base.context c ≡ Released) ⊎ ((is_ended P (body has.one) ≡ true) × IsClauseTold P body bodies list given Complete v has.one)
       gone e (inl h) = inl (subst (λ (x : Body S). right_of (stack_from P x.start x.found).base.context c ≡ Released) e h)
       gone e (inr h) = inr (subst (λ (x : Body S). is_ended P x ≡ true) e h.0, clause_tells v (k ∷ p) has t e h.1)
 
-  entry_opened : (v c : ℕ) (a : Access) (h : HasEntry P body bodies list given complete v c a) → HasOpened list c v
+  entry_opened : (v c : ℕ) (a : Access) (h : HasEntry P body bodies list given Complete v c a) → HasOpened list c v
   entry_opened v c a h = record { entry = h.entry; listed = h.listed; number = h.number; named = named_at h.entry c a h.at_ }
 
-  pub join_told : (v c : ℕ) (op : Op) (m : MayJoin P body bodies list given complete v c op) → (t : Task S) × CanJoin P s (body m.one).start.path c op t × (t.body ≡ body m.one)
+  pub join_told : (v c : ℕ) (op : Op) (m : MayJoin P body bodies list given Complete v c op) → (t : Task S) × CanJoin P s (body m.one).start.path c op t × (t.body ≡ body m.one)
   join_told v c op m =
       let p = (body m.one).start.path in
       let has : IsNumbered body bodies v p = record { one = m.one; is = m.is; path = refl } in
@@ -277,7 +277,7 @@ module _ {S B : Type 0} (P : Program S) (body : B → Body S) (bodies : List B) 
         o.body_is,
       )
 
-  pub join_tells : (v c k : ℕ) (op : Op) (p : List ℕ) (t : Task S) → IsNumbered body bodies v (k ∷ p) → CanJoin P s (k ∷ p) c op t → MayJoin P body bodies list given complete v c op
+  pub join_tells : (v c k : ℕ) (op : Op) (p : List ℕ) (t : Task S) → IsNumbered body bodies v (k ∷ p) → CanJoin P s (k ∷ p) c op t → MayJoin P body bodies list given Complete v c op
   join_tells v c k op p t has can =
       let o = own v (k ∷ p) has in
       let same : t.body ≡ body has.one = ap (λ (x : Task S). x.body) (sym (own_is v (k ∷ p) has t can.at_)) ∙ o.body_is in

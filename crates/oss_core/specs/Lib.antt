@@ -8,3 +8,4 @@ pub mod Enabled
 pub mod Changes
 pub mod Going
 pub mod Cores
+pub mod Stops

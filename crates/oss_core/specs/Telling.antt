@@ -15,15 +15,15 @@ use Rattle.oss_deps.specs.declared.opened.Open.{Open}
 use Rattle.oss_deps.specs.Opens.{access_at, opened_forest, IsMet, AreChildrenDone}
 use Rattle.oss_core.specs.Standing.{IsLinked}
 
-module _ {S B : Type 0} (P : Program S) (body : B → Body S) (bodies : List B) (opens : List Open) (given : ℕ → ℕ → Bool) (complete : ℕ → Bool) where
+module _ {S B : Type 0} (P : Program S) (body : B → Body S) (bodies : List B) (opens : List Open) (given : ℕ → ℕ → Bool) (Complete : ℕ → Type 0) where
   -- Each child of the task is complete.
   abbrev pub ChildrenComplete : ℕ → Type 0
-  ChildrenComplete v = (o : Open) → IsIn o opens → o.parent ≡ v → complete o.task ≡ true
+  ChildrenComplete v = (o : Open) → IsIn o opens → o.parent ≡ v → Complete o.task
 
   -- What the act waits for has happened.
   abbrev pub IsWaitTold : ℕ → B → Act S → Type 0
   IsWaitTold v one Waited = ChildrenComplete v
-  IsWaitTold v one Awaited = (o : Open) → IsIn o opens → o.parent ≡ v → (l : IsLinked body bodies o) → l.child + 1 ≡ created_now P (body one) → complete o.task ≡ true
+  IsWaitTold v one Awaited = (o : Open) → IsIn o opens → o.parent ≡ v → (l : IsLinked body bodies o) → l.child + 1 ≡ created_now P (body one) → Complete o.task
   IsWaitTold v one (WaitedOn named) = (c : ℕ) → in_clauses named c ≡ true → AreChildrenDone opens given v c
   IsWaitTold v one _ = Unit {0}
 

@@ -1,0 +1,58 @@
+-- A core that stands still, and its answer, told of what it keeps alone.
+-- Read against: main has created out(x), which divides by 0 on line 4, and in(x); main has ended. Only the first task could go on, and it stands before a fault: so no move may
+-- be made, the second task and the first are not complete, and the answer is the fault on line 4, with what was printed up to its key.
+use Rattle.std.specs.Prelude.{◌≡◌, ℕ, ◌<◌, ◌↔◌, Bool, true, false, List, [], ◌∷◌, length, Some, slice_get}
+use Rattle.oss_syntax.specs.declared.fault.FaultKind.{FaultKind}
+use Rattle.oss_model.specs.Order.{IsBefore, IsIn, written}
+use Rattle.oss_model.specs.declared.answer.Answer.{Answer}
+use Rattle.oss_model.specs.declared.answer.Answer.TheVariants as answers
+use Rattle.oss_model.specs.declared.moving.Move.{Move}
+use Rattle.oss_body.specs.declared.act.Act.{Act}
+use Rattle.oss_body.specs.declared.act.Act.TheVariants as acts
+use Rattle.oss_body.specs.Places.{unwritten}
+use Rattle.oss_body.specs.Relation.{is_over, pending_of}
+use Rattle.oss_tree.specs.declared.task.Task.{Task as TreeTask}
+use Rattle.oss_tree.specs.Tasks.{AreComplete, IsComplete}
+use Rattle.oss_tree.specs.Output.{IsOutput, up_to}
+use Rattle.oss_core.specs.declared.held.Held.{Held}
+use Rattle.oss_core.specs.Enabled.{MayMove}
+use Rattle.oss_core.specs.Kept.{Kept}
+
+-- No move may be made.
+abbrev pub IsStill : Kept → Type 0
+IsStill k = (m : Move) → MayMove k m → ⊥
+
+-- The task stands before a fault of this kind, on this line, with this key, which is a point.
+pub record IsFaultAt (tasks : List Held) (v : ℕ) (kind : FaultKind) (line : ℕ) (key : List ℕ) : Type 0 where
+  pub held : Held
+  pub is : slice_get tasks v ≡ Some held
+  pub running : is_over held.body ≡ false
+  pub act : pending_of held.body ≡ acts.Fault kind line key
+  pub keyed : written (unwritten key) ≡ key
+
+-- The task stands before a fault, and no task before one with a key before its own.
+pub record IsLeastFaultAt (tasks : List Held) (v : ℕ) (kind : FaultKind) (line : ℕ) (key : List ℕ) : Type 0 where
+  pub fault : IsFaultAt tasks v kind line key
+  pub least : (w : ℕ) (other : FaultKind) (row : ℕ) (place : List ℕ) → IsFaultAt tasks w other row place → IsBefore place key → ⊥
+
+-- No task stands before a fault.
+abbrev pub IsFaultless : List Held → Type 0
+IsFaultless tasks = (v : ℕ) (kind : FaultKind) (line : ℕ) (key : List ℕ) → IsFaultAt tasks v kind line key → ⊥
+
+-- The answer of a core that stands still: where no task stands before a fault, all that was printed, in point order, and the memory; else the fault with the least key and what
+-- was printed up to it.
+pub data IsAnswerOf (k : Kept) : Answer → Type 0 where
+  done : {output : List ℕ} → IsFaultless k.tasks → IsOutput k.tree.prints output → IsAnswerOf k (answers.Done output k.cells)
+  fault : (v : ℕ) {kind : FaultKind} {line : ℕ} {key output : List ℕ} → IsLeastFaultAt k.tasks v kind line key → IsOutput (up_to key k.tree.prints) output → IsAnswerOf k (answers.Fault kind line output)
+
+-- No number stands in the list twice.
+abbrev pub AreApart : {A : Type 0} → List A → Type 0
+AreApart [] = Unit {0}
+AreApart (x ∷ xs) = (IsIn x xs → ⊥) × AreApart xs
+
+-- So many tasks are not complete: there is a list of exactly these.
+pub record AreUnfinished (tasks : List TreeTask) (n : ℕ) : Type 0 where
+  pub list : List ℕ
+  pub apart : AreApart list
+  pub exact : (v : ℕ) → (IsIn v list ↔ ((v < length tasks) × (IsComplete tasks v → ⊥)))
+  pub count : length list ≡ n
