@@ -9,3 +9,4 @@ pub mod FullOpenLemmas
 pub mod TellLemmas
 pub mod MadeLemmas
 pub mod PrintLemmas
+pub mod CoreLemmas
