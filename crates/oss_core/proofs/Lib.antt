@@ -10,3 +10,5 @@ pub mod TellLemmas
 pub mod MadeLemmas
 pub mod PrintLemmas
 pub mod CoreLemmas
+pub mod ActLemmas
+pub mod StepsLemmas

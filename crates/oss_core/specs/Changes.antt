@@ -23,6 +23,7 @@ use Rattle.oss_body.specs.declared.act.Act.{Act}
 use Rattle.oss_body.specs.declared.act.Act.TheVariants as acts
 use Rattle.oss_body.specs.declared.body.Body.{Body}
 use Rattle.oss_body.specs.Acts.{act_seen, answer_to, creates}
+use Rattle.oss_body.specs.Places.{unwritten}
 use Rattle.oss_body.specs.Relation.{IsBody, has_wait, is_over, pending_of}
 use Rattle.oss_tree.specs.declared.output.Print.{Print}
 use Rattle.oss_tree.specs.declared.task.Task.{Task as TreeTask}
@@ -70,6 +71,8 @@ pub record Steps (code : CodeParts) (v : ℕ) (act : Act) (old new : Kept) : Typ
   pub cells : new.cells ≡ cells_after (act_seen act) old.cells
   pub tasks : new.tree.tasks ≡ noted v (is_over after.body) old.tree.tasks
   pub prints : new.tree.prints ≡ prints_after act old.tree.prints
+  -- the key of a print is a point: it begins with main's 0
+  pub key_is : (key text : List ℕ) → act ≡ acts.Print key text → written (unwritten key) ≡ key
   pub seen : IsSame old.seen new.seen
 
 -- How a cell is to be given up by the task with these accesses.
