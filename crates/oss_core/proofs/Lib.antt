@@ -12,3 +12,4 @@ pub mod PrintLemmas
 pub mod CoreLemmas
 pub mod ActLemmas
 pub mod StepsLemmas
+pub mod GivesLemmas
