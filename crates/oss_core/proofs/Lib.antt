@@ -13,3 +13,4 @@ pub mod CoreLemmas
 pub mod ActLemmas
 pub mod StepsLemmas
 pub mod GivesLemmas
+pub mod NewLemmas
