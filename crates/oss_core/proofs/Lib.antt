@@ -14,3 +14,4 @@ pub mod ActLemmas
 pub mod StepsLemmas
 pub mod GivesLemmas
 pub mod NewLemmas
+pub mod CountLemmas
