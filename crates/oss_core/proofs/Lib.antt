@@ -15,3 +15,4 @@ pub mod StepsLemmas
 pub mod GivesLemmas
 pub mod NewLemmas
 pub mod CountLemmas
+pub mod CreatesLemmas
