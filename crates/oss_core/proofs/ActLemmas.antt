@@ -8,6 +8,7 @@ use Rattle.oss_model.specs.Machine.{Task, State}
 use Rattle.oss_model.specs.Moves.{act_now, is_ended, found_by, cells_after, after_answer, CanStep, Stepped}
 use Rattle.oss_model.proofs.TreeLemmas.{over_stops}
 use Rattle.oss_code.specs.declared.code.CodeParts.{CodeParts}
+use Rattle.oss_machine.specs.Asks.{meant_order}
 use Rattle.oss_machine.specs.Frames.{CodeScript}
 use Rattle.oss_machine.specs.Machines.{asks}
 use Rattle.oss_body.specs.declared.act.Act.{Act as KeptAct}
@@ -32,6 +33,17 @@ pub created_is : (act : KeptAct) (o : Order CodeScript) → act_seen act ≡ Cre
 created_is (acts.Create creation true) o e = cc
 created_is (acts.Create creation false) o e = refl
 created_is _ o e = cc
+
+-- the order of the task that an act creates
+pub created_order : (act : KeptAct) → creates act ≡ true → (o : Order CodeScript) × (act_seen act ≡ Created o false)
+created_order (acts.Create creation false) e = (meant_order creation.order, refl)
+created_order (acts.Create creation true) e = absurd cc
+created_order _ e = absurd cc
+
+-- a creation finds nothing
+pub finds_nothing : (act : KeptAct) (cells : List ℕ) → creates act ≡ true → 0 ≡ found_in act cells
+finds_nothing (acts.Load c) cells e = absurd cc
+finds_nothing _ cells e = refl
 
 -- what an act finds is its answer
 pub answered : (act : KeptAct) (cells : List ℕ) → answer_to (act_seen act) (found_in act cells) ≡ found_by (act_seen act) cells
@@ -65,12 +77,14 @@ module _ (code : CodeParts) (main : Start CodeScript) (first : List ℕ) (old : 
   abbrev pub bodies : List (Body CodeScript)
   bodies = slice_set core.bodies v next
 
+  -- one body is another now
   pub bodies_changed : Changed core.bodies bodies v next
   bodies_changed = record {
     now = get_set_same core.bodies v t.body next (body_at code main first old s core v p t point can.at_);
     others = λ w n. get_set_other core.bodies v w next n;
   }
 
+  -- it has gone on by the act
   pub advanced : IsAdvanced (asks code) own (λ b. Unit {0}) found core.bodies bodies v
   advanced = record {
     before = t.body;

@@ -72,9 +72,11 @@ module _ (code : CodeParts) (main : Start CodeScript) (first : List ℕ) (old : 
   agrees : Agrees (asks code) main first (record { state = opening main first; active = []; printed = [] }) s
   agrees = every_state_agrees CodeScript (asks code) main first (record { state = opening main first; active = []; printed = [] }) s core.setting opens core.reached
 
+  -- its tasks were made as they should
   pub made : IsMade (asks code) main s
   made = agrees.made
 
+  -- and they have started as they should
   pub started : IsStarted (asks code) s
   started = agrees.started
 
@@ -88,21 +90,27 @@ module _ (code : CodeParts) (main : Start CodeScript) (first : List ℕ) (old : 
         let k = core.known.each v b.0 point.task b.1 point.at_ in
         record { one = b.0; is = b.1; path = reverse_same b.0.start.path p (tail_is (sym k.point ∙ point.point)) }
 
+    -- the task has the number
     pub own_task : TaskOf own core.bodies s v p t
     own_task = record { has = has; at_ = at_ }
 
+    -- its body stands at the number
     pub body_at : slice_get core.bodies v ≡ Some t.body
     unfolding own_task
     body_at = has.is ∙ ap Some (sym (own_body (asks code) own core.bodies core.bodies old.seen.opens old.seen.given old.cells s core.sound.tasks core.stands v p t own_task))
 
+    -- its path
     pub own_path : t.body.start.path ≡ p
     own_path = path_found s.tasks p t at_
 
+    -- what is kept of it
     pub held_at : (h : Held) → slice_get old.tasks v ≡ Some h → IsHeld code (old.seen.given v) t.body h
     held_at h e = core.held.each v t.body h body_at e
 
+    -- what is known of it
     pub known_at : IsKnown (asks code) (old.seen.given v) t.body point.task
     known_at = core.known.each v t.body point.task body_at point.at_
 
+    -- the cells that it has given up
     pub given_at : (c : ℕ) → (IsIn c t.given ↔ old.seen.given v c ≡ true)
     given_at = own_given (asks code) own core.bodies core.bodies old.seen.opens old.seen.given old.cells s core.sound.tasks core.stands v p t own_task

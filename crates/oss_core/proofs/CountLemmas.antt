@@ -73,6 +73,7 @@ module _ (code : CodeParts) (main : Start CodeScript) (first : List ℕ) (old : 
       (k.point ∙ ap written w.1.path ∙ written_child n p ∙ ap (λ (q : List ℕ). q ++ n ∷ []) (sym point.point)) in
       slice_get_within point.task.children n (number c.0) c.1
 
+  -- so the tree has as many
   pub children_count : length point.task.children ≡ created_now (asks code) t.body
   children_count = go (length point.task.children) refl (created_now (asks code) t.body) refl
     where
@@ -89,10 +90,12 @@ module _ (code : CodeParts) (main : Start CodeScript) (first : List ℕ) (old : 
       let x = stack_from (asks code) t.body.start t.body.found in
       stack_passed (asks code) (right_of t.body.start.context) x.base x.inner x.ended order (creating (asks code) t.body.start t.body.found order act_is).alone act_is
 
+  -- and there is room for one more
   pub room : length point.task.children < 65535
   unfolding stage_created
   room = let e = children_count in let f = few (stack_from (asks code) t.body.start t.body.found).base.context passes in omega (arith, e, f)
 
+  -- which is not nested too deep
   pub low : length point.task.point ≤ 64
   low =
       let d = path_depth (asks code) main s (made code main first old s core) core.depth p t at_ in

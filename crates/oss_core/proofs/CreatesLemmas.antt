@@ -34,42 +34,16 @@ use Rattle.oss_core.specs.Changes.{Creates, found_in, noted_new}
 use Rattle.oss_core.specs.Kept.{IsCore, IsHeld, IsKnown, AreHeld, AreKnown, Kept, own, owed_by, owed_of}
 use Rattle.oss_core.specs.Moving.{AreSound, Grown}
 use Rattle.oss_core.specs.Standing.{AreRightsOf, AreTasks, StandsFor}
-use Rattle.oss_core.proofs.ActLemmas.{running, found, next, bodies, act_is, body_goes}
+use Rattle.oss_core.proofs.ActLemmas.{created_order, finds_nothing, running, found, next, bodies, act_is, body_goes}
 use Rattle.oss_core.proofs.CoreLemmas.{held_same, known_same, sides_grow, made, body_at, held_at, known_at, own_task, own_path}
 use Rattle.oss_core.proofs.CountLemmas.{written_child, children_count, room, low}
 use Rattle.oss_core.proofs.EntryLemmas.{in_added, rising_once}
 use Rattle.oss_core.proofs.GrowLemmas as grow
 use Rattle.oss_core.proofs.MadeLemmas.{given_same}
-use Rattle.oss_core.proofs.NewLemmas.{follows_rising, are_rights, owed_same, first_cell}
+use Rattle.oss_core.proofs.NewLemmas.{follows_rising, are_rights, owed_same, first_cell, owed_by_new}
 use Rattle.oss_core.proofs.OpenLemmas.{may_open}
 use Rattle.oss_core.proofs.PrintLemmas.{prints_same}
-use Rattle.oss_core.proofs.PushLemmas.{get_front, get_last, get_others}
-
--- the order of the task that an act creates
-created_order : (act : KeptAct) → creates act ≡ true → (o : Order CodeScript) × (act_seen act ≡ Created o false)
-created_order (acts.Create creation false) e = (meant_order creation.order, refl)
-created_order (acts.Create creation true) e = absurd cc
-created_order _ e = absurd cc
-
--- a creation finds nothing
-finds_nothing : (act : KeptAct) (cells : List ℕ) → creates act ≡ true → 0 ≡ found_in act cells
-finds_nothing (acts.Load c) cells e = absurd cc
-finds_nothing _ cells e = refl
-
--- one element of a list is another now, and one more stands behind all
-grown_list : {A : Type 0} (xs : List A) (v m : ℕ) (x y z : A) → slice_get xs v ≡ Some x → m ≡ length xs → Grown xs (slice_set xs v y ++ z ∷ []) v y m z
-grown_list xs v m x y z is e = record {
-  now = get_front (slice_set xs v y) z v y (get_set_same xs v x y is);
-  new = ap (λ (i : ℕ). slice_get (slice_set xs v y ++ z ∷ []) i) (e ∙ sym (length-set xs v y)) ∙ get_last (slice_set xs v y) z;
-  others = λ w n k. get_others (slice_set xs v y) z w (λ h. k (h ∙ length-set xs v y ∙ sym e)) ∙ get_set_other xs v w y n;
-  fresh = slice_get_past xs m (omega (arith, e));
-}
-
--- a new task but main owes all to which it has a right
-owed_by_new : (path : List ℕ) (k : ℕ) (q : List ℕ) (given : Bool) (r : Right) → path ≡ k ∷ q → given ≡ false → owed_of path given r ≡ owed_by r
-owed_by_new [] k q given r e f = absurd cc
-owed_by_new (j ∷ p) k q true r e f = absurd cc
-owed_by_new (j ∷ p) k q false r e f = refl
+use Rattle.oss_core.proofs.PushLemmas.{grown_list}
 
 module _ (code : CodeParts) (main : Start CodeScript) (first : List ℕ) (old new : Kept) (s : State CodeScript) (core : IsCore code main first old s) (v : ℕ) (p : List ℕ) (t : Task CodeScript) (point : HasPoint old.tree.tasks v (written p))
     (can : CanStep (asks code) s p t) (act : KeptAct) (cr : Creates code v act old new) (order : Order CodeScript) (act_now_is : act_now (asks code) t.body ≡ Created order false) where
@@ -77,46 +51,60 @@ module _ (code : CodeParts) (main : Start CodeScript) (first : List ℕ) (old ne
   abbrev m : ℕ
   m = length old.tasks
 
+  -- the body behind the act
   abbrev now : Body CodeScript
   now = next code main first old s core v p t point can
 
+  -- the body of the new task
   abbrev child : Body CodeScript
   child = (new_task (asks code) t.body order).body
 
+  -- all bodies behind the act
   abbrev more : List (Body CodeScript)
   more = bodies code main first old s core v p t point can ++ child ∷ []
 
+  -- the entry of the new task
   abbrev entry : Open
   entry = record { task = length old.tasks; parent = v; accesses = cr.accesses }
 
+  -- what is kept of the task before the act
   before_held : IsHeld code (old.seen.given v) t.body cr.before
   before_held = held_at code main first old s core v p t point can.at_ cr.before cr.grown_is.was
 
+  -- what is kept of the new task is its body
   child_kept : IsBody code child.start [] cr.child.body
   child_kept = cr.created.body t.body.start t.body.found order before_held.body_is act_now_is
 
+  -- the accesses of the new task rise
   rising : IsRising cr.accesses
   rising = follows_rising cr.accesses cr.created.rising
 
+  -- and they give its rights
   rights : AreRightsOf cr.accesses child.start.context
   rights = are_rights cr.accesses child.start.context rising (cr.created.rights child.start [] child_kept)
 
+  -- the path of the new task
   new_path : child.start.path ≡ created_now (asks code) t.body ∷ p
   unfolding child_start stage_created
   new_path = ap (λ (q : List ℕ). created_now (asks code) t.body ∷ q) ((stack_ok (asks code) t.body.start t.body.found).path ∙ own_path code main first old s core v p t point can.at_)
 
+  -- one body has gone on, and one more is there
   bodies_grown : Grown core.bodies more v now m child
   bodies_grown = grown_list core.bodies v m t.body now child (body_at code main first old s core v p t point can.at_) core.held.size
 
+  -- there is one body more
   size_more : length more ≡ length core.bodies + 1
   size_more = let a = longer_by (bodies code main first old s core v p t point can) child in let b = length-set core.bodies v now in omega (arith, a, b)
 
+  -- the entry may be opened
   may : MayOpen old.seen.opens entry
   may = may_open (asks code) own core.bodies old.seen.opens core.sound.tasks v t.body (body_at code main first old s core v p t point can.at_) order act_now_is child refl entry bodies_grown.fresh refl rights (rising_once cr.accesses rising)
 
+  -- the new number has given up nothing
   free : (k : ℕ) → old.seen.given m k ≡ true → ⊥
   free k h = let l = core.sound.within m k h in let z = core.held.size in absurd (omega (arith, l, z))
 
+  -- nor has it behind the act
   not_given : (k : ℕ) → new.seen.given m k ≡ false
   not_given k = go (new.seen.given m k) refl
     where
@@ -128,12 +116,15 @@ module _ (code : CodeParts) (main : Start CodeScript) (first : List ℕ) (old ne
   abbrev after : State CodeScript
   after = grow.now (asks code) own core.bodies more old.seen.opens old.seen.given old.cells s core.sound.tasks core.stands v p t (own_task code main first old s core v p t point can.at_) core.sound.below now child m bodies_grown order act_now_is refl refl entry refl refl rights may free
 
+  -- the act leads to it
   stepped : Stepped (asks code) s p t after
   stepped = grow.steps (asks code) own core.bodies more old.seen.opens old.seen.given old.cells s core.sound.tasks core.stands v p t (own_task code main first old s core v p t point can.at_) core.sound.below now child m bodies_grown order act_now_is refl refl entry refl refl rights may free
 
+  -- bodies and entries are of the same tasks
   tasks_now : AreTasks own more (old.seen.opens ++ entry ∷ [])
   tasks_now = grow.tasks_grow (asks code) own core.bodies more old.seen.opens old.seen.given old.cells s core.sound.tasks core.stands v p t (own_task code main first old s core v p t point can.at_) core.sound.below now child m bodies_grown order act_now_is refl refl entry refl refl rights may free
 
+  -- what is kept of bodies and entries goes on to be sound
   sound_now : AreSound (asks code) own (λ b. Unit {0}) more new.seen.opens new.seen.given
   sound_now = record {
     tasks = subst (λ (os : List Open). AreTasks own more os) (sym cr.seen.opens) tasks_now;
@@ -143,6 +134,7 @@ module _ (code : CodeParts) (main : Start CodeScript) (first : List ℕ) (old ne
     within = λ w k h. let l = core.sound.within w k (sym (cr.seen.given w k) ∙ h) in let z = size_more in omega (arith, l, z);
   }
 
+  -- and stands for the state
   stands_now : StandsFor own more new.seen.given new.cells after
   stands_now =
       given_same own more old.seen.given new.seen.given new.cells after cr.seen.given
@@ -156,6 +148,7 @@ module _ (code : CodeParts) (main : Start CodeScript) (first : List ℕ) (old ne
     owed_is = λ c. ap (λ ps. value_at ps c) cr.goes.owed ∙ before_held.owed_is c ∙ ap (λ (g : Bool). owed_of t.body.start.path g (right_of t.body.start.context c)) (sym (cr.seen.given v c));
   }
 
+  -- what is kept of the new task
   child_held : IsHeld code (new.seen.given m) child cr.child
   child_held = record {
     body_is = child_kept;
@@ -163,6 +156,7 @@ module _ (code : CodeParts) (main : Start CodeScript) (first : List ℕ) (old ne
     ∙ sym (owed_by_new child.start.path (created_now (asks code) t.body) p (new.seen.given m c) (right_of child.start.context c) new_path (not_given c));
   }
 
+  -- what is kept of all
   held_now : AreHeld code new.seen.given more new.tasks
   held_now = record {
     size = let a = cr.grown_is.size in let b = core.held.size in let z = size_more in omega (arith, a, b, z);
@@ -175,27 +169,35 @@ module _ (code : CodeParts) (main : Start CodeScript) (first : List ℕ) (old ne
   abbrev wait : Bool
   wait = has_wait cr.child.body
 
+  -- the creator in the tree
   abbrev creator_task : TreeTask
   creator_task = with_child point.task (length old.tree.tasks)
 
+  -- the new task in the tree
   abbrev child_task : TreeTask
   child_task = tree.new_task point.task v wait
 
+  -- all tasks of the tree
   abbrev tasks_more : List TreeTask
   tasks_more = slice_set old.tree.tasks v creator_task ++ child_task ∷ []
 
+  -- the new task has one number
   same_number : m ≡ length old.tree.tasks
   same_number = core.held.size ∙ sym core.known.size
 
+  -- one task has one child more, and one more task is there
   tree_grown : Grown old.tree.tasks tasks_more v creator_task m child_task
   tree_grown = grown_list old.tree.tasks v m point.task creator_task child_task point.at_ same_number
 
+  -- they are those of a tree
   tree_is : IsTree tasks_more
   tree_is = tree_more old.tree.tasks v point.task wait point.at_ core.known.tree_is (room code main first old s core v p t point can.at_ order act_now_is) (low code main first old s core v p t point can.at_ order act_now_is)
 
+  -- there is one task more
   size_tree : length tasks_more ≡ length old.tree.tasks + 1
   size_tree = let a = longer_by (slice_set old.tree.tasks v creator_task) child_task in let b = length-set old.tree.tasks v creator_task in omega (arith, a, b)
 
+  -- what is known of the creator
   creator_known : IsKnown (asks code) (new.seen.given v) now creator_task
   creator_known =
       let k = known_same code (old.seen.given v) (new.seen.given v) t.body point.task (cr.seen.given v) (known_at code main first old s core v p t point can.at_) in
@@ -205,6 +207,7 @@ module _ (code : CodeParts) (main : Start CodeScript) (first : List ℕ) (old ne
         gave_all = k.gave_all;
       }
 
+  -- the point of the new task
   child_point : child_task.point ≡ written child.start.path
   child_point =
       ap (λ (q : List ℕ). q ++ length point.task.children ∷ []) point.point
@@ -220,6 +223,7 @@ module _ (code : CodeParts) (main : Start CodeScript) (first : List ℕ) (old ne
         core.known.each (λ w x y h. known_same code (old.seen.given w) (new.seen.given w) x y (cr.seen.given w) h) creator_known k;
   }
 
+  -- with accesses, or without: then the new task has given up all
   known_by : (accesses : List Access) → cr.accesses ≡ accesses → AreKnown (asks code) new.seen.given more (noted_new accesses (length old.tree.tasks) tasks_more)
   known_by (a ∷ rest) e =
       known_grown tasks_more child_task tree_is size_tree tree_grown (record {
@@ -247,10 +251,12 @@ module _ (code : CodeParts) (main : Start CodeScript) (first : List ℕ) (old ne
       owes : (c : ℕ) → Owes (created_now (asks code) t.body ∷ p) child.start.context c → ⊥
       owes c o = let x = rights.given c o.0 o.1 o.2 in let z : None ≡ Some x.0 = sym (ap (λ (xs : List Access). access_at xs c) e) ∙ x.1 in cc
 
+  -- what is known of all
   known_now : AreKnown (asks code) new.seen.given more new.tree.tasks
   known_now = subst (λ (tasks : List TreeTask). AreKnown (asks code) new.seen.given more tasks)
       (sym (cr.tasks ∙ ap (λ o. noted_new cr.accesses (length old.tree.tasks) (created_by old.tree.tasks v wait o)) point.at_)) (known_by cr.accesses refl)
 
+  -- the core stands for the state behind the creation
   core_now : IsCore code main first new after
   core_now = record {
     setting = core.setting;

@@ -73,13 +73,16 @@ none_owed (k ∷ p) false x c f = go (right_of x c) (λ m strong e. f (m, strong
     go Released g = refl
     go (Holds m strong) g = let e = g m strong refl in absurd cc
 
+-- nothing is owed of a cell that is given
 given_none : (path : List ℕ) (r : Right) → owed_of path true r ≡ None
 given_none [] r = refl
 given_none (k ∷ p) r = refl
 
+-- a cell is within the range of one cell that it is
 is_within_one : (c k : ℕ) → k ≡ c → is_within c (suc c) k ≡ true
 is_within_one c k e = both_of (nat_le c k) (nat_lt k (suc c)) (grind (arith, nat_tests, e)) (grind (arith, nat_tests, e))
 
+-- and no other is
 not_within_one : (c k : ℕ) → (k ≡ c → ⊥) → is_within c (suc c) k ≡ false
 not_within_one c k n = go (is_within c (suc c) k) refl
   where
@@ -114,6 +117,7 @@ module _ (code : CodeParts) (main : Start CodeScript) (first : List ℕ) (old ne
           ∙ (held_at code main first old s core v p t point at_ gives.before gives.changed_is.was).owed_is k
           ∙ ap (λ (b : Bool). owed_of t.body.start.path b (right_of t.body.start.context k)) (sym (gave_same v k (λ h. n h.1)))
 
+  -- no body is another now
   bodies_same : Changed core.bodies core.bodies v t.body
   bodies_same = record { now = body_at code main first old s core v p t point at_; others = λ w n. refl }
 
@@ -163,9 +167,11 @@ module _ (code : CodeParts) (main : Start CodeScript) (first : List ℕ) (old ne
             });
       }
 
+  -- what is known of the tasks
   pub known_now : AreKnown (asks code) new.seen.given core.bodies new.tree.tasks
   known_now = subst (λ (tasks : List TreeTask). AreKnown (asks code) new.seen.given core.bodies tasks) (sym gives.tasks) (known_after gives.last gives.last_is)
 
+  -- what is kept of bodies and entries goes on to be sound
   pub sound_after : AreSound (asks code) own (λ b. Unit {0}) core.bodies new.seen.opens new.seen.given
   sound_after =
       subst (λ (os : List Open). AreSound (asks code) own (λ b. Unit {0}) core.bodies os new.seen.given) (sym gives.opens)

@@ -10,7 +10,7 @@ use Rattle.oss_judge.specs.Joined as joined
 use Rattle.oss_judge.specs.Joined.{held_right}
 use Rattle.oss_deps.specs.Opens.{IsRising, access_at}
 use Rattle.oss_core.specs.Changes.{owed_by_access}
-use Rattle.oss_core.specs.Kept.{owed_by}
+use Rattle.oss_core.specs.Kept.{owed_by, owed_of}
 use Rattle.oss_core.specs.Standing.{AreRightsOf}
 use Rattle.oss_core.proofs.EntryLemmas.{both, both_of, bools}
 
@@ -25,10 +25,12 @@ abbrev Behind : ℕ → List Access → Type 0
 Behind cell [] = Unit {0}
 Behind cell (a ∷ rest) = cell ≤ a.range.lo
 
+-- the accesses behind the first
 behind_rest : (a : Access) (rest : List Access) → IsRising (a ∷ rest) → Behind a.range.hi rest × IsRising rest
 behind_rest a [] r = (tt, tt)
 behind_rest a (b ∷ rest) r = (r.0, r.1)
 
+-- a cell before an access is none of it
 not_in : (a : Access) (c : ℕ) → c < a.range.lo → in_access a c ≡ false
 not_in a c l = go (bools (in_access a c))
   where
@@ -53,6 +55,7 @@ pub data Told (accesses : List Access) (c : ℕ) : Type 0 where
   nothing : access_at accesses c ≡ None → right_from false accesses c ≡ NoRight → Told accesses c
   access : (a : Access) → access_at accesses c ≡ Some a → right_from false accesses c ≡ Holds a.mode a.strong → Told accesses c
 
+-- of each cell that is told
 pub told : (accesses : List Access) (c : ℕ) → IsRising accesses → Told accesses c
 told [] c r = nothing refl refl
 told (a ∷ rest) c r = go (bools (in_access a c)) (told rest c (behind_rest a rest r).1)
@@ -75,6 +78,7 @@ told (a ∷ rest) c r = go (bools (in_access a c)) (told rest c (behind_rest a r
         (ap (λ (x : Bool). if x then joined_right a.mode (false || a.strong) (right_from false rest c) else right_from false rest c) e ∙ ap (λ (x : Right). joined_right a.mode (false || a.strong) x) n.1)
     go (inr e) k = other e k
 
+-- a right that is held
 held_is : (r : Right) (m : Mode) (strong : Bool) → Holds m strong ≡ held_right r → r ≡ Holds m strong
 held_is NoRight m strong e = cc
 held_is Released m strong e = cc
@@ -112,3 +116,9 @@ first_cell a rest =
     let o = a.range.ordered in
     let e : in_access a a.range.lo ≡ true = both_of (nat_le a.range.lo a.range.lo) (nat_lt a.range.lo a.range.hi) (grind (arith, nat_tests)) (grind (arith, nat_tests, o)) in
     ap (λ (x : Bool). if x then Some a else access_at rest a.range.lo) e
+
+-- a new task but main owes all to which it has a right
+pub owed_by_new : (path : List ℕ) (k : ℕ) (q : List ℕ) (given : Bool) (r : Right) → path ≡ k ∷ q → given ≡ false → owed_of path given r ≡ owed_by r
+owed_by_new [] k q given r e f = absurd cc
+owed_by_new (j ∷ p) k q true r e f = absurd cc
+owed_by_new (j ∷ p) k q false r e f = refl

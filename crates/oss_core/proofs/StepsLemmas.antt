@@ -50,15 +50,18 @@ pub print_or : (act : KeptAct) (prints : List Print) → ((key : List ℕ) × (t
 print_or (acts.Print key text) prints = inl (key, text, refl)
 print_or _ prints = inr ((λ k u e. cc), refl)
 
+-- the images of a list and one more
 map_more : {A B : Type 0} (f : A → B) (xs : List A) (x : A) → map f (xs ++ x ∷ []) ≡ map f xs ++ f x ∷ []
 map_more f [] x = refl
 map_more f (y ∷ xs) x = ap (λ (ys : List _). f y ∷ ys) (map_more f xs x)
 
 module _ (code : CodeParts) (main : Start CodeScript) (first : List ℕ) (old new : Kept) (s : State CodeScript) (core : IsCore code main first old s) (v : ℕ) (p : List ℕ) (t : Task CodeScript) (point : HasPoint old.tree.tasks v (written p))
     (can : CanStep (asks code) s p t) where
+  -- the body behind the act
   abbrev now : Body CodeScript
   now = next code main first old s core v p t point can
 
+  -- all bodies behind the act
   abbrev list : List (Body CodeScript)
   list = bodies code main first old s core v p t point can
 
@@ -90,6 +93,7 @@ module _ (code : CodeParts) (main : Start CodeScript) (first : List ℕ) (old ne
     kept_act : act_seen act ≡ act_now (asks code) t.body
     kept_act = act_is code main first old s core v p t point can act st.before st.after st.changed_is.was (found_in act old.cells) st.goes
 
+    -- the act creates no task
     alone : (o : Order CodeScript) → act_now (asks code) t.body ≢ Created o false
     alone o e = let c = created_is act o (kept_act ∙ e) in let n = st.none in cc
 
@@ -109,6 +113,7 @@ module _ (code : CodeParts) (main : Start CodeScript) (first : List ℕ) (old ne
               });
         }
 
+    -- what is known of the tasks
     known_new : AreKnown (asks code) new.seen.given list new.tree.tasks
     known_new =
         let h = body_goes code main first old s core v p t point can act st.before st.after st.changed_is.was (found_in act old.cells) st.goes refl in
@@ -120,6 +125,7 @@ module _ (code : CodeParts) (main : Start CodeScript) (first : List ℕ) (old ne
       are : ArePrints (asks code) n done
       is : new.tree.prints ≡ map (print_of (asks code)) done
 
+    -- they are those of the state
     prints_now : (n : State CodeScript) → Stepped (asks code) s p t n → PrintsAfter n
     prints_now n step = go (print_or act old.tree.prints)
       where
@@ -144,8 +150,9 @@ module _ (code : CodeParts) (main : Start CodeScript) (first : List ℕ) (old ne
           is = st.prints ∙ same ∙ core.prints_are;
         }
 
-    pub steps_made : (n : State CodeScript) × Stepped (asks code) s p t n × IsCore code main first new n
-    steps_made =
+    -- the core stands for the state behind the act
+    pub state_now : (n : State CodeScript) × Stepped (asks code) s p t n × IsCore code main first new n
+    state_now =
         let k = step_keeps (asks code) own core.bodies list old.seen.opens old.seen.given old.cells s core.sound.tasks core.stands v p t (own_task code main first old s core v p t point can.at_) now can.goes alone
         (bodies_changed code main first old s core v p t point can) refl in
         let n : State CodeScript = k.0 in
@@ -170,3 +177,8 @@ module _ (code : CodeParts) (main : Start CodeScript) (first : List ℕ) (old ne
       where
         cells_is : cells_after (act_now (asks code) t.body) old.cells ≡ new.cells
         cells_is = ap (λ (a : Act CodeScript). cells_after a old.cells) (sym kept_act) ∙ sym st.cells
+
+-- an act that creates no task
+pub steps_made : (code : CodeParts) (main : Start CodeScript) (first : List ℕ) (old new : Kept) (s : State CodeScript) → IsCore code main first old s → (v : ℕ) (p : List ℕ) (t : Task CodeScript)
+    → HasPoint old.tree.tasks v (written p) → CanStep (asks code) s p t → (act : KeptAct) → Steps code v act old new → (n : State CodeScript) × Stepped (asks code) s p t n × IsCore code main first new n
+steps_made code main first old new s core v p t point can act st = state_now code main first old new s core v p t point can act st
