@@ -1,11 +1,11 @@
 -- An act of a task: what of the core stands for the task behind it.
-use Rattle.std.proofs.Common.{◌≡◌, ◌≢◌, ℕ, ◌<◌, refl, sym, subst, ap, ◌∙◌, List, [], ◌∷◌, ◌++◌, ◌⊎◌, inl, inr, Bool, true, false, arith, Some, ◌↔◌, length, length-set, map}
-use Rattle.std.specs.Prelude.{slice_get, slice_set, slice_index}
+use Rattle.std.proofs.Common.{◌≡◌, ℕ, refl, sym, subst, ap, ◌∙◌, List, ◌∷◌, Bool, true, false, Some, length-set}
+use Rattle.std.specs.Prelude.{slice_get, slice_set}
 use Rattle.oss_model.specs.Order.{written}
 use Rattle.oss_model.specs.Bodies.{Order, Start, Act, Body, IsHalt}
 use Rattle.oss_model.specs.Bodies.Act.{Created}
 use Rattle.oss_model.specs.Machine.{Task, State}
-use Rattle.oss_model.specs.Moves.{act_now, is_ended, found_by, cells_after, after_answer, CanStep, Stepped}
+use Rattle.oss_model.specs.Moves.{act_now, is_ended, found_by, after_answer, CanStep}
 use Rattle.oss_model.proofs.TreeLemmas.{over_stops}
 use Rattle.oss_code.specs.declared.code.CodeParts.{CodeParts}
 use Rattle.oss_machine.specs.Asks.{meant_order}
@@ -14,19 +14,16 @@ use Rattle.oss_machine.specs.Machines.{asks}
 use Rattle.oss_body.specs.declared.act.Act.{Act as KeptAct}
 use Rattle.oss_body.specs.declared.act.Act.TheVariants as acts
 use Rattle.oss_body.specs.Acts.{act_seen, answer_to, creates}
-use Rattle.oss_body.specs.Relation.{IsBody, is_over}
-use Rattle.oss_tree.specs.declared.task.Task.{Task as TreeTask}
+use Rattle.oss_body.specs.Relation.{IsBody}
 use Rattle.oss_tree.specs.Tasks.{HasPoint}
 use Rattle.oss_tree.proofs.ListLemmas.{get_set_other, get_set_same}
 use Rattle.oss_core.specs.declared.held.Held.{Held}
-use Rattle.oss_core.specs.Kept.{IsCore, IsHeld, AreHeld, Kept, own}
-use Rattle.oss_core.specs.Changes.{IsChanged, GoesOn, Steps, found_in}
+use Rattle.oss_core.specs.Kept.{IsCore, Kept, own}
+use Rattle.oss_core.specs.Changes.{GoesOn, found_in}
 use Rattle.oss_core.specs.Moving as moving
 use Rattle.oss_core.specs.Moving.{AreSound, IsAdvanced}
-use Rattle.oss_core.specs.Standing.{StandsFor}
-use Rattle.oss_core.proofs.CoreLemmas.{sides_change, body_at, held_at, own_task}
-use Rattle.oss_core.proofs.KeepLemmas.{Changed, ActDone, step_keeps}
-use Rattle.oss_core.proofs.MadeLemmas.{core_step, given_same}
+use Rattle.oss_core.proofs.CoreLemmas.{body_at, held_at}
+use Rattle.oss_core.proofs.KeepLemmas.{Changed}
 
 -- an act that is seen as the creation of a task that is not included creates a task
 pub created_is : (act : KeptAct) (o : Order CodeScript) → act_seen act ≡ Created o false → creates act ≡ true

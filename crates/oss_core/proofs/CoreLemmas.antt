@@ -1,5 +1,5 @@
 -- What a core keeps of one task of the state for which it stands.
-use Rattle.std.proofs.Common.{◌≡◌, ◌≢◌, ℕ, ◌<◌, refl, sym, subst, ap, ◌∙◌, List, [], ◌∷◌, ◌⊎◌, inl, inr, Bool, true, false, arith, Some, ◌↔◌, length}
+use Rattle.std.proofs.Common.{◌≡◌, ℕ, sym, subst, ap, ◌∙◌, List, [], ◌⊎◌, inl, inr, Bool, true, arith, Some, ◌↔◌}
 use Rattle.std.specs.Prelude.{slice_get}
 use Rattle.std.proofs.lemmas.Option.{slice_get_within}
 use Rattle.oss_model.specs.Order.{IsIn, written}
@@ -8,7 +8,7 @@ use Rattle.oss_model.specs.Machine.{Task, State, At}
 use Rattle.oss_model.specs.History.{IsMade, IsStarted}
 use Rattle.oss_model.specs.Moves.{opening}
 use Rattle.oss_model.specs.Sequence.Sequential.{opens}
-use Rattle.oss_model.specs.Agreement.{Setting, Agrees}
+use Rattle.oss_model.specs.Agreement.{Agrees}
 use Rattle.oss_model.proofs.AgreementTheorem.{every_state_agrees}
 use Rattle.oss_model.proofs.SortLemmas.{reverse_same}
 use Rattle.oss_model.proofs.TreeLemmas.{path_found}

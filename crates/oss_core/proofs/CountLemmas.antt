@@ -1,23 +1,21 @@
 -- The tree has of a task just the tasks that its body has created.
-use Rattle.std.proofs.Common.{◌≡◌, ℕ, zero, suc, ◌+◌, ◌<◌, ◌≤◌, ◌⊎◌, inl, inr, refl, sym, subst, ap, ◌∙◌, List, [], ◌∷◌, ◌++◌, Bool, true, false, arith, Some, None, length, length-append}
-use Rattle.std.specs.Prelude.{slice_get}
+use Rattle.std.proofs.Common.{◌≡◌, ℕ, zero, suc, ◌<◌, ◌≤◌, refl, sym, subst, ap, ◌∙◌, List, [], ◌∷◌, ◌++◌, false, arith, None, length}
 use Rattle.std.proofs.lemmas.List.{length-reverse}
 use Rattle.std.proofs.lemmas.Option.{slice_get_within}
 use Rattle.oss_model.specs.Order.{written}
 use Rattle.oss_model.specs.Context.{right_of, create_fault}
-use Rattle.oss_model.specs.Bodies.{Order, Start, Body, stack_from, act_of, stage_act, stage_created}
+use Rattle.oss_model.specs.Bodies.{Order, Start, stack_from, act_of, stage_act, stage_created}
 use Rattle.oss_model.specs.Bodies.Act.{Created}
 use Rattle.oss_model.specs.History.{MadeBy}
 use Rattle.oss_model.specs.Machine.{Task, State, At}
 use Rattle.oss_model.specs.Moves.{act_now, created_now}
 use Rattle.oss_model.proofs.OrderLemmas.{reverse_cons}
 use Rattle.oss_model.proofs.SortLemmas.{reverse_same}
-use Rattle.oss_model.proofs.StageLemmas.{CreationAt, creating, creation_at, creation_counts, created_grows}
+use Rattle.oss_model.proofs.StageLemmas.{creating, creation_at, creation_counts, created_grows}
 use Rattle.oss_model.proofs.TreeLemmas.{at_same, starts_well}
 use Rattle.oss_code.specs.declared.code.CodeParts.{CodeParts}
 use Rattle.oss_machine.specs.Frames.{CodeScript}
 use Rattle.oss_machine.specs.Machines.{asks}
-use Rattle.oss_tree.specs.declared.task.Task.{Task as TreeTask}
 use Rattle.oss_tree.specs.Tasks.{HasPoint, number}
 use Rattle.oss_tree.proofs.ListLemmas.{there_is}
 use Rattle.oss_tree.proofs.TreeLemmas as trees

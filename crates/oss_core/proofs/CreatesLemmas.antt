@@ -1,12 +1,11 @@
 -- The creation of a task: behind it the core stands for the state after the act.
-use Rattle.std.proofs.Common.{◌≡◌, ℕ, suc, ◌+◌, ◌<◌, ◌≤◌, refl, sym, subst, ap, ◌∙◌, List, [], ◌∷◌, ◌++◌, Bool, true, false, arith, Some, None, ◌↔◌, length, length-set}
+use Rattle.std.proofs.Common.{◌≡◌, ℕ, ◌+◌, refl, sym, subst, ap, ◌∙◌, List, [], ◌∷◌, ◌++◌, Bool, true, false, arith, Some, None, length, length-set}
 use Rattle.std.specs.Prelude.{slice_get, slice_set}
 use Rattle.std.proofs.lemmas.Option.{slice_get_past, slice_get_within}
 use Rattle.oss_syntax.specs.declared.access.Access.{Access}
 use Rattle.oss_model.specs.Order.{IsIn, written}
-use Rattle.oss_model.specs.Rights.{Right}
 use Rattle.oss_model.specs.Context.{right_of}
-use Rattle.oss_model.specs.Bodies.{Order, Start, Act, Body, child_start, stack_from, stage_created}
+use Rattle.oss_model.specs.Bodies.{Order, Start, Act, Body, child_start, stage_created}
 use Rattle.oss_model.specs.Bodies.Act.{Created}
 use Rattle.oss_model.specs.Machine.{Task, State, Owes}
 use Rattle.oss_model.specs.Moves.{act_now, created_now, cells_after, new_task, CanStep, Stepped, moves, steps}
@@ -14,12 +13,9 @@ use Rattle.oss_model.proofs.BodyLemmas.{stack_ok}
 use Rattle.oss_model.proofs.StageLemmas.{created_goes_on, start_goes_on}
 use Rattle.oss_ranges.specs.Cells.{value_at}
 use Rattle.oss_code.specs.declared.code.CodeParts.{CodeParts}
-use Rattle.oss_machine.specs.Asks.{meant_order}
 use Rattle.oss_machine.specs.Frames.{CodeScript}
 use Rattle.oss_machine.specs.Machines.{asks}
 use Rattle.oss_body.specs.declared.act.Act.{Act as KeptAct}
-use Rattle.oss_body.specs.declared.act.Act.TheVariants as acts
-use Rattle.oss_body.specs.Acts.{act_seen, creates}
 use Rattle.oss_body.specs.Relation.{IsBody, has_wait}
 use Rattle.oss_tree.specs.declared.task.Task.{Task as TreeTask}
 use Rattle.oss_tree.specs.Tasks as tree
@@ -30,8 +26,8 @@ use Rattle.oss_tree.proofs.GrowLemmas.{tree_more}
 use Rattle.oss_deps.specs.declared.opened.Open.{Open}
 use Rattle.oss_deps.specs.Opens.{IsRising, access_at}
 use Rattle.oss_core.specs.Below.{MayOpen}
-use Rattle.oss_core.specs.Changes.{Creates, found_in, noted_new}
-use Rattle.oss_core.specs.Kept.{IsCore, IsHeld, IsKnown, AreHeld, AreKnown, Kept, own, owed_by, owed_of}
+use Rattle.oss_core.specs.Changes.{Creates, noted_new}
+use Rattle.oss_core.specs.Kept.{IsCore, IsHeld, IsKnown, AreHeld, AreKnown, Kept, own, owed_of}
 use Rattle.oss_core.specs.Moving.{AreSound, Grown}
 use Rattle.oss_core.specs.Standing.{AreRightsOf, AreTasks, StandsFor}
 use Rattle.oss_core.proofs.ActLemmas.{created_order, finds_nothing, running, found, next, bodies, act_is, body_goes}

@@ -53,7 +53,7 @@ few x h = deep (nat_le 64 x.depth) refl (nat_le 65535 x.created) refl
     deep false e false g = grind (arith, nat_tests, g)
 
 created_passed : {S : Type 0} (slots : ℕ → Right) (inc : Bool) (f : Frame S) (k : Ask S) (line : ℕ) (o : Order S) (i : Bool) → act_of_ask slots inc f k line ≡ Created o i → create_fault f.context ≡ None
-created_passed slots inc f Ask.Begin line o i h = let k = judged_goes f line (create_fault f.context) _ (Created o i) h (λ s. s) in cc (k.1)
+created_passed slots inc f Ask.Begin line o i h = let k = judged_goes f line (create_fault f.context) _ (Created o i) h (λ s. s) in cc
 created_passed slots inc f Ask.Tick line o i h = let k = judged_goes f line (tick_fault f.context) Ticked (Created o i) h (λ s. s) in cc (k.1)
 created_passed slots inc f (Ask.Read c) line o i h = let k = judged_goes f line (touch_fault ((right_of f.context) c) ((lent_of f.context) c) ((mark_of f.context) c) Reads) (Load c) (Created o i) h (λ s. s) in cc (k.1)
 created_passed slots inc f (Ask.Write c v) line o i h = let k = judged_goes f line (touch_fault ((right_of f.context) c) ((lent_of f.context) c) ((mark_of f.context) c) Writes) _ (Created o i) h (λ s. s) in cc (k.1)

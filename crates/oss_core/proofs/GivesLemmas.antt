@@ -1,17 +1,17 @@
 -- A cell that is given up: behind the let or the join the core stands for the state after it.
 use Rattle.std.proofs.Common.{◌≡◌, ℕ, suc, refl, sym, subst, ap, ◌∙◌, List, [], ◌∷◌, ◌⊎◌, inl, inr, Bool, true, false, arith, None, ◌↔◌, length-set}
-use Rattle.std.specs.Prelude.{slice_get, slice_set, slice_index, ◌==◌, ◌&&◌, ◌||◌, nat_le, nat_lt, if◌then◌else◌}
+use Rattle.std.specs.Prelude.{slice_set, slice_index, ◌==◌, ◌&&◌, ◌||◌, nat_le, nat_lt, if◌then◌else◌}
 use Rattle.std.proofs.lemmas.Bool.Decides.{nat_tests}
 use Rattle.std.proofs.lemmas.Option.{slice_get_within}
 use Rattle.oss_syntax.specs.declared.access.Mode.{Mode}
 use Rattle.oss_syntax.specs.declared.access.Mode.TheVariants.{Fold}
 use Rattle.oss_syntax.specs.declared.access.Op.{Op}
-use Rattle.oss_model.specs.Order.{IsIn, written}
+use Rattle.oss_model.specs.Order.{written}
 use Rattle.oss_model.specs.Rights.{Right, NoRight, Released, Holds}
 use Rattle.oss_model.specs.Context.{Context, right_of}
-use Rattle.oss_model.specs.Bodies.{Start, Body}
+use Rattle.oss_model.specs.Bodies.{Start}
 use Rattle.oss_model.specs.Machine.{Task, State, At, Owes}
-use Rattle.oss_model.specs.Moves.{CanLet, LetGo, CanJoin, Joined, combine, joined_cells, slot_of, moves, lets, joins}
+use Rattle.oss_model.specs.Moves.{CanLet, LetGo, CanJoin, Joined, combine, joined_cells, moves, lets, joins}
 use Rattle.oss_model.proofs.MoveLemmas.{let_may, join_may}
 use Rattle.oss_ranges.specs.Cells.{value_at, is_within}
 use Rattle.oss_body.specs.Relation.{IsBody}

@@ -1,6 +1,6 @@
 -- An act that creates no task: behind it the core stands for the state after the act.
-use Rattle.std.proofs.Common.{◌≡◌, ◌≢◌, ℕ, refl, sym, subst, ap, ◌∙◌, List, [], ◌∷◌, ◌++◌, ◌⊎◌, inl, inr, Bool, true, false, Some, ◌↔◌, length, length-set, map}
-use Rattle.std.specs.Prelude.{slice_get, slice_set}
+use Rattle.std.proofs.Common.{◌≡◌, ◌≢◌, ℕ, refl, sym, subst, ap, ◌∙◌, List, [], ◌∷◌, ◌++◌, ◌⊎◌, inl, inr, Bool, true, false, length-set, map}
+use Rattle.std.specs.Prelude.{slice_set}
 use Rattle.std.proofs.lemmas.List.{reverse-reverse}
 use Rattle.oss_model.specs.Order.{written}
 use Rattle.oss_model.specs.Points.{IsPoint}
@@ -12,20 +12,19 @@ use Rattle.oss_model.specs.Memory.{Event, key_at}
 use Rattle.oss_model.specs.Moves.{act_now, is_ended, cells_after, CanStep, Stepped, moves, steps}
 use Rattle.oss_model.specs.Answers.{text_of}
 use Rattle.oss_model.proofs.OutputLemmas.{print_key}
-use Rattle.oss_model.proofs.OrderLemmas.{reverse_cons}
 use Rattle.oss_ranges.specs.Cells.{value_at}
 use Rattle.oss_code.specs.declared.code.CodeParts.{CodeParts}
 use Rattle.oss_machine.specs.Frames.{CodeScript}
 use Rattle.oss_machine.specs.Machines.{asks}
 use Rattle.oss_body.specs.declared.act.Act.{Act as KeptAct}
 use Rattle.oss_body.specs.declared.act.Act.TheVariants as acts
-use Rattle.oss_body.specs.Acts.{act_seen, creates}
+use Rattle.oss_body.specs.Acts.{act_seen}
 use Rattle.oss_body.specs.Places.{unwritten}
 use Rattle.oss_body.specs.Relation.{is_over}
 use Rattle.oss_tree.specs.declared.output.Print.{Print}
 use Rattle.oss_tree.specs.declared.task.Task.{Task as TreeTask}
 use Rattle.oss_tree.specs.Runs.{print_of}
-use Rattle.oss_tree.specs.Tasks.{HasPoint, IsTree, changed, changed_to, ended_task}
+use Rattle.oss_tree.specs.Tasks.{HasPoint, changed_to, ended_task}
 use Rattle.oss_tree.proofs.ListLemmas.{get_set_other, get_set_same}
 use Rattle.oss_tree.proofs.ChangeLemmas.{tree_after}
 use Rattle.oss_deps.specs.declared.opened.Open.{Open}
@@ -34,9 +33,9 @@ use Rattle.oss_core.specs.Changes.{Steps, found_in, noted, prints_after}
 use Rattle.oss_core.specs.Moving.{AreSound}
 use Rattle.oss_core.specs.Printing.{ArePrints}
 use Rattle.oss_core.specs.Standing.{StandsFor}
-use Rattle.oss_core.proofs.CoreLemmas.{held_same, known_same, sides_change, made, body_at, held_at, known_at, own_task}
+use Rattle.oss_core.proofs.CoreLemmas.{held_same, known_same, sides_change, made, held_at, known_at, own_task}
 use Rattle.oss_core.proofs.ActLemmas.{created_is, running, found, next, bodies, bodies_changed, advanced, act_is, body_goes}
-use Rattle.oss_core.proofs.KeepLemmas.{ActDone, step_keeps}
+use Rattle.oss_core.proofs.KeepLemmas.{step_keeps}
 use Rattle.oss_core.proofs.MadeLemmas.{core_step, given_same}
 use Rattle.oss_core.proofs.PrintLemmas.{prints_more, prints_same}
 
