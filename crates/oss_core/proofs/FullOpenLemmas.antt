@@ -35,7 +35,7 @@ no_fault : (a b : Option FaultKind) → or_else a b ≡ None → a ≡ None
 no_fault None b h = refl
 no_fault (Some kind) b h = cc
 
--- a creation that passes is not too deep
+-- a task that may create is not nested too deep
 pub shallow : (x : Context) → create_fault x ≡ None → x.depth < 64
 shallow x h = go (nat_le 64 x.depth) refl
   where
@@ -43,32 +43,41 @@ shallow x h = go (nat_le 64 x.depth) refl
     go true e = let k : Some fault.TooDeep ≡ None = rw e at h in cc
     go false e = grind (arith, nat_tests, e)
 
-created_passes : {S : Type 0} (slots : ℕ → Right) (inc : Bool) (f : Frame S) (k : Ask S) (line : ℕ) (o : Order S) (i : Bool) → act_of_ask slots inc f k line ≡ Created o i → create_fault f.context ≡ None
-created_passes slots inc f Ask.Begin line o i h = let k = judged_goes f line (create_fault f.context) _ (Created o i) h (λ s. s) in k.0
-created_passes slots inc f Ask.Tick line o i h = let k = judged_goes f line (tick_fault f.context) Ticked (Created o i) h (λ s. s) in cc (k.1)
-created_passes slots inc f (Ask.Read c) line o i h = let k = judged_goes f line (touch_fault ((right_of f.context) c) ((lent_of f.context) c) ((mark_of f.context) c) Reads) (Load c) (Created o i) h (λ s. s) in cc (k.1)
-created_passes slots inc f (Ask.Write c v) line o i h = let k = judged_goes f line (touch_fault ((right_of f.context) c) ((lent_of f.context) c) ((mark_of f.context) c) Writes) _ (Created o i) h (λ s. s) in cc (k.1)
-created_passes slots inc f (Ask.Fold c op v) line o i h = let k = judged_goes f line (touch_fault ((right_of f.context) c) ((lent_of f.context) c) ((mark_of f.context) c) (Folds op)) _ (Created o i) h (λ s. s) in cc (k.1)
-created_passes slots inc f (Ask.Create p) line o i h =
+-- and has not created too many tasks
+pub few : (x : Context) → create_fault x ≡ None → x.created < 65535
+few x h = deep (nat_le 64 x.depth) refl (nat_le 65535 x.created) refl
+  where
+    deep : (b : Bool) → nat_le 64 x.depth ≡ b → (d : Bool) → nat_le 65535 x.created ≡ d → x.created < 65535
+    deep true e d g = let k : Some fault.TooDeep ≡ None = rw e at h in cc
+    deep false e true g = let k : Some fault.TooManyTasks ≡ None = rw (e, g) at h in cc
+    deep false e false g = grind (arith, nat_tests, g)
+
+created_passed : {S : Type 0} (slots : ℕ → Right) (inc : Bool) (f : Frame S) (k : Ask S) (line : ℕ) (o : Order S) (i : Bool) → act_of_ask slots inc f k line ≡ Created o i → create_fault f.context ≡ None
+created_passed slots inc f Ask.Begin line o i h = let k = judged_goes f line (create_fault f.context) _ (Created o i) h (λ s. s) in cc
+created_passed slots inc f Ask.Tick line o i h = let k = judged_goes f line (tick_fault f.context) Ticked (Created o i) h (λ s. s) in cc (k.1)
+created_passed slots inc f (Ask.Read c) line o i h = let k = judged_goes f line (touch_fault ((right_of f.context) c) ((lent_of f.context) c) ((mark_of f.context) c) Reads) (Load c) (Created o i) h (λ s. s) in cc (k.1)
+created_passed slots inc f (Ask.Write c v) line o i h = let k = judged_goes f line (touch_fault ((right_of f.context) c) ((lent_of f.context) c) ((mark_of f.context) c) Writes) _ (Created o i) h (λ s. s) in cc (k.1)
+created_passed slots inc f (Ask.Fold c op v) line o i h = let k = judged_goes f line (touch_fault ((right_of f.context) c) ((lent_of f.context) c) ((mark_of f.context) c) (Folds op)) _ (Created o i) h (λ s. s) in cc (k.1)
+created_passed slots inc f (Ask.Create p) line o i h =
     let k = judged_goes f line (creation_fault f.context p.clauses (f.context.final || p.last)) (Created p f.context.final) (Created o i) h (λ s. s) in
     no_fault (create_fault f.context) (clause_fault f.context p.clauses (f.context.final || p.last)) k.0
-created_passes slots inc f Ask.Await line o i h = cc
-created_passes slots inc f Ask.Wait line o i h = cc
-created_passes slots inc f (Ask.WaitOn named) line o i h = let k = judged_goes f line (wait_on_fault f.context named) (WaitedOn named) (Created o i) h (λ s. s) in cc (k.1)
-created_passes slots inc f (Ask.Release clauses) line o i h = let k = judged_goes f line (release_fault f.context clauses) (Releases clauses inc) (Created o i) h (λ s. s) in cc (k.1)
-created_passes slots inc f (Ask.Print text) line o i h = cc
-created_passes slots inc f Ask.End line o i h = cc
-created_passes slots inc f (Ask.Fails kind) line o i h = cc
+created_passed slots inc f Ask.Await line o i h = cc
+created_passed slots inc f Ask.Wait line o i h = cc
+created_passed slots inc f (Ask.WaitOn named) line o i h = let k = judged_goes f line (wait_on_fault f.context named) (WaitedOn named) (Created o i) h (λ s. s) in cc (k.1)
+created_passed slots inc f (Ask.Release clauses) line o i h = let k = judged_goes f line (release_fault f.context clauses) (Releases clauses inc) (Created o i) h (λ s. s) in cc (k.1)
+created_passed slots inc f (Ask.Print text) line o i h = cc
+created_passed slots inc f Ask.End line o i h = cc
+created_passed slots inc f (Ask.Fails kind) line o i h = cc
 
-frame_passes : {S : Type 0} (P : Program S) (slots : ℕ → Right) (inc : Bool) (f : Frame S) (w : Bool) (o : Order S) (i : Bool) → frame_act P slots inc f w ≡ Created o i → create_fault f.context ≡ None
-frame_passes P slots inc f true o i h = cc
-frame_passes P slots inc f false o i h = created_passes slots inc f (ask_of P f).ask (ask_of P f).line o i h
+frame_passed : {S : Type 0} (P : Program S) (slots : ℕ → Right) (inc : Bool) (f : Frame S) (w : Bool) (o : Order S) (i : Bool) → frame_act P slots inc f w ≡ Created o i → create_fault f.context ≡ None
+frame_passed P slots inc f true o i h = cc
+frame_passed P slots inc f false o i h = created_passed slots inc f (ask_of P f).ask (ask_of P f).line o i h
 
--- a creation that a body makes next has passed
-pub stack_passes : {S : Type 0} (P : Program S) (slots : ℕ → Right) (base : Frame S) (inner : List (Frame S)) (over : Bool) (o : Order S) → inner ≡ [] → stack_act P slots base inner over ≡ Created o false → create_fault base.context ≡ None
-stack_passes P slots base inner true o e h = cc
-stack_passes P slots base [] false o e h = frame_passes P slots false base base.awaits o false h
-stack_passes P slots base (f ∷ fs) false o e h = cc
+-- a body before the creation of a task that is not included may create
+pub stack_passed : {S : Type 0} (P : Program S) (slots : ℕ → Right) (base : Frame S) (inner : List (Frame S)) (over : Bool) (o : Order S) → inner ≡ [] → stack_act P slots base inner over ≡ Created o false → create_fault base.context ≡ None
+stack_passed P slots base inner true o e h = cc
+stack_passed P slots base [] false o e h = frame_passed P slots false base base.awaits o false h
+stack_passed P slots base (f ∷ fs) false o e h = cc
 
 -- an act keeps how deep a body's own task is nested
 base_depth : {S : Type 0} (a : Act S) (v : ℕ) (base : Frame S) → (base_after a v base).base.context.depth ≡ base.context.depth
@@ -90,7 +99,6 @@ parts_depth : {S : Type 0} (P : Program S) (base : Frame S) (inner : List (Frame
 parts_depth P base [] over = settled_depth P base
 parts_depth P base (f ∷ fs) over = refl
 
--- and so does a whole stage of it
 pub stage_depth : {S : Type 0} (P : Program S) (b : Start S) (past : List ℕ) → (stack_from P b past).base.context.depth ≡ b.context.depth
 unfolding stack_from
 stage_depth P b [] = settled_depth P _
@@ -153,7 +161,7 @@ module _ {S B : Type 0} (P : Program S) (main : Start S) (body : B → Body S) (
       deep : length path < 64
       deep =
           let x = stack_from P (body one).start (body one).found in
-          let d = shallow x.base.context (stack_passes P (right_of (body one).start.context) x.base x.inner x.ended o cr.alone a) in
+          let d = shallow x.base.context (stack_passed P (right_of (body one).start.context) x.base x.inner x.ended o cr.alone a) in
           let e = stage_depth P (body one).start (body one).found in
           let f : t.0.body.start.context.depth ≡ length (body one).start.path = path_depth P main s made zero_ (body one).start.path t.0 t.1 in
           let g : t.0.body.start.context.depth ≡ (body one).start.context.depth = ap (λ (y : Body S). y.start.context.depth) t.2 in

@@ -17,3 +17,10 @@ pub mod ChildFacts
 pub mod BodyFacts
 pub mod ExactLemmas
 pub mod NeedLemmas
+pub mod CoreLemmas
+pub mod ActLemmas
+pub mod StepsLemmas
+pub mod GivesLemmas
+pub mod NewLemmas
+pub mod CountLemmas
+pub mod CreatesLemmas

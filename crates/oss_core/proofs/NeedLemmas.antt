@@ -39,7 +39,7 @@ use Rattle.oss_core.specs.declared.held.Owed.TheVariants as owed
 use Rattle.oss_core.specs.Standing.{AreRightsOf}
 use Rattle.oss_core.specs.Kept.{Kept, IsCore, own}
 use Rattle.oss_core.proofs.EntryLemmas.{bools, bounds, mode_is, named_at, rising_behind, rising_rest}
-use Rattle.oss_core.proofs.FullOpenLemmas.{can_open, path_depth, shallow, stack_passes, stage_depth}
+use Rattle.oss_core.proofs.FullOpenLemmas.{can_open, path_depth, shallow, stack_passed, stage_depth}
 use Rattle.oss_core.proofs.KeepLemmas.{some_is}
 use Rattle.oss_core.proofs.TreeFacts.{at_number, core_made, core_started, kept_within}
 use Rattle.oss_core.proofs.ChildFacts.{children_few}
@@ -167,7 +167,7 @@ module _ {code : CodeParts} {main : Start CodeScript} {first : List ℕ} {k : Ke
   creator_limits v held x =
       let y = stack_from (asks code) x.body.start x.body.found in
       let alone = (creating (asks code) x.body.start x.body.found x.order x.act).alone in
-      let none = stack_passes (asks code) (right_of x.body.start.context) y.base y.inner y.ended x.order alone x.act in
+      let none = stack_passed (asks code) (right_of x.body.start.context) y.base y.inner y.ended x.order alone x.act in
       let r = core.stands.there v x.body x.at_ in
       let a : y.base.context.depth < 64 = shallow y.base.context none in
       let b : y.base.context.depth ≡ x.body.start.context.depth = stage_depth (asks code) x.body.start x.body.found in
