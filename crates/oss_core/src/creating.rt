@@ -7,14 +7,14 @@ ghost use Rattle.oss_machine.specs.Frames.{CodeScript};
 ghost use Rattle.oss_model.specs.Bodies.{Start};
 ghost use Rattle.oss_model.specs.Context.{right_of};
 ghost use Rattle.oss_model.specs.Rights.{Holds, right_from};
-ghost use Rattle.oss_body.specs.Relation.{IsBody};
+ghost use Rattle.oss_body.specs.Relation.{IsBody, has_wait};
 ghost use Rattle.oss_code.specs.declared.code.CodeParts.{CodeParts};
 ghost use Rattle.oss_deps.specs.Opens.{access_at};
 ghost use Rattle.oss_ranges.specs.Cells.{value_at};
 ghost use Rattle.oss_syntax.specs.declared.access.Access.{Access as Meant};
-ghost use Rattle.oss_tree.specs.Tasks.{MayCreate};
+ghost use Rattle.oss_tree.specs.Tasks.{MayCreate, grown};
 ghost use Rattle.oss_core.specs.declared.held.Held.{Held as Kept};
-ghost use Rattle.oss_core.specs.Changes.{IsCreated, owed_by_access};
+ghost use Rattle.oss_core.specs.Changes.{IsCreated, noted_new, owed_by_access};
 ghost use Rattle.oss_core.specs.Kept.{owed_by};
 ghost use Rattle.oss_core.specs.Going.{HasCreated, IsBeforeCreation, StandsBeforeCreation};
 
@@ -27,15 +27,18 @@ use oss_deps::Deps;
 use oss_model::TaskNo;
 use oss_ranges::RangeMap;
 use oss_syntax::{Access, List, Mode};
+use oss_tree::Tree;
 use std::alloc::{AllocError, Global};
 
 /// A task that is to be added: what is kept of it, and its accesses.
+#[derive(Drop)]
 pub struct Newborn {
     pub held: Held,
     pub accesses: List<Access>,
 }
 
 /// What a task has of cells: its accesses, and how each cell of them is to be given up.
+#[derive(Drop)]
 pub struct Share {
     pub accesses: List<Access>,
     pub owed: RangeMap<Owed>,
@@ -94,6 +97,20 @@ fn newborn_of(alloc: Global, code: &Code, before: &Held) -> Result<Newborn, Allo
     })
 }
 
+/// Adds a task to the tree, which this one creates. Where it has no cells it has given up all of them.
+fn add_to_tree(tree: &mut Tree, creator: TaskNo, newborn: &Newborn) -> Result<TaskNo, AllocError>
+    requires { MayCreate tree.old.tasks creator.0 }
+    ensures number { IfOk result (λ task. task.0 ≡ length tree.old.tasks) }
+    ensures tasks { OnOk result (tree.new.tasks ≡ noted_new newborn.now.accesses (length tree.old.tasks) (grown tree.old.tasks creator.0 (has_wait newborn.now.held.body))) }
+    ensures prints { OnOk result (tree.new.prints ≡ tree.old.prints) }
+{
+    let task = tree.add(creator, newborn.held.body.waits())?;
+    if newborn.accesses.is_empty() {
+        tree.gave_all(task);
+    }
+    Ok(task)
+}
+
 impl<D: Deps> Core<D> {
     ghost use Rattle.oss_core.specs.Cores.{kept_of};
 
@@ -106,11 +123,9 @@ impl<D: Deps> Core<D> {
         ensures { OnOk result (HasCreated code.now task.0 (kept_of D.seen self.old) (kept_of D.seen self.new)) }
     {
         let at = task.0 as usize;
-        let Newborn { held, accesses } = newborn_of(self.alloc, code, &self.tasks[at])?;
-        let number = self.tree.add(task, held.body.waits())?;
-        if accesses.is_empty() {
-            self.tree.gave_all(number);
-        }
+        let newborn = newborn_of(self.alloc, code, &self.tasks[at])?;
+        let number = add_to_tree(&mut self.tree, task, &newborn)?;
+        let Newborn { held, accesses } = newborn;
         self.tasks.push(held)?;
         self.deps.open(number, task, &accesses)?;
         go_on(&mut self.tasks, code, at, 0)
