@@ -3,6 +3,7 @@
 
 mod creating;
 mod enabling;
+mod giving;
 mod happening;
 mod held;
 mod machine;
