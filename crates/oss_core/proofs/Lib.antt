@@ -24,3 +24,4 @@ pub mod GivesLemmas
 pub mod NewLemmas
 pub mod CountLemmas
 pub mod CreatesLemmas
+pub mod StopLemmas
