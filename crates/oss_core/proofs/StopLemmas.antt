@@ -1,12 +1,12 @@
 -- A move that may be made leads to a state; and a core stands still just where its state does.
-use Rattle.std.proofs.Common.{◌≡◌, ℕ, refl, sym, subst, ap, ◌∙◌, List, [], ◌∷◌, ◌⊎◌, inl, inr, true, Some}
+use Rattle.std.proofs.Common.{◌≡◌, ℕ, ◌<◌, ◌≤◌, refl, sym, subst, ◌∙◌, List, [], ◌∷◌, ◌⊎◌, inl, inr, true, Some}
 use Rattle.std.specs.Prelude.{slice_get}
 use Rattle.oss_syntax.specs.declared.access.Op.{Op}
 use Rattle.oss_model.specs.declared.moving.Move.{Move}
 use Rattle.oss_model.specs.declared.moving.Move.TheVariants as moves
 use Rattle.oss_model.specs.Bodies.{Program, Start}
 use Rattle.oss_model.specs.Machine.{State, Task, At, find}
-use Rattle.oss_model.specs.Moves.{CanJoin, CanLet, CanStep, GaveUp, Joined, LetGo, SomeMove, Stepped, TaskStep, a_join, a_let, a_step, act_now, after_giving, cells_after, found_by, joined_cells}
+use Rattle.oss_model.specs.Moves.{CanJoin, CanLet, CanStep, GaveUp, Joined, LetGo, Stepped, TaskStep, a_join, a_let, a_step, act_now, after_giving, cells_after, found_by, joined_cells}
 use Rattle.oss_model.specs.Sequence.{Running}
 use Rattle.oss_model.specs.Answers.{IsStopped}
 use Rattle.oss_model.proofs.Exclusive.{same_self}
@@ -18,7 +18,9 @@ use Rattle.oss_machine.specs.Frames.{CodeScript}
 use Rattle.oss_machine.specs.Machines.{asks}
 use Rattle.oss_body.specs.Relation.{released_by}
 use Rattle.oss_tree.specs.declared.task.Task.{Task as TreeTask}
+use Rattle.oss_deps.specs.Seen.{Seen}
 use Rattle.oss_core.specs.declared.held.Held.{Held}
+use Rattle.oss_core.specs.declared.held.Owed.TheVariants as owed
 use Rattle.oss_core.specs.Changes.{IsMove}
 use Rattle.oss_core.specs.Enabled.{IsThrough, MayFold, MayGive, MayGoOn, MayMove}
 use Rattle.oss_core.specs.Kept.{IsCore, Kept}
@@ -107,3 +109,24 @@ give_alike held tree v c d owes released m = record { owes = owes ∙ m.owes; go
     go : (released_by held.body c ≡ true) ⊎ IsThrough tree v held.body → (released_by held.body d ≡ true) ⊎ IsThrough tree v held.body
     go (inl r) = inl (released ∙ r)
     go (inr t) = inr t
+
+-- where it may not give up the first cell of a run of such cells, it may give up none of them
+pub none_on_run : (held : Held) (tree : List TreeTask) (v lo hi : ℕ) → ((c : ℕ) → lo ≤ c → c < hi → value_at held.owed.pieces c ≡ value_at held.owed.pieces lo) → ((c : ℕ) → lo ≤ c → c < hi → released_by held.body c ≡ released_by held.body lo)
+    → (MayGive held tree v lo → ⊥) → (c : ℕ) → lo ≤ c → c < hi → MayGive held tree v c → ⊥
+none_on_run held tree v lo hi owes released f c l m g = f (give_alike held tree v c lo (sym (owes c l m)) (sym (released c l m)) g)
+
+-- a task that is not through may give up by a let only what it has released
+pub gives_released : (held : Held) (tree : List TreeTask) (v c : ℕ) → (IsThrough tree v held.body → ⊥) → MayGive held tree v c → released_by held.body c ≡ true
+gives_released held tree v c f m = go m.gone
+  where
+    go : (released_by held.body c ≡ true) ⊎ IsThrough tree v held.body → released_by held.body c ≡ true
+    go (inl r) = r
+    go (inr t) = absurd (f t)
+
+-- a task that is through, and may not give up the cell by a let, does not owe it by one
+pub through_owes : (held : Held) (tree : List TreeTask) (v c : ℕ) → IsThrough tree v held.body → (MayGive held tree v c → ⊥) → value_at held.owed.pieces c ≡ Some owed.Let → ⊥
+through_owes held tree v c t f e = f (record { owes = e; gone = inr t })
+
+-- a task that is not through may join no slot
+pub folds_none : (held : Held) (tree : List TreeTask) (seen : Seen) (v c : ℕ) (op : Op) → (IsThrough tree v held.body → ⊥) → MayFold held tree seen v c op → ⊥
+folds_none held tree seen v c op f m = f m.through
