@@ -25,3 +25,7 @@ pub mod NewLemmas
 pub mod CountLemmas
 pub mod CreatesLemmas
 pub mod ClearLemmas
+pub mod StopLemmas
+pub mod AnswerLemmas
+pub mod UnfinishedLemmas
+pub mod BeginLemmas
