@@ -29,3 +29,4 @@ pub mod StopLemmas
 pub mod AnswerLemmas
 pub mod UnfinishedLemmas
 pub mod BeginLemmas
+pub mod MakingLemmas

@@ -3,6 +3,7 @@
 
 mod creating;
 mod enabling;
+mod fault;
 mod giving;
 mod happening;
 mod held;
@@ -10,5 +11,6 @@ mod machine;
 mod stepping;
 mod waiting;
 
+pub use fault::ApplyFault;
 pub use held::{Held, Owed};
 pub use machine::Core;
