@@ -2,6 +2,7 @@
 -- Read against: main has created out(x), which divides by 0 on line 4, and in(x); main has ended. Only the first task could go on, and it stands before a fault: so no move may
 -- be made, the second task and the first are not complete, and the answer is the fault on line 4, with what was printed up to its key.
 use Rattle.std.specs.Prelude.{◌≡◌, ℕ, ◌<◌, ◌↔◌, Bool, true, false, List, [], ◌∷◌, length, Some, slice_get}
+use Rattle.oss_syntax.specs.declared.access.Op.{Op}
 use Rattle.oss_syntax.specs.declared.fault.FaultKind.{FaultKind}
 use Rattle.oss_model.specs.Order.{IsBefore, IsIn, written}
 use Rattle.oss_model.specs.Bodies.{Program}
@@ -19,7 +20,8 @@ use Rattle.oss_tree.specs.declared.task.Task.{Task as TreeTask}
 use Rattle.oss_tree.specs.Tasks.{AreComplete, IsComplete}
 use Rattle.oss_tree.specs.Output.{IsOutput, up_to}
 use Rattle.oss_core.specs.declared.held.Held.{Held}
-use Rattle.oss_core.specs.Enabled.{MayMove}
+use Rattle.oss_deps.specs.Seen.{Seen}
+use Rattle.oss_core.specs.Enabled.{MayFold, MayGive, MayGoOn, MayMove}
 use Rattle.oss_core.specs.Kept.{Kept}
 
 -- No move may be made.
@@ -77,3 +79,9 @@ pub record HasUnfinished (P : Program CodeScript) (s : State CodeScript) (n : �
   pub apart : AreApart list
   pub exact : (p : List ℕ) → (IsIn p list ↔ IsUnfinished P s p)
   pub count : length list ≡ n
+
+-- A task that is kept so may make its next act, give up a cell, or have a slot joined.
+pub data MayAnything (held : Held) (tree : List TreeTask) (seen : Seen) (v : ℕ) : Type 0 where
+  goes : MayGoOn held.body tree seen v → MayAnything held tree seen v
+  gives : (c : ℕ) → MayGive held tree v c → MayAnything held tree seen v
+  folds : (c : ℕ) (op : Op) → MayFold held tree seen v c op → MayAnything held tree seen v

@@ -9,6 +9,7 @@ mod happening;
 mod held;
 mod machine;
 mod stepping;
+mod stopping;
 mod waiting;
 
 pub use fault::ApplyFault;
