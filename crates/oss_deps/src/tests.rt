@@ -35,528 +35,217 @@ struct Moment {
     done: [u8; TASKS],
 }
 
-fn line(event: Event, met: [u8; TASKS], joins: [u8; TASKS], done: [u8; TASKS]) -> Moment {
+fn reserve(access: Access, met: [u8; TASKS], joins: [u8; TASKS], done: [u8; TASKS]) -> Moment {
     Moment {
-        event,
+        event: Event::Reserve(access),
         met,
         joins,
         done,
     }
 }
 
-fn strong(mode: Mode, lo: u32, hi: u32) -> Access
+fn open(
+    task: u64,
+    parent: u64,
+    access: Access,
+    met: [u8; TASKS],
+    joins: [u8; TASKS],
+    done: [u8; TASKS],
+) -> Moment {
+    Moment {
+        event: Event::Open(task, parent, access),
+        met,
+        joins,
+        done,
+    }
+}
+
+fn give(
+    task: u64,
+    lo: u32,
+    hi: u32,
+    met: [u8; TASKS],
+    joins: [u8; TASKS],
+    done: [u8; TASKS],
+) -> Moment
+    requires ordered { lo < hi }
+    requires within { hi < 1048576 }
+{
+    Moment {
+        event: Event::Give(task, Range { lo, hi }),
+        met,
+        joins,
+        done,
+    }
+}
+
+fn access(lo: u32, hi: u32, mode: Mode, strong: bool) -> Access
     requires ordered { lo < hi }
     requires within { hi < 1048576 }
 {
     Access {
         range: Range { lo, hi },
         mode,
-        strong: true,
+        strong,
         fresh: false,
     }
 }
 
-fn weak(mode: Mode, lo: u32, hi: u32) -> Access
+fn reads(lo: u32, hi: u32) -> Access
     requires ordered { lo < hi }
     requires within { hi < 1048576 }
 {
-    Access {
-        range: Range { lo, hi },
-        mode,
-        strong: false,
-        fresh: false,
-    }
+    access(lo, hi, Mode::Read, true)
+}
+
+fn writes(lo: u32, hi: u32) -> Access
+    requires ordered { lo < hi }
+    requires within { hi < 1048576 }
+{
+    access(lo, hi, Mode::Write, true)
+}
+
+/// A weak access that writes.
+fn weakly(lo: u32, hi: u32) -> Access
+    requires ordered { lo < hi }
+    requires within { hi < 1048576 }
+{
+    access(lo, hi, Mode::Write, false)
+}
+
+fn adds(lo: u32, hi: u32) -> Access
+    requires ordered { lo < hi }
+    requires within { hi < 1048576 }
+{
+    access(lo, hi, Mode::Fold(Op::Add), true)
+}
+
+fn ors(lo: u32, hi: u32) -> Access
+    requires ordered { lo < hi }
+    requires within { hi < 1048576 }
+{
+    access(lo, hi, Mode::Fold(Op::Or), true)
 }
 
 /// A weak parent with two children, and a reader of a cell of the first child.
 fn a_weak_parent() -> [Moment; 8] {
     [
-        line(
-            Event::Open(1, 0, weak(Mode::Write, 0, 4)),
-            *b"yy....",
-            *b"......",
-            *b"ny....",
-        ),
-        line(
-            Event::Open(2, 1, strong(Mode::Write, 0, 2)),
-            *b"yyy...",
-            *b"......",
-            *b"nny...",
-        ),
-        line(
-            Event::Open(3, 1, strong(Mode::Write, 2, 4)),
-            *b"yyyy..",
-            *b"......",
-            *b"nnyy..",
-        ),
-        line(
-            Event::Open(4, 0, strong(Mode::Read, 0, 1)),
-            *b"yyyyn.",
-            *b"......",
-            *b"nnyyy.",
-        ),
-        line(
-            Event::Give(2, Range { lo: 0, hi: 2 }),
-            *b"yyyyn.",
-            *b"......",
-            *b"nyyyy.",
-        ),
-        line(
-            Event::Give(1, Range { lo: 0, hi: 4 }),
-            *b"yyyyy.",
-            *b"......",
-            *b"nyyyy.",
-        ),
-        line(
-            Event::Give(4, Range { lo: 0, hi: 1 }),
-            *b"yyyyy.",
-            *b"......",
-            *b"yyyyy.",
-        ),
-        line(
-            Event::Give(3, Range { lo: 2, hi: 4 }),
-            *b"yyyyy.",
-            *b"......",
-            *b"yyyyy.",
-        ),
+        open(1, 0, weakly(0, 4), *b"yy....", *b"......", *b"ny...."),
+        open(2, 1, writes(0, 2), *b"yyy...", *b"......", *b"nny..."),
+        open(3, 1, writes(2, 4), *b"yyyy..", *b"......", *b"nnyy.."),
+        open(4, 0, reads(0, 1), *b"yyyyn.", *b"......", *b"nnyyy."),
+        give(2, 0, 2, *b"yyyyn.", *b"......", *b"nyyyy."),
+        give(1, 0, 4, *b"yyyyy.", *b"......", *b"nyyyy."),
+        give(4, 0, 1, *b"yyyyy.", *b"......", *b"yyyyy."),
+        give(3, 2, 4, *b"yyyyy.", *b"......", *b"yyyyy."),
     ]
 }
 
 /// The same, asked at a cell of the second child.
 fn the_other_half() -> [Moment; 8] {
     [
-        line(
-            Event::Open(1, 0, weak(Mode::Write, 0, 4)),
-            *b"yy....",
-            *b"......",
-            *b"ny....",
-        ),
-        line(
-            Event::Open(2, 1, strong(Mode::Write, 0, 2)),
-            *b"yyy...",
-            *b"......",
-            *b"nyy...",
-        ),
-        line(
-            Event::Open(3, 1, strong(Mode::Write, 2, 4)),
-            *b"yyyy..",
-            *b"......",
-            *b"nnyy..",
-        ),
-        line(
-            Event::Open(4, 0, strong(Mode::Read, 0, 1)),
-            *b"yyyyn.",
-            *b"......",
-            *b"nnyyy.",
-        ),
-        line(
-            Event::Give(2, Range { lo: 0, hi: 2 }),
-            *b"yyyyn.",
-            *b"......",
-            *b"nnyyy.",
-        ),
-        line(
-            Event::Give(1, Range { lo: 0, hi: 4 }),
-            *b"yyyyy.",
-            *b"......",
-            *b"nnyyy.",
-        ),
-        line(
-            Event::Give(4, Range { lo: 0, hi: 1 }),
-            *b"yyyyy.",
-            *b"......",
-            *b"nnyyy.",
-        ),
-        line(
-            Event::Give(3, Range { lo: 2, hi: 4 }),
-            *b"yyyyy.",
-            *b"......",
-            *b"yyyyy.",
-        ),
+        open(1, 0, weakly(0, 4), *b"yy....", *b"......", *b"ny...."),
+        open(2, 1, writes(0, 2), *b"yyy...", *b"......", *b"nyy..."),
+        open(3, 1, writes(2, 4), *b"yyyy..", *b"......", *b"nnyy.."),
+        open(4, 0, reads(0, 1), *b"yyyyn.", *b"......", *b"nnyyy."),
+        give(2, 0, 2, *b"yyyyn.", *b"......", *b"nnyyy."),
+        give(1, 0, 4, *b"yyyyy.", *b"......", *b"nnyyy."),
+        give(4, 0, 1, *b"yyyyy.", *b"......", *b"nnyyy."),
+        give(3, 2, 4, *b"yyyyy.", *b"......", *b"yyyyy."),
     ]
 }
 
 /// Readers beside readers, a writer behind them, and a reader behind that.
 fn readers() -> [Moment; 10] {
     [
-        line(
-            Event::Open(1, 0, strong(Mode::Write, 0, 1)),
-            *b"yy....",
-            *b"......",
-            *b"ny....",
-        ),
-        line(
-            Event::Open(2, 0, strong(Mode::Read, 0, 1)),
-            *b"yyn...",
-            *b"......",
-            *b"nyy...",
-        ),
-        line(
-            Event::Open(3, 0, strong(Mode::Read, 0, 1)),
-            *b"yynn..",
-            *b"......",
-            *b"nyyy..",
-        ),
-        line(
-            Event::Open(4, 0, strong(Mode::Write, 0, 1)),
-            *b"yynnn.",
-            *b"......",
-            *b"nyyyy.",
-        ),
-        line(
-            Event::Open(5, 0, strong(Mode::Read, 0, 1)),
-            *b"yynnnn",
-            *b"......",
-            *b"nyyyyy",
-        ),
-        line(
-            Event::Give(1, Range { lo: 0, hi: 1 }),
-            *b"yyyynn",
-            *b"......",
-            *b"nyyyyy",
-        ),
-        line(
-            Event::Give(3, Range { lo: 0, hi: 1 }),
-            *b"yyyynn",
-            *b"......",
-            *b"nyyyyy",
-        ),
-        line(
-            Event::Give(2, Range { lo: 0, hi: 1 }),
-            *b"yyyyyn",
-            *b"......",
-            *b"nyyyyy",
-        ),
-        line(
-            Event::Give(4, Range { lo: 0, hi: 1 }),
-            *b"yyyyyy",
-            *b"......",
-            *b"nyyyyy",
-        ),
-        line(
-            Event::Give(5, Range { lo: 0, hi: 1 }),
-            *b"yyyyyy",
-            *b"......",
-            *b"yyyyyy",
-        ),
+        open(1, 0, writes(0, 1), *b"yy....", *b"......", *b"ny...."),
+        open(2, 0, reads(0, 1), *b"yyn...", *b"......", *b"nyy..."),
+        open(3, 0, reads(0, 1), *b"yynn..", *b"......", *b"nyyy.."),
+        open(4, 0, writes(0, 1), *b"yynnn.", *b"......", *b"nyyyy."),
+        open(5, 0, reads(0, 1), *b"yynnnn", *b"......", *b"nyyyyy"),
+        give(1, 0, 1, *b"yyyynn", *b"......", *b"nyyyyy"),
+        give(3, 0, 1, *b"yyyynn", *b"......", *b"nyyyyy"),
+        give(2, 0, 1, *b"yyyyyn", *b"......", *b"nyyyyy"),
+        give(4, 0, 1, *b"yyyyyy", *b"......", *b"nyyyyy"),
+        give(5, 0, 1, *b"yyyyyy", *b"......", *b"yyyyyy"),
     ]
 }
 
 /// A run of equal reductions between two writers, and a reader.
 fn a_run() -> [Moment; 10] {
     [
-        line(
-            Event::Open(1, 0, strong(Mode::Write, 0, 1)),
-            *b"yy....",
-            *b"......",
-            *b"ny....",
-        ),
-        line(
-            Event::Open(2, 0, strong(Mode::Fold(Op::Add), 0, 1)),
-            *b"yyy...",
-            *b"..n...",
-            *b"nyy...",
-        ),
-        line(
-            Event::Open(3, 0, strong(Mode::Fold(Op::Add), 0, 1)),
-            *b"yyyy..",
-            *b"..nn..",
-            *b"nyyy..",
-        ),
-        line(
-            Event::Open(4, 0, strong(Mode::Write, 0, 1)),
-            *b"yyyyn.",
-            *b"..nn..",
-            *b"nyyyy.",
-        ),
-        line(
-            Event::Open(5, 0, strong(Mode::Read, 0, 1)),
-            *b"yyyynn",
-            *b"..nn..",
-            *b"nyyyyy",
-        ),
-        line(
-            Event::Give(1, Range { lo: 0, hi: 1 }),
-            *b"yyyynn",
-            *b"..yy..",
-            *b"nyyyyy",
-        ),
-        line(
-            Event::Give(3, Range { lo: 0, hi: 1 }),
-            *b"yyyynn",
-            *b"..yy..",
-            *b"nyyyyy",
-        ),
-        line(
-            Event::Give(2, Range { lo: 0, hi: 1 }),
-            *b"yyyyyn",
-            *b"..yy..",
-            *b"nyyyyy",
-        ),
-        line(
-            Event::Give(4, Range { lo: 0, hi: 1 }),
-            *b"yyyyyy",
-            *b"..yy..",
-            *b"nyyyyy",
-        ),
-        line(
-            Event::Give(5, Range { lo: 0, hi: 1 }),
-            *b"yyyyyy",
-            *b"..yy..",
-            *b"yyyyyy",
-        ),
+        open(1, 0, writes(0, 1), *b"yy....", *b"......", *b"ny...."),
+        open(2, 0, adds(0, 1), *b"yyy...", *b"..n...", *b"nyy..."),
+        open(3, 0, adds(0, 1), *b"yyyy..", *b"..nn..", *b"nyyy.."),
+        open(4, 0, writes(0, 1), *b"yyyyn.", *b"..nn..", *b"nyyyy."),
+        open(5, 0, reads(0, 1), *b"yyyynn", *b"..nn..", *b"nyyyyy"),
+        give(1, 0, 1, *b"yyyynn", *b"..yy..", *b"nyyyyy"),
+        give(3, 0, 1, *b"yyyynn", *b"..yy..", *b"nyyyyy"),
+        give(2, 0, 1, *b"yyyyyn", *b"..yy..", *b"nyyyyy"),
+        give(4, 0, 1, *b"yyyyyy", *b"..yy..", *b"nyyyyy"),
+        give(5, 0, 1, *b"yyyyyy", *b"..yy..", *b"yyyyyy"),
     ]
 }
 
 /// A reduction by another operator ends a run.
 fn another_operator() -> [Moment; 8] {
     [
-        line(
-            Event::Open(1, 0, strong(Mode::Fold(Op::Add), 0, 1)),
-            *b"yy....",
-            *b".y....",
-            *b"ny....",
-        ),
-        line(
-            Event::Open(2, 0, strong(Mode::Fold(Op::Or), 0, 1)),
-            *b"yyy...",
-            *b".yn...",
-            *b"nyy...",
-        ),
-        line(
-            Event::Open(3, 0, strong(Mode::Fold(Op::Add), 0, 1)),
-            *b"yyyy..",
-            *b".ynn..",
-            *b"nyyy..",
-        ),
-        line(
-            Event::Open(4, 0, strong(Mode::Read, 0, 1)),
-            *b"yyyyn.",
-            *b".ynn..",
-            *b"nyyyy.",
-        ),
-        line(
-            Event::Give(1, Range { lo: 0, hi: 1 }),
-            *b"yyyyn.",
-            *b".yyn..",
-            *b"nyyyy.",
-        ),
-        line(
-            Event::Give(2, Range { lo: 0, hi: 1 }),
-            *b"yyyyn.",
-            *b".yyy..",
-            *b"nyyyy.",
-        ),
-        line(
-            Event::Give(3, Range { lo: 0, hi: 1 }),
-            *b"yyyyy.",
-            *b".yyy..",
-            *b"nyyyy.",
-        ),
-        line(
-            Event::Give(4, Range { lo: 0, hi: 1 }),
-            *b"yyyyy.",
-            *b".yyy..",
-            *b"yyyyy.",
-        ),
+        open(1, 0, adds(0, 1), *b"yy....", *b".y....", *b"ny...."),
+        open(2, 0, ors(0, 1), *b"yyy...", *b".yn...", *b"nyy..."),
+        open(3, 0, adds(0, 1), *b"yyyy..", *b".ynn..", *b"nyyy.."),
+        open(4, 0, reads(0, 1), *b"yyyyn.", *b".ynn..", *b"nyyyy."),
+        give(1, 0, 1, *b"yyyyn.", *b".yyn..", *b"nyyyy."),
+        give(2, 0, 1, *b"yyyyn.", *b".yyy..", *b"nyyyy."),
+        give(3, 0, 1, *b"yyyyy.", *b".yyy..", *b"nyyyy."),
+        give(4, 0, 1, *b"yyyyy.", *b".yyy..", *b"yyyyy."),
     ]
 }
 
 /// A run with runs below both of its reductions, and a reader behind.
 fn nested_runs() -> [Moment; 10] {
     [
-        line(
-            Event::Open(1, 0, strong(Mode::Fold(Op::Add), 0, 1)),
-            *b"yy....",
-            *b".y....",
-            *b"ny....",
-        ),
-        line(
-            Event::Open(2, 1, strong(Mode::Fold(Op::Add), 0, 1)),
-            *b"yyy...",
-            *b".yy...",
-            *b"nny...",
-        ),
-        line(
-            Event::Open(3, 0, strong(Mode::Fold(Op::Add), 0, 1)),
-            *b"yyyy..",
-            *b".yyy..",
-            *b"nnyy..",
-        ),
-        line(
-            Event::Open(4, 3, strong(Mode::Fold(Op::Add), 0, 1)),
-            *b"yyyyy.",
-            *b".yyyy.",
-            *b"nnyny.",
-        ),
-        line(
-            Event::Open(5, 0, strong(Mode::Read, 0, 1)),
-            *b"yyyyyn",
-            *b".yyyy.",
-            *b"nnynyy",
-        ),
-        line(
-            Event::Give(4, Range { lo: 0, hi: 1 }),
-            *b"yyyyyn",
-            *b".yyyy.",
-            *b"nnyyyy",
-        ),
-        line(
-            Event::Give(3, Range { lo: 0, hi: 1 }),
-            *b"yyyyyn",
-            *b".yyyy.",
-            *b"nnyyyy",
-        ),
-        line(
-            Event::Give(1, Range { lo: 0, hi: 1 }),
-            *b"yyyyyn",
-            *b".yyyy.",
-            *b"nnyyyy",
-        ),
-        line(
-            Event::Give(2, Range { lo: 0, hi: 1 }),
-            *b"yyyyyy",
-            *b".yyyy.",
-            *b"nyyyyy",
-        ),
-        line(
-            Event::Give(5, Range { lo: 0, hi: 1 }),
-            *b"yyyyyy",
-            *b".yyyy.",
-            *b"yyyyyy",
-        ),
+        open(1, 0, adds(0, 1), *b"yy....", *b".y....", *b"ny...."),
+        open(2, 1, adds(0, 1), *b"yyy...", *b".yy...", *b"nny..."),
+        open(3, 0, adds(0, 1), *b"yyyy..", *b".yyy..", *b"nnyy.."),
+        open(4, 3, adds(0, 1), *b"yyyyy.", *b".yyyy.", *b"nnyny."),
+        open(5, 0, reads(0, 1), *b"yyyyyn", *b".yyyy.", *b"nnynyy"),
+        give(4, 0, 1, *b"yyyyyn", *b".yyyy.", *b"nnyyyy"),
+        give(3, 0, 1, *b"yyyyyn", *b".yyyy.", *b"nnyyyy"),
+        give(1, 0, 1, *b"yyyyyn", *b".yyyy.", *b"nnyyyy"),
+        give(2, 0, 1, *b"yyyyyy", *b".yyyy.", *b"nyyyyy"),
+        give(5, 0, 1, *b"yyyyyy", *b".yyyy.", *b"yyyyyy"),
     ]
 }
 
 /// A run with a run below it, and a reduction below a weak writer behind.
 fn a_run_below_a_writer() -> [Moment; 10] {
     [
-        line(
-            Event::Open(1, 0, strong(Mode::Fold(Op::Add), 0, 1)),
-            *b"yy....",
-            *b".y....",
-            *b"ny....",
-        ),
-        line(
-            Event::Open(2, 1, strong(Mode::Fold(Op::Add), 0, 1)),
-            *b"yyy...",
-            *b".yy...",
-            *b"nny...",
-        ),
-        line(
-            Event::Open(3, 1, strong(Mode::Fold(Op::Add), 0, 1)),
-            *b"yyyy..",
-            *b".yyy..",
-            *b"nnyy..",
-        ),
-        line(
-            Event::Open(4, 0, weak(Mode::Write, 0, 1)),
-            *b"yyyyy.",
-            *b".yyy..",
-            *b"nnyyy.",
-        ),
-        line(
-            Event::Open(5, 4, strong(Mode::Fold(Op::Add), 0, 1)),
-            *b"yyyyyy",
-            *b".yyy.n",
-            *b"nnyyny",
-        ),
-        line(
-            Event::Give(3, Range { lo: 0, hi: 1 }),
-            *b"yyyyyy",
-            *b".yyy.n",
-            *b"nnyyny",
-        ),
-        line(
-            Event::Give(1, Range { lo: 0, hi: 1 }),
-            *b"yyyyyy",
-            *b".yyy.n",
-            *b"nnyyny",
-        ),
-        line(
-            Event::Give(2, Range { lo: 0, hi: 1 }),
-            *b"yyyyyy",
-            *b".yyy.y",
-            *b"nyyyny",
-        ),
-        line(
-            Event::Give(4, Range { lo: 0, hi: 1 }),
-            *b"yyyyyy",
-            *b".yyy.y",
-            *b"nyyyny",
-        ),
-        line(
-            Event::Give(5, Range { lo: 0, hi: 1 }),
-            *b"yyyyyy",
-            *b".yyy.y",
-            *b"yyyyyy",
-        ),
+        open(1, 0, adds(0, 1), *b"yy....", *b".y....", *b"ny...."),
+        open(2, 1, adds(0, 1), *b"yyy...", *b".yy...", *b"nny..."),
+        open(3, 1, adds(0, 1), *b"yyyy..", *b".yyy..", *b"nnyy.."),
+        open(4, 0, weakly(0, 1), *b"yyyyy.", *b".yyy..", *b"nnyyy."),
+        open(5, 4, adds(0, 1), *b"yyyyyy", *b".yyy.n", *b"nnyyny"),
+        give(3, 0, 1, *b"yyyyyy", *b".yyy.n", *b"nnyyny"),
+        give(1, 0, 1, *b"yyyyyy", *b".yyy.n", *b"nnyyny"),
+        give(2, 0, 1, *b"yyyyyy", *b".yyy.y", *b"nyyyny"),
+        give(4, 0, 1, *b"yyyyyy", *b".yyy.y", *b"nyyyny"),
+        give(5, 0, 1, *b"yyyyyy", *b".yyy.y", *b"yyyyyy"),
     ]
 }
 
 /// Cells that are given up before their task ends, and accesses that were reserved; asked over two cells.
 fn a_cell_given_up_early() -> [Moment; 10] {
     [
-        line(
-            Event::Reserve(strong(Mode::Write, 0, 4)),
-            *b"y.....",
-            *b"......",
-            *b"y.....",
-        ),
-        line(
-            Event::Open(1, 0, strong(Mode::Write, 0, 4)),
-            *b"yy....",
-            *b"......",
-            *b"ny....",
-        ),
-        line(
-            Event::Open(2, 0, strong(Mode::Read, 0, 1)),
-            *b"yyn...",
-            *b"......",
-            *b"nyy...",
-        ),
-        line(
-            Event::Open(3, 0, strong(Mode::Read, 3, 4)),
-            *b"yynn..",
-            *b"......",
-            *b"nyyy..",
-        ),
-        line(
-            Event::Give(1, Range { lo: 2, hi: 3 }),
-            *b"yynn..",
-            *b"......",
-            *b"nyyy..",
-        ),
-        line(
-            Event::Give(1, Range { lo: 0, hi: 1 }),
-            *b"yyyn..",
-            *b"......",
-            *b"nyyy..",
-        ),
-        line(
-            Event::Give(2, Range { lo: 0, hi: 1 }),
-            *b"yyyn..",
-            *b"......",
-            *b"nyyy..",
-        ),
-        line(
-            Event::Give(1, Range { lo: 1, hi: 2 }),
-            *b"yyyn..",
-            *b"......",
-            *b"yyyy..",
-        ),
-        line(
-            Event::Give(1, Range { lo: 3, hi: 4 }),
-            *b"yyyy..",
-            *b"......",
-            *b"yyyy..",
-        ),
-        line(
-            Event::Give(3, Range { lo: 3, hi: 4 }),
-            *b"yyyy..",
-            *b"......",
-            *b"yyyy..",
-        ),
+        reserve(writes(0, 4), *b"y.....", *b"......", *b"y....."),
+        open(1, 0, writes(0, 4), *b"yy....", *b"......", *b"ny...."),
+        open(2, 0, reads(0, 1), *b"yyn...", *b"......", *b"nyy..."),
+        open(3, 0, reads(3, 4), *b"yynn..", *b"......", *b"nyyy.."),
+        give(1, 2, 3, *b"yynn..", *b"......", *b"nyyy.."),
+        give(1, 0, 1, *b"yyyn..", *b"......", *b"nyyy.."),
+        give(2, 0, 1, *b"yyyn..", *b"......", *b"nyyy.."),
+        give(1, 1, 2, *b"yyyn..", *b"......", *b"yyyy.."),
+        give(1, 3, 4, *b"yyyy..", *b"......", *b"yyyy.."),
+        give(3, 3, 4, *b"yyyy..", *b"......", *b"yyyy.."),
     ]
 }
 
