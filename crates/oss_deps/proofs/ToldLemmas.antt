@@ -1,5 +1,5 @@
 -- What the tests have told a system, and which calls that allows.
-use Rattle.std.proofs.Common.{◌≡◌, ℕ, ◌+◌, ◌-◌, ◌<◌, ◌≤◌, zero, suc, refl, sym, ap, subst, ◌∙◌, List, [], ◌∷◌, ◌++◌, ◌⊎◌, inl, inr, Bool, true, false, Option, Some, None, arith, length, get_or, eq-eqb, eqb-true}
+use Rattle.std.proofs.Common.{◌≡◌, ℕ, ◌+◌, ◌-◌, ◌<◌, ◌≤◌, zero, suc, refl, sym, ap, subst, ◌∙◌, List, [], ◌∷◌, ◌++◌, ◌⊎◌, inl, inr, Bool, true, false, Some, arith, length, get_or, eq-eqb, eqb-true}
 use Rattle.std.proofs.lemmas.Bool.Decides.{nat_tests}
 use Rattle.std.proofs.lemmas.Option.{slice_get_within, slice_get-get_or}
 use Rattle.std.specs.Prelude.{◌==◌, ◌||◌, ◌&&◌, nat_le, nat_lt, slice_get}
@@ -12,11 +12,11 @@ use Rattle.oss_model.specs.Order.{IsIn}
 use Rattle.oss_model.specs.Rights.{covers, in_access}
 use Rattle.oss_deps.specs.declared.opened.Open.{Open}
 use Rattle.oss_deps.specs.Opens.{AreOpens, HasCover, HasOpened, IsFolding, IsKnown, IsNested, IsOpened, child, main, access_at, mode_at, mode_in, mode_of_access, names}
-use Rattle.oss_deps.specs.Columns.{IsNumber, IsNumberOf}
-use Rattle.oss_deps.specs.Seen.{CanGive, CanOpen, Gives, HasHeldCover, IsNew, IsSame, Opens, Prepares, Reserves, Seen, in_range, is_access_end, is_end}
+use Rattle.oss_deps.specs.Columns.{IsNumberOf}
+use Rattle.oss_deps.specs.Seen.{CanOpen, Gives, HasHeldCover, IsNew, IsSame, Opens, Prepares, Reserves, Seen, in_range, is_access_end, is_end}
 use Rattle.oss_deps.specs.Told.{HasModeOver, IsApart, IsKept, IsLent, IsShallow, IsTold, MayGive, MayOpen, WasGiven}
 use Rattle.oss_deps.proofs.Basics.{bools, both, clash, compared, or_cases, or_left, or_right, same_at}
-use Rattle.oss_deps.proofs.OpenLemmas.{access_found, get_in, in_bounds, in_front, in_get, in_last, mode_is, named_at}
+use Rattle.oss_deps.proofs.OpenLemmas.{get_in, in_bounds, in_front, in_get, in_last, mode_is, named_at}
 use Rattle.oss_deps.proofs.NewLemmas.{opens_added, opens_none}
 
 -- what is looked up in the list of opens

@@ -1,5 +1,5 @@
 -- When the lists of all stretches stand for what was opened and given up.
-use Rattle.std.specs.Prelude.{◌≡◌, ℕ, ◌+◌, ◌≤◌, ◌<◌, ◌⊎◌, Bool, true, false, List, [], length, slice_get, vec_capacity, Option, Some, None}
+use Rattle.std.specs.Prelude.{◌≡◌, ℕ, ◌+◌, ◌≤◌, ◌<◌, ◌⊎◌, true, false, List, [], length, slice_get, vec_capacity, Option, Some, None}
 use Rattle.oss_syntax.specs.declared.access.Access.{Access}
 use Rattle.oss_syntax.specs.declared.access.Mode.TheVariants.{Write}
 use Rattle.oss_model.specs.Order.{IsIn}
@@ -7,7 +7,6 @@ use Rattle.oss_ranges.specs.declared.piece.Piece.{Piece}
 use Rattle.oss_ranges.specs.Cells.{Assigns, value_at}
 use Rattle.oss_deps.specs.declared.opened.Open.{Open}
 use Rattle.oss_deps.specs.declared.frame.Frame.{Frame}
-use Rattle.oss_deps.specs.declared.frame.Mark.{Mark}
 use Rattle.oss_deps.specs.declared.column.Column.{Column}
 use Rattle.oss_deps.specs.declared.want.Want.{Want}
 use Rattle.oss_deps.specs.declared.want.Want.TheVariants.{ToWrite, ToRead, ToJoin}

@@ -1,5 +1,3 @@
-use Rattle.std.proofs.Common.{◌≡◌, sym, subst, ◌∙◌}
-use Rattle.oss_deps.specs.Told.{IsTold}
 use Rattle.oss_deps.proofs.ToldLemmas.{told_new}
 use Rattle.oss_deps.proofs.tests.told.Told.new.Goals as goal
 

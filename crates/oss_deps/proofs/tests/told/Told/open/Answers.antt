@@ -1,4 +1,3 @@
-use Rattle.std.proofs.Common.{refl}
 use Rattle.oss_deps.specs.Seen.{CanOpen}
 use Rattle.oss_deps.specs.Told.{IsTold}
 use Rattle.oss_deps.proofs.ToldLemmas.{told_opened}
