@@ -92,6 +92,10 @@ AreReady (Some accesses) columns = ((columns ≡ []) → ⊥) × ((a : Access) �
 abbrev pub IsNumberOf : List Open → ℕ → ℕ → Type 0
 IsNumberOf opens n t = ((n ≡ 0) × (t ≡ 0)) ⊎ ((o : Open) × IsNumber opens n o × (o.task ≡ t))
 
+-- The task was opened as the one of its number.
+abbrev pub IsInOrder : List Open → ℕ → Type 0
+IsInOrder opens t = (o : Open) × IsNumber opens t o × (o.task ≡ t)
+
 -- The access with a number stands at the place.
 abbrev pub IsPlaceOf : List Frame → ℕ → ℕ → Type 0
 IsPlaceOf frames n k = (f : Frame) × (slice_get frames k ≡ Some f) × (f.number ≡ n)
