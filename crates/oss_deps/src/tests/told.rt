@@ -1,7 +1,6 @@
-ghost use Rattle.std.specs.Prelude.{◌≡◌, ◌≤◌, ◌<◌, ◌⊎◌, [], ◌∷◌, IfSome, IsTrue, length, vec_capacity, ℕ, true};
+ghost use Rattle.std.specs.Prelude.{◌≡◌, ◌≤◌, ◌<◌, [], ◌∷◌, IfSome, IsTrue, Some, length, vec_capacity, ℕ};
 ghost use Rattle.oss_model.specs.Rights.{covers};
-ghost use Rattle.oss_syntax.specs.declared.access.Access.{Access as Meant};
-ghost use Rattle.oss_deps.specs.Opens.{IsNested, access_at};
+ghost use Rattle.oss_deps.specs.Opens.{access_at};
 ghost use Rattle.oss_deps.specs.Seen.{CanOpen, IsNew, Opens, Prepares, Reserves};
 ghost use Rattle.oss_deps.specs.Told.{HasModeOver, IsApart, IsKept, IsLent, IsShallow, IsTold, MayGive, MayOpen};
 
