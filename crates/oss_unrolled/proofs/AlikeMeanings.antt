@@ -118,8 +118,8 @@ module _ (all : List Item) where
   abbrev pub nothing : Meaning
   nothing = record { behind = same_place; does = nothing_done; bodies = no_bodies }
 
-  pub nothing_alike : Alike false nothing nothing
-  nothing_alike = record {
+  pub nothing_alike : (c : Bool) → Alike c nothing nothing
+  nothing_alike c = record {
     behind = refl;
     grows = λ around. omega arith;
     keeps = λ e around. refl;
@@ -128,6 +128,22 @@ module _ (all : List Item) where
     does = λ total around has x y h low few a b ways locals size. ways.next locals size;
     bodies = λ total around has. tt;
   }
+
+  -- what may declare something need not
+  pub loosened : (c : Bool) (m k : Meaning) → Alike c m k → Alike true m k
+  loosened c m k one = record {
+    behind = one.behind;
+    grows = one.grows;
+    keeps = λ e around. absurd (subst IsYes e tt);
+    sizes = one.sizes;
+    counted = one.counted;
+    does = one.does;
+    bodies = one.bodies;
+  }
+    where
+      IsYes : Bool → Type 0
+      IsYes true = Unit {0}
+      IsYes false = ⊥
 
   -- one statement after another
   abbrev pub after : Meaning → Meaning → Meaning
