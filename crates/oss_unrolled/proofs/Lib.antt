@@ -6,3 +6,14 @@ pub mod SpelledValues
 pub mod TurnCells
 pub mod UnrolledClauses
 pub mod GroupingLemmas
+pub mod AlikeRuns
+pub mod AlikeExpressions
+pub mod SameNames
+pub mod AlikeClauses
+pub mod AlikeMeanings
+pub mod AlikeNested
+pub mod UnrolledForms
+pub mod AlikeSimple
+pub mod AlikeStatements
+pub mod AlikePrograms
+pub mod UnrolledOutcomes

@@ -14,10 +14,11 @@ use Rattle.oss_meaning.specs.declared.value.Value.{Value}
 use Rattle.oss_meaning.specs.declared.value.Value.TheVariants as value
 use Rattle.oss_meaning.specs.Clauses.{Made, clauses_run}
 use Rattle.oss_meaning.specs.Expressions.{Here, TreeRun, sense_of}
-use Rattle.oss_meaning.specs.Results.{IsOutcome, Outcome}
+use Rattle.oss_meaning.specs.Results.{IsOutcome, IsOutcomeOf, Outcome}
 use Rattle.oss_meaning.specs.Sections.{sections_run}
+use Rattle.oss_unrolled.specs.Fitting.{program_fits}
 use Rattle.oss_unrolled.specs.Grouping.{IsSteady, IsSteadyMade, plain_asked, plain_start}
-use Rattle.oss_unrolled.specs.Unrolling.{is_signed, spelled, unrolled_clauses, unrolled_sections}
+use Rattle.oss_unrolled.specs.Unrolling.{is_signed, items_unrolled, spelled, unrolled_clauses, unrolled_sections}
 
 -- An expression with a number spelled in place of a name means what the expression means where the newest local has this name and this number,
 -- and is a signed number: it asks for the same, has the same faults, and gives the same value.
@@ -39,8 +40,16 @@ UnrolledClausesMeanTheSame = (chosen : Section → Bool) (all : List Item) (scop
     (line : ℕ) (here : Here) (locals : List Value) (made : Made) (go : Made → TreeRun) → length locals ≡ length scope → IsSteadyMade go
     → clauses_run all scope clauses line here locals made go ≡ clauses_run all scope (unrolled_clauses chosen clauses) line here locals made go
 
--- However the clauses of creations group their cells, the sequential run has one outcome: two programs ask alike after all answers, with each cell in
--- an access of its own, and so do their mains; then the answers are the same, and the counts of tasks and of entries.
+-- However the clauses of creations and releases and the sections of waits group their cells, the sequential run has one outcome: two programs ask alike after all
+-- answers, with each cell in an access of its own, and so do their mains; then the answers are the same, and the counts of tasks and of entries.
 abbrev pub GroupingsHaveOneOutcome : Type 0 → Type 0
 GroupingsHaveOneOutcome S = (P Q : Program S) → ((s : S) (answers : List ℕ) → plain_asked (P s answers) ≡ plain_asked (Q s answers))
     → (main other : Start S) → plain_start main ≡ plain_start other → (cells : List ℕ) (o p : Outcome) → IsOutcome P main cells o → IsOutcome Q other cells p → o ≡ p
+
+-- A program in which calls and declarations fit, and the program with its multidependencies unrolled, have one outcome: the same answer, as many tasks, and as many
+-- entries. With all sections chosen these are all multidependencies that have literals.
+-- Read against: `long a[4]; int main() { task out({ a[k], k = 0; 2 }) { a[0] = 1; a[1] = 2; } taskwait; }` has the outcome of `long a[4]; int main() { task out(a[0], a[1]) { a[0] = 1; a[1] = 2; }
+-- taskwait; }`: no output, the cells 1, 2, 0 and 0, two tasks, and four entries.
+abbrev pub UnrolledProgramsHaveOneOutcome : Type 0
+UnrolledProgramsHaveOneOutcome = (chosen : Section → Bool) (all : List Item) → program_fits all ≡ true → (fuel : ℕ) (o p : Outcome)
+    → IsOutcomeOf all fuel o → IsOutcomeOf (items_unrolled chosen all) fuel p → o ≡ p
