@@ -49,16 +49,16 @@ and_right false b e = absurd (subst IsYes (sym e) tt)
 -- What fits, by forms
 
 module _ (all : List Item) (line : ℕ) where
-  fits-index : (a e : Expr) → fits all (record { what = exprs.Index a e; line = line }) ≡ (fits all a && fits all e)
+  pub fits-index : (a e : Expr) → fits all (record { what = exprs.Index a e; line = line }) ≡ (fits all a && fits all e)
   fits-index a e = search (rules, expr_folds)
 
-  fits-unary : (o : UnOp) (e : Expr) → fits all (record { what = exprs.Unary o e; line = line }) ≡ fits all e
+  pub fits-unary : (o : UnOp) (e : Expr) → fits all (record { what = exprs.Unary o e; line = line }) ≡ fits all e
   fits-unary o e = search (rules, expr_folds)
 
-  fits-binary : (o : BinOp) (a b : Expr) → fits all (record { what = exprs.Binary o a b; line = line }) ≡ (fits all a && fits all b)
+  pub fits-binary : (o : BinOp) (a b : Expr) → fits all (record { what = exprs.Binary o a b; line = line }) ≡ (fits all a && fits all b)
   fits-binary o a b = search (rules, expr_folds)
 
-  fits-call : (text : List ℕ) (es : List Expr) → fits all (record { what = exprs.Call text es; line = line }) ≡ (all_hold (map (fits all) es) && takes all (item_found all text) (length (map (fits all) es)))
+  pub fits-call : (text : List ℕ) (es : List Expr) → fits all (record { what = exprs.Call text es; line = line }) ≡ (all_hold (map (fits all) es) && takes all (item_found all text) (length (map (fits all) es)))
   fits-call text es = search (rules, expr_folds)
 
 module _ (all : List Item) (Good : TreeScript → Type 0) where
