@@ -156,10 +156,9 @@ shape_step all (open_stmt.Release clauses) = shape (clauses_fit all clauses)
 abbrev pub shape_of : List Item → Stmt → Shape
 shape_of all = fold-Stmt Shape Shape (shape_step all) (λ s. s.what)
 
--- statements fit
+-- the statements of a body fit, among which declarations may stand
 abbrev pub body_fits : List Item → List Stmt → Bool
-body_fits all [] = true
-body_fits all (s ∷ rest) = (shape_of all s).fits && body_fits all rest
+body_fits all ss = shapes_fit (map (shape_of all) ss)
 
 -- Programs
 

@@ -24,6 +24,7 @@ use Rattle.oss_syntax.specs.declared.tree.program.Item.TheVariants as items
 use Rattle.oss_syntax.specs.declared.tree.program.Kind.{Kind}
 use Rattle.oss_syntax.specs.declared.tree.program.Kind.TheVariants as kind
 use Rattle.oss_syntax.specs.declared.tree.program.NumKind.TheVariants as num
+use Rattle.oss_syntax.specs.declared.tree.program.Program.{Program}
 use Rattle.oss_syntax.specs.declared.tree.stmt.Stmt.{Stmt}
 use Rattle.oss_syntax.specs.declared.tree.stmt.StmtKind.{StmtKind}
 use Rattle.oss_syntax.specs.declared.tree.stmt.StmtKind.TheOpen.{StmtKind-F, Stmt-F}
@@ -185,3 +186,6 @@ item_unrolled chosen (items.Function f) = items.Function (function_unrolled chos
 -- 2; } taskwait on(a[0], a[1]); }`. A local or global `k` of the program means what it meant: in `task in({ a[k], k = 0; 2 }, a[k])` the last section stays.
 abbrev pub items_unrolled : (Section → Bool) → List Item → List Item
 items_unrolled chosen = map (item_unrolled chosen)
+
+abbrev pub program_unrolled : (Section → Bool) → Program → Program
+program_unrolled chosen p = record { items = items_unrolled chosen p.items }
