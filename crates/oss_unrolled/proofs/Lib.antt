@@ -16,4 +16,9 @@ pub mod UnrolledForms
 pub mod AlikeSimple
 pub mod AlikeStatements
 pub mod AlikePrograms
+pub mod RulesFit
+pub mod WrittenShapes
+pub mod TextsFit
+pub mod UnrolledLoops
+pub mod AcceptedPrograms
 pub mod UnrolledOutcomes
