@@ -14,7 +14,6 @@ use Rattle.oss_syntax.specs.declared.tree.program.Item.TheVariants as items
 use Rattle.oss_syntax.specs.declared.tree.program.Local.{Local}
 use Rattle.oss_syntax.specs.declared.tree.program.NumKind.{NumKind}
 use Rattle.oss_syntax.specs.declared.tree.program.Program.{Program}
-use Rattle.oss_syntax.specs.declared.tree.stmt.Stmt.{Stmt}
 use Rattle.oss_grammar.specs.Broken.{where_so}
 use Rattle.oss_grammar.specs.Layout.{cells_of}
 use Rattle.oss_grammar.specs.Parsing.{IsProgramText}
@@ -24,7 +23,6 @@ use Rattle.oss_grammar.specs.Programs.IsFunction.{function}
 use Rattle.oss_grammar.specs.Programs.IsItem.{globals, one_function}
 use Rattle.oss_grammar.specs.Programs.IsProgram.{program}
 use Rattle.oss_grammar.specs.Programs.IsProgramItems.{more_items, no_items}
-use Rattle.oss_grammar.specs.SectionRules.{clauses_rules}
 use Rattle.oss_grammar.specs.Scopes.{is_again, is_main, item_at, item_name, item_named, item_place}
 use Rattle.oss_grammar.specs.Statements.{IsItems}
 use Rattle.oss_grammar.specs.StaticRules.{declare_all, rules_of_all}

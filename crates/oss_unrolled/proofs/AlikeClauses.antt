@@ -1,6 +1,6 @@
 -- Sections and clauses go on alike with their multidependencies unrolled, at two places where calls and creations go on alike.
 use Rattle.std.proofs.Common.{◌≡◌, ◌∙◌, ℕ, zero, suc, ◌+◌, ◌<◌, Bool, true, false, List, [], ◌∷◌, ◌++◌, length, map, reverse, Option, Some, None, refl, sym, ap, subst, arith}
-use Rattle.std.specs.Prelude.{◌^◌, ◌&&◌, if◌then◌else◌, nat_le, Err}
+use Rattle.std.specs.Prelude.{◌^◌, if◌then◌else◌, nat_le, Err}
 use Rattle.std.proofs.lemmas.List.{append-nil}
 use Rattle.oss_syntax.specs.declared.access.Access.{Access}
 use Rattle.oss_syntax.specs.declared.fault.FaultKind.TheVariants as fault
@@ -26,10 +26,10 @@ use Rattle.oss_meaning.specs.Names.{found}
 use Rattle.oss_meaning.specs.Pointers.{extents_of, number_in}
 use Rattle.oss_meaning.specs.Sections.{base_of, declared_on, extent_at, many_section, operands_in, optional_value, plain_section, ranges_of, second_index, section_run, sections_run, turn_cells, turns_run}
 use Rattle.oss_unrolled.specs.Fitting.{all_fit, clause_fits, clauses_fit, fits, form_fits, optional_fits, sections_fit}
-use Rattle.oss_unrolled.specs.Grouping.{plain_ask, singles}
+use Rattle.oss_unrolled.specs.Grouping.{singles}
 use Rattle.oss_unrolled.specs.Unrolling.{is_signed, items_unrolled, literal_turns, turn_section, turn_sections, unrolled_clause, unrolled_clauses, unrolled_form, unrolled_sections, written_turns}
 use Rattle.oss_unrolled.proofs.AlikeRuns.{Like, asking_like, unless_like}
-use Rattle.oss_unrolled.proofs.AlikeExpressions.{AllEven, Goes, HereLike, all_even, and_left, and_right, arguments_even, even_sense}
+use Rattle.oss_unrolled.proofs.AlikeExpressions.{HereLike, all_even, and_left, and_right, arguments_even, even_sense}
 use Rattle.oss_unrolled.proofs.SameNames.{extents_same, found_same, sense_same}
 use Rattle.oss_unrolled.proofs.TurnCells.{behind_same, grouped_same, turn_is, wraps_not}
 use Rattle.oss_unrolled.proofs.UnrolledClauses.{Literals, fits as few_enough, literal_value, literals, stays, with_form}

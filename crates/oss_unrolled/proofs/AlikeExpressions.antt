@@ -1,12 +1,11 @@
 -- An expression goes on alike at two places where calls and creations go on alike.
-use Rattle.std.proofs.Common.{◌≡◌, ◌∙◌, ℕ, suc, ◌+◌, Bool, true, false, List, [], ◌∷◌, length, map, reverse, refl, sym, ap, subst, arith, rules}
+use Rattle.std.proofs.Common.{◌≡◌, ◌∙◌, ℕ, suc, ◌+◌, Bool, true, false, List, [], ◌∷◌, length, map, reverse, refl, sym, subst, arith, rules}
 use Rattle.std.specs.Prelude.{◌&&◌, if◌then◌else◌, nat_le, pos, slice_get}
 use Rattle.std.proofs.lemmas.List.{length-map, length-reverse}
 use Rattle.oss_syntax.specs.declared.fault.FaultKind.TheVariants as fault
 use Rattle.oss_syntax.specs.declared.tree.expr.BinOp.{BinOp}
 use Rattle.oss_syntax.specs.declared.tree.expr.BinOp.TheVariants as op
 use Rattle.oss_syntax.specs.declared.tree.expr.Expr.{Expr}
-use Rattle.oss_syntax.specs.declared.tree.expr.ExprKind.TheOpen as open_expr
 use Rattle.oss_syntax.specs.declared.tree.expr.ExprKind.TheFolds.{the_lemmas as expr_folds}
 use Rattle.oss_syntax.specs.declared.tree.expr.ExprKind.TheVariants as exprs
 use Rattle.oss_syntax.specs.declared.tree.expr.UnOp.{UnOp}
@@ -23,7 +22,7 @@ use Rattle.oss_meaning.specs.declared.names.Target.{Target}
 use Rattle.oss_meaning.specs.declared.names.Target.TheVariants as target
 use Rattle.oss_meaning.specs.declared.value.Value.{Value}
 use Rattle.oss_meaning.specs.declared.value.Value.TheVariants as value
-use Rattle.oss_meaning.specs.Expressions.{Evaluation, Here, Sense, TreeRun, TreeScript, arguments, binary_value, both, both_then, call_value, called, called_or_created, expr_step, index_indexed, index_place, index_sense, index_value, is_task_function, name_place, name_value, no_place, prefix_place, prefix_sense, prefix_value, sense_of, then_load, unless_fault, value_at}
+use Rattle.oss_meaning.specs.Expressions.{Evaluation, Here, Sense, TreeRun, TreeScript, arguments, binary_value, both, both_then, call_value, called, called_or_created, index_indexed, index_place, index_sense, index_value, is_task_function, name_place, name_value, no_place, prefix_place, prefix_value, sense_of, then_load, value_at}
 use Rattle.oss_meaning.specs.Names.{found, functions_of, item_found}
 use Rattle.oss_meaning.specs.Operators.{is_zero, operated_by, prefixed, truth_of}
 use Rattle.oss_meaning.specs.Pointers.{Extent, element_of, extents_of, moved, number_in, row_of}
@@ -254,7 +253,7 @@ module _ (all : List Item) (Good : TreeScript → Type 0) where
         let fit = sym (fits-call all e.line text es) ∙ fit in
         let few : length (map (fits all) es) ≡ length (map (sense_of all scope) es) = length-map es (fits all) ∙ sym (length-map es (sense_of all scope)) in
         let even = call_even (item_found all text) (map (sense_of all scope) es) (each_even oks (and_left (all_hold (map (fits all) es)) _ fit))
-            (subst (λ n. takes all (item_found all text) n ≡ true) few (and_right (all_hold (map (fits all) es)) _ fit)) in
+        (subst (λ n. takes all (item_found all text) n ≡ true) few (and_right (all_hold (map (fits all) es)) _ fit)) in
         shown (record { what = exprs.Call text es; line = e.line }) _ (sense-call all scope e.line text es) (record { value = even; place = nowhere; indexed = even }))
 
     -- Each expression in which calls fit goes on alike.

@@ -1,16 +1,15 @@
 -- What two statements mean is alike: they stand before the same place, do alike there with locals that are as many as those in scope, and have task statements
 -- that stand before as many locals each and whose bodies do alike.
-use Rattle.std.proofs.Common.{◌≡◌, ◌∙◌, ℕ, zero, suc, ◌+◌, ◌≤◌, Bool, true, false, List, [], ◌∷◌, ◌++◌, length, Option, Some, None, refl, sym, ap, subst, arith, length-append}
+use Rattle.std.proofs.Common.{◌≡◌, ℕ, zero, suc, ◌+◌, ◌≤◌, Bool, true, false, List, [], ◌∷◌, ◌++◌, length, Option, Some, refl, sym, subst, arith, length-append}
 use Rattle.std.specs.Prelude.{slice_get, take}
 use Rattle.std.proofs.lemmas.List.{length-take-le}
 use Rattle.oss_syntax.specs.declared.tree.program.Item.{Item}
-use Rattle.oss_syntax.specs.declared.tree.program.Local.{Local}
 use Rattle.oss_model.specs.Bodies.Ask.{End, Tick}
 use Rattle.oss_meaning.specs.declared.value.Value.{Value}
 use Rattle.oss_meaning.specs.Expressions.{Here, TaskBody, TreeRun, TreeScript}
 use Rattle.oss_meaning.specs.Meaning.{main_number, statement_run}
 use Rattle.oss_meaning.specs.Names.{functions_of}
-use Rattle.oss_meaning.specs.Statements.{Around, Body, Does, Meaning, Ways, alone, behind_all, bodies_of_all, going_on, in_order, left, no_bodies, nothing_done, part_behind, part_bodies, part_does, same_place, simple, ticked}
+use Rattle.oss_meaning.specs.Statements.{Around, Body, Does, Meaning, Ways, alone, behind_all, bodies_of_all, going_on, in_order, left, no_bodies, nothing_done, part_behind, part_bodies, part_does, same_place, simple}
 use Rattle.oss_unrolled.specs.Fitting.{function_takes}
 use Rattle.oss_unrolled.proofs.AlikeRuns.{Like, asking_like, ending_like}
 use Rattle.oss_unrolled.proofs.AlikeExpressions.{HereLike}

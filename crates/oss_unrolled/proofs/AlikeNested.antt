@@ -1,6 +1,6 @@
 -- Choices, loops and tasks of statements that are alike are alike.
-use Rattle.std.proofs.Common.{◌≡◌, ◌∙◌, ℕ, zero, suc, ◌+◌, ◌≤◌, Bool, true, false, List, [], ◌∷◌, ◌++◌, length, Option, Some, None, refl, sym, ap, subst, arith, length-append, append_assoc}
-use Rattle.std.specs.Prelude.{if◌then◌else◌, slice_get, take}
+use Rattle.std.proofs.Common.{◌≡◌, ◌∙◌, ℕ, zero, suc, ◌≤◌, Bool, true, false, List, ◌∷◌, ◌++◌, length, Option, Some, None, refl, sym, ap, subst, arith, length-append, append_assoc}
+use Rattle.std.specs.Prelude.{take}
 use Rattle.std.proofs.lemmas.List.{length-take-le}
 use Rattle.oss_syntax.specs.declared.tree.expr.Expr.{Expr}
 use Rattle.oss_syntax.specs.declared.tree.pragma.Clause.{Clause}
@@ -12,7 +12,6 @@ use Rattle.oss_meaning.specs.declared.value.Value.{Value}
 use Rattle.oss_meaning.specs.declared.value.Value.TheVariants as value
 use Rattle.oss_meaning.specs.Expressions.{Here, TaskBody, TreeRun}
 use Rattle.oss_meaning.specs.Operators.{is_zero}
-use Rattle.oss_meaning.specs.Runs.{ending}
 use Rattle.oss_meaning.specs.Statements.{Around, Meaning, Ways, body_ends, body_place, body_ways, choice, chosen as side_chosen, for_loop, going_on, in_task, left, looped, loops, other_place, part_behind, part_bodies, part_does, task, tested, then_next, turn}
 use Rattle.oss_unrolled.specs.Fitting.{clauses_fit, fits, optional_fits}
 use Rattle.oss_unrolled.specs.Unrolling.{items_unrolled, unrolled_clauses}

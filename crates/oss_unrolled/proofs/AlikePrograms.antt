@@ -1,7 +1,7 @@
 -- A program in which calls and declarations fit, and the program with its multidependencies unrolled, ask alike of each body that begins with as many values as it has
 -- locals in scope, and create with such bodies alone.
-use Rattle.std.proofs.Common.{◌≡◌, ◌∙◌, ℕ, zero, suc, ◌+◌, Bool, true, false, List, [], ◌∷◌, ◌++◌, length, map, Option, Some, None, option_map, refl, sym, ap, subst, arith, length-append, append_assoc}
-use Rattle.std.specs.Prelude.{◌&&◌, ◌==◌, codes, slice_get, slice_set}
+use Rattle.std.proofs.Common.{◌≡◌, ◌∙◌, ℕ, zero, suc, ◌+◌, Bool, true, List, [], ◌∷◌, ◌++◌, length, map, Option, Some, None, option_map, refl, sym, ap, subst, arith, length-append, append_assoc}
+use Rattle.std.specs.Prelude.{◌==◌, codes, slice_get, slice_set}
 use Rattle.std.proofs.lemmas.Bool.Decides.{nat_tests}
 use Rattle.std.proofs.lemmas.List.{length-map, length-set}
 use Rattle.std.proofs.lemmas.Option.{slice_get_past}
@@ -18,17 +18,17 @@ use Rattle.oss_meaning.specs.declared.value.Value.{Value}
 use Rattle.oss_meaning.specs.declared.value.Value.TheVariants as value
 use Rattle.oss_meaning.specs.Clauses.{created}
 use Rattle.oss_meaning.specs.Expressions.{Calls, Here, TaskBody, TreeRun, TreeScript, value_at}
-use Rattle.oss_meaning.specs.Meaning.{bodies_from, body_run as runs_body, bound, calls_of, clauses_of, ended_by, function_created, function_place, function_run, gives, in_clauses, main_number, number_of_function, out_of, run_within, script_run, statement_run, task_function_run, tasks_before, tasks_behind, within}
+use Rattle.oss_meaning.specs.Meaning.{bodies_from, body_run as runs_body, bound, calls_of, clauses_of, function_created, function_place, function_run, gives, in_clauses, main_number, number_of_function, out_of, run_within, script_run, statement_run, task_function_run, tasks_before, tasks_behind, within}
 use Rattle.oss_meaning.specs.Names.{functions_of, item_found}
 use Rattle.oss_meaning.specs.Operators.{kept_value}
 use Rattle.oss_meaning.specs.Runs.{ending}
-use Rattle.oss_meaning.specs.Statements.{Around, Body, Ways, behind_all, bodies_of_all, in_order, meanings_of}
-use Rattle.oss_unrolled.specs.Fitting.{body_fits, clauses_fit, function_fits, function_takes, functions_fit, mark_fits, program_fits, takes}
-use Rattle.oss_unrolled.specs.Unrolling.{function_unrolled, items_unrolled, unrolled, unrolled_clauses, unrolled_mark}
-use Rattle.oss_unrolled.proofs.AlikeRuns.{Like, ending_like}
-use Rattle.oss_unrolled.proofs.AlikeExpressions.{Goes, HereLike, Takes, and_left, and_right}
+use Rattle.oss_meaning.specs.Statements.{Around, bodies_of_all, in_order, meanings_of}
+use Rattle.oss_unrolled.specs.Fitting.{body_fits, function_fits, function_takes, functions_fit, mark_fits, program_fits, takes}
+use Rattle.oss_unrolled.specs.Unrolling.{function_unrolled, items_unrolled, unrolled, unrolled_mark}
+use Rattle.oss_unrolled.proofs.AlikeRuns.{ending_like}
+use Rattle.oss_unrolled.proofs.AlikeExpressions.{Goes, Takes, and_left, and_right}
 use Rattle.oss_unrolled.proofs.AlikeClauses.{created_like}
-use Rattle.oss_unrolled.proofs.AlikeMeanings.{Alike, BodiesLike, Has, IsScript, Places, Runs, WaysLike, bodies_append, body_run, has_locals, listed}
+use Rattle.oss_unrolled.proofs.AlikeMeanings.{Alike, BodiesLike, Has, IsScript, Places, Runs, bodies_append, body_run, has_locals, listed}
 use Rattle.oss_unrolled.proofs.AlikeStatements.{statements_alike}
 use Rattle.oss_unrolled.proofs.SameNames.{function_same, functions_same, item_same}
 

@@ -1,6 +1,6 @@
 -- Statements without others in them do alike, with the multidependencies of waits and releases unrolled.
-use Rattle.std.proofs.Common.{◌≡◌, ◌∙◌, ℕ, ◌+◌, ◌≤◌, Bool, true, false, List, [], ◌∷◌, ◌++◌, length, map, reverse, Option, Some, None, option_map, refl, sym, ap, subst, arith, length-append, rules}
-use Rattle.std.specs.Prelude.{◌&&◌, not, slice_set}
+use Rattle.std.proofs.Common.{◌≡◌, ◌∙◌, ℕ, ◌+◌, Bool, true, false, List, [], ◌∷◌, ◌++◌, length, map, reverse, Option, Some, None, option_map, refl, sym, ap, subst, arith, length-append}
+use Rattle.std.specs.Prelude.{◌&&◌, slice_set}
 use Rattle.std.proofs.lemmas.List.{length-map, length-set}
 use Rattle.oss_syntax.specs.declared.access.Op.{Op}
 use Rattle.oss_syntax.specs.declared.tree.expr.BinOp.{BinOp}
@@ -11,7 +11,6 @@ use Rattle.oss_syntax.specs.declared.tree.program.Item.{Item}
 use Rattle.oss_syntax.specs.declared.tree.program.Kind.{Kind}
 use Rattle.oss_syntax.specs.declared.tree.program.Local.{Local}
 use Rattle.oss_syntax.specs.declared.tree.program.NumKind.{NumKind}
-use Rattle.oss_syntax.specs.declared.tree.stmt.Stmt.{Stmt}
 use Rattle.oss_grammar.specs.Formats.{printed}
 use Rattle.oss_grammar.specs.Values.{kept}
 use Rattle.oss_model.specs.Bodies.{Ask}
@@ -28,13 +27,12 @@ use Rattle.oss_meaning.specs.Operators.{first_value, kept_value, operated_by}
 use Rattle.oss_meaning.specs.Pointers.{Extent, cell_of, extents_of, number_in}
 use Rattle.oss_meaning.specs.Statements.{Around, assigned, assignment, call_done, cell_assigned, cell_changed, declare, declared, first_of, folded_by, local_assigned, print_done, release_done, returned, stored, wait_done}
 use Rattle.oss_meaning.specs.Runs.{asking}
-use Rattle.oss_unrolled.specs.Fitting.{Shape, all_fit, body_fits, clauses_fit, fits, locals_fit, optional_fits, part_fits, part_stands, shape, shape_of, shapes_fit, stands, takes, waits_fit}
-use Rattle.oss_unrolled.specs.Grouping.{plain_ask}
-use Rattle.oss_unrolled.specs.Unrolling.{items_unrolled, unrolled, unrolled_clauses, unrolled_mark, unrolled_sections}
-use Rattle.oss_unrolled.proofs.AlikeRuns.{Like, asking_like, cell_like, loaded_like, unless_like}
+use Rattle.oss_unrolled.specs.Fitting.{all_fit, clauses_fit, fits, locals_fit, optional_fits, takes, waits_fit}
+use Rattle.oss_unrolled.specs.Unrolling.{items_unrolled, unrolled_clauses, unrolled_sections}
+use Rattle.oss_unrolled.proofs.AlikeRuns.{asking_like, cell_like, loaded_like, unless_like}
 use Rattle.oss_unrolled.proofs.AlikeExpressions.{EvenSense, all_even, and_left, and_right, call_even, even_sense}
 use Rattle.oss_unrolled.proofs.AlikeClauses.{arguments_like, clauses_like, sections_like, value_like}
-use Rattle.oss_unrolled.proofs.AlikeMeanings.{Alike, DoLike, Has, IsScript, Places, Runs, after_alike, boxed_alike, leaf_alike, listed, nothing_alike, part}
+use Rattle.oss_unrolled.proofs.AlikeMeanings.{Alike, DoLike, IsScript, Places, Runs}
 use Rattle.oss_unrolled.proofs.SameNames.{called_same, extents_same, item_same, sense_same}
 
 module _ (chosen : Section → Bool) (all : List Item) where

@@ -1,6 +1,6 @@
 -- A statement, and the statement with its multidependencies unrolled, are alike where calls and declarations fit.
-use Rattle.std.proofs.Common.{◌≡◌, ◌∙◌, ℕ, Bool, true, false, List, [], ◌∷◌, length, map, Option, Some, None, option_map, refl, sym, ap, subst, arith}
-use Rattle.std.specs.Prelude.{◌&&◌, not}
+use Rattle.std.proofs.Common.{◌≡◌, ◌∙◌, Bool, true, false, List, [], ◌∷◌, map, Option, Some, None, option_map, refl, sym, ap, subst, arith}
+use Rattle.std.specs.Prelude.{not}
 use Rattle.oss_syntax.specs.declared.tree.pragma.Section.{Section}
 use Rattle.oss_syntax.specs.declared.tree.program.Item.{Item}
 use Rattle.oss_syntax.specs.declared.tree.stmt.Stmt.{Stmt}
@@ -11,7 +11,7 @@ use Rattle.oss_grammar.proofs.TreeInduction.Each.{each_none, each_more}
 use Rattle.oss_grammar.proofs.TreeInduction.StmtParts.{is_assign, is_block, is_break, is_call, is_continue, is_declare, is_empty, is_for, is_if, is_print, is_release, is_return, is_task, is_task_loop, is_wait, is_while}
 use Rattle.oss_meaning.specs.Statements.{Meaning, assignment, call_done, meaning_of, meanings_of, nothing_done, print_done, release_done, returned, wait_done}
 use Rattle.oss_meaning.proofs.FormLemmas.{meaning-assign, meaning-block, meaning-break, meaning-call, meaning-continue, meaning-declare, meaning-empty, meaning-for, meaning-if, meaning-print, meaning-release, meaning-return, meaning-task, meaning-task_loop, meaning-task_wait, meaning-while}
-use Rattle.oss_unrolled.specs.Fitting.{Shape, all_fit, body_fits, clauses_fit, fits, optional_fits, part_fits, part_stands, shape_of, shapes_fit, stands}
+use Rattle.oss_unrolled.specs.Fitting.{Shape, body_fits, clauses_fit, fits, optional_fits, part_fits, part_stands, shape_of, shapes_fit, stands}
 use Rattle.oss_unrolled.specs.Unrolling.{items_unrolled, unrolled, unrolled_clauses, unrolled_mark, unrolled_sections}
 use Rattle.oss_unrolled.proofs.AlikeExpressions.{and_left, and_right}
 use Rattle.oss_unrolled.proofs.AlikeMeanings.{Alike, after_alike, boxed_alike, leaf_alike, listed, loosened, nothing_alike, part}

@@ -27,16 +27,16 @@ use Rattle.oss_grammar.specs.declared.kinds.Wanted.{Wanted}
 use Rattle.oss_grammar.specs.declared.kinds.Wanted.TheVariants as wanted
 use Rattle.oss_grammar.specs.Broken.{broken, insert, rank, where_so}
 use Rattle.oss_grammar.specs.ExpressionRules.{argument_rules, argument_wanted, call_rules, findings, parameters_behind, parameters_of, value_rules}
-use Rattle.oss_grammar.specs.Kinds.{Findings, all_of, allows, has_address, index_findings, left_wanted, binary_findings, placed, unary_findings, unless}
+use Rattle.oss_grammar.specs.Kinds.{Findings, all_of, allows, has_address, left_wanted, placed, unary_findings, unless}
 use Rattle.oss_grammar.specs.Scopes.{as_function, function_named, global_meaning, hides, item_meaning, item_named, local_kind, meaning}
-use Rattle.oss_grammar.specs.SectionRules.{clause_rules, clauses_rules, form_rules, inner_rules, is_fold, loop_clause_rules, loop_clauses_rules, optional_rules, section_rules, sections_in, sections_rules}
-use Rattle.oss_grammar.specs.TaskLoops.{grain_of, number_at, task_clauses}
+use Rattle.oss_grammar.specs.SectionRules.{clause_rules, clauses_rules, form_rules, inner_rules, is_fold, loop_clauses_rules, optional_rules, section_rules, sections_in, sections_rules}
+use Rattle.oss_grammar.specs.TaskLoops.{grain_of, task_clauses}
 use Rattle.oss_grammar.proofs.RuleEquations.{found-binary, found-call, found-index, found-unary}
 use Rattle.oss_grammar.proofs.TreeInduction.{Each, ExprParts, expr_induction}
 use Rattle.oss_grammar.proofs.TreeInduction.Each.{each_none, each_more}
 use Rattle.oss_grammar.proofs.TreeInduction.ExprParts.{is_number, is_name, is_index, is_unary, is_binary, is_applied}
 use Rattle.oss_meaning.specs.Names.{item_found}
-use Rattle.oss_meaning.specs.Sections.{inner_operands, operands_in, optional}
+use Rattle.oss_meaning.specs.Sections.{inner_operands, optional}
 use Rattle.oss_unrolled.specs.Fitting.{all_fit, all_hold, clause_fits, clauses_fit, fits, form_fits, optional_fits, sections_fit, takes}
 use Rattle.oss_unrolled.proofs.AlikeExpressions.{and_left, and_right, fits-binary, fits-call, fits-index, fits-unary}
 

@@ -1,9 +1,8 @@
 -- In a program with its multidependencies unrolled each name stands for what it stood for, and each expression means what it meant.
-use Rattle.std.proofs.Common.{◌≡◌, ◌∙◌, ℕ, ◌+◌, Bool, List, [], ◌∷◌, ◌++◌, map, Option, Some, None, option_map, refl, sym, ap}
-use Rattle.std.specs.Prelude.{codes, if◌then◌else◌, is_some, replicate, reverse, slice_get, sum}
+use Rattle.std.proofs.Common.{◌≡◌, ◌∙◌, ℕ, ◌+◌, Bool, List, [], ◌∷◌, ◌++◌, map, Option, Some, None, option_map, refl, ap}
+use Rattle.std.specs.Prelude.{if◌then◌else◌, is_some, replicate, reverse, slice_get, sum}
 use Rattle.std.specs.Str.{bytes_eq}
 use Rattle.std.proofs.lemmas.Option.{slice_get-map}
-use Rattle.oss_syntax.specs.declared.tree.expr.Expr.{Expr}
 use Rattle.oss_syntax.specs.declared.tree.expr.ExprKind.TheOpen.{ExprKind-F, Expr-F}
 use Rattle.oss_syntax.specs.declared.tree.expr.ExprKind.TheOpen as open_expr
 use Rattle.oss_syntax.specs.declared.tree.expr.ExprKind.TheFolds.{fold-Expr}
@@ -17,7 +16,7 @@ use Rattle.oss_grammar.specs.Layout.{cells_in, cells_of, sizes_of}
 use Rattle.oss_grammar.specs.Values.{kept}
 use Rattle.oss_meaning.specs.declared.names.Found.{Found}
 use Rattle.oss_meaning.specs.declared.names.Found.TheVariants as names
-use Rattle.oss_meaning.specs.Expressions.{Evaluation, Here, Sense, arguments, call_value, called_kind, called_or_created, expr_step, given_kind, index_sense, is_task_function, name_place, name_value, prefix_sense, sense_of, typed_name, typed_value, value_sense}
+use Rattle.oss_meaning.specs.Expressions.{Sense, arguments, call_value, called_kind, called_or_created, expr_step, given_kind, index_sense, is_task_function, name_place, name_value, prefix_sense, sense_of, typed_name, typed_value, value_sense}
 use Rattle.oss_meaning.specs.Names.{found, functions_of, global_found, item_found, item_from, local_from, or_found}
 use Rattle.oss_meaning.specs.Pointers.{Extent, extents_from, extents_of}
 use Rattle.oss_meaning.specs.Results.{first_cells}

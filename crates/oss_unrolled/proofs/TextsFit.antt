@@ -1,7 +1,7 @@
 -- Statements of a text that break no static rule fit, their task loops written out: the grammar has declarations in blocks, in bodies and as the first part of a `for`
 -- alone, and the rules count the arguments of each call.
-use Rattle.std.proofs.Common.{◌≡◌, ◌∙◌, ℕ, ◌+◌, Bool, true, false, List, [], ◌∷◌, ◌++◌, length, map, Option, Some, None, option_map, refl, sym, ap, subst}
-use Rattle.std.specs.Prelude.{◌&&◌, ◌==◌, is_some, nat_le, not}
+use Rattle.std.proofs.Common.{◌≡◌, ◌∙◌, ℕ, Bool, true, false, List, [], ◌∷◌, length, map, Option, Some, None, option_map, refl, sym, ap, subst}
+use Rattle.std.specs.Prelude.{◌==◌, is_some}
 use Rattle.std.proofs.lemmas.List.{length-map}
 use Rattle.oss_syntax.specs.declared.refusal.RefusedKind.TheVariants as refused
 use Rattle.oss_syntax.specs.declared.token.Token.{Token}
@@ -23,7 +23,7 @@ use Rattle.oss_grammar.specs.ExpressionRules.{argument_rules, call_rules, findin
 use Rattle.oss_grammar.specs.Formats.{conversions_of}
 use Rattle.oss_grammar.specs.Kinds.{all_of, placed, unless, wanted_by}
 use Rattle.oss_grammar.specs.Scopes.{function_named, item_named, loop_locals, meaning}
-use Rattle.oss_grammar.specs.SectionRules.{clauses_rules, loop_clauses_rules, optional_rules, sections_rules}
+use Rattle.oss_grammar.specs.SectionRules.{clauses_rules, loop_clauses_rules, optional_rules}
 use Rattle.oss_grammar.specs.SimpleStatements.{IsDeclaration, IsSimple, one_at}
 use Rattle.oss_grammar.specs.SimpleStatements.IsDeclaration.{declaration}
 use Rattle.oss_grammar.specs.SimpleStatements.IsSimple.{assigned, called, step_first, stepped}
@@ -32,7 +32,7 @@ use Rattle.oss_grammar.specs.Statements.IsForFirst.{declared_first, other_first}
 use Rattle.oss_grammar.specs.Statements.IsItems.{declaration_item, no_item, statement_item}
 use Rattle.oss_grammar.specs.Statements.IsMaybeSimple.{no_simple, some_simple}
 use Rattle.oss_grammar.specs.Statements.IsStmt.{block, break_jump, continue_jump, empty, for_loop, if_alone, if_else, print, release, return_jump, simple, task, task_loop, task_wait, while_loop}
-use Rattle.oss_grammar.specs.StaticRules.{declare_all, declare_one, first_rules, format_rules, head_rules, in_a_loop, in_a_task, in_a_task_loop, is_wrong_return, judged, last_name_rules, local_rules, name_rules, numbers_rules, or_anything, part_rules, returned_rules, rules_of, rules_of_all, scope_in, target_wanted, wait_rules}
+use Rattle.oss_grammar.specs.StaticRules.{declare_all, declare_one, format_rules, head_rules, in_a_loop, in_a_task, in_a_task_loop, is_wrong_return, last_name_rules, local_rules, name_rules, numbers_rules, or_anything, part_rules, returned_rules, rules_of, rules_of_all, scope_in, target_wanted, wait_rules}
 use Rattle.oss_grammar.specs.TaskLoops.{first_of, grain_of, task_clauses, written_out}
 use Rattle.oss_grammar.proofs.RuleEquations.{rules-assign, rules-block, rules-call, rules-declare, rules-for, rules-if, rules-print, rules-release, rules-return, rules-task, rules-task-loop, rules-wait, rules-while}
 use Rattle.oss_meaning.specs.Names.{item_found}

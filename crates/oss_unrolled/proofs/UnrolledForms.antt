@@ -1,5 +1,5 @@
 -- What each form of a statement is unrolled, and its shape: the equations of the two folds.
-use Rattle.std.proofs.Common.{◌≡◌, ℕ, Bool, true, false, List, length, map, Option, option_map, rules}
+use Rattle.std.proofs.Common.{◌≡◌, ℕ, Bool, true, List, length, map, Option, option_map, rules}
 use Rattle.std.specs.Prelude.{◌&&◌}
 use Rattle.oss_syntax.specs.declared.tree.expr.BinOp.{BinOp}
 use Rattle.oss_syntax.specs.declared.tree.expr.Expr.{Expr}

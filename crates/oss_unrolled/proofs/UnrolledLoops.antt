@@ -1,23 +1,21 @@
 -- A program is the same with its multidependencies unrolled before or after its task loops are written out.
-use Rattle.std.proofs.Common.{◌≡◌, ◌∙◌, ℕ, Bool, List, [], ◌∷◌, map, Option, Some, None, option_map, refl, sym, ap, subst, rules}
+use Rattle.std.proofs.Common.{◌≡◌, ◌∙◌, ℕ, Bool, List, [], ◌∷◌, map, Option, Some, None, option_map, refl, sym, ap, subst}
 use Rattle.oss_syntax.specs.declared.tree.expr.BinOp.TheVariants as op
 use Rattle.oss_syntax.specs.declared.tree.expr.Expr.{Expr}
 use Rattle.oss_syntax.specs.declared.tree.pragma.Clause.{Clause}
 use Rattle.oss_syntax.specs.declared.tree.pragma.Clause.TheVariants as clause
 use Rattle.oss_syntax.specs.declared.tree.pragma.Section.{Section}
-use Rattle.oss_syntax.specs.declared.tree.program.Function.{Function}
 use Rattle.oss_syntax.specs.declared.tree.program.Item.{Item}
 use Rattle.oss_syntax.specs.declared.tree.program.Item.TheVariants as items
 use Rattle.oss_syntax.specs.declared.tree.stmt.LoopHead.{LoopHead}
 use Rattle.oss_syntax.specs.declared.tree.stmt.Stmt.{Stmt}
-use Rattle.oss_syntax.specs.declared.tree.stmt.StmtKind.TheFolds.{the_lemmas as stmt_folds}
 use Rattle.oss_syntax.specs.declared.tree.stmt.StmtKind.TheVariants as stmts
 use Rattle.oss_grammar.specs.TaskLoops.{begin_name, end_name, first_of, grain_name, grain_of, item_written, joined_at, long_at, name_at, number_at, set_at, stmt_at, stop_name, task_clauses, written, written_out}
 use Rattle.oss_grammar.proofs.TreeInduction.{Any, Each, StmtParts, stmt_induction}
 use Rattle.oss_grammar.proofs.TreeInduction.Any.{any_none, any_some}
 use Rattle.oss_grammar.proofs.TreeInduction.Each.{each_none, each_more}
 use Rattle.oss_grammar.proofs.TreeInduction.StmtParts.{is_assign, is_block, is_break, is_call, is_continue, is_declare, is_empty, is_for, is_if, is_print, is_release, is_return, is_task, is_task_loop, is_wait, is_while}
-use Rattle.oss_unrolled.specs.Unrolling.{item_unrolled, items_unrolled, unrolled, unrolled_clause, unrolled_clauses, unrolled_mark, unrolled_sections}
+use Rattle.oss_unrolled.specs.Unrolling.{items_unrolled, unrolled, unrolled_clauses, unrolled_mark, unrolled_sections}
 use Rattle.oss_unrolled.proofs.UnrolledForms.{unrolled-assign, unrolled-block, unrolled-break, unrolled-call, unrolled-continue, unrolled-declare, unrolled-empty, unrolled-for, unrolled-if, unrolled-print, unrolled-release, unrolled-return, unrolled-task, unrolled-task_loop, unrolled-wait, unrolled-while}
 use Rattle.oss_unrolled.proofs.WrittenShapes.{written-assign, written-block, written-break, written-call, written-continue, written-declare, written-empty, written-for, written-if, written-print, written-release, written-return, written-task, written-task_loop, written-wait, written-while}
 
@@ -101,21 +99,21 @@ module _ (chosen : Section → Bool) where
     round_unrolled =
         unrolled-block chosen line (names_with line head first grain clauses body ∷ shorter_with line head first grain clauses body ∷ task_with line head first grain clauses body ∷ set_at line begin_name (name_at line stop_name) ∷ [])
         ∙ (λ i. stmt_at line (stmts.Block (
-            unrolled-declare chosen line (long_at line head.variable.name (name_at line begin_name) ∷ long_at line stop_name (name_at line end_name) ∷ []) i
-            ∷ if_unrolled (joined_at line op.More (joined_at line op.Sub (name_at line end_name) (name_at line begin_name)) (name_at line grain_name)) stop_name (joined_at line op.Add (name_at line begin_name) (name_at line grain_name)) i
-            ∷ task_unrolled i
-            ∷ set_unrolled begin_name (name_at line stop_name) i
-            ∷ [])))
+        unrolled-declare chosen line (long_at line head.variable.name (name_at line begin_name) ∷ long_at line stop_name (name_at line end_name) ∷ []) i
+        ∷ if_unrolled (joined_at line op.More (joined_at line op.Sub (name_at line end_name) (name_at line begin_name)) (name_at line grain_name)) stop_name (joined_at line op.Add (name_at line begin_name) (name_at line grain_name)) i
+        ∷ task_unrolled i
+        ∷ set_unrolled begin_name (name_at line stop_name) i
+        ∷ [])))
 
     loop_unrolled : unrolled chosen (loop_with line head first grain clauses body) ≡ loop_with line head first grain after (unrolled chosen body)
     loop_unrolled =
         unrolled-block chosen line (limits_with line head first grain clauses body ∷ raised_with line head first grain clauses body ∷ turning_with line head first grain clauses body ∷ [])
         ∙ (λ i. stmt_at line (stmts.Block (
-            unrolled-declare chosen line (long_at line begin_name first ∷ long_at line end_name head.end ∷ long_at line grain_name grain ∷ []) i
-            ∷ if_unrolled (joined_at line op.Less (name_at line grain_name) (number_at line 1)) grain_name (number_at line 1) i
-            ∷ (unrolled-while chosen line (joined_at line op.Less (name_at line begin_name) (name_at line end_name)) (round_with line head first grain clauses body)
-            ∙ ap (λ s. stmt_at line (stmts.While (joined_at line op.Less (name_at line begin_name) (name_at line end_name)) s)) round_unrolled) i
-            ∷ [])))
+        unrolled-declare chosen line (long_at line begin_name first ∷ long_at line end_name head.end ∷ long_at line grain_name grain ∷ []) i
+        ∷ if_unrolled (joined_at line op.Less (name_at line grain_name) (number_at line 1)) grain_name (number_at line 1) i
+        ∷ (unrolled-while chosen line (joined_at line op.Less (name_at line begin_name) (name_at line end_name)) (round_with line head first grain clauses body)
+        ∙ ap (λ s. stmt_at line (stmts.While (joined_at line op.Less (name_at line begin_name) (name_at line end_name)) s)) round_unrolled) i
+        ∷ [])))
 
   written_unrolled : (line : ℕ) (head : LoopHead) (body : Stmt) → written line (record head { mark = unrolled_mark chosen head.mark }) (unrolled chosen body) ≡ unrolled chosen (written line head body)
   written_unrolled line head body =

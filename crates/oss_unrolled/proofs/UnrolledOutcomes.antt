@@ -11,14 +11,14 @@ use Rattle.oss_model.specs.Bodies.{Program, Start}
 use Rattle.oss_meaning.specs.Expressions.{TreeScript}
 use Rattle.oss_meaning.specs.Meaning.{asks_of}
 use Rattle.oss_meaning.specs.Names.{functions_of, item_found}
-use Rattle.oss_meaning.specs.Results.{IsOutcome, IsOutcomeOf, Outcome, first_cells, main_of, main_order}
+use Rattle.oss_meaning.specs.Results.{IsOutcome, IsOutcomeOf, first_cells, main_of, main_order}
 use Rattle.oss_lower.specs.Programs.{HavePlaces}
 use Rattle.oss_lower.proofs.OutcomeLaws.{a_program_has_one_outcome}
 use Rattle.oss_lower.proofs.OutcomeLemmas.{one_outcome}
 use Rattle.oss_lower.proofs.TextPlaces.{accepted_places}
 use Rattle.oss_unrolled.specs.Claims.{UnrolledProgramsHaveOneOutcome, UnrolledTextsHaveOneOutcome}
-use Rattle.oss_unrolled.specs.Fitting.{functions_fit, program_fits, takes}
-use Rattle.oss_unrolled.specs.Grouping.{plain_asked, plain_start}
+use Rattle.oss_unrolled.specs.Fitting.{functions_fit, takes}
+use Rattle.oss_unrolled.specs.Grouping.{plain_asked}
 use Rattle.oss_unrolled.specs.Unrolling.{item_unrolled, items_unrolled}
 use Rattle.oss_unrolled.proofs.AcceptedPrograms.{accepted_fits}
 use Rattle.oss_unrolled.proofs.AlikeExpressions.{and_left}

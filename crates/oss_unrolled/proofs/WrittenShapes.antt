@@ -1,6 +1,5 @@
 -- The shape of a statement with its task loops written out, by forms; that of a task loop is the shape of the block for which it stands.
 use Rattle.std.proofs.Common.{◌≡◌, ◌∙◌, ℕ, Bool, true, false, List, [], ◌∷◌, map, Option, Some, None, option_map, refl, ap, rules}
-use Rattle.std.specs.Prelude.{◌&&◌}
 use Rattle.oss_syntax.specs.declared.tree.expr.BinOp.{BinOp}
 use Rattle.oss_syntax.specs.declared.tree.expr.BinOp.TheVariants as op
 use Rattle.oss_syntax.specs.declared.tree.expr.Expr.{Expr}
@@ -14,11 +13,10 @@ use Rattle.oss_syntax.specs.declared.tree.stmt.Stmt.{Stmt}
 use Rattle.oss_syntax.specs.declared.tree.stmt.StmtKind.TheFolds.{the_lemmas as stmt_folds}
 use Rattle.oss_syntax.specs.declared.tree.stmt.StmtKind.TheVariants as stmts
 use Rattle.oss_grammar.specs.TaskLoops.{begin_name, end_name, first_of, grain_name, grain_of, joined_at, long_at, name_at, number_at, round_of, set_at, stop_name, task_clauses, task_of, turns_of, written, written_out}
-use Rattle.oss_meaning.specs.Names.{item_found}
-use Rattle.oss_unrolled.specs.Fitting.{Shape, all_fit, clauses_fit, fits, locals_fit, optional_fits, part_fits, part_stands, shape, shape_of, shapes_fit, stands, takes, waits_fit}
+use Rattle.oss_unrolled.specs.Fitting.{Shape, clauses_fit, fits, shape, shape_of, stands}
 use Rattle.oss_unrolled.proofs.AlikeExpressions.{fits-binary}
 use Rattle.oss_unrolled.proofs.RulesFit.{and_both, fits-name, fits-number}
-use Rattle.oss_unrolled.proofs.UnrolledForms.{shape-assign, shape-block, shape-break, shape-call, shape-continue, shape-declare, shape-empty, shape-for, shape-if, shape-print, shape-release, shape-return, shape-task, shape-wait, shape-while}
+use Rattle.oss_unrolled.proofs.UnrolledForms.{shape-assign, shape-block, shape-declare, shape-for, shape-if, shape-task, shape-while}
 
 module _ (line : ℕ) where
   pub written-block : (body : List Stmt) → written_out (record { what = stmts.Block body; line = line }) ≡ record { what = stmts.Block (map written_out body); line = line }

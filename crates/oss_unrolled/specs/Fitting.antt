@@ -16,7 +16,6 @@ use Rattle.oss_syntax.specs.declared.tree.pragma.Section.{Section}
 use Rattle.oss_syntax.specs.declared.tree.pragma.TaskMark.{TaskMark}
 use Rattle.oss_syntax.specs.declared.tree.program.Function.{Function}
 use Rattle.oss_syntax.specs.declared.tree.program.Item.{Item}
-use Rattle.oss_syntax.specs.declared.tree.program.Item.TheVariants as items
 use Rattle.oss_syntax.specs.declared.tree.program.Local.{Local}
 use Rattle.oss_syntax.specs.declared.tree.stmt.Stmt.{Stmt}
 use Rattle.oss_syntax.specs.declared.tree.stmt.StmtKind.TheOpen.{StmtKind-F, Stmt-F}
