@@ -74,8 +74,8 @@ seam [] f rest = refl
 seam (p ∷ pre) f rest = seam pre f rest
 
 -- a function, its task loops written out
-abbrev fun : Function → Function
-fun f = record f { body = map written_out f.body }
+abbrev written_function : Function → Function
+written_function f = record f { body = map written_out f.body }
 
 module _ (whole : List Item) where
   takes_if : (b : Bool) (x y : Found) (n : ℕ) → (b ≡ true → takes whole x n ≡ true) → (b ≡ false → takes whole y n ≡ true) → takes whole (if b then x else y) n ≡ true
@@ -90,13 +90,13 @@ module _ (whole : List Item) where
   -- the functions of the program from here on
   module _ (pre : List Function) (f : Function) (rest : List Item) (are : functions_of whole ≡ pre ++ functions_of (map item_written (items.Function f ∷ rest))) where
     own_takes : (n : ℕ) → (n == length f.params) ≡ true → takes whole (names.Function (length pre)) n ≡ true
-    own_takes n fit = ap (λ o. function_takes o n) (ap (λ l. slice_get l (length pre)) are ∙ seam pre (fun f) (functions_of (map item_written rest))) ∙ fit
+    own_takes n fit = ap (λ o. function_takes o n) (ap (λ l. slice_get l (length pre)) are ∙ seam pre (written_function f) (functions_of (map item_written rest))) ∙ fit
 
-    rest_are : functions_of whole ≡ (pre ++ fun f ∷ []) ++ functions_of (map item_written rest)
-    rest_are = are ∙ sym (append_assoc pre (fun f ∷ []) (functions_of (map item_written rest)))
+    rest_are : functions_of whole ≡ (pre ++ written_function f ∷ []) ++ functions_of (map item_written rest)
+    rest_are = are ∙ sym (append_assoc pre (written_function f ∷ []) (functions_of (map item_written rest)))
 
-    one_more : length (pre ++ fun f ∷ []) ≡ length pre + 1
-    one_more = omega (arith, length-append pre (fun f ∷ []))
+    one_more : length (pre ++ written_function f ∷ []) ≡ length pre + 1
+    one_more = omega (arith, length-append pre (written_function f ∷ []))
 
   -- a function that a name stands for may be called with as many arguments as it has parameters
   named_takes : (rest : List Item) (pre : List Function) (g : ℕ) → functions_of whole ≡ pre ++ functions_of (map item_written rest) → (name : List ℕ) (d : Function) → item_named rest name ≡ Some (items.Function d)
@@ -110,7 +110,7 @@ module _ (whole : List Item) where
       takes_if (bytes_eq f.name name) (names.Function (length pre)) (item_from g (length pre + 1) (map item_written rest) name) n
       (λ e. own_takes pre f rest are n (subst (λ (k : ℕ). (n == k) ≡ true) (ap params_in (sym is ∙ named_here (items.Function f) rest name e)) fit))
       (λ e. subst (λ k. takes whole (item_from g k (map item_written rest) name) n ≡ true) (one_more pre f rest are)
-      (named_takes rest (pre ++ fun f ∷ []) g (rest_are pre f rest are) name d (sym (named_behind (items.Function f) rest name e) ∙ is) n fit))
+      (named_takes rest (pre ++ written_function f ∷ []) g (rest_are pre f rest are) name d (sym (named_behind (items.Function f) rest name e) ∙ is) n fit))
     where
       params_in : Option Item → ℕ
       params_in (Some (items.Function h)) = length h.params
@@ -141,7 +141,7 @@ module _ (whole : List Item) where
       (λ e. own_takes pre f rest are 0 (none_told (length f.params)
       (wrong_main (is_main f.name) (length f.params == 0) (not (returns_int f.result)) (is_some f.mark && (is_main f.name || not (returns_nothing f.result))) (not_so (is_wrong_function f) refused.WrongKind f.line wrong) e)))
       (λ e. subst (λ k. takes whole (item_from g k (map item_written rest) (codes "main")) 0 ≡ true) (one_more pre f rest are)
-      (main_takes all rest (i + 1) before (pre ++ fun f ∷ []) g (rest_are pre f rest are) (nil_right (function_rules all i f) (items_rules all (i + 1) before rest) none)))
+      (main_takes all rest (i + 1) before (pre ++ written_function f ∷ []) g (rest_are pre f rest are) (nil_right (function_rules all i f) (items_rules all (i + 1) before rest) none)))
 
 -- Functions
 
@@ -192,7 +192,7 @@ module _ (all : List Item) where
       let params = declare_all all 0 f.params [] in
       let own = nil_left (function_rules all i f) (items_rules all (i + 1) before rest) h in
       let behind = nil_right (where_so (is_wrong_function f) refused.WrongKind f.line) _ (nil_right (where_so (is_again all i f.name) refused.DuplicateName f.line) _ (nil_right (mark_rules all params.locals f.mark) _ own)) in
-      and_both (function_fits other (fun f)) (functions_fit other (functions_of (map item_written rest)))
+      and_both (function_fits other (written_function f)) (functions_fit other (functions_of (map item_written rest)))
       (and_both (mark_fits other f.mark) (body_fits other (map written_out f.body)) (marks_fit params.locals f.mark (nil_left (mark_rules all params.locals f.mark) _ own))
       (items_stand all other same (body_around f.result) params.locals bodies.0.1 (nil_right params.broken (rules_of_all f.body all (body_around f.result) params.locals).broken behind)))
       (fit_from rest (i + 1) before bodies.1 (nil_right (function_rules all i f) (items_rules all (i + 1) before rest) h))

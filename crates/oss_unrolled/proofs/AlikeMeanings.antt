@@ -27,16 +27,16 @@ IsScript all sizes s = has_locals all sizes s.body (length s.copies)
 
 -- a list has these from a place on
 abbrev pub Has : List ℕ → ℕ → List ℕ → Type 0
-Has sizes at_ [] = Unit {0}
-Has sizes at_ (n ∷ ns) = (slice_get sizes at_ ≡ Some n) × Has sizes (at_ + 1) ns
+Has sizes from [] = Unit {0}
+Has sizes from (n ∷ ns) = (slice_get sizes from ≡ Some n) × Has sizes (from + 1) ns
 
-pub has_front : (sizes : List ℕ) (at_ : ℕ) (xs ys : List ℕ) → Has sizes at_ (xs ++ ys) → Has sizes at_ xs
-has_front sizes at_ [] ys has = tt
-has_front sizes at_ (x ∷ xs) ys has = (has.0, has_front sizes (at_ + 1) xs ys has.1)
+pub has_front : (sizes : List ℕ) (from : ℕ) (xs ys : List ℕ) → Has sizes from (xs ++ ys) → Has sizes from xs
+has_front sizes from [] ys has = tt
+has_front sizes from (x ∷ xs) ys has = (has.0, has_front sizes (from + 1) xs ys has.1)
 
-pub has_back : (sizes : List ℕ) (at_ : ℕ) (xs ys : List ℕ) → Has sizes at_ (xs ++ ys) → Has sizes (at_ + length xs) ys
-has_back sizes at_ [] ys has = subst (λ k. Has sizes k ys) (omega arith) has
-has_back sizes at_ (x ∷ xs) ys has = subst (λ k. Has sizes k ys) (omega arith) (has_back sizes (at_ + 1) xs ys has.1)
+pub has_back : (sizes : List ℕ) (from : ℕ) (xs ys : List ℕ) → Has sizes from (xs ++ ys) → Has sizes (from + length xs) ys
+has_back sizes from [] ys has = subst (λ k. Has sizes k ys) (omega arith) has
+has_back sizes from (x ∷ xs) ys has = subst (λ k. Has sizes k ys) (omega arith) (has_back sizes (from + 1) xs ys has.1)
 
 module _ (all : List Item) (sizes : List ℕ) where
   abbrev pub Runs : TreeRun → TreeRun → Type 0

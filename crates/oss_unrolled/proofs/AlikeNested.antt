@@ -20,8 +20,8 @@ use Rattle.oss_unrolled.proofs.AlikeClauses.{created_like, value_like}
 use Rattle.oss_unrolled.proofs.AlikeMeanings.{Alike, BodiesLike, DoLike, Has, IsScript, Places, Runs, WaysLike, bodies_append, has_back, has_front, part}
 
 module _ (chosen : Section → Bool) (all : List Item) where
-  abbrev un : List Item
-  un = items_unrolled chosen all
+  abbrev flat : List Item
+  flat = items_unrolled chosen all
 
   -- ways out behind which as many locals are in scope
   same_ways : (total : List ℕ) (n k low : ℕ) (a b : Ways) → n ≡ k → WaysLike all total n low a b → WaysLike all total k low a b
@@ -37,7 +37,7 @@ module _ (chosen : Section → Bool) (all : List Item) where
     other_has total around has =
         subst (λ t. Has total t (other.sizes (other_place m around))) (sym (one.counted around)) (has_back total around.tasks (one.sizes around) (other.sizes (other_place m around)) has)
 
-    choice_does : (total : List ℕ) (around : Around) → Has total around.tasks (sides around) → DoLike all total around (length around.scope) (choice all line e m o).does (choice un line e k u).does
+    choice_does : (total : List ℕ) (around : Around) → Has total around.tasks (sides around) → DoLike all total around (length around.scope) (choice all line e m o).does (choice flat line e k u).does
     choice_does total around has x y h low few a b ways locals size = asking_like (IsScript all total) Tick Tick line _ _ refl tt (λ t.
         value_like chosen all (IsScript all total) around.scope e fit line x y h locals (λ v. side_chosen m o v around x a locals) (λ v. side_chosen k u v around y b locals) (λ v.
         if_like (IsScript all total) (is_zero v) (part_does o (other_place m around) x a locals) (part_does u (other_place k around) y b locals) (m.does around x a locals) (k.does around y b locals)
@@ -45,7 +45,7 @@ module _ (chosen : Section → Bool) (all : List Item) where
         (other.does total (other_place m around) (other_has total around has) x y h low few a b (same_ways total _ _ low a b (sym (other.keeps refl (other_place m around))) ways) locals size))
         (one.does total around (has_front total around.tasks (one.sizes around) (other.sizes (other_place m around)) has) x y h low few a b (same_ways total _ _ low a b (sym (one.keeps refl around)) ways) locals size)))
 
-    pub choice_alike : Alike all false (choice all line e m o) (choice un line e k u)
+    pub choice_alike : Alike all false (choice all line e m o) (choice flat line e k u)
     choice_alike = record {
       behind = λ i. λ around. left around (other.behind i (left around (one.behind i around)));
       grows = λ around. omega arith;
@@ -61,7 +61,7 @@ module _ (chosen : Section → Bool) (all : List Item) where
   -- Loops
 
   tested_like : (total : List ℕ) (test : Option Expr) → optional_fits all test ≡ true → (line : ℕ) (scope : List Local) (x y : Here) → Places all total x y → (locals : List Value) (go on : Value → TreeRun)
-      → ((v : Value) → Runs all total (go v) (on v)) → Runs all total (tested all test line scope x locals go) (tested un test line scope y locals on)
+      → ((v : Value) → Runs all total (go v) (on v)) → Runs all total (tested all test line scope x locals go) (tested flat test line scope y locals on)
   tested_like total None fit line scope x y h locals go on ok = ok (value.Num 1)
   tested_like total (Some e) fit line scope x y h locals go on ok = value_like chosen all (IsScript all total) scope e fit line x y h locals go on ok
 
@@ -82,7 +82,7 @@ module _ (chosen : Section → Bool) (all : List Item) where
           (record { next = λ vs e. ok vs (e ∙ last.keeps refl around); stop = ways.stop; again = ways.again; give = ways.give }) us size
 
       turn_like : (go on : List Value → TreeRun) → ((us : List Value) → length us ≡ length around.scope → Runs all total (go us) (on us)) → (locals : List Value) → length locals ≡ length around.scope
-          → Runs all total (turn all line test l m go around x a locals) (turn un line test r k on around y b locals)
+          → Runs all total (turn all line test l m go around x a locals) (turn flat line test r k on around y b locals)
       turn_like go on ok locals size =
           tested_like total test fit line around.scope x y h locals _ _ (λ v.
           if_like (IsScript all total) (is_zero v) (a.next locals) (b.next locals) (m.does (body_place l around) x (body_ways around go a) locals) (k.does (body_place r around) y (body_ways around on b) locals)
@@ -96,14 +96,14 @@ module _ (chosen : Section → Bool) (all : List Item) where
             give = ways.give;
           }) locals size)))
 
-      looped_like : (n : ℕ) (locals : List Value) → length locals ≡ length around.scope → Runs all total (looped all line test l m n around x a locals) (looped un line test r k n around y b locals)
+      looped_like : (n : ℕ) (locals : List Value) → length locals ≡ length around.scope → Runs all total (looped all line test l m n around x a locals) (looped flat line test r k n around y b locals)
       looped_like zero locals size = ending_like (IsScript all total) Tick line tt
       looped_like (suc more) locals size = asking_like (IsScript all total) Tick Tick line _ _ refl tt (λ t.
-          turn_like (λ us. then_next l (λ ls. looped all line test l m more around x a ls) around x a us) (λ us. then_next r (λ ls. looped un line test r k more around y b ls) around y b us)
-          (λ us e. next_like (λ ls. looped all line test l m more around x a ls) (λ ls. looped un line test r k more around y b ls) (λ ls f. looped_like more ls f) us e) locals size)
+          turn_like (λ us. then_next l (λ ls. looped all line test l m more around x a ls) around x a us) (λ us. then_next r (λ ls. looped flat line test r k more around y b ls) around y b us)
+          (λ us e. next_like (λ ls. looped all line test l m more around x a ls) (λ ls. looped flat line test r k more around y b ls) (λ ls f. looped_like more ls f) us e) locals size)
 
-      loops_like : (locals : List Value) → length locals ≡ length around.scope → Runs all total (loops all line test l m around x a locals) (loops un line test r k around y b locals)
-      loops_like locals size = subst (λ n. Runs all total (looped all line test l m x.turns around x a locals) (looped un line test r k n around y b locals)) h.turns (looped_like x.turns locals size)
+      loops_like : (locals : List Value) → length locals ≡ length around.scope → Runs all total (loops all line test l m around x a locals) (loops flat line test r k around y b locals)
+      loops_like locals size = subst (λ n. Runs all total (looped all line test l m x.turns around x a locals) (looped flat line test r k n around y b locals)) h.turns (looped_like x.turns locals size)
 
     module _ (c : Bool) (f g : Option Meaning) (first : Alike all c (part all f) (part all g)) where
       abbrev inside : Around → Around
@@ -122,14 +122,14 @@ module _ (chosen : Section → Bool) (all : List Item) where
           has_front total around.tasks (first.sizes around) (last.sizes (inside around))
           (has_front total around.tasks (first.sizes around ++ last.sizes (inside around)) (body.sizes (body_place l (inside around))) has)
 
-      for_does : (total : List ℕ) (around : Around) → Has total around.tasks (for_sizes around) → DoLike all total around (length around.scope) (for_loop all line f test l m).does (for_loop un line g test r k).does
+      for_does : (total : List ℕ) (around : Around) → Has total around.tasks (for_sizes around) → DoLike all total around (length around.scope) (for_loop all line f test l m).does (for_loop flat line g test r k).does
       for_does total around has x y h low few a b ways locals size = asking_like (IsScript all total) Tick Tick line _ _ refl tt (λ t.
           first.does total around (first_has total around has) x y h low few
           (going_on (λ us. loops all line test l m (part_behind f around) x (going_on (λ ls. a.next (take (length around.scope) ls)) a) us) a)
-          (going_on (λ us. loops un line test r k (part_behind g around) y (going_on (λ ls. b.next (take (length around.scope) ls)) b) us) b)
+          (going_on (λ us. loops flat line test r k (part_behind g around) y (going_on (λ ls. b.next (take (length around.scope) ls)) b) us) b)
           (record {
             next = λ us e. subst (λ (z : Around → Around). Runs all total (loops all line test l m (part_behind f around) x (going_on (λ ls. a.next (take (length around.scope) ls)) a) us)
-                (loops un line test r k (z around) y (going_on (λ ls. b.next (take (length around.scope) ls)) b) us)) (sym first.behind)
+                (loops flat line test r k (z around) y (going_on (λ ls. b.next (take (length around.scope) ls)) b) us)) (sym first.behind)
                 (loops_like total (inside around) (turn_has total around has) x y h low (omega (arith, few, first.grows around))
                 (going_on (λ ls. a.next (take (length around.scope) ls)) a) (going_on (λ ls. b.next (take (length around.scope) ls)) b)
                 (record {
@@ -143,7 +143,7 @@ module _ (chosen : Section → Bool) (all : List Item) where
             give = ways.give;
           }) locals size)
 
-      pub for_alike : Alike all false (for_loop all line f test l m) (for_loop un line g test r k)
+      pub for_alike : Alike all false (for_loop all line f test l m) (for_loop flat line g test r k)
       for_alike = record {
         behind = λ i. λ around. left around (body.behind i (left (first.behind i around) (last.behind i (first.behind i around))));
         grows = λ around. omega arith;
@@ -186,10 +186,10 @@ module _ (chosen : Section → Bool) (all : List Item) where
       next = λ us e. ending_like (IsScript all total) End line tt;
       stop = λ us e. ending_like (IsScript all total) End line tt;
       again = λ us e. ending_like (IsScript all total) End line tt;
-      give = λ at_ v. ending_like (IsScript all total) End at_ tt;
+      give = λ at_line v. ending_like (IsScript all total) End at_line tt;
     }
 
-    pub task_alike : Alike all false (task all line clauses m) (task un line (unrolled_clauses chosen clauses) k)
+    pub task_alike : Alike all false (task all line clauses m) (task flat line (unrolled_clauses chosen clauses) k)
     task_alike = record {
       behind = λ i. λ around. left around (body.behind i (in_task around));
       grows = λ around. omega arith;

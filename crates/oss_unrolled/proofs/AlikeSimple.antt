@@ -36,8 +36,8 @@ use Rattle.oss_unrolled.proofs.AlikeMeanings.{Alike, DoLike, IsScript, Places, R
 use Rattle.oss_unrolled.proofs.SameNames.{called_same, extents_same, item_same, sense_same}
 
 module _ (chosen : Section → Bool) (all : List Item) where
-  abbrev un : List Item
-  un = items_unrolled chosen all
+  abbrev flat : List Item
+  flat = items_unrolled chosen all
 
   module _ (total : List ℕ) where
     abbrev Good : TreeScript → Type 0
@@ -81,7 +81,7 @@ module _ (chosen : Section → Bool) (all : List Item) where
       assigned_like o (target.Row g n) go on ok = ok locals refl
 
     pub assignment_like : (line : ℕ) (t : Expr) (o : Option BinOp) (e : Expr) → fits all t ≡ true → fits all e ≡ true → (around : Around)
-        → DoLike all total around (length around.scope) (assignment all line t o e) (assignment un line t o e)
+        → DoLike all total around (length around.scope) (assignment all line t o e) (assignment flat line t o e)
     assignment_like line t o e one other around x y h low few a b ways locals size =
         subst (λ (r : TreeRun). Runs all total (assignment all line t o e around x a locals) r)
         (sym (λ i. assigned (extents_same chosen all i) line (sense_same chosen all around.scope i t).typed.target (sense_same chosen all around.scope i t) o (sense_same chosen all around.scope i e) y locals b.next))
@@ -91,24 +91,24 @@ module _ (chosen : Section → Bool) (all : List Item) where
     -- Calls, prints and returns
 
     pub call_like : (line : ℕ) (name : List ℕ) (es : List Expr) → (all_fit all es && takes all (item_found all name) (length es)) ≡ true → (around : Around)
-        → DoLike all total around (length around.scope) (call_done all line name es) (call_done un line name es)
+        → DoLike all total around (length around.scope) (call_done all line name es) (call_done flat line name es)
     call_like line name es fit around x y h low few a b ways locals size =
-        let same : call_value un (item_found un name) (map (sense_of un around.scope) es) ≡ call_value all (item_found all name) (map (sense_of all around.scope) es) =
-        ap (λ f. call_value un f (map (sense_of un around.scope) es)) (item_same chosen all name)
-        ∙ called_same chosen all (item_found all name) (map (sense_of un around.scope) es)
+        let same : call_value flat (item_found flat name) (map (sense_of flat around.scope) es) ≡ call_value all (item_found all name) (map (sense_of all around.scope) es) =
+        ap (λ f. call_value flat f (map (sense_of flat around.scope) es)) (item_same chosen all name)
+        ∙ called_same chosen all (item_found all name) (map (sense_of flat around.scope) es)
         ∙ (λ i. call_value all (item_found all name) (map (sense_same chosen all around.scope i) es)) in
         subst (λ (v : Evaluation). Runs all total (call_done all line name es around x a locals) (v line y locals (λ u. b.next locals))) (sym same)
         (call_even all Good (item_found all name) (map (sense_of all around.scope) es) (all_even all Good around.scope es (and_left (all_fit all es) _ fit))
         (subst (λ n. takes all (item_found all name) n ≡ true) (sym (length-map es (sense_of all around.scope))) (and_right (all_fit all es) _ fit))
         line x y h locals (λ v. a.next locals) (λ v. b.next locals) (λ v. ways.next locals size))
 
-    pub print_like : (line : ℕ) (format : List ℕ) (es : List Expr) → all_fit all es ≡ true → (around : Around) → DoLike all total around (length around.scope) (print_done all line format es) (print_done un line format es)
+    pub print_like : (line : ℕ) (format : List ℕ) (es : List Expr) → all_fit all es ≡ true → (around : Around) → DoLike all total around (length around.scope) (print_done all line format es) (print_done flat line format es)
     print_like line format es fit around x y h low few a b ways locals size =
         arguments_like chosen all Good around.scope es fit line x y h locals
         (λ made. asking (Print (printed format (map number_in (reverse made)))) line (λ t. a.next locals)) (λ made. asking (Print (printed format (map number_in (reverse made)))) line (λ t. b.next locals))
         (λ made. asking_like Good (Print (printed format (map number_in (reverse made)))) (Print (printed format (map number_in (reverse made)))) line (λ t. a.next locals) (λ t. b.next locals) refl tt (λ t. ways.next locals size))
 
-    pub return_like : (line : ℕ) (e : Option Expr) → optional_fits all e ≡ true → (around : Around) → DoLike all total around (length around.scope) (returned all line e) (returned un line e)
+    pub return_like : (line : ℕ) (e : Option Expr) → optional_fits all e ≡ true → (around : Around) → DoLike all total around (length around.scope) (returned all line e) (returned flat line e)
     return_like line None fit around x y h low few a b ways locals size = ways.give line (value.Num 0)
     return_like line (Some e) fit around x y h low few a b ways locals size =
         value_like chosen all Good around.scope e fit line x y h locals (λ v. a.give line v) (λ v. b.give line v) (λ v. ways.give line v)
@@ -116,7 +116,7 @@ module _ (chosen : Section → Bool) (all : List Item) where
     -- Waits and releases
 
     pub wait_like : (line : ℕ) (sections : Option (List Section)) → waits_fit all sections ≡ true → (around : Around)
-        → DoLike all total around (length around.scope) (wait_done all line sections) (wait_done un line (option_map (unrolled_sections chosen) sections))
+        → DoLike all total around (length around.scope) (wait_done all line sections) (wait_done flat line (option_map (unrolled_sections chosen) sections))
     wait_like line None fit around x y h low few a b ways locals size = asking_like Good Wait Wait line (λ t. a.next locals) (λ t. b.next locals) refl tt (λ t. ways.next locals size)
     wait_like line (Some sections) fit around x y h low few a b ways locals size =
         sections_like chosen all Good line x y h around.scope locals size waited_for sections fit
@@ -124,7 +124,7 @@ module _ (chosen : Section → Bool) (all : List Item) where
         (λ c d same. asking_like Good (WaitOn c) (WaitOn d) line (λ t. a.next locals) (λ t. b.next locals) (ap {B = Ask TreeScript} (λ z. WaitOn z) same) tt (λ t. ways.next locals size)) [] [] refl
 
     pub release_like : (line : ℕ) (clauses : List Clause) → clauses_fit all clauses ≡ true → (around : Around)
-        → DoLike all total around (length around.scope) (release_done all line clauses) (release_done un line (unrolled_clauses chosen clauses))
+        → DoLike all total around (length around.scope) (release_done all line clauses) (release_done flat line (unrolled_clauses chosen clauses))
     release_like line clauses fit around x y h low few a b ways locals size =
         clauses_like chosen all Good line x y h around.scope locals size clauses fit nothing_made
         (λ made. asking (Release made.accesses) line (λ t. a.next locals)) (λ made. asking (Release made.accesses) line (λ t. b.next locals))
@@ -133,12 +133,12 @@ module _ (chosen : Section → Bool) (all : List Item) where
     -- Declarations
 
     first_like : (line : ℕ) (scope : List Local) (k : Kind) (o : Option Expr) → optional_fits all o ≡ true → (x y : Here) → Places all total x y → (locals : List Value) (go on : Value → TreeRun)
-        → ((v : Value) → Runs all total (go v) (on v)) → Runs all total (first_of all scope k o line x locals go) (first_of un scope k o line y locals on)
+        → ((v : Value) → Runs all total (go v) (on v)) → Runs all total (first_of all scope k o line x locals go) (first_of flat scope k o line y locals on)
     first_like line scope k None fit x y h locals go on ok = ok (first_value k)
     first_like line scope k (Some e) fit x y h locals go on ok = value_like chosen all Good scope e fit line x y h locals go on ok
 
     declared_like : (line : ℕ) (ls : List Local) → locals_fit all ls ≡ true → (scope : List Local) (x y : Here) → Places all total x y → (locals : List Value) → length locals ≡ length scope → (go on : List Value → TreeRun)
-        → ((us : List Value) → length us ≡ length scope + length ls → Runs all total (go us) (on us)) → Runs all total (declared all line ls scope x locals go) (declared un line ls scope y locals on)
+        → ((us : List Value) → length us ≡ length scope + length ls → Runs all total (go us) (on us)) → Runs all total (declared all line ls scope x locals go) (declared flat line ls scope y locals on)
     declared_like line [] fit scope x y h locals size go on ok = ok locals (omega (arith, size))
     declared_like line (l ∷ rest) fit scope x y h locals size go on ok =
         first_like line scope l.kind l.first (and_left (optional_fits all l.first) (locals_fit all rest) fit) x y h locals _ _ (λ v.
@@ -146,7 +146,7 @@ module _ (chosen : Section → Bool) (all : List Item) where
         (omega (arith, size, length-append locals (kept_value l.kind v ∷ []), length-append scope (l ∷ []))) go on
         (λ us e. ok us (omega (arith, e, length-append scope (l ∷ [])))))
 
-  pub declare_alike : (line : ℕ) (ls : List Local) → locals_fit all ls ≡ true → Alike all true (declare all line ls) (declare un line ls)
+  pub declare_alike : (line : ℕ) (ls : List Local) → locals_fit all ls ≡ true → Alike all true (declare all line ls) (declare flat line ls)
   declare_alike line ls fit = record {
     behind = refl;
     grows = λ around. omega (arith, length-append around.scope ls);

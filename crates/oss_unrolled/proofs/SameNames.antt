@@ -64,31 +64,31 @@ module _ (chosen : Section → Bool) where
   given_same (Some f) = refl
 
   module _ (all : List Item) where
-    abbrev un : List Item
-    un = items_unrolled chosen all
+    abbrev flat : List Item
+    flat = items_unrolled chosen all
 
-    pub functions_same : functions_of un ≡ map (function_unrolled chosen) (functions_of all)
+    pub functions_same : functions_of flat ≡ map (function_unrolled chosen) (functions_of all)
     functions_same = functions_from all
 
-    pub function_same : (f : ℕ) → slice_get (functions_of un) f ≡ option_map (function_unrolled chosen) (slice_get (functions_of all) f)
+    pub function_same : (f : ℕ) → slice_get (functions_of flat) f ≡ option_map (function_unrolled chosen) (slice_get (functions_of all) f)
     function_same f = ap (λ l. slice_get l f) functions_same ∙ slice_get-map (function_unrolled chosen) (functions_of all) f
 
-    pub item_same : (name : List ℕ) → item_found un name ≡ item_found all name
+    pub item_same : (name : List ℕ) → item_found flat name ≡ item_found all name
     item_same name = item_from_same 0 0 all name
 
-    pub found_same : (scope : List Local) (name : List ℕ) → found un scope name ≡ found all scope name
+    pub found_same : (scope : List Local) (name : List ℕ) → found flat scope name ≡ found all scope name
     found_same scope name = ap (λ x. or_found (local_from 0 scope name) x) (item_same name)
 
-    pub extents_same : extents_of un ≡ extents_of all
+    pub extents_same : extents_of flat ≡ extents_of all
     extents_same = extents_same_from 0 all
 
-    pub cells_same : cells_in un ≡ cells_in all
+    pub cells_same : cells_in flat ≡ cells_in all
     cells_same = ap sum (sizes_same all)
 
-    is_task_same : (f : ℕ) → is_task_function (slice_get (functions_of un) f) ≡ is_task_function (slice_get (functions_of all) f)
+    is_task_same : (f : ℕ) → is_task_function (slice_get (functions_of flat) f) ≡ is_task_function (slice_get (functions_of all) f)
     is_task_same f = ap is_task_function (function_same f) ∙ task_same (slice_get (functions_of all) f)
 
-    pub called_same : (f : Found) (es : List Sense) → call_value un f es ≡ call_value all f es
+    pub called_same : (f : Found) (es : List Sense) → call_value flat f es ≡ call_value all f es
     called_same (names.Function f) es = λ i. λ line here locals go. arguments es line here locals [] (λ made. called_or_created (is_task_same f i) f line here (reverse made) go)
     called_same (names.Variable slot k) es = refl
     called_same (names.Scalar g n) es = refl
@@ -96,7 +96,7 @@ module _ (chosen : Section → Bool) where
     called_same (names.Grid g n) es = refl
     called_same names.Unknown es = refl
 
-    kind_same : (f : Found) → called_kind un f ≡ called_kind all f
+    kind_same : (f : Found) → called_kind flat f ≡ called_kind all f
     kind_same (names.Function f) = ap given_kind (function_same f) ∙ given_same (slice_get (functions_of all) f)
     kind_same (names.Variable slot k) = refl
     kind_same (names.Scalar g n) = refl
@@ -104,7 +104,7 @@ module _ (chosen : Section → Bool) where
     kind_same (names.Grid g n) = refl
     kind_same names.Unknown = refl
 
-    step_same : (scope : List Local) (x : ExprKind-F Sense Sense) → expr_step un scope x ≡ expr_step all scope x
+    step_same : (scope : List Local) (x : ExprKind-F Sense Sense) → expr_step flat scope x ≡ expr_step all scope x
     step_same scope (open_expr.Number n unsigned) = refl
     step_same scope (open_expr.Name name) = λ i. record {
       typed = typed_name (found_same scope name i);
@@ -116,9 +116,9 @@ module _ (chosen : Section → Bool) where
     step_same scope (open_expr.Unary o e) = ap (λ g. prefix_sense g o e) extents_same
     step_same scope (open_expr.Binary o a b) = refl
     step_same scope (open_expr.Call name es) =
-        ap (λ f. value_sense (typed_value (called_kind un f)) (call_value un f es)) (item_same name)
+        ap (λ f. value_sense (typed_value (called_kind flat f)) (call_value flat f es)) (item_same name)
         ∙ (λ i. value_sense (typed_value (kind_same (item_found all name) i)) (called_same (item_found all name) es i))
 
     -- Each expression means what it meant.
-    pub sense_same : (scope : List Local) → sense_of un scope ≡ sense_of all scope
+    pub sense_same : (scope : List Local) → sense_of flat scope ≡ sense_of all scope
     sense_same scope = λ i. fold-Expr Sense Sense (λ x. step_same scope x i) (λ e. e.what)

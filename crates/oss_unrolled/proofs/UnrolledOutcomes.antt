@@ -57,13 +57,13 @@ places_unrolled chosen start (items.Function f ∷ rest) h = places_unrolled cho
 pub unrolled_texts_have_one_outcome : UnrolledTextsHaveOneOutcome
 unrolled_texts_have_one_outcome chosen text p is obeys fuel o =
     let all = (program_written p).items in
-    let un = items_unrolled chosen all in
+    let flat = items_unrolled chosen all in
     let fit = accepted_fits text p is obeys in
     let places = accepted_places text p is obeys in
     let own = a_program_has_one_outcome all places fuel in
-    let other = a_program_has_one_outcome un (places_unrolled chosen 0 all places) fuel in
+    let other = a_program_has_one_outcome flat (places_unrolled chosen 0 all places) fuel in
     let loops = items_same chosen p.items in (
       λ left. subst (λ xs. IsOutcomeOf xs fuel o) (sym loops)
-          (subst (λ q. IsOutcomeOf un fuel q) (sym (unrolled_programs_have_one_outcome chosen all fit fuel o other.some.0 left other.some.1)) other.some.1),
+          (subst (λ q. IsOutcomeOf flat fuel q) (sym (unrolled_programs_have_one_outcome chosen all fit fuel o other.some.0 left other.some.1)) other.some.1),
       λ right. subst (λ q. IsOutcomeOf all fuel q) (unrolled_programs_have_one_outcome chosen all fit fuel own.some.0 o own.some.1 (subst (λ xs. IsOutcomeOf xs fuel o) loops right)) own.some.1,
     )
