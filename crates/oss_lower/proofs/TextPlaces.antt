@@ -162,7 +162,7 @@ places_written start [] h = tt
 places_written start (items.Global d ∷ rest) h = (h.0, places_written (start + cells_of d.cells) rest h.1)
 places_written start (items.Function f ∷ rest) h = places_written start rest h
 
-accepted_places : (text : List ℕ) (p : Program) → IsProgramText text p → program_rules p ≡ [] → HavePlaces 0 (program_written p).items
+pub accepted_places : (text : List ℕ) (p : Program) → IsProgramText text p → program_rules p ≡ [] → HavePlaces 0 (program_written p).items
 accepted_places text p is obeys =
     let none = append-left (items_rules p.items 0 0 p.items) _ (ap first obeys) in
     places_written 0 p.items (places_by p.items 0 0 p.items none (program_sized is.tokens p is.is_program (all_fit is.tokens is.are_tokens)))

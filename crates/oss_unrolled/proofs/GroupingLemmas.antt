@@ -10,7 +10,7 @@ use Rattle.oss_unrolled.proofs.PlainBodies.{AskAlike, IsGoodAsk}
 use Rattle.oss_unrolled.proofs.PlainRuns.{outcome_alike}
 
 -- each script is good
-any_ask : {S : Type 0} (a : Ask S) → IsGoodAsk (λ s. Unit {0}) a
+pub any_ask : {S : Type 0} (a : Ask S) → IsGoodAsk (λ s. Unit {0}) a
 any_ask Begin = tt
 any_ask Tick = tt
 any_ask (Read cell) = tt

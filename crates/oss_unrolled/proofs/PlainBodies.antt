@@ -2,13 +2,13 @@
 use Rattle.std.proofs.Common.{◌≡◌, ◌∙◌, ℕ, Bool, true, false, List, [], ◌∷◌, Option, Some, None, refl, sym, ap, subst}
 use Rattle.std.specs.Prelude.{if◌then◌else◌, ◌||◌}
 use Rattle.oss_syntax.specs.declared.fault.FaultKind.{FaultKind}
-use Rattle.oss_model.specs.Bodies.{Act, Ask, Frame, Order, Program, Stack, Start, act_of, act_of_ask, after_creation, ask_of, child_frame, frame_act, including_frame, judged_act, lent_when, next_stack, one_more_created, past_ask, past_silent, settled_frame, settled_parts, settled_stack, stack_act, stack_after, stack_from, stage_act, stage_created, start_frame}
+use Rattle.oss_model.specs.Bodies.{Act, Ask, Frame, Order, Program, Stack, Start, act_of, act_of_ask, after_creation, answered_frame, ask_of, child_frame, frame_act, including_frame, judged_act, lent_when, next_stack, one_more_created, past_ask, past_silent, settled_frame, settled_parts, settled_stack, stack_act, stack_after, stack_from, stage_act, stage_created, start_frame, with_context}
 use Rattle.oss_model.specs.Bodies.Ask.{Await, Begin, Create, End, Fails, Fold, Print, Read, Release, Tick, Wait, WaitOn, Write}
 use Rattle.oss_model.specs.Bodies.Act.{Awaited, Created, Ended, Fault, Folded, Load, Over, Printed, Releases, Store, Ticked, Waited, WaitedOn}
 use Rattle.oss_model.specs.Context.{create_fault, made, right_of}
 use Rattle.oss_model.specs.Rights.{Right}
-use Rattle.oss_unrolled.specs.Grouping.{plain_ask, plain_asked, plain_order, plain_start}
-use Rattle.oss_unrolled.proofs.Singles.{child_same, creation_same}
+use Rattle.oss_unrolled.specs.Grouping.{plain_ask, plain_asked, plain_order, plain_start, singles}
+use Rattle.oss_unrolled.proofs.Singles.{child_same, creation_same, release_fault_same, release_same, wait_fault_same, waited_same}
 
 -- the same act
 abbrev pub plain_act : {S : Type 0} → Act S → Act S
@@ -19,8 +19,8 @@ plain_act (Folded cell o v slot) = Folded cell o v slot
 plain_act (Created o included) = Created (plain_order o) included
 plain_act Awaited = Awaited
 plain_act Waited = Waited
-plain_act (WaitedOn named) = WaitedOn named
-plain_act (Releases clauses included) = Releases clauses included
+plain_act (WaitedOn named) = WaitedOn (singles named)
+plain_act (Releases clauses included) = Releases (singles clauses) included
 plain_act (Printed key text) = Printed key text
 plain_act Ended = Ended
 plain_act (Fault kind line key) = Fault kind line key
@@ -51,8 +51,9 @@ module _ {S : Type 0} where
       ∙ judged f line _ (Created o _)
   ask_act slots included f Await line = refl
   ask_act slots included f Wait line = refl
-  ask_act slots included f (WaitOn named) line = judged f line _ (WaitedOn named)
-  ask_act slots included f (Release clauses) line = judged f line _ (Releases clauses included)
+  ask_act slots included f (WaitOn named) line = ap (λ k. judged_act f line k (WaitedOn (singles named))) (wait_fault_same f.context named) ∙ judged f line _ (WaitedOn named)
+  ask_act slots included f (Release clauses) line =
+      ap (λ k. judged_act f line k (Releases (singles clauses) included)) (release_fault_same f.context clauses) ∙ judged f line _ (Releases clauses included)
   ask_act slots included f (Print text) line = refl
   ask_act slots included f End line = refl
   ask_act slots included f (Fails kind) line = refl
@@ -83,10 +84,10 @@ module _ {S : Type 0} where
   after_is Awaited v base (f ∷ fs) = refl
   after_is Waited v base [] = refl
   after_is Waited v base (f ∷ fs) = refl
-  after_is (WaitedOn named) v base [] = refl
-  after_is (WaitedOn named) v base (f ∷ fs) = refl
-  after_is (Releases clauses included) v base [] = refl
-  after_is (Releases clauses included) v base (f ∷ fs) = refl
+  after_is (WaitedOn named) v base [] = λ i. record { base = answered_frame v (with_context (waited_same base.context named i) base); inner = []; ended = false }
+  after_is (WaitedOn named) v base (f ∷ fs) = λ i. record { base = base; inner = answered_frame v (with_context (waited_same f.context named i) f) ∷ fs; ended = false }
+  after_is (Releases clauses included) v base [] = λ i. record { base = answered_frame v (with_context (release_same base.context clauses i) base); inner = []; ended = false }
+  after_is (Releases clauses included) v base (f ∷ fs) = λ i. record { base = base; inner = answered_frame v (with_context (release_same f.context clauses i) f) ∷ fs; ended = false }
   after_is (Printed key text) v base [] = refl
   after_is (Printed key text) v base (f ∷ fs) = refl
   after_is Ended v base [] = refl

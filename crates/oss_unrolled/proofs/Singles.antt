@@ -1,4 +1,4 @@
--- The clauses of a creation with each cell in an access of its own give the same rights.
+-- Clauses with each cell in an access of its own give the same rights, and they release and name the same cells.
 use Rattle.std.proofs.Common.{◌≡◌, ◌∙◌, ℕ, zero, suc, ◌+◌, ◌-◌, ◌<◌, ◌≤◌, min, Bool, true, false, List, [], ◌∷◌, ◌++◌, map, Option, Some, None, refl, sym, ap, arith, length, ◌⊎◌, inl, inr}
 use Rattle.std.specs.Prelude.{◌&&◌, ◌||◌, nat_le, nat_lt, if◌then◌else◌}
 use Rattle.std.specs.List.{range_with_len}
@@ -6,9 +6,9 @@ use Rattle.std.proofs.lemmas.Bool.Decides.{nat_tests}
 use Rattle.oss_syntax.specs.declared.access.Access.{Access}
 use Rattle.oss_syntax.specs.declared.fault.FaultKind.{FaultKind}
 use Rattle.oss_syntax.specs.declared.fault.FaultKind.TheVariants as fault
-use Rattle.oss_model.specs.Context.{Context, Entry, child_context, clause_fault, create_fault, creation_fault, or_else, right_of, table_from}
+use Rattle.oss_model.specs.Context.{Context, Entry, child_context, clause_fault, create_fault, creation_fault, in_clauses, lacks_right, lent_of, mark_of, or_else, release, release_fault, right_of, table_from, wait_on_fault, waited_on, with_entries}
 use Rattle.oss_unrolled.specs.Grouping.{single, singles}
-use Rattle.oss_model.specs.Rights.{Right, Free, any_cell, any_from, first_mark, holds_uncovered, in_access, is_fresh, is_mixed, is_released, is_unjoinable, joined_right, mark_from, right_from}
+use Rattle.oss_model.specs.Rights.{Right, Free, Released, any_cell, any_from, first_mark, holds_uncovered, in_access, is_fresh, is_mixed, is_released, is_unjoinable, joined_right, mark_from, right_from}
 
 if_true : {A : Type 0} (b : Bool) (x y : A) → b ≡ true → (if b then x else y) ≡ x
 if_true b x y e = ap (λ (c : Bool). if c then x else y) e
@@ -150,3 +150,35 @@ clause_same x xs final =
 
 pub creation_same : (x : Context) (xs : List Access) (final : Bool) → creation_fault x (singles xs) final ≡ creation_fault x xs final
 creation_same x xs final = ap (λ o. or_else (create_fault x) o) (clause_same x xs final)
+
+-- Releases and waits
+
+named_step : (b rest : Bool) → (b || rest) ≡ (if b then true else rest)
+named_step true rest = refl
+named_step false rest = refl
+
+pub named_same : (xs : List Access) (c : ℕ) → in_clauses (singles xs) c ≡ in_clauses xs c
+named_same xs c = of_singles c (λ ys. in_clauses ys c) (λ a r. true) (λ a rest. named_step (in_access a c) (in_clauses rest c)) (λ a k t. refl) xs
+
+pub release_same : (x : Context) (xs : List Access) → release (singles xs) x ≡ release xs x
+release_same x xs =
+    ap {B = Context} (λ (t : ℕ → Bool). with_entries (λ c. record { right = if t c then Released else right_of x c; lent = lent_of x c; mark = mark_of x c }) x) (λ i. λ c. named_same xs c i)
+
+pub waited_same : (x : Context) (xs : List Access) → waited_on (singles xs) x ≡ waited_on xs x
+waited_same x xs =
+    ap {B = Context} (λ (t : ℕ → Bool). with_entries (λ c. record { right = right_of x c; lent = if t c then Free else lent_of x c; mark = mark_of x c }) x) (λ i. λ c. named_same xs c i)
+
+pub release_fault_same : (x : Context) (xs : List Access) → release_fault x (singles xs) ≡ release_fault x xs
+release_fault_same x xs =
+    let rest : Bool → Bool → Option FaultKind = λ r n. if r then Some fault.Released else if n then Some fault.NotCovered else None in
+    let covered : any_cell (λ c. holds_uncovered (right_of x c) (right_from false (singles xs) c)) (singles xs) ≡ any_cell (λ c. holds_uncovered (right_of x c) (right_from false xs c)) xs =
+    any_same (λ c. holds_uncovered (right_of x c) (right_from false (singles xs) c)) xs
+    ∙ ap (λ (t : ℕ → Right). any_cell (λ c. holds_uncovered (right_of x c) (t c)) xs) (λ i. λ c. right_same false xs c i) in
+    ap (λ r. rest r (any_cell (λ c. holds_uncovered (right_of x c) (right_from false (singles xs) c)) (singles xs))) (any_same (λ c. is_released (right_of x c)) xs)
+    ∙ ap (λ n. rest (any_cell (λ c. is_released (right_of x c)) xs) n) covered
+
+pub wait_fault_same : (x : Context) (xs : List Access) → wait_on_fault x (singles xs) ≡ wait_on_fault x xs
+wait_fault_same x xs =
+    let rest : Bool → Bool → Option FaultKind = λ r n. if r then Some fault.Released else if n then Some fault.NotCovered else None in
+    ap (λ r. rest r (any_cell (λ c. lacks_right (right_of x c)) (singles xs))) (any_same (λ c. is_released (right_of x c)) xs)
+    ∙ ap (λ n. rest (any_cell (λ c. is_released (right_of x c)) xs) n) (any_same (λ c. lacks_right (right_of x c)) xs)

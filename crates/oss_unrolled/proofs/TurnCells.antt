@@ -113,7 +113,7 @@ two_places : (b : Base) (columns : Option ℕ) (i j : ℕ) → place_cells b col
 two_places b None i j = refl
 two_places b (Some m) i j = refl
 
-wraps_not : (k : ℕ) → k + 1 < 2 ^ 64 → sum_of k 1 ≡ k + 1
+pub wraps_not : (k : ℕ) → k + 1 < 2 ^ 64 → sum_of k 1 ≡ k + 1
 wraps_not k h = omega arith
 
 pub steady_behind : (all : List Item) (scope : List Local) (d : Declared) (rest : List Section) (line : ℕ) (here : Here) (locals : List Value) (go : List Access → TreeRun)

@@ -98,15 +98,15 @@ module _ (all : List Item) (scope : List Local) where
   literal_value = expr_induction IsNumber numbers
 
 -- what the turns of a multidependency that is unrolled are
-record Literals (t : Turns) (p : ℕ × ℕ) : Type 0 where
-  signed : is_signed t.variable.kind ≡ true
-  first : Expr
-  first_is : t.variable.first ≡ Some first
-  low : literal first ≡ Some p.0
-  count : literal t.count ≡ Some p.1
-  few : are_few p.0 p.1 ≡ true
+pub record Literals (t : Turns) (p : ℕ × ℕ) : Type 0 where
+  pub signed : is_signed t.variable.kind ≡ true
+  pub first : Expr
+  pub first_is : t.variable.first ≡ Some first
+  pub low : literal first ≡ Some p.0
+  pub count : literal t.count ≡ Some p.1
+  pub few : are_few p.0 p.1 ≡ true
 
-literals : (t : Turns) (p : ℕ × ℕ) → literal_turns t ≡ Some p → Literals t p
+pub literals : (t : Turns) (p : ℕ × ℕ) → literal_turns t ≡ Some p → Literals t p
 literals t p h = by_kind (is_signed t.variable.kind) refl h
   where
     by_few : (l n : ℕ) (first : Expr) → is_signed t.variable.kind ≡ true → t.variable.first ≡ Some first → literal first ≡ Some l → literal t.count ≡ Some n
@@ -140,7 +140,7 @@ literals t p h = by_kind (is_signed t.variable.kind) refl h
     by_kind true s e = by_first s t.variable.first refl e
     by_kind false s e = absurd (subst IsSomething (sym e) tt)
 
-fits : (l n : ℕ) → are_few l n ≡ true → nat_le n most_turns ≡ true
+pub fits : (l n : ℕ) → are_few l n ≡ true → nat_le n most_turns ≡ true
 fits l n e = by (nat_le 1 n) (nat_le n most_turns) (nat_le (l + n) 9223372036854775807) e
   where
     IsYes : Bool → Type 0
@@ -153,7 +153,7 @@ fits l n e = by (nat_le 1 n) (nat_le n most_turns) (nat_le (l + n) 9223372036854
     by false true c e = refl
     by false false c e = absurd (subst IsYes (sym e) tt)
 
-stays : (l n : ℕ) → are_few l n ≡ true → l + n < 2 ^ 64
+pub stays : (l n : ℕ) → are_few l n ≡ true → l + n < 2 ^ 64
 stays l n e =
     let third : nat_le (l + n) 9223372036854775807 ≡ true = by (nat_le 1 n) (nat_le n most_turns) (nat_le (l + n) 9223372036854775807) e in
     let few : l + n ≤ 9223372036854775807 = grind (arith, nat_tests) in
@@ -171,7 +171,7 @@ stays l n e =
 
 -- Sections
 
-abbrev with_form : Section → Form → Section
+abbrev pub with_form : Section → Form → Section
 with_form s x = record { base = s.base; form = x; line = s.line; base_line = s.base_line }
 
 module _ (chosen : Section → Bool) (all : List Item) (scope : List Local) (line : ℕ) (here : Here) (locals : List Value) (size : length locals ≡ length scope) where

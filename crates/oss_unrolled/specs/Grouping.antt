@@ -1,4 +1,5 @@
--- How the clauses of a creation group their cells: two lists of accesses that are the same with each cell in an access of its own.
+-- How the clauses of a creation or a release, and the sections of a wait, group their cells: two lists of accesses that are the same with each cell in an
+-- access of its own.
 -- Read against: an access of the cells 1 and 2, and two accesses of one of them each, of one mode, are the same with each cell alone; `in(a[1;2])` and
 -- `in(a[1], a[2])` give them.
 use Rattle.std.specs.Prelude.{◌≡◌, ℕ, ◌-◌, List, [], ◌∷◌, ◌++◌, map}
@@ -37,8 +38,8 @@ plain_ask (Fold cell o v) = Fold cell o v
 plain_ask (Create o) = Create (plain_order o)
 plain_ask Await = Await
 plain_ask Wait = Wait
-plain_ask (WaitOn named) = WaitOn named
-plain_ask (Release clauses) = Release clauses
+plain_ask (WaitOn named) = WaitOn (singles named)
+plain_ask (Release clauses) = Release (singles clauses)
 plain_ask (Print text) = Print text
 plain_ask End = End
 plain_ask (Fails kind) = Fails kind

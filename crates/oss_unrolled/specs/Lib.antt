@@ -1,3 +1,4 @@
 pub mod Claims
+pub mod Fitting
 pub mod Grouping
 pub mod Unrolling

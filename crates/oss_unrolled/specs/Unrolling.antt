@@ -18,11 +18,13 @@ use Rattle.oss_syntax.specs.declared.tree.pragma.Inner.TheVariants as inner
 use Rattle.oss_syntax.specs.declared.tree.pragma.Section.{Section}
 use Rattle.oss_syntax.specs.declared.tree.pragma.TaskMark.{TaskMark}
 use Rattle.oss_syntax.specs.declared.tree.pragma.Turns.{Turns}
+use Rattle.oss_syntax.specs.declared.tree.program.Function.{Function}
 use Rattle.oss_syntax.specs.declared.tree.program.Item.{Item}
 use Rattle.oss_syntax.specs.declared.tree.program.Item.TheVariants as items
 use Rattle.oss_syntax.specs.declared.tree.program.Kind.{Kind}
 use Rattle.oss_syntax.specs.declared.tree.program.Kind.TheVariants as kind
 use Rattle.oss_syntax.specs.declared.tree.program.NumKind.TheVariants as num
+use Rattle.oss_syntax.specs.declared.tree.program.Program.{Program}
 use Rattle.oss_syntax.specs.declared.tree.stmt.Stmt.{Stmt}
 use Rattle.oss_syntax.specs.declared.tree.stmt.StmtKind.{StmtKind}
 use Rattle.oss_syntax.specs.declared.tree.stmt.StmtKind.TheOpen.{StmtKind-F, Stmt-F}
@@ -147,7 +149,7 @@ unrolled_mark chosen mark = record { clauses = unrolled_clauses chosen mark.clau
 abbrev pub stmt_at : ℕ → StmtKind → Stmt
 stmt_at line what = record { what = what; line = line }
 
--- The statements of a layer, with those inside unrolled already: those of tasks have the clauses.
+-- The statements of a layer, with those inside unrolled already: the clauses of tasks and releases are unrolled, and the sections of waits.
 abbrev pub unrolled_step : (Section → Bool) → StmtKind-F (ℕ → Stmt) Stmt → ℕ → Stmt
 unrolled_step chosen (open_stmt.Block body) line = stmt_at line (stmts.Block body)
 unrolled_step chosen open_stmt.Empty line = stmt_at line stmts.Empty
@@ -163,18 +165,27 @@ unrolled_step chosen open_stmt.Break line = stmt_at line stmts.Break
 unrolled_step chosen open_stmt.Continue line = stmt_at line stmts.Continue
 unrolled_step chosen (open_stmt.Task mark body) line = stmt_at line (stmts.Task (unrolled_mark chosen mark) body)
 unrolled_step chosen (open_stmt.TaskLoop head body) line = stmt_at line (stmts.TaskLoop (record head { mark = unrolled_mark chosen head.mark }) body)
-unrolled_step chosen (open_stmt.TaskWait sections) line = stmt_at line (stmts.TaskWait sections)
-unrolled_step chosen (open_stmt.Release clauses) line = stmt_at line (stmts.Release clauses)
+unrolled_step chosen (open_stmt.TaskWait sections) line = stmt_at line (stmts.TaskWait (option_map (unrolled_sections chosen) sections))
+unrolled_step chosen (open_stmt.Release clauses) line = stmt_at line (stmts.Release (unrolled_clauses chosen clauses))
 
--- a statement with each chosen multidependency in its tasks unrolled
+-- a statement with each chosen multidependency in its pragmas unrolled
 abbrev pub unrolled : (Section → Bool) → Stmt → Stmt
 unrolled chosen = fold-Stmt (ℕ → Stmt) Stmt (unrolled_step chosen) (λ s. s.what s.line)
 
--- a global or a function; a function of a task has clauses of its own
+-- a function; that of a task has clauses of its own
+abbrev pub function_unrolled : (Section → Bool) → Function → Function
+function_unrolled chosen f = record f { mark = option_map (unrolled_mark chosen) f.mark; body = map (unrolled chosen) f.body }
+
+-- a global or a function
 abbrev pub item_unrolled : (Section → Bool) → Item → Item
 item_unrolled chosen (items.Global g) = items.Global g
-item_unrolled chosen (items.Function f) = items.Function (record f { mark = option_map (unrolled_mark chosen) f.mark; body = map (unrolled chosen) f.body })
+item_unrolled chosen (items.Function f) = items.Function (function_unrolled chosen f)
 
--- a program with each chosen multidependency unrolled
+-- A program with each chosen multidependency unrolled; with all chosen, each that has literals.
+-- Read against: of `long a[4]; int main() { task out({ a[k], k = 0; 2 }) { a[0] = 1; a[1] = 2; } taskwait on({ a[k], k = 0; 2 }); }` it is `long a[4]; int main() { task out(a[0], a[1]) { a[0] = 1; a[1] =
+-- 2; } taskwait on(a[0], a[1]); }`. A local or global `k` of the program means what it meant: in `task in({ a[k], k = 0; 2 }, a[k])` the last section stays.
 abbrev pub items_unrolled : (Section → Bool) → List Item → List Item
 items_unrolled chosen = map (item_unrolled chosen)
+
+abbrev pub program_unrolled : (Section → Bool) → Program → Program
+program_unrolled chosen p = record { items = items_unrolled chosen p.items }

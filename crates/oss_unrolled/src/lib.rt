@@ -5,5 +5,6 @@ mod laws;
 
 pub use laws::{
     groupings_have_one_outcome, spelled_means_the_same, unrolled_clauses_mean_the_same,
-    unrolled_sections_mean_the_same,
+    unrolled_programs_have_one_outcome, unrolled_sections_mean_the_same,
+    unrolled_texts_have_one_outcome,
 };
