@@ -1,0 +1,3 @@
+pub mod Unfinished
+pub mod Replays
+pub mod Claims

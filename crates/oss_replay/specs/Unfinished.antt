@@ -1,0 +1,22 @@
+-- How many tasks of a state are not complete.
+-- Read against: main has created two tasks and waits for them; one of them is complete. Main and the other are not, so two are not complete.
+use Rattle.std.specs.Prelude.{◌≡◌, ℕ, ◌↔◌, List, [], ◌∷◌, length}
+use Rattle.oss_model.specs.Bodies.{Program}
+use Rattle.oss_model.specs.Machine.{Task, State, At, IsComplete}
+use Rattle.oss_model.specs.Order.{IsIn}
+
+-- Nothing stands in the list twice.
+abbrev pub AreApart : {A : Type 0} → List A → Type 0
+AreApart [] = Unit {0}
+AreApart (x ∷ xs) = (IsIn x xs → ⊥) × AreApart xs
+
+-- A task of the state has this path, and it is not complete.
+abbrev pub IsUnfinished : {S : Type 0} → Program S → State S → List ℕ → Type 0
+IsUnfinished P s p = (t : Task _) × At s p t × (IsComplete P s p → ⊥)
+
+-- So many tasks of the state are not complete: there is a list of exactly their paths, none twice.
+pub record HasUnfinished {S : Type 0} (P : Program S) (s : State S) (n : ℕ) : Type 0 where
+  pub list : List (List ℕ)
+  pub apart : AreApart list
+  pub exact : (p : List ℕ) → (IsIn p list ↔ IsUnfinished P s p)
+  pub count : length list ≡ n
