@@ -88,7 +88,7 @@ module _ {S : Type 0} (P : Program S) {s m : State S} (same : IsSame s m) where
 
   -- a task is not complete in both or in neither
   unfinished_forth : (p : List ℕ) → IsUnfinished P s p → IsUnfinished P m p
-  unfinished_forth p h = (h.0, at_forth same p h.0 h.1, λ c. h.2 (complete_forth P (same_back same) c))
+  unfinished_forth p h = record { task = h.task; at_ = at_forth same p h.task h.at_; left = λ c. h.left (complete_forth P (same_back same) c) }
 
 -- so as many are not
 pub unfinished_one : {S : Type 0} (P : Program S) {s m : State S} (a b : ℕ) → IsSame s m → HasUnfinished P s a → HasUnfinished P m b → a ≡ b

@@ -1,3 +1,4 @@
 pub mod Unfinished
 pub mod Replays
 pub mod Claims
+pub mod Making

@@ -10,9 +10,11 @@ abbrev pub AreApart : {A : Type 0} → List A → Type 0
 AreApart [] = Unit {0}
 AreApart (x ∷ xs) = (IsIn x xs → ⊥) × AreApart xs
 
--- A task of the state has this path, and it is not complete.
-abbrev pub IsUnfinished : {S : Type 0} → Program S → State S → List ℕ → Type 0
-IsUnfinished P s p = (t : Task _) × At s p t × (IsComplete P s p → ⊥)
+-- The task of the state with this path is not complete.
+pub record IsUnfinished {S : Type 0} (P : Program S) (s : State S) (p : List ℕ) : Type 0 where
+  pub task : Task S
+  pub at_ : At s p task
+  pub left : IsComplete P s p → ⊥
 
 -- So many tasks of the state are not complete: there is a list of exactly their paths, none twice.
 pub record HasUnfinished {S : Type 0} (P : Program S) (s : State S) (n : ℕ) : Type 0 where

@@ -1,0 +1,4 @@
+use Rattle.oss_replay.proofs.stub.find.Goals as goal
+
+pub unreachable-requires : goal.unreachable-requires
+unreachable-requires g c = ?
