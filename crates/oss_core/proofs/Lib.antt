@@ -24,3 +24,9 @@ pub mod GivesLemmas
 pub mod NewLemmas
 pub mod CountLemmas
 pub mod CreatesLemmas
+pub mod ClearLemmas
+pub mod StopLemmas
+pub mod AnswerLemmas
+pub mod UnfinishedLemmas
+pub mod BeginLemmas
+pub mod MakingLemmas

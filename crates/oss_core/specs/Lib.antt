@@ -7,5 +7,6 @@ pub mod Kept
 pub mod Enabled
 pub mod Changes
 pub mod Going
+pub mod Giving
 pub mod Cores
 pub mod Stops

@@ -4,9 +4,13 @@
 use Rattle.std.specs.Prelude.{◌≡◌, ℕ, ◌<◌, ◌↔◌, Bool, true, false, List, [], ◌∷◌, length, Some, slice_get}
 use Rattle.oss_syntax.specs.declared.fault.FaultKind.{FaultKind}
 use Rattle.oss_model.specs.Order.{IsBefore, IsIn, written}
+use Rattle.oss_model.specs.Bodies.{Program}
+use Rattle.oss_model.specs.Machine as machine
+use Rattle.oss_model.specs.Machine.{State, Task, At}
 use Rattle.oss_model.specs.declared.answer.Answer.{Answer}
 use Rattle.oss_model.specs.declared.answer.Answer.TheVariants as answers
 use Rattle.oss_model.specs.declared.moving.Move.{Move}
+use Rattle.oss_machine.specs.Frames.{CodeScript}
 use Rattle.oss_body.specs.declared.act.Act.{Act}
 use Rattle.oss_body.specs.declared.act.Act.TheVariants as acts
 use Rattle.oss_body.specs.Places.{unwritten}
@@ -39,6 +43,10 @@ pub record IsLeastFaultAt (tasks : List Held) (v : ℕ) (kind : FaultKind) (line
 abbrev pub IsFaultless : List Held → Type 0
 IsFaultless tasks = (v : ℕ) (kind : FaultKind) (line : ℕ) (key : List ℕ) → IsFaultAt tasks v kind line key → ⊥
 
+-- The key of each fault that stands next is a point: it begins with main's 0.
+abbrev pub AreKeyed : List Held → Type 0
+AreKeyed tasks = (v : ℕ) (held : Held) (kind : FaultKind) (line : ℕ) (key : List ℕ) → slice_get tasks v ≡ Some held → is_over held.body ≡ false → pending_of held.body ≡ acts.Fault kind line key → written (unwritten key) ≡ key
+
 -- The answer of a core that stands still: where no task stands before a fault, all that was printed, in point order, and the memory; else the fault with the least key and what
 -- was printed up to it.
 pub data IsAnswerOf (k : Kept) : Answer → Type 0 where
@@ -55,4 +63,17 @@ pub record AreUnfinished (tasks : List TreeTask) (n : ℕ) : Type 0 where
   pub list : List ℕ
   pub apart : AreApart list
   pub exact : (v : ℕ) → (IsIn v list ↔ ((v < length tasks) × (IsComplete tasks v → ⊥)))
+  pub count : length list ≡ n
+
+-- The task of the state with this path is not complete.
+pub record IsUnfinished (P : Program CodeScript) (s : State CodeScript) (p : List ℕ) : Type 0 where
+  pub task : Task CodeScript
+  pub at_ : At s p task
+  pub left : machine.IsComplete P s p → ⊥
+
+-- So many tasks of the state are not complete: there is a list of exactly their paths, none twice.
+pub record HasUnfinished (P : Program CodeScript) (s : State CodeScript) (n : ℕ) : Type 0 where
+  pub list : List (List ℕ)
+  pub apart : AreApart list
+  pub exact : (p : List ℕ) → (IsIn p list ↔ IsUnfinished P s p)
   pub count : length list ≡ n

@@ -106,7 +106,7 @@ fn is_let(owed: Option<Owed>) -> bool
 }
 
 /// The operator of the join by which a cell that is owed so is given up.
-fn join_of(owed: Option<Owed>) -> Option<Op>
+pub(crate) fn join_of(owed: Option<Owed>) -> Option<Op>
     ensures { MatchOption result ((op : Operator) → owed ≡ Some (ways.Join op) → ⊥) (λ op. owed ≡ Some (ways.Join op)) }
 {
     match owed {

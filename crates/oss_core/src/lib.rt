@@ -3,11 +3,14 @@
 
 mod creating;
 mod enabling;
+mod fault;
+mod giving;
 mod happening;
 mod held;
 mod machine;
 mod stepping;
 mod waiting;
 
+pub use fault::ApplyFault;
 pub use held::{Held, Owed};
 pub use machine::Core;
