@@ -2,7 +2,7 @@
 use Rattle.std.proofs.Common.{◌≡◌, suc, ◌≤◌, ◌⊎◌, inl, inr, refl, sym, subst, ap, arith, List, [], ◌∷◌, length}
 use Rattle.oss_model.specs.Order.{IsIn, here, there}
 use Rattle.oss_rounds.proofs.SumLemmas.{in_cases}
-use Rattle.oss_replay.specs.Unfinished.{AreApart}
+use Rattle.oss_core.specs.Stops.{AreApart}
 
 -- a list without one of its elements
 record Without {A : Type 0} (x : A) (xs : List A) : Type 0 where

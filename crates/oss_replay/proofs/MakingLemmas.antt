@@ -6,6 +6,8 @@ use Rattle.oss_syntax.specs.declared.access.Mode.TheVariants.{Fold}
 use Rattle.oss_model.specs.Order.{written}
 use Rattle.oss_model.specs.Bodies.{Program, Start}
 use Rattle.oss_model.specs.Machine.{Task, State, At}
+use Rattle.oss_model.specs.Answers.{IsStopped, IsAnswer}
+use Rattle.oss_model.specs.declared.answer.Answer.{Answer}
 use Rattle.oss_model.specs.declared.task_no.TaskNo.{TaskNo}
 use Rattle.oss_model.proofs.RecallLemmas.{right_in_memory}
 use Rattle.oss_rounds.specs.Claims.{IsSame}
@@ -17,14 +19,15 @@ use Rattle.oss_tree.specs.declared.task.Task.{Task as TreeTask}
 use Rattle.oss_tree.specs.Tasks.{HasPoint}
 use Rattle.oss_core.specs.Kept.{IsCore, IsRunning, Kept}
 use Rattle.oss_core.specs.Changes.{IsMove, IsMade}
+use Rattle.oss_core.specs.Stops.{HasUnfinished}
 use Rattle.oss_core.proofs.KeepLemmas.{some_is}
 use Rattle.oss_core.proofs.TreeFacts.{core_made, at_number, task_within, point_of_path}
 use Rattle.oss_sched.specs.declared.moves.TextMove.{TextMove}
 use Rattle.oss_sched.specs.declared.moves.TextMove.TheVariants.{Step, Let, Join}
 use Rattle.oss_replay.specs.declared.replayed.Replayed.{Replayed}
 use Rattle.oss_replay.specs.declared.replayed.Replayed.TheVariants.{Answered, NotEnabled, Unfinished}
-use Rattle.oss_replay.specs.Replays.{point_in, parts_in, IsPartOf, Makes, makes_none, makes_more, Leads, IsEnabled, Plays, plays_none, plays_more, stuck_here, stuck_later, IsReplayedFrom}
-use Rattle.oss_replay.specs.Making.{part_of, IsBeyond, IsPartMade, MakesPart, RefusesPart, ArePartsMade, MakesParts, MakesMove, RefusesMove, Replays, HasReplayed}
+use Rattle.oss_replay.specs.Replays.{point_in, parts_in, IsPartOf, Makes, makes_none, makes_more, Leads, plays_none, plays_more, stuck_here, stuck_later, IsReplayedFrom}
+use Rattle.oss_replay.specs.Making.{part_of, IsBeyond, MakesPart, RefusesPart, MakesParts, MakesMove, RefusesMove, Replays, HasReplayed}
 use Rattle.oss_replay.proofs.SameLemmas.{one_path, part_forth, makes_one}
 
 -- the element that stands next is in front of those that are left
@@ -82,12 +85,12 @@ beyond : (code : CodeParts) (main : Start CodeScript) (first : List ℕ) (kept :
 beyond code main first kept s n few core path (Step point count) k far h = far
 beyond code main first kept s n few core path (Let point from count) k far h =
     let l : from + k < length first = right_in_memory (asks code) main s first (from + k) path h.can.mode (core_made core) core.setting.memory
-        (record { task = h.task; at_ = h.can.at_; strong = h.can.strong; right = h.can.right }) in
+    (record { task = h.task; at_ = h.can.at_; strong = h.can.strong; right = h.can.right }) in
     let big : 1048576 ≤ 2 ^ 32 = omega arith in
     omega (arith, l, few, far, big)
 beyond code main first kept s n few core path (Join point from count) k far h =
     let l : from + k < length first = right_in_memory (asks code) main s first (from + k) path (Fold h.op) (core_made core) core.setting.memory
-        (record { task = h.task; at_ = h.can.at_; strong = true; right = h.can.right }) in
+    (record { task = h.task; at_ = h.can.at_; strong = true; right = h.can.right }) in
     let big : 1048576 ≤ 2 ^ 32 = omega arith in
     omega (arith, l, few, far, big)
 
@@ -205,3 +208,16 @@ replays_more code old mid now number later list move rest so_far made replayed h
 pub replays_stuck : (code : CodeParts) (old now : Kept) (number later : ℕ) (list : List TextMove) (move : TextMove) (rest : List TextMove)
     → HasReplayed code old number list now later (move ∷ rest) → RefusesMove code now move → Replays code old number list (NotEnabled later)
 replays_stuck code old now number later list move rest so_far refused = so_far (NotEnabled later) (λ main first s few core. stuck_here (refused main first s few core))
+
+-- where no move is left, the end is the answer
+pub replays_answered : (code : CodeParts) (now : Kept) (number : ℕ) (answer : Answer)
+    → ((code : CodeParts) (main : Start CodeScript) (first : List ℕ) (s : State CodeScript) → IsCore code main first now s → IsStopped (asks code) s × IsAnswer (asks code) s answer)
+    → Replays code now number [] (Answered answer)
+replays_answered code now number answer told main first s few core = let h = told code main first s core in (s, plays_none, h.0, h.1)
+
+-- and else how many tasks are not complete
+pub replays_unfinished : (code : CodeParts) (now : Kept) (number count : ℕ)
+    → ((code : CodeParts) (main : Start CodeScript) (first : List ℕ) (s : State CodeScript) → IsCore code main first now s → IsStopped (asks code) s → ⊥)
+    → ((code : CodeParts) (main : Start CodeScript) (first : List ℕ) (s : State CodeScript) → IsCore code main first now s → HasUnfinished (asks code) s count)
+    → Replays code now number [] (Unfinished count)
+replays_unfinished code now number count left told main first s few core = (s, plays_none, left code main first s core, told code main first s core)

@@ -1,4 +1,3 @@
-pub mod Unfinished
 pub mod Replays
 pub mod Claims
 pub mod Making

@@ -3,7 +3,7 @@
 -- Read against: a core stands for a state in which main, with the point 0, has created nothing. Part 0 of `step 0 3` is main's next act; after two
 -- parts it stands for a state that two acts of main lead to; the move is made once three parts are. `step 0.0 1` is refused, since there is no such task,
 -- and so is part 0 of `let 0 4294967295 1`, and with it the move.
-use Rattle.std.specs.Prelude.{◌≡◌, ℕ, suc, ◌+◌, ◌≤◌, ◌^◌, List, length}
+use Rattle.std.specs.Prelude.{◌≡◌, ℕ, ◌+◌, ◌≤◌, ◌^◌, List, length}
 use Rattle.oss_model.specs.Order.{written}
 use Rattle.oss_model.specs.Bodies.{Start}
 use Rattle.oss_model.specs.Machine.{Task, State, At}

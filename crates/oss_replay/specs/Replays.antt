@@ -22,7 +22,7 @@ use Rattle.oss_sched.specs.declared.moves.TextMove.{TextMove}
 use Rattle.oss_sched.specs.declared.moves.TextMove.TheVariants.{Step, Let, Join}
 use Rattle.oss_replay.specs.declared.replayed.Replayed.{Replayed}
 use Rattle.oss_replay.specs.declared.replayed.Replayed.TheVariants.{Answered, NotEnabled, Unfinished}
-use Rattle.oss_replay.specs.Unfinished.{HasUnfinished}
+use Rattle.oss_core.specs.Stops.{HasUnfinished}
 
 -- The next act of the task with this path leads from one state to the other.
 pub record StepsTo {S : Type 0} (P : Program S) (p : List ℕ) (s n : State S) : Type 0 where

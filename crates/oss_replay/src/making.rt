@@ -6,9 +6,8 @@ ghost use Rattle.oss_core.specs.Kept.{IsRunning};
 ghost use Rattle.oss_replay.specs.Making.{MakesMove, MakesPart, RefusesMove, RefusesPart};
 
 use crate::parts::{part, parts_of, point_of};
-use crate::stub::{ApplyFault, apply, find};
 use oss_code::Code;
-use oss_core::Core;
+use oss_core::{ApplyFault, Core};
 use oss_deps::Deps;
 use oss_sched::TextMove;
 use std::alloc::AllocError;
@@ -24,7 +23,7 @@ pub(crate) fn make<D: Deps>(
     ensures made { IfOk result (λ made. made ≡ true → MakesMove code.now (kept_of D.seen core.old) (kept_of D.seen core.new) what.now) }
     ensures refused { IfOk result (λ made. made ≡ false → RefusesMove code.now (kept_of D.seen core.old) what.now) }
 {
-    match find(core, point_of(what).as_slice()) {
+    match core.find(point_of(what).as_slice()) {
         Some(_) => {}
         None => return Ok(false),
     }
@@ -47,7 +46,7 @@ fn make_part<D: Deps>(
     ensures made { IfOk result (λ made. made ≡ true → MakesPart code.now (kept_of D.seen core.old) (kept_of D.seen core.new) what.now k) }
     ensures refused { IfOk result (λ made. made ≡ false → RefusesPart code.now (kept_of D.seen core.old) what.now k) }
 {
-    let task = match find(core, point_of(what).as_slice()) {
+    let task = match core.find(point_of(what).as_slice()) {
         Some(task) => task,
         None => return Ok(false),
     };
@@ -55,7 +54,7 @@ fn make_part<D: Deps>(
         Some(one) => one,
         None => return Ok(false),
     };
-    match apply(core, code, one) {
+    match core.apply(code, one) {
         Ok(()) => Ok(true),
         Err(ApplyFault::NotNow) => Ok(false),
         Err(ApplyFault::Memory(error)) => Err(error),

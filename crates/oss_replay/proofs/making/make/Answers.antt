@@ -15,7 +15,7 @@ pub parts-init : goal.parts-init
 parts-init g c = (
   c.requires,
   no_parts c.args.code.now (kept_of g.D.Deps.seen c.args.core.now) c.args.what.now c.in-Some.field-0.0
-  (subst (λ (p : List ℕ). HasPoint c.args.core.now.tree.tasks c.in-Some.field-0.0 p) (c.as_slice.ensures.numbers ∙ c.point_of.ensures) c.in-Some.ensures),
+      (subst (λ (p : List ℕ). HasPoint c.args.core.now.tree.tasks c.in-Some.field-0.0 p) (c.as_slice.ensures.numbers ∙ c.point_of.ensures) c.in-Some.ensures),
 )
 
 pub returns-then-not-branch-clause-refused : goal.returns-then-not-branch-clause-refused
@@ -30,7 +30,7 @@ parts-preserved g c =
     let e : suc c.parts.k ≡ c.parts.k + 1 = omega arith in (
       part_runs c.args.code.now (kept_of g.D.Deps.seen c.parts.core) (kept_of g.D.Deps.seen c.make_part.new.core) c.args.what.now c.parts.k c.parts.invariant.0 made,
       subst (λ (k : ℕ). MakesParts c.args.code.now (kept_of g.D.Deps.seen c.args.core.now) (kept_of g.D.Deps.seen c.make_part.new.core) c.args.what.now k) e
-      (more_parts c.args.code.now (kept_of g.D.Deps.seen c.args.core.now) (kept_of g.D.Deps.seen c.parts.core) (kept_of g.D.Deps.seen c.make_part.new.core) c.args.what.now c.parts.k c.parts.invariant.1 made),
+          (more_parts c.args.code.now (kept_of g.D.Deps.seen c.args.core.now) (kept_of g.D.Deps.seen c.parts.core) (kept_of g.D.Deps.seen c.make_part.new.core) c.args.what.now c.parts.k c.parts.invariant.1 made),
     )
 
 pub returns-clause-made : goal.returns-clause-made

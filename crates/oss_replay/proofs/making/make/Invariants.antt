@@ -1,9 +1,6 @@
-use Rattle.std.proofs.Common.{◌≤◌}
 use Rattle.oss_core.specs.Cores.{kept_of}
-use Rattle.oss_core.specs.Kept.{IsRunning, Kept}
-use Rattle.oss_code.specs.declared.code.CodeParts.{CodeParts}
+use Rattle.oss_core.specs.Kept.{IsRunning}
 use Rattle.oss_replay.specs.Making.{MakesParts}
-use Rattle.oss_sched.specs.declared.moves.TextMove.{TextMove}
 use Rattle.oss_replay.proofs.making.make.Given as goal
 
 -- the core stands for states to which so many parts lead

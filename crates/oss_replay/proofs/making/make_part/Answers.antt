@@ -17,9 +17,9 @@ returns-in-None-part-clause-refused g c = λ e. refuses_beyond c.args.code.now (
 
 pub returns-in-Ok-clause-made : goal.returns-in-Ok-clause-made
 returns-in-Ok-clause-made g c = λ e.
-    makes_part c.args.code.now (kept_of g.D.Deps.seen c.args.core.now) (kept_of g.D.Deps.seen c.apply.new.core) c.args.what.now c.args.k c.in-Some.task
+    makes_part c.args.code.now (kept_of g.D.Deps.seen c.args.core.now) (kept_of g.D.Deps.seen c.apply.new.self) c.args.what.now c.args.k c.in-Some.task
     (subst (λ (p : List ℕ). HasPoint c.args.core.now.tree.tasks c.in-Some.task.0 p) (c.as_slice.ensures.numbers ∙ c.point_of.ensures) c.in-Some.ensures)
-    (subst (λ (m : Move). IsMade c.args.code.now (kept_of g.D.Deps.seen c.args.core.now) (kept_of g.D.Deps.seen c.apply.new.core) m) c.in-Some-part.ensures c.in-Ok.ensures.ok)
+    (subst (λ (m : Move). IsMade c.args.code.now (kept_of g.D.Deps.seen c.args.core.now) (kept_of g.D.Deps.seen c.apply.new.self) m) c.in-Some-part.ensures c.in-Ok.ensures.ok)
 
 pub returns-in-Err-NotNow-clause-refused : goal.returns-in-Err-NotNow-clause-refused
 returns-in-Err-NotNow-clause-refused g c = λ e.

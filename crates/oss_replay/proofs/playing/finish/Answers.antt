@@ -1,7 +1,0 @@
-use Rattle.oss_replay.proofs.playing.finish.Goals as goal
-
-pub returns-in-Some : goal.returns-in-Some
-returns-in-Some g c = ?
-
-pub returns-in-None : goal.returns-in-None
-returns-in-None g c = ?

@@ -1,4 +1,0 @@
-use Rattle.oss_replay.proofs.stub.find.Goals as goal
-
-pub unreachable-requires : goal.unreachable-requires
-unreachable-requires g c = ?
