@@ -39,7 +39,7 @@ pub(crate) fn may_step<D: Deps>(tasks: &[Held], tree: &Tree, deps: &mut D, task:
 }
 
 /// The same of a task with this body.
-fn may_go_on<D: Deps>(body: &Body, tree: &Tree, deps: &mut D, task: TaskNo) -> bool
+pub(crate) fn may_go_on<D: Deps>(body: &Body, tree: &Tree, deps: &mut D, task: TaskNo) -> bool
     requires there { task.0 < length tree.now.tasks }
     requires known { IsKnown (D.seen deps.old).opens task.0 }
     ensures may { IsTrue result ↔ MayGoOn body.now tree.now.tasks (D.seen deps.old) task.0 }
@@ -65,7 +65,7 @@ fn is_fault(act: &Act) -> bool
 }
 
 /// Whether a task with this body has ended, and its clause `wait` is met.
-fn is_through(tree: &Tree, task: TaskNo, body: &Body) -> bool
+pub(crate) fn is_through(tree: &Tree, task: TaskNo, body: &Body) -> bool
     requires { task.0 < length tree.now.tasks }
     ensures { IsTrue result ↔ IsThrough tree.now.tasks task.0 body.now }
 {
@@ -95,7 +95,7 @@ fn may_give(held: &Held, tree: &Tree, task: TaskNo, cell: u32) -> bool
 }
 
 /// Whether a cell that is owed so is given up by a let.
-fn is_let(owed: Option<Owed>) -> bool
+pub(crate) fn is_let(owed: Option<Owed>) -> bool
     ensures { IsTrue result ↔ (owed ≡ Some ways.Let) }
 {
     match owed {
@@ -136,7 +136,13 @@ pub(crate) fn may_join<D: Deps>(
 }
 
 /// The same of a task that is kept so.
-fn may_fold<D: Deps>(held: &Held, tree: &Tree, deps: &mut D, task: TaskNo, cell: u32) -> bool
+pub(crate) fn may_fold<D: Deps>(
+    held: &Held,
+    tree: &Tree,
+    deps: &mut D,
+    task: TaskNo,
+    cell: u32,
+) -> bool
     requires there { task.0 < length tree.now.tasks }
     requires folding { (op : Operator) → value_at held.now.owed.pieces cell ≡ Some (ways.Join op) → IsFoldOf (D.seen deps.old).opens task.0 cell op }
     ensures may { IsTrue result ↔ ((op : Operator) × MayFold held.now tree.now.tasks (D.seen deps.old) task.0 cell op) }

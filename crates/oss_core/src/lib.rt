@@ -1,6 +1,7 @@
 //! The task machine: bodies, their tree, a dependency system and memory, moved by exactly the moves of the definitions.
 #![tactic(auto)]
 
+mod answering;
 mod creating;
 mod enabling;
 mod fault;
@@ -9,6 +10,7 @@ mod happening;
 mod held;
 mod machine;
 mod stepping;
+mod stopping;
 mod waiting;
 
 pub use fault::ApplyFault;
