@@ -1,6 +1,7 @@
 #!/bin/sh
-# Proves, builds and runs a bench program in a folder of its own, and prints its lines of times.
-# usage: program.sh NAME CRATES LIBRARIES: the program is bench/NAME.program; it stands on LIBRARIES, and all that these stand on are CRATES.
+# Builds and runs a bench program in a folder of its own, and prints its lines of times.
+# usage: program.sh NAME CRATES LIBRARIES [COMMAND]: the program is bench/NAME.program; it stands on LIBRARIES, and all that these stand on are CRATES.
+# COMMAND is run, which proves all before, or try, which proves nothing and builds with tests of what is proved elsewhere, so that it is slower.
 top=$(CDPATH='' cd -- "$(dirname -- "$0")/.." && pwd) || exit 1
 work=$(mktemp -d) || exit 1
 trap 'rm -rf "$work"' EXIT
@@ -16,7 +17,7 @@ cp "$top/HANDLES" "$work/HANDLES"
 printf '%s\n' "bench_$1: $3" >>"$work/crates.txt"
 cp "$top/bench/$1.program" "$work/crates/bench_$1/src/main.rt"
 cd "$work/crates/bench_$1" || exit 1
-rt run >"$work/log" 2>&1
+rt "${4:-run}" >"$work/log" 2>&1
 status=$?
 grep -E ' ms$' "$work/log" || cat "$work/log"
 exit $status

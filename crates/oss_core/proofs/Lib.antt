@@ -30,3 +30,5 @@ pub mod AnswerLemmas
 pub mod UnfinishedLemmas
 pub mod BeginLemmas
 pub mod MakingLemmas
+pub mod LeastLemmas
+pub mod StillLemmas

@@ -85,7 +85,11 @@ fn comes_before(key: &Point, body: &Body) -> bool
     ensures { (kind : Kind) (line : ℕ) (other : Items ℕ) → IsFaultOf body.now kind line other → (IsTrue result ↔ IsBefore key.now other) }
 {
     match fault_seen(body) {
-        Some(seen) => key.cmp(seen.key) == Ordering::Less,
+        Some(seen) => match key.cmp(seen.key) {
+            Ordering::Less => true,
+            Ordering::Equal => false,
+            Ordering::Greater => false,
+        },
         None => false,
     }
 }
@@ -135,6 +139,7 @@ fn with_task(tree: &Tree, task: TaskNo, unfinished: u64) -> u64
     ensures few { result ≤ task.0 + 1 }
     ensures told { AreUnfinishedTo tree.now.tasks (task.0 + 1) result }
 {
+    let _count = tree.count();
     if tree.complete(task) {
         unfinished
     } else {

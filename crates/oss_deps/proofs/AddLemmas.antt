@@ -1,22 +1,21 @@
 -- The accesses of a new task, added one stretch after the other.
-use Rattle.std.proofs.Common.{◌≡◌, ℕ, ◌+◌, ◌-◌, ◌<◌, ◌≤◌, zero, suc, refl, sym, ap, subst, ◌∙◌, List, [], ◌∷◌, ◌++◌, ◌⊎◌, inl, inr, Bool, true, false, Option, Some, None, arith, length, get_or, set, take}
+use Rattle.std.proofs.Common.{◌≡◌, ℕ, ◌+◌, ◌<◌, ◌≤◌, zero, suc, refl, sym, ap, subst, ◌∙◌, List, [], ◌∷◌, ◌++◌, ◌⊎◌, inl, inr, true, false, Some, None, arith, length, get_or, set, take}
 use Rattle.std.proofs.lemmas.List.{length-set, take_more}
 use Rattle.std.proofs.lemmas.Option.{slice_get_within}
 use Rattle.std.specs.Prelude.{slice_get, if◌then◌else◌}
 use Rattle.oss_syntax.specs.declared.access.Access.{Access}
 use Rattle.oss_syntax.specs.declared.access.Mode.{Mode}
-use Rattle.oss_model.specs.Order.{IsIn, here, there}
 use Rattle.oss_model.specs.Rights.{in_access}
 use Rattle.oss_ranges.specs.declared.piece.Piece.{Piece}
 use Rattle.oss_ranges.specs.Cells.{value_at}
 use Rattle.oss_deps.specs.declared.column.Column.{Column}
-use Rattle.oss_deps.specs.Opens.{access_at, IsOnce, IsRising}
+use Rattle.oss_deps.specs.Opens.{access_at, IsRising}
 use Rattle.oss_deps.specs.Kept.{is_asked}
-use Rattle.oss_deps.specs.Columns.{AreStretches, HasRoom, IsDivided, IsPlaceOf}
+use Rattle.oss_deps.specs.Columns.{AreStretches, IsDivided}
 use Rattle.oss_deps.specs.Adding.{IsGrown, IsAddable, AreGrownTo, AreAddable, IsGrownBy, got, kept, AreAllGrown}
-use Rattle.oss_deps.proofs.Basics.{bools, some_is, some_none, same_at, options, compared, value_within}
+use Rattle.oss_deps.proofs.Basics.{bools, some_none, same_at, compared, value_within}
 use Rattle.oss_deps.proofs.CloseLemmas.{same_number, get_set_same, get_set_other}
-use Rattle.oss_deps.proofs.OpenLemmas.{access_found, in_bounds, bounds_in}
+use Rattle.oss_deps.proofs.OpenLemmas.{in_bounds, bounds_in}
 use Rattle.oss_deps.proofs.GiveLemmas.{one_stretch, end_divides, same_asked}
 
 -- The stretches have the same edges.

@@ -1,6 +1,6 @@
 -- What is asked of a range, one stretch after the other.
 use Rattle.std.proofs.Common.{◌≡◌, ℕ, ◌+◌, ◌-◌, ◌<◌, ◌≤◌, zero, suc, refl, sym, ap, subst, ◌∙◌, List, [], ◌∷◌, ◌⊎◌, inl, inr, Bool, true, false, Option, Some, None, arith, length, get_or, drop, ◌↔◌, IsTrue}
-use Rattle.std.proofs.lemmas.Option.{slice_get_within, slice_get-get_or, slice_get_read, get_or_from_slice_get}
+use Rattle.std.proofs.lemmas.Option.{slice_get_within, slice_get_read, get_or_from_slice_get}
 use Rattle.std.proofs.lemmas.List.{drop_more, drop_all}
 use Rattle.std.specs.Prelude.{slice_get}
 use Rattle.oss_syntax.specs.declared.access.Access.{Access}
@@ -8,20 +8,20 @@ use Rattle.oss_syntax.specs.declared.access.Mode.{Mode}
 use Rattle.oss_syntax.specs.declared.access.Mode.TheVariants.{Read, Write, Fold}
 use Rattle.oss_syntax.specs.declared.access.Op.{Op}
 use Rattle.oss_model.specs.Order.{IsIn, here, there}
-use Rattle.oss_model.specs.Forest.{IsReadSatisfied, IsWriteSatisfied, IsJoinSatisfied}
+use Rattle.oss_model.specs.Forest.{IsJoinSatisfied}
 use Rattle.oss_ranges.specs.Cells.{value_at}
 use Rattle.oss_deps.specs.declared.opened.Open.{Open}
 use Rattle.oss_deps.specs.declared.column.Column.{Column}
 use Rattle.oss_deps.specs.declared.want.Want.{Want}
 use Rattle.oss_deps.specs.declared.want.Want.TheVariants.{ToWrite, ToRead, ToJoin}
-use Rattle.oss_deps.specs.Opens.{access_at, names, mode_at, mode_in, is_some_access, Asks, AreChildrenDone, HasOpened, IsFolding, IsMet, IsOnce, HasCover, opened_forest}
+use Rattle.oss_deps.specs.Opens.{access_at, names, mode_at, mode_in, is_some_access, Asks, AreChildrenDone, HasOpened, IsFolding, IsMet, HasCover, opened_forest}
 use Rattle.oss_deps.specs.Kept.{Kept, given_at}
 use Rattle.oss_deps.specs.Places.{first_at, mode_at_place, place_forest, AreLinked, AreMarked, AreModesCovered}
 use Rattle.oss_deps.specs.Wants.{IsSatisfied}
 use Rattle.oss_deps.specs.Columns.{IsNumber, IsNumberOf, IsPlaceOf, IsShown, IsColumn, AreRight, IsNamedOver}
 use Rattle.oss_deps.specs.Met.{AreClear, IsAccessMet, AreAccessesMet, IsStanding}
-use Rattle.oss_deps.proofs.Basics.{clash, some_is, some_none, same_at, options, compared}
-use Rattle.oss_deps.proofs.OpenLemmas.{get_in, in_get, one_entry, mode_is, not_main, access_found, in_bounds, bounds_in, named_at}
+use Rattle.oss_deps.proofs.Basics.{clash, some_none, same_at, compared}
+use Rattle.oss_deps.proofs.OpenLemmas.{get_in, one_entry, mode_is, not_main, access_found, in_bounds, bounds_in, named_at}
 use Rattle.oss_deps.proofs.LookupLemmas.{look_at}
 use Rattle.oss_deps.proofs.StretchLemmas.{one_number, exact, shown_here, mode_here, children_exact, covered_here, first_cell, right_at}
 

@@ -1,5 +1,5 @@
 -- Small facts on tests, options and lists.
-use Rattle.std.proofs.Common.{◌≡◌, ℕ, ◌<◌, ◌≤◌, zero, suc, refl, sym, ap, subst, ◌∙◌, List, [], ◌∷◌, ◌++◌, ◌⊎◌, inl, inr, Bool, true, false, Option, Some, None, arith, length}
+use Rattle.std.proofs.Common.{◌≡◌, ℕ, ◌<◌, zero, suc, refl, sym, ap, ◌∙◌, List, [], ◌∷◌, ◌⊎◌, inl, inr, Bool, true, false, Option, Some, None, arith, length}
 use Rattle.std.specs.Prelude.{◌&&◌, ◌||◌, not, slice_get}
 
 pub bools : (b : Bool) → (b ≡ true) ⊎ (b ≡ false)

@@ -1,14 +1,13 @@
 -- An access that comes to be done, and what is noted of that above it.
-use Rattle.std.proofs.Common.{◌≡◌, ℕ, ◌+◌, ◌-◌, ◌<◌, ◌≤◌, ◌≢◌, zero, suc, refl, sym, ap, subst, ◌∙◌, List, [], ◌∷◌, ◌⊎◌, inl, inr, Bool, true, false, Option, Some, None, arith, length, get_or, set, eq-eqb, eqb-true}
-use Rattle.std.proofs.lemmas.Bool.{eqb-false}
-use Rattle.std.proofs.lemmas.List.{length-set, get_or-set_same, get_or-set_other}
-use Rattle.std.proofs.lemmas.Option.{slice_get_within, slice_get-get_or, slice_get_past}
+use Rattle.std.proofs.Common.{◌≡◌, ℕ, ◌-◌, ◌<◌, ◌≤◌, zero, suc, refl, sym, ap, subst, ◌∙◌, List, [], ◌∷◌, ◌⊎◌, inl, inr, Bool, true, false, Option, Some, None, arith, length, get_or, set}
+use Rattle.std.proofs.lemmas.List.{length-set, get_or-set_same}
+use Rattle.std.proofs.lemmas.Option.{slice_get_within, slice_get-get_or}
 use Rattle.std.specs.Prelude.{◌&&◌, ◌||◌, ◌==◌, not, is_some, slice_get}
 use Rattle.oss_deps.specs.declared.frame.Frame.{Frame}
 use Rattle.oss_deps.specs.declared.frame.Mark.{Mark}
 use Rattle.oss_deps.specs.Kept.{given_by}
-use Rattle.oss_deps.specs.Places.{is_closed, closed_at, closed_mark, given_mark, IsBelow, IsNext, IsFirst, IsNextOpen, IsPassed, AreLinked, AreMarked, IsWithin}
-use Rattle.oss_deps.proofs.Basics.{bools, both, clash, some_is, some_none, same_at, options, value_within, compared}
+use Rattle.oss_deps.specs.Places.{is_closed, closed_at, closed_mark, IsBelow, IsNext, IsFirst, IsNextOpen, AreLinked, AreMarked, IsWithin}
+use Rattle.oss_deps.proofs.Basics.{both, clash, some_is, some_none, same_at, compared}
 use Rattle.oss_deps.specs.Places.{blank, unmarked}
 use Rattle.oss_deps.proofs.DoneLemmas.{closed_is, closed_of, below_within}
 use Rattle.oss_deps.proofs.LevelLemmas.{one_creator}

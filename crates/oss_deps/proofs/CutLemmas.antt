@@ -1,5 +1,5 @@
 -- Begins of stretches become cuts.
-use Rattle.std.proofs.Common.{◌≡◌, ℕ, ◌+◌, ◌-◌, ◌<◌, ◌≤◌, zero, suc, refl, sym, ap, subst, ◌∙◌, List, [], ◌∷◌, ◌++◌, ◌⊎◌, inl, inr, Bool, true, false, Option, Some, None, arith, length, get_or, set, drop}
+use Rattle.std.proofs.Common.{◌≡◌, ℕ, ◌+◌, ◌<◌, ◌≤◌, zero, suc, refl, sym, ap, subst, ◌∙◌, List, [], ◌∷◌, ◌⊎◌, inl, inr, Bool, true, false, Option, Some, None, arith, length, get_or, set, drop}
 use Rattle.std.proofs.lemmas.List.{length-set, drop_more, drop_all}
 use Rattle.std.proofs.lemmas.Option.{slice_get_within}
 use Rattle.std.specs.Prelude.{◌&&◌, ◌||◌, ◌==◌, slice_get, option_and_then}
@@ -12,9 +12,8 @@ use Rattle.oss_deps.specs.declared.column.Column.{Column}
 use Rattle.oss_deps.specs.Seen.{is_access_end, is_end}
 use Rattle.oss_deps.specs.Kept.{given_in, given_at, is_asked, is_cut}
 use Rattle.oss_deps.specs.Columns.{IsColumn, AreStretches, AreColumns, IsDivided, AreSameButAsked}
-use Rattle.oss_deps.proofs.Basics.{some_is, some_none, same_at, options, compared, value_within}
+use Rattle.oss_deps.proofs.Basics.{some_is, some_none, same_at, options, value_within}
 use Rattle.oss_deps.proofs.CloseLemmas.{same_number, get_set_same, get_set_other}
-use Rattle.oss_deps.proofs.DivideLemmas.{inside_within}
 
 pub asked_begins : (columns : List Column) → AreSameButAsked columns columns
 asked_begins columns = record { size = refl; each = λ i a e. (a, e, refl) }

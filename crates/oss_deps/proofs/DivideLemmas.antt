@@ -1,9 +1,9 @@
 -- Stretches that are divided stand for the same as before.
-use Rattle.std.proofs.Common.{◌≡◌, ℕ, ◌+◌, ◌-◌, ◌<◌, ◌≤◌, zero, suc, refl, sym, ap, subst, ◌∙◌, List, [], ◌∷◌, ◌++◌, ◌⊎◌, inl, inr, Bool, true, false, Option, Some, None, Result, Ok, Err, OnOk, OnErr, arith, length, get_or, set, eqb-true}
+use Rattle.std.proofs.Common.{◌≡◌, ℕ, ◌+◌, ◌<◌, ◌≤◌, zero, suc, refl, sym, ap, subst, ◌∙◌, List, [], ◌∷◌, ◌++◌, ◌⊎◌, inl, inr, Bool, true, false, Option, Some, None, Result, Ok, Err, OnOk, OnErr, arith, length, set, eqb-true}
 use Rattle.std.proofs.lemmas.Bool.Decides.{nat_tests}
 use Rattle.std.proofs.lemmas.List.{length-set, length_push}
-use Rattle.std.proofs.lemmas.Option.{slice_get_within, slice_get-get_or}
-use Rattle.std.specs.Prelude.{◌&&◌, ◌||◌, ◌==◌, nat_le, nat_lt, if◌then◌else◌, slice_get, option_and_then}
+use Rattle.std.proofs.lemmas.Option.{slice_get_within}
+use Rattle.std.specs.Prelude.{◌&&◌, ◌||◌, ◌==◌, nat_le, nat_lt, slice_get, option_and_then}
 use Rattle.oss_syntax.specs.declared.access.Access.{Access}
 use Rattle.oss_ranges.specs.declared.piece.Piece.{Piece}
 use Rattle.oss_ranges.specs.Cells.{Assigns, is_within, value_at}
@@ -11,10 +11,10 @@ use Rattle.oss_deps.specs.declared.opened.Open.{Open}
 use Rattle.oss_deps.specs.declared.frame.Frame.{Frame}
 use Rattle.oss_deps.specs.declared.frame.Mark.{Mark}
 use Rattle.oss_deps.specs.declared.column.Column.{Column}
-use Rattle.oss_deps.specs.Kept.{given_by, given_in, column_at, given_at, is_asked, is_cut}
+use Rattle.oss_deps.specs.Kept.{given_by, given_in, given_at, is_asked, is_cut}
 use Rattle.oss_deps.specs.Places.{IsFirst, IsLast, AreLinked, AreMarked, unmarked}
 use Rattle.oss_deps.specs.Columns.{AreShown, IsColumn, AreStretches, AreColumns, IsDivided, HasRoom, HaveRoom, IsReady, AreReady, IsFiner, IsDividedAt, root}
-use Rattle.oss_deps.proofs.Basics.{bools, both, both_of, or_cases, clash, some_is, some_none, same_at, options, value_within, compared}
+use Rattle.oss_deps.proofs.Basics.{bools, both, both_of, or_cases, some_is, some_none, same_at, options, compared}
 use Rattle.oss_deps.proofs.CloseLemmas.{same_number, get_set_same, get_set_other}
 use Rattle.oss_deps.proofs.GiveLemmas.{one_stretch}
 

@@ -1,12 +1,12 @@
 -- The marks of a list tell which accesses are done.
-use Rattle.std.proofs.Common.{◌≡◌, ℕ, ◌+◌, ◌<◌, ◌≤◌, zero, suc, refl, sym, ap, subst, ◌∙◌, List, [], ◌∷◌, ◌⊎◌, inl, inr, Bool, true, false, Option, Some, None, arith, length, ◌↔◌}
+use Rattle.std.proofs.Common.{◌≡◌, ℕ, ◌+◌, ◌<◌, ◌≤◌, zero, suc, refl, sym, ap, subst, ◌∙◌, List, ◌⊎◌, inl, inr, true, false, Option, Some, None, arith, length}
 use Rattle.std.proofs.lemmas.Option.{slice_get_within}
-use Rattle.std.specs.Prelude.{◌&&◌, not, is_some, slice_get}
+use Rattle.std.specs.Prelude.{not, is_some, slice_get}
 use Rattle.oss_model.specs.Forest.{IsDone, done}
 use Rattle.oss_deps.specs.declared.frame.Frame.{Frame}
 use Rattle.oss_deps.specs.declared.frame.Mark.{Mark}
-use Rattle.oss_deps.specs.Places.{is_closed, closed_at, closed_mark, given_mark, first_at, first_mark, IsBelow, IsFirst, place_forest, AreLinked, AreMarked, IsWithin}
-use Rattle.oss_deps.proofs.Basics.{bools, both, both_of, clash, same_at, options, value_within, some_none}
+use Rattle.oss_deps.specs.Places.{is_closed, closed_at, closed_mark, given_mark, IsBelow, IsFirst, place_forest, AreLinked, AreMarked, IsWithin}
+use Rattle.oss_deps.proofs.Basics.{both, both_of, options, value_within, some_none}
 
 -- what a closed mark is
 pub closed_is : (marks : List Mark) (k : ℕ) → closed_at marks k ≡ true → (m : Mark) × (slice_get marks k ≡ Some m) × (m.given ≡ true) × (m.first ≡ None)

@@ -1,21 +1,19 @@
 -- The cells of a range are given up, one stretch after the other.
-use Rattle.std.proofs.Common.{◌≡◌, ℕ, ◌+◌, ◌-◌, ◌<◌, ◌≤◌, zero, suc, refl, sym, ap, subst, ◌∙◌, List, [], ◌∷◌, ◌⊎◌, inl, inr, Bool, true, false, Option, Some, None, arith, length, get_or, set, eq-eqb, eqb-true}
+use Rattle.std.proofs.Common.{◌≡◌, ℕ, ◌-◌, ◌<◌, ◌≤◌, suc, refl, sym, ap, subst, ◌∙◌, List, [], ◌∷◌, ◌⊎◌, inl, inr, Bool, true, false, Option, Some, None, arith, length, set}
 use Rattle.std.proofs.lemmas.Bool.Decides.{nat_tests}
 use Rattle.std.proofs.lemmas.List.{length-set}
-use Rattle.std.proofs.lemmas.Option.{slice_get_within, slice_get-get_or}
+use Rattle.std.proofs.lemmas.Option.{slice_get_within}
 use Rattle.std.specs.Prelude.{◌&&◌, ◌||◌, ◌==◌, nat_le, nat_lt, slice_get, option_and_then}
 use Rattle.oss_syntax.specs.declared.access.Access.{Access}
-use Rattle.oss_model.specs.Order.{IsIn, here, there}
 use Rattle.oss_ranges.specs.declared.piece.Piece.{Piece}
 use Rattle.oss_ranges.specs.Cells.{value_at}
 use Rattle.oss_deps.specs.declared.opened.Open.{Open}
 use Rattle.oss_deps.specs.declared.frame.Frame.{Frame}
-use Rattle.oss_deps.specs.declared.frame.Mark.{Mark}
 use Rattle.oss_deps.specs.declared.column.Column.{Column}
 use Rattle.oss_deps.specs.Opens.{names, AreOpens, HasOpened, IsKnown}
-use Rattle.oss_deps.specs.Kept.{given_by, given_in, column_at, given_at, is_asked}
+use Rattle.oss_deps.specs.Kept.{given_by, given_in, given_at, is_asked}
 use Rattle.oss_deps.specs.Places.{AreLinked, AreMarked}
-use Rattle.oss_deps.specs.Columns.{IsNumber, IsNumberOf, IsPlaceOf, IsShown, AreShown, IsColumn, AreStretches, AreColumns, IsDivided, HasRoom, HaveRoom, IsReady, AreReady}
+use Rattle.oss_deps.specs.Columns.{IsNumber, IsNumberOf, IsShown, AreShown, IsColumn, AreStretches, AreColumns, IsDivided, HasRoom, AreReady}
 use Rattle.oss_deps.proofs.Basics.{bools, both, both_of, clash, some_is, some_none, same_at, options, compared}
 use Rattle.oss_deps.proofs.OpenLemmas.{in_get, get_in, one_entry}
 use Rattle.oss_deps.proofs.CloseLemmas.{get_set_same, get_set_other, same_number}

@@ -1,19 +1,15 @@
 -- One more access in a list.
-use Rattle.std.proofs.Common.{◌≡◌, ℕ, ◌+◌, ◌-◌, ◌<◌, ◌≤◌, zero, suc, refl, sym, ap, subst, ◌∙◌, List, [], ◌∷◌, ◌++◌, ◌⊎◌, inl, inr, Bool, true, false, Option, Some, None, arith, length, get_or, set}
+use Rattle.std.proofs.Common.{◌≡◌, ℕ, ◌+◌, ◌<◌, ◌≤◌, zero, suc, refl, sym, ap, subst, ◌∙◌, List, [], ◌∷◌, ◌++◌, ◌⊎◌, inl, inr, Bool, true, false, Option, Some, None, arith, length, get_or, set}
 use Rattle.std.proofs.lemmas.List.{length-set, length_push}
 use Rattle.std.proofs.lemmas.Option.{slice_get_within, slice_get-get_or}
 use Rattle.std.specs.Prelude.{slice_get}
-use Rattle.oss_syntax.specs.declared.access.Mode.{Mode}
-use Rattle.oss_deps.specs.declared.opened.Open.{Open}
 use Rattle.oss_deps.specs.declared.frame.Frame.{Frame}
 use Rattle.oss_deps.specs.declared.frame.Mark.{Mark}
-use Rattle.oss_deps.specs.Opens.{names, mode_at}
 use Rattle.oss_deps.specs.Kept.{given_by}
-use Rattle.oss_deps.specs.Places.{is_closed, closed_at, closed_mark, given_mark, IsBelow, IsLast, IsNext, IsFirst, AreLinked, AreMarked, IsWithin, IsOldFrame, IsOldMark, AreGrown, AreMarksGrown, with_next, first_or, blank, unmarked}
-use Rattle.oss_deps.specs.Columns.{IsNumber, IsTaskAt, IsFrameOf, IsShown, AreShown}
-use Rattle.oss_deps.proofs.Basics.{bools, both, clash, some_is, some_none, same_at, options, value_within, compared}
+use Rattle.oss_deps.specs.Places.{closed_at, given_mark, IsBelow, IsLast, IsNext, IsFirst, AreLinked, AreMarked, IsOldFrame, IsOldMark, AreGrown, AreMarksGrown, with_next, first_or, blank, unmarked}
+use Rattle.oss_deps.specs.Columns.{IsTaskAt}
+use Rattle.oss_deps.proofs.Basics.{clash, some_is, some_none, same_at, options, value_within, compared}
 use Rattle.oss_deps.proofs.DoneLemmas.{closed_is, closed_of, below_within}
-use Rattle.oss_deps.proofs.LevelLemmas.{one_creator, zero_or}
 use Rattle.oss_deps.proofs.MatchLemmas.{IsGivenAt, given_found, given_told}
 use Rattle.oss_deps.proofs.CloseLemmas.{same_number, get_set_same, get_set_other}
 

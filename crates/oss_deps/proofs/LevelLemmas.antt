@@ -1,6 +1,6 @@
 -- Whether an access is satisfied is told level by level; on each, by the accesses from the first that is not done on.
-use Rattle.std.proofs.Common.{◌≡◌, ℕ, ◌+◌, ◌<◌, ◌≤◌, zero, suc, refl, sym, ap, subst, ◌∙◌, List, [], ◌∷◌, ◌⊎◌, inl, inr, Bool, true, false, Option, Some, None, arith, length, ◌↔◌}
-use Rattle.std.specs.Prelude.{◌&&◌, ◌||◌, if◌then◌else◌, slice_get}
+use Rattle.std.proofs.Common.{◌≡◌, ℕ, ◌<◌, ◌≤◌, zero, suc, refl, sym, ap, subst, ◌∙◌, List, ◌⊎◌, inl, inr, true, false, Option, Some, None, arith}
+use Rattle.std.specs.Prelude.{◌||◌, slice_get}
 use Rattle.oss_syntax.specs.declared.access.Mode.{Mode}
 use Rattle.oss_syntax.specs.declared.access.Mode.TheVariants.{Read, Write, Fold}
 use Rattle.oss_syntax.specs.declared.access.Op.{Op}
@@ -12,8 +12,8 @@ use Rattle.oss_deps.specs.declared.frame.Mark.{Mark}
 use Rattle.oss_deps.specs.declared.want.Want.{Want}
 use Rattle.oss_deps.specs.declared.want.Want.TheVariants.{ToWrite, ToRead, ToJoin}
 use Rattle.oss_deps.specs.Places.{closed_at, first_at, first_mark, mode_at_place, mode_of_frame, IsBelow, IsSibling, IsFirst, place_forest, AreLinked, AreMarked, AreModesCovered, IsWithin}
-use Rattle.oss_deps.specs.Wants.{is_fold_of, is_read, may_pass, want_above, IsSatisfied, Fits, IsAhead, IsLevelClear}
-use Rattle.oss_deps.proofs.Basics.{bools, both, or_cases, or_left, or_right, clash, some_is, same_at, options, value_within, compared}
+use Rattle.oss_deps.specs.Wants.{is_fold_of, is_read, want_above, IsSatisfied, Fits, IsAhead, IsLevelClear}
+use Rattle.oss_deps.proofs.Basics.{bools, or_cases, or_left, or_right, same_at, options, value_within, compared}
 use Rattle.oss_deps.proofs.DoneLemmas.{closed_done, done_closed, below_within, below_behind}
 
 op_same : (a b : Op) → op_eq a b ≡ true → a ≡ b

@@ -17,3 +17,4 @@ pub mod CutLemmas
 pub mod NewLemmas
 pub mod SameLemmas
 pub mod PlainLemmas
+pub mod ToldLemmas

@@ -1,13 +1,12 @@
 -- The number of a task, and the place of a number.
-use Rattle.std.proofs.Common.{◌≡◌, ℕ, ◌+◌, ◌-◌, ◌<◌, ◌≤◌, zero, suc, refl, sym, ap, subst, ◌∙◌, List, [], ◌∷◌, ◌⊎◌, inl, inr, Bool, true, false, Option, Some, None, arith, length, get_or, drop}
+use Rattle.std.proofs.Common.{◌≡◌, ℕ, ◌+◌, ◌<◌, ◌≤◌, zero, suc, refl, sym, ap, subst, ◌∙◌, List, [], ◌∷◌, ◌⊎◌, inl, inr, Some, None, arith, length, get_or}
 use Rattle.std.proofs.lemmas.Option.{slice_get_within, slice_get-get_or}
 use Rattle.std.specs.Prelude.{slice_get}
-use Rattle.oss_model.specs.Order.{IsIn, here, there}
 use Rattle.oss_deps.specs.declared.opened.Open.{Open}
 use Rattle.oss_deps.specs.declared.frame.Frame.{Frame}
-use Rattle.oss_deps.specs.Opens.{IsKnown, IsOpened}
+use Rattle.oss_deps.specs.Opens.{IsKnown}
 use Rattle.oss_deps.specs.Places.{AreLinked}
-use Rattle.oss_deps.specs.Columns.{IsNumber, IsNumberOf, IsPlaceOf}
+use Rattle.oss_deps.specs.Columns.{IsNumberOf, IsPlaceOf}
 use Rattle.oss_deps.proofs.Basics.{some_is, same_at, compared}
 use Rattle.oss_deps.specs.Places.{blank}
 use Rattle.oss_deps.proofs.OpenLemmas.{in_get}

@@ -1,11 +1,10 @@
 -- The accesses of a stretch by their places, and those of the list of opens to a cell of it, match.
-use Rattle.std.proofs.Common.{◌≡◌, ℕ, ◌<◌, ◌≤◌, ◌+◌, zero, suc, refl, sym, ap, subst, ◌∙◌, List, [], ◌∷◌, ◌⊎◌, inl, inr, Bool, true, false, Option, Some, None, arith, length, ◌↔◌, eq-eqb, eqb-true}
+use Rattle.std.proofs.Common.{◌≡◌, ℕ, ◌<◌, ◌+◌, zero, suc, refl, sym, ap, subst, ◌∙◌, List, [], ◌∷◌, ◌⊎◌, inl, inr, Bool, true, false, Option, Some, None, arith, length, ◌↔◌, eq-eqb, eqb-true}
 use Rattle.std.proofs.lemmas.Option.{slice_get_within}
-use Rattle.std.specs.Prelude.{◌==◌, ◌&&◌, ◌||◌, slice_get}
+use Rattle.std.specs.Prelude.{◌==◌, ◌&&◌, slice_get}
 use Rattle.oss_syntax.specs.declared.access.Mode.{Mode}
-use Rattle.oss_model.specs.Order.{IsIn, here, there}
+use Rattle.oss_model.specs.Order.{IsIn}
 use Rattle.oss_model.specs.Rights.{covers}
-use Rattle.oss_model.specs.Forest.{Forest}
 use Rattle.oss_model.specs.Matching.{IsNear, above, below, before, Matches, HaveSameFlags}
 use Rattle.oss_model.proofs.MatchingLemmas.{same_flags}
 use Rattle.oss_deps.specs.declared.opened.Open.{Open}
@@ -13,13 +12,13 @@ use Rattle.oss_deps.specs.declared.frame.Frame.{Frame}
 use Rattle.oss_deps.specs.declared.frame.Mark.{Mark}
 use Rattle.oss_deps.specs.declared.want.Want.{Want}
 use Rattle.oss_deps.specs.declared.want.Want.TheVariants.{ToWrite, ToRead, ToJoin}
-use Rattle.oss_deps.specs.Opens.{names, mode_at, mode_in, Precedes, HasOpened, HasCover, IsTop, IsChild, IsEarlier, opened_forest, AreOpens}
+use Rattle.oss_deps.specs.Opens.{mode_at, mode_in, Precedes, HasOpened, HasCover, IsTop, IsChild, IsEarlier, opened_forest, AreOpens}
 use Rattle.oss_deps.specs.Kept.{given_by}
-use Rattle.oss_deps.specs.Places.{given_mark, mode_at_place, mode_of_frame, IsBelow, IsSibling, place_forest, AreLinked, AreMarked, AreModesCovered, IsWithin}
+use Rattle.oss_deps.specs.Places.{given_mark, mode_at_place, mode_of_frame, IsBelow, IsSibling, place_forest, AreLinked, AreMarked, AreModesCovered}
 use Rattle.oss_deps.specs.Wants.{IsSatisfied}
-use Rattle.oss_deps.specs.Columns.{IsNumber, IsTaskAt, IsFrameOf, IsShown, AreShown}
-use Rattle.oss_deps.proofs.Basics.{bools, both, both_of, or_cases, or_left, or_right, some_is, same_at, options, value_within, compared}
-use Rattle.oss_deps.proofs.OpenLemmas.{precedes_in, precedes_in_last, one_entry, apart, asym, not_main, get_in, in_get, in_order, one_place, mode_is}
+use Rattle.oss_deps.specs.Columns.{IsTaskAt, IsFrameOf, AreShown}
+use Rattle.oss_deps.proofs.Basics.{both, both_of, or_cases, or_left, or_right, some_is, same_at, value_within, compared}
+use Rattle.oss_deps.proofs.OpenLemmas.{precedes_in, precedes_in_last, one_entry, apart, asym, not_main, get_in, in_get, in_order, mode_is}
 use Rattle.oss_deps.proofs.LevelLemmas.{zero_or}
 
 -- An access of a task in the list that is given up.

@@ -1,9 +1,8 @@
 -- After a task's accesses are added, the lists stand for one open more.
-use Rattle.std.proofs.Common.{◌≡◌, ℕ, ◌+◌, ◌-◌, ◌<◌, ◌≤◌, zero, suc, refl, sym, ap, subst, ◌∙◌, List, [], ◌∷◌, ◌++◌, ◌⊎◌, inl, inr, Bool, true, false, Option, Some, None, arith, length, get_or}
+use Rattle.std.proofs.Common.{◌≡◌, ℕ, ◌+◌, ◌<◌, ◌≤◌, zero, suc, refl, sym, ap, subst, ◌∙◌, List, [], ◌∷◌, ◌++◌, ◌⊎◌, inl, inr, true, false, Option, Some, None, arith, length, get_or}
 use Rattle.std.proofs.lemmas.Option.{slice_get_within, slice_get-get_or}
 use Rattle.std.specs.Prelude.{slice_get, option_and_then}
 use Rattle.oss_syntax.specs.declared.access.Access.{Access}
-use Rattle.oss_syntax.specs.declared.access.Mode.{Mode}
 use Rattle.oss_model.specs.Order.{IsIn, here, there}
 use Rattle.oss_model.specs.Rights.{in_access}
 use Rattle.oss_ranges.specs.declared.piece.Piece.{Piece}
@@ -12,18 +11,18 @@ use Rattle.oss_deps.specs.declared.opened.Open.{Open}
 use Rattle.oss_deps.specs.declared.frame.Frame.{Frame}
 use Rattle.oss_deps.specs.declared.frame.Mark.{Mark}
 use Rattle.oss_deps.specs.declared.column.Column.{Column}
-use Rattle.oss_deps.specs.Opens.{access_at, is_some_access, mode_of_access, names, mode_at, HasOpened, HasCover, IsKnown, IsOnce, IsOpened, IsRising, AreOrdered, none, one, AreOpens}
+use Rattle.oss_deps.specs.Opens.{access_at, is_some_access, mode_of_access, names, mode_at, HasOpened, HasCover, IsKnown, IsOnce, IsRising, AreOrdered, none, one, AreOpens}
 use Rattle.oss_deps.specs.Seen.{Seen, CanOpen, HasHeldCover}
 use Rattle.oss_deps.specs.Kept.{given_by, given_in, given_at}
-use Rattle.oss_deps.specs.Places.{given_mark, AreGrown, AreMarksGrown, AreLinked, AreMarked, IsOldFrame, blank}
-use Rattle.oss_deps.specs.Columns.{IsNumber, IsNumberOf, IsPlaceOf, IsTaskAt, IsFrameOf, IsShown, AreShown, IsColumn, AreStretches, AreColumns, IsDivided, HasRoom, HaveRoom, IsReady, AreReady}
-use Rattle.oss_deps.specs.Adding.{IsGrown, IsAddable, AreAddable, IsGrownBy, got, kept, AreAllGrown}
-use Rattle.oss_deps.proofs.Basics.{bools, both, clash, some_is, some_none, same_at, options, value_within, compared}
-use Rattle.oss_deps.proofs.OpenLemmas.{in_front, in_last, in_added, access_found, in_bounds, bounds_in, in_get, get_in, one_entry, not_main}
+use Rattle.oss_deps.specs.Places.{given_mark, AreGrown, AreLinked, blank}
+use Rattle.oss_deps.specs.Columns.{IsNumber, IsNumberOf, IsPlaceOf, IsTaskAt, IsFrameOf, IsShown, AreShown, IsColumn, AreColumns, IsReady}
+use Rattle.oss_deps.specs.Adding.{AreAddable, IsGrownBy, got, kept, AreAllGrown}
+use Rattle.oss_deps.proofs.Basics.{bools, clash, some_is, some_none, same_at, options, value_within, compared}
+use Rattle.oss_deps.proofs.OpenLemmas.{in_front, in_added, access_found, in_bounds, bounds_in, get_in, one_entry, not_main}
 use Rattle.oss_deps.proofs.LevelLemmas.{zero_or}
 use Rattle.oss_deps.proofs.MatchLemmas.{given_told}
 use Rattle.oss_deps.proofs.GrowLemmas.{grown_linked, grown_marked, grown_given, old_or_new, IsOld, task_kept}
-use Rattle.oss_deps.proofs.StretchLemmas.{agrees, one_number, node_of}
+use Rattle.oss_deps.proofs.StretchLemmas.{agrees, node_of}
 use Rattle.oss_deps.proofs.AddLemmas.{AreEdged, all_edged, edged_back, edged_stretches}
 
 only_one : {A : Type 0} {x y : A} → IsIn x (y ∷ []) → x ≡ y

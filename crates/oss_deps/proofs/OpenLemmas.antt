@@ -1,13 +1,12 @@
 -- The list of opens: its entries, their order and their places.
-use Rattle.std.proofs.Common.{◌≡◌, ℕ, ◌<◌, ◌≤◌, ◌+◌, zero, suc, refl, sym, ap, subst, ◌∙◌, List, [], ◌∷◌, ◌++◌, ◌⊎◌, inl, inr, Bool, true, false, Option, Some, None, arith, length, eq-eqb, eqb-true}
+use Rattle.std.proofs.Common.{◌≡◌, ℕ, ◌<◌, ◌≤◌, zero, suc, refl, sym, ap, subst, ◌∙◌, List, [], ◌∷◌, ◌++◌, ◌⊎◌, inl, inr, true, false, Some, arith, eq-eqb, eqb-true}
 use Rattle.std.proofs.lemmas.Bool.Decides.{nat_tests}
-use Rattle.std.specs.Prelude.{◌==◌, ◌&&◌, nat_le, nat_lt, if◌then◌else◌, slice_get}
+use Rattle.std.specs.Prelude.{◌==◌, nat_le, nat_lt, slice_get}
 use Rattle.oss_syntax.specs.declared.access.Access.{Access}
 use Rattle.oss_model.specs.Order.{IsIn, here, there}
 use Rattle.oss_model.specs.Rights.{in_access}
 use Rattle.oss_deps.specs.declared.opened.Open.{Open}
-use Rattle.oss_deps.specs.Opens.{access_at, is_some_access, names, mode_at, mode_in, Precedes, first, later, HasOpened, HasCover, IsKnown, IsOnce, IsOpened, IsRising, AreOrdered, none, one, AreOpens}
-use Rattle.oss_deps.specs.Seen.{Seen, CanOpen, HasHeldCover}
+use Rattle.oss_deps.specs.Opens.{access_at, is_some_access, names, mode_at, mode_in, Precedes, first, later, AreOrdered, none, one}
 use Rattle.oss_deps.proofs.Basics.{bools, both, some_is, compared}
 
 pub precedes_in : {A : Type 0} {x y : A} {xs : List A} → Precedes x y xs → IsIn x xs

@@ -5,11 +5,10 @@ use Rattle.oss_syntax.specs.declared.access.Access.{Access}
 use Rattle.oss_syntax.specs.declared.access.Range.{Range}
 use Rattle.oss_model.specs.Order.{IsIn}
 use Rattle.oss_ranges.specs.declared.piece.Piece.{Piece}
-use Rattle.oss_ranges.specs.Cells.{value_at}
 use Rattle.oss_deps.specs.declared.opened.Open.{Open}
 use Rattle.oss_deps.specs.declared.column.Column.{Column}
 use Rattle.oss_deps.specs.Opens.{AreOpens, HasCover, IsKnown, IsNested, IsOpened, names}
-use Rattle.oss_deps.specs.Seen.{Seen, CanOpen, HasHeldCover, IsSame, Opens, Prepares, Reserves, is_access_end, is_end}
+use Rattle.oss_deps.specs.Seen.{Seen, CanOpen, HasHeldCover, Opens, Prepares, Reserves, is_access_end, is_end}
 use Rattle.oss_deps.specs.Kept.{Kept, given_at, is_asked, is_cut, seen_of}
 use Rattle.oss_deps.specs.Columns.{IsNumberOf, AreStretches, AreColumns, AreReady, IsReady, IsFiner, AreRight, AreSameButAsked}
 use Rattle.oss_deps.specs.Adding.{AreAddable, AreAllGrown}

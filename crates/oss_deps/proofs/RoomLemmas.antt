@@ -1,22 +1,19 @@
 -- Stretches that have got room stand for the same as before.
-use Rattle.std.proofs.Common.{◌≡◌, ℕ, ◌+◌, ◌-◌, ◌<◌, ◌≤◌, zero, suc, refl, sym, ap, subst, ◌∙◌, List, [], ◌∷◌, ◌⊎◌, inl, inr, Bool, true, false, Option, Some, None, arith, length, get_or, set, drop}
+use Rattle.std.proofs.Common.{◌≡◌, ℕ, ◌<◌, ◌≤◌, refl, sym, ap, subst, ◌∙◌, List, [], ◌∷◌, ◌⊎◌, inl, inr, Option, Some, None, arith, length, set}
 use Rattle.std.proofs.lemmas.List.{length-set}
 use Rattle.std.proofs.lemmas.Option.{slice_get_within}
 use Rattle.std.specs.Prelude.{◌&&◌, ◌||◌, ◌==◌, nat_le, nat_lt, slice_get}
-use Rattle.oss_syntax.specs.declared.access.Access.{Access}
-use Rattle.oss_model.specs.Order.{IsIn, here, there}
 use Rattle.oss_ranges.specs.declared.piece.Piece.{Piece}
 use Rattle.oss_ranges.specs.Cells.{value_at}
-use Rattle.oss_deps.specs.declared.opened.Open.{Open}
 use Rattle.oss_deps.specs.declared.frame.Frame.{Frame}
 use Rattle.oss_deps.specs.declared.frame.Mark.{Mark}
 use Rattle.oss_deps.specs.declared.column.Column.{Column}
-use Rattle.oss_deps.specs.Kept.{given_by, given_in, given_at, is_asked}
+use Rattle.oss_deps.specs.Kept.{given_by, given_in, given_at}
 use Rattle.oss_deps.specs.Places.{AreMarked}
-use Rattle.oss_deps.specs.Columns.{AreStretches, AreColumns, IsDivided, HasRoom, HaveRoom, IsReady, IsFiner}
-use Rattle.oss_deps.proofs.Basics.{bools, both, some_is, some_none, same_at, options, compared, value_within}
+use Rattle.oss_deps.specs.Columns.{AreStretches, IsDivided, HasRoom, HaveRoom, IsFiner}
+use Rattle.oss_deps.proofs.Basics.{some_none, same_at, options, compared, value_within}
 use Rattle.oss_deps.proofs.CloseLemmas.{same_number, get_set_same, get_set_other}
-use Rattle.oss_deps.proofs.GiveLemmas.{IsTurned, IsGivenTo, give_begins, given_stretches, given_columns, given_divided, given_asked, give_ends, one_stretch, end_divides, begins_in, none_in}
+use Rattle.oss_deps.proofs.GiveLemmas.{IsTurned, IsGivenTo, given_stretches, given_columns, given_divided, given_asked, one_stretch, end_divides, none_in}
 
 -- A stretch has at most got room.
 pub record IsRoomier (old new : Column) : Type 0 where

@@ -1,5 +1,5 @@
 -- Accesses that are alike are one.
-use Rattle.std.proofs.Common.{◌≡◌, ℕ, ◌<◌, ◌≤◌, refl, sym, ap, subst, ◌∙◌, Bool, true}
+use Rattle.std.proofs.Common.{◌≡◌, ℕ, ◌<◌, ◌≤◌, sym, ap, subst, ◌∙◌, Bool}
 use Rattle.std.proofs.Props.{props}
 use Rattle.oss_syntax.specs.declared.access.Access.{Access}
 use Rattle.oss_syntax.specs.declared.access.Mode.{Mode}

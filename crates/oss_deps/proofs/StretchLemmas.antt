@@ -1,29 +1,23 @@
 -- The stretch of a cell stands for what was opened and given up there.
-use Rattle.std.proofs.Common.{◌≡◌, ℕ, ◌+◌, ◌-◌, ◌<◌, ◌≤◌, zero, suc, refl, sym, ap, subst, ◌∙◌, List, [], ◌∷◌, ◌⊎◌, inl, inr, Bool, true, false, Option, Some, None, arith, length, get_or, ◌↔◌}
-use Rattle.std.proofs.lemmas.Option.{slice_get_within, slice_get-get_or}
+use Rattle.std.proofs.Common.{◌≡◌, ℕ, ◌+◌, ◌<◌, ◌≤◌, refl, sym, ap, subst, ◌∙◌, List, ◌⊎◌, inl, inr, Bool, true, Option, Some, None, arith, ◌↔◌}
+use Rattle.std.proofs.lemmas.Option.{slice_get_within}
 use Rattle.std.specs.Prelude.{slice_get, option_and_then}
-use Rattle.oss_syntax.specs.declared.access.Mode.{Mode}
-use Rattle.oss_syntax.specs.declared.access.Mode.TheVariants.{Fold}
-use Rattle.oss_syntax.specs.declared.access.Op.{Op}
-use Rattle.oss_model.specs.Order.{IsIn, here, there}
+use Rattle.oss_model.specs.Order.{IsIn}
 use Rattle.oss_model.specs.Forest.{IsDone}
 use Rattle.oss_ranges.specs.declared.piece.Piece.{Piece}
-use Rattle.oss_ranges.specs.Cells.{value_at}
 use Rattle.oss_deps.specs.declared.opened.Open.{Open}
 use Rattle.oss_deps.specs.declared.frame.Frame.{Frame}
 use Rattle.oss_deps.specs.declared.frame.Mark.{Mark}
 use Rattle.oss_deps.specs.declared.column.Column.{Column}
 use Rattle.oss_deps.specs.declared.want.Want.{Want}
-use Rattle.oss_deps.specs.declared.want.Want.TheVariants.{ToWrite, ToRead, ToJoin}
-use Rattle.oss_deps.specs.Opens.{names, mode_at, mode_in, HasOpened, AreChildrenDone, opened_forest, AreOpens}
+use Rattle.oss_deps.specs.Opens.{names, mode_at, AreChildrenDone, opened_forest, AreOpens}
 use Rattle.oss_deps.specs.Kept.{given_by, given_in, column_at, given_at}
-use Rattle.oss_deps.specs.Places.{closed_at, first_at, first_mark, mode_at_place, mode_of_frame, IsBelow, IsFirst, place_forest, AreLinked, AreMarked, AreModesCovered, IsWithin}
-use Rattle.oss_deps.specs.Wants.{IsSatisfied, Fits}
-use Rattle.oss_deps.specs.Columns.{IsNumber, IsNumberOf, IsPlaceOf, IsTaskAt, IsFrameOf, IsShown, AreShown, IsColumn, AreStretches, AreColumns, IsNamedOver}
-use Rattle.oss_deps.proofs.Basics.{bools, clash, some_is, some_none, same_at, options, value_within, compared}
+use Rattle.oss_deps.specs.Places.{first_at, first_mark, mode_at_place, mode_of_frame, IsBelow, IsFirst, place_forest, AreLinked, AreModesCovered}
+use Rattle.oss_deps.specs.Wants.{IsSatisfied}
+use Rattle.oss_deps.specs.Columns.{IsNumber, IsNumberOf, IsPlaceOf, IsTaskAt, IsShown, AreShown, IsColumn, AreColumns}
+use Rattle.oss_deps.proofs.Basics.{some_none, same_at, options, value_within, compared}
 use Rattle.oss_deps.proofs.DoneLemmas.{closed_done, done_closed, below_within}
 use Rattle.oss_deps.proofs.OpenLemmas.{get_in, in_get}
-use Rattle.oss_deps.proofs.LevelLemmas.{zero_or}
 use Rattle.oss_deps.proofs.MatchLemmas.{IsNode, modes_covered, satisfied_same, flags, one_task, one_up}
 
 -- one number is one entry

@@ -1,16 +1,16 @@
 -- The walks over the siblings before an access, and up its levels.
-use Rattle.std.proofs.Common.{◌≡◌, ℕ, ◌+◌, ◌-◌, ◌<◌, ◌≤◌, refl, sym, ap, subst, ◌∙◌, List, [], ◌∷◌, ◌⊎◌, inl, inr, Bool, true, false, Option, Some, None, arith, length, get_or, ◌↔◌}
-use Rattle.std.proofs.lemmas.Option.{slice_get_within, slice_get-get_or}
+use Rattle.std.proofs.Common.{◌≡◌, ℕ, ◌-◌, ◌<◌, ◌≤◌, refl, sym, ap, subst, ◌∙◌, List, ◌⊎◌, inl, inr, Bool, true, false, Option, Some, None, arith, length, get_or}
+use Rattle.std.proofs.lemmas.Option.{slice_get-get_or}
 use Rattle.std.specs.Prelude.{slice_get}
 use Rattle.oss_syntax.specs.declared.access.Mode.{Mode}
 use Rattle.oss_deps.specs.declared.frame.Frame.{Frame}
 use Rattle.oss_deps.specs.declared.frame.Mark.{Mark}
 use Rattle.oss_deps.specs.declared.want.Want.{Want}
-use Rattle.oss_deps.specs.Places.{is_closed, closed_at, closed_mark, first_at, first_mark, mode_at_place, mode_of_frame, IsBelow, IsNext, IsFirst, IsSibling, place_forest, AreLinked, AreMarked, AreModesCovered, IsWithin}
+use Rattle.oss_deps.specs.Places.{is_closed, closed_at, closed_mark, first_at, first_mark, mode_at_place, mode_of_frame, IsBelow, IsNext, IsFirst, place_forest, AreLinked, AreMarked, AreModesCovered, IsWithin}
 use Rattle.oss_deps.specs.Wants.{may_pass, want_above, IsSatisfied, Fits, IsAhead, IsLevelClear}
-use Rattle.oss_deps.proofs.Basics.{clash, some_is, same_at, options, value_within, compared}
-use Rattle.oss_deps.proofs.DoneLemmas.{below_within, below_behind}
-use Rattle.oss_deps.proofs.LevelLemmas.{one_creator, level_sound, level_complete, satisfied_down, satisfied_back, fits_up, zero_or}
+use Rattle.oss_deps.proofs.Basics.{clash, some_is, same_at, compared}
+use Rattle.oss_deps.proofs.DoneLemmas.{below_within}
+use Rattle.oss_deps.proofs.LevelLemmas.{one_creator, level_sound, level_complete, satisfied_down, satisfied_back, fits_up}
 
 -- The sibling at which the walk stands, and what it has passed.
 pub record IsPassing (frames : List Frame) (marks : List Mark) (want : Want) (at up one : ℕ) : Type 0 where

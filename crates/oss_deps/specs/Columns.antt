@@ -1,5 +1,5 @@
 -- When the lists of all stretches stand for what was opened and given up.
-use Rattle.std.specs.Prelude.{◌≡◌, ℕ, ◌+◌, ◌≤◌, ◌<◌, ◌⊎◌, Bool, true, false, List, [], length, slice_get, vec_capacity, Option, Some, None}
+use Rattle.std.specs.Prelude.{◌≡◌, ℕ, ◌+◌, ◌≤◌, ◌<◌, ◌⊎◌, true, false, List, [], length, slice_get, vec_capacity, Option, Some, None}
 use Rattle.oss_syntax.specs.declared.access.Access.{Access}
 use Rattle.oss_syntax.specs.declared.access.Mode.TheVariants.{Write}
 use Rattle.oss_model.specs.Order.{IsIn}
@@ -7,7 +7,6 @@ use Rattle.oss_ranges.specs.declared.piece.Piece.{Piece}
 use Rattle.oss_ranges.specs.Cells.{Assigns, value_at}
 use Rattle.oss_deps.specs.declared.opened.Open.{Open}
 use Rattle.oss_deps.specs.declared.frame.Frame.{Frame}
-use Rattle.oss_deps.specs.declared.frame.Mark.{Mark}
 use Rattle.oss_deps.specs.declared.column.Column.{Column}
 use Rattle.oss_deps.specs.declared.want.Want.{Want}
 use Rattle.oss_deps.specs.declared.want.Want.TheVariants.{ToWrite, ToRead, ToJoin}
@@ -92,6 +91,10 @@ AreReady (Some accesses) columns = ((columns ≡ []) → ⊥) × ((a : Access) �
 -- The number of a task: 0 for main, and else that of its entry.
 abbrev pub IsNumberOf : List Open → ℕ → ℕ → Type 0
 IsNumberOf opens n t = ((n ≡ 0) × (t ≡ 0)) ⊎ ((o : Open) × IsNumber opens n o × (o.task ≡ t))
+
+-- The task was opened as the one of its number.
+abbrev pub IsInOrder : List Open → ℕ → Type 0
+IsInOrder opens t = (o : Open) × IsNumber opens t o × (o.task ≡ t)
 
 -- The access with a number stands at the place.
 abbrev pub IsPlaceOf : List Frame → ℕ → ℕ → Type 0

@@ -1,7 +1,7 @@
 -- What the plain lists keep, and what of it is seen.
 -- Read against: two stretches, `0..4` with task 1 in its list and `4..1048576` with main alone; task 1 has given up cell 3 if its mark
 -- in the first list says so, and has not given up cell 5.
-use Rattle.std.specs.Prelude.{◌≡◌, ℕ, ◌==◌, ◌&&◌, ◌||◌, Bool, false, List, [], ◌∷◌, Option, Some, None, option_and_then, slice_get}
+use Rattle.std.specs.Prelude.{ℕ, ◌==◌, ◌&&◌, ◌||◌, Bool, false, List, [], ◌∷◌, Option, Some, None, option_and_then, slice_get}
 use Rattle.oss_syntax.specs.declared.access.Access.{Access}
 use Rattle.oss_ranges.specs.declared.piece.Piece.{Piece}
 use Rattle.oss_ranges.specs.Cells.{value_at}

@@ -3,7 +3,7 @@
 -- Read against: weakinout(a) as task 1, with the children out(a[0;2]) as task 2 and out(a[2;2]) as task 3, and in(a[0]) as task 4.
 -- On cell 0 the forest has 1 and 4 on top, and 2 below 1; on cell 3 it has 1 on top, and 3 below it. Tasks 1, 2 and 3 may begin at
 -- once, and 4 once 1 and 2 have given up cell 0.
-use Rattle.std.specs.Prelude.{◌≡◌, ℕ, suc, ◌≤◌, ◌<◌, ◌⊎◌, ◌==◌, Bool, true, false, if◌then◌else◌, List, [], ◌∷◌, Option, Some, None}
+use Rattle.std.specs.Prelude.{◌≡◌, ℕ, suc, ◌≤◌, ◌⊎◌, ◌==◌, Bool, true, false, if◌then◌else◌, List, [], ◌∷◌, Option, Some, None}
 use Rattle.oss_syntax.specs.declared.access.Access.{Access}
 use Rattle.oss_syntax.specs.declared.access.Op.{Op}
 use Rattle.oss_syntax.specs.declared.access.Mode.{Mode}

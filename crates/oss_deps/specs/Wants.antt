@@ -1,10 +1,10 @@
 -- What an access waits for, and which accesses of earlier siblings it passes.
-use Rattle.std.specs.Prelude.{◌≡◌, ℕ, ◌≤◌, ◌||◌, ◌⊎◌, Bool, true, false, if◌then◌else◌, List, slice_get, Option, Some, None}
+use Rattle.std.specs.Prelude.{◌≡◌, ℕ, ◌≤◌, ◌||◌, Bool, true, false, if◌then◌else◌, List, Some}
 use Rattle.oss_syntax.specs.declared.access.Mode.{Mode}
 use Rattle.oss_syntax.specs.declared.access.Op.{Op}
 use Rattle.oss_syntax.specs.declared.access.Mode.TheVariants.{Read, Write, Fold}
 use Rattle.oss_model.specs.Rights.{op_eq}
-use Rattle.oss_model.specs.Forest.{Forest, IsDone, IsRead, IsWriteSatisfied, IsReadSatisfied, IsJoinSatisfied, InRun}
+use Rattle.oss_model.specs.Forest.{Forest, IsWriteSatisfied, IsReadSatisfied, IsJoinSatisfied}
 use Rattle.oss_deps.specs.declared.frame.Frame.{Frame}
 use Rattle.oss_deps.specs.declared.frame.Mark.{Mark}
 use Rattle.oss_deps.specs.declared.want.Want.{Want}

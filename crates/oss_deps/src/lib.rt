@@ -16,6 +16,8 @@ mod plain;
 mod reserved;
 mod reserving;
 mod splitting;
+#[cfg(test)]
+mod tests;
 mod walking;
 mod want;
 

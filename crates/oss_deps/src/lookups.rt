@@ -1,7 +1,7 @@
 ghost use Rattle.std.specs.Prelude.{◌≡◌, ◌↔◌, ◌<◌, ℕ, length, IfSome, IfNone, IsTrue};
 ghost use Rattle.oss_deps.specs.Opens.{IsKnown};
 ghost use Rattle.oss_deps.specs.Places.{AreLinked};
-ghost use Rattle.oss_deps.specs.Columns.{IsNumberOf, IsPlaceOf};
+ghost use Rattle.oss_deps.specs.Columns.{IsInOrder, IsNumberOf, IsPlaceOf};
 
 use crate::frame::Frame;
 use crate::opened::Open;
@@ -27,9 +27,12 @@ pub(crate) fn number_of(opens: &[Open], task: u64) -> Option<usize>
 
 /// The task was opened as the one of its number, as it is where tasks are opened in the order of their numbers.
 fn is_in_order(opens: &[Open], task: u64) -> bool
-    ensures { IsTrue result → IsNumberOf opens.now task task }
+    ensures { IsTrue result ↔ IsInOrder opens.now task }
 {
-    if task == 0 || task > opens.len() as u64 {
+    if task == 0 {
+        return false;
+    }
+    if task > opens.len() as u64 {
         return false;
     }
     opens[(task - 1) as usize].task == task

@@ -1,5 +1,5 @@
-use Rattle.std.proofs.Common.{◌≡◌, ℕ, Option, Some, None}
-use Rattle.std.specs.Prelude.{◌||◌, ◌==◌, true, slice_get}
+use Rattle.std.proofs.Common.{◌≡◌, ℕ, Some}
+use Rattle.std.specs.Prelude.{◌||◌, ◌==◌, slice_get}
 use Rattle.oss_deps.specs.declared.frame.Frame.{Frame}
 use Rattle.oss_deps.specs.Kept.{given_by}
 use Rattle.oss_deps.specs.Places.{AreMarked}

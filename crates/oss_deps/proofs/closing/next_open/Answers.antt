@@ -1,6 +1,6 @@
 use Rattle.std.proofs.Common.{◌≡◌, ◌<◌, ℕ, rules, arith, length, get_or, sym, ap, subst, ◌∙◌, Option, None, Some}
 use Rattle.std.proofs.lemmas.Option.{slice_get-get_or}
-use Rattle.std.specs.Prelude.{slice_get, false, true}
+use Rattle.std.specs.Prelude.{false}
 use Rattle.oss_deps.specs.declared.frame.Frame.{Frame}
 use Rattle.oss_deps.specs.Places.{IsNextOpen, closed_at, closed_mark}
 use Rattle.oss_deps.proofs.Basics.{same_at}

@@ -1,4 +1,4 @@
-use Rattle.std.proofs.Common.{◌≡◌, ℕ, get_or, sym, ap, ◌∙◌, refl, arith, Some, None}
+use Rattle.std.proofs.Common.{get_or, sym, ap, ◌∙◌, refl, Some, None}
 use Rattle.std.proofs.lemmas.Option.{slice_get-get_or}
 use Rattle.oss_deps.proofs.Basics.{some_is, some_none, clash}
 use Rattle.oss_deps.specs.Places.{blank}

@@ -1,4 +1,3 @@
-use Rattle.std.proofs.Common.{arith}
 use Rattle.std.specs.Prelude.{◌||◌}
 use Rattle.oss_deps.specs.Kept.{is_cut}
 use Rattle.oss_deps.specs.Seen.{is_access_end}

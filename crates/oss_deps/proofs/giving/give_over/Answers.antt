@@ -1,7 +1,6 @@
-use Rattle.std.proofs.Common.{◌≡◌, ℕ, refl, sym, ap, subst, ◌∙◌, arith, ◌≤◌, ◌⊎◌, set}
-use Rattle.oss_deps.specs.Opens.{IsKnown}
+use Rattle.std.proofs.Common.{ℕ, sym, subst, ◌∙◌, arith, ◌≤◌, ◌⊎◌, set}
 use Rattle.oss_deps.proofs.AskLemmas.{column_read}
-use Rattle.oss_deps.proofs.GiveLemmas.{IsGivenTo, known_at, give_begins, give_gap, give_within, give_in_here, give_end, give_right, give_shown, give_goes, give_divides, give_ends, given_columns, given_asked, given_ready}
+use Rattle.oss_deps.proofs.GiveLemmas.{IsGivenTo, give_begins, give_gap, give_within, give_in_here, give_end, give_right, give_shown, give_goes, give_divides, give_ends, given_columns, given_asked, given_ready}
 use Rattle.oss_deps.proofs.giving.give_over.Goals as goal
 
 pub stretches-init : goal.stretches-init

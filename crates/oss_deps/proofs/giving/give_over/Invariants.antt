@@ -1,4 +1,4 @@
-use Rattle.std.proofs.Common.{ℕ, ◌-◌, ◌≤◌}
+use Rattle.std.proofs.Common.{◌-◌, ◌≤◌}
 use Rattle.oss_deps.specs.Columns.{IsDivided}
 use Rattle.oss_deps.proofs.GiveLemmas.{IsGivenTo}
 use Rattle.oss_deps.proofs.giving.give_over.Given as goal

@@ -1,4 +1,3 @@
-use Rattle.std.proofs.Common.{◌≡◌, arith}
 use Rattle.oss_deps.proofs.LookupLemmas.{others_all}
 use Rattle.oss_deps.proofs.lookups.number_of.Goals as goal
 

@@ -1,4 +1,4 @@
-use Rattle.std.proofs.Common.{List, subst, arith}
+use Rattle.std.proofs.Common.{List, subst}
 use Rattle.std.proofs.lemmas.List.{take_all}
 use Rattle.oss_syntax.specs.declared.access.Access.{Access}
 use Rattle.oss_deps.specs.Adding.{AreAllGrown}

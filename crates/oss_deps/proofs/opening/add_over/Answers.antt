@@ -1,4 +1,4 @@
-use Rattle.std.proofs.Common.{◌≤◌, ◌⊎◌, ℕ, sym, subst, ◌∙◌, arith, set}
+use Rattle.std.proofs.Common.{◌≤◌, ◌⊎◌, ℕ, sym, subst, ◌∙◌, arith}
 use Rattle.oss_deps.specs.Adding.{AreGrownTo}
 use Rattle.oss_deps.proofs.AskLemmas.{column_read}
 use Rattle.oss_deps.proofs.AddLemmas.{grow_begins, grow_gap, grow_within, grow_in, grow_end, grow_addable, grow_goes, grow_divides}

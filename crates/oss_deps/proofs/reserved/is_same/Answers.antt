@@ -1,6 +1,5 @@
 use Rattle.std.proofs.Common.{ap}
 use Rattle.oss_syntax.specs.declared.access.Access.{Access}
-use Rattle.oss_deps.proofs.Basics.{not_false}
 use Rattle.oss_deps.proofs.SameLemmas.{same_access}
 use Rattle.oss_deps.proofs.reserved.is_same.Goals as goal
 

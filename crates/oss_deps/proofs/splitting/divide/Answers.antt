@@ -1,4 +1,4 @@
-use Rattle.std.proofs.Common.{◌≡◌, ℕ, refl, sym, ap, ◌∙◌, List, ◌++◌, ◌∷◌, [], length, set, arith}
+use Rattle.std.proofs.Common.{sym, ap, ◌∙◌, List, ◌++◌, ◌∷◌, [], length, set, arith}
 use Rattle.std.specs.Prelude.{slice_get}
 use Rattle.oss_deps.specs.declared.column.Column.{Column}
 use Rattle.oss_deps.proofs.Basics.{same_at}

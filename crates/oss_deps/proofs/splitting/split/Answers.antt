@@ -1,4 +1,4 @@
-use Rattle.std.proofs.Common.{sym, ◌∙◌, arith}
+use Rattle.std.proofs.Common.{sym, ◌∙◌}
 use Rattle.oss_deps.proofs.AskLemmas.{column_read}
 use Rattle.oss_deps.proofs.DivideLemmas.{finer_divide, ok_divides, begun_divides, inside_within}
 use Rattle.oss_deps.proofs.splitting.split.Goals as goal

@@ -1,5 +1,4 @@
-use Rattle.std.proofs.Common.{refl, sym}
-use Rattle.oss_deps.proofs.WalkLemmas.{level_begins, level_ends, level_stops, level_goes, level_falls}
+use Rattle.oss_deps.proofs.WalkLemmas.{level_begins, level_stops, level_goes, level_falls}
 use Rattle.oss_deps.proofs.walking.is_level_clear.Goals as goal
 
 pub siblings-init : goal.siblings-init

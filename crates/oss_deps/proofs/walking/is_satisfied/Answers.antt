@@ -1,4 +1,4 @@
-use Rattle.std.proofs.Common.{rules, arith, get_or, length, ◌<◌, sym, subst}
+use Rattle.std.proofs.Common.{rules, get_or, length, ◌<◌, sym, subst}
 use Rattle.oss_deps.specs.declared.want.Want.{Want}
 use Rattle.oss_deps.specs.Places.{blank}
 use Rattle.oss_deps.proofs.WalkLemmas.{IsClimbing, up_stops, up_goes, up_within, up_falls}

@@ -1,4 +1,4 @@
-use Rattle.std.proofs.Common.{ℕ, drop, ◌⊎◌}
+use Rattle.std.proofs.Common.{drop, ◌⊎◌}
 use Rattle.oss_syntax.specs.declared.access.Access.{Access}
 use Rattle.oss_model.specs.Order.{IsIn}
 use Rattle.oss_deps.specs.declared.opened.Open.{Open}

@@ -1,4 +1,4 @@
-use Rattle.std.proofs.Common.{refl, arith}
+use Rattle.std.proofs.Common.{arith}
 use Rattle.std.specs.Prelude.{vec_capacity}
 use Rattle.oss_deps.proofs.AskLemmas.{standing_of, here_of, gap_of, column_of, no_gap, at_within, cell_in, column_linked, column_marked, column_covered, column_shown, clear_stops, clear_goes}
 use Rattle.oss_deps.proofs.plain.PlainDeps.is_clear_over.Goals as goal

@@ -1,8 +1,7 @@
-use Rattle.std.proofs.Common.{◌≡◌, refl, sym, ap, subst, ◌∙◌, List, arith}
-use Rattle.std.specs.Prelude.{vec_capacity}
+use Rattle.std.proofs.Common.{ap, subst, ◌∙◌, List}
 use Rattle.oss_deps.specs.declared.opened.Open.{Open}
 use Rattle.oss_deps.specs.Kept.{Kept}
-use Rattle.oss_deps.specs.Columns.{IsNumber, IsNumberOf}
+use Rattle.oss_deps.specs.Columns.{IsNumberOf}
 use Rattle.oss_deps.proofs.plain.PlainDepsDeps.children_done.Goals as goal
 
 pub returns-clause-done : goal.returns-clause-done

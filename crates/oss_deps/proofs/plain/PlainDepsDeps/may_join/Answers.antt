@@ -1,9 +1,9 @@
-use Rattle.std.proofs.Common.{◌≡◌, refl, sym, ap, subst, ◌∙◌, List, arith, inr}
+use Rattle.std.proofs.Common.{sym, ap, subst, ◌∙◌, List, inr}
 use Rattle.std.specs.Prelude.{vec_capacity}
 use Rattle.oss_deps.specs.declared.opened.Open.{Open}
 use Rattle.oss_deps.specs.Kept.{Kept}
 use Rattle.oss_deps.specs.Opens.{IsKnown}
-use Rattle.oss_deps.specs.Columns.{IsNumber, IsNumberOf}
+use Rattle.oss_deps.specs.Columns.{IsNumberOf}
 use Rattle.oss_deps.proofs.AskLemmas.{standing_of, folding_named, join_told}
 use Rattle.oss_deps.proofs.plain.PlainDepsDeps.may_join.Goals as goal
 

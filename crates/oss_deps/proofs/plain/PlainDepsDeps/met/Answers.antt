@@ -1,8 +1,8 @@
-use Rattle.std.proofs.Common.{◌≡◌, refl, sym, ap, subst, ◌∙◌, List, arith}
+use Rattle.std.proofs.Common.{refl, ap, subst, ◌∙◌, List}
 use Rattle.std.specs.Prelude.{vec_capacity}
 use Rattle.oss_deps.specs.declared.opened.Open.{Open}
 use Rattle.oss_deps.specs.Kept.{Kept}
-use Rattle.oss_deps.specs.Columns.{IsNumber, IsNumberOf}
+use Rattle.oss_deps.specs.Columns.{IsNumberOf}
 use Rattle.oss_deps.proofs.AskLemmas.{standing_of, entry_number, main_met, task_met}
 use Rattle.oss_deps.proofs.plain.PlainDepsDeps.met.Goals as goal
 
