@@ -1,9 +1,8 @@
-use Rattle.std.proofs.Common.{◌≡◌, ◌+◌, sym, subst, List, [], ◌∷◌, drop, length, arith, ◌<◌}
+use Rattle.std.proofs.Common.{◌+◌, subst, List, [], drop, arith}
 use Rattle.oss_core.specs.Cores.{kept_of}
 use Rattle.oss_core.proofs.CallLemmas.{if_ok}
 use Rattle.oss_sched.specs.declared.moves.TextMove.{TextMove}
-use Rattle.oss_replay.specs.declared.replayed.Replayed.{Replayed}
-use Rattle.oss_replay.specs.Making.{HasReplayed, Replays}
+use Rattle.oss_replay.specs.Making.{HasReplayed}
 use Rattle.oss_replay.proofs.MakingLemmas.{left_from, none_left, move_runs, replays_more, replays_stuck}
 use Rattle.oss_replay.proofs.playing.play.Goals as goal
 
