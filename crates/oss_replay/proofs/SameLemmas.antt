@@ -14,7 +14,6 @@ use Rattle.oss_rounds.specs.Claims.{IsSame}
 use Rattle.oss_rounds.proofs.SameLemmas.{same_itself, same_back, at_forth, complete_forth, can_step_forth, can_let_forth, can_join_forth, step_same, let_same, join_same}
 use Rattle.oss_sched.specs.declared.moves.TextMove.{TextMove}
 use Rattle.oss_sched.specs.declared.moves.TextMove.TheVariants.{Step, Let, Join}
-use Rattle.oss_machine.specs.Frames.{CodeScript}
 use Rattle.oss_core.specs.Stops.{IsUnfinished, HasUnfinished}
 use Rattle.oss_replay.specs.Replays.{StepsTo, LetsTo, JoinsTo, parts_in, IsPartOf, Makes, makes_none, makes_more, Leads, IsEnabled, Plays, plays_none, plays_more, IsStuckAt, stuck_here, stuck_later}
 use Rattle.oss_replay.proofs.ListLemmas.{one_length}
@@ -88,11 +87,11 @@ module _ {S : Type 0} (P : Program S) {s m : State S} (same : IsSame s m) where
   part_one p (Join point first count) k x y a b = joins_one p (first + k) x y a b
 
 -- a task is not complete in both or in neither
-unfinished_forth : (P : Program CodeScript) {s m : State CodeScript} → IsSame s m → (p : List ℕ) → IsUnfinished P s p → IsUnfinished P m p
+unfinished_forth : {S : Type 0} (P : Program S) {s m : State S} → IsSame s m → (p : List ℕ) → IsUnfinished P s p → IsUnfinished P m p
 unfinished_forth P same p h = record { task = h.task; at_ = at_forth same p h.task h.at_; left = λ c. h.left (complete_forth P (same_back same) c) }
 
 -- so as many are not
-pub unfinished_one : (P : Program CodeScript) {s m : State CodeScript} (a b : ℕ) → IsSame s m → HasUnfinished P s a → HasUnfinished P m b → a ≡ b
+pub unfinished_one : {S : Type 0} (P : Program S) {s m : State S} (a b : ℕ) → IsSame s m → HasUnfinished P s a → HasUnfinished P m b → a ≡ b
 unfinished_one P a b same h k =
     let e = one_length h.list k.list h.apart k.apart (λ p i. (k.exact p).1 (unfinished_forth P same p ((h.exact p).0 i)))
     (λ p i. (h.exact p).1 (unfinished_forth P (same_back same) p ((k.exact p).0 i))) in
