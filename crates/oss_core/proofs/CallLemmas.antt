@@ -1,5 +1,5 @@
 -- Small facts for the calls of the code: places of lists, ranges of waits, and dependency systems that are seen alike.
-use Rattle.std.proofs.Common.{◌≡◌, ℕ, ◌<◌, ◌≤◌, ◌+◌, ◌⊎◌, inl, inr, refl, sym, ap, subst, ◌∙◌, arith, Bool, true, false, List, [], ◌∷◌, Option, Some, None, Result, Ok, Err, ◌↔◌, suc, zero}
+use Rattle.std.proofs.Common.{◌≡◌, ℕ, ◌<◌, ◌≤◌, ◌⊎◌, inl, inr, refl, sym, subst, ◌∙◌, Bool, true, false, List, [], ◌∷◌, Some, None, Result, Ok, Err, ◌↔◌, suc, zero}
 use Rattle.std.specs.Prelude.{IfOk, IsTrue, OnOk, slice_get, ◌||◌}
 use Rattle.oss_syntax.specs.declared.access.Range.{Range}
 use Rattle.oss_syntax.specs.declared.access.Access.{Access}
@@ -11,7 +11,6 @@ use Rattle.oss_deps.specs.declared.opened.Open.{Open}
 use Rattle.oss_deps.specs.Opens.{AreChildrenDone}
 use Rattle.oss_deps.specs.Seen.{Seen, IsSame}
 use Rattle.oss_deps.proofs.OpenLemmas.{in_bounds, bounds_in}
-use Rattle.oss_core.proofs.EntryLemmas.{bools}
 use Rattle.oss_core.proofs.KeepLemmas.{some_is}
 
 -- what follows where a call did not want memory

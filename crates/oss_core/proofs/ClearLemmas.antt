@@ -1,12 +1,11 @@
 -- What is owed no more, and what a dependency system is told of it.
-use Rattle.std.proofs.Common.{◌≡◌, ℕ, suc, ◌+◌, ◌<◌, ◌≤◌, ◌⊎◌, inl, inr, refl, sym, ap, subst, ◌∙◌, arith, Bool, true, false, List, [], ◌∷◌, Option, Some, None, ◌↔◌}
+use Rattle.std.proofs.Common.{◌≡◌, ℕ, suc, ◌<◌, ◌≤◌, ◌⊎◌, inl, inr, refl, sym, ap, subst, ◌∙◌, arith, Bool, true, false, List, [], ◌∷◌, Option, Some, None, ◌↔◌}
 use Rattle.std.specs.Prelude.{IsTrue, MatchOption, if◌then◌else◌, is_some, not, nat_le, nat_lt, slice_get, slice_set, ◌==◌, ◌&&◌, ◌||◌}
 use Rattle.std.proofs.lemmas.Bool.Decides.{nat_tests}
 use Rattle.oss_syntax.specs.declared.access.Range.{Range}
 use Rattle.oss_ranges.specs.Cells.{Assigns, Restricts, Rises, is_within, value_at}
 use Rattle.oss_ranges.specs.Items.{piece_of}
 use Rattle.oss_ranges.specs.declared.piece.Piece.{Piece}
-use Rattle.oss_tree.specs.Tasks as tree
 use Rattle.oss_deps.specs.Opens.{HasOpened}
 use Rattle.oss_deps.specs.Seen.{Seen, CanGive, Gives, Prepares, in_range, is_end}
 use Rattle.oss_core.specs.declared.held.Held.{Held}

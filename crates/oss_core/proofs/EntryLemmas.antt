@@ -1,5 +1,5 @@
 -- Entries of a dependency system: their places in the list, and lists that grow.
-use Rattle.std.proofs.Common.{◌≡◌, ℕ, ◌<◌, ◌≤◌, refl, sym, subst, ap, ◌∙◌, List, [], ◌∷◌, ◌++◌, ◌⊎◌, inl, inr, Bool, true, false, arith, eq-eqb, eqb-true, Some, None, Option}
+use Rattle.std.proofs.Common.{◌≡◌, ℕ, ◌<◌, ◌≤◌, refl, sym, subst, ap, ◌∙◌, List, [], ◌∷◌, ◌++◌, ◌⊎◌, inl, inr, Bool, true, false, arith, eq-eqb, eqb-true, Some}
 use Rattle.std.specs.Prelude.{◌&&◌, ◌==◌, if◌then◌else◌, nat_le, nat_lt}
 use Rattle.std.proofs.lemmas.Bool.Decides.{nat_tests}
 use Rattle.oss_syntax.specs.declared.access.Access.{Access}
@@ -7,7 +7,6 @@ use Rattle.oss_model.specs.Order.{IsIn, here, there, IsSuffix, whole, longer}
 use Rattle.oss_model.specs.Rights.{in_access}
 use Rattle.oss_deps.specs.declared.opened.Open.{Open}
 use Rattle.oss_deps.specs.Opens.{access_at, is_some_access, names, mode_at, mode_in, Precedes, first, later, HasOpened, HasCover, IsKnown, IsOnce, IsRising, AreOrdered, none, one, AreOpens}
-use Rattle.oss_deps.specs.Seen.{Seen, CanOpen}
 use Rattle.oss_core.specs.Below.{MayOpen}
 
 pub in_cases : {A : Type 0} {z w : A} {zs : List A} → IsIn z (w ∷ zs) → (z ≡ w) ⊎ IsIn z zs

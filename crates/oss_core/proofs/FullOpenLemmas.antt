@@ -1,20 +1,19 @@
 -- A creation that the judge passes may be opened by a dependency system: its creator is not nested too deep, and has not given up what the new task names.
-use Rattle.std.proofs.Common.{◌≡◌, ◌≢◌, ℕ, zero, suc, ◌+◌, ◌<◌, ◌≤◌, ◌⊎◌, inl, inr, refl, sym, subst, ap, ◌∙◌, arith, List, [], ◌∷◌, length, Bool, true, false, Option, Some, None, ◌↔◌}
-use Rattle.std.specs.Prelude.{slice_get, nat_le, ◌||◌, if◌then◌else◌}
+use Rattle.std.proofs.Common.{◌≡◌, ℕ, suc, ◌<◌, ◌⊎◌, inl, inr, refl, sym, subst, ap, ◌∙◌, arith, List, [], ◌∷◌, length, Bool, true, false, Option, Some, None, ◌↔◌}
+use Rattle.std.specs.Prelude.{slice_get, nat_le, ◌||◌}
 use Rattle.std.proofs.lemmas.Bool.Decides.{nat_tests}
 use Rattle.oss_syntax.specs.declared.fault.FaultKind.{FaultKind}
 use Rattle.oss_syntax.specs.declared.fault.FaultKind.TheVariants as fault
 use Rattle.oss_syntax.specs.declared.access.Access.{Access}
-use Rattle.oss_syntax.specs.declared.access.Mode.{Mode}
 use Rattle.oss_model.specs.Order.{IsIn}
-use Rattle.oss_model.specs.Rights.{Right, Released, Holds, Reads, Writes, Folds, touch_fault, is_fold}
+use Rattle.oss_model.specs.Rights.{Right, Released, Holds, Reads, Writes, Folds, touch_fault}
 use Rattle.oss_model.specs.Context.{Context, create_fault, tick_fault, creation_fault, clause_fault, or_else, release_fault, wait_on_fault, right_of, lent_of, mark_of, child_context}
-use Rattle.oss_model.specs.Bodies.{Order, Ask, Program, Act, Frame, Start, Body, judged_act, act_of_ask, ask_of, frame_act, stack_act, stack_after, base_after, inner_after, frame_after, settled_parts, settled_frame, stack_from, act_of, stage_act, child_start, IsHalt}
-use Rattle.oss_model.specs.Bodies.Act.{Ticked, Load, Store, Folded, Created, Awaited, Waited, WaitedOn, Releases, Printed, Ended, Fault, Over}
+use Rattle.oss_model.specs.Bodies.{Order, Ask, Program, Act, Frame, Start, Body, act_of_ask, ask_of, frame_act, stack_act, stack_after, base_after, inner_after, settled_parts, stack_from, act_of, stage_act, child_start}
+use Rattle.oss_model.specs.Bodies.Act.{Ticked, Load, Created, WaitedOn, Releases, Ended, Over}
 use Rattle.oss_model.specs.Machine.{Task, State, At}
-use Rattle.oss_model.specs.History.{MadeBy, IsMade, IsStarted}
+use Rattle.oss_model.specs.History.{IsMade, IsStarted}
 use Rattle.oss_model.specs.Moves.{act_now, new_task, is_ended, IsGone}
-use Rattle.oss_model.proofs.BodyLemmas.{judged_goes, CreatedBy}
+use Rattle.oss_model.proofs.BodyLemmas.{judged_goes}
 use Rattle.oss_model.proofs.JudgeLemmas.{Covered}
 use Rattle.oss_model.proofs.RunLemmas.{child_depth}
 use Rattle.oss_model.proofs.StageLemmas.{Creating, creating}
@@ -24,11 +23,9 @@ use Rattle.oss_deps.specs.declared.opened.Open.{Open}
 use Rattle.oss_deps.specs.Opens as opens
 use Rattle.oss_deps.specs.Opens.{names, IsNested, IsRising, HasCover}
 use Rattle.oss_deps.specs.Seen.{Seen, CanOpen, HasHeldCover}
-use Rattle.oss_core.specs.Standing.{AreRightsOf, IsNumbered, IsLinked, AreTasks, StandsFor}
-use Rattle.oss_core.specs.Below.{MayOpen}
+use Rattle.oss_core.specs.Standing.{AreRightsOf, IsNumbered, AreTasks, StandsFor}
 use Rattle.oss_core.proofs.EntryLemmas.{rising_once}
 use Rattle.oss_core.proofs.MatchLemmas.{entry_of, path_of, named_has, tail_is}
-use Rattle.oss_core.proofs.KeepLemmas.{some_is}
 use Rattle.oss_core.proofs.OpenLemmas.{may_open}
 
 no_fault : (a b : Option FaultKind) → or_else a b ≡ None → a ≡ None

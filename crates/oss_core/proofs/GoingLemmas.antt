@@ -1,5 +1,5 @@
 -- What the calls that make a step leave, put together.
-use Rattle.std.proofs.Common.{◌≡◌, ℕ, ◌<◌, refl, sym, ap, subst, ◌∙◌, arith, Bool, true, false, List, [], ◌∷◌, ◌++◌, length, get_or, Option, Some, None}
+use Rattle.std.proofs.Common.{◌≡◌, ℕ, refl, sym, ap, subst, ◌∙◌, arith, true, false, List, [], ◌∷◌, ◌++◌, length, get_or, Some}
 use Rattle.std.specs.Prelude.{slice_get, slice_set}
 use Rattle.std.proofs.lemmas.List.{length-set}
 use Rattle.std.proofs.lemmas.Option.{slice_get_read, slice_get_within}
@@ -16,7 +16,7 @@ use Rattle.oss_tree.specs.Tasks as tree
 use Rattle.oss_tree.proofs.ListLemmas.{get_set_other, get_set_same, longer_by}
 use Rattle.oss_deps.specs.Seen.{IsSame, Opens}
 use Rattle.oss_core.specs.declared.held.Held.{Held}
-use Rattle.oss_core.specs.Changes.{Creates, GoesOn, IsChanged, IsCreated, Steps, found_in, noted, noted_new, prints_after}
+use Rattle.oss_core.specs.Changes.{GoesOn, IsChanged, IsCreated, found_in, noted, noted_new, prints_after}
 use Rattle.oss_core.specs.Going.{HasCreated, HasGoneOn, HasStepped, IsKeyed}
 use Rattle.oss_core.specs.Kept.{Kept}
 use Rattle.oss_core.proofs.KeepLemmas.{some_is}

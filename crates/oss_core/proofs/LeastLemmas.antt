@@ -1,22 +1,19 @@
 -- Which task stands before the fault with the least key, and how many tasks are not complete, task by task.
-use Rattle.std.proofs.Common.{◌≡◌, ℕ, zero, suc, ◌+◌, ◌<◌, ◌≤◌, ◌⊎◌, inl, inr, refl, sym, ap, subst, ◌∙◌, arith, Bool, true, false, List, [], ◌∷◌, length, Option, Some, None, ◌↔◌}
-use Rattle.std.specs.Prelude.{IsTrue, MatchOption, slice_get}
-use Rattle.std.specs.Ordering.{MatchOrdering}
+use Rattle.std.proofs.Common.{◌≡◌, ℕ, ◌+◌, ◌<◌, ◌⊎◌, inl, inr, refl, sym, subst, ◌∙◌, arith, true, false, List, ◌∷◌, length, Option, Some, None, ◌↔◌}
+use Rattle.std.specs.Prelude.{IsTrue, slice_get}
 use Rattle.std.proofs.lemmas.Option.{slice_get_within}
 use Rattle.oss_syntax.specs.declared.fault.FaultKind.{FaultKind}
 use Rattle.oss_model.specs.Order.{IsBefore, IsIn, here, there, written}
 use Rattle.oss_model.specs.Points.{IsPoint}
-use Rattle.oss_body.specs.declared.act.Act.{Act}
 use Rattle.oss_body.specs.declared.act.Act.TheVariants as acts
 use Rattle.oss_body.specs.declared.body.Body.{Body}
 use Rattle.oss_body.specs.Places.{unwritten}
-use Rattle.oss_body.specs.Relation.{is_over, pending_of}
 use Rattle.oss_model.proofs.OrderLemmas.{before_not, before_trans}
 use Rattle.oss_tree.specs.declared.task.Task.{Task as TreeTask}
 use Rattle.oss_tree.specs.Tasks.{IsComplete}
 use Rattle.oss_core.specs.declared.held.Held.{Held}
-use Rattle.oss_core.specs.Stops.{AreApart, AreKeyed, AreUnfinishedTo, HasNoFault, IsFaultAt, IsFaultOf, IsFaultless, IsKeyedAt, IsLeastBelow, IsLeastFaultAt, IsLeastTo}
-use Rattle.oss_core.proofs.EntryLemmas.{in_cases, in_none}
+use Rattle.oss_core.specs.Stops.{AreKeyed, AreUnfinishedTo, HasNoFault, IsFaultAt, IsFaultOf, IsFaultless, IsKeyedAt, IsLeastFaultAt, IsLeastTo}
+use Rattle.oss_core.proofs.EntryLemmas.{in_cases}
 use Rattle.oss_core.proofs.KeepLemmas.{some_is, which}
 use Rattle.oss_core.proofs.StepsLemmas.{point_written}
 

@@ -1,19 +1,19 @@
 -- What a core keeps stands for the state after each move.
-use Rattle.std.proofs.Common.{◌≡◌, ◌≢◌, ℕ, ◌<◌, ◌≤◌, ◌+◌, refl, sym, subst, ap, ◌∙◌, List, [], ◌∷◌, ◌++◌, ◌⊎◌, inl, inr, Bool, true, false, arith, Some, ◌↔◌, length}
+use Rattle.std.proofs.Common.{◌≡◌, ◌≢◌, ℕ, ◌<◌, ◌≤◌, refl, sym, subst, ap, ◌∙◌, List, [], ◌∷◌, ◌++◌, ◌⊎◌, inl, inr, Bool, true, false, arith, Some, ◌↔◌, length}
 use Rattle.std.specs.Prelude.{slice_get}
 use Rattle.oss_syntax.specs.declared.access.Op.{Op}
 use Rattle.oss_model.specs.Order.{IsIn, IsSuffix, whole, longer}
-use Rattle.oss_model.specs.Bodies.{Order, Program, Act, Body, IsHalt}
+use Rattle.oss_model.specs.Bodies.{Order, Program, Act, Body}
 use Rattle.oss_model.specs.Bodies.Act.{Created}
-use Rattle.oss_model.specs.Machine.{Task, State, At, IsComplete}
-use Rattle.oss_model.specs.Moves.{act_now, created_now, found_by, cells_after, after_answer, new_task, slot_of, joined_cells, CanStep, Stepped, CanLet, LetGo, CanJoin, Joined}
+use Rattle.oss_model.specs.Machine.{Task, State, IsComplete}
+use Rattle.oss_model.specs.Moves.{act_now, created_now, found_by, cells_after, after_answer, new_task, joined_cells, CanStep, Stepped, CanLet, LetGo, CanJoin, Joined}
 use Rattle.oss_model.proofs.StageLemmas.{created_grows}
 use Rattle.oss_deps.specs.declared.opened.Open.{Open}
 use Rattle.oss_core.specs.Standing.{IsNumbered, IsLinked, AreTasks, StandsFor}
-use Rattle.oss_core.specs.Moving.{answer_to, body_after, AreOf, IsAdvanced, AreSound, IsCreated, StepMade}
+use Rattle.oss_core.specs.Moving.{answer_to, body_after, IsAdvanced, AreSound, IsCreated, StepMade}
 use Rattle.oss_core.specs.Telling.{IsEnabled, MayLet, MayJoin}
 use Rattle.oss_core.proofs.EntryLemmas.{in_added}
-use Rattle.oss_core.proofs.KeepLemmas.{some_is, which, HaveStarts, link_over, tasks_keep, Changed, changed_starts, changed_back, TaskOf, own_body, step_keeps, let_keeps}
+use Rattle.oss_core.proofs.KeepLemmas.{some_is, which, HaveStarts, link_over, tasks_keep, Changed, changed_starts, changed_back, TaskOf, step_keeps, let_keeps}
 use Rattle.oss_core.proofs.GrowLemmas as grow
 use Rattle.oss_core.proofs.TellLemmas.{step_told, let_told, join_told}
 

@@ -1,5 +1,5 @@
 -- Moves that may be made, and are.
-use Rattle.std.proofs.Common.{◌≡◌, ℕ, refl, sym, ap, subst, ◌∙◌, Bool, true, false, List, length, Some, ◌↔◌}
+use Rattle.std.proofs.Common.{◌≡◌, ℕ, sym, ap, subst, ◌∙◌, Bool, true, false, List, length, Some, ◌↔◌}
 use Rattle.std.specs.Prelude.{IsTrue, slice_get}
 use Rattle.oss_syntax.specs.declared.access.Op.{Op}
 use Rattle.oss_syntax.specs.declared.access.Access.{Access}
@@ -18,7 +18,6 @@ use Rattle.oss_tree.specs.Tasks as tree
 use Rattle.oss_tree.specs.Tasks.{MayCreate}
 use Rattle.oss_deps.specs.Seen.{CanOpen, IsSame, Seen}
 use Rattle.oss_core.specs.declared.held.Held.{Held}
-use Rattle.oss_core.specs.declared.held.Owed.{Owed}
 use Rattle.oss_core.specs.declared.held.Owed.TheVariants as owed
 use Rattle.oss_core.specs.Changes.{IsCreated, IsMade, IsMove, Joins, Lets}
 use Rattle.oss_core.specs.Enabled.{IsFoldOf, MayJoin, MayLet, MayMove, MayStep}

@@ -1,12 +1,12 @@
 -- The kept prints go on being those of the state, move by move.
 use Rattle.std.proofs.Common.{◌≡◌, ◌≢◌, ℕ, ◌<◌, ◌⊎◌, inl, inr, refl, sym, subst, ap, ◌∙◌, arith, List, [], ◌∷◌, ◌++◌, length, reverse, None}
-use Rattle.oss_model.specs.Order.{IsIn, here, there, IsSuffix, whole, longer, IsBefore}
-use Rattle.oss_model.specs.Bodies.{Order, Program, Act, Start, stage_act, stage_key, stage_created, IsHalt}
+use Rattle.oss_model.specs.Order.{IsIn, here, there, IsSuffix, whole}
+use Rattle.oss_model.specs.Bodies.{Program, Start, stage_act, stage_key, stage_created}
 use Rattle.oss_model.specs.Bodies.Act.{Printed}
 use Rattle.oss_model.specs.Machine.{Task, State, At}
 use Rattle.oss_model.specs.History.{IsMade, IsStarted}
 use Rattle.oss_model.specs.Memory.{Event, key_at, Happened}
-use Rattle.oss_model.specs.Answers.{DonePrint, IsNotPast}
+use Rattle.oss_model.specs.Answers.{DonePrint}
 use Rattle.oss_model.specs.Moves.{act_now, found_by, after_answer, CanStep, Stepped, GaveUp}
 use Rattle.oss_model.proofs.GrowLemmas.{Grown}
 use Rattle.oss_model.proofs.KeyOrder.{apart_in}
@@ -16,7 +16,7 @@ use Rattle.oss_model.proofs.OrderLemmas.{suffix_trans, suffix_length, before_not
 use Rattle.oss_model.proofs.SortLemmas.{reverse_same, in_append}
 use Rattle.oss_model.proofs.TreeLemmas.{at_same, path_found}
 use Rattle.oss_core.specs.Printing.{InTime, ArePrints}
-use Rattle.oss_core.proofs.EntryLemmas.{in_cases, in_none, in_front, in_last}
+use Rattle.oss_core.proofs.EntryLemmas.{in_none, in_front, in_last}
 
 in_time_added : {S : Type 0} (P : Program S) (es : List (Event S)) (e : Event S) → InTime P es → ((g : Event S) → IsIn g es → key_at P g ≡ key_at P e → length g.past < length e.past) → InTime P (es ++ e ∷ [])
 in_time_added P [] e h f = ((λ g i. absurd (in_none i)), tt)

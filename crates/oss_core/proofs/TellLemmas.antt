@@ -6,21 +6,21 @@ use Rattle.oss_syntax.specs.declared.access.Mode.{Mode}
 use Rattle.oss_syntax.specs.declared.access.Op.{Op}
 use Rattle.oss_syntax.specs.declared.access.Mode.TheVariants.{Fold}
 use Rattle.oss_model.specs.Order.{IsIn}
-use Rattle.oss_model.specs.Rights.{Right, Released, Holds}
+use Rattle.oss_model.specs.Rights.{Released, Holds}
 use Rattle.oss_model.specs.Context.{right_of}
-use Rattle.oss_model.specs.Bodies.{Program, Act, Start, Body, stack_from, IsHalt}
+use Rattle.oss_model.specs.Bodies.{Program, Act, Body, stack_from, IsHalt}
 use Rattle.oss_model.specs.Bodies.Act.{Ticked, Load, Store, Folded, Created, Awaited, Waited, WaitedOn, Releases, Printed, Ended, Fault, Over}
-use Rattle.oss_model.specs.Machine.{Task, State, At, HasAccess, IsReady, IsComplete, IsWaitMet}
+use Rattle.oss_model.specs.Machine.{Task, State, At, IsReady, IsComplete, IsWaitMet}
 use Rattle.oss_model.specs.Moves.{act_now, created_now, is_ended, WaitClause, CanStep, IsGone, CanLet, CanJoin}
 use Rattle.oss_model.proofs.TreeLemmas.{at_same}
 use Rattle.oss_deps.specs.declared.opened.Open.{Open}
-use Rattle.oss_deps.specs.Opens.{access_at, names, HasOpened, IsMet}
+use Rattle.oss_deps.specs.Opens.{HasOpened, IsMet}
 use Rattle.oss_core.specs.Standing.{IsNumbered, IsLinked, AreTasks, StandsFor}
 use Rattle.oss_core.specs.Telling.{ChildrenComplete, IsWaitTold, IsEnabled, HasEntry, IsClauseTold, MayLet, MayJoin}
-use Rattle.oss_core.proofs.EntryLemmas.{named_at, one_entry}
+use Rattle.oss_core.proofs.EntryLemmas.{named_at}
 use Rattle.oss_core.proofs.MatchLemmas.{entry_of, path_of, head_is, tail_is, ready_of, met_of}
 use Rattle.oss_core.proofs.WaitLemmas.{join_same, children_forth, children_back}
-use Rattle.oss_core.proofs.KeepLemmas.{some_is, TaskOf, own_body, own_given}
+use Rattle.oss_core.proofs.KeepLemmas.{some_is}
 
 not_true : (b : Bool) → (b ≡ true → ⊥) → b ≡ false
 not_true true h = absurd (h refl)

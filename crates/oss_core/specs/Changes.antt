@@ -21,7 +21,6 @@ use Rattle.oss_machine.specs.Frames.{CodeScript}
 use Rattle.oss_machine.specs.Machines.{asks}
 use Rattle.oss_body.specs.declared.act.Act.{Act}
 use Rattle.oss_body.specs.declared.act.Act.TheVariants as acts
-use Rattle.oss_body.specs.declared.body.Body.{Body}
 use Rattle.oss_body.specs.Acts.{act_seen, answer_to, creates}
 use Rattle.oss_body.specs.Places.{unwritten}
 use Rattle.oss_body.specs.Relation.{IsBody, has_wait, is_over, pending_of}
@@ -29,7 +28,7 @@ use Rattle.oss_tree.specs.declared.output.Print.{Print}
 use Rattle.oss_tree.specs.declared.task.Task.{Task as TreeTask}
 use Rattle.oss_tree.specs.Tasks.{HasPoint, changed, ended_task, given_task, grown}
 use Rattle.oss_deps.specs.Opens.{access_at}
-use Rattle.oss_deps.specs.Seen.{Seen, IsSame, Opens}
+use Rattle.oss_deps.specs.Seen.{IsSame, Opens}
 use Rattle.oss_core.specs.declared.held.Held.{Held}
 use Rattle.oss_core.specs.declared.held.Owed.{Owed}
 use Rattle.oss_core.specs.Kept.{IsCore, Kept, owed_by}

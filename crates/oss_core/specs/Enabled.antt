@@ -1,7 +1,7 @@
 -- Which moves may be made, told of what a core keeps alone.
 -- Read against: main has created out(x) and in(x), and waits. The first task may step; the second may not, since it is not met; and main may not, since
 -- the first is not complete. Behind the end of the first task it may give up x by a let, and by no join.
-use Rattle.std.specs.Prelude.{◌≡◌, ℕ, suc, ◌⊎◌, Bool, true, false, List, length, Some, slice_get}
+use Rattle.std.specs.Prelude.{◌≡◌, ℕ, suc, ◌⊎◌, true, false, List, length, Some, slice_get}
 use Rattle.oss_syntax.specs.declared.access.Op.{Op}
 use Rattle.oss_syntax.specs.declared.access.Mode.TheVariants.{Fold}
 use Rattle.oss_model.specs.Context.{in_clauses}

@@ -4,7 +4,7 @@
 -- Read against: main has created out(x), which has stored 5 in x and ended, and has not given x up. There are two tasks, of which the second owes
 -- x by a let; the tree has the points 0 and 0.0, the second ended; the dependency system has one entry, with creator 0; and x is 5. The state was
 -- reached by the acts of main up to the creation and those of the task.
-use Rattle.std.specs.Prelude.{◌≡◌, ℕ, ◌<◌, ◌↔◌, Bool, true, false, List, [], ◌∷◌, length, map, Option, Some, None, slice_get}
+use Rattle.std.specs.Prelude.{◌≡◌, ℕ, ◌↔◌, Bool, true, false, List, [], ◌∷◌, length, map, Option, Some, None, slice_get}
 use Rattle.oss_syntax.specs.declared.access.Mode.TheVariants.{Fold}
 use Rattle.oss_model.specs.Order.{written}
 use Rattle.oss_model.specs.Rights.{Right, Holds}

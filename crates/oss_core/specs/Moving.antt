@@ -1,7 +1,7 @@
 -- What a move changes of what the core keeps.
 use Rattle.std.specs.Prelude.{◌≡◌, ℕ, ◌+◌, ◌<◌, ◌⊎◌, Bool, true, false, List, [], ◌∷◌, ◌++◌, length, slice_get, Some, None}
 use Rattle.oss_model.specs.Bodies.{Order, Program, Act, Body, IsHalt}
-use Rattle.oss_model.specs.Bodies.Act.{Load, Created, Folded, Awaited, Waited, WaitedOn}
+use Rattle.oss_model.specs.Bodies.Act.{Load, Created}
 use Rattle.oss_model.specs.Machine.{Task, State}
 use Rattle.oss_model.specs.Moves.{act_now, CanStep, Stepped, new_task}
 use Rattle.oss_deps.specs.declared.opened.Open.{Open}

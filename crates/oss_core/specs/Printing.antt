@@ -1,5 +1,5 @@
 -- The prints that a core keeps, in the order of time.
-use Rattle.std.specs.Prelude.{◌≡◌, ◌<◌, ℕ, List, [], ◌∷◌, length, None}
+use Rattle.std.specs.Prelude.{◌≡◌, ◌<◌, List, [], ◌∷◌, length, None}
 use Rattle.oss_model.specs.Order.{IsIn}
 use Rattle.oss_model.specs.Bodies.{Program}
 use Rattle.oss_model.specs.Machine.{State}

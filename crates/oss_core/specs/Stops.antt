@@ -1,7 +1,7 @@
 -- A core that stands still, and its answer, told of what it keeps alone.
 -- Read against: main has created out(x), which divides by 0 on line 4, and in(x); main has ended. Only the first task could go on, and it stands before a fault: so no move may
 -- be made, the second task and the first are not complete, and the answer is the fault on line 4, with what was printed up to its key.
-use Rattle.std.specs.Prelude.{◌≡◌, ℕ, ◌<◌, ◌↔◌, Bool, true, false, List, [], ◌∷◌, length, Option, Some, None, slice_get}
+use Rattle.std.specs.Prelude.{◌≡◌, ℕ, ◌<◌, ◌↔◌, false, List, [], ◌∷◌, length, Option, Some, None, slice_get}
 use Rattle.oss_syntax.specs.declared.access.Op.{Op}
 use Rattle.oss_syntax.specs.declared.fault.FaultKind.{FaultKind}
 use Rattle.oss_model.specs.Order.{IsBefore, IsIn, written}
@@ -12,13 +12,12 @@ use Rattle.oss_model.specs.declared.answer.Answer.{Answer}
 use Rattle.oss_model.specs.declared.answer.Answer.TheVariants as answers
 use Rattle.oss_model.specs.declared.moving.Move.{Move}
 use Rattle.oss_machine.specs.Frames.{CodeScript}
-use Rattle.oss_body.specs.declared.act.Act.{Act}
 use Rattle.oss_body.specs.declared.act.Act.TheVariants as acts
 use Rattle.oss_body.specs.Places.{unwritten}
 use Rattle.oss_body.specs.declared.body.Body.{Body}
 use Rattle.oss_body.specs.Relation.{is_over, pending_of}
 use Rattle.oss_tree.specs.declared.task.Task.{Task as TreeTask}
-use Rattle.oss_tree.specs.Tasks.{AreComplete, IsComplete}
+use Rattle.oss_tree.specs.Tasks.{IsComplete}
 use Rattle.oss_tree.specs.Output.{IsOutput, up_to}
 use Rattle.oss_core.specs.declared.held.Held.{Held}
 use Rattle.oss_deps.specs.Seen.{Seen}

@@ -1,4 +1,4 @@
-use Rattle.std.proofs.Common.{◌≡◌, ℕ, Option, refl, sym, subst, length, Some, None}
+use Rattle.std.proofs.Common.{◌≡◌, ℕ, Option, refl, sym, subst, length, Some}
 use Rattle.std.specs.Prelude.{slice_get}
 use Rattle.std.proofs.lemmas.Option.{slice_get_read, slice_get_within}
 use Rattle.oss_core.specs.declared.held.Held.{Held}

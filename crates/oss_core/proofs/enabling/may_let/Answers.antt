@@ -1,4 +1,3 @@
-use Rattle.std.proofs.Common.{sym}
 use Rattle.oss_core.proofs.CallLemmas.{at_place, at_none}
 use Rattle.oss_core.specs.Enabled.{MayGive}
 use Rattle.oss_core.proofs.enabling.may_let.Goals as goal

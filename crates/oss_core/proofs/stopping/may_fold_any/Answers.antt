@@ -1,4 +1,4 @@
-use Rattle.std.proofs.Common.{◌≡◌, ℕ, ◌<◌, ◌+◌, ◌⊎◌, inl, inr, sym, subst, arith, true, false}
+use Rattle.std.proofs.Common.{◌≡◌, ℕ, ◌<◌, ◌+◌, ◌⊎◌, inl, inr, sym, subst, arith}
 use Rattle.oss_syntax.specs.declared.access.Op.{Op}
 use Rattle.oss_deps.specs.Seen.{Seen}
 use Rattle.oss_core.specs.Enabled.{MayFold}

@@ -1,9 +1,8 @@
-use Rattle.std.proofs.Common.{◌≡◌, ℕ, ◌<◌, ◌≤◌, ◌+◌, ◌⊎◌, inl, inr, refl, sym, subst, ◌∙◌, length, arith, true, false, Some}
+use Rattle.std.proofs.Common.{◌≡◌, ℕ, ◌<◌, ◌≤◌, ◌+◌, ◌⊎◌, inl, inr, refl, sym, subst, ◌∙◌, length, arith, Some}
 use Rattle.std.specs.Prelude.{slice_get}
 use Rattle.std.proofs.lemmas.Option.{slice_get_read, slice_get_within}
 use Rattle.oss_syntax.specs.declared.access.Range.{Range}
 use Rattle.oss_deps.specs.Opens.{AreChildrenDone}
-use Rattle.oss_deps.specs.Seen.{Seen}
 use Rattle.oss_core.proofs.CallLemmas.{done_back, done_same, in_range_of, range_of, seen_trans}
 use Rattle.oss_core.proofs.KeepLemmas.{some_is, which}
 use Rattle.oss_core.proofs.waiting.are_children_done.Goals as goal

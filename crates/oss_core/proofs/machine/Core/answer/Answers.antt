@@ -1,5 +1,4 @@
-use Rattle.std.proofs.Common.{◌≡◌, subst, true, false}
-use Rattle.oss_core.specs.Cores.{kept_of}
+use Rattle.std.proofs.Common.{subst}
 use Rattle.oss_core.specs.Kept.{Kept}
 use Rattle.oss_core.specs.Stops.{AreKeyed, IsAnswerOf}
 use Rattle.oss_core.proofs.AnswerLemmas.{answer_is}

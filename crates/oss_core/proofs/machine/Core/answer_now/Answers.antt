@@ -1,7 +1,6 @@
-use Rattle.std.proofs.Common.{◌≡◌, ℕ, List, Option, Some, None, length, subst}
+use Rattle.std.proofs.Common.{ℕ, List, Option, Some, None, length, subst}
 use Rattle.oss_core.specs.declared.held.Held.{Held}
-use Rattle.oss_core.specs.Cores.{kept_of}
-use Rattle.oss_core.specs.Stops.{AreKeyed, IsAnswerOf, IsLeastTo}
+use Rattle.oss_core.specs.Stops.{AreKeyed, IsLeastTo}
 use Rattle.oss_core.proofs.CallLemmas.{if_ok}
 use Rattle.oss_core.proofs.LeastLemmas.{faultless, least_at}
 use Rattle.oss_core.proofs.machine.Core.answer_now.Goals as goal

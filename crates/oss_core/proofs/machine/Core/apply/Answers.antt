@@ -1,4 +1,4 @@
-use Rattle.std.proofs.Common.{subst, true, false, ◌≡◌}
+use Rattle.std.proofs.Common.{subst}
 use Rattle.oss_core.specs.Changes.{IsMade}
 use Rattle.oss_core.specs.Cores.{kept_of}
 use Rattle.oss_core.specs.Kept.{Kept}

@@ -1,10 +1,9 @@
-use Rattle.std.proofs.Common.{◌≡◌, ℕ, List, ◌∷◌, [], ◌++◌, sym, refl, subst, ◌∙◌, Some}
+use Rattle.std.proofs.Common.{◌≡◌, ℕ, List, sym, refl, subst, ◌∙◌, Some}
 use Rattle.std.specs.Prelude.{slice_get}
 use Rattle.oss_deps.specs.Seen.{CanOpen, Opens}
 use Rattle.oss_core.specs.declared.held.Held.{Held}
 use Rattle.oss_core.specs.Changes.{IsCreated}
 use Rattle.oss_core.specs.Going.{HasGoneOn}
-use Rattle.oss_core.specs.Kept.{Kept}
 use Rattle.oss_core.specs.Cores.{kept_of}
 use Rattle.oss_core.proofs.CallLemmas.{on_ok}
 use Rattle.oss_core.proofs.GoingLemmas.{created, read_is}

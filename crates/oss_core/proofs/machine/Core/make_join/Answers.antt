@@ -1,5 +1,4 @@
 use Rattle.std.proofs.Common.{◌≡◌, sym, subst, ◌∙◌, Some}
-use Rattle.std.specs.Prelude.{slice_get}
 use Rattle.oss_syntax.specs.declared.access.Op.{Op}
 use Rattle.oss_ranges.specs.Cells.{value_at}
 use Rattle.oss_core.specs.declared.held.Held.{Held}

@@ -1,6 +1,4 @@
-use Rattle.std.proofs.Common.{◌≡◌, sym, ap, ◌∙◌, true, false, Some}
-use Rattle.std.specs.Prelude.{slice_get}
-use Rattle.oss_body.specs.declared.act.Act.{Act}
+use Rattle.std.proofs.Common.{◌≡◌, sym, ap, ◌∙◌}
 use Rattle.oss_body.specs.Acts.{creates}
 use Rattle.oss_body.specs.Relation.{pending_of}
 use Rattle.oss_core.specs.declared.held.Held.{Held}

@@ -1,4 +1,4 @@
-use Rattle.std.proofs.Common.{◌≡◌, ℕ, ◌<◌, List, length, Some, subst}
+use Rattle.std.proofs.Common.{◌≡◌, ◌<◌, List, length, Some, subst}
 use Rattle.std.specs.Prelude.{slice_get}
 use Rattle.oss_core.specs.declared.held.Held.{Held}
 use Rattle.oss_core.proofs.MakingLemmas.{fold_of, kept_is}

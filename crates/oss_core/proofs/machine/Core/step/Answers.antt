@@ -1,5 +1,4 @@
-use Rattle.std.proofs.Common.{◌≡◌, ◌<◌, ℕ, length, sym, ap, subst, ◌∙◌, Some, List}
-use Rattle.std.specs.Prelude.{slice_get}
+use Rattle.std.proofs.Common.{◌≡◌, ◌<◌, ℕ, length, sym, ap, subst, ◌∙◌, List}
 use Rattle.std.proofs.lemmas.Option.{slice_get_within}
 use Rattle.oss_body.specs.declared.act.Act.{Act}
 use Rattle.oss_model.specs.Moves.{cells_after}
@@ -9,7 +8,6 @@ use Rattle.oss_tree.specs.declared.task.Task.{Task as TreeTask}
 use Rattle.oss_core.specs.declared.held.Held.{Held}
 use Rattle.oss_core.specs.Changes.{found_in, noted, prints_after}
 use Rattle.oss_core.specs.Going.{HasGoneOn, IsKeyed}
-use Rattle.oss_core.specs.Kept.{Kept}
 use Rattle.oss_core.specs.Cores.{kept_of}
 use Rattle.oss_core.proofs.CallLemmas.{seen_same}
 use Rattle.oss_core.proofs.GoingLemmas.{read_is, stepped}

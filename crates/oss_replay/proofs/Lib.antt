@@ -1,0 +1,4 @@
+pub mod ListLemmas
+pub mod SameLemmas
+pub mod EndLemmas
+pub mod MakingLemmas

@@ -1,0 +1,3 @@
+pub mod Replays
+pub mod Claims
+pub mod Making
