@@ -11,6 +11,8 @@ mod held;
 mod machine;
 mod stepping;
 mod stopping;
+#[cfg(test)]
+mod tests;
 mod waiting;
 
 pub use fault::ApplyFault;
