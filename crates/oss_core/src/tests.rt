@@ -1,6 +1,6 @@
 //! A program with one task, worked by hand: its moves in one order, and its answer.
 
-ghost use Rattle.std.specs.Prelude.{◌≡◌, ◌<◌, ◌≤◌, [], false, length, ℕ};
+ghost use Rattle.std.specs.Prelude.{◌≡◌, ◌<◌, [], false, ℕ};
 ghost use Rattle.oss_code.specs.declared.code.CodeParts.{CodeParts as Parts};
 ghost use Rattle.oss_core.specs.Cores.{kept_of};
 ghost use Rattle.oss_core.specs.Kept.{IsRunning};
