@@ -11,7 +11,6 @@ use Rattle.oss_model.specs.Machine.{State, Task, At}
 use Rattle.oss_model.specs.declared.answer.Answer.{Answer}
 use Rattle.oss_model.specs.declared.answer.Answer.TheVariants as answers
 use Rattle.oss_model.specs.declared.moving.Move.{Move}
-use Rattle.oss_machine.specs.Frames.{CodeScript}
 use Rattle.oss_body.specs.declared.act.Act.TheVariants as acts
 use Rattle.oss_body.specs.Places.{unwritten}
 use Rattle.oss_body.specs.declared.body.Body.{Body}
@@ -95,13 +94,13 @@ IsLeastTo tasks to None = (v : ℕ) (kind : FaultKind) (line : ℕ) (key : List 
 IsLeastTo tasks to (Some v) = (kind : FaultKind) × (line : ℕ) × (key : List ℕ) × IsLeastBelow tasks to v kind line key
 
 -- The task of the state with this path is not complete.
-pub record IsUnfinished (P : Program CodeScript) (s : State CodeScript) (p : List ℕ) : Type 0 where
-  pub task : Task CodeScript
+pub record IsUnfinished {S : Type 0} (P : Program S) (s : State S) (p : List ℕ) : Type 0 where
+  pub task : Task S
   pub at_ : At s p task
   pub left : machine.IsComplete P s p → ⊥
 
 -- So many tasks of the state are not complete: there is a list of exactly their paths, none twice.
-pub record HasUnfinished (P : Program CodeScript) (s : State CodeScript) (n : ℕ) : Type 0 where
+pub record HasUnfinished {S : Type 0} (P : Program S) (s : State S) (n : ℕ) : Type 0 where
   pub list : List (List ℕ)
   pub apart : AreApart list
   pub exact : (p : List ℕ) → (IsIn p list ↔ IsUnfinished P s p)

@@ -15,7 +15,6 @@ use Rattle.oss_model.specs.Machine.{Task, State, At}
 use Rattle.oss_model.specs.Moves.{CanStep, Stepped, CanLet, LetGo, CanJoin, Joined, opening}
 use Rattle.oss_model.specs.Answers.{IsStopped, IsAnswer}
 use Rattle.oss_code.specs.declared.code.CodeParts.{CodeParts}
-use Rattle.oss_machine.specs.Frames.{CodeScript}
 use Rattle.oss_machine.specs.Machines.{asks}
 use Rattle.oss_body.specs.Mains.{code_main}
 use Rattle.oss_sched.specs.declared.moves.TextMove.{TextMove}
@@ -91,10 +90,10 @@ pub data IsStuckAt {S : Type 0} (P : Program S) : State S → ℕ → List TextM
 
 -- What comes of moves that are replayed from this state and counted from this number on: all were made, and no move is left, with the answer of
 -- the state to which they lead; a move is not enabled; or all were made, and a move is left, with the number of the tasks that are not complete.
-abbrev pub IsReplayedFrom : Program CodeScript → State CodeScript → ℕ → List TextMove → Replayed → Type 0
-IsReplayedFrom P s number moves (Answered answer) = (n : State CodeScript) × Plays P s moves n × IsStopped P n × IsAnswer P n answer
+abbrev pub IsReplayedFrom : {S : Type 0} → Program S → State S → ℕ → List TextMove → Replayed → Type 0
+IsReplayedFrom P s number moves (Answered answer) = (n : State _) × Plays P s moves n × IsStopped P n × IsAnswer P n answer
 IsReplayedFrom P s number moves (NotEnabled at) = IsStuckAt P s number moves at
-IsReplayedFrom P s number moves (Unfinished count) = (n : State CodeScript) × Plays P s moves n × (IsStopped P n → ⊥) × HasUnfinished P n count
+IsReplayedFrom P s number moves (Unfinished count) = (n : State _) × Plays P s moves n × (IsStopped P n → ⊥) × HasUnfinished P n count
 
 -- The same for the code, where main starts over its cells with this much fuel for each task, and the moves are counted from 1.
 abbrev pub IsReplayed : CodeParts → ℕ → List TextMove → Replayed → Type 0

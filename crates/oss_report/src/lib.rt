@@ -1,9 +1,11 @@
-//! The texts that tell of faults, refusals, and what the globals hold.
+//! The texts that tell of faults, refusals, replays, and what the globals hold.
 #![tactic(auto)]
 
 mod dump;
 mod lines;
+mod replays;
 mod words;
 
 pub use dump::dump_bytes;
 pub use lines::{fault_line, refusal_line};
+pub use replays::{not_enabled_line, schedule_line, unfinished_line};
