@@ -1,0 +1,5 @@
+pub mod TurnLemmas
+pub mod ActLemmas
+pub mod MayLemmas
+pub mod MakeLemmas
+pub mod AlikeTheorem
