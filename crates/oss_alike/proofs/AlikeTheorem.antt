@@ -4,10 +4,10 @@ use Rattle.oss_syntax.specs.declared.access.Op.{Op}
 use Rattle.oss_model.specs.Bodies.{Order, Program, Start}
 use Rattle.oss_model.specs.Bodies.Act.{Created}
 use Rattle.oss_model.specs.Machine.{Task, State, find, same_path}
-use Rattle.oss_model.specs.Moves.{act_now, created_now, cells_after, found_by, combine, joined_cells, after_answer, after_giving, new_task, CanStep, Stepped, CanLet, LetGo, CanJoin, Joined, GaveUp, opening}
+use Rattle.oss_model.specs.Moves.{act_now, created_now, cells_after, found_by, combine, joined_cells, after_answer, after_giving, new_task, CanStep, Stepped, CanLet, LetGo, CanJoin, Joined, GaveUp, Moved, steps, lets, joins, opening, Reached, opens, moves}
 use Rattle.oss_model.proofs.MoveLemmas.{which_path, is_creation}
 use Rattle.oss_alike.specs.Alike.{IsBisimulation, AreTasksAlike, AreFoundAlike, IsAlike}
-use Rattle.oss_alike.specs.Claims.{tells, OpeningsAreAlike, TasksHavePartners, StepsToo, StepsAreAlike, LetsToo, LetsAreAlike, JoinsToo, JoinsAreAlike, CompleteAlike, StoppedAlike, BisimulationsTurn, StatesTurn}
+use Rattle.oss_alike.specs.Claims.{tells, OpeningsAreAlike, TasksHavePartners, StepsToo, StepsAreAlike, LetsToo, LetsAreAlike, JoinsToo, JoinsAreAlike, MovesToo, MovesAreAlike, RunsToo, RunsAreAlike, CompleteAlike, StoppedAlike, BisimulationsTurn, StatesTurn}
 use Rattle.oss_alike.proofs.TurnLemmas.{acts_back, bisimulation_back, alike_back, at_forth, found_both}
 use Rattle.oss_alike.proofs.ActLemmas.{found_alike, cells_alike, creation_forth, now, created_alike, slot_alike, answered_alike, given_alike}
 use Rattle.oss_alike.proofs.MayLemmas.{complete_forth, can_step_forth, can_let_forth, can_join_forth, stopped_forth}
@@ -132,6 +132,21 @@ module _ {S T : Type 0} (P : Program S) (Q : Program T) (R : Start S → Start T
         alike = join_alike p c op k.2 a b;
       }
 
+  -- so each move of the one is a move of the other
+  pub move_too : {x : State S} → Moved P s x → MovesToo Q R x n
+  move_too (steps {p = p} {t = t} can a) = let k = step_forth p t can a in record { state = k.state; moved = steps k.can k.stepped; alike = k.alike }
+  move_too (lets {p = p} {c = c} {t = t} can a) = let k = let_forth p c t can a in record { state = k.state; moved = lets k.can k.let_go; alike = k.alike }
+  move_too (joins {p = p} {c = c} {op = op} {t = t} can a) = let k = join_forth p c op t can a in record { state = k.state; moved = joins k.can k.joined; alike = k.alike }
+
+-- and each run of the one is a run of the other
+pub run_too : {S T : Type 0} (P : Program S) (Q : Program T) (R : Start S → Start T → Type 0) → IsBisimulation P Q R → (main : Start S) (other : Start T) (cells : List ℕ) → R main other
+    → {s : State S} → Reached P main cells s → RunsToo Q R other cells s
+run_too P Q R is main other cells r opens = record { state = opening other cells; reached = opens; alike = opening_alike P Q R is main other cells r }
+run_too P Q R is main other cells r (moves h a) =
+    let k = run_too P Q R is main other cells r h in
+    let m = move_too P Q R is k.alike a in
+    record { state = m.state; reached = moves k.reached m.moved; alike = m.alike }
+
 -- the claims
 pub openings_are_alike : (S T : Type 0) → OpeningsAreAlike S T
 openings_are_alike S T P Q test main other cells is r = opening_alike P Q (tells test) is main other cells r
@@ -159,3 +174,9 @@ bisimulations_turn S T P Q test is = bisimulation_back is
 
 pub states_turn : (S T : Type 0) → StatesTurn S T
 states_turn S T test s n same = alike_back same
+
+pub moves_are_alike : (S T : Type 0) → MovesAreAlike S T
+moves_are_alike S T P Q test s x n is same a = move_too P Q (tells test) is same a
+
+pub runs_are_alike : (S T : Type 0) → RunsAreAlike S T
+runs_are_alike S T P Q test main other cells s is r h = run_too P Q (tells test) is main other cells r h

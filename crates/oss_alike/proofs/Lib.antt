@@ -3,3 +3,4 @@ pub mod ActLemmas
 pub mod MayLemmas
 pub mod MakeLemmas
 pub mod AlikeTheorem
+pub mod RelationLemmas

@@ -5,7 +5,7 @@ use Rattle.oss_syntax.specs.declared.access.Op.{Op}
 use Rattle.oss_model.specs.Answers.{IsStopped}
 use Rattle.oss_model.specs.Bodies.{Program, Start}
 use Rattle.oss_model.specs.Machine.{Task, State, At, IsComplete}
-use Rattle.oss_model.specs.Moves.{CanStep, Stepped, CanLet, LetGo, CanJoin, Joined, opening}
+use Rattle.oss_model.specs.Moves.{CanStep, Stepped, CanLet, LetGo, CanJoin, Joined, Moved, opening, Reached}
 use Rattle.oss_alike.specs.Alike.{IsBisimulation, turned, AreTasksAlike, IsAlike}
 
 -- The relation of a test.
@@ -63,6 +63,28 @@ pub record JoinsToo {S T : Type 0} (Q : Program T) (R : Start S → Start T → 
 abbrev pub JoinsAreAlike : Type 0 → Type 0 → Type 0
 JoinsAreAlike S T = (P : Program S) (Q : Program T) (test : Start S → Start T → Bool) (s x : State S) (n : State T) (p : List ℕ) (c : ℕ) (op : Op) (t : Task S)
     → IsBisimulation P Q (tells test) → IsAlike (tells test) s n → CanJoin P s p c op t → Joined P s p c op t x → JoinsToo Q (tells test) p c op t x n
+
+-- A move leads to a state that is alike in the other program too.
+pub record MovesToo {S T : Type 0} (Q : Program T) (R : Start S → Start T → Type 0) (x : State S) (n : State T) : Type 0 where
+  pub state : State T
+  pub moved : Moved Q n state
+  pub alike : IsAlike R x state
+
+-- So does each move.
+abbrev pub MovesAreAlike : Type 0 → Type 0 → Type 0
+MovesAreAlike S T = (P : Program S) (Q : Program T) (test : Start S → Start T → Bool) (s x : State S) (n : State T)
+    → IsBisimulation P Q (tells test) → IsAlike (tells test) s n → Moved P s x → MovesToo Q (tells test) x n
+
+-- A state of a run of the other program is alike.
+pub record RunsToo {S T : Type 0} (Q : Program T) (R : Start S → Start T → Type 0) (other : Start T) (cells : List ℕ) (s : State S) : Type 0 where
+  pub state : State T
+  pub reached : Reached Q other cells state
+  pub alike : IsAlike R s state
+
+-- So each state of a run has one of a run of the other program that is alike.
+abbrev pub RunsAreAlike : Type 0 → Type 0 → Type 0
+RunsAreAlike S T = (P : Program S) (Q : Program T) (test : Start S → Start T → Bool) (main : Start S) (other : Start T) (cells : List ℕ) (s : State S)
+    → IsBisimulation P Q (tells test) → tells test main other → Reached P main cells s → RunsToo Q (tells test) other cells s
 
 -- What is complete in the one state is complete in the other.
 abbrev pub CompleteAlike : Type 0 → Type 0 → Type 0

@@ -1,7 +1,7 @@
 //! What holds of two programs whose bodies do the same acts: laws, each carried by a function that does nothing. A crate above calls the
 //! function for its types of scripts, and then has the law.
 
-ghost use Rattle.oss_alike.specs.Claims.{BisimulationsTurn, CompleteAlike, JoinsAreAlike, LetsAreAlike, OpeningsAreAlike, StatesTurn, StepsAreAlike, StoppedAlike, TasksHavePartners};
+ghost use Rattle.oss_alike.specs.Claims.{BisimulationsTurn, CompleteAlike, JoinsAreAlike, LetsAreAlike, MovesAreAlike, OpeningsAreAlike, RunsAreAlike, StatesTurn, StepsAreAlike, StoppedAlike, TasksHavePartners};
 
 /// The opening states are alike where main begins alike.
 pub fn openings_are_alike<S, T>()
@@ -26,6 +26,16 @@ pub fn lets_are_alike<S, T>()
 /// And a slot that is joined.
 pub fn joins_are_alike<S, T>()
     ensures { JoinsAreAlike S T }
+{}
+
+/// So each move of the one program is a move of the other.
+pub fn moves_are_alike<S, T>()
+    ensures { MovesAreAlike S T }
+{}
+
+/// And each run of the one is a run of the other.
+pub fn runs_are_alike<S, T>()
+    ensures { RunsAreAlike S T }
 {}
 
 /// What is complete in the one state is complete in the other.
