@@ -4,14 +4,14 @@ use Rattle.oss_syntax.specs.declared.access.Op.{Op}
 use Rattle.oss_model.specs.Bodies.{Order, Program, Start}
 use Rattle.oss_model.specs.Bodies.Act.{Created}
 use Rattle.oss_model.specs.Machine.{Task, State, find, same_path}
-use Rattle.oss_model.specs.Moves.{act_now, created_now, cells_after, found_by, combine, joined_cells, after_answer, after_giving, new_task, CanStep, Stepped, CanLet, LetGo, CanJoin, Joined, GaveUp, Moved, steps, lets, joins, opening, Reached, opens, moves}
+use Rattle.oss_model.specs.Moves.{act_now, created_now, cells_after, found_by, combine, joined_cells, after_answer, after_giving, new_task, TaskStep, CanStep, Stepped, CanLet, LetGo, CanJoin, Joined, GaveUp, Moved, steps, lets, joins, opening, Reached, opens, moves}
 use Rattle.oss_model.proofs.MoveLemmas.{which_path, is_creation}
 use Rattle.oss_alike.specs.Alike.{IsBisimulation, AreTasksAlike, AreFoundAlike, IsAlike}
 use Rattle.oss_alike.specs.Claims.{tells, OpeningsAreAlike, TasksHavePartners, StepsToo, StepsAreAlike, LetsToo, LetsAreAlike, JoinsToo, JoinsAreAlike, MovesToo, MovesAreAlike, RunsToo, RunsAreAlike, CompleteAlike, StoppedAlike, BisimulationsTurn, StatesTurn}
 use Rattle.oss_alike.proofs.TurnLemmas.{acts_back, bisimulation_back, alike_back, at_forth, found_both}
 use Rattle.oss_alike.proofs.ActLemmas.{found_alike, cells_alike, creation_forth, now, created_alike, slot_alike, answered_alike, given_alike}
 use Rattle.oss_alike.proofs.MayLemmas.{complete_forth, can_step_forth, can_let_forth, can_join_forth, stopped_forth}
-use Rattle.oss_alike.proofs.MakeLemmas.{giving, gives, giving_cells, stepping, steps_there}
+use Rattle.oss_alike.proofs.MakeLemmas.{giving, gives, giving_cells, acting, acts, acting_cells}
 
 opening_found : {S T : Type 0} (R : Start S → Start T → Type 0) (main : Start S) (other : Start T) (cells : List ℕ) → main.path ≡ other.path → R main other
     → (p : List ℕ) (b : Bool) → same_path main.path p ≡ b → AreFoundAlike R (find (opening main cells).tasks p) (find (opening other cells).tasks p)
@@ -29,23 +29,18 @@ opening_alike P Q R is main other cells r =
     record { cells = refl; tasks = λ p. opening_found R main other cells (is main other r).path r p (same_path main.path p) refl }
 
 module _ {S T : Type 0} (P : Program S) (Q : Program T) (R : Start S → Start T → Type 0) (is : IsBisimulation P Q R) {s : State S} {n : State T} (same : IsAlike R s n) where
-  -- acts of tasks that are alike lead to states that are alike
-  pub stepped_alike : {x : State S} {y : State T} (p : List ℕ) {t : Task S} {u : Task T} → AreTasksAlike R t u → Stepped P s p t x → Stepped Q n p u y → IsAlike R x y
-  stepped_alike {x = x} {y = y} p {t = t} {u = u} k a b = record {
-    cells = a.cells ∙ (ap (cells_after (act_now P t.body)) same.cells ∙ (cells_alike (now P Q R is k).acts n.cells ∙ sym b.cells));
-    tasks = λ q. by_path q (which_path q p) (is_creation (act_now P t.body));
-  }
+  -- acts of tasks that are alike leave tasks that are alike
+  acted_alike : {x : State S} {y : State T} (p : List ℕ) {t : Task S} {u : Task T} (v w : ℕ) → v ≡ w → AreTasksAlike R t u → TaskStep P s p t v x → TaskStep Q n p u w y
+      → (q : List ℕ) → AreFoundAlike R (find x.tasks q) (find y.tasks q)
+  acted_alike {x = x} {y = y} p {t = t} {u = u} v w answer k a b q = by_path q (which_path q p) (is_creation (act_now P t.body))
     where
-      answer : found_by (act_now P t.body) s.cells ≡ found_by (act_now Q u.body) n.cells
-      answer = ap (found_by (act_now P t.body)) same.cells ∙ found_alike (now P Q R is k).acts n.cells
-
       made : created_now P t.body ∷ p ≡ created_now Q u.body ∷ p
       made = ap (λ (i : ℕ). i ∷ p) (created_alike P Q R is k)
 
       past : (q : List ℕ) → q ≢ p → ((o : Order S) → act_now P t.body ≡ Created o false → q ≢ created_now P t.body ∷ p) → AreFoundAlike R (find x.tasks q) (find y.tasks q)
       past q ne f =
-          subst (λ (o : Option (Task S)). AreFoundAlike R o (find y.tasks q)) (sym (a.tasks.others q ne f))
-          (subst (λ (o : Option (Task T)). AreFoundAlike R (find s.tasks q) o) (sym (b.tasks.others q ne other)) (same.tasks q))
+          subst (λ (o : Option (Task S)). AreFoundAlike R o (find y.tasks q)) (sym (a.others q ne f))
+          (subst (λ (o : Option (Task T)). AreFoundAlike R (find s.tasks q) o) (sym (b.others q ne other)) (same.tasks q))
         where
           other : (o : Order T) → act_now Q u.body ≡ Created o false → q ≢ created_now Q u.body ∷ p
           other o e g = let c = creation_forth (acts_back (now P Q R is k).acts) o e in f c.0 c.1 (g ∙ sym made)
@@ -54,8 +49,8 @@ module _ {S T : Type 0} (P : Program S) (Q : Program T) (R : Start S → Start T
       child o e =
           let c = creation_forth (now P Q R is k).acts o e in
           found_both (find x.tasks (created_now P t.body ∷ p)) (find y.tasks (created_now P t.body ∷ p)) (new_task P t.body o) (new_task Q u.body c.0)
-          (record { start = c.2; found = refl; given = refl }) (a.tasks.made o e)
-          (subst (λ (q : List ℕ). find y.tasks q ≡ Some (new_task Q u.body c.0)) (sym made) (b.tasks.made c.0 c.1))
+          (record { start = c.2; found = refl; given = refl }) (a.made o e)
+          (subst (λ (q : List ℕ). find y.tasks q ≡ Some (new_task Q u.body c.0)) (sym made) (b.made c.0 c.1))
 
       by_child : (q : List ℕ) (o : Order S) → act_now P t.body ≡ Created o false → q ≢ p → (q ≡ created_now P t.body ∷ p) ⊎ (q ≢ created_now P t.body ∷ p) → AreFoundAlike R (find x.tasks q) (find y.tasks q)
       by_child q o e ne (inl f) = subst (λ (r : List ℕ). AreFoundAlike R (find x.tasks r) (find y.tasks r)) (sym f) (child o e)
@@ -64,10 +59,24 @@ module _ {S T : Type 0} (P : Program S) (Q : Program T) (R : Start S → Start T
       by_path : (q : List ℕ) → (q ≡ p) ⊎ (q ≢ p) → ((o : Order S) × (act_now P t.body ≡ Created o false)) ⊎ ((o : Order S) → act_now P t.body ≢ Created o false) → AreFoundAlike R (find x.tasks q) (find y.tasks q)
       by_path q (inl e) c =
           subst (λ (r : List ℕ). AreFoundAlike R (find x.tasks r) (find y.tasks r)) (sym e)
-          (found_both (find x.tasks p) (find y.tasks p) (after_answer (found_by (act_now P t.body) s.cells) t) (after_answer (found_by (act_now Q u.body) n.cells) u)
-          (answered_alike k (found_by (act_now P t.body) s.cells) (found_by (act_now Q u.body) n.cells) answer) a.tasks.own b.tasks.own)
+          (found_both (find x.tasks p) (find y.tasks p) (after_answer v t) (after_answer w u)
+          (answered_alike k v w answer) a.own b.own)
       by_path q (inr ne) (inl o) = by_child q o.0 o.1 ne (which_path q (created_now P t.body ∷ p))
       by_path q (inr ne) (inr none) = past q ne (λ o e. absurd (none o e))
+
+  pub answer_alike : {t : Task S} {u : Task T} → AreTasksAlike R t u → found_by (act_now P t.body) s.cells ≡ found_by (act_now Q u.body) n.cells
+  answer_alike {t = t} k = ap (found_by (act_now P t.body)) same.cells ∙ found_alike (now P Q R is k).acts n.cells
+
+  -- so they leave the same
+  pub task_step_alike : {x : State S} {y : State T} (p : List ℕ) {t : Task S} {u : Task T} → AreTasksAlike R t u
+      → TaskStep P s p t (found_by (act_now P t.body) s.cells) x → TaskStep Q n p u (found_by (act_now Q u.body) n.cells) y → (q : List ℕ) → AreFoundAlike R (find x.tasks q) (find y.tasks q)
+  task_step_alike p {t = t} {u = u} k a b q = acted_alike p (found_by (act_now P t.body) s.cells) (found_by (act_now Q u.body) n.cells) (answer_alike k) k a b q
+
+  pub stepped_alike : {x : State S} {y : State T} (p : List ℕ) {t : Task S} {u : Task T} → AreTasksAlike R t u → Stepped P s p t x → Stepped Q n p u y → IsAlike R x y
+  stepped_alike p {t = t} k a b = record {
+    cells = a.cells ∙ (ap (cells_after (act_now P t.body)) same.cells ∙ (cells_alike (now P Q R is k).acts n.cells ∙ sym b.cells));
+    tasks = λ q. task_step_alike p k a.tasks b.tasks q;
+  }
 
   -- and so do cells that they give up
   gave_alike : {x : State S} {y : State T} (p : List ℕ) (c : ℕ) {t : Task S} {u : Task T} → AreTasksAlike R t u → GaveUp s p c t x → GaveUp n p c u y → (q : List ℕ) → AreFoundAlike R (find x.tasks q) (find y.tasks q)
@@ -95,10 +104,11 @@ module _ {S T : Type 0} (P : Program S) (Q : Program T) (R : Start S → Start T
   pub step_forth : {x : State S} (p : List ℕ) (t : Task S) → CanStep P s p t → Stepped P s p t x → StepsToo Q R p t x n
   step_forth p t can a =
       let k = at_forth same p t can.at_ in
-      let b = steps_there n p k.0 k.1 Q in
+      let cells = cells_after (act_now Q k.0.body) n.cells in
+      let b : Stepped Q n p k.0 (acting n p k.0 k.1 Q cells) = record { cells = acting_cells n p k.0 k.1 Q cells; tasks = acts n p k.0 k.1 Q cells } in
       record {
         task = k.0;
-        state = stepping n p k.0 k.1 Q;
+        state = acting n p k.0 k.1 Q cells;
         tasks = k.2;
         can = can_step_forth P Q R is same p t k.0 k.1 k.2 can;
         stepped = b;
@@ -146,37 +156,3 @@ run_too P Q R is main other cells r (moves h a) =
     let k = run_too P Q R is main other cells r h in
     let m = move_too P Q R is k.alike a in
     record { state = m.state; reached = moves k.reached m.moved; alike = m.alike }
-
--- the claims
-pub openings_are_alike : (S T : Type 0) → OpeningsAreAlike S T
-openings_are_alike S T P Q test main other cells is r = opening_alike P Q (tells test) is main other cells r
-
-pub tasks_have_partners : (S T : Type 0) → TasksHavePartners S T
-tasks_have_partners S T test s n p t same h = at_forth same p t h
-
-pub steps_are_alike : (S T : Type 0) → StepsAreAlike S T
-steps_are_alike S T P Q test s x n p t is same can a = step_forth P Q (tells test) is same p t can a
-
-pub lets_are_alike : (S T : Type 0) → LetsAreAlike S T
-lets_are_alike S T P Q test s x n p c t is same can a = let_forth P Q (tells test) is same p c t can a
-
-pub joins_are_alike : (S T : Type 0) → JoinsAreAlike S T
-joins_are_alike S T P Q test s x n p c op t is same can a = join_forth P Q (tells test) is same p c op t can a
-
-pub complete_alike : (S T : Type 0) → CompleteAlike S T
-complete_alike S T P Q test s n p is same h = complete_forth P Q (tells test) is same h
-
-pub stopped_alike : (S T : Type 0) → StoppedAlike S T
-stopped_alike S T P Q test s n is same h = stopped_forth P Q (tells test) is same h
-
-pub bisimulations_turn : (S T : Type 0) → BisimulationsTurn S T
-bisimulations_turn S T P Q test is = bisimulation_back is
-
-pub states_turn : (S T : Type 0) → StatesTurn S T
-states_turn S T test s n same = alike_back same
-
-pub moves_are_alike : (S T : Type 0) → MovesAreAlike S T
-moves_are_alike S T P Q test s x n is same a = move_too P Q (tells test) is same a
-
-pub runs_are_alike : (S T : Type 0) → RunsAreAlike S T
-runs_are_alike S T P Q test main other cells s is r h = run_too P Q (tells test) is main other cells r h

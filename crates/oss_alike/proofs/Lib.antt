@@ -4,3 +4,6 @@ pub mod MayLemmas
 pub mod MakeLemmas
 pub mod AlikeTheorem
 pub mod RelationLemmas
+pub mod AnswerLemmas
+pub mod ResultLemmas
+pub mod ClaimLemmas

@@ -3,7 +3,7 @@ use Rattle.std.proofs.Common.{◌≡◌, ◌≢◌, ℕ, ◌⊎◌, inl, inr, re
 use Rattle.oss_model.specs.Bodies.{Order, Program}
 use Rattle.oss_model.specs.Bodies.Act.{Created}
 use Rattle.oss_model.specs.Machine.{Task, State, At, find}
-use Rattle.oss_model.specs.Moves.{act_now, created_now, cells_after, found_by, after_answer, after_giving, new_task, TaskStep, Stepped, GaveUp}
+use Rattle.oss_model.specs.Moves.{act_now, created_now, found_by, after_answer, after_giving, new_task, TaskStep, GaveUp}
 use Rattle.oss_model.proofs.TreeLemmas.{path_found}
 use Rattle.oss_model.proofs.MoveLemmas.{is_creation}
 use Rattle.oss_model.proofs.RunLemmas.{other_path, not_child, no_creation_path}
@@ -47,9 +47,9 @@ module _ {S : Type 0} (s : State S) (p : List ℕ) (t : Task S) (at_ : At s p t)
     tasks_after (inl o) = after_answer answer t ∷ new_task P t.body o.0 ∷ s.tasks
     tasks_after (inr none) = after_answer answer t ∷ s.tasks
 
-    -- the state behind it
-    pub stepping : State S
-    stepping = record { cells = cells_after (act_now P t.body) s.cells; tasks = tasks_after (is_creation (act_now P t.body)) }
+    -- the state with this memory behind it
+    pub acting : List ℕ → State S
+    acting cells = record { cells = cells; tasks = tasks_after (is_creation (act_now P t.body)) }
 
     new_path : (o : Order S) → (new_task P t.body o).body.start.path ≡ created_now P t.body ∷ p
     new_path o = no_creation_path P t.body.start t.body.found o ∙ ap (λ (q : List ℕ). created_now P t.body ∷ q) path_t
@@ -76,6 +76,10 @@ module _ {S : Type 0} (s : State S) (p : List ℕ) (t : Task S) (at_ : At s p t)
       others = λ q ne f. past_first (after_answer answer t) s.tasks p q path_t ne;
     }
 
-    pub steps_there : Stepped P s p t stepping
-    unfolding stepping answer
-    steps_there = record { cells = refl; tasks = tasks_step (is_creation (act_now P t.body)) (cells_after (act_now P t.body) s.cells) }
+    pub acts : (cells : List ℕ) → TaskStep P s p t (found_by (act_now P t.body) s.cells) (acting cells)
+    unfolding acting answer
+    acts cells = tasks_step (is_creation (act_now P t.body)) cells
+
+    pub acting_cells : (cells : List ℕ) → (acting cells).cells ≡ cells
+    unfolding acting
+    acting_cells cells = refl

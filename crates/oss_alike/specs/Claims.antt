@@ -2,7 +2,8 @@
 -- all relations.
 use Rattle.std.specs.Prelude.{ℕ, Bool, List, IsTrue}
 use Rattle.oss_syntax.specs.declared.access.Op.{Op}
-use Rattle.oss_model.specs.Answers.{IsStopped}
+use Rattle.oss_model.specs.declared.answer.Answer.{Answer}
+use Rattle.oss_model.specs.Answers.{IsResult, IsStopped, IsAnswer}
 use Rattle.oss_model.specs.Bodies.{Program, Start}
 use Rattle.oss_model.specs.Machine.{Task, State, At, IsComplete}
 use Rattle.oss_model.specs.Moves.{CanStep, Stepped, CanLet, LetGo, CanJoin, Joined, Moved, opening, Reached}
@@ -95,6 +96,16 @@ CompleteAlike S T = (P : Program S) (Q : Program T) (test : Start S → Start T 
 abbrev pub StoppedAlike : Type 0 → Type 0 → Type 0
 StoppedAlike S T = (P : Program S) (Q : Program T) (test : Start S → Start T → Bool) (s : State S) (n : State T)
     → IsBisimulation P Q (tells test) → IsAlike (tells test) s n → IsStopped P s → IsStopped Q n
+
+-- The states have the same answer.
+abbrev pub AnswersAreAlike : Type 0 → Type 0 → Type 0
+AnswersAreAlike S T = (P : Program S) (Q : Program T) (test : Start S → Start T → Bool) (s : State S) (n : State T) (a : Answer)
+    → IsBisimulation P Q (tells test) → IsAlike (tells test) s n → IsAnswer P s a → IsAnswer Q n a
+
+-- And the sequential runs have the same result.
+abbrev pub ResultsAreAlike : Type 0 → Type 0 → Type 0
+ResultsAreAlike S T = (P : Program S) (Q : Program T) (test : Start S → Start T → Bool) (main : Start S) (other : Start T) (cells : List ℕ) (a : Answer)
+    → IsBisimulation P Q (tells test) → tells test main other → IsResult P main cells a → IsResult Q other cells a
 
 -- From the other side all of this is so too: the programs do the same acts,
 abbrev pub BisimulationsTurn : Type 0 → Type 0 → Type 0

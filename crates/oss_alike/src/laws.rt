@@ -1,7 +1,7 @@
 //! What holds of two programs whose bodies do the same acts: laws, each carried by a function that does nothing. A crate above calls the
 //! function for its types of scripts, and then has the law.
 
-ghost use Rattle.oss_alike.specs.Claims.{BisimulationsTurn, CompleteAlike, JoinsAreAlike, LetsAreAlike, MovesAreAlike, OpeningsAreAlike, RunsAreAlike, StatesTurn, StepsAreAlike, StoppedAlike, TasksHavePartners};
+ghost use Rattle.oss_alike.specs.Claims.{AnswersAreAlike, BisimulationsTurn, CompleteAlike, JoinsAreAlike, LetsAreAlike, MovesAreAlike, OpeningsAreAlike, ResultsAreAlike, RunsAreAlike, StatesTurn, StepsAreAlike, StoppedAlike, TasksHavePartners};
 
 /// The opening states are alike where main begins alike.
 pub fn openings_are_alike<S, T>()
@@ -46,6 +46,16 @@ pub fn complete_alike<S, T>()
 /// Where no move is left in the one state, none is left in the other.
 pub fn stopped_alike<S, T>()
     ensures { StoppedAlike S T }
+{}
+
+/// States that are alike have the same answer.
+pub fn answers_are_alike<S, T>()
+    ensures { AnswersAreAlike S T }
+{}
+
+/// And the sequential runs have the same result.
+pub fn results_are_alike<S, T>()
+    ensures { ResultsAreAlike S T }
 {}
 
 /// Programs that do the same acts do so from the other side too.

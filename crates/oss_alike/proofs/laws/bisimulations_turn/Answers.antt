@@ -1,4 +1,4 @@
-use Rattle.oss_alike.proofs.AlikeTheorem as lemmas
+use Rattle.oss_alike.proofs.ClaimLemmas as lemmas
 use Rattle.oss_alike.specs.contracts.laws.bisimulations_turn.{S-type, T-type}
 use Rattle.oss_alike.proofs.laws.bisimulations_turn.Goals as goal
 

@@ -1,4 +1,4 @@
-use Rattle.oss_alike.proofs.AlikeTheorem as lemmas
+use Rattle.oss_alike.proofs.ClaimLemmas as lemmas
 use Rattle.oss_alike.specs.contracts.laws.complete_alike.{S-type, T-type}
 use Rattle.oss_alike.proofs.laws.complete_alike.Goals as goal
 

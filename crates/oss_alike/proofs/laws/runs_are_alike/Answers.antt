@@ -1,4 +1,4 @@
-use Rattle.oss_alike.proofs.AlikeTheorem as lemmas
+use Rattle.oss_alike.proofs.ClaimLemmas as lemmas
 use Rattle.oss_alike.specs.contracts.laws.runs_are_alike.{S-type, T-type}
 use Rattle.oss_alike.proofs.laws.runs_are_alike.Goals as goal
 
