@@ -2,7 +2,7 @@
 use Rattle.std.proofs.Common.{◌≡◌, ℕ, refl, subst, ap, ◌∙◌, List, [], ◌∷◌, true, false}
 use Rattle.oss_syntax.specs.declared.access.Op.{Op}
 use Rattle.oss_model.specs.Context.{right_of}
-use Rattle.oss_model.specs.Bodies.{Order, Program, Act, Frame, Start, stage_act, stage_created, child_start, IsHalt}
+use Rattle.oss_model.specs.Bodies.{Order, Program, Act, Frame, Start, Body, stage_act, stage_created, child_start, IsHalt}
 use Rattle.oss_model.specs.Bodies.Act.{Created}
 use Rattle.oss_model.specs.Machine.{Task}
 use Rattle.oss_model.specs.Moves.{created_now, cells_after, found_by, slot_more, slot_of, after_answer, after_giving}
@@ -99,6 +99,11 @@ module _ {S T : Type 0} {R : Start S → Start T → Type 0} {f : Frame S} {g : 
   creation_forth both_fault o e = absurd (cc (e))
   creation_forth both_over o e = absurd (cc (e))
 
+-- bodies that stand alike have created as many tasks
+pub bodies_created : {S T : Type 0} {P : Program S} {Q : Program T} {R : Start S → Start T → Type 0} {b : Body S} {c : Body T} → AreBodiesAlike P Q R b c → created_now P b ≡ created_now Q c
+unfolding stage_created
+bodies_created h = ap (λ x. x.created) h.context
+
 module _ {S T : Type 0} (P : Program S) (Q : Program T) (R : Start S → Start T → Type 0) (is : IsBisimulation P Q R) where
   -- tasks that are alike stand alike
   pub now : {t : Task S} {u : Task T} → AreTasksAlike R t u → AreBodiesAlike P Q R t.body u.body
@@ -106,8 +111,7 @@ module _ {S T : Type 0} (P : Program S) (Q : Program T) (R : Start S → Start T
 
   -- their bodies have created as many tasks
   pub created_alike : {t : Task S} {u : Task T} → AreTasksAlike R t u → created_now P t.body ≡ created_now Q u.body
-  unfolding stage_created
-  created_alike h = ap (λ x. x.created) (now h).context
+  created_alike h = bodies_created (now h)
 
   pub right_alike : {t : Task S} {u : Task T} → AreTasksAlike R t u → (c : ℕ) → right_of t.body.start.context c ≡ right_of u.body.start.context c
   right_alike {t = t} {u = u} h c = ap (λ x. right_of x c) (is t.body.start u.body.start h.start).context

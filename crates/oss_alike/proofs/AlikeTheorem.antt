@@ -7,10 +7,10 @@ use Rattle.oss_model.specs.Machine.{Task, State, find, same_path}
 use Rattle.oss_model.specs.Moves.{act_now, created_now, cells_after, found_by, combine, joined_cells, after_answer, after_giving, new_task, TaskStep, CanStep, Stepped, CanLet, LetGo, CanJoin, Joined, GaveUp, Moved, steps, lets, joins, opening, Reached, opens, moves}
 use Rattle.oss_model.proofs.MoveLemmas.{which_path, is_creation}
 use Rattle.oss_alike.specs.Alike.{IsBisimulation, AreTasksAlike, AreFoundAlike, IsAlike}
-use Rattle.oss_alike.specs.Claims.{tells, OpeningsAreAlike, TasksHavePartners, StepsToo, StepsAreAlike, LetsToo, LetsAreAlike, JoinsToo, JoinsAreAlike, MovesToo, MovesAreAlike, RunsToo, RunsAreAlike, CompleteAlike, StoppedAlike, BisimulationsTurn, StatesTurn}
-use Rattle.oss_alike.proofs.TurnLemmas.{acts_back, bisimulation_back, alike_back, at_forth, found_both}
+use Rattle.oss_alike.specs.Claims.{StepsToo, LetsToo, JoinsToo, MovesToo, RunsToo}
+use Rattle.oss_alike.proofs.TurnLemmas.{acts_back, at_forth, found_both}
 use Rattle.oss_alike.proofs.ActLemmas.{found_alike, cells_alike, creation_forth, now, created_alike, slot_alike, answered_alike, given_alike}
-use Rattle.oss_alike.proofs.MayLemmas.{complete_forth, can_step_forth, can_let_forth, can_join_forth, stopped_forth}
+use Rattle.oss_alike.proofs.MayLemmas.{can_step_forth, can_let_forth, can_join_forth}
 use Rattle.oss_alike.proofs.MakeLemmas.{giving, gives, giving_cells, acting, acts, acting_cells}
 
 opening_found : {S T : Type 0} (R : Start S → Start T → Type 0) (main : Start S) (other : Start T) (cells : List ℕ) → main.path ≡ other.path → R main other

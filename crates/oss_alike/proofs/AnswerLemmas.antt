@@ -1,14 +1,13 @@
 -- States that are alike have the same answer.
-use Rattle.std.proofs.Common.{◌≡◌, ℕ, ◌⊎◌, inl, inr, refl, sym, subst, ap, ◌∙◌, List, [], ◌∷◌, ◌++◌, ◌<◌, length, Option, Some, None}
+use Rattle.std.proofs.Common.{◌≡◌, ℕ, inl, inr, refl, sym, subst, ap, ◌∙◌, List, [], ◌∷◌, ◌++◌, ◌<◌, length, Option, Some, None}
 use Rattle.oss_syntax.specs.declared.fault.FaultKind.{FaultKind}
 use Rattle.oss_model.specs.declared.answer.Answer.{Answer}
 use Rattle.oss_model.specs.declared.answer.Answer.TheVariants as answers
 use Rattle.oss_model.specs.Order.{IsIn, here, there, IsSuffix, IsEarlierKey}
-use Rattle.oss_model.specs.Bodies.{Program, Act, Frame, Start, stage_act, stage_key}
+use Rattle.oss_model.specs.Bodies.{Program, Act, Frame, Start, stage_act}
 use Rattle.oss_model.specs.Bodies.Act.{Printed, Fault}
-use Rattle.oss_model.specs.Machine.{Task, State, At}
+use Rattle.oss_model.specs.Machine.{State, At}
 use Rattle.oss_model.specs.Memory.{Event, key_at, IsEarlierEvent, Happened, IsSorted}
-use Rattle.oss_model.specs.Moves.{act_now}
 use Rattle.oss_model.specs.Answers.{DonePrint, text_of, texts, IsOutput, IsFinished, IsLeastFault, IsAnswer, finished, faulted}
 use Rattle.oss_model.proofs.TreeLemmas.{at_same, path_found}
 use Rattle.oss_alike.specs.Alike.{AreActsAlike, both_tick, both_load, both_store, both_fold, both_create, both_include, both_await, both_wait, both_wait_on, both_release, both_print, both_end, both_fault, both_over, AreBodiesAlike, IsBisimulation, turned, IsAlike}
@@ -86,18 +85,20 @@ data ArePartners {S T : Type 0} (R : Start S → Start T → Type 0) (n : State 
 module _ {S T : Type 0} (P : Program S) (Q : Program T) (R : Start S → Start T → Type 0) (is : IsBisimulation P Q R) {s : State S} {n : State T} (same : IsAlike R s n) where
   partner : (e : Event S) → Happened s e → (g : Event T) × IsPartner R n e g
   partner e h =
-      let k = at_forth same e.start.path h.task h.at_ in
-      (record { start = k.0.body.start; past = e.past; answer = e.answer }, record {
-        start = subst (λ (b : Start S). R b k.0.body.start) h.start k.2.start;
-        past = refl;
-        answer = refl;
-        happened = record {
-          task = k.0;
-          at_ = subst (λ (p : List ℕ). At n p k.0) (sym (path_found n.tasks e.start.path k.0 k.1)) k.1;
-          start = refl;
-          found = subst (λ (xs : List ℕ). IsSuffix (e.answer ∷ e.past) xs) k.2.found h.found;
-        };
-      })
+      let k = at_forth same e.start.path h.task h.at_ in (
+        record { start = k.0.body.start; past = e.past; answer = e.answer },
+        record {
+          start = subst (λ (b : Start S). R b k.0.body.start) h.start k.2.start;
+          past = refl;
+          answer = refl;
+          happened = record {
+            task = k.0;
+            at_ = subst (λ (p : List ℕ). At n p k.0) (sym (path_found n.tasks e.start.path k.0 k.1)) k.1;
+            start = refl;
+            found = subst (λ (xs : List ℕ). IsSuffix (e.answer ∷ e.past) xs) k.2.found h.found;
+          };
+        },
+      )
 
   -- an act has one partner
   one_partner : (e : Event S) (g x : Event T) → IsPartner R n e g → IsPartner R n e x → g ≡ x

@@ -1,10 +1,14 @@
 -- The claims, each by its lemma, which holds for all relations.
-use Rattle.oss_alike.specs.Claims.{tells, OpeningsAreAlike, TasksHavePartners, StepsAreAlike, LetsAreAlike, JoinsAreAlike, MovesAreAlike, RunsAreAlike, CompleteAlike, StoppedAlike, AnswersAreAlike, ResultsAreAlike, BisimulationsTurn, StatesTurn}
+use Rattle.oss_alike.specs.Claims.{tells, ProgramsDoAsThemselves, OpeningsAreAlike, TasksHavePartners, StepsAreAlike, LetsAreAlike, JoinsAreAlike, MovesAreAlike, RunsAreAlike, CompleteAlike, StoppedAlike, AnswersAreAlike, ResultsAreAlike, BisimulationsTurn, StatesTurn}
+use Rattle.oss_alike.proofs.RelationLemmas.{bisimulation_itself}
 use Rattle.oss_alike.proofs.TurnLemmas.{bisimulation_back, alike_back, at_forth}
 use Rattle.oss_alike.proofs.MayLemmas.{complete_forth, stopped_forth}
 use Rattle.oss_alike.proofs.AlikeTheorem.{opening_alike, step_forth, let_forth, join_forth, move_too, run_too}
 use Rattle.oss_alike.proofs.AnswerLemmas.{answer_forth}
 use Rattle.oss_alike.proofs.ResultLemmas.{result_forth}
+
+pub programs_do_as_themselves : (S : Type 0) → ProgramsDoAsThemselves S
+programs_do_as_themselves S P = bisimulation_itself P
 
 pub openings_are_alike : (S T : Type 0) → OpeningsAreAlike S T
 openings_are_alike S T P Q test main other cells is r = opening_alike P Q (tells test) is main other cells r

@@ -1,5 +1,5 @@
 -- A program does the same acts as itself; and if a second does the same as a first, and a third as the second, the third does the same as the first.
-use Rattle.std.proofs.Common.{◌≡◌, ℕ, refl, subst, ◌∙◌, List, Option, Some, None, true, false}
+use Rattle.std.proofs.Common.{◌≡◌, refl, subst, ◌∙◌, Option, Some, None, true, false}
 use Rattle.oss_model.specs.Bodies.{Program, Act, Frame, Start, Body}
 use Rattle.oss_model.specs.Bodies.Act.{Ticked, Load, Store, Folded, Created, Awaited, Waited, WaitedOn, Releases, Printed, Ended, Fault, Over}
 use Rattle.oss_model.specs.Machine.{Task, State, find}

@@ -1,13 +1,13 @@
 -- Sequential runs of programs whose bodies do the same acts have the same result.
-use Rattle.std.proofs.Common.{◌≡◌, ℕ, refl, sym, subst, ap, ◌∙◌, List, [], ◌∷◌, Bool, true, false}
+use Rattle.std.proofs.Common.{◌≡◌, ℕ, refl, sym, subst, ap, ◌∙◌, List, [], ◌∷◌, Bool}
 use Rattle.std.specs.Prelude.{if◌then◌else◌}
 use Rattle.oss_model.specs.declared.answer.Answer.{Answer}
 use Rattle.oss_model.specs.declared.answer.Answer.TheVariants as answers
 use Rattle.oss_model.specs.Bodies.{Program, Act, Frame, Start}
 use Rattle.oss_model.specs.Bodies.Act.{Over}
-use Rattle.oss_model.specs.Machine.{Task, State, At}
+use Rattle.oss_model.specs.Machine.{Task, At}
 use Rattle.oss_model.specs.Moves.{act_now, created_now, is_ended, found_by, after_answer, TaskStep, opening}
-use Rattle.oss_model.specs.Sequence.{Running, Sequential, opens, runs_on, RunsOn, IsAtEnd, direct_cells, printed_after, path_above, active_after}
+use Rattle.oss_model.specs.Sequence.{Running, Sequential, opens, runs_on, RunsOn, direct_cells, printed_after, path_above, active_after}
 use Rattle.oss_model.specs.Answers.{IsResult, ends, fails}
 use Rattle.oss_alike.specs.Alike.{AreActsAlike, both_tick, both_load, both_store, both_fold, both_create, both_include, both_await, both_wait, both_wait_on, both_release, both_print, both_end, both_fault, both_over, IsBisimulation, AreTasksAlike, IsAlike}
 use Rattle.oss_alike.proofs.TurnLemmas.{acts_back, at_forth}
@@ -95,27 +95,28 @@ pub record IsStageAlike {S T : Type 0} (R : Start S → Start T → Type 0) (z :
 module _ {S T : Type 0} (P : Program S) (Q : Program T) (R : Start S → Start T → Type 0) (is : IsBisimulation P Q R) where
   -- the runs go on to stages that are alike
   goes_on : (z x : Running S) (y : Running T) → IsStageAlike R z y → RunsOn P z x → (w : Running T) × RunsOn Q y w × IsStageAlike R x w
-  goes_on z x y same r =
-      (record { state = acting y.state y.active u at_u Q cells; active = active_after Q u y.active w act; printed = printed_after act y.printed },
-      record {
-        task = u;
-        at_ = at_u;
-        goes = λ h. r.goes (halt_back (now P Q R is k.2).acts h);
-        tasks = acts y.state y.active u at_u Q cells;
-        cells = acting_cells y.state y.active u at_u Q cells;
-        active = refl;
-        printed = refl;
-      },
-      record {
-        state = record {
-          cells = r.cells ∙ (ap (direct_cells (act_now P r.task.body)) same.state.cells ∙ (direct_alike (now P Q R is k.2).acts y.state.cells ∙ sym (acting_cells y.state y.active u at_u Q cells)));
-          tasks = λ q. task_step_alike P Q R is same.state y.active k.2
-              (subst (λ (p : List ℕ). TaskStep P z.state p r.task (found_by (act_now P r.task.body) z.state.cells) x.state) same.active r.tasks) (acts y.state y.active u at_u Q cells) q;
-        };
-        active = r.active ∙ (ap (λ (p : List ℕ). active_after P r.task p v (act_now P r.task.body)) same.active
-            ∙ active_alike P Q r.task u y.active v w (created_alike P Q R is k.2) (now P Q R is (answered_alike k.2 v w (answer_alike P Q R is same.state k.2))).ended (now P Q R is k.2).acts);
-        printed = r.printed ∙ (ap (printed_after (act_now P r.task.body)) same.printed ∙ printed_alike (now P Q R is k.2).acts y.printed);
-      })
+  goes_on z x y same r = (
+    record { state = acting y.state y.active u at_u Q cells; active = active_after Q u y.active w act; printed = printed_after act y.printed },
+    record {
+      task = u;
+      at_ = at_u;
+      goes = λ h. r.goes (halt_back (now P Q R is k.2).acts h);
+      tasks = acts y.state y.active u at_u Q cells;
+      cells = acting_cells y.state y.active u at_u Q cells;
+      active = refl;
+      printed = refl;
+    },
+    record {
+      state = record {
+        cells = r.cells ∙ (ap (direct_cells (act_now P r.task.body)) same.state.cells ∙ (direct_alike (now P Q R is k.2).acts y.state.cells ∙ sym (acting_cells y.state y.active u at_u Q cells)));
+        tasks = λ q. task_step_alike P Q R is same.state y.active k.2
+            (subst (λ (p : List ℕ). TaskStep P z.state p r.task (found_by (act_now P r.task.body) z.state.cells) x.state) same.active r.tasks) (acts y.state y.active u at_u Q cells) q;
+      };
+      active = r.active ∙ (ap (λ (p : List ℕ). active_after P r.task p v (act_now P r.task.body)) same.active
+          ∙ active_alike P Q r.task u y.active v w (created_alike P Q R is k.2) (now P Q R is (answered_alike k.2 v w (answer_alike P Q R is same.state k.2))).ended (now P Q R is k.2).acts);
+      printed = r.printed ∙ (ap (printed_after (act_now P r.task.body)) same.printed ∙ printed_alike (now P Q R is k.2).acts y.printed);
+    },
+  )
     where
       k : (u : Task T) × At y.state y.active u × AreTasksAlike R r.task u
       k = at_forth same.state y.active r.task (subst (λ (p : List ℕ). At z.state p r.task) same.active r.at_)

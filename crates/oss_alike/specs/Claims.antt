@@ -1,6 +1,6 @@
 -- What holds of two programs whose bodies do the same acts. A claim ranges over the relations that are told by a test; the lemmas range over
 -- all relations.
-use Rattle.std.specs.Prelude.{ℕ, Bool, List, IsTrue}
+use Rattle.std.specs.Prelude.{◌≡◌, ℕ, Bool, List, IsTrue}
 use Rattle.oss_syntax.specs.declared.access.Op.{Op}
 use Rattle.oss_model.specs.declared.answer.Answer.{Answer}
 use Rattle.oss_model.specs.Answers.{IsResult, IsStopped, IsAnswer}
@@ -12,6 +12,10 @@ use Rattle.oss_alike.specs.Alike.{IsBisimulation, turned, AreTasksAlike, IsAlike
 -- The relation of a test.
 abbrev pub tells : {S T : Type 0} → (Start S → Start T → Bool) → Start S → Start T → Type 0
 tells test b c = IsTrue (test b c)
+
+-- A program does the same acts as itself, where the beginnings of bodies are one.
+abbrev pub ProgramsDoAsThemselves : Type 0 → Type 0
+ProgramsDoAsThemselves S = (P : Program S) → IsBisimulation P P (λ b c. b ≡ c)
 
 -- The opening states are alike where main begins alike.
 abbrev pub OpeningsAreAlike : Type 0 → Type 0 → Type 0

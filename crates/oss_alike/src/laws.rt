@@ -1,7 +1,12 @@
 //! What holds of two programs whose bodies do the same acts: laws, each carried by a function that does nothing. A crate above calls the
 //! function for its types of scripts, and then has the law.
 
-ghost use Rattle.oss_alike.specs.Claims.{AnswersAreAlike, BisimulationsTurn, CompleteAlike, JoinsAreAlike, LetsAreAlike, MovesAreAlike, OpeningsAreAlike, ResultsAreAlike, RunsAreAlike, StatesTurn, StepsAreAlike, StoppedAlike, TasksHavePartners};
+ghost use Rattle.oss_alike.specs.Claims.{AnswersAreAlike, BisimulationsTurn, CompleteAlike, JoinsAreAlike, LetsAreAlike, MovesAreAlike, OpeningsAreAlike, ProgramsDoAsThemselves, ResultsAreAlike, RunsAreAlike, StatesTurn, StepsAreAlike, StoppedAlike, TasksHavePartners};
+
+/// A program does the same acts as itself.
+pub fn programs_do_as_themselves<S>()
+    ensures { ProgramsDoAsThemselves S }
+{}
 
 /// The opening states are alike where main begins alike.
 pub fn openings_are_alike<S, T>()
