@@ -1,0 +1,9 @@
+pub mod TurnLemmas
+pub mod ActLemmas
+pub mod MayLemmas
+pub mod MakeLemmas
+pub mod AlikeTheorem
+pub mod RelationLemmas
+pub mod AnswerLemmas
+pub mod ResultLemmas
+pub mod ClaimLemmas
