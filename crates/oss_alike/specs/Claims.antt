@@ -1,5 +1,5 @@
--- What holds of two programs whose bodies do the same acts. A claim ranges over the relations that are told by a test; the lemmas range over
--- all relations.
+-- What holds of two programs whose bodies do the same acts. No contract can range over all relations, so a claim ranges over those that are told
+-- by a test. The lemmas by which the claims are proved range over all.
 use Rattle.std.specs.Prelude.{◌≡◌, ℕ, Bool, List, IsTrue}
 use Rattle.oss_syntax.specs.declared.access.Op.{Op}
 use Rattle.oss_model.specs.declared.answer.Answer.{Answer}
