@@ -1,5 +1,5 @@
 -- What was found among words, joined with what is found among the words behind them.
-use Rattle.std.proofs.Common.{◌≡◌, ℕ, List, [], ◌∷◌, Option, Some, None}
+use Rattle.std.proofs.Common.{ℕ, List, [], ◌∷◌, Option, Some, None}
 use Rattle.oss_command.specs.Commands.{Standing, standing, the_one}
 use Rattle.oss_command.specs.Commands.Standing.{absent, again, once}
 

@@ -3,7 +3,9 @@
 -- twice, by its name, or whose value is out of form.
 -- Read against: no words, `run`, `run a.c b.c`, `run -a`, `run a.c --fuel=0`, `run a.c --fuel=01`, `run a.c --fuel=5 --fuel=5`, `run a.c --dump=1`, `run a.c --mode=waves` and `check
 -- a.c --fuel=5` are refused; `run --dump a.c --workers=64` asks to run the file `a.c` with a dump, 64 workers and fuel for 1,000,000 ticks a task.
-use Rattle.std.specs.Prelude.{◌≡◌, ℕ, Bool, true, false, not, ◌&&◌, ◌||◌, ◌==◌, if◌then◌else◌, nat_le, List, [], ◌∷◌, ◌++◌, length, take, drop, Option, Some, None, Result, Ok, Err, codes, option_and_then, option_map}
+-- And: `replay a.c s.txt` asks to replay the schedule in the file `s.txt` on the program in `a.c`, with fuel for 1,000,000 ticks a task, and `replay --fuel=5 a.c s.txt` with fuel for 5;
+-- `replay a.c`, `replay a.c s.txt t.txt`, `replay a.c s.txt --dump` and `replay a.c --fuel=0 s.txt` are refused.
+use Rattle.std.specs.Prelude.{◌≡◌, ℕ, Bool, true, false, not, ◌&&◌, ◌||◌, ◌==◌, if◌then◌else◌, nat_le, List, [], ◌∷◌, ◌++◌, length, take, drop, Option, Some, None, Result, Ok, Err, codes, option_map}
 use Rattle.std.specs.Str.{bytes_eq}
 use Rattle.oss_sched.specs.Reading.{number_in}
 use Rattle.oss_command.specs.declared.options.Options.{Options}
@@ -13,15 +15,23 @@ use Rattle.oss_command.specs.declared.command.Command.{Command as Told}
 use Rattle.oss_command.specs.declared.command.Command.TheVariants as told
 use Rattle.oss_command.specs.declared.command.WordsRefused.{WordsRefused}
 
--- What is asked for, of the file of this name.
+-- What is asked for, of the program in the file of this name. A replay is of the schedule in a second file, and each task in it has so much fuel.
 pub data Command : Type 0 where
   run : (file : List ℕ) (options : Options) → Command
   check : (file : List ℕ) → Command
+  replay : (file schedule : List ℕ) (fuel : ℕ) → Command
 
--- the name of its file
+-- the name of the file with its program
 abbrev pub file_of : Command → List ℕ
 file_of (run file options) = file
 file_of (check file) = file
+file_of (replay file schedule fuel) = file
+
+-- the name of the file with its schedule, where it has one
+abbrev pub schedule_of : Command → Option (List ℕ)
+schedule_of (run file options) = None
+schedule_of (check file) = None
+schedule_of (replay file schedule fuel) = Some schedule
 
 -- Operands
 
@@ -39,6 +49,11 @@ operands_in (w ∷ ws) = if is_operand w then w ∷ operands_in ws else operands
 abbrev pub the_one : List (List ℕ) → Option (List ℕ)
 the_one (w ∷ []) = Some w
 the_one _ = None
+
+-- the two words of a list that has two, in their order
+abbrev pub the_two : List (List ℕ) → Option (List ℕ × List ℕ)
+the_two (v ∷ w ∷ []) = Some (v, w)
+the_two _ = None
 
 -- Options
 
@@ -106,15 +121,23 @@ dump_name = codes "--dump"
 abbrev pub is_listed : List ℕ → Bool
 is_listed w = is_operand w || is_there (behind mode_name w) || is_there (behind workers_name w) || is_there (behind fuel_name w) || bytes_eq w dump_name
 
+-- a word that `replay` may have
+abbrev pub is_replay_word : List ℕ → Bool
+is_replay_word w = is_operand w || is_there (behind fuel_name w)
+
 -- what the options say, each by itself; none where one of them stands twice or has a value out of form
 abbrev pub options_by : Option RunMode → Option ℕ → Option ℕ → Option Bool → Option Options
 options_by (Some mode) (Some workers) (Some fuel) (Some dump) = Some (record { mode = mode; workers = workers; fuel = fuel; dump = dump })
 options_by _ _ _ _ = None
 
--- the options of a run: the mode is serial, there are 4 workers of 1 to 64, and each task has fuel for 1,000,000 ticks, of 1 to 1,000,000,000, where nothing is said
+-- the fuel of each task: for 1 to 1,000,000,000 ticks, and for 1,000,000 where nothing is said
+abbrev pub fuel_in : List (List ℕ) → Option ℕ
+fuel_in words = number_by 1 1000000000 1000000 (standing (values_of fuel_name words))
+
+-- the options of a run: where nothing is said, the mode is serial and there are 4 workers, of 1 to 64
 abbrev pub options_in : List (List ℕ) → Option Options
-options_in words = options_by (mode_by (standing (values_of mode_name words))) (number_by 1 64 4 (standing (values_of workers_name words)))
-    (number_by 1 1000000000 1000000 (standing (values_of fuel_name words))) (flag_by (standing (values_of dump_name words)))
+options_in words = options_by (mode_by (standing (values_of mode_name words))) (number_by 1 64 4 (standing (values_of workers_name words))) (fuel_in words)
+    (flag_by (standing (values_of dump_name words)))
 
 -- Commands
 
@@ -122,6 +145,11 @@ options_in words = options_by (mode_by (standing (values_of mode_name words))) (
 abbrev pub run_of : Option (List ℕ) → Option Options → Option Command
 run_of (Some file) (Some options) = Some (run file options)
 run_of _ _ = None
+
+-- a replay of a schedule on a file, if both are there and the fuel is
+abbrev pub replay_of : Option (List ℕ × List ℕ) → Option ℕ → Option Command
+replay_of (Some (file, schedule)) (Some fuel) = Some (replay file schedule fuel)
+replay_of _ _ = None
 
 -- each of the words passes the test
 abbrev pub all_by : (List ℕ → Bool) → List (List ℕ) → Bool
@@ -135,8 +163,12 @@ run_asked words = if all_by is_listed words then run_of (the_one (operands_in wo
 abbrev pub check_asked : List (List ℕ) → Option Command
 check_asked words = if all_by is_operand words then option_map (λ file. check file) (the_one words) else None
 
+abbrev pub replay_asked : List (List ℕ) → Option Command
+replay_asked words = if all_by is_replay_word words then replay_of (the_two (operands_in words)) (fuel_in words) else None
+
 abbrev pub asked_by : List ℕ → List (List ℕ) → Option Command
-asked_by word rest = if bytes_eq word (codes "run") then run_asked rest else if bytes_eq word (codes "check") then check_asked rest else None
+asked_by word rest = if bytes_eq word (codes "run") then run_asked rest else if bytes_eq word (codes "check") then check_asked rest
+    else if bytes_eq word (codes "replay") then replay_asked rest else None
 
 -- what the words ask for; none where they are refused
 abbrev pub asked_of : List (List ℕ) → Option Command
@@ -147,6 +179,7 @@ asked_of (word ∷ rest) = asked_by word rest
 abbrev pub meant : Told → Command
 meant (told.Run file options) = run file.now options
 meant (told.Check file) = check file.now
+meant (told.Replay asked) = replay asked.file.now asked.schedule.now asked.fuel
 
 abbrev pub IsAskedBy : Option Command → Result Told WordsRefused → Type 0
 IsAskedBy command (Ok t) = command ≡ Some (meant t)

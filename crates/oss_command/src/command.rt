@@ -1,20 +1,33 @@
 //! What the words of the command line ask for.
 
-ghost use Rattle.std.specs.Prelude.{◌≡◌, map};
+ghost use Rattle.std.specs.Prelude.{◌≡◌, map, option_map};
 ghost use Rattle.std.specs.String.{string_bytes};
-ghost use Rattle.oss_command.specs.Commands.{IsAsked, IsAskedBy, asked_by, check_asked, file_of, meant, run_asked};
+ghost use Rattle.oss_command.specs.Commands.{IsAsked, IsAskedBy, asked_by, check_asked, file_of, meant, replay_asked, run_asked, schedule_of};
 
-use crate::operands::{are_listed, are_operands, the_operand};
-use crate::options::{Options, read_options};
+use crate::operands::{are_listed, are_operands, are_replay_words, the_operand, the_two_operands};
+use crate::options::{Options, read_fuel, read_options};
 use thiserror::Error;
 
-/// What the words ask for. It borrows the name of the file from them.
+/// A schedule and the program that it is replayed on, by the names of their files.
+#[derive(Clone, Copy, Debug)]
+pub struct Replay<'w> {
+    /// The file with the program.
+    pub file: &'w str,
+    /// The file with the schedule.
+    pub schedule: &'w str,
+    /// `--fuel=`, the ticks that a task may do, 1 to 1,000,000,000; 1,000,000 where nothing is said.
+    pub fuel: u32,
+}
+
+/// What the words ask for. It borrows the names of files from them.
 #[derive(Clone, Copy, Debug)]
 pub enum Command<'w> {
     /// To run the program in a file, with these options.
     Run(&'w str, Options),
     /// To tell whether a file is a program.
     Check(&'w str),
+    /// To replay a schedule on the program in a file.
+    Replay(Replay<'w>),
 }
 
 /// Why words are refused.
@@ -45,6 +58,9 @@ fn command_on<'w>(command: &str, rest: &'w [String]) -> Result<Command<'w>, Word
     }
     if command == "check" {
         return check_on(rest);
+    }
+    if command == "replay" {
+        return replay_on(rest);
     }
     Err(WordsRefused::Usage)
 }
@@ -79,14 +95,46 @@ fn check_on(rest: &[String]) -> Result<Command<'_>, WordsRefused>
     }
 }
 
+/// What `replay` asks for with the words behind it.
+fn replay_on(rest: &[String]) -> Result<Command<'_>, WordsRefused>
+    ensures { IsAskedBy (replay_asked (map string_bytes rest.now)) result }
+{
+    if !are_replay_words(rest) {
+        return Err(WordsRefused::Usage);
+    }
+    let Some((file, schedule)) = the_two_operands(rest) else {
+        return Err(WordsRefused::Usage);
+    };
+    match read_fuel(rest) {
+        Some(fuel) => Ok(Command::Replay(Replay {
+            file,
+            schedule,
+            fuel,
+        })),
+        None => Err(WordsRefused::Usage),
+    }
+}
+
 impl<'w> Command<'w> {
-    /// The name of the file.
+    /// The name of the file with the program.
     pub fn file(self) -> &'w str
         ensures { result.now ≡ file_of (meant self.entry) }
     {
         match self {
             Command::Run(file, _) => file,
             Command::Check(file) => file,
+            Command::Replay(asked) => asked.file,
+        }
+    }
+
+    /// The name of the file with the schedule, where there is one.
+    pub fn schedule(self) -> Option<&'w str>
+        ensures { option_map (λ file. file.now) result ≡ schedule_of (meant self.entry) }
+    {
+        match self {
+            Command::Run(_, _) => None,
+            Command::Check(_) => None,
+            Command::Replay(asked) => Some(asked.schedule),
         }
     }
 }

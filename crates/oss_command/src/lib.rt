@@ -6,5 +6,5 @@ mod operands;
 mod options;
 mod values;
 
-pub use command::{Command, WordsRefused, read_words};
+pub use command::{Command, Replay, WordsRefused, read_words};
 pub use options::{Options, RunMode};

@@ -2,7 +2,7 @@
 
 ghost use Rattle.std.specs.Prelude.{◌≡◌, map, option_map};
 ghost use Rattle.std.specs.String.{string_bytes};
-ghost use Rattle.oss_command.specs.Commands.{all_by, is_listed, is_operand, operands_in, the_one};
+ghost use Rattle.oss_command.specs.Commands.{all_by, is_listed, is_operand, is_replay_word, operands_in, the_one, the_two};
 
 use crate::values::behind;
 
@@ -26,6 +26,13 @@ fn can_be_listed(word: &str) -> bool
         || behind(b"--workers=", bytes).is_some()
         || behind(b"--fuel=", bytes).is_some()
         || word == "--dump"
+}
+
+/// Whether a word may stand behind `replay`.
+fn can_be_replay_word(word: &str) -> bool
+    ensures { result ≡ is_replay_word word.now }
+{
+    can_be_operand(word) || behind(b"--fuel=", word.as_bytes()).is_some()
 }
 
 /// Whether each of the words may be an operand.
@@ -52,6 +59,18 @@ pub fn are_listed(words: &[String]) -> bool
     true
 }
 
+/// Whether each of the words may stand behind `replay`.
+pub fn are_replay_words(words: &[String]) -> bool
+    ensures { result ≡ all_by is_replay_word (map string_bytes words.now) }
+{
+    for word in words {
+        if !can_be_replay_word(word.as_str()) {
+            return false;
+        }
+    }
+    true
+}
+
 /// The one operand among the words; none where there is none, or more.
 pub fn the_operand(words: &[String]) -> Option<&str>
     ensures { option_map (λ file. file.now) result ≡ the_one (operands_in (map string_bytes words.now)) }
@@ -66,4 +85,19 @@ pub fn the_operand(words: &[String]) -> Option<&str>
         }
     }
     found
+}
+
+/// The two operands among the words, in their order; none where there are fewer, or more.
+pub fn the_two_operands(words: &[String]) -> Option<(&str, &str)>
+    ensures { option_map (λ two. (two.0.now, two.1.now)) result ≡ the_two (operands_in (map string_bytes words.now)) }
+{
+    let mut left = words;
+    'words: while let [word, rest @ ..] = left {
+        if can_be_operand(word.as_str()) {
+            let second = the_operand(rest)?;
+            return Some((word.as_str(), second));
+        }
+        left = rest;
+    }
+    None
 }

@@ -1,8 +1,8 @@
-//! The options of a run.
+//! The options of a run, and the fuel of a replay.
 
 ghost use Rattle.std.specs.Prelude.{◌≡◌, map};
 ghost use Rattle.std.specs.String.{string_bytes};
-ghost use Rattle.oss_command.specs.Commands.{flag_by, mode_by, number_by, options_in};
+ghost use Rattle.oss_command.specs.Commands.{flag_by, fuel_in, mode_by, number_by, options_in};
 ghost use Rattle.oss_command.specs.Values.{stands};
 
 use crate::values::{Stands, value_of};
@@ -34,7 +34,7 @@ pub fn read_options(words: &[String]) -> Option<Options>
 {
     let mode = mode_of(value_of(b"--mode=", words));
     let workers = number_of(value_of(b"--workers=", words), 1, 64, 4);
-    let fuel = number_of(value_of(b"--fuel=", words), 1, 1_000_000_000, 1_000_000);
+    let fuel = read_fuel(words);
     let dump = flag_of(value_of(b"--dump", words));
     match (mode, workers, fuel, dump) {
         (Some(mode), Some(workers), Some(fuel), Some(dump)) => Some(Options {
@@ -45,6 +45,13 @@ pub fn read_options(words: &[String]) -> Option<Options>
         }),
         _ => None,
     }
+}
+
+/// The fuel that the words say, as ticks a task; none where it stands twice or is out of form.
+pub fn read_fuel(words: &[String]) -> Option<u32>
+    ensures { result ≡ fuel_in (map string_bytes words.now) }
+{
+    number_of(value_of(b"--fuel=", words), 1, 1_000_000_000, 1_000_000)
 }
 
 /// The mode that an option gives.
