@@ -12,9 +12,10 @@
 #   status: N
 #   out: TEXT             the output, with escapes as `printf %b` reads them; more such lines are joined; none where it is empty
 #   err: LINE             the one line of the error output; none where it is empty
+#   schedule: LINE        a line of the schedule; each such line is one more
 #   end: no newline       where the newline at the end of the file does not belong to the program
 #   program:              what stands behind this line is the program, to the end of the file
-# It is called in a folder that holds nothing but the program, as p.c.
+# It is called in a folder that holds nothing but the program, as p.c, and the schedule, where the case has one, as s.txt.
 top=$(CDPATH='' cd -- "$(dirname -- "$0")/.." && pwd) || exit 1
 program=${1:-$top/nest6}
 case $program in
@@ -46,9 +47,10 @@ expect() {
   judge "$name" "$wanted" "$out" "$err" $?
 }
 
-# leaves the program of a case in p.c, and what is said of it in `words`, `status`, `out_text`, `err_text`
+# leaves the program of a case in p.c, its schedule in s.txt, and what is said of them in `words`, `status`, `out_text`, `err_text`
 read_case() {
   words='' status='' out_text='' err_text='' end=''
+  rm -f s.txt
   {
     while IFS= read -r line; do
       case $line in
@@ -57,6 +59,8 @@ read_case() {
         'status: '*) status=${line#status: } ;;
         'out: '*) out_text=$out_text${line#out: } ;;
         'err: '*) err_text=${line#err: }'\n' ;;
+        'schedule: '*) printf '%s\n' "${line#schedule: }" >>s.txt ;;
+        'schedule:') echo >>s.txt ;;
         'end: no newline') end=cut ;;
         '# '*) ;;
         *) status="a number; this line is unknown: $line" ;;
@@ -142,6 +146,21 @@ expect "a file of 1,048,576 bytes to check" 0 ok ../nothing check full.c
 expect "a file of 1,048,577 bytes" 3 ../nothing too_large run long.c
 expect "a file of 1,048,577 bytes to check" 3 ../nothing too_large check long.c
 expect "a file of 1,048,577 bytes with a bad byte" 3 ../nothing too_large check long_bytes.c
+echo 'int main() { }' >none.c
+echo 'cannot read missing.txt' >missing_schedule
+echo 'schedule refused at line 1' >first_line
+echo '1 tasks unfinished' >one_left
+dd if=/dev/zero bs=1048576 count=16 2>/dev/null | tr '\0' '\n' >full.txt
+{ cat full.txt; echo; } >long.txt
+printf 'step 0 1' >cut.txt
+expect "a missing schedule" 4 ../nothing missing_schedule replay none.c missing.txt
+expect "a schedule that is a folder" 4 ../nothing folder_line replay none.c folder
+expect "a schedule of 16,777,216 bytes" 7 ../nothing one_left replay none.c full.txt
+expect "a schedule of 16,777,217 bytes" 3 ../nothing first_line replay none.c long.txt
+expect "a schedule of 16,777,217 bytes on a text that is refused" 3 ../nothing first_line replay empty.c long.txt
+expect "a program of 1,048,577 bytes and no schedule" 3 ../nothing too_large replay long.c missing.txt
+expect "a schedule whose last line lacks its newline" 0 ../nothing ../nothing replay none.c cut.txt
+rm full.txt long.txt
 
 # The creation of a task is a tick of its creator, and so is a print.
 for count in 999998 999999; do

@@ -1,14 +1,23 @@
 -- The forms of replies, from what the calls below tell.
-use Rattle.std.proofs.Common.{◌≡◌, ℕ, ◌+◌, ◌<◌, List, [], length, Option, Some, None, Result, Ok, Err, replicate, refl, sym, ap, ◌∙◌, subst, arith}
+use Rattle.std.proofs.Common.{◌≡◌, ℕ, ◌+◌, ◌<◌, ◌≤◌, List, [], length, Option, Some, None, Result, Ok, Err, replicate, refl, sym, ap, ◌∙◌, subst, arith}
 use Rattle.std.specs.Prelude.{IfOk, IfSome}
 use Rattle.std.specs.Io.KnownBytes.{append_known}
 use Rattle.std.proofs.lemmas.List.{append-nil, length-replicate}
-use Rattle.oss_io.specs.Spans.{ShelfSpan, ShelfQuiet, SinkSpan, TookWhole}
-use Rattle.oss_command.specs.Commands.{Command, asked_of, file_of}
-use Rattle.oss_top.specs.Reply.{IsReply, IsOutcome, error_reply, most_bytes, too_large_line}
-use Rattle.oss_top.specs.Reply.IsFileReply.{too_large}
+use Rattle.oss_io.specs.Faults.{Rises}
+use Rattle.oss_io.specs.Spans.{ShelfFailed, ShelfQuiet, ShelfSeen, ShelfSpan, SinkSpan, TookWhole}
+use Rattle.oss_command.specs.Commands.{Command, file_of}
+use Rattle.oss_command.specs.Commands.Command.{check, replay, run}
+use Rattle.oss_report.specs.Replays.{schedule_line}
+use Rattle.oss_top.specs.Forms.{error_reply, most_bytes, too_large_line}
+use Rattle.oss_top.specs.Reads.{IsReadReply, IsScheduleRead}
+use Rattle.oss_top.specs.Reads.IsScheduleRead.{by_schedule, schedule_unread}
+use Rattle.oss_top.specs.Replays.{most_schedule}
+use Rattle.oss_top.specs.Replays.IsFilesReply.{too_large as files_too_large, too_long}
+use Rattle.oss_top.specs.Reply.{AreShown, IsCommandReply, IsOutcome, IsReply, IsShelfReply, Texts}
+use Rattle.oss_top.specs.Reply.IsFileReply.{fits, too_large}
 use Rattle.oss_top.specs.Reply.IsOutcome.{written}
-use Rattle.oss_top.specs.Reply.IsReply.{by_text, no_memory}
+use Rattle.oss_top.specs.Reply.IsReply.{no_memory}
+use Rattle.oss_top.specs.Reply.IsShelfReply.{by_texts, unread_schedule}
 use Rattle.oss_top.specs.Statuses.{number_of}
 use Rattle.oss_top.specs.declared.reply.Reply.{Reply}
 use Rattle.oss_top.specs.declared.status.Status.TheVariants as status
@@ -21,16 +30,56 @@ longer : (n : ℕ) → (text : List ℕ) × (n < length text)
 longer n = (replicate (n + 1) 0, subst (λ k. n < k) (sym (length-replicate (n + 1) 0)) (omega arith))
 
 -- a text that is too long, in place of one that is not told
-long_text : (given : Option (List ℕ)) → (text : List ℕ) × (most_bytes < length text) → IfSome given (λ t. most_bytes < length t) → (text : List ℕ) × IfSome given (λ t. text ≡ t) × (most_bytes < length text)
-long_text None (text, more) long = (text, tt, more)
-long_text (Some t) other long = (t, refl, long)
+long_text : (most : ℕ) (given : Option (List ℕ)) → (text : List ℕ) × (most < length text) → IfSome given (λ t. most < length t) → (text : List ℕ) × IfSome given (λ t. text ≡ t) × (most < length text)
+long_text most None (text, more) long = (text, tt, more)
+long_text most (Some t) other long = (t, refl, long)
+
+-- a text that is told, or any
+shown : (given : Option (List ℕ)) → (text : List ℕ) × IfSome given (λ t. text ≡ t)
+shown None = ([], tt)
+shown (Some t) = (t, refl)
+
+long_command : (held : List ℕ → Option (List ℕ)) (c : Command) (text : List ℕ) (reply : Reply) → IfSome (held (file_of c)) (λ t. text ≡ t) → most_bytes < length text
+    → reply ≡ error_reply status.TextRefused too_large_line → (texts : Texts) × AreShown held c texts × IsCommandReply c texts reply
+long_command held (run file options) text reply same more is = (record { file = text; schedule = [] }, same, too_large more is)
+long_command held (check file) text reply same more is = (record { file = text; schedule = [] }, same, too_large more is)
+long_command held (replay file schedule fuel) text reply same more is =
+    let (listing, told) = shown (held schedule) in
+    (record { file = text; schedule = listing }, (same, told), files_too_large more is)
 
 -- the reply to a file that is too long
-pub long_replies : (words : List (List ℕ)) (shelf : ShelfSpan) (c : Command) (reply : Reply) → asked_of words ≡ Some c → ShelfQuiet shelf → IfSome (shelf.before.held (file_of c)) (λ t. most_bytes < length t)
-    → reply ≡ error_reply status.TextRefused too_large_line → IsReply words shelf reply
-long_replies words shelf c reply asked still long is =
-    let (text, same, more) = long_text (shelf.before.held (file_of c)) (longer most_bytes) long in
-    by_text c text asked still same (too_large more is)
+pub long_replies : (shelf : ShelfSpan) (c : Command) (reply : Reply) → ShelfQuiet shelf → IfSome (shelf.before.held (file_of c)) (λ t. most_bytes < length t)
+    → reply ≡ error_reply status.TextRefused too_large_line → IsShelfReply c shelf reply
+long_replies shelf c reply still long is =
+    let (text, same, more) = long_text most_bytes (shelf.before.held (file_of c)) (longer most_bytes) long in
+    let (texts, told, replies) = long_command shelf.before.held c text reply same more is in
+    by_texts texts still told replies
+
+-- the reply to a schedule that is too long
+pub long_schedule : (name : List ℕ) (fuel : ℕ) (text : List ℕ) (shelf : ShelfSpan) (reply : Reply) → length text ≤ most_bytes → ShelfQuiet shelf
+    → IfSome (shelf.before.held name) (λ t. most_schedule < length t) → reply ≡ error_reply status.TextRefused (schedule_line 1) → IsScheduleRead name fuel text shelf reply
+long_schedule name fuel text shelf reply few still long is =
+    let (schedule, same, more) = long_text most_schedule (shelf.before.held name) (longer most_schedule) long in
+    by_schedule schedule still same (too_long few more is)
+
+module _ (before mid after : ShelfSeen) (same : (name : List ℕ) → mid.held name ≡ before.held name) (still : mid.faults ≡ before.faults) where
+  later : ShelfSpan
+  later = record { before = mid; after = after }
+
+  whole : ShelfSpan
+  whole = record { before = before; after = after }
+
+  failed_whole : ShelfFailed later → ShelfFailed whole
+  failed_whole f = subst (λ n. Rises n after.faults) still f
+
+  -- what is replied once the program has been read is the reply to the command
+  pub read_replies : (c : Command) (text : List ℕ) (reply : Reply) → IfSome (before.held (file_of c)) (λ t. text ≡ t) → length text ≤ most_bytes
+      → IsReadReply c text (record { before = mid; after = after }) reply → IsShelfReply c (record { before = before; after = after }) reply
+  read_replies (run file options) text reply told few (quiet, is) = by_texts (record { file = text; schedule = [] }) (quiet ∙ still) told (fits few is)
+  read_replies (check file) text reply told few (quiet, is) = by_texts (record { file = text; schedule = [] }) (quiet ∙ still) told (fits few is)
+  read_replies (replay file schedule fuel) text reply told few (schedule_unread failed last is) = unread_schedule schedule text refl told few (failed_whole failed) last is
+  read_replies (replay file schedule fuel) text reply told few (by_schedule listing quiet shows is) =
+      by_texts (record { file = text; schedule = listing }) (quiet ∙ still) (told, subst (λ o. IfSome o (λ t. listing ≡ t)) (same schedule) shows) is
 
 nothing_more : (known : Option (List ℕ)) → known ≡ append_known known []
 nothing_more None = refl

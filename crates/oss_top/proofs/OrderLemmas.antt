@@ -17,7 +17,7 @@ use Rattle.oss_meaning.specs.Results.{IsOutcome, Outcome, first_cells, main_of}
 use Rattle.oss_meaning.specs.Results.IsOutcome.{ends, fails}
 use Rattle.oss_lower.proofs.TextPlaces.{accepted_setting}
 use Rattle.oss_top.specs.EveryOrder.{HasReply, IsRunInEveryOrder}
-use Rattle.oss_top.specs.Reply.{answer_reply}
+use Rattle.oss_top.specs.Forms.{answer_reply}
 
 -- the answer of an outcome is the result of the run
 result-of : {S : Type 0} (P : Asks S) (main : Start S) (cells : List ℕ) (o : Outcome) → IsOutcome P main cells o → IsResult P main cells o.answer

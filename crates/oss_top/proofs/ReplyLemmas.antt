@@ -1,4 +1,4 @@
--- A text has one reply at most, and where nothing fails it is the one that comes.
+-- Texts have one reply at most, and where nothing fails it is the one that comes.
 use Rattle.std.proofs.Common.{◌≡◌, ℕ, List, Option, Some, None, sym, ap, ◌∙◌, subst, arith, ◌⊎◌, inl, inr}
 use Rattle.std.specs.Prelude.{IfSome}
 use Rattle.oss_io.specs.Spans.{ShelfSpan, ShelfFailed, SinkSpan, SinkFailed}
@@ -10,19 +10,29 @@ use Rattle.oss_grammar.specs.ProgramRules.{refusal_of}
 use Rattle.oss_grammar.specs.TaskLoops.{program_written}
 use Rattle.oss_model.specs.Texts.{refusal_line}
 use Rattle.oss_parse.proofs.OneProgram.{parsed_once}
-use Rattle.oss_command.specs.Commands.{Command, asked_of, file_of}
+use Rattle.oss_command.specs.Commands.{Command, asked_of}
+use Rattle.oss_command.specs.Commands.Command.{check, replay, run}
 use Rattle.oss_command.specs.declared.options.Options.{Options}
 use Rattle.oss_meaning.specs.Results.{first_cells, main_of}
 use Rattle.oss_lower.proofs.OutcomeLaws.{outcomes_are_one}
-use Rattle.oss_top.specs.OneReply.{IsReplied}
+use Rattle.oss_sched.proofs.OneReading.{read_once}
+use Rattle.oss_report.specs.Replays.{schedule_line}
+use Rattle.oss_top.specs.Forms.{answer_reply, error_reply}
+use Rattle.oss_top.specs.OneReply.{IsReplied, IsRepliedOnce}
 use Rattle.oss_top.specs.ProgramTexts.{Accepts, Refuses}
 use Rattle.oss_top.specs.ProgramTexts.Refuses.{by_grammar, by_rules}
+use Rattle.oss_top.proofs.ReplayLemmas.{replay_once}
 use Rattle.oss_top.proofs.SomeReply.{file_reply}
-use Rattle.oss_top.specs.Reply.{IsReply, IsFileReply, IsTextReply, IsProgramReply, IsRunReply, IsUnwritten, IsOutcome, IsComplete, answer_reply, error_reply}
+use Rattle.oss_top.specs.Replays.{IsFilesReply, IsReplayReply, IsScheduleReply, IsTextsReply}
+use Rattle.oss_top.specs.Replays.IsScheduleReply.{replayed, wrong_line}
+use Rattle.oss_top.specs.Replays.IsTextsReply.{accepted as texts_accepted, refused_text as texts_refused}
+use Rattle.oss_top.specs.Replays.IsFilesReply.{fit, too_large as files_too_large, too_long}
+use Rattle.oss_top.specs.Reply.{AreHeld, AreShown, IsCommandReply, IsComplete, IsFileReply, IsOutcome, IsProgramReply, IsReply, IsRunReply, IsShelfReply, IsTextReply, IsUnwritten, Texts}
 use Rattle.oss_top.specs.Reply.IsProgramReply.{checked, ran}
 use Rattle.oss_top.specs.Reply.IsTextReply.{accepted, refused_text}
 use Rattle.oss_top.specs.Reply.IsFileReply.{too_large, fits}
-use Rattle.oss_top.specs.Reply.IsReply.{usage, unread, by_text, no_memory}
+use Rattle.oss_top.specs.Reply.IsReply.{no_memory, of_command, usage}
+use Rattle.oss_top.specs.Reply.IsShelfReply.{by_texts, unread, unread_schedule}
 use Rattle.oss_top.specs.Reply.IsUnwritten.{no_output, no_errors}
 use Rattle.oss_top.specs.Reply.IsOutcome.{written, unwritten}
 use Rattle.oss_top.specs.Statuses.{number_of}
@@ -73,27 +83,73 @@ module _ (text : List ℕ) (once : IsParsedOnce text) where
   file_once c reply other (fits m x) (too_large n y) = absurd (omega arith)
   file_once c reply other (fits m x) (fits n y) = text_once c reply other x y
 
+-- a text of a program and one of a schedule have one reply to a replay
+module _ (text schedule : List ℕ) (once : IsParsedOnce text) (fuel : ℕ) where
+  schedule_once : (p : Program) (reply other : Reply) → IsScheduleReply p fuel schedule reply → IsScheduleReply p fuel schedule other → reply ≡ other
+  schedule_once p reply other (wrong_line line w x) (wrong_line at v y) = x ∙ ap (λ n. error_reply status.TextRefused (schedule_line n)) ((read_once schedule).one_line line at w v) ∙ sym y
+  schedule_once p reply other (wrong_line line w x) (replayed list v y) = absurd ((read_once schedule).no_both list line v w)
+  schedule_once p reply other (replayed list w x) (wrong_line line v y) = absurd ((read_once schedule).no_both list line w v)
+  schedule_once p reply other (replayed list w x) (replayed list2 v y) =
+      replay_once p fuel list reply other x (subst (λ l. IsReplayReply p fuel l other) ((read_once schedule).one_list list2 list v w) y)
+
+  texts_once : (reply other : Reply) → IsTextsReply fuel text schedule reply → IsTextsReply fuel text schedule other → reply ≡ other
+  texts_once reply other (texts_accepted p a x) (texts_accepted q b y) =
+      schedule_once (program_written p) reply other x (subst (λ z. IsScheduleReply (program_written z) fuel schedule other) (once.one_program q p b.is_text a.is_text) y)
+  texts_once reply other (texts_accepted p a x) (texts_refused r w y) = absurd (no_refusal text once p r a w)
+  texts_once reply other (texts_refused r w x) (texts_accepted p a y) = absurd (no_refusal text once p r a w)
+  texts_once reply other (texts_refused r v x) (texts_refused q w y) = x ∙ ap told (refused_once text once r q v w) ∙ sym y where
+    told : Refused → Reply
+    told z = error_reply status.TextRefused (refusal_line z.kind z.line)
+
+  files_once : (reply other : Reply) → IsFilesReply fuel text schedule reply → IsFilesReply fuel text schedule other → reply ≡ other
+  files_once reply other (files_too_large m x) (files_too_large n y) = x ∙ sym y
+  files_once reply other (files_too_large m x) (too_long few n y) = absurd (omega (arith, m, few))
+  files_once reply other (files_too_large m x) (fit few less y) = absurd (omega (arith, m, few))
+  files_once reply other (too_long few m x) (files_too_large n y) = absurd (omega (arith, n, few))
+  files_once reply other (too_long few m x) (too_long few2 n y) = x ∙ sym y
+  files_once reply other (too_long few m x) (fit few2 less y) = absurd (omega (arith, m, less))
+  files_once reply other (fit few less x) (files_too_large n y) = absurd (omega (arith, n, few))
+  files_once reply other (fit few less x) (too_long few2 n y) = absurd (omega (arith, n, less))
+  files_once reply other (fit few less x) (fit few2 less2 y) = texts_once reply other x y
+
 pub replied : (text : List ℕ) → IsReplied text
 replied text = record { some = file_reply text; one = file_once text (parsed_once text) }
 
+pub replied_once : (text schedule : List ℕ) → IsRepliedOnce text schedule
+replied_once text schedule = record { one = files_once text schedule (parsed_once text) }
+
+command_once : (c : Command) (texts : Texts) (reply other : Reply) → IsCommandReply c texts reply → IsCommandReply c texts other → reply ≡ other
+command_once (run file options) texts reply other x y = (replied texts.file).one (run file options) reply other x y
+command_once (check file) texts reply other x y = (replied texts.file).one (check file) reply other x y
+command_once (replay file schedule fuel) texts reply other x y = (replied_once texts.file texts.schedule).one fuel reply other x y
+
+-- the text that is shown is the one that is held
+same_text : (text shown : List ℕ) (held : Option (List ℕ)) → IfSome held (λ t. shown ≡ t) → held ≡ Some text → shown ≡ text
+same_text text shown held same is = rw is at same
+
+-- so the reply by the texts that are shown is that by those that are held
+by_held : (held : List ℕ → Option (List ℕ)) (c : Command) (told texts : Texts) (reply : Reply) → AreShown held c told → AreHeld held c texts → IsCommandReply c told reply → IsCommandReply c texts reply
+by_held held (run file options) told texts reply same is x = subst (λ t. IsFileReply (run file options) t reply) (same_text texts.file told.file (held file) same is) x
+by_held held (check file) told texts reply same is x = subst (λ t. IsFileReply (check file) t reply) (same_text texts.file told.file (held file) same is) x
+by_held held (replay file schedule fuel) told texts reply (same, shows) (is, holds) x =
+    subst (λ t. IsFilesReply fuel t texts.schedule reply) (same_text texts.file told.file (held file) same is)
+    (subst (λ t. IsFilesReply fuel told.file t reply) (same_text texts.schedule told.schedule (held schedule) shows holds) x)
+
 module _ (words : List (List ℕ)) (shelf : ShelfSpan) (still : ¬ ShelfFailed shelf) where
-  -- the text that is shown is the one that is held
-  same_text : (c : Command) (text shown : List ℕ) (held : Option (List ℕ)) → IfSome held (λ t. shown ≡ t) → held ≡ Some text → shown ≡ text
-  same_text c text shown held same is = rw is at same
+  -- the reply to a command, where no read failed
+  shelf_complete : (c : Command) (texts : Texts) → AreHeld shelf.before.held c texts → (reply : Reply) → IsShelfReply c shelf reply → (other : Reply) → IsCommandReply c texts other → reply ≡ other
+  shelf_complete c texts held reply (unread failed last is) other w = absurd (still failed)
+  shelf_complete c texts held reply (unread_schedule schedule text of same few failed last is) other w = absurd (still failed)
+  shelf_complete c texts held reply (by_texts told quiet same is) other w = command_once c texts reply other (by_held shelf.before.held c told texts reply same held is) w
 
   -- the number of a reply, where no read failed
-  reply_complete : (reply : Reply) → IsReply words shelf reply → (c : Command) (text : List ℕ) → asked_of words ≡ Some c → shelf.before.held (file_of c) ≡ Some text
-      → (other : Reply) → IsFileReply c text other → (number_of reply.status ≡ number_of other.status) ⊎ (number_of reply.status ≡ number_of status.OutOfMemory)
-  reply_complete reply (usage none quiet is) c text named given other w = let both : None ≡ Some c = sym none ∙ named in absurd (cc)
-  reply_complete reply (unread d asked failed last is) c text named given other w = absurd (still failed)
-  reply_complete reply (by_text d shown asked quiet same is) c text named given other w =
+  reply_complete : (reply : Reply) → IsReply words shelf reply → (c : Command) (texts : Texts) → asked_of words ≡ Some c → AreHeld shelf.before.held c texts
+      → (other : Reply) → IsCommandReply c texts other → (number_of reply.status ≡ number_of other.status) ⊎ (number_of reply.status ≡ number_of status.OutOfMemory)
+  reply_complete reply (usage none quiet is) c texts named given other w = let both : None ≡ Some c = sym none ∙ named in absurd (cc)
+  reply_complete reply (of_command d asked is) c texts named given other w =
       let one : d ≡ c = cc in
-      let held : shelf.before.held (file_of d) ≡ Some text = ap (λ e. shelf.before.held (file_of e)) one ∙ given in
-      let here : shown ≡ text = same_text d text shown (shelf.before.held (file_of d)) same held in
-      let of_text : IsFileReply d text reply = subst (λ t. IsFileReply d t reply) here is in
-      let of_command : IsFileReply c text reply = subst (λ e. IsFileReply e text reply) one of_text in
-      inl (ap (λ r. number_of r.status) ((replied text).one c reply other of_command w))
-  reply_complete reply (no_memory is) c text named given other w = inr (ap (λ r. number_of r.status) is)
+      inl (ap (λ r. number_of r.status) (shelf_complete c texts given reply (subst (λ e. IsShelfReply e shelf reply) one is) other w))
+  reply_complete reply (no_memory is) c texts named given other w = inr (ap (λ r. number_of r.status) is)
 
 -- what could not be written shows in a count
 not_unwritten : (out err : SinkSpan) (reply : Reply) → IsUnwritten out err reply → ¬ SinkFailed out → ¬ SinkFailed err → ⊥
@@ -101,6 +157,6 @@ not_unwritten out err reply (no_output part same) o e = o part.failed
 not_unwritten out err reply (no_errors whole part) o e = e part.failed
 
 pub complete : (words : List (List ℕ)) (shelf : ShelfSpan) (out err : SinkSpan) (number : ℕ) → IsOutcome words shelf out err number → IsComplete words shelf out err number
-complete words shelf out err number (written reply is o e at) still out_still err_still c text named given other w =
-    subst (λ n. (n ≡ number_of other.status) ⊎ (n ≡ number_of status.OutOfMemory)) (sym at) (reply_complete words shelf still reply is c text named given other w)
-complete words shelf out err number (unwritten reply is parts at) still out_still err_still c text named given other w = absurd (not_unwritten out err reply parts out_still err_still)
+complete words shelf out err number (written reply is o e at) still out_still err_still c texts named given other w =
+    subst (λ n. (n ≡ number_of other.status) ⊎ (n ≡ number_of status.OutOfMemory)) (sym at) (reply_complete words shelf still reply is c texts named given other w)
+complete words shelf out err number (unwritten reply is parts at) still out_still err_still c texts named given other w = absurd (not_unwritten out err reply parts out_still err_still)

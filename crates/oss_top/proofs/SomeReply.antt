@@ -1,4 +1,4 @@
--- A text has a reply: its tokens or a first fault, a program or a refusal by the grammar, and its static rules.
+-- A text has a reply to a check and to a run: its tokens or a first fault, a program or a refusal by the grammar, and its static rules.
 use Rattle.std.proofs.Common.{◌≡◌, ℕ, zero, suc, ◌+◌, ◌≤◌, ◌<◌, nat_lt, Bool, true, false, List, [], ◌∷◌, length, Result, Ok, Err, refl, ap, arith, ◌⊎◌, inl, inr}
 use Rattle.std.proofs.lemmas.Bool.Decides.{nat_tests}
 use Rattle.oss_syntax.specs.declared.token.Token.{Token}
@@ -24,11 +24,13 @@ use Rattle.oss_parse.specs.Parsed.{told_of}
 use Rattle.oss_parse.specs.ProgramReading.{read_text}
 use Rattle.oss_parse.proofs.ParsedLemmas.{parsed}
 use Rattle.oss_command.specs.Commands.{Command}
-use Rattle.oss_command.specs.Commands.Command.{run, check}
+use Rattle.oss_command.specs.Commands.Command.{run, check, replay}
 use Rattle.oss_lower.proofs.TextPlaces.{accepted_programs_have_one_outcome}
+use Rattle.oss_top.specs.OneReply.{IsOfOneText}
 use Rattle.oss_top.specs.ProgramTexts.{Accepts, Refuses}
 use Rattle.oss_top.specs.ProgramTexts.Refuses.{by_grammar, by_rules}
-use Rattle.oss_top.specs.Reply.{IsFileReply, IsTextReply, IsProgramReply, accepted_line, answer_reply, done_reply, error_reply, most_bytes, too_large_line}
+use Rattle.oss_top.specs.Forms.{accepted_line, answer_reply, done_reply, error_reply, most_bytes, too_large_line}
+use Rattle.oss_top.specs.Reply.{IsFileReply, IsTextReply, IsProgramReply}
 use Rattle.oss_top.specs.Reply.IsProgramReply.{checked, ran}
 use Rattle.oss_top.specs.Reply.IsTextReply.{accepted, refused_text}
 use Rattle.oss_top.specs.Reply.IsFileReply.{too_large, fits}
@@ -70,21 +72,22 @@ some_parse text = from (some_reading (length text) Beginning 1 text (omega arith
   from (inl (ts, w)) = told ts w (told_of text ts (read_text ts)) refl
   from (inr (kind, at, w)) = inr (record { kind = kind; line = at; token = 0 }, by_tokens w refl)
 
-program_reply : (c : Command) (text : List ℕ) (p : Program) → Accepts text p → (reply : Reply) × IsProgramReply c (program_written p) reply
-program_reply (check file) text p a = (done_reply accepted_line, checked refl)
-program_reply (run file options) text p a =
+program_reply : (c : Command) → IsOfOneText c → (text : List ℕ) (p : Program) → Accepts text p → (reply : Reply) × IsProgramReply c (program_written p) reply
+program_reply (check file) of text p a = (done_reply accepted_line, checked refl)
+program_reply (replay file schedule fuel) of text p a = absurd of
+program_reply (run file options) of text p a =
     let (o, is) = (accepted_programs_have_one_outcome text p a.is_text a.obeys options.fuel).some in
     (answer_reply options.dump (program_written p) o.answer, ran (record { outcome = o; is_outcome = is; is_reply = refl }))
 
-text_reply : (c : Command) (text : List ℕ) → (reply : Reply) × IsTextReply c text reply
-text_reply c text = from (some_parse text) where
+text_reply : (c : Command) → IsOfOneText c → (text : List ℕ) → (reply : Reply) × IsTextReply c text reply
+text_reply c of text = from (some_parse text) where
   refused : (r : Refused) → Refuses text r → (reply : Reply) × IsTextReply c text reply
   refused r w = (error_reply status.TextRefused (refusal_line r.kind r.line), refused_text r w refl)
 
   ruled : (p : Program) → IsProgramText text p → (rules : List Refused) → program_rules p ≡ rules → (reply : Reply) × IsTextReply c text reply
   ruled p w [] e =
       let accepts : Accepts text p = record { is_text = w; obeys = e } in
-      let (reply, is) = program_reply c text p accepts in
+      let (reply, is) = program_reply c of text p accepts in
       (reply, accepted p accepts is)
   ruled p w (r ∷ rest) e = refused r (by_rules p w (ap first e))
 
@@ -92,8 +95,8 @@ text_reply c text = from (some_parse text) where
   from (inl (p, w)) = ruled p w (program_rules p) refl
   from (inr (r, w)) = refused r (by_grammar w)
 
-pub file_reply : (text : List ℕ) (c : Command) → (reply : Reply) × IsFileReply c text reply
-file_reply text c = on (nat_lt most_bytes (length text)) refl where
+pub file_reply : (text : List ℕ) (c : Command) → IsOfOneText c → (reply : Reply) × IsFileReply c text reply
+file_reply text c of = on (nat_lt most_bytes (length text)) refl where
   on : (b : Bool) → nat_lt most_bytes (length text) ≡ b → (reply : Reply) × IsFileReply c text reply
   on true e = (error_reply status.TextRefused too_large_line, too_large (grind (arith, nat_tests)) refl)
-  on false e = let (reply, is) = text_reply c text in (reply, fits (grind (arith, nat_tests)) is)
+  on false e = let (reply, is) = text_reply c of text in (reply, fits (grind (arith, nat_tests)) is)

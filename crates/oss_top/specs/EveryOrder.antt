@@ -14,7 +14,8 @@ use Rattle.oss_meaning.specs.Meaning.{asks_of}
 use Rattle.oss_meaning.specs.Results.{first_cells, main_of}
 use Rattle.oss_command.specs.declared.options.Options.{Options}
 use Rattle.oss_top.specs.ProgramTexts.{Accepts}
-use Rattle.oss_top.specs.Reply.{IsRunReply, answer_reply}
+use Rattle.oss_top.specs.Forms.{answer_reply}
+use Rattle.oss_top.specs.Reply.{IsRunReply}
 use Rattle.oss_top.specs.declared.reply.Reply.{Reply}
 
 -- the state has an answer, and each answer of it has this reply

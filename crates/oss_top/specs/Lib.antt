@@ -1,6 +1,9 @@
 pub mod EveryOrder
+pub mod Forms
 pub mod OneReply
 pub mod ProgramTexts
+pub mod Reads
+pub mod Replays
 pub mod Reply
 pub mod Runs
 pub mod Statuses

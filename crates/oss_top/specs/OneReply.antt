@@ -1,11 +1,24 @@
--- A text has one reply to a command: there is one, and two by their definition are equal in status, output and error output.
+-- A text has one reply to a check and to a run: there is one, and two by their definition are equal in status, output and error output. Two texts have at most one to a
+-- replay.
 -- Read against: a text is accepted as one program or refused for one reason, since its grammar leaves no choice; and a text that is
--- too long is refused as that, whatever stands in it; and the sequential run of a program comes to its end, and to one.
+-- too long is refused as that, whatever stands in it; and the sequential run of a program comes to its end, and to one. A schedule is one list of moves or has one first
+-- wrong line; and its moves lead to one state, or one of them is the first that is not enabled.
 use Rattle.std.specs.Prelude.{◌≡◌, ℕ, List}
 use Rattle.oss_command.specs.Commands.{Command}
+use Rattle.oss_command.specs.Commands.Command.{run, check, replay}
+use Rattle.oss_top.specs.Replays.{IsFilesReply}
 use Rattle.oss_top.specs.Reply.{IsFileReply}
 use Rattle.oss_top.specs.declared.reply.Reply.{Reply}
 
+-- The command has the text of a program alone.
+abbrev pub IsOfOneText : Command → Type 0
+IsOfOneText (run file options) = Unit {0}
+IsOfOneText (check file) = Unit {0}
+IsOfOneText (replay file schedule fuel) = ⊥
+
 pub record IsReplied (text : List ℕ) : Type 0 where
-  pub some : (c : Command) → (reply : Reply) × IsFileReply c text reply
+  pub some : (c : Command) → IsOfOneText c → (reply : Reply) × IsFileReply c text reply
   pub one : (c : Command) (reply other : Reply) → IsFileReply c text reply → IsFileReply c text other → reply ≡ other
+
+pub record IsRepliedOnce (text schedule : List ℕ) : Type 0 where
+  pub one : (fuel : ℕ) (reply other : Reply) → IsFilesReply fuel text schedule reply → IsFilesReply fuel text schedule other → reply ≡ other

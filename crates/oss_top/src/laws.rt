@@ -1,12 +1,18 @@
 //! The laws of the replies of the top call.
 
 ghost use Rattle.oss_top.specs.EveryOrder.{IsRunInEveryOrder};
-ghost use Rattle.oss_top.specs.OneReply.{IsReplied};
+ghost use Rattle.oss_top.specs.OneReply.{IsReplied, IsRepliedOnce};
 
-/// A law, with nothing to run: a text has one reply to a command, and no other. So status, output and error output of a check or
+/// A law, with nothing to run: a text has one reply to a check and to a run, and no other. So status, output and error output of a check or
 /// a run are settled by the text.
 pub fn a_text_has_one_reply(text: &[u8])
     ensures { IsReplied text.now }
+{}
+
+/// A law, with nothing to run: the texts of a program and of a schedule have one reply to a replay at most. So status, output and error output of a replay
+/// are settled by the texts and the fuel.
+pub fn a_replay_has_one_reply(text: &[u8], schedule: &[u8])
+    ensures { IsRepliedOnce text.now schedule.now }
 {}
 
 /// A law, with nothing to run: in whatever order the tasks of an accepted text run, as far as the moves of the machine of tasks allow

@@ -1,8 +1,9 @@
-//! The top call: it reads words and files, checks and runs programs, and tells what comes of it.
+//! The top call: it reads words and files, checks and runs programs, replays schedules, and tells what comes of it.
 #![tactic(auto)]
 
 mod known;
 mod laws;
+mod replay;
 mod reply;
 mod run;
 mod status;
@@ -11,7 +12,7 @@ mod tests;
 mod texts;
 mod top;
 
-pub use laws::{a_text_has_one_reply, every_order_gives_the_reply};
-pub use oss_command::{Command, Options, RunMode, WordsRefused, read_words};
+pub use laws::{a_replay_has_one_reply, a_text_has_one_reply, every_order_gives_the_reply};
+pub use oss_command::{Command, Options, Replay, RunMode, WordsRefused, read_words};
 pub use status::Status;
 pub use top::{Sinks, nest6};

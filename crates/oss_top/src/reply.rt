@@ -1,19 +1,22 @@
 //! What the top call replies, before it is written.
 
-ghost use Rattle.std.specs.Prelude.{◌≡◌, ◌≤◌, length, map, IfOk};
+ghost use Rattle.std.specs.Prelude.{◌≡◌, ◌≤◌, ℕ, List as Items, length, map, IfOk};
 ghost use Rattle.std.specs.String.{string_bytes};
 ghost use Rattle.oss_io.specs.Spans.{shelf_span};
 ghost use Rattle.oss_model.specs.Texts.{refusal_line as line_of_refusal};
 ghost use Rattle.oss_command.specs.Commands.{meant};
-ghost use Rattle.oss_top.specs.Reply.{IsProgramReply, IsReply, IsTextReply, done_reply, error_reply};
+ghost use Rattle.oss_command.specs.Commands.Command.{check, run};
+ghost use Rattle.oss_top.specs.Forms.{accepted_line, done_reply, error_reply};
+ghost use Rattle.oss_top.specs.Reads.{IsReadReply};
+ghost use Rattle.oss_top.specs.Reply.{IsReply, IsShelfReply, IsTextReply};
 
 use crate::known::known;
+use crate::replay::reply_to_replay;
 use crate::run::reply_to_run;
 use crate::status::Status;
 use crate::texts;
-use oss_command::{Command, read_words};
+use oss_command::{Command, Options, read_words};
 use oss_io::{Shelf, ShelfFault};
-use oss_names::Known;
 use oss_report::refusal_line;
 use oss_syntax::{Bytes, Refusal, Refused, RefusedKind};
 use std::alloc::{AllocError, Global};
@@ -31,7 +34,7 @@ pub struct Reply {
 
 impl Reply {
     /// A reply that has a line for the error output alone.
-    fn error(alloc: Global, status: Status, line: Bytes) -> Reply
+    pub fn error(alloc: Global, status: Status, line: Bytes) -> Reply
         ensures { result ≡ error_reply status line }
     {
         Reply {
@@ -61,16 +64,26 @@ pub fn reply_to<S: Shelf>(
 ) -> Result<Reply, AllocError>
     ensures { IfOk result (λ reply. IsReply (map string_bytes words.now) (shelf_span S.held S.faults S.last shelf.old shelf.new) reply) }
 {
-    let command = match read_words(words) {
-        Ok(command) => command,
+    match read_words(words) {
+        Ok(command) => reply_to_command(alloc, command, shelf),
         Err(_) => {
             let line = texts::usage(alloc)?;
-            return Ok(Reply::error(alloc, Status::WordsRefused, line));
+            Ok(Reply::error(alloc, Status::WordsRefused, line))
         }
-    };
+    }
+}
+
+/// The reply to a command, from a shelf.
+fn reply_to_command<S: Shelf>(
+    alloc: Global,
+    command: Command<'_>,
+    shelf: &mut S,
+) -> Result<Reply, AllocError>
+    ensures { IfOk result (λ reply. IsShelfReply (meant command.entry) (shelf_span S.held S.faults S.last shelf.old shelf.new) reply) }
+{
     let mut text = Vec::new(alloc);
     match shelf.read(command.file(), MOST_BYTES, &mut text) {
-        Ok(()) => reply_to_text(alloc, command, text.as_slice()),
+        Ok(()) => reply_to_read(alloc, command, text.as_slice(), shelf),
         Err(ShelfFault::Failed) => {
             let line = texts::unread(alloc, command.file())?;
             Ok(Reply::error(alloc, Status::Unread, line))
@@ -80,28 +93,62 @@ pub fn reply_to<S: Shelf>(
     }
 }
 
-/// The reply to the text of a file.
-fn reply_to_text(alloc: Global, command: Command<'_>, text: &[u8]) -> Result<Reply, AllocError>
+/// The reply to a command whose program has this text.
+fn reply_to_read<S: Shelf>(
+    alloc: Global,
+    command: Command<'_>,
+    text: &[u8],
+    shelf: &mut S,
+) -> Result<Reply, AllocError>
     requires { length text.now ≤ 1048576 }
-    ensures { IfOk result (λ reply. IsTextReply (meant command.entry) text.now reply) }
+    ensures { IfOk result (λ reply. IsReadReply (meant command.entry) text.now (shelf_span S.held S.faults S.last shelf.old shelf.new) reply) }
 {
-    match known(alloc, text) {
-        Ok(known) => reply_to_program(alloc, command, &known),
-        Err(Refusal::Refused(refused)) => {
-            let line = refusal_line(alloc, &refused)?;
-            Ok(Reply::error(alloc, Status::TextRefused, line))
-        }
-        Err(Refusal::Memory(e)) => Err(e),
+    match command {
+        Command::Run(_, options) => run_text(alloc, options, text),
+        Command::Check(_) => check_text(alloc, text),
+        Command::Replay(asked) => reply_to_replay(alloc, asked, text, shelf),
     }
 }
 
-/// The reply to a program that breaks no rule.
-fn reply_to_program(alloc: Global, command: Command<'_>, known: &Known) -> Result<Reply, AllocError>
-    ensures { IfOk result (λ reply. IsProgramReply (meant command.entry) known.now reply) }
+/// The reply of a check to the text of a file.
+fn check_text(alloc: Global, text: &[u8]) -> Result<Reply, AllocError>
+    requires { length text.now ≤ 1048576 }
+    ensures { IfOk result (λ reply. (file : Items ℕ) → IsTextReply (check file) text.now reply) }
 {
-    match command {
-        Command::Check(_) => Ok(Reply::done(alloc, texts::accepted(alloc)?)),
-        Command::Run(_, options) => reply_to_run(alloc, known, options),
+    match known(alloc, text) {
+        Ok(_) => accepted(alloc),
+        Err(refusal) => reply_to_refusal(alloc, refusal),
+    }
+}
+
+/// The reply of a run to the text of a file.
+fn run_text(alloc: Global, options: Options, text: &[u8]) -> Result<Reply, AllocError>
+    requires { length text.now ≤ 1048576 }
+    ensures { IfOk result (λ reply. (file : Items ℕ) → IsTextReply (run file options) text.now reply) }
+{
+    match known(alloc, text) {
+        Ok(known) => reply_to_run(alloc, &known, options),
+        Err(refusal) => reply_to_refusal(alloc, refusal),
+    }
+}
+
+/// The reply of a check that accepts its file.
+fn accepted(alloc: Global) -> Result<Reply, AllocError>
+    ensures { IfOk result (λ reply. reply ≡ done_reply accepted_line) }
+{
+    Ok(Reply::done(alloc, texts::accepted(alloc)?))
+}
+
+/// The reply to a text that is no program.
+pub fn reply_to_refusal(alloc: Global, refusal: Refusal) -> Result<Reply, AllocError>
+    ensures { IfOk result (λ reply. (r : Refused) × (refusal ≡ Refusal.Refused r) × (reply ≡ error_reply Status.TextRefused (line_of_refusal r.kind r.line))) }
+{
+    match refusal {
+        Refusal::Refused(refused) => {
+            let line = refusal_line(alloc, &refused)?;
+            Ok(Reply::error(alloc, Status::TextRefused, line))
+        }
+        Refusal::Memory(e) => Err(e),
     }
 }
 

@@ -2,7 +2,8 @@
 
 ghost use Rattle.std.specs.Prelude.{◌≡◌, ◌++◌, IfOk, OnOk};
 ghost use Rattle.oss_model.specs.Agreement.{AreWords};
-ghost use Rattle.oss_top.specs.Reply.{IsRunReply, answer_reply, dump_behind};
+ghost use Rattle.oss_top.specs.Forms.{answer_reply, dump_behind};
+ghost use Rattle.oss_top.specs.Reply.{IsRunReply};
 ghost use Rattle.oss_top.specs.Runs.{IsRanOf};
 
 use crate::reply::Reply;
@@ -34,12 +35,12 @@ fn serial_run(alloc: Global, known: &Known, fuel: u32) -> Result<Ran, AllocError
 }
 
 /// A fact alone: a number of 64 bits is one.
-fn are_words(cells: &[u64])
+pub fn are_words(cells: &[u64])
     ensures { AreWords cells.now }
 {}
 
 /// The reply to a run that has this answer.
-fn reply_to_answer(
+pub fn reply_to_answer(
     alloc: Global,
     program: &Program,
     dump: bool,

@@ -2,7 +2,7 @@
 
 ghost use Rattle.std.specs.Prelude.{◌≡◌, IfOk};
 ghost use Rattle.oss_command.specs.Commands.{usage_line};
-ghost use Rattle.oss_top.specs.Reply.{accepted_line, unread_line};
+ghost use Rattle.oss_top.specs.Forms.{accepted_line, unread_line};
 
 use oss_syntax::Bytes;
 use std::alloc::{AllocError, Global};

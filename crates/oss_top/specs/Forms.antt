@@ -1,0 +1,43 @@
+-- The forms of replies, and the lines that they have beside those of faults, refusals and replays.
+-- Read against: the answer Done with the output `6` has a reply with that output and the status Done; a fault has one with the output before it, and with its line on the error output.
+use Rattle.std.specs.Prelude.{ℕ, Bool, true, false, List, [], ◌∷◌, ◌++◌, codes}
+use Rattle.oss_syntax.specs.declared.tree.program.Program.{Program}
+use Rattle.oss_syntax.specs.declared.refusal.RefusedKind.TheVariants as refused
+use Rattle.oss_model.specs.declared.answer.Answer.{Answer}
+use Rattle.oss_model.specs.declared.answer.Answer.TheVariants.{Done, Fault}
+use Rattle.oss_model.specs.Texts.{fault_line, refusal_line}
+use Rattle.oss_report.specs.Dumps.{dump_text}
+use Rattle.oss_top.specs.declared.reply.Reply.{Reply}
+use Rattle.oss_top.specs.declared.status.Status.{Status}
+use Rattle.oss_top.specs.declared.status.Status.TheVariants as status
+
+-- the most bytes of a program text
+abbrev pub most_bytes : ℕ
+most_bytes = 1048576
+
+abbrev pub accepted_line : List ℕ
+accepted_line = codes "ok" ++ 10 ∷ []
+
+abbrev pub too_large_line : List ℕ
+too_large_line = refusal_line refused.TooLarge 1
+
+abbrev pub unread_line : List ℕ → List ℕ
+unread_line file = codes "cannot read " ++ file ++ 10 ∷ []
+
+-- the reply to a command that is done, with this output
+abbrev pub done_reply : List ℕ → Reply
+done_reply text = record { status = status.Done; out = text; err = [] }
+
+-- a reply that has a line for the error output alone
+abbrev pub error_reply : Status → List ℕ → Reply
+error_reply s line = record { status = s; out = []; err = line }
+
+-- what stands behind the output of a run that ended with these cells: what the globals hold, where a dump is asked for
+abbrev pub dump_behind : Bool → Program → List ℕ → List ℕ
+dump_behind false program cells = []
+dump_behind true program cells = dump_text program.items cells
+
+-- the reply to a run of the program that has this answer, with a dump or without
+abbrev pub answer_reply : Bool → Program → Answer → Reply
+answer_reply dump program (Done text cells) = done_reply (text ++ dump_behind dump program cells)
+answer_reply dump program (Fault kind line text) = record { status = status.Fault; out = text; err = fault_line kind line }
