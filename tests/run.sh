@@ -88,6 +88,7 @@ for file in *.c; do
   [ -f "$name.status" ] && status=$(cat "$name.status")
   expect "examples/$file" "$status" "$name.out" "$err" run "$file"
 done
+expect "examples/tasks.schedule" 0 tasks.out "$work/nothing" replay tasks.c tasks.schedule
 
 # The examples were run by the script, which looks at every source first. From here on the program is called itself.
 [ "$#" -gt 0 ] || program=$top/crates/nest6/out/nest6
