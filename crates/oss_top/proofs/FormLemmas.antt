@@ -63,13 +63,7 @@ long_schedule name fuel text shelf reply few still long is =
     by_schedule schedule still same (too_long few more is)
 
 module _ (before mid after : ShelfSeen) (same : (name : List ℕ) → mid.held name ≡ before.held name) (still : mid.faults ≡ before.faults) where
-  later : ShelfSpan
-  later = record { before = mid; after = after }
-
-  whole : ShelfSpan
-  whole = record { before = before; after = after }
-
-  failed_whole : ShelfFailed later → ShelfFailed whole
+  failed_whole : ShelfFailed (record { before = mid; after = after }) → ShelfFailed (record { before = before; after = after })
   failed_whole f = subst (λ n. Rises n after.faults) still f
 
   -- what is replied once the program has been read is the reply to the command

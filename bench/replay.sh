@@ -1,0 +1,60 @@
+#!/bin/sh
+# Times replays of the built program, and prints a row each: the schedule, its seconds, those of one with twice the work, and their ratio. It wants `python3` for the
+# clock. `bench/replay.sh PROGRAM` times another program.
+top=$(CDPATH='' cd -- "$(dirname -- "$0")/.." && pwd) || exit 1
+program=${1:-$top/nest6}
+case $program in
+  /*) ;;
+  *) program=$PWD/$program ;;
+esac
+work=$(mktemp -d) || exit 1
+trap 'rm -rf "$work"' EXIT
+cd "$work" || exit 1
+"$program" check /dev/null >/dev/null 2>&1
+
+# timed NAME: the seconds of a replay of NAME.txt on NAME.c, the best of three
+timed() {
+  python3 - "$program" replay --fuel=1000000000 "$1.c" "$1.txt" <<'PROGRAM'
+import subprocess, sys, time
+best = None
+for _ in range(3):
+    begin = time.monotonic()
+    status = subprocess.call(sys.argv[1:], stdout=subprocess.DEVNULL)
+    took = time.monotonic() - begin
+    best = took if best is None or took < best else best
+    if status:
+        print("status", status, file=sys.stderr)
+print("%.3f" % best)
+PROGRAM
+}
+
+# growth WHAT NAME: of NAME_1 and NAME_2, with twice the work
+growth() {
+  once=$(timed "$2_1")
+  twice=$(timed "$2_2")
+  echo "$1 | $once s | $twice s | $(awk -v a="$twice" -v b="$once" 'BEGIN { printf "%.2f", a / b }')"
+}
+
+for k in 1 2; do
+  # one task gives up each cell of an array by a move of its own
+  cells=$((k * 524288))
+  printf 'long a[%s];\nint main() {\n#pragma oss task out(a)\n;\n}\n' "$cells" >cells_$k.c
+  printf 'step 0 3\nstep 0.0 2\nlet 0.0 0 %s\n' "$cells" >cells_$k.txt
+  # tasks that each add to the same cell, one after the other
+  tasks=$((k * 10000))
+  printf 'long x;\nint main() {\n  for (long i = 0; i < %s; i++) {\n#pragma oss task inout(x)\n    x += i;\n  }\n}\n' "$tasks" >chain_$k.c
+  # slots of reductions, joined in the order of the tasks
+  printf 'long x;\nint main() {\n  for (long i = 0; i < %s; i++) {\n#pragma oss task reduction(+: x)\n    x += 1;\n  }\n}\n' "$tasks" >slots_$k.c
+  # each turn of the loop is four acts of main, and four more stand round it
+  awk -v n="$tasks" 'BEGIN {
+    print "step 0 " n * 4 + 4
+    for (i = 0; i < n; i++) { print "step 0." i " 4"; print "let 0." i " 0 1" }
+  }' >chain_$k.txt
+  awk -v n="$tasks" 'BEGIN {
+    print "step 0 " n * 4 + 4
+    for (i = 0; i < n; i++) { print "step 0." i " 3"; print "join 0." i " 0 1" }
+  }' >slots_$k.txt
+done
+growth "one task gives up 524,288 cells, and 1,048,576" cells
+growth "10,000 tasks on one cell, and 20,000" chain
+growth "10,000 slots of one cell, and 20,000" slots

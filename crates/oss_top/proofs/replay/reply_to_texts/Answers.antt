@@ -1,0 +1,15 @@
+use Rattle.std.proofs.Common.{◌∙◌, Err, ap, subst}
+use Rattle.oss_top.specs.ProgramTexts.{IsKnown}
+use Rattle.oss_top.specs.Replays.{IsScheduleReply}
+use Rattle.oss_top.specs.Replays.IsTextsReply.{accepted, refused_text}
+use Rattle.oss_top.proofs.FormLemmas.{if_ok}
+use Rattle.oss_top.proofs.replay.reply_to_texts.Goals as goal
+
+pub returns-in-Ok : goal.returns-in-Ok
+returns-in-Ok c =
+    let known = c.in-Ok.ensures in
+    if_ok c.reply_to_schedule.result (λ reply is. accepted known.program known.accepts (subst (λ p. IsScheduleReply p c.args.fuel c.args.schedule.now reply) known.is_of is)) c.reply_to_schedule.ensures
+
+pub returns-in-Err : goal.returns-in-Err
+returns-in-Err c =
+    if_ok c.reply_to_refusal.result (λ reply is. refused_text is.0 (subst (λ e. IsKnown c.args.text.now (Err e)) is.1 c.in-Err.ensures) is.2) c.reply_to_refusal.ensures

@@ -1,0 +1,13 @@
+use Rattle.std.proofs.Common.{ap, refl}
+use Rattle.oss_command.specs.Commands.{meant}
+use Rattle.oss_top.proofs.FormLemmas.{if_ok}
+use Rattle.oss_top.proofs.reply.reply_to_read.Goals as goal
+
+pub returns-in-Run : goal.returns-in-Run
+returns-in-Run g c = if_ok c.run_text.result (λ reply is. rw (ap meant c.in-Run.is) (refl, is _)) c.run_text.ensures
+
+pub returns-in-Check : goal.returns-in-Check
+returns-in-Check g c = if_ok c.check_text.result (λ reply is. rw (ap meant c.in-Check.is) (refl, is _)) c.check_text.ensures
+
+pub returns-in-Replay : goal.returns-in-Replay
+returns-in-Replay g c = if_ok c.reply_to_replay.result (λ reply is. rw (ap meant c.in-Replay.is) is) c.reply_to_replay.ensures
