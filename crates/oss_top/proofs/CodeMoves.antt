@@ -1,20 +1,18 @@
 -- The bodies of a program and those of its code do the same acts, so a schedule does the same with both.
-use Rattle.std.proofs.Common.{◌≡◌, ◌∙◌, ℕ, Bool, true, false, List, [], ◌∷◌, map, length, refl, sym, ap, subst}
+use Rattle.std.proofs.Common.{◌≡◌, ◌∙◌, ℕ, true, false, List, [], ◌∷◌, map, length, refl, sym, ap, subst}
 use Rattle.oss_syntax.specs.declared.tree.program.Item.{Item}
 use Rattle.oss_grammar.specs.Layout.{cells_in}
-use Rattle.oss_model.specs.Agreement.{AreWords, main_start}
-use Rattle.oss_model.specs.Answers.{IsResult, IsStopped}
+use Rattle.oss_model.specs.Agreement.{main_start}
+use Rattle.oss_model.specs.Answers.{IsResult}
 use Rattle.oss_model.specs.Answers.IsResult.{ends as result_ends, fails as result_fails}
-use Rattle.oss_model.specs.Bodies.{Act, Body, Frame, Program as Asks, Stack, Start, child_start, key_of, stack_from, stage_act, stage_key, top_frame}
+use Rattle.oss_model.specs.Bodies.{Act, Frame, Program as Asks, Stack, Start, child_start, key_of, stack_from, stage_act, stage_key, top_frame}
 use Rattle.oss_model.specs.Bodies.Act.{Awaited, Created, Ended, Fault, Folded, Load, Over, Printed, Releases, Store, Ticked, Waited, WaitedOn}
-use Rattle.oss_model.specs.Machine.{State}
 use Rattle.oss_model.specs.Moves.{opening}
 use Rattle.oss_model.specs.declared.answer.Answer.{Answer}
-use Rattle.oss_alike.specs.Alike.{AreActsAlike, AreBodiesAlike, AreStartsAlike, IsAlike, IsBisimulation, turned}
+use Rattle.oss_alike.specs.Alike.{AreActsAlike, AreBodiesAlike, AreStartsAlike, IsAlike, IsBisimulation}
 use Rattle.oss_alike.specs.Alike.AreActsAlike.{both_await, both_create, both_end, both_fault, both_fold, both_include, both_load, both_over, both_print, both_release, both_store, both_tick, both_wait, both_wait_on}
 use Rattle.oss_alike.proofs.AlikeTheorem.{opening_alike}
-use Rattle.oss_alike.proofs.TurnLemmas.{alike_back, bisimulation_back}
-use Rattle.oss_meaning.specs.Expressions.{TaskBody, TreeScript}
+use Rattle.oss_meaning.specs.Expressions.{TreeScript}
 use Rattle.oss_meaning.specs.Meaning.{asks_of}
 use Rattle.oss_meaning.specs.Results.{IsOutcome, Outcome, first_cells, main_of, main_order}
 use Rattle.oss_meaning.specs.Results.IsOutcome.{ends, fails}
@@ -23,7 +21,7 @@ use Rattle.oss_machine.specs.Frames.{CodeScript}
 use Rattle.oss_machine.specs.Machines.{asks}
 use Rattle.oss_body.specs.Mains.{code_main}
 use Rattle.oss_lower.specs.Programs.{IsCodeOf, code_order, moved_order, moved_start}
-use Rattle.oss_lower.proofs.MovedBodies.{acts_alike, moved_act, moved_frame, moved_stack, stands_alike}
+use Rattle.oss_lower.proofs.MovedBodies.{acts_alike, moved_act, moved_frame, stands_alike}
 use Rattle.oss_lower.proofs.OutcomeLaws.{cells_are}
 
 module _ (all : List Item) (code : CodeParts) (of : IsCodeOf all code) where

@@ -13,7 +13,7 @@ use Rattle.oss_top.specs.Reads.{IsReadReply, IsScheduleRead}
 use Rattle.oss_top.specs.Reads.IsScheduleRead.{by_schedule, schedule_unread}
 use Rattle.oss_top.specs.Replays.{most_schedule}
 use Rattle.oss_top.specs.Replays.IsFilesReply.{too_large as files_too_large, too_long}
-use Rattle.oss_top.specs.Reply.{AreShown, IsCommandReply, IsOutcome, IsReply, IsShelfReply, Texts}
+use Rattle.oss_top.specs.Reply.{AreShown, IsCommandReply, IsOutcome, IsShelfReply, Texts}
 use Rattle.oss_top.specs.Reply.IsFileReply.{fits, too_large}
 use Rattle.oss_top.specs.Reply.IsOutcome.{written}
 use Rattle.oss_top.specs.Reply.IsReply.{no_memory}

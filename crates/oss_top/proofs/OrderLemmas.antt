@@ -1,14 +1,12 @@
 -- The answer of each state in which no move is left is that of the sequential run, and so is the reply.
-use Rattle.std.proofs.Common.{◌≡◌, ◌∙◌, ℕ, List, sym, ap}
-use Rattle.oss_syntax.specs.declared.tree.program.Program.{Program}
+use Rattle.std.proofs.Common.{◌∙◌, ℕ, List, sym, ap}
 use Rattle.oss_grammar.specs.TaskLoops.{program_written}
 use Rattle.oss_model.specs.Agreement.{AgreesWithRun, Setting}
-use Rattle.oss_model.specs.Answers.{IsAnswer, IsResult, IsStopped}
+use Rattle.oss_model.specs.Answers.{IsResult}
 use Rattle.oss_model.specs.Answers.IsResult.{ends as result_ends, fails as result_fails}
 use Rattle.oss_model.specs.Bodies.{Program as Asks, Start}
 use Rattle.oss_model.specs.Machine.{State}
 use Rattle.oss_model.specs.Moves.{Reached}
-use Rattle.oss_model.specs.declared.answer.Answer.{Answer}
 use Rattle.oss_model.proofs.AgreementTheorem.{every_state_agrees}
 use Rattle.oss_model.proofs.ResultTheorem.{every_answer_is_the_result, every_result_is_the_answer}
 use Rattle.oss_meaning.specs.Expressions.{TreeScript}
@@ -16,7 +14,7 @@ use Rattle.oss_meaning.specs.Meaning.{asks_of}
 use Rattle.oss_meaning.specs.Results.{IsOutcome, Outcome, first_cells, main_of}
 use Rattle.oss_meaning.specs.Results.IsOutcome.{ends, fails}
 use Rattle.oss_lower.proofs.TextPlaces.{accepted_setting}
-use Rattle.oss_top.specs.EveryOrder.{HasReply, IsRunInEveryOrder}
+use Rattle.oss_top.specs.EveryOrder.{IsRunInEveryOrder}
 use Rattle.oss_top.specs.Forms.{answer_reply}
 
 -- the answer of an outcome is the result of the run

@@ -1,6 +1,6 @@
-use Rattle.std.proofs.Common.{◌≡◌, ◌∙◌, ◌<◌, ◌≤◌, Err, List, ℕ, ap, length, sym, subst}
+use Rattle.std.proofs.Common.{◌≡◌, ◌∙◌, ◌≤◌, Err, List, ℕ, ap, length, sym, subst}
 use Rattle.std.specs.Prelude.{IfSome}
-use Rattle.oss_top.specs.Forms.{error_reply, unread_line}
+use Rattle.oss_top.specs.Forms.{error_reply}
 use Rattle.oss_top.specs.Reads.IsScheduleRead.{by_schedule, schedule_unread}
 use Rattle.oss_top.specs.Replays.{most_schedule}
 use Rattle.oss_top.specs.Replays.IsFilesReply.{fit}

@@ -1,4 +1,4 @@
-use Rattle.std.proofs.Common.{Err, ap, subst}
+use Rattle.std.proofs.Common.{subst}
 use Rattle.oss_sched.specs.Schedules.{IsRefusal}
 use Rattle.oss_top.specs.Replays.IsScheduleReply.{replayed, wrong_line}
 use Rattle.oss_top.proofs.FormLemmas.{if_ok}

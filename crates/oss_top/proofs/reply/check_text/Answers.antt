@@ -1,4 +1,4 @@
-use Rattle.std.proofs.Common.{◌≡◌, Err, List, ℕ, ap, subst, sym}
+use Rattle.std.proofs.Common.{Err, List, ℕ, subst, sym}
 use Rattle.std.specs.Prelude.{IfOk}
 use Rattle.oss_command.specs.Commands.Command.{check}
 use Rattle.oss_top.specs.ProgramTexts.{IsKnown}
@@ -11,7 +11,7 @@ use Rattle.oss_top.proofs.reply.check_text.Goals as goal
 
 pub returns : goal.returns
 returns c = elim c.match-known.branch [
-  in-Ok w ↦
+  | in-Ok w ↦
       subst (λ r. IfOk r (λ reply. (file : List ℕ) → IsTextReply (check file) c.args.text.now reply)) (sym w.result-is)
       (if_ok w.accepted.result (λ reply is file. accepted w.in-Ok.ensures.program w.in-Ok.ensures.accepts (checked is)) w.accepted.ensures)
   | in-Err w ↦

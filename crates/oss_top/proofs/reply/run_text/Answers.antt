@@ -1,4 +1,4 @@
-use Rattle.std.proofs.Common.{◌∙◌, Err, ap, subst}
+use Rattle.std.proofs.Common.{Err, subst}
 use Rattle.oss_top.specs.ProgramTexts.{IsKnown}
 use Rattle.oss_top.specs.Reply.{IsRunReply}
 use Rattle.oss_top.specs.Reply.IsProgramReply.{ran}
