@@ -48,7 +48,7 @@ for k in 1 2; do
   # each turn of the loop is four acts of main, and four more stand round it
   awk -v n="$tasks" 'BEGIN {
     print "step 0 " n * 4 + 4
-    for (i = 0; i < n; i++) { print "step 0." i " 4"; print "let 0." i " 0 1" }
+    for (i = 0; i < n; i++) { print "step 0." i " 3"; print "let 0." i " 0 1" }
   }' >chain_$k.txt
   awk -v n="$tasks" 'BEGIN {
     print "step 0 " n * 4 + 4
