@@ -2,34 +2,8 @@
 # Times programs in the sequential run of the built program, and the same loops in CPython where `python3` is there, in one and the same call, and prints a row
 # each: the program, its seconds, those of CPython and their ratio. Then it prints what twice the work takes, as a ratio: the growth of ticks, of
 # tasks of one creator, of nested tasks, of cells of an array and of lent ranges. `bench/programs.sh PROGRAM` times another program.
-top=$(CDPATH='' cd -- "$(dirname -- "$0")/.." && pwd) || exit 1
-program=${1:-$top/nest6}
-case $program in
-  /*) ;;
-  *) program=$PWD/$program ;;
-esac
-work=$(mktemp -d) || exit 1
-trap 'rm -rf "$work"' EXIT
-cd "$work" || exit 1
-"$program" check /dev/null >/dev/null 2>&1
-
-# timed WORD..: the seconds that a call takes, the best of three
-timed() {
-  python3 - "$@" <<'PROGRAM'
-import subprocess, sys, time
-best = None
-for _ in range(3):
-    begin = time.monotonic()
-    status = subprocess.call(sys.argv[1:], stdout=subprocess.DEVNULL, stderr=subprocess.DEVNULL)
-    took = time.monotonic() - begin
-    best = took if best is None or took < best else best
-    if status:
-        print("status", status, file=sys.stderr)
-print("%.3f" % best)
-PROGRAM
-}
-
-ratio() { awk -v a="$1" -v b="$2" 'BEGIN { printf "%.2f", a / b }'; }
+# shellcheck source=bench/built.sh
+. "$(dirname -- "$0")/built.sh"
 
 # beside NAME FILE: NAME.c in the program and NAME.py in CPython
 beside() {
@@ -42,7 +16,7 @@ beside() {
 growth() {
   once=$(timed "$program" run --fuel=1000000000 "$2_1.c")
   twice=$(timed "$program" run --fuel=1000000000 "$2_2.c")
-  echo "$1 | $once s | $twice s | $(ratio "$twice" "$once")"
+  grown "$1" "$once" "$twice"
 }
 
 cat >arrays.c <<'PROGRAM'

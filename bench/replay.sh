@@ -1,39 +1,14 @@
 #!/bin/sh
 # Times replays of the built program, and prints a row each: the schedule, its seconds, those of one with twice the work, and their ratio. It wants `python3` for the
 # clock. `bench/replay.sh PROGRAM` times another program.
-top=$(CDPATH='' cd -- "$(dirname -- "$0")/.." && pwd) || exit 1
-program=${1:-$top/nest6}
-case $program in
-  /*) ;;
-  *) program=$PWD/$program ;;
-esac
-work=$(mktemp -d) || exit 1
-trap 'rm -rf "$work"' EXIT
-cd "$work" || exit 1
-"$program" check /dev/null >/dev/null 2>&1
+# shellcheck source=bench/built.sh
+. "$(dirname -- "$0")/built.sh"
 
-# timed NAME: the seconds of a replay of NAME.txt on NAME.c, the best of three
-timed() {
-  python3 - "$program" replay --fuel=1000000000 "$1.c" "$1.txt" <<'PROGRAM'
-import subprocess, sys, time
-best = None
-for _ in range(3):
-    begin = time.monotonic()
-    status = subprocess.call(sys.argv[1:], stdout=subprocess.DEVNULL)
-    took = time.monotonic() - begin
-    best = took if best is None or took < best else best
-    if status:
-        print("status", status, file=sys.stderr)
-print("%.3f" % best)
-PROGRAM
-}
+# replayed NAME: the seconds of a replay of NAME.txt on NAME.c
+replayed() { timed "$program" replay --fuel=1000000000 "$1.c" "$1.txt"; }
 
 # growth WHAT NAME: of NAME_1 and NAME_2, with twice the work
-growth() {
-  once=$(timed "$2_1")
-  twice=$(timed "$2_2")
-  echo "$1 | $once s | $twice s | $(awk -v a="$twice" -v b="$once" 'BEGIN { printf "%.2f", a / b }')"
-}
+growth() { grown "$1" "$(replayed "$2_1")" "$(replayed "$2_2")"; }
 
 for k in 1 2; do
   # one task gives up each cell of an array by a move of its own

@@ -1,18 +1,11 @@
 #!/bin/sh
 # Times `check` and `run` of texts of about 1,000,000 bytes with the built program, and prints a row each: the text, the seconds
 # and the status of `check`, those of `run`, and the most memory of the two in MiB. `bench/texts.sh PROGRAM` times another program.
-top=$(CDPATH='' cd -- "$(dirname -- "$0")/.." && pwd) || exit 1
-program=${1:-$top/nest6}
-case $program in
-  /*) ;;
-  *) program=$PWD/$program ;;
-esac
-work=$(mktemp -d) || exit 1
-trap 'rm -rf "$work"' EXIT
-cd "$work" || exit 1
+# shellcheck source=bench/built.sh
+. "$(dirname -- "$0")/built.sh"
 
-# timed COMMAND FILE: seconds, status and MiB of one call
-timed() {
+# measured COMMAND FILE: seconds, status and MiB of one call
+measured() {
   python3 - "$program" "$1" "$2" <<'PROGRAM'
 import os, resource, subprocess, sys, time
 begin = time.monotonic()
@@ -24,12 +17,10 @@ PROGRAM
 
 # row NAME FILE
 row() {
-  check=$(timed check "$2")
-  run=$(timed run "$2")
+  check=$(measured check "$2")
+  run=$(measured run "$2")
   echo "$1 | check $check | run $run"
 }
-
-"$program" check /dev/null >/dev/null 2>&1
 
 awk 'BEGIN { for (i = 0; i < 1000000; i++) printf " " }' >blanks.c
 awk 'BEGIN { printf "int main(){"; for (i = 0; i < 1000000; i++) printf ";"; printf "}" }' >empty.c
