@@ -1,8 +1,8 @@
 //! What the words of the command line ask for.
 
-ghost use Rattle.std.specs.Prelude.{◌≡◌, map, option_map};
+ghost use Rattle.std.specs.Prelude.{◌≡◌, map};
 ghost use Rattle.std.specs.String.{string_bytes};
-ghost use Rattle.oss_command.specs.Commands.{IsAsked, IsAskedBy, asked_by, check_asked, file_of, meant, replay_asked, run_asked, schedule_of};
+ghost use Rattle.oss_command.specs.Commands.{IsAsked, IsAskedBy, asked_by, check_asked, file_of, meant, replay_asked, run_asked};
 
 use crate::operands::{are_listed, are_operands, are_replay_words, the_operand, the_two_operands};
 use crate::options::{Options, read_fuel, read_options};
@@ -124,17 +124,6 @@ impl<'w> Command<'w> {
             Command::Run(file, _) => file,
             Command::Check(file) => file,
             Command::Replay(asked) => asked.file,
-        }
-    }
-
-    /// The name of the file with the schedule, where there is one.
-    pub fn schedule(self) -> Option<&'w str>
-        ensures { option_map (λ file. file.now) result ≡ schedule_of (meant self.entry) }
-    {
-        match self {
-            Command::Run(_, _) => None,
-            Command::Check(_) => None,
-            Command::Replay(asked) => Some(asked.schedule),
         }
     }
 }

@@ -103,6 +103,7 @@ fn least_of(tasks: &[Held], least: Option<usize>, at: usize) -> Option<usize>
 {
     match fault_seen(&tasks[at].body) {
         Some(seen) => {
+            // (its clauses tell that the key is a point)
             let _numbers = seen.key.as_slice();
             match least {
                 Some(best) => {
@@ -139,6 +140,7 @@ fn with_task(tree: &Tree, task: TaskNo, unfinished: u64) -> u64
     ensures few { result ≤ task.0 + 1 }
     ensures told { AreUnfinishedTo tree.now.tasks (task.0 + 1) result }
 {
+    // (its clause tells that the tasks are those of a tree)
     let _count = tree.count();
     if tree.complete(task) {
         unfinished

@@ -125,7 +125,7 @@ module _ (places : TaskBody → ℕ) where
   printed_is (Fault kind line key) output = refl
   printed_is Over output = refl
 
-  child_is : (f : _) (o : Order TreeScript) → child_start (moved_frame places f) (moved_order places o) ≡ moved_start places (child_start f o)
+  pub child_is : (f : _) (o : Order TreeScript) → child_start (moved_frame places f) (moved_order places o) ≡ moved_start places (child_start f o)
   unfolding child_start
   child_is f o = refl
 

@@ -130,7 +130,8 @@ a_program_has_one_outcome all h fuel =
     let lowered = programs_have_codes all h in
     programs_have_one_outcome all lowered.0 (codes_ask_alike all lowered.0 lowered.1) (main_of all fuel) (first_cells all) (main_setting all fuel (words_from 0 all h))
 
-start_is : (all : List Item) (code : CodeParts) (of : IsCodeOf all code) (fuel : ℕ) → moved_start of.places (main_of all fuel) ≡ code_start code fuel
+-- main of the code begins as that of the program
+pub start_is : (all : List Item) (code : CodeParts) (of : IsCodeOf all code) (fuel : ℕ) → moved_start of.places (main_of all fuel) ≡ code_start code fuel
 start_is all code of fuel =
     ap {B = Start CodeScript} (λ n. main_start (record { script = record { entry = n; copies = [] }; clauses = []; when = true; last = false; wait = false; priority = main_order.priority }) (cells_in all) fuel) of.main_first
     ∙ ap {B = Start CodeScript} (λ n. main_start code_order n fuel) (sym (ap length of.first ∙ cells_are all))

@@ -1,11 +1,9 @@
 -- The bodies of a program and those of its code do the same acts, so a schedule does the same with both.
-use Rattle.std.proofs.Common.{◌≡◌, ◌∙◌, ℕ, true, false, List, [], ◌∷◌, map, length, refl, sym, ap, subst}
+use Rattle.std.proofs.Common.{◌≡◌, ◌∙◌, ℕ, true, false, List, [], ◌∷◌, map, refl, sym, ap, subst}
 use Rattle.oss_syntax.specs.declared.tree.program.Item.{Item}
-use Rattle.oss_grammar.specs.Layout.{cells_in}
-use Rattle.oss_model.specs.Agreement.{main_start}
 use Rattle.oss_model.specs.Answers.{IsResult}
 use Rattle.oss_model.specs.Answers.IsResult.{ends as result_ends, fails as result_fails}
-use Rattle.oss_model.specs.Bodies.{Act, Frame, Program as Asks, Stack, Start, child_start, key_of, stack_from, stage_act, stage_key, top_frame}
+use Rattle.oss_model.specs.Bodies.{Act, Frame, Program as Asks, Stack, Start, key_of, stack_from, stage_act, stage_key, top_frame}
 use Rattle.oss_model.specs.Bodies.Act.{Awaited, Created, Ended, Fault, Folded, Load, Over, Printed, Releases, Store, Ticked, Waited, WaitedOn}
 use Rattle.oss_model.specs.Moves.{opening}
 use Rattle.oss_model.specs.declared.answer.Answer.{Answer}
@@ -14,15 +12,16 @@ use Rattle.oss_alike.specs.Alike.AreActsAlike.{both_await, both_create, both_end
 use Rattle.oss_alike.proofs.AlikeTheorem.{opening_alike}
 use Rattle.oss_meaning.specs.Expressions.{TreeScript}
 use Rattle.oss_meaning.specs.Meaning.{asks_of}
-use Rattle.oss_meaning.specs.Results.{IsOutcome, Outcome, first_cells, main_of, main_order}
+use Rattle.oss_meaning.specs.Results.{IsOutcome, Outcome, first_cells, main_of}
 use Rattle.oss_meaning.specs.Results.IsOutcome.{ends, fails}
 use Rattle.oss_code.specs.declared.code.CodeParts.{CodeParts}
 use Rattle.oss_machine.specs.Frames.{CodeScript}
 use Rattle.oss_machine.specs.Machines.{asks}
 use Rattle.oss_body.specs.Mains.{code_main}
-use Rattle.oss_lower.specs.Programs.{IsCodeOf, code_order, moved_order, moved_start}
+use Rattle.oss_lower.specs.Programs.{IsCodeOf, moved_start}
 use Rattle.oss_lower.proofs.MovedBodies.{acts_alike, moved_act, moved_frame, stands_alike}
-use Rattle.oss_lower.proofs.OutcomeLaws.{cells_are}
+use Rattle.oss_lower.proofs.MovedRuns.{child_is}
+use Rattle.oss_lower.proofs.OutcomeLaws.{start_is}
 
 module _ (all : List Item) (code : CodeParts) (of : IsCodeOf all code) where
   abbrev P : Asks TreeScript
@@ -39,17 +38,13 @@ module _ (all : List Item) (code : CodeParts) (of : IsCodeOf all code) where
   key_is base [] = refl
   key_is base (f ∷ fs) = refl
 
-  child_is : (f : Frame TreeScript) (o : _) → moved_start of.places (child_start f o) ≡ child_start (moved_frame of.places f) (moved_order of.places o)
-  unfolding child_start
-  child_is f o = refl
-
   moved_alike : (f : Frame TreeScript) (a : Act TreeScript) → AreActsAlike is_moved f (moved_frame of.places f) a (moved_act of.places a)
   moved_alike f Ticked = both_tick
   moved_alike f (Load cell) = both_load
   moved_alike f (Store cell v) = both_store
   moved_alike f (Folded cell o v slot) = both_fold
   moved_alike f (Created o true) = both_include
-  moved_alike f (Created o false) = both_create (child_is f o)
+  moved_alike f (Created o false) = both_create (sym (child_is of.places f o))
   moved_alike f Awaited = both_await
   moved_alike f Waited = both_wait
   moved_alike f (WaitedOn named) = both_wait_on
@@ -83,17 +78,11 @@ module _ (all : List Item) (code : CodeParts) (of : IsCodeOf all code) where
   pub codes_do_the_same : IsBisimulation P Q is_moved
   codes_do_the_same b c r = subst (λ (d : Start CodeScript). AreStartsAlike P Q is_moved b d) r (starts_alike b)
 
-  -- main of the code begins as that of the program
-  main_is : (fuel : ℕ) → is_moved (main_of all fuel) (code_main code fuel)
-  main_is fuel =
-      ap {B = Start CodeScript} (λ n. main_start (record { script = record { entry = n; copies = [] }; clauses = []; when = true; last = false; wait = false; priority = main_order.priority }) (cells_in all) fuel) of.main_first
-      ∙ ap {B = Start CodeScript} (λ n. main_start code_order n fuel) (sym (ap length of.first ∙ cells_are all))
-
-  -- so the code begins as the program does
+  -- the code begins as the program does
   pub codes_open_alike : (fuel : ℕ) → IsAlike is_moved (opening (main_of all fuel) (first_cells all)) (opening (code_main code fuel) code.first)
   codes_open_alike fuel =
       subst (λ (cells : List ℕ). IsAlike is_moved (opening (main_of all fuel) (first_cells all)) (opening (code_main code fuel) cells)) (sym of.first)
-      (opening_alike P Q is_moved codes_do_the_same (main_of all fuel) (code_main code fuel) (first_cells all) (main_is fuel))
+      (opening_alike P Q is_moved codes_do_the_same (main_of all fuel) (code_main code fuel) (first_cells all) (start_is all code of fuel))
 
 -- the result of a run is the answer of an outcome
 pub outcome_of : {S : Type 0} (P : Asks S) (main : Start S) (cells : List ℕ) (a : Answer) → IsResult P main cells a → (o : Outcome) × IsOutcome P main cells o × (o.answer ≡ a)
