@@ -1,0 +1,4 @@
+pub mod LeftLemmas
+pub mod WriteLemmas
+pub mod MadeLemmas
+pub mod SegmentLemmas
