@@ -2,7 +2,6 @@
 use Rattle.std.proofs.Common.{◌≡◌, ℕ, refl, sym, subst, ap, ◌∙◌, List, [], ◌∷◌, ◌++◌, Bool, true, false}
 use Rattle.oss_model.specs.Bodies.{Order, Start, child_start, stack_from, stage_act}
 use Rattle.oss_model.specs.Bodies.Act.{Created}
-use Rattle.oss_model.specs.Moves.{found_by}
 use Rattle.oss_rounds.specs.Parts.{made_by}
 use Rattle.oss_code.specs.declared.code.CodeParts.{CodeParts}
 use Rattle.oss_machine.specs.Asks.{meant_order}
@@ -14,9 +13,10 @@ use Rattle.oss_body.specs.declared.body.Body.{Body}
 use Rattle.oss_body.specs.Acts.{act_seen, answer_to, creates}
 use Rattle.oss_body.specs.Relation.{IsBody, pending_of}
 use Rattle.oss_tree.specs.declared.output.Print.{Print}
-use Rattle.oss_part.specs.Made.{AddsWhen, AreNew, IsKeyed, printed_by, prints_of}
+use Rattle.oss_part.specs.Made.{AddsWhen, AreNew, printed_by}
+use Rattle.oss_part.specs.Segments.{IsKeyed, with_print}
 
-pub none_more : {A : Type 0} (xs : List A) → xs ++ [] ≡ xs
+none_more : {A : Type 0} (xs : List A) → xs ++ [] ≡ xs
 none_more [] = refl
 none_more (x ∷ xs) = ap (λ (ys : List _). x ∷ ys) (none_more xs)
 
@@ -56,11 +56,11 @@ pub finds_nothing : (a : Act) (v : ℕ) → creates a ≡ true → answer_to (ac
 finds_nothing (acts.Create creation false) v e = refl
 finds_nothing _ v e = absurd cc
 
-pub prints_nothing : (a : Act) → creates a ≡ true → prints_of a ≡ []
-prints_nothing (acts.Create creation false) e = refl
-prints_nothing _ e = absurd cc
+pub prints_nothing : (a : Act) (prints : List Print) → creates a ≡ true → with_print a prints ≡ prints
+prints_nothing (acts.Create creation false) prints e = refl
+prints_nothing _ prints e = absurd cc
 
--- what an act prints
-pub prints_same : (a : Act) → IsKeyed a → prints_of a ≡ printed_by (act_seen a)
-prints_same (acts.Print key text) k = ap (λ (at_ : List ℕ). let p : Print = record { at = at_; text = text } in p ∷ []) (sym (k key text refl))
-prints_same _ k = refl
+-- what an act prints stands behind the other prints
+pub prints_more : (a : Act) (prints : List Print) → IsKeyed a → with_print a prints ≡ prints ++ printed_by (act_seen a)
+prints_more (acts.Print key text) prints k = ap (λ (at_ : List ℕ). let p : Print = record { at = at_; text = text } in prints ++ p ∷ []) (sym (k key text refl))
+prints_more _ prints k = sym (none_more prints)

@@ -19,11 +19,11 @@ use Rattle.oss_body.specs.Relation.{IsBody, is_over, pending_of}
 use Rattle.oss_tree.specs.declared.output.Print.{Print}
 use Rattle.oss_part.specs.declared.segment.Segment.{Segment}
 use Rattle.oss_part.specs.Left.{body_left}
-use Rattle.oss_part.specs.Made.{AddsWhen, AreNew, IsKeyed, printed_after, printed_by, prints_of}
-use Rattle.oss_part.specs.Segments.{HasCome, IsNext, IsSegment, Went, first_of, went_none, went_on, went_new}
+use Rattle.oss_part.specs.Made.{AddsWhen, AreNew, printed_after, printed_by}
+use Rattle.oss_part.specs.Segments.{HasCome, IsKeyed, IsNext, IsSegment, Went, first_of, went_none, went_on, went_new, with_print}
 use Rattle.oss_part.specs.Writes.{Leaves, Shows}
 use Rattle.oss_part.proofs.LeftLemmas.{left_falls}
-use Rattle.oss_part.proofs.MadeLemmas.{children_more, finds_nothing, none_more, prints_nothing, prints_same}
+use Rattle.oss_part.proofs.MadeLemmas.{children_more, finds_nothing, prints_more, prints_nothing}
 use Rattle.oss_part.proofs.WriteLemmas.{shows, written_more, written_none}
 
 -- whether a part stops is told by its count as far as that goes
@@ -54,7 +54,7 @@ pub record Done (code : CodeParts) (memory : List ℕ) (quota : ℕ) (a : Act) (
   pub loaded : ℕ
   pub writes : (cells : List ℕ) → Shows memory old.writes.pieces cells → Leaves (act_seen a) cells old.writes.pieces new.writes.pieces
   pub finds : (cells : List ℕ) → Shows memory old.writes.pieces cells → loaded ≡ found_by (act_seen a) cells
-  pub prints : new.prints.items ≡ old.prints.items ++ prints_of a
+  pub prints : new.prints.items ≡ with_print a old.prints.items
   pub keyed : IsKeyed a
   pub adds : AddsWhen (creates (pending_of old.body)) code old.body old.children.items new.children.items
   pub next : IsNext code loaded old.body new.body
@@ -102,12 +102,13 @@ module _ (code : CodeParts) (start : Start CodeScript) (found memory : List ℕ)
       where
         go : (t : Bool) → creates (pending_of old.body) ≡ t → AddsWhen t code old.body old.children.items new.children.items → Went code start first begun (suc n) new.body new.children.items new.prints.items
         go true e (child, more, is_child) =
-            let none : new.prints.items ≡ old.prints.items = d.prints ∙ ap (λ (ps : List Print). old.prints.items ++ ps) (prints_nothing (pending_of old.body) e) ∙ none_more old.prints.items in
+            let none : new.prints.items ≡ old.prints.items = d.prints ∙ prints_nothing (pending_of old.body) old.prints.items e in
             let next : IsNext code 0 old.body new.body = λ s f i. subst (λ (v : ℕ). IsBody code s (v ∷ f) new.body) (finds_nothing (pending_of old.body) d.loaded e) (d.next s f i) in
-            subst (λ (ps : List Print). Went code start first begun (suc n) new.body new.children.items ps) (sym none) (went_new is.way d.running d.goes e is_child next more)
+            rw (none, more) (went_new new.body child is.way d.running d.goes e is_child next)
         go false e same =
             let next : IsNext code (found_by act now.cells) old.body new.body = subst (λ (v : ℕ). IsNext code v old.body new.body) found_is d.next in
-            subst (λ (cs : List Body). Went code start first begun (suc n) new.body cs new.prints.items) (sym same) (went_on is.way d.running d.goes e d.keyed next d.prints)
+            let printed = d.prints in
+            rw (printed, same) (went_on new.body is.way d.running d.goes e d.keyed next)
 
     goes_so : (k : ℕ) → k < suc n → stops_after P start first quota k ≡ false
     goes_so k l = go (which k l)
@@ -131,8 +132,9 @@ module _ (code : CodeParts) (start : Start CodeScript) (found memory : List ℕ)
           children = children_more code start now.found old.body (made_after P start first n) old.children.items new.children.items is.body seen is.children d.adds;
           prints =
               d.prints
-              ∙ ap (λ (ps : List Print). ps ++ prints_of (pending_of old.body)) is.prints
-              ∙ ap (λ (ps : List Print). printed_after P start first n ++ ps) (prints_same (pending_of old.body) d.keyed ∙ ap printed_by seen);
+              ∙ prints_more (pending_of old.body) old.prints.items d.keyed
+              ∙ ap (λ (ps : List Print). ps ++ printed_by (act_seen (pending_of old.body))) is.prints
+              ∙ ap (λ (a : Meant CodeScript). printed_after P start first n ++ printed_by a) seen;
           way = way_is;
         }
 

@@ -9,10 +9,7 @@ use Rattle.oss_rounds.specs.Parts.{Stage, act_after}
 use Rattle.oss_code.specs.declared.code.CodeParts.{CodeParts}
 use Rattle.oss_machine.specs.Frames.{CodeScript}
 use Rattle.oss_machine.specs.Machines.{asks}
-use Rattle.oss_body.specs.declared.act.Act.{Act}
-use Rattle.oss_body.specs.declared.act.Act.TheVariants as acts
 use Rattle.oss_body.specs.declared.body.Body.{Body}
-use Rattle.oss_body.specs.Places.{unwritten}
 use Rattle.oss_body.specs.Relation.{IsBody}
 use Rattle.oss_tree.specs.declared.output.Print.{Print}
 
@@ -43,12 +40,3 @@ printed_by _ = []
 unfoldable pub printed_after : {S : Type 0} → Program S → Start S → Stage → ℕ → List Print
 printed_after P start s zero = []
 printed_after P start s (suc n) = printed_after P start s n ++ printed_by (act_after P start s n)
-
--- What an act prints, of an act as it is kept.
-abbrev pub prints_of : Act → List Print
-prints_of (acts.Print key text) = record { at = key; text = text } ∷ []
-prints_of _ = []
-
--- The key of an act that prints is a point: it begins with main's 0, so nothing is lost where it is read as a key.
-abbrev pub IsKeyed : Act → Type 0
-IsKeyed act = (key text : List ℕ) → act ≡ acts.Print key text → written (unwritten key) ≡ key

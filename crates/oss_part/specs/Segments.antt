@@ -1,22 +1,35 @@
 -- The part of a task, as it is kept: where its body has come, what it has changed, made and printed, and the way that it went.
--- Read against: a task over the memory 5, 6 that reads cell 0, stores its number in cell 1, prints it and ends has four acts with its ticks left
--- out of the count here: behind them the body has ended, the writes give 5 to cell 1 and nothing to cell 0, and there is one print and no child. A
--- loop with a tick and a store a turn has, under a quota of 4,096 ticks, 8,192 acts: the part stops before the 4,097th tick. A body whose first
--- act is a wait goes past it, and stops before the next one.
+-- Read against: a task over the memory 5, 6 that reads cell 0, stores what it found in cell 1, prints it and ends has four acts in its part, ticks left
+-- aside: behind them the body has ended, the writes give 5 to cell 1 and nothing to cell 0, and there is one print and no child. A loop with a tick and
+-- a store a turn has, under a quota of 4,096 ticks, 8,192 acts: the part stops before the 4,097th tick. A body whose first act is a wait goes past it,
+-- and stops before the next one. A task that ended before has no act in its part.
 use Rattle.std.specs.Prelude.{◌≡◌, ◌<◌, ℕ, zero, suc, ◌-◌, ◌^◌, min, Bool, true, false, List, [], ◌∷◌, ◌++◌}
+use Rattle.oss_model.specs.Order.{written}
 use Rattle.oss_model.specs.Bodies.{Start}
 use Rattle.oss_model.specs.Moves.{found_by}
 use Rattle.oss_rounds.specs.Parts.{IsPart, Stage, act_after, made_after, stage_after, stops_after, ticks_after}
 use Rattle.oss_code.specs.declared.code.CodeParts.{CodeParts}
 use Rattle.oss_machine.specs.Frames.{CodeScript}
 use Rattle.oss_machine.specs.Machines.{asks}
+use Rattle.oss_body.specs.declared.act.Act.{Act}
+use Rattle.oss_body.specs.declared.act.Act.TheVariants as acts
 use Rattle.oss_body.specs.declared.body.Body.{Body}
 use Rattle.oss_body.specs.Acts.{act_seen, answer_to, creates, goes_on}
+use Rattle.oss_body.specs.Places.{unwritten}
 use Rattle.oss_body.specs.Relation.{IsBody, is_over, pending_of}
 use Rattle.oss_tree.specs.declared.output.Print.{Print}
 use Rattle.oss_part.specs.declared.segment.Segment.{Segment}
-use Rattle.oss_part.specs.Made.{AreNew, IsChildOf, IsKeyed, printed_after, prints_of}
+use Rattle.oss_part.specs.Made.{AreNew, IsChildOf, printed_after}
 use Rattle.oss_part.specs.Writes.{AreWritten}
+
+-- The prints, with that of this act, if it is one: behind a print of `x` at 0.1 there is one more.
+abbrev pub with_print : Act → List Print → List Print
+with_print (acts.Print key text) prints = prints ++ record { at = key; text = text } ∷ []
+with_print _ prints = prints
+
+-- The key of an act that prints is a point: it begins with main's 0, so nothing is lost where it is read as a key.
+abbrev pub IsKeyed : Act → Type 0
+IsKeyed act = (key text : List ℕ) → act ≡ acts.Print key text → written (unwritten key) ≡ key
 
 -- The second body is the first one behind its next act, which found this number where it is a load: whatever task it is the body of.
 abbrev pub IsNext : CodeParts → ℕ → Body → Body → Type 0
@@ -27,12 +40,13 @@ IsNext code loaded b next = (s : Start CodeScript) (f : List ℕ) → IsBody cod
 -- stage, and has what it prints behind the other prints.
 pub data Went (code : CodeParts) (start : Start CodeScript) (first : Stage) (body : Body) : ℕ → Body → List Body → List Print → Type 0 where
   went_none : Went code start first body zero body [] []
-  went_on : {k : ℕ} {b next : Body} {children : List Body} {prints more : List Print} → Went code start first body k b children prints → is_over b ≡ false → goes_on (pending_of b) ≡ true → creates (pending_of b) ≡ false
-      → IsKeyed (pending_of b) → IsNext code (found_by (act_after (asks code) start first k) (stage_after (asks code) start first k).cells) b next → more ≡ prints ++ prints_of (pending_of b)
-      → Went code start first body (suc k) next children more
-  went_new : {k : ℕ} {b next child : Body} {children more : List Body} {prints : List Print} → Went code start first body k b children prints → is_over b ≡ false → goes_on (pending_of b) ≡ true → creates (pending_of b) ≡ true
-      → IsChildOf code b child → IsNext code 0 b next → more ≡ children ++ child ∷ []
-      → Went code start first body (suc k) next more prints
+  went_on : {k : ℕ} {b : Body} {children : List Body} {prints : List Print} (next : Body) → Went code start first body k b children prints
+      → is_over b ≡ false → goes_on (pending_of b) ≡ true → creates (pending_of b) ≡ false → IsKeyed (pending_of b)
+      → IsNext code (found_by (act_after (asks code) start first k) (stage_after (asks code) start first k).cells) b next
+      → Went code start first body (suc k) next children (with_print (pending_of b) prints)
+  went_new : {k : ℕ} {b : Body} {children : List Body} {prints : List Print} (next child : Body) → Went code start first body k b children prints
+      → is_over b ≡ false → goes_on (pending_of b) ≡ true → creates (pending_of b) ≡ true → IsChildOf code b child → IsNext code 0 b next
+      → Went code start first body (suc k) next (children ++ child ∷ []) prints
 
 -- The stage at which the part of a body begins that has found these answers.
 abbrev pub first_of : List ℕ → List ℕ → Stage

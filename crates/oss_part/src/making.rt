@@ -1,9 +1,10 @@
 //! What the acts of a part make: tasks, and output.
 
-ghost use Rattle.std.specs.Prelude.{◌≡◌, ◌++◌, false, OnOk};
+ghost use Rattle.std.specs.Prelude.{◌≡◌, false, OnOk};
 ghost use Rattle.oss_body.specs.Acts.{creates as creates_task};
 ghost use Rattle.oss_body.specs.Relation.{is_over, pending_of};
-ghost use Rattle.oss_part.specs.Made.{AddsWhen, IsKeyed, prints_of};
+ghost use Rattle.oss_part.specs.Made.{AddsWhen};
+ghost use Rattle.oss_part.specs.Segments.{IsKeyed, with_print};
 
 use oss_body::{Act, Body};
 use oss_code::Code;
@@ -50,7 +51,7 @@ pub(crate) fn add_child(
 
 /// Adds what the act prints, if it is a print.
 pub(crate) fn add_print(alloc: Global, act: &Act, prints: &mut Vec<Print>) -> Result<(), AllocError>
-    ensures prints { OnOk result (prints.new.items ≡ prints.old.items ++ prints_of act.now) }
+    ensures prints { OnOk result (prints.new.items ≡ with_print act.now prints.old.items) }
     ensures keyed { OnOk result (IsKeyed act.now) }
 {
     match act {
