@@ -1,13 +1,15 @@
 -- A part with one more act, at its beginning and where it stops.
-use Rattle.std.proofs.Common.{◌≡◌, ◌⊎◌, inl, inr, ℕ, zero, suc, ◌+◌, ◌-◌, ◌^◌, ◌<◌, ◌≤◌, refl, sym, subst, ap, ◌∙◌, arith, List, [], ◌∷◌, ◌++◌, Bool, true, false}
+use Rattle.std.proofs.Common.{◌≡◌, ◌⊎◌, inl, inr, ℕ, suc, ◌+◌, ◌-◌, ◌^◌, ◌<◌, ◌≤◌, refl, sym, subst, ap, ◌∙◌, arith, List, [], ◌∷◌, ◌++◌, Bool, true, false}
 use Rattle.std.specs.Prelude.{min, nat_le, not}
 use Rattle.std.proofs.lemmas.Bool.Decides.{nat_tests}
-use Rattle.oss_model.specs.Bodies.{Act as Meant, IsHalt, Program, Start, stack_from, stage_act}
-use Rattle.oss_model.specs.Bodies.Act.{Ticked, Awaited, Waited, WaitedOn, Load, Over}
+use Rattle.std.proofs.Math.Logic.{∥∥₁_map}
+use Rattle.std.proofs.lemmas.Grind.{not_there}
+use Rattle.oss_model.specs.Bodies.{Act as Meant, IsHalt, Program, Start}
+use Rattle.oss_model.specs.Bodies.Act.{Awaited, Waited, WaitedOn, Load}
 use Rattle.oss_model.specs.Moves.{found_by}
 use Rattle.oss_model.proofs.TreeLemmas.{over_stops}
 use Rattle.oss_ranges.specs.declared.piece.Piece.{Piece}
-use Rattle.oss_rounds.specs.Parts.{Stage, act_after, is_tick, made_after, one_tick, stage_after, stops_after, stops_before, ticks_after}
+use Rattle.oss_rounds.specs.Parts.{Stage, act_after, made_after, one_tick, stage_after, stops_after, stops_before, ticks_after}
 use Rattle.oss_rounds.proofs.PartLemmas.{goes_from}
 use Rattle.oss_code.specs.declared.code.CodeParts.{CodeParts}
 use Rattle.oss_machine.specs.Frames.{CodeScript}
@@ -20,7 +22,7 @@ use Rattle.oss_tree.specs.declared.output.Print.{Print}
 use Rattle.oss_part.specs.declared.segment.Segment.{Segment}
 use Rattle.oss_part.specs.Left.{body_left}
 use Rattle.oss_part.specs.Made.{AddsWhen, AreNew, printed_after, printed_by}
-use Rattle.oss_part.specs.Segments.{HasCome, IsKeyed, IsNext, IsSegment, Went, first_of, went_none, went_on, went_new, with_print}
+use Rattle.oss_part.specs.Segments.{HasCome, IsKeyed, IsKnown, IsNext, IsSegment, Went, first_of, went_none, went_on, went_new, with_print}
 use Rattle.oss_part.specs.Writes.{Leaves, Shows}
 use Rattle.oss_part.proofs.LeftLemmas.{left_falls}
 use Rattle.oss_part.proofs.MadeLemmas.{children_more, finds_nothing, prints_more, prints_nothing}
@@ -177,3 +179,20 @@ pub falls : (code : CodeParts) (start : Start CodeScript) (found : List ℕ) (lo
 falls code start found loaded count ticks quota old new is running stays next =
     left_falls code start found (answer_to (act_seen (pending_of old)) loaded) old new is (next start found is)
     (λ h. (goes_from (act_seen (pending_of old)) count ticks quota stays).halt (subst IsHalt (sym (is.act running)) h))
+
+less_or_not : (a b : ℕ) → (a < b) ⊎ (b ≤ a)
+less_or_not a b = grind arith
+
+-- what a fact gives that is there, though it is not told which
+pub less_by : {A : Type 0} (a b : ℕ) → ∥ A ∥₁ → (A → a < b) → a < b
+less_by a b there f = go (less_or_not a b)
+  where
+    go : (a < b) ⊎ (b ≤ a) → a < b
+    go (inl l) = l
+    go (inr l) = absurd (not_there there (λ x. let k = f x in omega (arith, k, l)))
+
+-- the body behind a part is one of the same task
+pub known_behind : (code : CodeParts) (memory : List ℕ) (quota : ℕ) (old : Body) (s : Segment) → IsKnown code old
+    → ((start : Start CodeScript) (found : List ℕ) → IsBody code start found old → IsSegment code start found memory quota old s) → IsKnown code s.body
+known_behind code memory quota old s known part =
+    ∥∥₁_map known (λ k. (k.0, (stage_after (asks code) k.0 (first_of k.1 memory) (part k.0 k.1 k.2).acts).found, (part k.0 k.1 k.2).body))

@@ -22,6 +22,10 @@ use Rattle.oss_part.specs.declared.segment.Segment.{Segment}
 use Rattle.oss_part.specs.Made.{AreNew, IsChildOf, printed_after}
 use Rattle.oss_part.specs.Writes.{AreWritten}
 
+-- The body is one of a task of the code, after some answers: the body of main at its start is one.
+abbrev pub IsKnown : CodeParts → Body → Type 0
+IsKnown code b = ∥ ((start : Start CodeScript) × (found : List ℕ) × IsBody code start found b) ∥₁
+
 -- The prints, with that of this act, if it is one: behind a print of `x` at 0.1 there is one more.
 abbrev pub with_print : Act → List Print → List Print
 with_print (acts.Print key text) prints = prints ++ record { at = key; text = text } ∷ []

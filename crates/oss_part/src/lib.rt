@@ -4,10 +4,12 @@
 mod going;
 mod happening;
 mod making;
+mod ready;
 mod run;
 mod segment;
 #[cfg(test)]
 mod tests;
 
+pub use ready::Ready;
 pub use run::segment_of;
 pub use segment::Segment;

@@ -4,7 +4,7 @@ ghost use Rattle.std.specs.Prelude.{◌≤◌, ℕ, List as Items, length, IfOk}
 ghost use Rattle.oss_model.specs.Bodies.{Start};
 ghost use Rattle.oss_machine.specs.Frames.{CodeScript};
 ghost use Rattle.oss_body.specs.Relation.{IsBody};
-ghost use Rattle.oss_part.specs.Segments.{IsSegment};
+ghost use Rattle.oss_part.specs.Segments.{IsKnown, IsSegment};
 
 use crate::segment::Segment;
 use oss_body::Body;
@@ -23,7 +23,7 @@ pub fn segment_of(
     memory: &[u64],
     quota: u32,
 ) -> Result<Segment, AllocError>
-    requires known { (start : Start CodeScript) × (found : Items ℕ) × IsBody code.now start found body }
+    requires known { IsKnown code.now body }
     requires room { length memory.now ≤ 1048576 }
     ensures { IfOk result (λ segment. (start : Start CodeScript) (found : Items ℕ) → IsBody code.now start found body → IsSegment code.now start found memory.now quota body segment) }
 {

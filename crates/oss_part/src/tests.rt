@@ -1,9 +1,6 @@
 //! Parts of main, worked by hand.
 
-ghost use Rattle.std.specs.Prelude.{◌≤◌, List as Items, ℕ, length};
-ghost use Rattle.oss_body.specs.Relation.{IsBody};
-ghost use Rattle.oss_machine.specs.Frames.{CodeScript};
-ghost use Rattle.oss_model.specs.Bodies.{Start};
+ghost use Rattle.oss_part.specs.Segments.{IsKnown};
 
 use crate::{Segment, segment_of};
 use oss_body::{Body, main_body};
@@ -37,7 +34,7 @@ fn code(rt: &(impl Abort + AllocGlobal), instrs: Vec<Instr>, depths: &[u32]) -> 
 
 /// The body of main at its start, with fuel for so many ticks.
 fn begun(rt: &(impl Abort + AllocGlobal), code: &Code, fuel: u32) -> Body
-    ensures { (start : Start CodeScript) × (found : Items ℕ) × IsBody code.now start found result }
+    ensures { IsKnown code.now result }
 {
     assert!(rt; code.first().len() <= 1_048_576);
     main_body(rt.alloc(), code, fuel).expect(rt, "memory")
@@ -45,8 +42,8 @@ fn begun(rt: &(impl Abort + AllocGlobal), code: &Code, fuel: u32) -> Body
 
 /// The part of a body over one cell, in which 4 stands, under a quota of 4,096 ticks.
 fn part(rt: &(impl Abort + AllocGlobal), code: &Code, body: Body) -> Segment
-    requires { (start : Start CodeScript) × (found : Items ℕ) × IsBody code.now start found body }
-    ensures { (start : Start CodeScript) × (found : Items ℕ) × IsBody code.now start found result.body }
+    requires { IsKnown code.now body }
+    ensures { IsKnown code.now result.body }
 {
     segment_of(rt.alloc(), code, body, &[4], 4096).expect(rt, "memory")
 }

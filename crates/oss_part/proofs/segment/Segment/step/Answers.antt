@@ -3,7 +3,7 @@ use Rattle.std.specs.Prelude.{not}
 use Rattle.oss_rounds.specs.Parts.{stops_before}
 use Rattle.oss_body.specs.declared.act.Act.{Act}
 use Rattle.oss_body.specs.Acts.{act_seen}
-use Rattle.oss_body.specs.Relation.{is_over, pending_of}
+use Rattle.oss_body.specs.Relation.{pending_of}
 use Rattle.oss_part.specs.declared.segment.Segment.{Segment}
 use Rattle.oss_part.proofs.SegmentLemmas.{Done, ended_stops, falls, more}
 use Rattle.oss_part.proofs.segment.Segment.step.Goals as goal
