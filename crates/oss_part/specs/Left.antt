@@ -1,5 +1,7 @@
--- What is left to do for a body, as it is kept: a number that falls with each of its acts.
--- Read against: a body that has ended has nothing left; one with fuel for a tick has more left before it than behind it.
+-- What is left to do for a body, as it is kept: a number that falls with each of its acts, so a loop over the acts of a body ends. It is what
+-- `Potential` of the model counts, told of the contexts and the machines that are kept.
+-- Read against: a body that has ended has nothing left. One that stands before a tick, with fuel for it, has more left than it has behind the tick; and
+-- one that includes a task has less left behind that creation, what the included task has left being part of it.
 use Rattle.std.specs.Prelude.{ℕ, suc, ◌+◌, ◌*◌, Bool, true, false, List, [], ◌∷◌}
 use Rattle.oss_model.specs.Potential.{share_of}
 use Rattle.oss_code.specs.declared.code.CodeParts.{CodeParts}
@@ -7,15 +9,15 @@ use Rattle.oss_machine.specs.Machines.{most_left, room}
 use Rattle.oss_body.specs.declared.body.Body.{Body}
 use Rattle.oss_body.specs.declared.frame.Frame.{Frame}
 
--- No body of the code makes more silent steps before an ask: of a code with one instruction a few thousand at most.
+-- No function of the code has more room for silent steps, wherever it stands in it: the more instructions there are, the more that is.
 abbrev pub most_room : CodeParts → ℕ
 most_room code = most_left code * suc (suc (most_left code))
 
--- No body of the code asks for more things between two ticks: a function may be open 513 times.
+-- No body of the code asks for more things between two ticks, whatever it calls: at most 513 functions are open at once.
 abbrev pub most_asks : CodeParts → ℕ
 most_asks code = 513 * suc (most_room code) + most_room code
 
--- What a task counts for, as it is kept: more before a tick than behind it.
+-- What a task counts for, as it is kept, by its fuel, by what it may ask for before its next tick, and by how deep it stands.
 abbrev pub kept_share : CodeParts → Frame → ℕ
 kept_share code f = share_of (most_asks code) (room code f.machine.config) f.place.context f.awaits
 
