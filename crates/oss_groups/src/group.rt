@@ -14,8 +14,8 @@ pub struct Group<J: Drop> {
     pub jobs: Vec<J>,
 }
 
-/// The jobs in at most so many groups of neighbours, whose workers are counted from 0. Each group but the last has as many as the jobs for each worker,
-/// rounded up. Where there are no jobs, the one group is empty. Want of memory is the one error.
+/// The jobs in at most so many groups of neighbours, whose workers are counted from 0. Each group but the last has as many jobs as there are for
+/// each worker, rounded up. Where there are no jobs, the one group is empty. Want of memory is the one error.
 pub fn into_groups<J: Drop>(
     alloc: Global,
     jobs: Vec<J>,

@@ -2,9 +2,9 @@ ghost use Rattle.std.specs.Prelude.{IfOk};
 
 use std::alloc::AllocError;
 
-/// What is done with each job. It is shared by all workers, and so cannot keep what it learns of a job.
+/// What is done with each job. All workers share it.
 pub trait Work<J, X> {
-    /// The answer may be made of the job. It does not depend on the worker.
+    /// The answer may be made of the job. Which worker does the job is no part of it.
     ghost gives: { Self → J → X → Type 0 };
 
     /// Does one job as this worker. Want of memory is the one error.
