@@ -1,7 +1,8 @@
-//! The outside: shelves that files are read from, and sinks that text is written to.
+//! The outside: shelves that files are read from, sinks that text is written to, and gates that tasks pass before they begin.
 #![tactic(auto)]
 
 mod files;
+mod gate;
 mod memory_shelf;
 mod memory_sink;
 mod shelf;
@@ -9,6 +10,7 @@ mod sink;
 mod streams;
 
 pub use files::FileShelf;
+pub use gate::{Gate, NoGate};
 pub use memory_shelf::MemoryShelf;
 pub use memory_sink::MemorySink;
 pub use shelf::{Shelf, ShelfFault};

@@ -1,0 +1,10 @@
+//! Generated programs: texts with any number of tasks, each made from two numbers.
+#![tactic(auto)]
+
+mod numbers;
+mod program;
+mod tasks;
+#[cfg(test)]
+mod tests;
+
+pub use program::generated;
