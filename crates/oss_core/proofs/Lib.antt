@@ -34,3 +34,6 @@ pub mod LeastLemmas
 pub mod StillLemmas
 pub mod WalkLemmas
 pub mod SpanLemmas
+pub mod RangeLemmas
+pub mod ToldLemmas
+pub mod RunsLemmas
