@@ -37,3 +37,4 @@ pub mod SpanLemmas
 pub mod RangeLemmas
 pub mod ToldLemmas
 pub mod RunsLemmas
+pub mod PassLemmas
