@@ -38,3 +38,4 @@ pub mod RangeLemmas
 pub mod ToldLemmas
 pub mod RunsLemmas
 pub mod PassLemmas
+pub mod AddedLemmas

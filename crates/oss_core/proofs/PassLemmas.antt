@@ -136,8 +136,8 @@ module _ (code : CodeParts) (main : Start CodeScript) (first : List ℕ) (old : 
         walk = walks.walk_past (asks code) s places are y.walk
             (λ a h. places_through a (place p 1048576) (place p top) h (inr (refl, l)))
             (λ a is f h.
-              let w = cell_from a p 1048576 top f h in
-              subst (λ (q : List ℕ). IsKept (asks code) y.state (place q a.cell)) (sym w.0) (cell_kept y.now v 1048576 top p (point_after y.given v (written p) point) (none_past new v 1048576 top t.past) a.cell w.1 (below_top a is)));
+            let w = cell_from a p 1048576 top f h in
+            subst (λ (q : List ℕ). IsKept (asks code) y.state (place q a.cell)) (sym w.0) (cell_kept y.now v 1048576 top p (point_after y.given v (written p) point) (none_past new v 1048576 top t.past) a.cell w.1 (below_top a is)));
         now = y.now;
         tells = y.tells;
         given = y.given;

@@ -1,16 +1,15 @@
 //! Passes: what the tasks that are left may give up or join, each at its turn.
 
-ghost use Rattle.std.specs.Prelude.{◌≡◌, ◌≤◌, ◌<◌, ◌↔◌, ℕ, length, IfOk, IsTrue, List as Items, None, OnOk, Some, slice_get};
-ghost use Rattle.oss_model.specs.Machine.{State};
+ghost use Rattle.std.specs.Prelude.{◌≡◌, ◌≤◌, ◌<◌, ◌↔◌, ◌⊎◌, ℕ, true, length, IfOk, IsTrue, List as Items, None, OnOk, Some, slice_get};
 ghost use Rattle.oss_ranges.specs.Cells.{value_at};
 ghost use Rattle.oss_core.specs.Passing.{AreBoth, GoesOn, IsAdded};
 
-use crate::enabling::{is_through, may_fold};
+use crate::enabling::{is_let, is_through, join_of, may_fold};
 use crate::held::Owed;
 use crate::machine::Core;
 use oss_code::Code;
 use oss_deps::Deps;
-use oss_model::{TaskNo, range_of};
+use oss_model::TaskNo;
 use oss_ranges::RangeMap;
 use oss_syntax::{Op, Range};
 use std::alloc::AllocError;
@@ -64,6 +63,13 @@ fn note(passed: &mut Vec<Passed>, one: Passed) -> Result<(), AllocError>
         None => passed.push(one)?,
     }
     Ok(())
+}
+
+/// Whether cells that a task owes by lets may be given up: it has released them, or is through.
+fn is_given(released: bool, through: bool) -> bool
+    ensures { IsTrue result ↔ ((released ≡ true) ⊎ (through ≡ true)) }
+{
+    released || through
 }
 
 /// No cell past the last is owed: a fact alone.
@@ -132,15 +138,12 @@ impl<D: Deps> Core<D> {
         ensures passed { IfOk result (λ to. RunPassed code.now task.0 from to (kept_of D.seen self.old) (kept_of D.seen self.new) passed.old.items passed.new.items) }
     {
         let (owed, end) = self.tasks[task.0 as usize].owed.run_from(from, CELLS);
-        match owed {
-            Some(Owed::Let) => self.pass_lets(task, Range { lo: from, hi: end }, passed),
-            Some(Owed::Join(op)) => self.pass_join(
-                code,
-                task,
-                Range { lo: from, hi: end },
-                op,
-                passed,
-            ),
+        let range = Range { lo: from, hi: end };
+        if is_let(owed) {
+            return self.pass_lets(task, range, passed);
+        }
+        match join_of(owed) {
+            Some(op) => self.pass_join(code, task, range, op, passed),
             None => Ok(end),
         }
     }
@@ -159,7 +162,8 @@ impl<D: Deps> Core<D> {
     {
         let body = &self.tasks[task.0 as usize].body;
         let (released, until) = body.released_run(range.lo, range.hi);
-        if !released && !is_through(&self.tree, task, body) {
+        let through = is_through(&self.tree, task, body);
+        if !is_given(released, through) {
             return Ok(until);
         }
         let range = Range {
@@ -205,7 +209,10 @@ impl<D: Deps> Core<D> {
             passed,
             Passed {
                 task,
-                range: range_of(cell),
+                range: Range {
+                    lo: cell,
+                    hi: cell + 1,
+                },
                 joined: true,
             },
         )?;
