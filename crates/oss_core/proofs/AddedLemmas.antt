@@ -12,7 +12,7 @@ use Rattle.oss_core.specs.declared.passing.Passed.{Passed}
 use Rattle.oss_core.specs.Enabled.{IsThrough, MayFold, MayLet}
 use Rattle.oss_core.specs.Giving.{HoldsCell}
 use Rattle.oss_core.specs.Kept.{IsCore, IsRunning, Kept}
-use Rattle.oss_core.specs.Passing.{AreBoth, GoesOn, IsAdded, IsOf, IsToldOf, MayNothing, OwesRange}
+use Rattle.oss_core.specs.Passing.{AreBoth, GoesOn, IsAdded, IsOf, IsToldOf, MayNothing, OwesNoneFrom, OwesRange}
 use Rattle.oss_core.proofs.GoingLemmas.{read_is}
 use Rattle.oss_core.proofs.KeepLemmas.{some_is}
 use Rattle.oss_core.proofs.MakingLemmas.{holds_cell}
@@ -103,3 +103,7 @@ neither_way (Some (owed.Join op)) f g = absurd (g op refl)
 -- what was read at a place of a list stands there
 pub read_there : (tasks : List Held) (v : ℕ) (x : Held) → v < length tasks → x ≡ get_or tasks v x → slice_get tasks v ≡ Some x
 read_there tasks v x l e = let y = at_place tasks v l in read_is tasks v x y.0 y.1 e
+
+-- what is read of the cells past the last
+pub none_from : (k : Kept) (v cells : ℕ) (held : Held) → slice_get k.tasks v ≡ Some held → ((c : ℕ) → cells ≤ c → value_at held.owed.pieces c ≡ None) → OwesNoneFrom k v cells
+none_from k v cells held is past other e c l = subst (λ (h : Held). value_at h.owed.pieces c ≡ None) (some_is (sym is ∙ e)) (past c l)

@@ -1,7 +1,7 @@
 -- A pass, task by task: the tasks that are left are visited in point order, and at the places of all others nothing may be given up.
-use Rattle.std.proofs.Common.{◌≡◌, ℕ, zero, suc, ◌+◌, ◌<◌, ◌≤◌, ◌⊎◌, inl, inr, refl, sym, subst, ap, ◌∙◌, arith, List, [], ◌∷◌, ◌++◌, length, reverse, Bool, true, false, Some, None, ◌↔◌}
-use Rattle.std.specs.Prelude.{slice_get}
-use Rattle.std.proofs.lemmas.Option.{slice_get_within}
+use Rattle.std.proofs.Common.{◌≡◌, ℕ, zero, suc, ◌+◌, ◌<◌, ◌≤◌, ◌⊎◌, inl, inr, refl, sym, subst, ap, ◌∙◌, arith, List, [], ◌∷◌, ◌++◌, length, reverse, Bool, true, false, Some, None, ◌↔◌, get_or}
+use Rattle.std.specs.Prelude.{if◌then◌else◌, slice_get}
+use Rattle.std.proofs.lemmas.Option.{slice_get-get_or, slice_get_within}
 use Rattle.oss_syntax.specs.declared.access.Mode.TheVariants.{Fold, Write}
 use Rattle.oss_syntax.specs.declared.access.Op.{Op}
 use Rattle.oss_model.specs.Order.{IsBefore, IsEarlierKey, IsIn, here, there, less, same, written}
@@ -16,7 +16,7 @@ use Rattle.oss_model.proofs.SortLemmas.{reverse_same}
 use Rattle.oss_model.proofs.TreeLemmas.{at_same}
 use Rattle.oss_ranges.specs.Cells.{value_at}
 use Rattle.oss_rounds.specs.Passes.{ArePlaces, GivenUp, IsEarlierPlace, IsKept, IsPass, IsPlace, Place}
-use Rattle.oss_rounds.specs.Rounds.{spans}
+use Rattle.oss_rounds.specs.Rounds.{Span, goes_on_from, in_front, span_of, spans}
 use Rattle.oss_rounds.proofs.ExistLemmas.{places_are}
 use Rattle.oss_rounds.proofs.FallLemmas.{all_kept}
 use Rattle.oss_rounds.proofs.GatherLemmas.{never_both, places_through}
@@ -44,16 +44,21 @@ pub path_before : (p q : List ℕ) → IsBefore (written p) (written q) → IsEa
 path_before p q (less l) = absurd (omega (arith, l))
 path_before p q (same h) = h
 
+-- what stands at a place of a list is in it
+pub in_list : {A : Type 0} (xs : List A) (n : ℕ) (y : A) → slice_get xs n ≡ Some y → IsIn y xs
+in_list [] n y g = absurd cc
+in_list (z ∷ xs) zero y g = let k : z ≡ y = some_is g in subst (λ t. IsIn t (z ∷ xs)) k here
+in_list (z ∷ xs) (suc n) y g = there (in_list xs n y g)
+
+-- a task of the list is one of the tree
+pub is_left : (tasks : List TreeTask) (left : List TaskNo) → AreLeft tasks left → (i : ℕ) (d : TaskNo) → i < length left → (get_or left i d).0 < length tasks
+is_left tasks left are i d l = are.there (get_or left i d) (in_list left i (get_or left i d) (slice_get-get_or left i d l))
+
 -- two tasks of a list in point order
 pub in_order : (tasks : List TreeTask) (left : List TaskNo) → AreInPointOrder tasks left → (i j : ℕ) → i < j → (v w : TaskNo) → slice_get left i ≡ Some v → slice_get left j ≡ Some w → (p q : List ℕ) → HasPoint tasks v.0 p → HasPoint tasks w.0 q → IsBefore p q
 in_order tasks [] o i j l v w e f p q hp hq = absurd cc
 in_order tasks (x ∷ rest) o zero zero l v w e f p q hp hq = absurd (omega (arith, l))
-in_order tasks (x ∷ rest) o zero (suc j) l v w e f p q hp hq = let same : x ≡ v = some_is e in o.0 w (is_in rest j w f) p q (subst (λ (t : TaskNo). HasPoint tasks t.0 p) (sym same) hp) hq
-  where
-    is_in : (xs : List TaskNo) (n : ℕ) (y : TaskNo) → slice_get xs n ≡ Some y → IsIn y xs
-    is_in [] n y g = absurd cc
-    is_in (z ∷ xs) zero y g = let k : z ≡ y = some_is g in subst (λ (t : TaskNo). IsIn t (z ∷ xs)) k here
-    is_in (z ∷ xs) (suc n) y g = there (is_in xs n y g)
+in_order tasks (x ∷ rest) o zero (suc j) l v w e f p q hp hq = let same : x ≡ v = some_is e in o.0 w (in_list rest j w f) p q (subst (λ (t : TaskNo). HasPoint tasks t.0 p) (sym same) hp) hq
 in_order tasks (x ∷ rest) o (suc i) zero l v w e f p q hp hq = absurd (omega (arith, l))
 in_order tasks (x ∷ rest) o (suc i) (suc j) l v w e f p q hp hq = in_order tasks rest o.1 i j (omega (arith, l)) v w e f p q hp hq
 
@@ -88,6 +93,33 @@ none_past : (k : Kept) (v lo hi : ℕ) → OwesNoneFrom k v lo → MayNothing k 
 none_past k v lo hi past = record {
   no_let = λ c low high may. let a = past may.held may.is c low in let b = may.gives.owes in absurd cc;
   no_join = λ c op low high may. let a = past may.held may.is c low in let b = may.folds.owes in absurd cc;
+}
+
+-- what is told of a pass that gave up nothing
+pub none_told : (tasks : List TreeTask) (list : List GivenUp) → TellsOf tasks [] (spans list) → list ≡ []
+none_told tasks [] t = refl
+none_told tasks (g ∷ list) t = absurd (front (spans list) t)
+  where
+    either : (x y : Span) (rest more : List Span) (b : Bool) → TellsOf tasks [] (if b then x ∷ rest else y ∷ more) → ⊥
+    either x y rest more true h = h
+    either x y rest more false h = h
+
+    front : (ss : List Span) → TellsOf tasks [] (in_front g ss) → ⊥
+    front [] h = h
+    front (x ∷ rest) h = either (record { path = g.path; first = g.cell; count = x.count + 1; joined = g.joined }) (span_of g) rest (x ∷ rest) (goes_on_from g x) h
+
+-- a state in which a pass gives up nothing
+pub record IsIdle (code : CodeParts) (s n : State CodeScript) : Type 0 where
+  pub no_let : (p : List ℕ) (c : ℕ) (t : Task CodeScript) → CanLet (asks code) s p c t → ⊥
+  pub no_join : (p : List ℕ) (c : ℕ) (op : Op) (t : Task CodeScript) → CanJoin (asks code) s p c op t → ⊥
+  pub same_state : n ≡ s
+
+-- there no cell may be given up, and no slot joined
+pub idle_pass : {code : CodeParts} {main : Start CodeScript} {first : List ℕ} {k : Kept} {s : State CodeScript} (core : IsCore code main first k s) (n : State CodeScript) → IsPass (asks code) s [] n → IsIdle code s n
+idle_pass {code = code} {s = s} core n pass = record {
+  no_let = λ p c t can. (all_kept (asks code) s pass.places pass.visits (place p c) (pass.places_are.all (place p c) (walks.let_place (asks code) s pass.places pass.places_are (λ q u h. (u, h, refl)) can))).no_let t can;
+  no_join = λ p c op t can. (all_kept (asks code) s pass.places pass.visits (place p c) (pass.places_are.all (place p c) (walks.join_place (asks code) s pass.places pass.places_are (main_folds_none core) (λ q u h. (u, h, refl)) can))).no_join op t can;
+  same_state = visits_idle (asks code) pass.places pass.visits;
 }
 
 module _ (code : CodeParts) (main : Start CodeScript) (first : List ℕ) (old : Kept) (s : State CodeScript) (core : IsCore code main first old s) (places : List Place) (are : ArePlaces s places) where
@@ -298,12 +330,7 @@ module _ (code : CodeParts) (main : Start CodeScript) (first : List ℕ) (old : 
     halfway (more_tasks {i = i} {mid = mid} {new = new} {told = told} {after = after} {task = task} t e done) = step (halfway t)
       where
         within : task.0 < length old.tree.tasks
-        within = are_left.there task (in_list left i e)
-          where
-            in_list : (xs : List TaskNo) (n : ℕ) → slice_get xs n ≡ Some task → IsIn task xs
-            in_list [] n g = absurd cc
-            in_list (z ∷ xs) zero g = let k : z ≡ task = some_is g in subst (λ (t : TaskNo). IsIn t (z ∷ xs)) k here
-            in_list (z ∷ xs) (suc n) g = there (in_list xs n g)
+        within = are_left.there task (in_list left i task e)
 
         step : Halfway i mid told → Halfway (suc i) new after
         step x =

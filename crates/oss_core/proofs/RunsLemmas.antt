@@ -166,6 +166,10 @@ pub record GoesOn (code : CodeParts) (v : ℕ) (old new : Kept) : Type 0 where
 there_after : {code : CodeParts} {old new : Kept} → (a : IsRunning code old) (b : IsRunning code new) → HaveGiven old.tree.tasks new.tree.tasks → (v : ℕ) → v < length old.tasks → v < length new.tasks
 there_after {old = old} {new = new} a b given v l = subst (λ (n : ℕ). v < n) (sym (sizes a.core) ∙ sym given.size ∙ sizes b.core) l
 
+-- a task of the tree is one of those that are kept later
+pub there_in : {code : CodeParts} {tasks : List TreeTask} {new : Kept} → (b : IsRunning code new) → HaveGiven tasks new.tree.tasks → (v : ℕ) → v < length tasks → v < length new.tasks
+there_in b given v l = subst (λ (n : ℕ). v < n) (sym given.size ∙ sizes b.core) l
+
 -- behind a run the core goes on
 pub run_goes : {code : CodeParts} {v lo hi : ℕ} {old new : Kept} {before after : List Passed} → IsRunning code old → v < length old.tasks → lo < hi → RunPassed code v lo hi old new before after → GoesOn code v old new
 run_goes {code = code} {v = v} {lo = lo} {hi = hi} {old = old} {new = new} {before = before} {after = after} running there l run =

@@ -231,7 +231,7 @@ module _ {S : Type 0} (P : Program S) (s : State S) (places : List Place) (are :
       go (inr ne) = starts q v (sym (g.others q ne) ∙ h)
 
   -- the place of a cell that a task may give up
-  let_place : {p : List ℕ} {c : ℕ} {t : Task S} {n : State S} → HaveStarts n → CanLet P n p c t → IsPlace s (place p c)
+  pub let_place : {p : List ℕ} {c : ℕ} {t : Task S} {n : State S} → HaveStarts n → CanLet P n p c t → IsPlace s (place p c)
   let_place {p = p} {c = c} {t = t} starts can =
       let x = starts p t can.at_ in
       record { task = x.0; at_ = x.1; owes = owed p can.not_main (ap (λ b. right_of b.context c) x.2 ∙ can.right) }
@@ -241,7 +241,7 @@ module _ {S : Type 0} (P : Program S) (s : State S) (places : List Place) (are :
       owed (k ∷ q) ne r = (can.mode, can.strong, r)
 
   -- the place of a slot that may be joined, where main has none
-  join_place : {p : List ℕ} {c : ℕ} {op : Op} {t : Task S} {n : State S} → ((u : Task S) (d : ℕ) (o : Op) → At s [] u → right_of u.body.start.context d ≡ Holds (Fold o) true → ⊥) → HaveStarts n → CanJoin P n p c op t → IsPlace s (place p c)
+  pub join_place : {p : List ℕ} {c : ℕ} {op : Op} {t : Task S} {n : State S} → ((u : Task S) (d : ℕ) (o : Op) → At s [] u → right_of u.body.start.context d ≡ Holds (Fold o) true → ⊥) → HaveStarts n → CanJoin P n p c op t → IsPlace s (place p c)
   join_place {p = p} {c = c} {op = op} {t = t} none starts can =
       let x = starts p t can.at_ in
       record { task = x.0; at_ = x.1; owes = owed p x.1 (ap (λ b. right_of b.context c) x.2 ∙ can.right) }
