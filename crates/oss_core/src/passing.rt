@@ -1,6 +1,7 @@
 //! Passes: what the tasks that are left may give up or join, each at its turn.
 
 ghost use Rattle.std.specs.Prelude.{◌≡◌, ◌≤◌, ◌<◌, ◌↔◌, ◌⊎◌, ℕ, true, length, IfOk, IsTrue, List as Items, None, OnOk, Some, slice_get};
+ghost use Rattle.oss_code.specs.declared.code.CodeParts.{CodeParts};
 ghost use Rattle.oss_ranges.specs.Cells.{value_at};
 ghost use Rattle.oss_core.specs.Passing.{AreBoth, GoesOn, IsAdded};
 
@@ -123,7 +124,8 @@ impl<D: Deps> Core<D> {
         Ok(())
     }
 
-    /// A run of cells of a task from one on that it owes in one way: the answer is where it ends. After want of memory the core is given up.
+    /// A run of cells of a task, from one on, that it owes in one way, or the first of them: the answer is where they end. After want of memory the core is
+    /// given up.
     fn pass_run(
         &mut self,
         code: &Code,
@@ -148,17 +150,18 @@ impl<D: Deps> Core<D> {
         }
     }
 
-    /// A run of cells of a task that it owes by lets, or the first cells of it that it has released, or has not: the answer is where they end. After want of memory the core is given up.
+    /// A run of cells of a task that it owes by lets, or its first cells, as far as the task has released all or none of them: the answer is where they end.
+    /// After want of memory the core is given up.
     fn pass_lets(
         &mut self,
         task: TaskNo,
         range: Range,
         passed: &mut Vec<Passed>,
     ) -> Result<u32, AllocError>
-        requires running { (code : _) × IsRunning code (kept_of D.seen self.old) }
+        requires running { (code : CodeParts) × IsRunning code (kept_of D.seen self.old) }
         requires owes { OwesRange self.old.tasks.items task.0 range.lo range.hi }
         ensures ends { IfOk result (λ to. (range.lo < to) × (to ≤ range.hi)) }
-        ensures passed { IfOk result (λ to. (code : _) → RunPassed code task.0 range.lo to (kept_of D.seen self.old) (kept_of D.seen self.new) passed.old.items passed.new.items) }
+        ensures passed { IfOk result (λ to. (code : CodeParts) → RunPassed code task.0 range.lo to (kept_of D.seen self.old) (kept_of D.seen self.new) passed.old.items passed.new.items) }
     {
         let body = &self.tasks[task.0 as usize].body;
         let (released, until) = body.released_run(range.lo, range.hi);
@@ -166,23 +169,24 @@ impl<D: Deps> Core<D> {
         if !is_given(released, through) {
             return Ok(until);
         }
-        let range = Range {
+        let given = Range {
             lo: range.lo,
             hi: until,
         };
-        self.let_range(task, range)?;
+        self.let_range(task, given)?;
         note(
             passed,
             Passed {
                 task,
-                range,
+                range: given,
                 joined: false,
             },
         )?;
-        Ok(until)
+        Ok(given.hi)
     }
 
-    /// A run of cells of a task whose slots it owes, or the first of them, where it may be joined at all: the answer is where they end. After want of memory the core is given up.
+    /// A run of cells of a task whose slots it owes; where the task is through, its first cell alone: the answer is where they end. After want of memory
+    /// the core is given up.
     fn pass_join(
         &mut self,
         code: &Code,
