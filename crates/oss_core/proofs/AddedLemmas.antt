@@ -11,8 +11,8 @@ use Rattle.oss_core.specs.declared.held.Owed.TheVariants as owed
 use Rattle.oss_core.specs.declared.passing.Passed.{Passed}
 use Rattle.oss_core.specs.Enabled.{IsThrough, MayFold, MayLet}
 use Rattle.oss_core.specs.Giving.{HoldsCell}
-use Rattle.oss_core.specs.Kept.{IsCore, IsRunning, Kept}
-use Rattle.oss_core.specs.Passing.{AreBoth, GoesOn, IsAdded, IsOf, IsToldOf, MayNothing, OwesNoneFrom, OwesRange}
+use Rattle.oss_core.specs.Kept.{IsRunning, Kept}
+use Rattle.oss_core.specs.Passing.{AreBoth, GoesOn, IsAdded, MayNothing, OwesNoneFrom, OwesRange}
 use Rattle.oss_core.proofs.GoingLemmas.{read_is}
 use Rattle.oss_core.proofs.KeepLemmas.{some_is}
 use Rattle.oss_core.proofs.MakingLemmas.{holds_cell}

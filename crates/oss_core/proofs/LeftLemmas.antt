@@ -1,5 +1,5 @@
 -- The list of main and its one child has all tasks, in point order.
-use Rattle.std.proofs.Common.{◌≡◌, ℕ, zero, suc, ◌<◌, ◌⊎◌, inl, inr, sym, subst, ap, ◌∙◌, arith, List, [], ◌∷◌, ◌++◌, length, Some}
+use Rattle.std.proofs.Common.{◌≡◌, ℕ, zero, suc, ◌<◌, ◌⊎◌, inl, inr, sym, subst, ap, ◌∙◌, arith, List, [], ◌∷◌, ◌++◌, length}
 use Rattle.std.specs.Prelude.{slice_get}
 use Rattle.oss_model.specs.Order.{IsBefore, IsIn, here, there, same, shorter}
 use Rattle.oss_model.specs.declared.task_no.TaskNo.{TaskNo}

@@ -1,5 +1,5 @@
 -- A pass, task by task: the tasks that are left are visited in point order, and at the places of all others nothing may be given up.
-use Rattle.std.proofs.Common.{◌≡◌, ℕ, zero, suc, ◌+◌, ◌<◌, ◌≤◌, ◌⊎◌, inl, inr, refl, sym, subst, ap, ◌∙◌, arith, List, [], ◌∷◌, ◌++◌, length, reverse, Bool, true, false, Some, None, ◌↔◌, get_or}
+use Rattle.std.proofs.Common.{◌≡◌, ℕ, zero, suc, ◌+◌, ◌<◌, ◌≤◌, ◌⊎◌, inl, inr, refl, sym, subst, ap, ◌∙◌, arith, List, [], ◌∷◌, ◌++◌, length, reverse, Bool, true, false, Some, get_or}
 use Rattle.std.specs.Prelude.{if◌then◌else◌, slice_get}
 use Rattle.std.proofs.lemmas.Option.{slice_get-get_or, slice_get_within}
 use Rattle.oss_syntax.specs.declared.access.Mode.TheVariants.{Fold, Write}
@@ -14,26 +14,23 @@ use Rattle.oss_model.specs.declared.task_no.TaskNo.{TaskNo}
 use Rattle.oss_model.proofs.OrderLemmas.{Compared, before_not, compare}
 use Rattle.oss_model.proofs.SortLemmas.{reverse_same}
 use Rattle.oss_model.proofs.TreeLemmas.{at_same}
-use Rattle.oss_ranges.specs.Cells.{value_at}
 use Rattle.oss_rounds.specs.Passes.{ArePlaces, GivenUp, IsEarlierPlace, IsKept, IsPass, IsPlace, Place}
 use Rattle.oss_rounds.specs.Rounds.{Span, goes_on_from, in_front, span_of, spans}
 use Rattle.oss_rounds.proofs.ExistLemmas.{places_are}
 use Rattle.oss_rounds.proofs.FallLemmas.{all_kept}
 use Rattle.oss_rounds.proofs.GatherLemmas.{never_both, places_through}
-use Rattle.oss_rounds.proofs.SumLemmas.{in_cases, in_none}
+use Rattle.oss_rounds.proofs.SumLemmas.{in_none}
 use Rattle.oss_code.specs.declared.code.CodeParts.{CodeParts}
 use Rattle.oss_machine.specs.Frames.{CodeScript}
 use Rattle.oss_machine.specs.Machines.{asks}
 use Rattle.oss_tree.specs.declared.task.Task.{Task as TreeTask}
 use Rattle.oss_tree.specs.Tasks.{HasPoint, IsComplete, complete, given_task, number}
 use Rattle.oss_tree.proofs.ListLemmas.{there_is}
-use Rattle.oss_core.specs.declared.held.Held.{Held}
-use Rattle.oss_core.specs.declared.held.Owed.TheVariants as owed
 use Rattle.oss_core.specs.declared.passing.Passed.{Passed}
 use Rattle.oss_core.specs.Kept.{IsCore, Kept}
 use Rattle.oss_core.specs.Left.{AreInPointOrder, AreLeft}
 use Rattle.oss_core.specs.Passing.{CellsPassed, HasPassed, HaveGiven, MayNothing, OwesNoneFrom, RunPassed, TaskPassed, TasksPassed, TellsOf, more_cells, more_tasks, no_cells, no_tasks}
-use Rattle.oss_core.proofs.KeepLemmas.{some_is, which}
+use Rattle.oss_core.proofs.KeepLemmas.{some_is}
 use Rattle.oss_core.proofs.RunsLemmas.{cell_kept, given_itself, given_then, point_after, run_made}
 use Rattle.oss_core.proofs.TreeFacts.{core_made, keeps_tasks, one_path, point_of_path}
 use Rattle.oss_core.proofs.WalkLemmas as walks

@@ -1,36 +1,32 @@
 -- The cells of a range that a task gives up: its lets, one after the other.
-use Rattle.std.proofs.Common.{◌≡◌, ℕ, zero, suc, ◌+◌, ◌-◌, ◌<◌, ◌≤◌, ◌⊎◌, inl, inr, refl, sym, subst, ap, ◌∙◌, arith, List, [], ◌∷◌, length, Bool, true, false, Option, Some, None, ◌↔◌, length-set}
+use Rattle.std.proofs.Common.{◌≡◌, ℕ, zero, suc, ◌+◌, ◌<◌, ◌≤◌, ◌⊎◌, refl, sym, subst, ap, ◌∙◌, arith, List, ◌∷◌, Bool, true, false, Some, None, ◌↔◌, length-set}
 use Rattle.std.specs.Prelude.{slice_get, slice_set, nat_le, nat_lt, ◌==◌, ◌&&◌, ◌||◌, if◌then◌else◌, IsTrue}
 use Rattle.std.proofs.lemmas.Bool.Decides.{nat_tests}
-use Rattle.oss_syntax.specs.declared.access.Range.{Range}
 use Rattle.oss_model.specs.Order.{written}
 use Rattle.oss_model.specs.Bodies.{Start}
 use Rattle.oss_model.specs.Machine.{State, Task}
 use Rattle.oss_model.specs.Moves.{CanLet}
 use Rattle.oss_ranges.specs.Cells.{Assigns, is_within, value_at}
 use Rattle.oss_ranges.specs.declared.piece.Piece.{Piece}
-use Rattle.oss_ranges.specs.Cells as cells
 use Rattle.oss_body.specs.Relation.{released_by}
 use Rattle.oss_code.specs.declared.code.CodeParts.{CodeParts}
 use Rattle.oss_machine.specs.Frames.{CodeScript}
 use Rattle.oss_machine.specs.Machines.{asks}
-use Rattle.oss_deps.specs.Seen.{Seen, CanGive, Gives, Prepares, in_range, is_end}
 use Rattle.oss_tree.specs.Tasks.{HasPoint}
 use Rattle.oss_tree.proofs.ListLemmas.{get_set_other, get_set_same}
-use Rattle.oss_rounds.specs.Passes.{GivenUp, Visits, gives, visits_none}
+use Rattle.oss_rounds.specs.Passes.{Visits, gives, visits_none}
 use Rattle.oss_core.specs.declared.held.Held.{Held}
 use Rattle.oss_core.specs.declared.held.Owed.{Owed}
 use Rattle.oss_core.specs.declared.held.Owed.TheVariants as owed
-use Rattle.oss_core.specs.Changes.{GivesUp, IsChanged, Lets, noted_given}
-use Rattle.oss_core.specs.Enabled.{IsThrough, MayGive, MayLet}
-use Rattle.oss_core.specs.Giving.{HoldsCell}
+use Rattle.oss_core.specs.Changes.{Lets}
+use Rattle.oss_core.specs.Enabled.{IsThrough, MayLet}
 use Rattle.oss_core.specs.Kept.{IsCore, Kept}
-use Rattle.oss_core.specs.Passing.{HasClearedRange, LetsRange, OwesRange}
+use Rattle.oss_core.specs.Passing.{HasClearedRange, LetsRange}
 use Rattle.oss_core.proofs.EntryLemmas.{both, both_of}
 use Rattle.oss_core.proofs.ExactLemmas.{let_told}
 use Rattle.oss_core.proofs.GivesLemmas.{lets_made}
 use Rattle.oss_core.proofs.GoingLemmas.{written_is}
-use Rattle.oss_core.proofs.KeepLemmas.{some_is, which}
+use Rattle.oss_core.proofs.KeepLemmas.{some_is}
 use Rattle.oss_core.proofs.TreeFacts.{one_path}
 use Rattle.oss_core.proofs.SpanLemmas.{cells_of}
 use Rattle.oss_core.proofs.WalkLemmas.{row}
@@ -46,28 +42,6 @@ range_cleared tasks v lo hi before after last was body assigns last_is = record 
   owed = assigns;
   last_is = last_is;
 }
-
--- the cells of a range may be given up once its ends are cuts
-pub may_give_range : (v : ℕ) (r : Range) (old mid : Seen) → ((c : ℕ) → r.lo ≤ c → c < r.hi → HoldsCell old v c) → Prepares r old mid → CanGive v r mid
-may_give_range v r old mid holds prepared = record {
-  begins = prepared.cuts r.lo ∙ at_end (old.cut r.lo) (front r);
-  ends = prepared.cuts r.hi ∙ at_end (old.cut r.hi) (back r);
-  named = λ k low high. rw prepared.opens (holds k low high).opened;
-  held = λ k low high. prepared.given v k ∙ (holds k low high).kept;
-}
-  where
-    at_end : (a : Bool) {b : Bool} → b ≡ true → (a || b) ≡ true
-    at_end true e = refl
-    at_end false e = e
-
-    same_is : (n : ℕ) → (n == n) ≡ true
-    same_is n = grind (arith, nat_tests)
-
-    front : (q : Range) → is_end q q.lo ≡ true
-    front q = rw (same_is q.lo) refl
-
-    back : (q : Range) → is_end q q.hi ≡ true
-    back q = at_end (q.hi == q.lo) (same_is q.hi)
 
 -- a cell is one of a range just where it is the first, or one of the rest
 within_first : (lo hi k : ℕ) → lo < hi → is_within lo hi k ≡ ((lo == k) || is_within (suc lo) hi k)
@@ -100,22 +74,6 @@ or_first : (g t a b : Bool) → (g || (t && (a || b))) ≡ ((g || (t && a)) || (
 or_first true t a b = refl
 or_first false true a b = refl
 or_first false false a b = refl
-
-either_way : {A : Type 0} (b : Bool) (o : Option A) → (if b then o else o) ≡ o
-either_way true o = refl
-either_way false o = refl
-
--- the parts of a give together
-pub lets_range : (v : ℕ) (old new : Kept) (last : Bool) (r : Range) (mid : Seen) → HasClearedRange v r.lo r.hi last old.tasks new.tasks → new.tree.tasks ≡ noted_given v last old.tree.tasks → new.tree.prints ≡ old.tree.prints → Prepares r old.seen mid → Gives v r mid new.seen → new.cells ≡ old.cells → LetsRange v r.lo r.hi old new
-lets_range v old new last r mid cleared tasks prints prepared given cells = record {
-  last = last;
-  cleared = cleared;
-  tasks = tasks;
-  prints = prints;
-  opens = given.opens ∙ prepared.opens;
-  given = λ t k. given.given t k ∙ ap (λ (b : Bool). b || ((v == t) && in_range r k)) (prepared.given t k);
-  cells = cells;
-}
 
 -- the let of a range of one cell is that of the cell
 range_of_one : (v lo : ℕ) (old new : Kept) → LetsRange v lo (suc lo) old new → Lets v lo old new

@@ -1,7 +1,6 @@
 -- One run of cells that a pass comes to, and what it leaves.
-use Rattle.std.proofs.Common.{◌≡◌, ℕ, zero, suc, ◌+◌, ◌-◌, ◌<◌, ◌≤◌, ◌⊎◌, inl, inr, refl, sym, subst, ap, ◌∙◌, arith, List, [], ◌∷◌, ◌++◌, length, Bool, true, false, Option, Some, None, length-set}
+use Rattle.std.proofs.Common.{◌≡◌, ℕ, zero, suc, ◌+◌, ◌-◌, ◌<◌, ◌≤◌, ◌⊎◌, inl, inr, refl, sym, subst, ap, ◌∙◌, arith, List, [], ◌++◌, length, Bool, true, false, Option, Some, None, length-set}
 use Rattle.std.specs.Prelude.{slice_get, slice_set}
-use Rattle.std.proofs.lemmas.Option.{slice_get_within}
 use Rattle.oss_syntax.specs.declared.access.Op.{Op}
 use Rattle.oss_model.specs.Order.{IsIn, written}
 use Rattle.oss_model.specs.Bodies.{Start}
@@ -15,17 +14,17 @@ use Rattle.oss_machine.specs.Frames.{CodeScript}
 use Rattle.oss_machine.specs.Machines.{asks}
 use Rattle.oss_tree.specs.declared.task.Task.{Task as TreeTask}
 use Rattle.oss_tree.specs.Tasks.{HasPoint, IsTree, changed_to, given_task}
-use Rattle.oss_tree.proofs.ListLemmas.{get_set_other, get_set_same, there_is}
+use Rattle.oss_tree.proofs.ListLemmas.{get_set_other, get_set_same}
 use Rattle.oss_core.specs.declared.passing.Passed.{Passed}
 use Rattle.oss_core.specs.Changes.{noted_given}
 use Rattle.oss_core.specs.Enabled.{MayJoin}
 use Rattle.oss_core.specs.Kept.{IsCore, IsRunning, Kept}
-use Rattle.oss_core.specs.Passing.{CellsPassed, HaveGiven, IsToldOf, LetsRange, MayNothing, RunPassed, TaskPassed, Tells, TellsOf, joins, lets, more_cells, no_cells, stays}
+use Rattle.oss_core.specs.Passing.{CellsPassed, HaveGiven, IsToldOf, LetsRange, MayNothing, RunPassed, Tells, TellsOf, joins, lets, more_cells, no_cells, stays}
 use Rattle.oss_core.proofs.ExactLemmas.{join_tells, join_told, let_tells}
 use Rattle.oss_core.proofs.GivesLemmas.{joins_made}
 use Rattle.oss_core.proofs.KeepLemmas.{some_is, which}
 use Rattle.oss_core.proofs.RangeLemmas.{range_made}
-use Rattle.oss_core.proofs.SpanLemmas.{at_back, cells_of, spans_behind, spans_of}
+use Rattle.oss_core.proofs.SpanLemmas.{cells_of, spans_behind, spans_of}
 use Rattle.oss_core.proofs.ToldLemmas.{added_tells}
 use Rattle.oss_core.proofs.TreeFacts.{at_number, one_path, point_of_path, sizes}
 use Rattle.oss_core.proofs.WalkLemmas.{place, row, visits_kept, with_none}

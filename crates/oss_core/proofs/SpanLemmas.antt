@@ -1,12 +1,12 @@
 -- Spans of what was given up, from behind: what is given up last goes to the last span, or is one more.
-use Rattle.std.proofs.Common.{◌≡◌, ℕ, zero, suc, ◌+◌, ◌⊎◌, inl, inr, refl, sym, subst, ap, ◌∙◌, arith, List, [], ◌∷◌, ◌++◌, Bool, true, false}
+use Rattle.std.proofs.Common.{◌≡◌, ℕ, zero, suc, ◌+◌, refl, ap, ◌∙◌, arith, List, [], ◌∷◌, ◌++◌, Bool, true, false}
 use Rattle.std.specs.Prelude.{◌==◌, ◌&&◌, if◌then◌else◌}
 use Rattle.std.proofs.lemmas.Bool.Decides.{nat_tests}
 use Rattle.oss_model.specs.Machine.{same_path}
 use Rattle.oss_model.proofs.Exclusive.{same_self}
 use Rattle.oss_model.proofs.TreeLemmas.{same_path_is}
 use Rattle.oss_rounds.specs.Passes.{GivenUp}
-use Rattle.oss_rounds.specs.Rounds.{Span, alike, goes_on_from, in_front, span_of, spans}
+use Rattle.oss_rounds.specs.Rounds.{Span, alike, goes_on_from, in_front, spans}
 
 -- so many cells of a task from one on, given up in one way
 abbrev pub cells_of : List ℕ → ℕ → ℕ → Bool → List GivenUp

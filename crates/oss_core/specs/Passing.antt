@@ -20,7 +20,6 @@ use Rattle.oss_core.specs.declared.held.Owed.TheVariants as owed
 use Rattle.oss_core.specs.declared.passing.Passed.{Passed}
 use Rattle.oss_core.specs.Changes.{IsChanged, Joins, noted_given}
 use Rattle.oss_core.specs.Enabled.{MayJoin, MayLet}
-use Rattle.oss_core.specs.Giving.{HoldsCell}
 use Rattle.oss_core.specs.Kept.{IsCore, Kept}
 
 -- What was passed is this span of the definitions: the cells of one task, by its number and by its path.

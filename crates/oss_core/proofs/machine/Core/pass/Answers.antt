@@ -1,9 +1,8 @@
-use Rattle.std.proofs.Common.{◌≡◌, ℕ, suc, ◌+◌, ◌<◌, ◌≤◌, refl, sym, subst, ap, ◌∙◌, arith, List, length, get_or, Some}
+use Rattle.std.proofs.Common.{◌≡◌, ℕ, suc, ◌+◌, sym, subst, arith, List, length, get_or}
 use Rattle.std.proofs.lemmas.Option.{slice_get-get_or}
-use Rattle.oss_model.specs.declared.task_no.TaskNo.{TaskNo}
 use Rattle.oss_core.specs.declared.passing.Passed.{Passed}
 use Rattle.oss_core.specs.Cores.{kept_of}
-use Rattle.oss_core.specs.Passing.{HasPassed, TasksPassed, more_tasks, no_tasks}
+use Rattle.oss_core.specs.Passing.{TasksPassed, more_tasks, no_tasks}
 use Rattle.oss_core.proofs.PassLemmas.{has_passed, is_left}
 use Rattle.oss_core.proofs.RunsLemmas.{cells_go, given_itself, given_then, there_in}
 use Rattle.oss_core.proofs.machine.Core.pass.Goals as goal

@@ -1,5 +1,4 @@
-use Rattle.std.proofs.Common.{◌≡◌, ℕ, suc, ◌+◌, ◌<◌, ◌≤◌, refl, sym, subst, ap, ◌∙◌, arith, Some}
-use Rattle.std.specs.Prelude.{slice_get}
+use Rattle.std.proofs.Common.{◌≡◌, ℕ, suc, ◌+◌, refl, sym, subst, ◌∙◌, arith, Some}
 use Rattle.oss_syntax.specs.declared.access.Op.{Op}
 use Rattle.oss_ranges.specs.Cells.{value_at}
 use Rattle.oss_deps.specs.Seen.{Seen}
@@ -7,7 +6,7 @@ use Rattle.oss_core.specs.declared.held.Held.{Held}
 use Rattle.oss_core.specs.declared.held.Owed.TheVariants as owed
 use Rattle.oss_core.specs.Cores.{kept_of}
 use Rattle.oss_core.specs.Enabled.{MayFold}
-use Rattle.oss_core.specs.Giving.{HoldsCell, OwesCell}
+use Rattle.oss_core.specs.Giving.{HoldsCell}
 use Rattle.oss_core.specs.Kept.{Kept}
 use Rattle.oss_core.specs.Changes.{Joins}
 use Rattle.oss_core.specs.Passing.{RunPassed, joins, stays}

@@ -1,5 +1,4 @@
-use Rattle.std.proofs.Common.{◌≡◌, ℕ, ◌<◌, ◌≤◌, refl, ◌∙◌}
-use Rattle.std.proofs.lemmas.Option.{slice_get_within}
+use Rattle.std.proofs.Common.{refl, ◌∙◌}
 use Rattle.oss_core.specs.Cores.{kept_of}
 use Rattle.oss_core.specs.Passing.{stays}
 use Rattle.oss_core.proofs.AddedLemmas.{neither_way, none_owed, read_there}

@@ -1,7 +1,4 @@
-use Rattle.std.proofs.Common.{◌≡◌, ℕ, ◌<◌, ◌≤◌, refl, sym, subst, ap, ◌∙◌, arith, Some}
-use Rattle.std.specs.Prelude.{slice_get}
-use Rattle.oss_ranges.specs.Cells.{value_at}
-use Rattle.oss_core.specs.declared.held.Held.{Held}
+use Rattle.std.proofs.Common.{◌≡◌, ℕ, subst, arith}
 use Rattle.oss_core.specs.Cores.{kept_of}
 use Rattle.oss_core.specs.Passing.{CellsPassed, more_cells, no_cells}
 use Rattle.oss_core.proofs.AddedLemmas.{none_from, read_there}
