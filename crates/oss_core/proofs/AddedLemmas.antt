@@ -12,29 +12,29 @@ use Rattle.oss_core.specs.declared.passing.Passed.{Passed}
 use Rattle.oss_core.specs.Enabled.{IsThrough, MayFold, MayLet}
 use Rattle.oss_core.specs.Giving.{HoldsCell}
 use Rattle.oss_core.specs.Kept.{IsRunning, Kept}
-use Rattle.oss_core.specs.Passing.{AreBoth, GoesOn, IsAdded, MayNothing, OwesNoneFrom, OwesRange}
+use Rattle.oss_core.specs.Passing.{AreBoth, Continues, IsAdded, MayNothing, OwesNoneFrom, OwesRange}
 use Rattle.oss_core.proofs.GoingLemmas.{read_is}
 use Rattle.oss_core.proofs.KeepLemmas.{some_is}
 use Rattle.oss_core.proofs.MakingLemmas.{holds_cell}
 use Rattle.oss_core.proofs.TreeFacts.{at_place}
 
 -- where it goes on with the last one
-longer_last : (front : List Passed) (last one both : Passed) → GoesOn last one → AreBoth last one both → IsAdded one (front ++ last ∷ []) (front ++ both ∷ [])
+longer_last : (front : List Passed) (last one both : Passed) → Continues last one → AreBoth last one both → IsAdded one (front ++ last ∷ []) (front ++ both ∷ [])
 longer_last [] last one both on are = inl (on, (both, are, refl))
 longer_last (a ∷ []) last one both on are = (both ∷ [], longer_last [] last one both on are, refl)
 longer_last (a ∷ b ∷ front) last one both on are = (b ∷ (front ++ both ∷ []), longer_last (b ∷ front) last one both on are, refl)
 
-pub added_on : (front : List Passed) (last one both : Passed) (old new : List Passed) → old ≡ front ++ last ∷ [] → new ≡ front ++ both ∷ [] → GoesOn last one → AreBoth last one both → IsAdded one old new
+pub added_on : (front : List Passed) (last one both : Passed) (old new : List Passed) → old ≡ front ++ last ∷ [] → new ≡ front ++ both ∷ [] → Continues last one → AreBoth last one both → IsAdded one old new
 added_on front last one both old new was now on are =
     subst (λ (xs : List Passed). IsAdded one xs new) (sym was) (subst (λ (xs : List Passed). IsAdded one (front ++ last ∷ []) xs) (sym now) (longer_last front last one both on are))
 
 -- where it does not
-one_more : (front : List Passed) (last one : Passed) → (GoesOn last one → ⊥) → IsAdded one (front ++ last ∷ []) ((front ++ last ∷ []) ++ one ∷ [])
+one_more : (front : List Passed) (last one : Passed) → (Continues last one → ⊥) → IsAdded one (front ++ last ∷ []) ((front ++ last ∷ []) ++ one ∷ [])
 one_more [] last one off = inr (off, refl)
 one_more (a ∷ []) last one off = (last ∷ one ∷ [], one_more [] last one off, refl)
 one_more (a ∷ b ∷ front) last one off = (b ∷ ((front ++ last ∷ []) ++ one ∷ []), one_more (b ∷ front) last one off, refl)
 
-pub added_behind : (front : List Passed) (last one : Passed) (old mid new : List Passed) → old ≡ front ++ last ∷ [] → mid ≡ front ++ last ∷ [] → new ≡ mid ++ one ∷ [] → (GoesOn last one → ⊥) → IsAdded one old new
+pub added_behind : (front : List Passed) (last one : Passed) (old mid new : List Passed) → old ≡ front ++ last ∷ [] → mid ≡ front ++ last ∷ [] → new ≡ mid ++ one ∷ [] → (Continues last one → ⊥) → IsAdded one old new
 added_behind front last one old mid new was back now off =
     subst (λ (xs : List Passed). IsAdded one xs new) (sym was)
     (subst (λ (xs : List Passed). IsAdded one (front ++ last ∷ []) xs) (sym (now ∙ ap (λ (xs : List Passed). xs ++ one ∷ []) back)) (one_more front last one off))

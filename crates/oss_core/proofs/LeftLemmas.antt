@@ -1,13 +1,15 @@
--- The list of main and its one child has all tasks, in point order.
-use Rattle.std.proofs.Common.{◌≡◌, ℕ, zero, suc, ◌<◌, ◌⊎◌, inl, inr, sym, subst, ap, ◌∙◌, arith, List, [], ◌∷◌, ◌++◌, length}
+-- Lists of the tasks that are left: one stays such a list where tasks give up all their cells; and that of main and its one child has all tasks.
+use Rattle.std.proofs.Common.{◌≡◌, ℕ, zero, suc, ◌<◌, ◌⊎◌, inl, inr, refl, sym, subst, ap, ◌∙◌, arith, List, [], ◌∷◌, ◌++◌, length, Some}
 use Rattle.std.specs.Prelude.{slice_get}
 use Rattle.oss_model.specs.Order.{IsBefore, IsIn, here, there, same, shorter}
 use Rattle.oss_model.specs.declared.task_no.TaskNo.{TaskNo}
 use Rattle.oss_rounds.proofs.SumLemmas.{in_cases, in_none}
 use Rattle.oss_tree.specs.declared.task.Task.{Task}
-use Rattle.oss_tree.specs.Tasks.{HasPoint, IsTree, number}
-use Rattle.oss_core.specs.Left.{AreLeft}
+use Rattle.oss_tree.specs.Tasks.{HasPoint, IsComplete, IsTree, complete, given_task, number}
+use Rattle.oss_core.specs.Left.{AreInPointOrder, AreLeft}
+use Rattle.oss_core.specs.Passing.{HaveGiven}
 use Rattle.oss_core.proofs.KeepLemmas.{some_is}
+use Rattle.oss_core.proofs.RunsLemmas.{point_before}
 
 -- main's point
 main_is : (tasks : List Task) → IsTree tasks → (p : List ℕ) → HasPoint tasks 0 p → p ≡ 0 ∷ []
@@ -51,3 +53,23 @@ two_left tasks tree size = record {
     all zero l = here
     all (suc zero) l = there here
     all (suc (suc v)) l = absurd (omega (arith, l, size))
+
+-- a complete task stays complete where tasks give up all their cells
+pub complete_after : {old new : List Task} → HaveGiven old new → {v : ℕ} → IsComplete old v → IsComplete new v
+complete_after {new = new} x {v = v} (complete one at_ closed below) = go (x.each v one at_) (λ k c h. complete_after x (below k c h))
+  where
+    go : (slice_get new v ≡ Some one) ⊎ (slice_get new v ≡ Some (given_task one)) → ((k c : ℕ) → slice_get one.children k ≡ Some (number c) → IsComplete new c) → IsComplete new v
+    go (inl e) f = complete one e closed f
+    go (inr e) f = complete (given_task one) e (closed.0, refl) f
+
+points_after : {old new : List Task} → HaveGiven old new → (left : List TaskNo) → AreInPointOrder old left → AreInPointOrder new left
+points_after x [] o = tt
+points_after x (v ∷ rest) o = ((λ w h p q hp hq. o.0 w h p q (point_before x v.0 p hp) (point_before x w.0 q hq)), points_after x rest o.1)
+
+-- so behind a pass the same tasks are left, or fewer
+pub left_after : {old new : List Task} → HaveGiven old new → (left : List TaskNo) → AreLeft old left → AreLeft new left
+left_after x left are = record {
+  ordered = points_after x left are.ordered;
+  there = λ v h. subst (λ (n : ℕ). v.0 < n) (sym x.size) (are.there v h);
+  all = λ v l unfinished. are.all v (subst (λ (n : ℕ). v < n) x.size l) (λ c. unfinished (complete_after x c));
+}

@@ -358,6 +358,13 @@ module _ (code : CodeParts) (main : Start CodeScript) (first : List ℕ) (old : 
             go w has (inr (inl g)) = gave_kept w new x.to told x.stood g a has is
             go w has (inr (inr b)) = absurd (f (b a.cell (below_top a is)))
 
+-- where nothing is told of a pass, no cell may be given up and no slot joined, and the core stands for the same state
+pub idle_told : {code : CodeParts} {main : Start CodeScript} {first : List ℕ} {old new : Kept} {s : State CodeScript} → HasPassed code old new [] → (core : IsCore code main first old s) → IsIdle code s s × IsCore code main first new s
+idle_told {code = code} {main = main} {first = first} {old = old} {new = new} {s = s} passed core =
+    let made = passed main first s core in
+    let idle = idle_pass core made.0 (subst (λ (list : List GivenUp). IsPass (asks code) s list made.0) (none_told old.tree.tasks made.1 made.3) made.2) in
+    (subst (λ (n : State CodeScript). IsIdle code s n) idle.same_state idle, subst (λ (n : State CodeScript). IsCore code main first new n) idle.same_state made.4)
+
 -- all tasks were passed: so a pass was made, from each state
 pub has_passed : (code : CodeParts) (old new : Kept) (left : List TaskNo) (told : List Passed) → AreLeft old.tree.tasks left → TasksPassed code left old (length left) new told → HasPassed code old new told
 has_passed code old new left told are_left t main first s core =

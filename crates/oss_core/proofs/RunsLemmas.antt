@@ -1,6 +1,7 @@
 -- One run of cells that a pass comes to, and what it leaves.
 use Rattle.std.proofs.Common.{◌≡◌, ℕ, zero, suc, ◌+◌, ◌-◌, ◌<◌, ◌≤◌, ◌⊎◌, inl, inr, refl, sym, subst, ap, ◌∙◌, arith, List, [], ◌++◌, length, Bool, true, false, Option, Some, None, length-set}
 use Rattle.std.specs.Prelude.{slice_get, slice_set}
+use Rattle.std.proofs.lemmas.Option.{slice_get_within}
 use Rattle.oss_syntax.specs.declared.access.Op.{Op}
 use Rattle.oss_model.specs.Order.{IsIn, written}
 use Rattle.oss_model.specs.Bodies.{Start}
@@ -14,7 +15,7 @@ use Rattle.oss_machine.specs.Frames.{CodeScript}
 use Rattle.oss_machine.specs.Machines.{asks}
 use Rattle.oss_tree.specs.declared.task.Task.{Task as TreeTask}
 use Rattle.oss_tree.specs.Tasks.{HasPoint, IsTree, changed_to, given_task}
-use Rattle.oss_tree.proofs.ListLemmas.{get_set_other, get_set_same}
+use Rattle.oss_tree.proofs.ListLemmas.{get_set_other, get_set_same, there_is}
 use Rattle.oss_core.specs.declared.passing.Passed.{Passed}
 use Rattle.oss_core.specs.Changes.{noted_given}
 use Rattle.oss_core.specs.Enabled.{MayJoin}
@@ -58,13 +59,23 @@ given_then {a = a} {b = b} {c = c} x y = record { size = y.size ∙ x.size; each
     go v one (inl h) = y.each v one h
     go v one (inr h) = given v one (y.each v (given_task one) h)
 
--- points stay
+-- points stay, and no others come
 pub point_after : {old new : List TreeTask} → HaveGiven old new → (v : ℕ) (p : List ℕ) → HasPoint old v p → HasPoint new v p
 point_after {new = new} x v p h = go (x.each v h.task h.at_)
   where
     go : (slice_get new v ≡ Some h.task) ⊎ (slice_get new v ≡ Some (given_task h.task)) → HasPoint new v p
     go (inl e) = record { task = h.task; at_ = e; point = h.point }
     go (inr e) = record { task = given_task h.task; at_ = e; point = h.point }
+
+pub point_before : {old new : List TreeTask} → HaveGiven old new → (v : ℕ) (p : List ℕ) → HasPoint new v p → HasPoint old v p
+point_before {old = old} {new = new} x v p h = back (there_is old v (subst (λ (n : ℕ). v < n) x.size (slice_get_within new v h.task h.at_)))
+  where
+    back : (one : TreeTask) × (slice_get old v ≡ Some one) → HasPoint old v p
+    back (one, e) = go (x.each v one e)
+      where
+        go : (slice_get new v ≡ Some one) ⊎ (slice_get new v ≡ Some (given_task one)) → HasPoint old v p
+        go (inl f) = record { task = one; at_ = e; point = ap (λ (t : TreeTask). t.point) (some_is (sym f ∙ h.at_)) ∙ h.point }
+        go (inr f) = record { task = one; at_ = e; point = ap (λ (t : TreeTask). t.point) (some_is (sym f ∙ h.at_)) ∙ h.point }
 
 -- so many cells in a row
 in_row : (n : ℕ) (p : List ℕ) (lo : ℕ) (a : Place) → IsIn a (row p lo n) → (c : ℕ) × (a ≡ place p c) × (lo ≤ c) × (c < lo + n)
@@ -157,7 +168,7 @@ run_made code main first v p lo hi old new before after s core point l run = go 
         }
 
 -- the number of a task of a core that goes on
-pub record GoesOn (code : CodeParts) (v : ℕ) (old new : Kept) : Type 0 where
+pub record KeepsGoing (code : CodeParts) (v : ℕ) (old new : Kept) : Type 0 where
   pub running : IsRunning code new
   pub there : v < length new.tasks
   pub given : HaveGiven old.tree.tasks new.tree.tasks
@@ -170,7 +181,7 @@ pub there_in : {code : CodeParts} {tasks : List TreeTask} {new : Kept} → (b : 
 there_in b given v l = subst (λ (n : ℕ). v < n) (sym given.size ∙ sizes b.core) l
 
 -- behind a run the core goes on
-pub run_goes : {code : CodeParts} {v lo hi : ℕ} {old new : Kept} {before after : List Passed} → IsRunning code old → v < length old.tasks → lo < hi → RunPassed code v lo hi old new before after → GoesOn code v old new
+pub run_goes : {code : CodeParts} {v lo hi : ℕ} {old new : Kept} {before after : List Passed} → IsRunning code old → v < length old.tasks → lo < hi → RunPassed code v lo hi old new before after → KeepsGoing code v old new
 run_goes {code = code} {v = v} {lo = lo} {hi = hi} {old = old} {new = new} {before = before} {after = after} running there l run =
     let x = at_number running.core v there in
     let point = point_of_path running.core v x.body.start.path (record { one = x.body; is = x.body_at; path = refl }) in
@@ -179,7 +190,7 @@ run_goes {code = code} {v = v} {lo = lo} {hi = hi} {old = old} {new = new} {befo
     record { running = now; there = there_after running now m.given v there; given = m.given }
 
 -- and behind all cells of a task
-pub cells_go : {code : CodeParts} {v : ℕ} {old : Kept} {before : List Passed} {hi : ℕ} {new : Kept} {after : List Passed} → IsRunning code old → v < length old.tasks → CellsPassed code v old before hi new after → GoesOn code v old new
+pub cells_go : {code : CodeParts} {v : ℕ} {old : Kept} {before : List Passed} {hi : ℕ} {new : Kept} {after : List Passed} → IsRunning code old → v < length old.tasks → CellsPassed code v old before hi new after → KeepsGoing code v old new
 cells_go {old = old} running there no_cells = record { running = running; there = there; given = given_itself old.tree.tasks }
 cells_go running there (more_cells c l r) =
     let x = cells_go running there c in

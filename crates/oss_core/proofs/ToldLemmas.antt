@@ -12,14 +12,14 @@ use Rattle.oss_tree.specs.Tasks.{HasPoint, IsTree}
 use Rattle.oss_tree.proofs.TreeLemmas.{one_point}
 use Rattle.std.specs.Prelude.{slice_get}
 use Rattle.oss_core.specs.declared.passing.Passed.{Passed}
-use Rattle.oss_core.specs.Passing.{AreBoth, GoesOn, IsAdded, Tells, TellsOf}
+use Rattle.oss_core.specs.Passing.{AreBoth, Continues, IsAdded, Tells, TellsOf}
 use Rattle.oss_core.proofs.KeepLemmas.{some_is}
 use Rattle.oss_core.proofs.SpanLemmas.{alike_self, at_back, both_true, continues, one_span, way_is}
 use Rattle.oss_core.proofs.TreeFacts.{one_path}
 
 module _ (tasks : List TreeTask) (tree : IsTree tasks) where
   -- the second run goes on with the first just where the spans do
-  goes_told : (y x : Passed) (sy sx : Span) → Tells tasks y sy → Tells tasks x sx → GoesOn y x → continues sy sx ≡ true
+  goes_told : (y x : Passed) (sy sx : Span) → Tells tasks y sy → Tells tasks x sx → Continues y x → continues sy sx ≡ true
   goes_told y x sy sx ty tx g =
       let points : written sy.path ≡ written sx.path = sym ty.point.point ∙ ap (λ (t : TreeTask). t.point) (some_is (sym ty.point.at_ ∙ ap (λ (v : ℕ). slice_get tasks v) g.task ∙ tx.point.at_)) ∙ tx.point.point in
       let a : same_path sy.path sx.path ≡ true = ap (λ (p : List ℕ). same_path sy.path p) (sym (one_path sy.path sx.path points)) ∙ same_self sy.path in
@@ -28,7 +28,7 @@ module _ (tasks : List TreeTask) (tree : IsTree tasks) where
       let c : (sy.first + sy.count == sx.first) ≡ true = grind (arith, nat_tests, e) in
       rw (a, b, c) refl
 
-  told_goes : (y x : Passed) (sy sx : Span) → Tells tasks y sy → Tells tasks x sx → continues sy sx ≡ true → GoesOn y x
+  told_goes : (y x : Passed) (sy sx : Span) → Tells tasks y sy → Tells tasks x sx → continues sy sx ≡ true → Continues y x
   told_goes y x sy sx ty tx h =
       let k = both_true (same_path sy.path sx.path && alike sy.joined sx.joined) (sy.first + sy.count == sx.first) h in
       let j = both_true (same_path sy.path sx.path) (alike sy.joined sx.joined) k.0 in
@@ -42,7 +42,7 @@ module _ (tasks : List TreeTask) (tree : IsTree tasks) where
       }
 
   -- one run in place of two
-  both_tells : (y x z : Passed) (sy sx : Span) → Tells tasks y sy → Tells tasks x sx → GoesOn y x → AreBoth y x z → Tells tasks z (one_span sy sx)
+  both_tells : (y x z : Passed) (sy sx : Span) → Tells tasks y sy → Tells tasks x sx → Continues y x → AreBoth y x z → Tells tasks z (one_span sy sx)
   both_tells y x z sy sx ty tx g are =
       let a = ty.last in
       let b = tx.first in

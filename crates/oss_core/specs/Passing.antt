@@ -1,5 +1,5 @@
 -- A pass over the tasks that a core keeps: run by run of cells that are owed in one way.
--- Read against: task 1 has out(a[0;4]) and has released a[2;2], and task 2 has in(b) and has ended. A pass over 1, 2 comes to the cells 0 and 1 of task 1,
+-- Read against: task 1 has out(a[0;4]) and has released a[2;2], and task 2 has in(b) and has ended. A pass over main, 1 and 2 comes to the cells 0 and 1 of task 1,
 -- which stay, then to 2 and 3, which it gives up, and then to b of task 2: it tells of the two runs 2..4 of task 1 and b of task 2.
 use Rattle.std.specs.Prelude.{◌≡◌, ℕ, zero, suc, ◌+◌, ◌≤◌, ◌<◌, ◌↔◌, ◌⊎◌, ◌==◌, ◌&&◌, ◌||◌, Bool, true, false, List, [], ◌∷◌, length, Some, None, slice_get}
 use Rattle.oss_syntax.specs.declared.access.Op.{Op}
@@ -46,7 +46,7 @@ HasPassed code old new passed = (main : Start CodeScript) (first : List ℕ) (s 
     → (n : State CodeScript) × (done : List GivenUp) × IsPass (asks code) s done n × TellsOf old.tree.tasks passed (spans done) × IsCore code main first new n
 
 -- The second run goes on where the first ends: cells of one task, given up in one way.
-pub record GoesOn (last one : Passed) : Type 0 where
+pub record Continues (last one : Passed) : Type 0 where
   pub task : last.task.0 ≡ one.task.0
   pub joined : last.joined ≡ one.joined
   pub touches : last.range.hi ≡ one.range.lo
@@ -61,7 +61,7 @@ pub record AreBoth (last one both : Passed) : Type 0 where
 -- One run more, behind the others: where it goes on with the last of them, they are one.
 abbrev pub IsAdded : Passed → List Passed → List Passed → Type 0
 IsAdded one [] after = after ≡ one ∷ []
-IsAdded one (last ∷ []) after = (GoesOn last one × ((both : Passed) × AreBoth last one both × (after ≡ both ∷ []))) ⊎ ((GoesOn last one → ⊥) × (after ≡ last ∷ one ∷ []))
+IsAdded one (last ∷ []) after = (Continues last one × ((both : Passed) × AreBoth last one both × (after ≡ both ∷ []))) ⊎ ((Continues last one → ⊥) × (after ≡ last ∷ one ∷ []))
 IsAdded one (a ∷ b ∷ rest) after = (more : List Passed) × IsAdded one (b ∷ rest) more × (after ≡ a ∷ more)
 
 -- The task with this number has passed these cells in this way.

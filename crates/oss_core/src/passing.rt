@@ -3,7 +3,7 @@
 ghost use Rattle.std.specs.Prelude.{◌≡◌, ◌≤◌, ◌<◌, ◌↔◌, ◌⊎◌, ℕ, true, length, IfOk, IsTrue, List as Items, None, OnOk, Some, slice_get};
 ghost use Rattle.oss_code.specs.declared.code.CodeParts.{CodeParts};
 ghost use Rattle.oss_ranges.specs.Cells.{value_at};
-ghost use Rattle.oss_core.specs.Passing.{AreBoth, GoesOn, IsAdded};
+ghost use Rattle.oss_core.specs.Passing.{AreBoth, Continues, IsAdded};
 
 use crate::enabling::{is_let, is_through, join_of, may_fold};
 use crate::held::Owed;
@@ -28,14 +28,14 @@ pub struct Passed {
 
 /// Whether a run goes on where the last one ends.
 fn goes_on(last: &Passed, one: &Passed) -> bool
-    ensures { IsTrue result ↔ GoesOn last.now one.now }
+    ensures { IsTrue result ↔ Continues last.now one.now }
 {
     last.task.0 == one.task.0 && last.joined == one.joined && last.range.hi == one.range.lo
 }
 
 /// One run in place of two.
 fn both(last: &Passed, one: &Passed) -> Passed
-    requires { GoesOn last.now one.now }
+    requires { Continues last.now one.now }
     ensures { AreBoth last.now one.now result }
 {
     Passed {
