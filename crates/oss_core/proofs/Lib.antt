@@ -32,3 +32,11 @@ pub mod BeginLemmas
 pub mod MakingLemmas
 pub mod LeastLemmas
 pub mod StillLemmas
+pub mod WalkLemmas
+pub mod SpanLemmas
+pub mod RangeLemmas
+pub mod ToldLemmas
+pub mod RunsLemmas
+pub mod PassLemmas
+pub mod AddedLemmas
+pub mod LeftLemmas

@@ -10,3 +10,5 @@ pub mod Going
 pub mod Giving
 pub mod Cores
 pub mod Stops
+pub mod Left
+pub mod Passing

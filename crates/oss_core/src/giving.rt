@@ -22,7 +22,7 @@ use std::alloc::AllocError;
 const CELLS: u32 = 1_048_576;
 
 /// Whether no cell is owed.
-fn is_empty(owed: &RangeMap<Owed>) -> bool
+pub(crate) fn is_empty(owed: &RangeMap<Owed>) -> bool
     ensures { IsTrue result ↔ ((c : ℕ) → value_at owed.now.pieces c ≡ None) }
 {
     // no cell past the last is owed: a fact alone
@@ -53,7 +53,7 @@ fn clear(tasks: &mut Vec<Held>, at: usize, cell: Range) -> Result<bool, AllocErr
 }
 
 /// Notes that a task has given up all its cells, where this was the last.
-fn note_given(tree: &mut Tree, task: TaskNo, last: bool)
+pub(crate) fn note_given(tree: &mut Tree, task: TaskNo, last: bool)
     requires { task.0 < length tree.old.tasks }
     ensures tasks { tree.new.tasks ≡ noted_given task.0 last tree.old.tasks }
     ensures prints { tree.new.prints ≡ tree.old.prints }

@@ -9,6 +9,8 @@ mod giving;
 mod happening;
 mod held;
 mod machine;
+mod passing;
+mod ranges_given;
 mod stepping;
 mod stopping;
 #[cfg(test)]
@@ -18,3 +20,4 @@ mod waiting;
 pub use fault::ApplyFault;
 pub use held::{Held, Owed};
 pub use machine::Core;
+pub use passing::Passed;

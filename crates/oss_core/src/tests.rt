@@ -1,11 +1,11 @@
-//! A program with one task, worked by hand: its moves in one order, and its answer.
+//! A program with one task, worked by hand: its moves in one order, its answer, and its passes.
 
 ghost use Rattle.std.specs.Prelude.{◌≡◌, ◌<◌, [], false, ℕ};
 ghost use Rattle.oss_code.specs.declared.code.CodeParts.{CodeParts as Parts};
 ghost use Rattle.oss_core.specs.Cores.{kept_of};
 ghost use Rattle.oss_core.specs.Kept.{IsRunning};
 
-use crate::{ApplyFault, Core};
+use crate::{ApplyFault, Core, Passed};
 use oss_code::{Code, CodeParts, GlobalPlace, Instr, SectionBase, SectionForm};
 use oss_deps::{Deps, PlainDeps};
 use oss_grammar::Piece;
@@ -207,6 +207,62 @@ fn a_task_in_one_order(rt: HostRuntime) {
         (Move::Step(MAIN), false),
     ];
     assert_moves(&rt, &mut core, &code, &given);
+    assert_done(&rt, &mut core, b"tm", &[5, 7]);
+    drop(core);
+    drop(code);
+}
+
+/// Whether the task has passed these cells so.
+fn is_run(one: &Passed, lo: u32, hi: u32, joined: bool) -> bool {
+    one.task.0 == TASK.0 && one.range.lo == lo && one.range.hi == hi && one.joined == joined
+}
+
+/// What a pass over main and the task gives up, which are all tasks.
+fn passed_of<D: Deps>(rt: &impl Abort, core: &mut Core<D>, code: &Code) -> Vec<Passed>
+    requires { IsRunning code.now (kept_of D.seen core.old) }
+    ensures { IsRunning code.now (kept_of D.seen core.new) }
+{
+    if core.tree.count() != 2 {
+        panic!(rt; "two tasks");
+    }
+    let left = [MAIN, TASK];
+    core.pass(code, &left).expect(rt, "memory")
+}
+
+/// A pass gives up nothing.
+fn assert_idle<D: Deps>(rt: &impl Abort, core: &mut Core<D>, code: &Code)
+    requires { IsRunning code.now (kept_of D.seen core.old) }
+    ensures { IsRunning code.now (kept_of D.seen core.new) }
+{
+    let passed = passed_of(rt, core, code);
+    assert!(rt; passed.is_empty());
+    drop(passed);
+}
+
+#[test]
+fn a_task_in_passes(rt: HostRuntime) {
+    let code = code(&rt);
+    let mut core = begun(&rt, &code, PlainDeps::new(rt.alloc()));
+    // main creates the task and prints; the task stores and folds
+    let begun = [
+        (Move::Step(MAIN), true),
+        (Move::Step(MAIN), true),
+        (Move::Step(TASK), true),
+        (Move::Step(TASK), true),
+    ];
+    assert_moves(&rt, &mut core, &code, &begun);
+    assert_idle(&rt, &mut core, &code);
+    // it prints and ends
+    let ended = [(Move::Step(TASK), true), (Move::Step(TASK), true)];
+    assert_moves(&rt, &mut core, &code, &ended);
+    let passed = passed_of(&rt, &mut core, &code);
+    assert!(rt; passed.len() == 2);
+    assert!(rt; is_run(&passed[0], 0, 1, false) && is_run(&passed[1], 1, 2, true));
+    drop(passed);
+    assert_idle(&rt, &mut core, &code);
+    // main goes past its wait, and ends
+    let behind = [(Move::Step(MAIN), true), (Move::Step(MAIN), true)];
+    assert_moves(&rt, &mut core, &code, &behind);
     assert_done(&rt, &mut core, b"tm", &[5, 7]);
     drop(core);
     drop(code);

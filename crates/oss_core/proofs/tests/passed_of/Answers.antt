@@ -1,0 +1,15 @@
+use Rattle.std.proofs.Common.{sym, ◌∙◌}
+use Rattle.oss_core.specs.Cores.{kept_of}
+use Rattle.oss_core.specs.Passing.{HasPassed}
+use Rattle.oss_core.proofs.LeftLemmas.{two_left}
+use Rattle.oss_core.proofs.tests.passed_of.Goals as goal
+
+pub pass-requires-clause-left : goal.pass-requires-clause-left
+pass-requires-clause-left g c = two_left c.args.core.now.tree.tasks c.count.ensures.tree (sym c.count.ensures.count ∙ c.if-count-ne2.false)
+
+pub returns : goal.returns
+returns g c =
+    let before = c.requires in
+    let made : HasPassed c.args.code.now (kept_of g.D.Deps.seen c.args.core.now) (kept_of g.D.Deps.seen c.pass.new.self) c.expect.result.items = rw c.expect.ensures at c.pass.ensures.passed in
+    let t = made before.main before.first before.state before.core in
+    record { main = before.main; first = before.first; state = t.0; core = t.4 }
