@@ -32,3 +32,5 @@ pub mod BeginLemmas
 pub mod MakingLemmas
 pub mod LeastLemmas
 pub mod StillLemmas
+pub mod LeftLemmas
+pub mod FallLemmas

@@ -9,4 +9,5 @@ pub mod Changes
 pub mod Going
 pub mod Giving
 pub mod Cores
+pub mod CoreLeft
 pub mod Stops
