@@ -16,7 +16,7 @@ use Rattle.oss_machine.specs.Machines.{asks}
 use Rattle.oss_machine.proofs.LiveTheorem.{lively}
 use Rattle.oss_core.specs.CoreLeft.{core_left, CoreMovesFall, CoreWavesFall, CorePassesFall, CoreRoundsFall}
 use Rattle.oss_core.specs.Kept.{Kept, IsCore}
-use Rattle.oss_core.proofs.LeftLemmas.{left_is, memory_size}
+use Rattle.oss_core.proofs.CoreLeftLemmas.{left_is, memory_size}
 use Rattle.oss_core.proofs.TreeFacts.{core_agrees}
 
 -- the sequential run at its beginning

@@ -32,5 +32,5 @@ pub mod BeginLemmas
 pub mod MakingLemmas
 pub mod LeastLemmas
 pub mod StillLemmas
-pub mod LeftLemmas
+pub mod CoreLeftLemmas
 pub mod FallLemmas
