@@ -1,11 +1,13 @@
 -- The claims, each by its lemma, which holds for all relations.
 use Rattle.oss_alike.specs.Claims.{tells, ProgramsDoAsThemselves, OpeningsAreAlike, TasksHavePartners, StepsAreAlike, LetsAreAlike, JoinsAreAlike, MovesAreAlike, RunsAreAlike, CompleteAlike, StoppedAlike, AnswersAreAlike, ResultsAreAlike, BisimulationsTurn, StatesTurn}
+use Rattle.oss_alike.specs.AlikeWaves.{RunsByWavesAreAlike, TracesAreAlike}
 use Rattle.oss_alike.proofs.RelationLemmas.{bisimulation_itself}
 use Rattle.oss_alike.proofs.TurnLemmas.{bisimulation_back, alike_back, at_forth}
 use Rattle.oss_alike.proofs.MayLemmas.{complete_forth, stopped_forth}
 use Rattle.oss_alike.proofs.AlikeTheorem.{opening_alike, step_forth, let_forth, join_forth, move_too, run_too}
 use Rattle.oss_alike.proofs.AnswerLemmas.{answer_forth}
 use Rattle.oss_alike.proofs.ResultLemmas.{result_forth}
+use Rattle.oss_alike.proofs.RoundLemmas.{run_by_waves_too, trace_forth}
 
 pub programs_do_as_themselves : (S : Type 0) → ProgramsDoAsThemselves S
 programs_do_as_themselves S P = bisimulation_itself P
@@ -48,3 +50,9 @@ answers_are_alike S T P Q test s n a is same h = answer_forth P Q (tells test) i
 
 pub results_are_alike : (S T : Type 0) → ResultsAreAlike S T
 results_are_alike S T P Q test main other cells a is r h = result_forth P Q (tells test) is main other cells r a h
+
+pub runs_by_waves_are_alike : (S T : Type 0) → RunsByWavesAreAlike S T
+runs_by_waves_are_alike S T P Q test main other cells rounds n is r h = run_by_waves_too P Q (tells test) is main other cells rounds n r h
+
+pub traces_are_alike : (S T : Type 0) → TracesAreAlike S T
+traces_are_alike S T P Q test main other cells trace is r h = trace_forth P Q (tells test) is main other cells trace r h

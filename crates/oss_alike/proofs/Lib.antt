@@ -6,4 +6,7 @@ pub mod AlikeTheorem
 pub mod RelationLemmas
 pub mod AnswerLemmas
 pub mod ResultLemmas
+pub mod PartLemmas
+pub mod WaveLemmas
+pub mod RoundLemmas
 pub mod ClaimLemmas

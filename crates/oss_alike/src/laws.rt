@@ -1,6 +1,7 @@
 //! What holds of two programs whose bodies do the same acts: laws, each carried by a function that does nothing. A crate above calls the
 //! function for its types of scripts, and then has the law.
 
+ghost use Rattle.oss_alike.specs.AlikeWaves.{RunsByWavesAreAlike, TracesAreAlike};
 ghost use Rattle.oss_alike.specs.Claims.{AnswersAreAlike, BisimulationsTurn, CompleteAlike, JoinsAreAlike, LetsAreAlike, MovesAreAlike, OpeningsAreAlike, ProgramsDoAsThemselves, ResultsAreAlike, RunsAreAlike, StatesTurn, StepsAreAlike, StoppedAlike, TasksHavePartners};
 
 /// A program does the same acts as itself.
@@ -61,6 +62,16 @@ pub fn answers_are_alike<S, T>()
 /// And the sequential runs have the same result.
 pub fn results_are_alike<S, T>()
     ensures { ResultsAreAlike S T }
+{}
+
+/// The runs by waves have the same rounds, and come to states that are alike.
+pub fn runs_by_waves_are_alike<S, T>()
+    ensures { RunsByWavesAreAlike S T }
+{}
+
+/// So programs that do the same acts have the same traces.
+pub fn traces_are_alike<S, T>()
+    ensures { TracesAreAlike S T }
 {}
 
 /// Programs that do the same acts do so from the other side too.

@@ -1,5 +1,6 @@
 mod Advancing
 mod CreationLemmas
+pub mod LeftLemmas
 mod Results
 mod SlotLemmas
 mod StackLemmas

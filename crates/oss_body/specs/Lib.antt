@@ -1,5 +1,6 @@
 pub mod Acts
 pub mod Kept
+pub mod Left
 pub mod Mains
 pub mod Places
 pub mod Relation

@@ -40,3 +40,5 @@ pub mod RunsLemmas
 pub mod PassLemmas
 pub mod AddedLemmas
 pub mod LeftLemmas
+pub mod CoreLeftLemmas
+pub mod FallLemmas

@@ -42,7 +42,7 @@ one_path p q e = reverse_same p q (tail e)
 
 module _ {code : CodeParts} {main : Start CodeScript} {first : List ℕ} {k : Kept} {s : State CodeScript} (core : IsCore code main first k s) where
   -- the state agrees with the beginning of the sequential run
-  core_agrees : Agrees (asks code) main first (record { state = opening main first; active = []; printed = [] }) s
+  pub core_agrees : Agrees (asks code) main first (record { state = opening main first; active = []; printed = [] }) s
   core_agrees = reached_agrees (asks code) main first (record { state = opening main first; active = []; printed = [] }) core.setting Sequential.opens s core.reached
 
   -- its tasks are those that done creations made

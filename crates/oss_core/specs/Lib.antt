@@ -9,6 +9,7 @@ pub mod Changes
 pub mod Going
 pub mod Giving
 pub mod Cores
+pub mod CoreLeft
 pub mod Stops
 pub mod Left
 pub mod Passing

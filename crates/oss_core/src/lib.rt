@@ -8,6 +8,7 @@ mod fault;
 mod giving;
 mod happening;
 mod held;
+mod laws;
 mod machine;
 mod passing;
 mod ranges_given;
@@ -19,5 +20,6 @@ mod waiting;
 
 pub use fault::ApplyFault;
 pub use held::{Held, Owed};
+pub use laws::{core_moves_fall, core_passes_fall, core_rounds_fall, core_waves_fall};
 pub use machine::Core;
 pub use passing::Passed;

@@ -1,12 +1,11 @@
 -- What is kept of a stage stands for a stage of the run, and each turn of the code is one of the run.
 use Rattle.std.proofs.Common.{◌≡◌, ◌≢◌, ℕ, ◌+◌, ◌<◌, refl, sym, subst, ap, ◌∙◌, List, [], ◌∷◌, ◌++◌, arith, Bool, true, false}
-use Rattle.std.specs.Prelude.{length, slice_index}
+use Rattle.std.specs.Prelude.{slice_index}
 use Rattle.oss_syntax.specs.declared.fault.FaultKind.{FaultKind}
 use Rattle.oss_model.specs.Agreement.{Setting}
-use Rattle.oss_model.specs.Bodies.{Act, Body, Frame, IsHalt, Order, Stack, Start, child_start, stack_from, stage_act, top_frame}
+use Rattle.oss_model.specs.Bodies.{Act, Body, IsHalt, Order, Start, child_start, stack_from, stage_act}
 use Rattle.oss_model.specs.Bodies.Act.{Created, Fault}
 use Rattle.oss_model.specs.Moves.{act_now, found_by, is_ended, new_task}
-use Rattle.oss_model.specs.Potential.{potential, share, share_of, shares, stack_share}
 use Rattle.oss_model.specs.Sequence.{direct_cells, printed_after}
 use Rattle.oss_model.specs.declared.answer.Answer.TheVariants as answers
 use Rattle.oss_meaning.specs.Results.{IsOutcome, Outcome}
@@ -19,15 +18,14 @@ use Rattle.oss_body.specs.declared.act.Act.{Act as CodeAct}
 use Rattle.oss_body.specs.declared.act.Act.TheVariants as acts
 use Rattle.oss_body.specs.declared.body.Body.{Body as Kept}
 use Rattle.oss_body.specs.Acts.{act_seen, answer_to, creates, goes_on}
-use Rattle.oss_body.specs.Kept.{kept}
-use Rattle.oss_body.specs.Relation.{IsBody, is_over, pending_of}
-use Rattle.oss_body.specs.Stacks.{all_of, kept_stack, rest_of}
+use Rattle.oss_body.specs.Left.{body_left}
+use Rattle.oss_body.specs.Relation.{IsBody, is_over}
+use Rattle.oss_body.proofs.LeftLemmas.{left_is}
 use Rattle.oss_serial.specs.declared.stage.Stage.{Stage}
 use Rattle.oss_serial.specs.declared.stage.Turned.{Turned}
 use Rattle.oss_serial.specs.declared.stage.Turned.TheVariants as turned
-use Rattle.oss_serial.specs.declared.turn.Turn.{Turn}
 use Rattle.oss_serial.specs.declared.turn.Turn.TheVariants as turns
-use Rattle.oss_serial.specs.Stages.{AreBodies, IsStage, IsTurned, IsUp, body_left, bodies_left, kept_share, kept_shares, left_at, tasks_left, turn_of}
+use Rattle.oss_serial.specs.Stages.{AreBodies, IsStage, IsTurned, IsUp, bodies_left, left_at, turn_of}
 use Rattle.oss_body.specs.Mains.{code_main}
 use Rattle.oss_serial.specs.Turns.{Stands, answered}
 use Rattle.oss_serial.proofs.TurnLemmas.{begins, creates_less, ends_all, goes_down, goes_less, goes_on as runs_on, goes_up, more_tasks, stops}
@@ -136,43 +134,6 @@ bodies_popped code (b ∷ bs) (y ∷ ks) k h =
     record { older = b ∷ r.older; last = r.last; parts = ap (λ (z : List (Body CodeScript)). b ∷ z) r.parts; are_older = (h.0, r.are_older); is_last = r.is_last }
 
 -- What is left to do
-
-shares_last : (code : CodeParts) (fs : List Rattle.oss_body.specs.declared.frame.Frame.Frame) (f : Rattle.oss_body.specs.declared.frame.Frame.Frame) → kept_shares code (fs ++ f ∷ []) ≡ kept_share code f + kept_shares code fs
-shares_last code [] f = omega arith
-shares_last code (x ∷ fs) f = let r = shares_last code fs f in omega (arith, r)
-
-share_kept : (code : CodeParts) (f : Frame CodeScript) → share (lively code) f ≡ kept_share code (kept code f)
-unfolding share lively
-share_kept code f = refl
-
-all_shares : (code : CodeParts) (base : Frame CodeScript) (fs : List (Frame CodeScript)) → kept_shares code (all_of code base fs) ≡ share (lively code) base + shares (lively code) fs
-unfolding shares
-all_shares code base [] = let e = share_kept code base in omega (arith, e)
-all_shares code base (f ∷ fs) =
-    let r = all_shares code base fs in
-    let l = shares_last code (all_of code base fs) (kept code f) in
-    let e = share_kept code f in
-    omega (arith, r, l, e)
-
-stack_left : (code : CodeParts) (base : Frame CodeScript) (fs : List (Frame CodeScript)) → kept_share code (kept code (top_frame base fs)) + kept_shares code (rest_of code base fs) ≡ share (lively code) base + shares (lively code) fs
-unfolding shares
-stack_left code base [] = let e = share_kept code base in omega (arith, e)
-stack_left code base (f ∷ fs) = let r = all_shares code base fs in let e = share_kept code f in omega (arith, r, e)
-
--- what is left of a kept body is what is left of the body
-pub left_is : (code : CodeParts) (b : Body CodeScript) (k : Kept) → IsBody code b.start b.found k → body_left code k ≡ potential (lively code) b
-unfolding potential stack_share
-left_is code b k i = go k.tasks.ended refl
-  where
-    over : k.tasks.ended ≡ true → (stack_from (asks code) b.start b.found).ended ≡ true
-    over e = sym i.ended ∙ e
-
-    running : k.tasks.ended ≡ false → (stack_from (asks code) b.start b.found).ended ≡ false
-    running e = sym i.ended ∙ e
-
-    go : (t : Bool) → k.tasks.ended ≡ t → body_left code k ≡ stack_share (lively code) (stack_from (asks code) b.start b.found).base (stack_from (asks code) b.start b.found).inner (stack_from (asks code) b.start b.found).ended
-    go true e = rw (e, over e) refl
-    go false e = rw (e, running e) (ap (λ (t : Rattle.oss_body.specs.declared.tasks.Tasks.Tasks). kept_share code t.top + kept_shares code t.below) (i.tasks e) ∙ stack_left code (stack_from (asks code) b.start b.found).base (stack_from (asks code) b.start b.found).inner)
 
 bodies_left_last : (code : CodeParts) (ks : List Kept) (k : Kept) → bodies_left code (ks ++ k ∷ []) ≡ body_left code k + bodies_left code ks
 bodies_left_last code [] k = omega arith

@@ -1,21 +1,19 @@
 -- A stage of the sequential run as it is kept: the body that runs, those that wait for it, memory, output and the number of tasks; and what a turn makes of it.
 -- Read against: a body that stands before a load goes on with the number in the cell; one that stands before a print of `x` goes on with 0, and `x` stands behind the output; one
 -- that stands before a creation waits for the new task.
-use Rattle.std.specs.Prelude.{◌≡◌, ◌<◌, ℕ, suc, ◌+◌, ◌-◌, ◌*◌, ◌^◌, min, Bool, true, false, List, [], ◌∷◌, ◌++◌, slice_index}
+use Rattle.std.specs.Prelude.{◌≡◌, ◌<◌, ℕ, ◌+◌, ◌-◌, ◌^◌, min, false, List, [], ◌∷◌, ◌++◌, slice_index}
 use Rattle.oss_model.specs.Bodies.{Body, Order, Start, child_start, stack_from, stage_act}
 use Rattle.oss_model.specs.Bodies.Act.{Created}
-use Rattle.oss_model.specs.Potential.{share_of}
 use Rattle.oss_model.specs.declared.answer.Answer.TheVariants as answers
 use Rattle.oss_meaning.specs.Results.{IsOutcome}
 use Rattle.oss_code.specs.declared.code.CodeParts.{CodeParts}
 use Rattle.oss_machine.specs.Frames.{CodeScript}
-use Rattle.oss_machine.specs.Machines.{asks, most_left, room}
+use Rattle.oss_machine.specs.Machines.{asks}
 use Rattle.oss_body.specs.declared.act.Act.{Act}
 use Rattle.oss_body.specs.declared.act.Act.TheVariants as acts
 use Rattle.oss_body.specs.declared.body.Body.{Body as Kept}
-use Rattle.oss_body.specs.declared.frame.Frame.{Frame as KeptFrame}
-use Rattle.oss_body.specs.declared.tasks.Tasks.{Tasks}
 use Rattle.oss_body.specs.Acts.{act_seen, answer_to}
+use Rattle.oss_body.specs.Left.{body_left}
 use Rattle.oss_body.specs.Relation.{IsBody, pending_of}
 use Rattle.oss_serial.specs.declared.stage.Stage.{Stage}
 use Rattle.oss_serial.specs.declared.stage.Turned.{Turned}
@@ -47,30 +45,7 @@ pub record IsStage (code : CodeParts) (main : Start CodeScript) (first : List �
 
 -- What is left to do
 
--- no body of the code asks for more things between two ticks
-abbrev pub most_room : CodeParts → ℕ
-most_room code = most_left code * suc (suc (most_left code))
-
-abbrev pub most_asks : CodeParts → ℕ
-most_asks code = 513 * suc (most_room code) + most_room code
-
--- what a task counts for, as it is kept
-abbrev pub kept_share : CodeParts → KeptFrame → ℕ
-kept_share code f = share_of (most_asks code) (room code f.machine.config) f.place.context f.awaits
-
--- tasks together
-abbrev pub kept_shares : CodeParts → List KeptFrame → ℕ
-kept_shares code [] = 0
-kept_shares code (f ∷ fs) = kept_share code f + kept_shares code fs
-
--- the tasks of a body; one that has ended counts for nothing
-abbrev pub tasks_left : CodeParts → Bool → KeptFrame → List KeptFrame → ℕ
-tasks_left code true top below = 0
-tasks_left code false top below = kept_share code top + kept_shares code below
-
-abbrev pub body_left : CodeParts → Kept → ℕ
-body_left code b = tasks_left code b.tasks.ended b.tasks.top b.tasks.below
-
+-- the bodies together
 abbrev pub bodies_left : CodeParts → List Kept → ℕ
 bodies_left code [] = 0
 bodies_left code (b ∷ bs) = body_left code b + bodies_left code bs

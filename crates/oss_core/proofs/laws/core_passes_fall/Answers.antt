@@ -1,0 +1,5 @@
+use Rattle.oss_core.proofs.FallLemmas as lemmas
+use Rattle.oss_core.proofs.laws.core_passes_fall.Goals as goal
+
+pub returns : goal.returns
+returns c = lemmas.core_passes_fall
