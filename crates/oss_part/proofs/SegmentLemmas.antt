@@ -20,7 +20,7 @@ use Rattle.oss_body.specs.Acts.{act_seen, answer_to, creates, goes_on}
 use Rattle.oss_body.specs.Relation.{IsBody, is_over, pending_of}
 use Rattle.oss_tree.specs.declared.output.Print.{Print}
 use Rattle.oss_part.specs.declared.segment.Segment.{Segment}
-use Rattle.oss_part.specs.Left.{body_left}
+use Rattle.oss_body.specs.Left.{body_left}
 use Rattle.oss_part.specs.Made.{AddsWhen, AreNew, printed_after, printed_by}
 use Rattle.oss_part.specs.Segments.{HasCome, IsKeyed, IsKnown, IsNext, IsSegment, Went, first_of, went_none, went_on, went_new, with_print}
 use Rattle.oss_part.specs.Writes.{Leaves, Shows}

@@ -1,4 +1,3 @@
-pub mod Left
 pub mod Writes
 pub mod Made
 pub mod Segments

@@ -32,7 +32,7 @@ pub struct Segment {
 }
 
 impl Segment {
-    ghost use Rattle.oss_part.specs.Left.{body_left};
+    ghost use Rattle.oss_body.specs.Left.{body_left};
     ghost use Rattle.oss_part.specs.Segments.{HasCome, HasStepped};
 
     /// One more act, unless the part stops before it. Says whether there was one. After want of memory the part is given up. Condition: the

@@ -1,7 +1,7 @@
 use Rattle.std.proofs.Common.{suc, refl, subst, Bool}
 use Rattle.oss_machine.specs.Machines.{asks}
 use Rattle.oss_rounds.specs.Parts.{stage_after}
-use Rattle.oss_part.specs.Left.{body_left}
+use Rattle.oss_body.specs.Left.{body_left}
 use Rattle.oss_part.specs.Segments.{HasStepped, first_of}
 use Rattle.oss_part.proofs.SegmentLemmas.{begins, less_by, stopped}
 use Rattle.oss_part.proofs.run.segment_of.Goals as goal

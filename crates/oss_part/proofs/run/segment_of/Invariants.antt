@@ -2,7 +2,7 @@ use Rattle.std.proofs.Common.{ℕ, List}
 use Rattle.oss_model.specs.Bodies.{Start}
 use Rattle.oss_machine.specs.Frames.{CodeScript}
 use Rattle.oss_body.specs.Relation.{IsBody}
-use Rattle.oss_part.specs.Left.{body_left}
+use Rattle.oss_body.specs.Left.{body_left}
 use Rattle.oss_part.specs.Segments.{HasCome}
 use Rattle.oss_part.proofs.run.segment_of.Given as goal
 
