@@ -16,6 +16,7 @@ use Rattle.oss_model.proofs.MoveLemmas.{which_path}
 use Rattle.oss_model.proofs.SequenceLemmas.{opening_main}
 use Rattle.oss_model.proofs.TreeLemmas.{at_same}
 use Rattle.oss_rounds.specs.AtOnce.{new_from}
+use Rattle.oss_rounds.specs.Rounds.{weighed}
 use Rattle.oss_rounds.specs.Left.{is_held, is_given, is_owed, owed, task_left, left, AreApart, AreTasks, summed}
 use Rattle.oss_rounds.proofs.SumLemmas.{weights_are_summed}
 use Rattle.oss_ranges.specs.Cells.{value_at}
@@ -31,7 +32,7 @@ use Rattle.oss_core.specs.declared.held.Owed.{Owed}
 use Rattle.oss_core.specs.CoreLeft.{cells_owed, held_left, helds_left, core_left}
 use Rattle.oss_core.specs.Kept.{Kept, IsCore, IsHeld, owed_of}
 use Rattle.oss_core.proofs.KeepLemmas.{some_is}
-use Rattle.oss_core.proofs.TreeFacts.{core_agrees}
+use Rattle.oss_core.proofs.TreeFacts.{core_agrees, sizes}
 
 -- Main in a state of a run
 
@@ -278,3 +279,17 @@ module _ {code : CodeParts} {main : Start CodeScript} {first : List ℕ} {k : Ke
   -- the memory is as large as at the beginning
   pub memory_size : length k.cells ≡ length first
   memory_size = ap length (sym core.stands.cells_are) ∙ (core_agrees core).size
+
+  each_once : {v : ℕ} {bs : List (Body CodeScript)} {hs : List Held} {ts : List (Task CodeScript)} → AreListed v bs hs ts → summed (λ (t : Task CodeScript). 1) ts ≡ length hs
+  unfolding summed
+  each_once no_more = refl
+  each_once (one_more is rest) = let r = each_once rest in omega (arith, r)
+
+  -- the state has as many tasks as the tree
+  pub tasks_counted : weighed (λ (t : Task CodeScript). 1) [] s.tasks ≡ length k.tree.tasks
+  tasks_counted =
+      let list = list_from core.bodies k.tasks zero core.held.size (λ i b e. subst (λ (j : ℕ). slice_get core.bodies j ≡ Some b) (on i) e) (λ i h e. subst (λ (j : ℕ). slice_get k.tasks j ≡ Some h) (on i) e) in
+      weights_are_summed CodeScript s list.0 (λ (t : Task CodeScript). 1) (are_tasks list.1) ∙ each_once list.1 ∙ sym (sizes core)
+    where
+      on : (i : ℕ) → i ≡ i + zero
+      on i = omega arith

@@ -13,3 +13,5 @@ pub mod CoreLeft
 pub mod Stops
 pub mod Left
 pub mod Passing
+pub mod Remaining
+pub mod Turns

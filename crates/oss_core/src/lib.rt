@@ -12,14 +12,20 @@ mod laws;
 mod machine;
 mod passing;
 mod ranges_given;
+mod remaining;
 mod stepping;
 mod stopping;
 #[cfg(test)]
 mod tests;
+mod told;
+mod turns;
 mod waiting;
+mod waving;
 
 pub use fault::ApplyFault;
 pub use held::{Held, Owed};
 pub use laws::{core_moves_fall, core_passes_fall, core_rounds_fall, core_waves_fall};
 pub use machine::Core;
 pub use passing::Passed;
+pub use turns::Turn;
+pub use waving::Parts;

@@ -1,0 +1,57 @@
+-- A wave as a core makes it: the parts of the tasks that may act, and what is told of them.
+-- Read against: tasks 1 and 2, which may both act, and main, which waits. Task 1 stores 5 in x and ends, and task 2 prints and ends: the wave is told as two acts and a tick
+-- of each, those of task 1 first, and their numbers are their numbers in the tree, where their points are 0.0 and 0.1.
+use Rattle.std.specs.Prelude.{◌≡◌, ◌≤◌, ℕ, ◌-◌, ◌^◌, min, List, [], ◌∷◌, length}
+use Rattle.oss_model.specs.Order.{written}
+use Rattle.oss_model.specs.Bodies.{Start}
+use Rattle.oss_model.specs.Machine.{State}
+use Rattle.oss_rounds.specs.Waves as waves
+use Rattle.oss_rounds.specs.Waves.{IsWave}
+use Rattle.oss_code.specs.declared.code.CodeParts.{CodeParts}
+use Rattle.oss_machine.specs.Frames.{CodeScript}
+use Rattle.oss_machine.specs.Machines.{asks}
+use Rattle.oss_body.specs.declared.body.Body.{Body}
+use Rattle.oss_body.specs.Relation.{IsBody}
+use Rattle.oss_tree.specs.declared.task.Task.{Task as TreeTask}
+use Rattle.oss_tree.specs.Tasks.{HasPoint}
+use Rattle.oss_part.specs.declared.segment.Segment.{Segment}
+use Rattle.oss_part.specs.Segments.{IsSegment}
+use Rattle.oss_core.specs.declared.turns.Turn.{Turn}
+use Rattle.oss_core.specs.Kept.{IsCore, Kept}
+
+-- The part is that of the body over this memory, whatever task it is the body of.
+abbrev pub IsPartOf : CodeParts → List ℕ → Body → Segment → Type 0
+IsPartOf code memory body part = (start : Start CodeScript) (found : List ℕ) → IsBody code start found body → IsSegment code start found memory 4096 body part
+
+-- The same, one by one.
+abbrev pub ArePartsOf : CodeParts → List ℕ → List Body → List Segment → Type 0
+ArePartsOf code memory [] [] = Unit {0}
+ArePartsOf code memory (b ∷ bs) (s ∷ ss) = IsPartOf code memory b s × ArePartsOf code memory bs ss
+ArePartsOf code memory [] (s ∷ ss) = ⊥
+ArePartsOf code memory (b ∷ bs) [] = ⊥
+
+-- What was told of a turn is that turn: the task by its number and by its path, and its acts. The number of acts stays at its greatest value.
+pub record IsTold (tasks : List TreeTask) (one : Turn) (turn : waves.Turn) : Type 0 where
+  pub point : HasPoint tasks one.task.0 (written turn.path)
+  pub acts : one.acts ≡ min turn.acts (2 ^ 64 - 1)
+
+-- The same, one by one.
+abbrev pub AreTold : List TreeTask → List Turn → List waves.Turn → Type 0
+AreTold tasks [] [] = Unit {0}
+AreTold tasks (one ∷ more) (turn ∷ rest) = IsTold tasks one turn × AreTold tasks more rest
+AreTold tasks [] (turn ∷ rest) = ⊥
+AreTold tasks (one ∷ more) [] = ⊥
+
+-- Each task keeps its point.
+abbrev pub KeepsPoints : List TreeTask → List TreeTask → Type 0
+KeepsPoints old new = (v : ℕ) (q : List ℕ) → HasPoint old v q → HasPoint new v q
+
+-- The tasks of the tree are there later, with their points.
+pub record KeepsTasks (old new : List TreeTask) : Type 0 where
+  pub points : KeepsPoints old new
+  pub more : length old ≤ length new
+
+-- A wave was made from each state for which the core stood before, to one for which it stands after; and these were its turns.
+abbrev pub HasWaved : CodeParts → Kept → Kept → List Turn → Type 0
+HasWaved code old new told = (main : Start CodeScript) (first : List ℕ) (s : State CodeScript) → IsCore code main first old s
+    → (n : State CodeScript) × (turns : List waves.Turn) × IsWave (asks code) s turns n × AreTold old.tree.tasks told turns × IsCore code main first new n
