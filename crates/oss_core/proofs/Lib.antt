@@ -39,3 +39,4 @@ pub mod ToldLemmas
 pub mod RunsLemmas
 pub mod PassLemmas
 pub mod AddedLemmas
+pub mod SteppersLemmas

@@ -12,3 +12,5 @@ pub mod Cores
 pub mod Stops
 pub mod Left
 pub mod Passing
+pub mod Steppers
+pub mod Remaining

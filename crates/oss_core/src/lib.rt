@@ -11,7 +11,9 @@ mod held;
 mod machine;
 mod passing;
 mod ranges_given;
+mod remaining;
 mod stepping;
+mod steppers;
 mod stopping;
 #[cfg(test)]
 mod tests;
