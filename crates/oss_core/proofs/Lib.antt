@@ -40,3 +40,4 @@ pub mod RunsLemmas
 pub mod PassLemmas
 pub mod AddedLemmas
 pub mod SteppersLemmas
+pub mod RemainingLemmas

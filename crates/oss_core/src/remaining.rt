@@ -1,10 +1,10 @@
 //! The tasks that are left, kept up from wave to wave.
 
-ghost use Rattle.std.specs.Prelude.{◌≡◌, ◌<◌, length, IfOk, OnOk};
+ghost use Rattle.std.specs.Prelude.{◌≡◌, ◌<◌, length, map, IfOk, OnOk};
 ghost use Rattle.oss_code.specs.declared.code.CodeParts.{CodeParts};
-ghost use Rattle.oss_tree.specs.Tasks.{IsComplete};
+ghost use Rattle.oss_tree.specs.Tasks.{IsComplete, IsTree};
 ghost use Rattle.oss_core.specs.Left.{AreLeft};
-ghost use Rattle.oss_core.specs.Remaining.{AreLeftOf};
+ghost use Rattle.oss_core.specs.Remaining.{AreLeftOf, AreSorted};
 ghost use Rattle.oss_core.specs.Steppers.{IsAddedWhere};
 
 use crate::machine::Core;
@@ -21,23 +21,24 @@ struct Placed<'tree> {
 }
 
 /// Adds a task behind the others where it is not complete.
-fn add_open(tree: &Tree, task: TaskNo, open: &mut Vec<TaskNo>) -> Result<(), AllocError>
+fn add_unfinished(tree: &Tree, task: TaskNo, unfinished: &mut Vec<TaskNo>) -> Result<(), AllocError>
     requires { task.0 < length tree.now.tasks }
-    ensures { OnOk result (IsAddedWhere (IsComplete tree.now.tasks task.0 → ⊥) task open.old.items open.new.items) }
+    ensures { OnOk result (IsAddedWhere (IsComplete tree.now.tasks task.0 → ⊥) task unfinished.old.items unfinished.new.items) }
 {
     if !tree.complete(task) {
-        open.push(task)?;
+        unfinished.push(task)?;
     }
     Ok(())
 }
 
 /// These tasks in point order.
-fn in_order(alloc: Global, tree: &Tree, open: &[TaskNo]) -> Result<Vec<TaskNo>, AllocError>
-    requires { AreLeftOf tree.now.tasks (length tree.now.tasks) open.now }
+fn in_order(alloc: Global, tree: &Tree, unfinished: &[TaskNo]) -> Result<Vec<TaskNo>, AllocError>
+    requires tree { IsTree tree.now.tasks }
+    requires left { AreLeftOf tree.now.tasks (length tree.now.tasks) unfinished.now }
     ensures { IfOk result (λ now. AreLeft tree.now.tasks now.items) }
 {
     let mut placed = Vec::new(alloc);
-    for task in open {
+    for task in unfinished {
         placed.push(Placed {
             task: *task,
             point: tree.point(*task),
@@ -48,13 +49,17 @@ fn in_order(alloc: Global, tree: &Tree, open: &[TaskNo]) -> Result<Vec<TaskNo>, 
 
 /// The tasks in the order of their points.
 fn sorted(alloc: Global, mut placed: Vec<Placed<'_>>) -> Result<Vec<TaskNo>, AllocError>
+    ensures { IfOk result (λ tasks. AreSorted placed.entry.items tasks.items) }
 {
     placed.sort_by(|a, b| a.point.cmp(b.point))?;
-    let mut tasks = Vec::new(alloc);
-    for one in &placed {
-        tasks.push(one.task)?;
-    }
-    Ok(tasks)
+    tasks_of(alloc, placed.as_slice())
+}
+
+/// The tasks alone.
+fn tasks_of(alloc: Global, placed: &[Placed<'_>]) -> Result<Vec<TaskNo>, AllocError>
+    ensures { IfOk result (λ tasks. tasks.items ≡ map (λ one. one.task) placed.now) }
+{
+    placed.iter().map(|one| one.task).collect(alloc)
 }
 
 impl<D: Deps> Core<D> {
@@ -68,13 +73,13 @@ impl<D: Deps> Core<D> {
         requires left { AreLeftOf self.now.tree.tasks known left.items }
         ensures { IfOk result (λ now. AreLeft self.now.tree.tasks now.items) }
     {
-        let mut open = Vec::new(self.alloc);
+        let mut unfinished = Vec::new(self.alloc);
         for task in &left {
-            add_open(&self.tree, *task, &mut open)?;
+            add_unfinished(&self.tree, *task, &mut unfinished)?;
         }
         for number in known..self.tree.count() {
-            add_open(&self.tree, TaskNo(number), &mut open)?;
+            add_unfinished(&self.tree, TaskNo(number), &mut unfinished)?;
         }
-        in_order(self.alloc, &self.tree, open.as_slice())
+        in_order(self.alloc, &self.tree, unfinished.as_slice())
     }
 }
