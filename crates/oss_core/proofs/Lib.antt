@@ -40,4 +40,6 @@ pub mod RunsLemmas
 pub mod PassLemmas
 pub mod AddedLemmas
 pub mod SteppersLemmas
+pub mod PlacedLemmas
 pub mod RemainingLemmas
+pub mod KnownLemmas

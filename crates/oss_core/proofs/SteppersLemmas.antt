@@ -68,15 +68,18 @@ order_without : (tasks : List TreeTask) (xs : List TaskNo) (x : TaskNo) (ys : Li
 order_without tasks [] x ys o = o.1
 order_without tasks (y ∷ xs) x ys o = (λ w i. o.0 w (in_with xs x ys i), order_without tasks xs x ys o.1)
 
--- a task that may step has not ended, so it is left
+-- a task that may step has not ended
+pub stepper_runs : {code : CodeParts} {main : Start CodeScript} {first : List ℕ} {k : Kept} {s : State CodeScript} (core : IsCore code main first k s) (v : ℕ) → MayStep k.tasks k.tree.tasks k.seen v → (one : TreeTask) → slice_get k.tree.tasks v ≡ Some one → one.ended ≡ false
+stepper_runs core v may one e =
+    let x = at_number core v (kept_within core v may.held may.is) in
+    ap (λ (o : TreeTask). o.ended) (some_is (sym e ∙ x.task_at)) ∙ x.is_known.ended ∙ sym x.is_held.body_is.ended ∙ ap (λ (h : Held). is_over h.body) (some_is (sym x.held_at ∙ may.is)) ∙ may.goes.running
+
+-- so it is left
 stepper_left : {code : CodeParts} {main : Start CodeScript} {first : List ℕ} {k : Kept} {s : State CodeScript} (core : IsCore code main first k s) (left : List TaskNo) → AreLeft k.tree.tasks left → (v : ℕ) → MayStep k.tasks k.tree.tasks k.seen v → IsIn (number v) left
-stepper_left {k = k} core left are v may =
-    let within = kept_within core v may.held may.is in
-    let x = at_number core v within in
-    are.all v (subst (λ (n : ℕ). v < n) (sym (sizes core)) within) (open_ x.task x.task_at (x.is_known.ended ∙ sym x.is_held.body_is.ended ∙ ap (λ (h : Held). is_over h.body) (some_is (sym x.held_at ∙ may.is)) ∙ may.goes.running))
+stepper_left {k = k} core left are v may = are.all v (subst (λ (n : ℕ). v < n) (sym (sizes core)) (kept_within core v may.held may.is)) not_complete
   where
-    open_ : (one : TreeTask) → slice_get k.tree.tasks v ≡ Some one → one.ended ≡ false → IsComplete k.tree.tasks v → ⊥
-    open_ one e running (complete other f closed below) = let same : one ≡ other = some_is (sym e ∙ f) in let a : one.ended ≡ true = ap (λ (o : TreeTask). o.ended) same ∙ closed.0 in absurd cc
+    not_complete : IsComplete k.tree.tasks v → ⊥
+    not_complete (complete one e closed below) = let running = stepper_runs core v may one e in let over = closed.0 in absurd cc
 
 -- those that were found among the first of the list, before the rest of it
 pub record AreSoFar (k : Kept) (found rest : List TaskNo) : Type 0 where

@@ -1,6 +1,8 @@
+use Rattle.oss_core.proofs.KnownLemmas.{stays_itself}
 use Rattle.std.proofs.Common.{refl}
 use Rattle.oss_core.proofs.CallLemmas.{if_ok}
-use Rattle.oss_core.proofs.RemainingLemmas.{at_in, placed_begins, placed_done, placed_next, sorted_left}
+use Rattle.oss_core.proofs.PlacedLemmas.{placed_begins, placed_done, placed_next, sorted_left}
+use Rattle.oss_core.proofs.RemainingLemmas.{at_in}
 use Rattle.oss_core.proofs.remaining.in_order.Goals as goal
 
 pub loop-task-init : goal.loop-task-init

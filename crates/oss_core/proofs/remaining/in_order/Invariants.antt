@@ -1,5 +1,5 @@
 use Rattle.std.proofs.Common.{take}
-use Rattle.oss_core.proofs.RemainingLemmas.{ArePlaced}
+use Rattle.oss_core.proofs.PlacedLemmas.{ArePlaced}
 use Rattle.oss_core.proofs.remaining.in_order.Given as goal
 
 abbrev pub invariant-loop-task : goal.invariant-loop-task
