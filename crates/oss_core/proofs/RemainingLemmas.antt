@@ -1,19 +1,9 @@
 -- The tasks that are left of those that are known: one after the other is kept or left out.
-use Rattle.std.proofs.Common.{◌≡◌, ℕ, zero, suc, ◌+◌, ◌<◌, ◌≤◌, ◌⊎◌, inl, inr, refl, sym, subst, ap, ◌∙◌, arith, List, [], ◌∷◌, ◌++◌, append_assoc, length, drop, take, map, get_or, Bool, true, false, Some, None}
-use Rattle.std.specs.Prelude.{◌&&◌, not, cond, if◌then◌else◌, slice_get}
-use Rattle.std.specs.List.{filter}
-use Rattle.std.specs.List.Sorted.{IsSortedBy, IsStableBy, ties}
-use Rattle.std.specs.Cmp.{IsStrictWeakOrder}
-use Rattle.std.specs.Cmp.Lexicographic.{slice_cmp}
-use Rattle.std.specs.Ordering.{MatchOrdering, is_lt, nat_cmp}
-use Rattle.std.specs.declared.cmp.Ordering.{Ordering}
-use Rattle.std.specs.declared.cmp.Ordering.TheVariants.{Less, Equal, Greater}
-use Rattle.std.proofs.lemmas.Cmp.{nat_list_cmp_total}
-use Rattle.std.proofs.lemmas.List.{append-nil, drop_all, drop_more, map-append, take_all, take_more}
-use Rattle.std.proofs.lemmas.List.MinMax.{ranks_by}
-use Rattle.std.proofs.lemmas.List.Sorted.{sorted_far}
+use Rattle.std.proofs.Common.{◌≡◌, ℕ, zero, suc, ◌+◌, ◌<◌, ◌≤◌, ◌⊎◌, inl, inr, refl, sym, subst, ap, ◌∙◌, arith, List, [], ◌∷◌, ◌++◌, append_assoc, length, drop, get_or, Bool, true, false, Some, None}
+use Rattle.std.specs.Prelude.{if◌then◌else◌, slice_get}
+use Rattle.std.proofs.lemmas.List.{append-nil, drop_all, drop_more}
 use Rattle.std.proofs.lemmas.Option.{slice_get_within}
-use Rattle.oss_model.specs.Order.{IsBefore, IsIn, here, there}
+use Rattle.oss_model.specs.Order.{IsIn, here, there}
 use Rattle.oss_model.specs.Bodies.{Body, Start}
 use Rattle.oss_model.specs.Machine as machine
 use Rattle.oss_model.specs.Machine.{find, same_path}
@@ -23,17 +13,12 @@ use Rattle.oss_code.specs.declared.code.CodeParts.{CodeParts}
 use Rattle.oss_machine.specs.Frames.{CodeScript}
 use Rattle.oss_core.specs.Kept.{IsCore, Kept, own}
 use Rattle.oss_core.specs.Standing.{IsNumbered}
-use Rattle.oss_model.proofs.OrderLemmas.{before_not, before_trans}
-use Rattle.oss_model.proofs.PointLemmas.{ordered}
+use Rattle.oss_model.proofs.OrderLemmas.{before_not}
 use Rattle.oss_tree.specs.declared.task.Task.{Task}
-use Rattle.oss_tree.specs.Tasks.{HasPoint, IsClosed, IsComplete, IsTree, complete, given_task, main_task, number, opening}
+use Rattle.oss_tree.specs.Tasks.{HasPoint, IsComplete, number, opening}
 use Rattle.oss_tree.proofs.ListLemmas.{none_some, some_is, there_is}
-use Rattle.oss_tree.proofs.OutputLemmas.{before_told, told_before}
-use Rattle.oss_tree.proofs.TreeLemmas.{one_point}
-use Rattle.oss_core.specs.declared.remaining.Placed.{Placed}
 use Rattle.oss_core.specs.Left.{AreInPointOrder, AreLeft}
-use Rattle.oss_core.specs.Passing.{HaveGiven}
-use Rattle.oss_core.specs.Remaining.{AreLeftOf, AreOnce, AreSorted, StaysKnown, comes_before}
+use Rattle.oss_core.specs.Remaining.{AreLeftOf, AreOnce, StaysKnown}
 use Rattle.oss_core.specs.Steppers.{IsAddedWhere}
 use Rattle.oss_core.proofs.SteppersLemmas.{in_cases, in_either, in_front, in_rest, in_with, in_without}
 

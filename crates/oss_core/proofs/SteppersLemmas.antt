@@ -1,9 +1,8 @@
 -- The tasks that may step, sifted from a list in point order: one after the other stays or is left out.
-use Rattle.std.proofs.Common.{◌≡◌, ℕ, ◌+◌, ◌<◌, ◌≤◌, ◌⊎◌, inl, inr, refl, sym, subst, ap, ◌∙◌, arith, List, [], ◌∷◌, ◌++◌, append_assoc, length, drop, get_or, Bool, true, false, Some}
+use Rattle.std.proofs.Common.{◌≡◌, ℕ, ◌+◌, ◌<◌, ◌⊎◌, inl, inr, refl, sym, subst, ap, ◌∙◌, List, [], ◌∷◌, ◌++◌, append_assoc, length, drop, get_or, false, Some}
 use Rattle.std.specs.Prelude.{slice_get}
-use Rattle.std.proofs.lemmas.List.{append-nil, drop_all, drop_more}
-use Rattle.std.proofs.lemmas.Option.{slice_get_within}
-use Rattle.oss_model.specs.Order.{IsBefore, IsIn, here, there}
+use Rattle.std.proofs.lemmas.List.{append-nil, drop_more}
+use Rattle.oss_model.specs.Order.{IsIn, here, there}
 use Rattle.oss_model.specs.Bodies.{Start}
 use Rattle.oss_model.specs.Machine.{State}
 use Rattle.oss_model.specs.declared.task_no.TaskNo.{TaskNo}
@@ -11,7 +10,7 @@ use Rattle.oss_code.specs.declared.code.CodeParts.{CodeParts}
 use Rattle.oss_machine.specs.Frames.{CodeScript}
 use Rattle.oss_body.specs.Relation.{is_over}
 use Rattle.oss_tree.specs.declared.task.Task.{Task as TreeTask}
-use Rattle.oss_tree.specs.Tasks.{HasPoint, IsComplete, complete, number}
+use Rattle.oss_tree.specs.Tasks.{IsComplete, complete, number}
 use Rattle.oss_core.specs.declared.held.Held.{Held}
 use Rattle.oss_core.specs.Enabled.{MayStep}
 use Rattle.oss_core.specs.Kept.{IsCore, IsRunning, Kept}

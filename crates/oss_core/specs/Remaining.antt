@@ -23,17 +23,17 @@ pub record AreLeftOf (tasks : List Task) (known : ℕ) (left : List TaskNo) : Ty
   pub once : AreOnce left
   pub all : (v : ℕ) → v < known → (IsComplete tasks v → ⊥) → IsIn (number v) left
 
--- Each task of the first tree is one of the second, with the same number and point, and complete there too if it was.
+-- Each task of the first tree is one of the second, with the same number and point, and is complete there if it was before.
 pub record StaysKnown (old new : List Task) : Type 0 where
   pub few : length old ≤ length new
   pub point : (v : ℕ) (p : List ℕ) → HasPoint old v p → HasPoint new v p
   pub complete : (v : ℕ) → IsComplete old v → IsComplete new v
 
--- The point of the first is before that of the second.
+-- The point of the first is before that of the second: that of a, 0.0, is before that of b, 0.1.
 abbrev pub comes_before : Placed → Placed → Bool
 comes_before x y = is_lt (slice_cmp nat_cmp x.point.now y.point.now)
 
--- The tasks are those of a list with their points, in the order of these.
+-- The tasks are those that stand in a list with their points, in the order of these: main, a, b where it is b at 0.1, main at 0, a at 0.0.
 pub record AreSorted (placed : List Placed) (tasks : List TaskNo) : Type 0 where
   pub shown : List Placed
   pub sorted : IsSortedBy comes_before shown

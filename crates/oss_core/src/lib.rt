@@ -12,8 +12,8 @@ mod machine;
 mod passing;
 mod ranges_given;
 mod remaining;
-mod stepping;
 mod steppers;
+mod stepping;
 mod stopping;
 #[cfg(test)]
 mod tests;

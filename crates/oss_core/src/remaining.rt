@@ -1,7 +1,6 @@
 //! The tasks that are left, kept up from wave to wave.
 
 ghost use Rattle.std.specs.Prelude.{◌≡◌, ◌<◌, length, map, IfOk, OnOk};
-ghost use Rattle.oss_code.specs.declared.code.CodeParts.{CodeParts};
 ghost use Rattle.oss_tree.specs.Tasks.{IsComplete, IsTree};
 ghost use Rattle.oss_core.specs.Left.{AreLeft};
 ghost use Rattle.oss_core.specs.Remaining.{AreLeftOf, AreSorted};
@@ -63,14 +62,10 @@ fn tasks_of(alloc: Global, placed: &[Placed<'_>]) -> Result<Vec<TaskNo>, AllocEr
 }
 
 impl<D: Deps> Core<D> {
-    ghost use Rattle.oss_core.specs.Cores.{kept_of};
-    ghost use Rattle.oss_core.specs.Kept.{IsRunning};
-
     /// The tasks that are left now, in point order: of those that were, and of those with numbers from `known` on, each that is not complete. Condition: of the
     /// first `known` tasks the list has each that is not complete, none twice. Want of memory is the one error.
     pub fn remaining(&self, left: Vec<TaskNo>, known: u64) -> Result<Vec<TaskNo>, AllocError>
-        requires running { (code : CodeParts) × IsRunning code (kept_of D.seen self.now) }
-        requires left { AreLeftOf self.now.tree.tasks known left.items }
+        requires { AreLeftOf self.now.tree.tasks known left.items }
         ensures { IfOk result (λ now. AreLeft self.now.tree.tasks now.items) }
     {
         let mut unfinished = Vec::new(self.alloc);

@@ -1,4 +1,3 @@
-use Rattle.oss_core.proofs.KnownLemmas.{stays_itself}
 use Rattle.std.proofs.Common.{refl}
 use Rattle.oss_core.proofs.CallLemmas.{if_ok}
 use Rattle.oss_core.proofs.PlacedLemmas.{placed_begins, placed_done, placed_next, sorted_left}

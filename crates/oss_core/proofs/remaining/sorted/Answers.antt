@@ -1,6 +1,6 @@
 use Rattle.std.proofs.Common.{◌≡◌, IfOk, map, rules}
 use Rattle.std.proofs.lemmas.List.Sorted.{answers_always}
-use Rattle.oss_core.specs.Remaining.{AreSorted, comes_before}
+use Rattle.oss_core.specs.Remaining.{comes_before}
 use Rattle.oss_core.proofs.CallLemmas.{if_ok}
 use Rattle.oss_core.proofs.PlacedLemmas.{ranks}
 use Rattle.oss_core.proofs.remaining.sorted.Goals as goal
