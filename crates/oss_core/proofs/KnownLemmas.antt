@@ -13,8 +13,10 @@ use Rattle.oss_tree.proofs.ListLemmas.{get_front, get_set_other, get_set_same, l
 use Rattle.oss_core.specs.Changes.{Creates, Steps, noted, noted_given, noted_new}
 use Rattle.oss_core.specs.Enabled.{MayStep}
 use Rattle.oss_core.specs.Kept.{IsRunning, Kept}
+use Rattle.oss_core.specs.Left.{AreLeft}
 use Rattle.oss_core.specs.Passing.{HaveGiven}
 use Rattle.oss_core.specs.Remaining.{StaysKnown}
+use Rattle.oss_core.proofs.RemainingLemmas.{left_stays}
 use Rattle.oss_core.proofs.RunsLemmas.{given_noted}
 use Rattle.oss_core.proofs.SteppersLemmas.{stepper_runs}
 
@@ -53,6 +55,10 @@ stays_given old new h = carried old new (let e = h.size in omega (arith, e)) (λ
     go : (v : ℕ) (one : Task) → (slice_get new v ≡ Some one) ⊎ (slice_get new v ≡ Some (given_task one)) → Carried new v one
     go v one (inl e) = record { other = one; at_ = e; carries = itself_carries one }
     go v one (inr e) = record { other = given_task one; at_ = e; carries = record { point = refl; closed = λ c. ((c.0, refl), refl) } }
+
+-- behind it the same list is still one of the tasks that are left
+pub left_given : (old new : List Task) (left : List TaskNo) → HaveGiven old new → AreLeft old left → AreLeft new left
+left_given old new left h are = left_stays old new left h.size (stays_given old new h) are
 
 -- the end of a task is noted
 pub stays_noted : (tasks : List Task) (v : ℕ) (over : Bool) → StaysKnown tasks (noted v over tasks)

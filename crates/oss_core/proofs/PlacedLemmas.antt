@@ -199,7 +199,8 @@ pub record ArePlaced (tasks : List Task) (left : List TaskNo) (placed : List Pla
   pub tasks_are : map (λ (x : Placed). x.task) placed ≡ left
   pub points : (x : Placed) → IsIn x placed → HasPoint tasks x.task.0 x.point.now
 
-same_point : (tasks : List Task) (v : ℕ) (p q : List ℕ) → HasPoint tasks v p → HasPoint tasks v q → p ≡ q
+-- a task has one point
+pub same_point : (tasks : List Task) (v : ℕ) (p q : List ℕ) → HasPoint tasks v p → HasPoint tasks v q → p ≡ q
 same_point tasks v p q h g = sym h.point ∙ ap (λ (o : Task). o.point) (some_is h.at_ g.at_) ∙ g.point
 
 module _ (tasks : List Task) (tree : IsTree tasks) where

@@ -20,6 +20,7 @@ use Rattle.oss_tree.proofs.ListLemmas.{none_some, some_is, there_is}
 use Rattle.oss_core.specs.Left.{AreInPointOrder, AreLeft}
 use Rattle.oss_core.specs.Remaining.{AreLeftOf, AreOnce, StaysKnown}
 use Rattle.oss_core.specs.Steppers.{IsAddedWhere}
+use Rattle.oss_core.proofs.PlacedLemmas.{same_point}
 use Rattle.oss_core.proofs.SteppersLemmas.{in_cases, in_either, in_front, in_rest, in_with, in_without}
 
 -- a member of the list, by its place
@@ -134,6 +135,24 @@ pub left_known : (old new : List Task) (left : List TaskNo) → StaysKnown old n
 left_known old new left stays are =
     let all = left_of_all old left are in
     record { few = stays.few; there = all.there; once = all.once; all = λ v l k. are.all v l (λ c. k (stays.complete v c)) }
+
+-- where no task is new, it is a list of those that are left as it was
+pub left_stays : (old new : List Task) (left : List TaskNo) → length new ≡ length old → StaysKnown old new → AreLeft old left → AreLeft new left
+left_stays old new left size stays are = record {
+  ordered = ordered_now left are.ordered are.there;
+  there = λ v i. subst (λ (n : ℕ). v.0 < n) (sym size) (are.there v i);
+  all = λ v l n. are.all v (subst (λ (n : ℕ). v < n) size l) (λ c. n (stays.complete v c));
+}
+  where
+    point_before : (v : ℕ) (p : List ℕ) → v < length old → HasPoint new v p → HasPoint old v p
+    point_before v p l h =
+        let t = there_is old v l in
+        let was : HasPoint old v t.0.point = record { task = t.0; at_ = t.1; point = refl } in
+        subst (HasPoint old v) (same_point new v t.0.point p (stays.point v t.0.point was) h) was
+
+    ordered_now : (xs : List TaskNo) → AreInPointOrder old xs → ((v : TaskNo) → IsIn v xs → v.0 < length old) → AreInPointOrder new xs
+    ordered_now [] o there_in = tt
+    ordered_now (x ∷ xs) o there_in = (λ w i p q hp hq. o.0 w i p q (point_before x.0 p (there_in x here) hp) (point_before w.0 q (there_in w (there i)) hq), ordered_now xs o.1 (λ v i. there_in v (there i)))
 
 -- at the beginning main is left
 pub left_of_main : AreLeft opening.tasks (number 0 ∷ [])
