@@ -42,3 +42,7 @@ pub mod AddedLemmas
 pub mod LeftLemmas
 pub mod CoreLeftLemmas
 pub mod FallLemmas
+pub mod SteppersLemmas
+pub mod PlacedLemmas
+pub mod RemainingLemmas
+pub mod KnownLemmas

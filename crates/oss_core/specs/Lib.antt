@@ -15,3 +15,4 @@ pub mod Left
 pub mod Passing
 pub mod Remaining
 pub mod Turns
+pub mod Steppers

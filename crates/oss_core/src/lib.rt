@@ -13,6 +13,7 @@ mod machine;
 mod passing;
 mod ranges_given;
 mod remaining;
+mod steppers;
 mod stepping;
 mod stopping;
 #[cfg(test)]

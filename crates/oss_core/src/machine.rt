@@ -104,7 +104,7 @@ impl<D: Deps> Core<D> {
     }
 
     /// The same, told of what is kept alone.
-    fn may_move(&mut self, m: &Move) -> bool
+    pub(crate) fn may_move(&mut self, m: &Move) -> bool
         requires { (code : CodeParts) × IsRunning code (kept_of D.seen self.old) }
         ensures may { IsTrue result ↔ MayMove (kept_of D.seen self.old) m.now }
         ensures same { kept_of D.seen self.new ≡ kept_of D.seen self.old }
