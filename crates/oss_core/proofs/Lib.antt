@@ -32,3 +32,11 @@ pub mod BeginLemmas
 pub mod MakingLemmas
 pub mod LeastLemmas
 pub mod StillLemmas
+pub mod WriteLemmas
+pub mod PutFacts
+pub mod AddLemmas
+pub mod PutLemmas
+pub mod FillLemmas
+pub mod MidwayLemmas
+pub mod NextLemmas
+pub mod WavingLemmas

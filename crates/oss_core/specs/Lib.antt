@@ -3,6 +3,7 @@ pub mod Moving
 pub mod Below
 pub mod Telling
 pub mod Printing
+pub mod Putting
 pub mod Kept
 pub mod Enabled
 pub mod Changes
@@ -10,3 +11,6 @@ pub mod Going
 pub mod Giving
 pub mod Cores
 pub mod Stops
+pub mod Left
+pub mod Steppers
+pub mod Turns
