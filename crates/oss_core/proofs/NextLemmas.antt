@@ -126,7 +126,7 @@ told_order tasks (y ∷ told) (x ∷ turns) h o = (λ j i. behind told turns h.1
     behind [] [] g j i f = elim i [ ]
     behind [] (r ∷ rest) g j i f = absurd g
     behind (m ∷ more) [] g j i f = absurd g
-    behind (m ∷ more) (r ∷ rest) g r here f = tail (f m.task here (written x.path) (written r.path) h.0.point g.0.point)
+    behind (m ∷ more) (r ∷ rest) g j here f = tail (f m.task here (written x.path) (written r.path) h.0.point g.0.point)
     behind (m ∷ more) (r ∷ rest) g j (there i) f = behind more rest g.1 j i (λ w k p q a b. f w (there k) p q a b)
 
 -- the turn of a task that was told

@@ -17,7 +17,7 @@ use Rattle.oss_body.specs.Relation.{IsBody}
 use Rattle.oss_tree.specs.declared.task.Task.{Task as TreeTask}
 use Rattle.oss_tree.specs.Tasks.{HasPoint}
 use Rattle.oss_part.specs.declared.segment.Segment.{Segment}
-use Rattle.oss_part.specs.Segments.{IsSegment}
+use Rattle.oss_part.specs.Segments.{IsKnown, IsSegment}
 use Rattle.oss_core.specs.declared.held.Held.{Held}
 use Rattle.oss_core.specs.declared.turns.Turn.{Turn}
 use Rattle.oss_core.specs.Kept.{IsCore, Kept}
@@ -34,6 +34,11 @@ ArePartsOf code memory [] [] = Unit {0}
 ArePartsOf code memory (b ∷ bs) (s ∷ ss) = IsPartOf code memory b s × ArePartsOf code memory bs ss
 ArePartsOf code memory [] (s ∷ ss) = ⊥
 ArePartsOf code memory (b ∷ bs) [] = ⊥
+
+-- Each of these is the body of some task of the code.
+abbrev pub AreKnown : CodeParts → List Body → Type 0
+AreKnown code [] = Unit {0}
+AreKnown code (b ∷ bs) = IsKnown code b × AreKnown code bs
 
 -- The second list is the first with these bodies thought back into the places of these tasks.
 abbrev pub IsFilled : List TaskNo → List Body → List Held → List Held → Type 0

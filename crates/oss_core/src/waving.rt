@@ -8,7 +8,7 @@ ghost use Rattle.oss_model.specs.declared.task_no.TaskNo.{TaskNo as Number};
 ghost use Rattle.oss_code.specs.declared.code.CodeParts.{CodeParts};
 ghost use Rattle.oss_machine.specs.Frames.{CodeScript};
 ghost use Rattle.oss_part.specs.declared.segment.Segment.{Segment as Part};
-ghost use Rattle.oss_core.specs.Turns.{ArePartsOf, IsBeside, IsFilled};
+ghost use Rattle.oss_core.specs.Turns.{AreKnown, ArePartsOf, IsBeside, IsFilled};
 
 use crate::machine::Core;
 use crate::putting::put_body;
@@ -29,6 +29,8 @@ pub trait Parts {
         memory: &[u64],
         bodies: Vec<Body>,
     ) -> Result<Vec<Segment>, AllocError>
+        requires known { AreKnown code.now bodies.items }
+        requires room { length memory.now ≤ 1048576 }
         ensures { IfOk result (λ parts. ArePartsOf code.now memory.now bodies.items parts.items) };
 }
 
@@ -106,8 +108,7 @@ impl<D: Deps> Core<D> {
         for part in parts {
             let task = steppers[at];
             let acts = part.count;
-            let spare = self.put(task, part)?;
-            spares.push(spare)?;
+            self.put(task, part, spares)?;
             turns.push(Turn { task, acts })?;
             at += 1;
         }

@@ -1,0 +1,5 @@
+pub mod LeftLemmas
+pub mod WriteLemmas
+pub mod MadeLemmas
+pub mod SegmentLemmas
+pub mod SendLemmas

@@ -1,1 +1,4 @@
+pub mod Left
+pub mod Writes
+pub mod Made
 pub mod Segments

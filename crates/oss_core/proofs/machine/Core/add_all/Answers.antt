@@ -1,4 +1,4 @@
-use Rattle.std.proofs.Common.{refl}
+use Rattle.std.proofs.Common.{refl, rules}
 use Rattle.oss_core.specs.Cores.{kept_of}
 use Rattle.oss_core.specs.Kept.{Kept}
 use Rattle.std.specs.Vec.Iter.{into_iter_items}
@@ -8,7 +8,7 @@ use Rattle.oss_core.proofs.machine.Core.add_all.Goals as goal
 pub loop-newborn-init : goal.loop-newborn-init
 loop-newborn-init g c = record {
   adding = adding_begins c.args.creator.0 c.args.newborns.items (kept_of g.D.Deps.seen c.args.self.now) _ c.into_iter-newborn-iterator.ensures.into_iter_gives.0 c.requires.sizes c.requires.may;
-  counted = counted_begins _ c.args.newborns.items c.into_iter-newborn-iterator.ensures.into_iter_gives.0 ?;
+  counted = counted_begins _ c.args.newborns.items c.into_iter-newborn-iterator.ensures.into_iter_gives.0 (search rules);
 }
 
 pub add_to_tree-requires : goal.add_to_tree-requires
