@@ -1,6 +1,6 @@
 -- The loops of a wave: bodies that go out, and parts that are put in.
-use Rattle.std.proofs.Common.{◌≡◌, ℕ, zero, suc, ◌+◌, ◌<◌, ◌≤◌, refl, sym, subst, ap, ◌∙◌, arith, List, [], ◌∷◌, ◌++◌, length, length-set, take, take_all, get_or, Some}
-use Rattle.std.specs.Prelude.{drop, slice_get}
+use Rattle.std.proofs.Common.{◌≡◌, ℕ, zero, suc, ◌+◌, ◌<◌, ◌≤◌, refl, sym, subst, ap, ◌∙◌, arith, List, [], ◌∷◌, ◌++◌, length, length-set, take, take_all, get_or, Result, Ok, Err, Some}
+use Rattle.std.specs.Prelude.{IfOk, OnOk, drop, slice_get}
 use Rattle.std.proofs.lemmas.Option.{slice_get_within}
 use Rattle.oss_model.specs.Order.{IsIn, here, there, written}
 use Rattle.oss_model.specs.Bodies.{Start}
@@ -184,3 +184,8 @@ lent_known code before k steppers bodies running are filled =
 -- the tasks that may act are there
 pub steppers_there : (code : CodeParts) (before : Kept) (steppers : List TaskNo) → IsRunning code before → AreSteppers before steppers → (v : TaskNo) → IsIn v steppers → v.0 < length before.tasks
 steppers_there code before steppers running are v i = let m = are.may v i in slice_get_within before.tasks v.0 m.held m.is
+
+-- what follows of an answer, whatever the answer is
+pub ok_after : {A E : Type 0} {F : A → Type 0} {U : Type 0} (r : Result A E) → ((x : A) → F x → U) → IfOk r F → OnOk r U
+ok_after (Ok x) f t = f x t
+ok_after (Err e) f t = tt

@@ -52,7 +52,7 @@ impl<D: Deps> Core<D> {
     ghost use Rattle.oss_core.specs.Turns.{HasWaved, IsMidway, KeepsTasks, Midway};
 
     /// One wave: the part of each of these tasks that may act, each over the memory at the beginning of the wave, and then put in one after the other in point order. The answer tells how many acts each
-    /// task made. Condition: the list has each task that is not complete, in point order. After want of memory the core is given up.
+    /// task made. Conditions: the list has each task that is not complete, in point order, and memory has at most 1,048,576 cells. After want of memory the core is given up.
     pub fn wave<W: Parts>(
         &mut self,
         code: &Code,
@@ -63,6 +63,7 @@ impl<D: Deps> Core<D> {
         requires running { IsRunning code.now (kept_of D.seen self.old) }
         requires left { AreLeft self.old.tree.tasks left.now }
         requires cells { length code.now.first ≤ 1048576 }
+        requires memory { length self.old.cells.items ≤ 1048576 }
         ensures waved { IfOk result (λ turns. HasWaved code.now (kept_of D.seen self.old) (kept_of D.seen self.new) turns.items) }
         ensures tasks { OnOk result (KeepsTasks self.old.tree.tasks self.new.tree.tasks) }
     {
