@@ -46,3 +46,11 @@ pub mod SteppersLemmas
 pub mod PlacedLemmas
 pub mod RemainingLemmas
 pub mod KnownLemmas
+pub mod WriteLemmas
+pub mod PutFacts
+pub mod AddLemmas
+pub mod PutLemmas
+pub mod FillLemmas
+pub mod MidwayLemmas
+pub mod NextLemmas
+pub mod WavingLemmas

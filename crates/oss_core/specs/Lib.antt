@@ -3,6 +3,7 @@ pub mod Moving
 pub mod Below
 pub mod Telling
 pub mod Printing
+pub mod Putting
 pub mod Kept
 pub mod Enabled
 pub mod Changes

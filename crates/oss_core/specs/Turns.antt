@@ -1,12 +1,14 @@
--- A wave as a core makes it: the parts of the tasks that may act, and what is told of them.
--- Read against: tasks 1 and 2, which may both act, and main, which waits. Task 1 stores 5 in x and ends, and task 2 prints and ends: the wave is told as two acts and a tick
--- of each, those of task 1 first, and their numbers are their numbers in the tree, where their points are 0.0 and 0.1.
-use Rattle.std.specs.Prelude.{◌≡◌, ◌≤◌, ℕ, ◌-◌, ◌^◌, min, List, [], ◌∷◌, length}
-use Rattle.oss_model.specs.Order.{written}
+-- A wave as a core makes it: the bodies of the tasks that may act go out, their parts come back, and are put in one after the other, in point order.
+-- Read against: tasks 1 and 2, which may both act, and main, which waits. Their bodies go out, others stand in their places meanwhile; the core is as before if each
+-- body is thought back into its place. Task 1 has stored 5 in x, and ended: then x is 5, and the tree knows that it has ended; the body of task 2 is still out.
+use Rattle.std.specs.Prelude.{◌≡◌, ◌<◌, ◌≤◌, ℕ, ◌-◌, ◌^◌, min, List, [], ◌∷◌, ◌++◌, length, map}
+use Rattle.oss_model.specs.Order.{IsIn, written}
 use Rattle.oss_model.specs.Bodies.{Start}
 use Rattle.oss_model.specs.Machine.{State}
+use Rattle.oss_model.specs.declared.task_no.TaskNo.{TaskNo}
+use Rattle.oss_rounds.specs.Alone.{IsInWave}
 use Rattle.oss_rounds.specs.Waves as waves
-use Rattle.oss_rounds.specs.Waves.{IsWave}
+use Rattle.oss_rounds.specs.Waves.{IsTurn, IsWave, TakeTurns}
 use Rattle.oss_code.specs.declared.code.CodeParts.{CodeParts}
 use Rattle.oss_machine.specs.Frames.{CodeScript}
 use Rattle.oss_machine.specs.Machines.{asks}
@@ -15,9 +17,12 @@ use Rattle.oss_body.specs.Relation.{IsBody}
 use Rattle.oss_tree.specs.declared.task.Task.{Task as TreeTask}
 use Rattle.oss_tree.specs.Tasks.{HasPoint}
 use Rattle.oss_part.specs.declared.segment.Segment.{Segment}
-use Rattle.oss_part.specs.Segments.{IsSegment}
+use Rattle.oss_part.specs.Segments.{IsKnown, IsSegment}
+use Rattle.oss_core.specs.declared.held.Held.{Held}
 use Rattle.oss_core.specs.declared.turns.Turn.{Turn}
 use Rattle.oss_core.specs.Kept.{IsCore, Kept}
+use Rattle.oss_core.specs.Putting.{HasBody}
+use Rattle.oss_core.specs.Steppers.{AreSteppers}
 
 -- The part is that of the body over this memory, whatever task it is the body of.
 abbrev pub IsPartOf : CodeParts → List ℕ → Body → Segment → Type 0
@@ -29,6 +34,28 @@ ArePartsOf code memory [] [] = Unit {0}
 ArePartsOf code memory (b ∷ bs) (s ∷ ss) = IsPartOf code memory b s × ArePartsOf code memory bs ss
 ArePartsOf code memory [] (s ∷ ss) = ⊥
 ArePartsOf code memory (b ∷ bs) [] = ⊥
+
+-- Each of these is the body of some task of the code.
+abbrev pub AreKnown : CodeParts → List Body → Type 0
+AreKnown code [] = Unit {0}
+AreKnown code (b ∷ bs) = IsKnown code b × AreKnown code bs
+
+-- The second list is the first with these bodies thought back into the places of these tasks.
+abbrev pub IsFilled : List TaskNo → List Body → List Held → List Held → Type 0
+IsFilled [] [] tasks filled = filled ≡ tasks
+IsFilled (v ∷ vs) (b ∷ bs) tasks filled = (mid : List Held) × IsFilled vs bs tasks mid × HasBody v.0 b mid filled
+IsFilled [] (b ∷ bs) tasks filled = ⊥
+IsFilled (v ∷ vs) [] tasks filled = ⊥
+
+-- What a core keeps, with these tasks.
+abbrev pub with_held : List Held → Kept → Kept
+with_held tasks k = record { tasks = tasks; tree = k.tree; seen = k.seen; cells = k.cells }
+
+-- All but the bodies of its tasks is as it was.
+pub record IsBeside (old new : Kept) : Type 0 where
+  pub tree : new.tree ≡ old.tree
+  pub seen : new.seen ≡ old.seen
+  pub cells : new.cells ≡ old.cells
 
 -- What was told of a turn is that turn: the task by its number and by its path, and its acts. The number of acts stays at its greatest value.
 pub record IsTold (tasks : List TreeTask) (one : Turn) (turn : waves.Turn) : Type 0 where
@@ -55,3 +82,36 @@ pub record KeepsTasks (old new : List TreeTask) : Type 0 where
 abbrev pub HasWaved : CodeParts → Kept → Kept → List Turn → Type 0
 HasWaved code old new told = (main : Start CodeScript) (first : List ℕ) (s : State CodeScript) → IsCore code main first old s
     → (n : State CodeScript) × (turns : List waves.Turn) × IsWave (asks code) s turns n × AreTold old.tree.tasks told turns × IsCore code main first new n
+
+-- In the midst of a wave that began where the core kept what stood before: the parts of some of the tasks that may act are put in, and those of these are left.
+pub record Midway (code : CodeParts) (main : Start CodeScript) (first : List ℕ) (s : State CodeScript) (before : Kept) (all left : List TaskNo) (parts : List Segment) (told : List Turn) (k : Kept) : Type 0 where
+  pub begun : IsCore code main first before s
+  pub steppers : AreSteppers before all
+  pub split : map (λ (t : Turn). t.task) told ++ left ≡ all
+  -- the bodies that are out, and the tasks with these in their places
+  pub bodies : List Body
+  pub parts_are : ArePartsOf code before.cells bodies parts
+  pub filled : List Held
+  pub filled_is : IsFilled left bodies k.tasks filled
+  -- the state for which the core would stand with them, which is one of the wave
+  pub state : State CodeScript
+  pub core : IsCore code main first (with_held filled k) state
+  pub alone : List ℕ → State CodeScript
+  pub wave : IsInWave (asks code) s alone state
+  -- the tasks whose parts are left have not acted
+  pub ahead : (v : TaskNo) → IsIn v left → (p : List ℕ) → HasPoint before.tree.tasks v.0 (written p) → alone p ≡ s
+  pub points : KeepsPoints before.tree.tasks k.tree.tasks
+  -- the turns so far
+  pub turns : List waves.Turn
+  pub taken : TakeTurns (asks code) s turns state
+  pub turns_are : (turn : waves.Turn) → IsIn turn turns → IsTurn (asks code) s turn
+  pub told_are : AreTold before.tree.tasks told turns
+
+-- In the midst of some wave.
+pub record IsMidway (all left : List TaskNo) (parts : List Segment) (told : List Turn) (k : Kept) : Type 0 where
+  pub code : CodeParts
+  pub main : Start CodeScript
+  pub first : List ℕ
+  pub s : State CodeScript
+  pub before : Kept
+  pub midway : Midway code main first s before all left parts told k

@@ -74,7 +74,7 @@ fn owed_by_all(alloc: Global, accesses: &[Access]) -> Result<RangeMap<Owed>, All
 }
 
 /// What a task with this body has of cells, at its start.
-fn share_of(alloc: Global, body: &Body) -> Result<Share, AllocError>
+pub(crate) fn share_of(alloc: Global, body: &Body) -> Result<Share, AllocError>
     ensures rights { IfOk result (λ share. (code : CodeParts) (start : Start CodeScript) (found : Items ℕ) → IsBody code start found body.now → (c : ℕ) → right_from false share.accesses c ≡ held_right (right_of start.context c)) }
     ensures rising { IfOk result (λ share. IsRising share.accesses) }
     ensures owed { IfOk result (λ share. (c : ℕ) → value_at share.owed.pieces c ≡ owed_by_access (access_at share.accesses c)) }
@@ -98,7 +98,7 @@ fn newborn_of(alloc: Global, code: &Code, before: &Held) -> Result<Newborn, Allo
 }
 
 /// Adds a task to the tree, which this one creates. Where it has no cells it has given up all of them.
-fn add_to_tree(tree: &mut Tree, creator: TaskNo, newborn: &Newborn) -> Result<TaskNo, AllocError>
+pub(crate) fn add_to_tree(tree: &mut Tree, creator: TaskNo, newborn: &Newborn) -> Result<TaskNo, AllocError>
     requires { MayCreate tree.old.tasks creator.0 }
     ensures number { IfOk result (λ task. task.0 ≡ length tree.old.tasks) }
     ensures tasks { OnOk result (tree.new.tasks ≡ noted_new newborn.now.accesses (length tree.old.tasks) (grown tree.old.tasks creator.0 (has_wait newborn.now.held.body))) }

@@ -13,6 +13,7 @@ mod machine;
 mod passing;
 mod ranges_given;
 mod remaining;
+mod putting;
 mod steppers;
 mod stepping;
 mod stopping;

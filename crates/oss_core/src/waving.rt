@@ -1,59 +1,119 @@
 //! Waves: the parts of all tasks that may act.
 
-ghost use Rattle.std.specs.Prelude.{◌≤◌, length, IfOk, OnOk};
-ghost use Rattle.oss_body.specs.declared.body.Body.{Body as Kept};
+ghost use Rattle.std.specs.Prelude.{◌≡◌, ◌≤◌, ◌<◌, ◌++◌, [], ℕ, length, IfOk, List as Items, OnOk};
+ghost use Rattle.oss_model.specs.Bodies.{Start};
+ghost use Rattle.oss_model.specs.Machine.{State};
 ghost use Rattle.oss_model.specs.Order.{IsIn};
+ghost use Rattle.oss_model.specs.declared.task_no.TaskNo.{TaskNo as Number};
+ghost use Rattle.oss_code.specs.declared.code.CodeParts.{CodeParts};
+ghost use Rattle.oss_machine.specs.Frames.{CodeScript};
+ghost use Rattle.oss_body.specs.declared.body.Body.{Body as Known};
 ghost use Rattle.oss_part.specs.Segments.{IsKnown};
-ghost use Rattle.oss_core.specs.Turns.{ArePartsOf};
+ghost use Rattle.oss_core.specs.Turns.{ArePartsOf, IsBeside, IsFilled};
 
 use crate::machine::Core;
+use crate::putting::put_body;
 use crate::turns::Turn;
-use oss_body::Body;
+use oss_body::{Body, main_body};
 use oss_code::Code;
 use oss_deps::Deps;
 use oss_model::TaskNo;
 use oss_part::Segment;
-use std::alloc::AllocError;
+use std::alloc::{AllocError, Global};
 
 /// Who makes the parts of a wave: on one thread, or on several.
 pub trait Parts {
-    /// The part of each of these bodies, over a memory that nobody changes meanwhile, in their order. Want of memory is the one error. Conditions: each
-    /// is a body, after some answers, of a task of this code; the memory has at most 1,048,576 cells.
+    /// The part of each of these bodies, over a memory that nobody changes meanwhile, in their order. Want of memory is the one error.
     fn parts(
         &self,
         code: &Code,
         memory: &[u64],
         bodies: Vec<Body>,
     ) -> Result<Vec<Segment>, AllocError>
-        requires known { (b : Kept) → IsIn b bodies.items → IsKnown code.now b }
+        requires known { (b : Known) → IsIn b bodies.items → IsKnown code.now b }
         requires room { length memory.now ≤ 1048576 }
         ensures { IfOk result (λ parts. ArePartsOf code.now memory.now bodies.items parts.items) };
 }
 
+/// A body that stands in the place of one that is out: one of those that have served before, or a new one.
+fn spare_of(alloc: Global, code: &Code, spares: &mut Vec<Body>) -> Result<Body, AllocError>
+    requires { length code.now.first ≤ 1048576 }
+    ensures { Unit {0} }
+{
+    match spares.pop() {
+        Some(spare) => Ok(spare),
+        None => main_body(alloc, code, 1),
+    }
+}
+
 impl<D: Deps> Core<D> {
     ghost use Rattle.oss_core.specs.Cores.{kept_of};
-    ghost use Rattle.oss_core.specs.Kept.{IsRunning};
+    ghost use Rattle.oss_core.specs.Kept.{IsRunning, Kept};
     ghost use Rattle.oss_core.specs.Left.{AreLeft};
-    ghost use Rattle.oss_core.specs.Turns.{HasWaved, KeepsTasks};
+    ghost use Rattle.oss_core.specs.Turns.{HasWaved, IsMidway, KeepsTasks, Midway};
 
-    /// One wave: the part of each of these tasks that may act, each over the memory at the beginning of the wave, and then put in one after the other in
-    /// point order. The answer tells how many acts each task made. Conditions: the list has each task that is not complete, in point order; code and
-    /// memory have at most 1,048,576 cells. After want of memory the core is given up.
-    // (a signature alone as yet: its body gives up)
+    /// One wave: the part of each of these tasks that may act, each over the memory at the beginning of the wave, and then put in one after the other in point order. The answer tells how many acts each
+    /// task made. Conditions: the list has each task that is not complete, in point order, and memory has at most 1,048,576 cells. After want of memory the core is given up.
     pub fn wave<W: Parts>(
         &mut self,
-        _code: &Code,
-        _work: &W,
-        _left: &[TaskNo],
-        _spares: &mut Vec<Body>,
+        code: &Code,
+        work: &W,
+        left: &[TaskNo],
+        spares: &mut Vec<Body>,
     ) -> Result<Vec<Turn>, AllocError>
-        requires running { IsRunning _code.now (kept_of D.seen self.old) }
-        requires left { AreLeft self.old.tree.tasks _left.now }
-        requires cells { length _code.now.first ≤ 1048576 }
+        requires running { IsRunning code.now (kept_of D.seen self.old) }
+        requires left { AreLeft self.old.tree.tasks left.now }
+        requires cells { length code.now.first ≤ 1048576 }
         requires room { length self.old.cells.items ≤ 1048576 }
-        ensures waved { IfOk result (λ turns. HasWaved _code.now (kept_of D.seen self.old) (kept_of D.seen self.new) turns.items) }
+        ensures waved { IfOk result (λ turns. HasWaved code.now (kept_of D.seen self.old) (kept_of D.seen self.new) turns.items) }
         ensures tasks { OnOk result (KeepsTasks self.old.tree.tasks self.new.tree.tasks) }
     {
-        Err(AllocError)
+        let steppers = self.steppers(left)?;
+        let bodies = self.lend(code, steppers.as_slice(), spares)?;
+        let parts = work.parts(code, self.cells.as_slice(), bodies)?;
+        self.put_all(steppers.as_slice(), parts, spares)
+    }
+
+    /// The bodies of these tasks go out, and others stand in their places meanwhile. After want of memory the core is given up.
+    fn lend(
+        &mut self,
+        code: &Code,
+        steppers: &[TaskNo],
+        spares: &mut Vec<Body>,
+    ) -> Result<Vec<Body>, AllocError>
+        requires there { (v : Number) → IsIn v steppers.now → v.0 < length self.old.tasks.items }
+        requires cells { length code.now.first ≤ 1048576 }
+        ensures out { IfOk result (λ bodies. IsFilled steppers.now bodies.items self.new.tasks.items self.old.tasks.items) }
+        ensures beside { OnOk result (IsBeside (kept_of D.seen self.old) (kept_of D.seen self.new)) }
+    {
+        let mut bodies = Vec::new(self.alloc);
+        for task in steppers {
+            let spare = spare_of(self.alloc, code, spares)?;
+            let body = put_body(&mut self.tasks, task.0 as usize, spare);
+            bodies.push(body)?;
+        }
+        Ok(bodies)
+    }
+
+    /// The parts of these tasks are put in, one after the other. After want of memory the core is given up.
+    fn put_all(
+        &mut self,
+        steppers: &[TaskNo],
+        parts: Vec<Segment>,
+        spares: &mut Vec<Body>,
+    ) -> Result<Vec<Turn>, AllocError>
+        requires { IsMidway steppers.now steppers.now parts.items [] (kept_of D.seen self.old) }
+        ensures { IfOk result (λ turns. (code : CodeParts) (main : Start CodeScript) (first : Items ℕ) (s : State CodeScript) (before : Kept) → Midway code main first s before steppers.now steppers.now parts.items [] (kept_of D.seen self.old) → Midway code main first s before steppers.now [] [] turns.items (kept_of D.seen self.new)) }
+    {
+        let mut turns = Vec::new(self.alloc);
+        let mut at: usize = 0;
+        for part in parts {
+            let task = steppers[at];
+            let acts = part.count;
+            self.put(task, part, spares)?;
+            turns.push(Turn { task, acts })?;
+            at += 1;
+        }
+        Ok(turns)
     }
 }
