@@ -45,19 +45,19 @@ filled_more [] [] tasks filled v x more l out h = ap (λ (ts : List Held). slice
 filled_more [] (b ∷ bs) tasks filled v x more l out h = absurd h
 filled_more (u ∷ us) [] tasks filled v x more l out h = absurd h
 filled_more (u ∷ us) (b ∷ bs) tasks filled v x more l out (mid, f, h) = (
-    slice_set mid v x ++ more,
-    filled_more us bs tasks mid v x more l (λ w i e. out w (there i) e) f,
-    record {
-      before = h.before;
-      was = before_is;
-      after = h.after;
-      body_is = h.body_is;
-      owed = h.owed;
-      tasks = ap (λ (ts : List Held). slice_set ts v x ++ more) h.tasks
-          ∙ ap (λ (ts : List Held). ts ++ more) (set_comm mid u.0 v h.after x (λ e. out u here (sym e)))
-          ∙ sym (set-append_left (slice_set mid v x) more u.0 h.after inside);
-    },
-  )
+  slice_set mid v x ++ more,
+  filled_more us bs tasks mid v x more l (λ w i e. out w (there i) e) f,
+  record {
+    before = h.before;
+    was = before_is;
+    after = h.after;
+    body_is = h.body_is;
+    owed = h.owed;
+    tasks = ap (λ (ts : List Held). slice_set ts v x ++ more) h.tasks
+        ∙ ap (λ (ts : List Held). ts ++ more) (set_comm mid u.0 v h.after x (λ e. out u here (sym e)))
+        ∙ sym (set-append_left (slice_set mid v x) more u.0 h.after inside);
+  },
+)
   where
     inside : u.0 < length (slice_set mid v x)
     inside = let a = slice_get_within mid u.0 h.before h.was in let c = length-set mid v x in omega (arith, a, c)

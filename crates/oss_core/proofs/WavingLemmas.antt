@@ -166,9 +166,9 @@ bodies_known code points [] [] tasks filled o there_ known h = tt
 bodies_known code points [] (b ∷ bs) tasks filled o there_ known h = absurd h
 bodies_known code points (v ∷ vs) [] tasks filled o there_ known h = absurd h
 bodies_known code points (v ∷ vs) (b ∷ bs) tasks filled o there_ known (mid, f, h) = (
-    subst (λ (x : Body). IsKnown code x) h.body_is (known v here h.after (ap (λ (ts : List Held). slice_get ts v.0) h.tasks ∙ get_set_same mid v.0 h.before h.after h.was)),
-    bodies_known code points vs bs tasks mid o.1 (λ u i. there_ u (there i)) (λ u i x e. known u (there i) x (ap (λ (ts : List Held). slice_get ts u.0) h.tasks ∙ get_set_other mid v.0 u.0 h.after (other u i) ∙ e)) f,
-  )
+  subst (λ (x : Body). IsKnown code x) h.body_is (known v here h.after (ap (λ (ts : List Held). slice_get ts v.0) h.tasks ∙ get_set_same mid v.0 h.before h.after h.was)),
+  bodies_known code points vs bs tasks mid o.1 (λ u i. there_ u (there i)) (λ u i x e. known u (there i) x (ap (λ (ts : List Held). slice_get ts u.0) h.tasks ∙ get_set_other mid v.0 u.0 h.after (other u i) ∙ e)) f,
+)
   where
     other : (u : TaskNo) → IsIn u vs → u.0 ≡ v.0 → ⊥
     other u i e =

@@ -98,7 +98,11 @@ fn newborn_of(alloc: Global, code: &Code, before: &Held) -> Result<Newborn, Allo
 }
 
 /// Adds a task to the tree, which this one creates. Where it has no cells it has given up all of them.
-pub(crate) fn add_to_tree(tree: &mut Tree, creator: TaskNo, newborn: &Newborn) -> Result<TaskNo, AllocError>
+pub(crate) fn add_to_tree(
+    tree: &mut Tree,
+    creator: TaskNo,
+    newborn: &Newborn,
+) -> Result<TaskNo, AllocError>
     requires { MayCreate tree.old.tasks creator.0 }
     ensures number { IfOk result (λ task. task.0 ≡ length tree.old.tasks) }
     ensures tasks { OnOk result (tree.new.tasks ≡ noted_new newborn.now.accesses (length tree.old.tasks) (grown tree.old.tasks creator.0 (has_wait newborn.now.held.body))) }
