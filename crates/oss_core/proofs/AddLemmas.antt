@@ -1,5 +1,5 @@
 -- Tasks that are added one after the other.
-use Rattle.std.proofs.Common.{◌≡◌, ◌≢◌, ℕ, suc, ◌+◌, ◌<◌, ◌≤◌, ◌⊎◌, inl, inr, refl, sym, subst, ap, ◌∙◌, arith, List, [], ◌∷◌, ◌++◌, append_assoc, length, length-set, length-append, Some, None}
+use Rattle.std.proofs.Common.{◌≡◌, ℕ, suc, ◌+◌, ◌≤◌, ◌⊎◌, inl, inr, refl, sym, subst, ap, ◌∙◌, arith, List, [], ◌∷◌, ◌++◌, append_assoc, length, length-set, length-append, Some, None}
 use Rattle.std.specs.Prelude.{slice_get}
 use Rattle.std.proofs.lemmas.List.{append-nil}
 use Rattle.oss_syntax.specs.declared.access.Access.{Access}
@@ -7,7 +7,7 @@ use Rattle.oss_body.specs.declared.body.Body.{Body}
 use Rattle.oss_body.specs.Relation.{has_wait}
 use Rattle.oss_tree.specs.declared.task.Task.{Task as TreeTask}
 use Rattle.oss_tree.specs.Tasks.{MayCreate, changed_to, created_by, given_task, grown}
-use Rattle.oss_deps.specs.Seen.{CanOpen, IsSame, Opens, Seen}
+use Rattle.oss_deps.specs.Seen.{CanOpen, Opens, Seen}
 use Rattle.oss_core.specs.declared.creating.Newborn.{Newborn}
 use Rattle.oss_core.specs.declared.held.Held.{Held}
 use Rattle.oss_core.specs.Changes.{noted_new}

@@ -1,21 +1,21 @@
 -- A wave that a core makes, one part after the other.
-use Rattle.std.proofs.Common.{◌≡◌, ◌≢◌, ℕ, ◌<◌, ◌≤◌, ◌⊎◌, inl, inr, refl, sym, subst, ap, ◌∙◌, arith, List, [], ◌∷◌, ◌++◌, append_assoc, length, length-set, map, Bool, true, false, Some}
+use Rattle.std.proofs.Common.{◌≡◌, ◌≢◌, ℕ, ◌<◌, ◌⊎◌, inl, inr, refl, sym, subst, ap, ◌∙◌, arith, List, [], ◌∷◌, ◌++◌, length, map, Bool, true, false, Some}
 use Rattle.std.specs.Prelude.{slice_get, slice_index, slice_set}
-use Rattle.std.proofs.lemmas.List.{append-nil, ext_get_or, set-set}
+use Rattle.std.proofs.lemmas.List.{ext_get_or, set-set}
 use Rattle.std.proofs.lemmas.Option.{slice_get_within}
-use Rattle.oss_model.specs.Order.{IsBefore, IsEarlierKey, IsIn, here, there, written}
+use Rattle.oss_model.specs.Order.{IsIn, here, there, written}
 use Rattle.oss_model.specs.Agreement.{Agrees, Setting}
 use Rattle.oss_model.specs.Bodies.{Program, Start}
 use Rattle.oss_model.specs.Machine.{At, State, Task}
-use Rattle.oss_model.specs.Moves.{CanStep, is_ended, opening}
+use Rattle.oss_model.specs.Moves.{CanStep, opening}
 use Rattle.oss_model.specs.Sequence.{Running}
 use Rattle.oss_model.specs.Sequence.Sequential.{opens}
 use Rattle.oss_model.specs.declared.task_no.TaskNo.{TaskNo}
 use Rattle.oss_model.proofs.AgreementTheorem.{every_state_agrees}
 use Rattle.oss_model.proofs.OrderLemmas.{before_not}
-use Rattle.oss_rounds.specs.Alone.{IsInWave, with_part}
+use Rattle.oss_rounds.specs.Alone.{with_part}
 use Rattle.oss_rounds.specs.AtOnce.{IsTaken, is_changed}
-use Rattle.oss_rounds.specs.Parts.{IsPart, stage_after}
+use Rattle.oss_rounds.specs.Parts.{IsPart}
 use Rattle.oss_rounds.specs.Waves as waves
 use Rattle.oss_rounds.specs.Waves.{AreInOrder, IsTurn, IsWave, TakeTurns, Takes, first_stage, no_turns, turn_first, wave_ticks}
 use Rattle.oss_rounds.proofs.WaveLemmas.{Taken, taken}
@@ -25,30 +25,26 @@ use Rattle.oss_machine.specs.Frames.{CodeScript}
 use Rattle.oss_machine.specs.Machines.{asks}
 use Rattle.oss_body.specs.declared.body.Body.{Body}
 use Rattle.oss_body.specs.Relation.{IsBody, has_wait, is_over}
-use Rattle.oss_ranges.specs.Cells.{value_at}
 use Rattle.oss_tree.specs.declared.task.Task.{Task as TreeTask}
-use Rattle.oss_tree.specs.Tasks.{HasPoint, grown, number}
+use Rattle.oss_tree.specs.Tasks.{HasPoint, grown}
 use Rattle.oss_tree.proofs.ListLemmas.{get_set_same}
 use Rattle.oss_part.specs.declared.segment.Segment.{Segment}
 use Rattle.oss_part.specs.Segments.{IsSegment}
 use Rattle.oss_core.specs.declared.creating.Newborn.{Newborn}
 use Rattle.oss_core.specs.declared.held.Held.{Held}
 use Rattle.oss_core.specs.declared.turns.Turn.{Turn}
-use Rattle.oss_core.specs.Changes.{noted}
-use Rattle.oss_core.specs.Enabled.{MayStep}
-use Rattle.oss_core.specs.Kept.{IsCore, IsHeld, Kept}
+use Rattle.oss_core.specs.Kept.{IsCore, Kept}
 use Rattle.oss_core.specs.Left.{AreInPointOrder}
-use Rattle.oss_core.specs.Putting.{AreNewborns, HasBody, IsPut, IsWritten, MayAdd, OpensAll, held_of, or_value, with_newborn, with_newborns, with_tasks}
-use Rattle.oss_core.specs.Steppers.{AreSteppers}
-use Rattle.oss_core.specs.Turns.{ArePartsOf, AreTold, IsFilled, IsMidway, IsPartOf, IsTold, KeepsPoints, Midway, with_held}
+use Rattle.oss_core.specs.Putting.{AreNewborns, HasBody, IsPut, IsWritten, MayAdd, OpensAll, held_of, with_newborn, with_newborns, with_tasks}
+use Rattle.oss_core.specs.Turns.{ArePartsOf, AreTold, IsFilled, IsPartOf, IsTold, KeepsPoints, Midway, with_held}
 use Rattle.oss_core.proofs.ActLemmas.{running}
 use Rattle.oss_core.proofs.CoreLemmas.{held_at}
-use Rattle.oss_core.proofs.ExactLemmas.{step_tells, step_told}
+use Rattle.oss_core.proofs.ExactLemmas.{step_told}
 use Rattle.oss_core.proofs.FillLemmas.{filled_more, filled_other, filled_size}
 use Rattle.oss_core.proofs.KeepLemmas.{some_is}
 use Rattle.oss_core.proofs.PutFacts.{point_grown, point_new, point_noted}
 use Rattle.oss_core.proofs.PutLemmas.{may_add, put_made}
-use Rattle.oss_core.proofs.TreeFacts.{one_path, point_of_path, sizes}
+use Rattle.oss_core.proofs.TreeFacts.{sizes}
 
 -- an element of the second of two lists is one of both together
 in_back : {A : Type 0} {x : A} (xs ys : List A) → IsIn x ys → IsIn x (xs ++ ys)

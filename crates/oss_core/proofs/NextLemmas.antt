@@ -1,5 +1,5 @@
 -- The parts of a wave, as a loop comes to them, and where all are put in.
-use Rattle.std.proofs.Common.{◌≡◌, ℕ, zero, suc, ◌+◌, ◌<◌, refl, sym, subst, ap, ◌∙◌, arith, List, [], ◌∷◌, ◌++◌, length, map, Some}
+use Rattle.std.proofs.Common.{◌≡◌, ℕ, zero, suc, ◌<◌, refl, sym, subst, ap, ◌∙◌, arith, List, [], ◌∷◌, ◌++◌, length, map, Some}
 use Rattle.std.specs.Prelude.{drop, slice_get}
 use Rattle.std.proofs.lemmas.List.{append-nil}
 use Rattle.oss_model.specs.Order.{IsBefore, IsEarlierKey, IsIn, here, there, written}
@@ -7,7 +7,6 @@ use Rattle.oss_model.specs.Bodies.{Start}
 use Rattle.oss_model.specs.Machine.{State, Task}
 use Rattle.oss_model.specs.Moves.{CanStep}
 use Rattle.oss_model.specs.declared.task_no.TaskNo.{TaskNo}
-use Rattle.oss_rounds.specs.Alone.{IsInWave}
 use Rattle.oss_rounds.specs.Waves as waves
 use Rattle.oss_rounds.specs.Waves.{AreInOrder, IsWave, no_turns}
 use Rattle.oss_rounds.proofs.WaveTheorem.{wave_begins}
@@ -21,12 +20,11 @@ use Rattle.oss_part.specs.declared.segment.Segment.{Segment}
 use Rattle.oss_core.specs.declared.creating.Newborn.{Newborn}
 use Rattle.oss_core.specs.declared.held.Held.{Held}
 use Rattle.oss_core.specs.declared.turns.Turn.{Turn}
-use Rattle.oss_core.specs.Enabled.{MayStep}
 use Rattle.oss_core.specs.Kept.{IsCore, Kept}
 use Rattle.oss_core.specs.Left.{AreInPointOrder}
 use Rattle.oss_core.specs.Putting.{AreNewborns, IsPut, IsWritten, MayAdd}
 use Rattle.oss_core.specs.Steppers.{AreSteppers}
-use Rattle.oss_core.specs.Turns.{ArePartsOf, AreTold, IsFilled, IsMidway, IsTold, Midway, with_held}
+use Rattle.oss_core.specs.Turns.{ArePartsOf, AreTold, IsFilled, IsMidway, Midway, with_held}
 use Rattle.oss_core.proofs.ExactLemmas.{step_tells}
 use Rattle.oss_core.proofs.KeepLemmas.{some_is}
 use Rattle.oss_core.proofs.MidwayLemmas.{part_may, part_put, part_sizes, part_there}

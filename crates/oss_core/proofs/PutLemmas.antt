@@ -1,5 +1,5 @@
 -- A whole part of a task, put into a core: its acts are made one after the other by the lemmas of single acts, over what a core would keep in between.
-use Rattle.std.proofs.Common.{◌≡◌, ℕ, zero, suc, ◌+◌, ◌<◌, ◌≤◌, ◌⊎◌, inl, inr, refl, sym, subst, ap, ◌∙◌, arith, List, [], ◌∷◌, ◌++◌, append_assoc, length, length-set, length-append, map, Bool, true, false, Some}
+use Rattle.std.proofs.Common.{◌≡◌, ℕ, zero, suc, ◌<◌, ◌≤◌, ◌⊎◌, inl, inr, refl, sym, subst, ap, ◌∙◌, arith, List, [], ◌∷◌, ◌++◌, append_assoc, length, length-set, map, Bool, true, false, Some}
 use Rattle.std.specs.Prelude.{◌&&◌, not, slice_get, slice_set}
 use Rattle.std.proofs.lemmas.List.{append-nil, set-set, set-append_left}
 use Rattle.std.proofs.lemmas.Option.{slice_get_within}
@@ -33,7 +33,6 @@ use Rattle.oss_body.specs.declared.body.Body.{Body}
 use Rattle.oss_body.specs.Acts.{act_seen, answer_to, creates, goes_on}
 use Rattle.oss_body.specs.Relation.{IsBody, has_wait, is_over, pending_of}
 use Rattle.oss_tree.specs.declared.output.Print.{Print}
-use Rattle.oss_tree.specs.declared.task.Task.{Task as TreeTask}
 use Rattle.oss_tree.specs.Tasks.{HasPoint, MayCreate, grown}
 use Rattle.oss_tree.proofs.ListLemmas.{get_set_other, get_set_same, longer_by}
 use Rattle.oss_deps.specs.Seen.{CanOpen, Opens, Seen}

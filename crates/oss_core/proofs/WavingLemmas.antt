@@ -1,5 +1,5 @@
 -- The loops of a wave: bodies that go out, and parts that are put in.
-use Rattle.std.proofs.Common.{◌≡◌, ℕ, zero, suc, ◌+◌, ◌<◌, ◌≤◌, refl, sym, subst, ap, ◌∙◌, arith, List, [], ◌∷◌, ◌++◌, length, length-set, take, take_all, get_or, Result, Ok, Err, Some}
+use Rattle.std.proofs.Common.{◌≡◌, ℕ, zero, suc, ◌+◌, ◌<◌, ◌≤◌, refl, sym, subst, ap, ◌∙◌, arith, List, [], ◌∷◌, ◌++◌, length, take, take_all, get_or, Result, Ok, Err, Some}
 use Rattle.std.specs.Prelude.{IfOk, OnOk, drop, slice_get}
 use Rattle.std.proofs.lemmas.Option.{slice_get_within}
 use Rattle.oss_model.specs.Order.{IsIn, here, there, written}
@@ -11,6 +11,7 @@ use Rattle.oss_machine.specs.Frames.{CodeScript}
 use Rattle.oss_body.specs.declared.body.Body.{Body}
 use Rattle.oss_model.proofs.OrderLemmas.{before_not}
 use Rattle.oss_tree.specs.declared.task.Task.{Task as TreeTask}
+use Rattle.oss_tree.specs.Tasks as tree
 use Rattle.oss_tree.specs.Tasks.{HasPoint}
 use Rattle.oss_tree.proofs.ListLemmas.{get_set_other, get_set_same, there_is}
 use Rattle.oss_part.specs.declared.segment.Segment.{Segment}
@@ -18,11 +19,11 @@ use Rattle.oss_part.specs.Segments.{IsKnown}
 use Rattle.oss_core.specs.declared.creating.Newborn.{Newborn}
 use Rattle.oss_core.specs.declared.held.Held.{Held}
 use Rattle.oss_core.specs.declared.turns.Turn.{Turn}
-use Rattle.oss_core.specs.Kept.{IsCore, IsRunning, Kept}
+use Rattle.oss_core.specs.Kept.{IsRunning, Kept}
 use Rattle.oss_core.specs.Left.{AreInPointOrder}
 use Rattle.oss_core.specs.Putting.{AreNewborns, HasBody, IsPut, IsWritten}
 use Rattle.oss_core.specs.Steppers.{AreSteppers}
-use Rattle.oss_core.specs.Turns.{AreKnown, ArePartsOf, HasWaved, IsBeside, IsFilled, IsMidway, KeepsPoints, KeepsTasks, Midway}
+use Rattle.oss_core.specs.Turns.{ArePartsOf, AwaitsParts, HasLent, HasWaved, IsBeside, IsFilled, IsMidway, KeepsPoints, KeepsTasks, Midway}
 use Rattle.oss_core.proofs.FillLemmas.{body_back, filled_behind, filled_size}
 use Rattle.oss_core.proofs.ExactLemmas.{body_of, step_told}
 use Rattle.oss_core.proofs.NextLemmas.{HasNext, has_next, one_put, wave_begun, wave_made}
@@ -124,7 +125,7 @@ parts_end steppers parts start at rest told now h e code main first s before m =
     subst (λ (vs : List TaskNo). Midway code main first s before steppers vs [] told now) (none_left code before.cells (drop at steppers) n.bodies now.tasks n.filled n.parts_are n.filled_is) n
 
 -- a wave that has begun
-pub midway_begun : (code : CodeParts) (before k : Kept) (steppers : List TaskNo) (bodies : List Body) (parts : List Segment) → IsRunning code before → AreSteppers before steppers → IsFilled steppers bodies k.tasks before.tasks → IsBeside before k → ArePartsOf code before.cells bodies parts
+midway_begun : (code : CodeParts) (before k : Kept) (steppers : List TaskNo) (bodies : List Body) (parts : List Segment) → IsRunning code before → AreSteppers before steppers → IsFilled steppers bodies k.tasks before.tasks → IsBeside before k → ArePartsOf code before.cells bodies parts
     → IsMidway steppers steppers parts [] k
 midway_begun code before k steppers bodies parts running are filled beside parts_are = record {
   code = code;
@@ -136,7 +137,7 @@ midway_begun code before k steppers bodies parts running are filled beside parts
 }
 
 -- and has ended
-pub waved : (code : CodeParts) (before k new : Kept) (steppers : List TaskNo) (bodies : List Body) (parts : List Segment) (told : List Turn) → AreSteppers before steppers → IsFilled steppers bodies k.tasks before.tasks → IsBeside before k → ArePartsOf code before.cells bodies parts
+waved : (code : CodeParts) (before k new : Kept) (steppers : List TaskNo) (bodies : List Body) (parts : List Segment) (told : List Turn) → AreSteppers before steppers → IsFilled steppers bodies k.tasks before.tasks → IsBeside before k → ArePartsOf code before.cells bodies parts
     → ((c : CodeParts) (main : Start CodeScript) (first : List ℕ) (s : State CodeScript) (b : Kept) → Midway c main first s b steppers steppers parts [] k → Midway c main first s b steppers [] [] told new) → HasWaved code before new told
 waved code before k new steppers bodies parts told are filled beside parts_are ends main first s core =
     wave_made code main first s before steppers told new (ends code main first s before (wave_begun code main first s before k steppers bodies parts core are filled beside.tree beside.seen beside.cells parts_are))
@@ -153,11 +154,16 @@ points_more old new keeps = go (length old) refl
         let l = slice_get_within new n h.task h.at_ in
         omega (arith, l)
 
-pub keeps_tasks_after : (code : CodeParts) (before k new : Kept) (steppers : List TaskNo) (bodies : List Body) (parts : List Segment) (told : List Turn) → IsRunning code before → AreSteppers before steppers → IsFilled steppers bodies k.tasks before.tasks → IsBeside before k → ArePartsOf code before.cells bodies parts
+keeps_tasks_after : (code : CodeParts) (before k new : Kept) (steppers : List TaskNo) (bodies : List Body) (parts : List Segment) (told : List Turn) → IsRunning code before → AreSteppers before steppers → IsFilled steppers bodies k.tasks before.tasks → IsBeside before k → ArePartsOf code before.cells bodies parts
     → ((c : CodeParts) (main : Start CodeScript) (first : List ℕ) (s : State CodeScript) (b : Kept) → Midway c main first s b steppers steppers parts [] k → Midway c main first s b steppers [] [] told new) → KeepsTasks before.tree.tasks new.tree.tasks
 keeps_tasks_after code before k new steppers bodies parts told running are filled beside parts_are ends =
     let m = ends code running.main running.first running.state before (wave_begun code running.main running.first running.state before k steppers bodies parts running.core are filled beside.tree beside.seen beside.cells parts_are) in
     record { points = m.points; more = points_more before.tree.tasks new.tree.tasks m.points }
+
+-- each of these is the body of some task of the code
+abbrev AreKnown : CodeParts → List Body → Type 0
+AreKnown code [] = Unit {0}
+AreKnown code (b ∷ bs) = IsKnown code b × AreKnown code bs
 
 -- the bodies that go out are those of tasks of the code
 bodies_known : (code : CodeParts) (points : List TreeTask) (vs : List TaskNo) (bs : List Body) (tasks filled : List Held) → AreInPointOrder points vs → ((v : TaskNo) → IsIn v vs → (q : List ℕ) × HasPoint points v.0 q) → ((v : TaskNo) → IsIn v vs → (h : Held) → slice_get filled v.0 ≡ Some h → IsKnown code h.body)
@@ -175,16 +181,43 @@ bodies_known code points (v ∷ vs) (b ∷ bs) tasks filled o there_ known (mid,
         let p = there_ v here in
         before_not (o.0 u i p.0 p.0 p.1 (subst (λ (n : ℕ). HasPoint points n p.0) (sym e) p.1)) refl
 
-pub lent_known : (code : CodeParts) (before k : Kept) (steppers : List TaskNo) (bodies : List Body) → IsRunning code before → AreSteppers before steppers → IsFilled steppers bodies k.tasks before.tasks → AreKnown code bodies
+lent_known : (code : CodeParts) (before k : Kept) (steppers : List TaskNo) (bodies : List Body) → IsRunning code before → AreSteppers before steppers → IsFilled steppers bodies k.tasks before.tasks → AreKnown code bodies
 lent_known code before k steppers bodies running are filled =
     bodies_known code before.tree.tasks steppers bodies k.tasks before.tasks are.ordered
     (λ v i. let r = step_told running.core v.0 (are.may v i) in (written r.0, r.2))
     (λ v i h e. let x = body_of running.core v.0 h e in ∣ (x.body.start, x.body.found, x.is_held.body_is) ∣₁) filled
 
-pub known_in : (code : CodeParts) (bs : List Body) → AreKnown code bs → (b : Body) → IsIn b bs → IsKnown code b
+known_in : (code : CodeParts) (bs : List Body) → AreKnown code bs → (b : Body) → IsIn b bs → IsKnown code b
 known_in code [] h b i = elim i [ ]
 known_in code (c ∷ bs) h b here = h.0
 known_in code (c ∷ bs) h b (there i) = known_in code bs h.1 b i
+
+-- the bodies have gone out
+pub lent : (code : CodeParts) (before k : Kept) (steppers : List TaskNo) (bodies : List Body) → IsRunning code before → AreSteppers before steppers → IsFilled steppers bodies k.tasks before.tasks → IsBeside before k → HasLent code before k steppers bodies
+lent code before k steppers bodies running are filled beside = record {
+  are_steppers = are;
+  filled = filled;
+  beside = beside;
+  known = known_in code bodies (lent_known code before k steppers bodies running are filled);
+}
+
+-- a core that awaits the parts of a wave is at its beginning
+running_before : {code : CodeParts} {before k : Kept} {steppers : List TaskNo} {parts : List Segment} → AwaitsParts code before k steppers parts → IsRunning code before
+running_before h = record { main = h.main; first = h.first; state = h.state; core = h.core }
+
+pub awaited_midway : (code : CodeParts) (before k : Kept) (steppers : List TaskNo) (parts : List Segment) → AwaitsParts code before k steppers parts → IsMidway steppers steppers parts [] k
+awaited_midway code before k steppers parts h = midway_begun code before k steppers h.bodies parts (running_before h) h.lent.are_steppers h.lent.filled h.lent.beside h.parts_are
+
+-- and then the wave is made
+pub awaited_waved : (code : CodeParts) (before k new : Kept) (steppers : List TaskNo) (parts : List Segment) (told : List Turn) → AwaitsParts code before k steppers parts
+    → ((c : CodeParts) (main : Start CodeScript) (first : List ℕ) (s : State CodeScript) (b : Kept) → Midway c main first s b steppers steppers parts [] k → Midway c main first s b steppers [] [] told new) → HasWaved code before new told
+awaited_waved code before k new steppers parts told h ends = waved code before k new steppers h.bodies parts told h.lent.are_steppers h.lent.filled h.lent.beside h.parts_are ends
+
+pub awaited_kept : (code : CodeParts) (before k new : Kept) (steppers : List TaskNo) (parts : List Segment) (told : List Turn) → AwaitsParts code before k steppers parts
+    → ((c : CodeParts) (main : Start CodeScript) (first : List ℕ) (s : State CodeScript) (b : Kept) → Midway c main first s b steppers steppers parts [] k → Midway c main first s b steppers [] [] told new) → KeepsTasks k.tree.tasks new.tree.tasks
+awaited_kept code before k new steppers parts told h ends =
+    subst (λ (ts : List TreeTask). KeepsTasks ts new.tree.tasks) (sym (ap (λ (t : tree.Kept). t.tasks) h.lent.beside.tree))
+    (keeps_tasks_after code before k new steppers h.bodies parts told (running_before h) h.lent.are_steppers h.lent.filled h.lent.beside h.parts_are ends)
 
 -- the tasks that may act are there
 pub steppers_there : (code : CodeParts) (before : Kept) (steppers : List TaskNo) → IsRunning code before → AreSteppers before steppers → (v : TaskNo) → IsIn v steppers → v.0 < length before.tasks

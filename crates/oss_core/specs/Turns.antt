@@ -1,7 +1,7 @@
 -- A wave as a core makes it: the bodies of the tasks that may act go out, their parts come back, and are put in one after the other, in point order.
 -- Read against: tasks 1 and 2, which may both act, and main, which waits. Their bodies go out, others stand in their places meanwhile; the core is as before if each
 -- body is thought back into its place. Task 1 has stored 5 in x, and ended: then x is 5, and the tree knows that it has ended; the body of task 2 is still out.
-use Rattle.std.specs.Prelude.{◌≡◌, ◌<◌, ◌≤◌, ℕ, ◌-◌, ◌^◌, min, List, [], ◌∷◌, ◌++◌, length, map}
+use Rattle.std.specs.Prelude.{◌≡◌, ◌≤◌, ℕ, ◌-◌, ◌^◌, min, List, [], ◌∷◌, ◌++◌, length, map}
 use Rattle.oss_model.specs.Order.{IsIn, written}
 use Rattle.oss_model.specs.Bodies.{Start}
 use Rattle.oss_model.specs.Machine.{State}
@@ -35,11 +35,6 @@ ArePartsOf code memory (b ∷ bs) (s ∷ ss) = IsPartOf code memory b s × ArePa
 ArePartsOf code memory [] (s ∷ ss) = ⊥
 ArePartsOf code memory (b ∷ bs) [] = ⊥
 
--- Each of these is the body of some task of the code.
-abbrev pub AreKnown : CodeParts → List Body → Type 0
-AreKnown code [] = Unit {0}
-AreKnown code (b ∷ bs) = IsKnown code b × AreKnown code bs
-
 -- The second list is the first with these bodies thought back into the places of these tasks.
 abbrev pub IsFilled : List TaskNo → List Body → List Held → List Held → Type 0
 IsFilled [] [] tasks filled = filled ≡ tasks
@@ -56,6 +51,13 @@ pub record IsBeside (old new : Kept) : Type 0 where
   pub tree : new.tree ≡ old.tree
   pub seen : new.seen ≡ old.seen
   pub cells : new.cells ≡ old.cells
+
+-- The bodies of the tasks that may act have gone out: with these, the core is as it was. Each is a body, after some answers, of a task of the code.
+pub record HasLent (code : CodeParts) (old new : Kept) (steppers : List TaskNo) (bodies : List Body) : Type 0 where
+  pub are_steppers : AreSteppers old steppers
+  pub filled : IsFilled steppers bodies new.tasks old.tasks
+  pub beside : IsBeside old new
+  pub known : (b : Body) → IsIn b bodies → IsKnown code b
 
 -- What was told of a turn is that turn: the task by its number and by its path, and its acts. The number of acts stays at its greatest value.
 pub record IsTold (tasks : List TreeTask) (one : Turn) (turn : waves.Turn) : Type 0 where
@@ -82,6 +84,16 @@ pub record KeepsTasks (old new : List TreeTask) : Type 0 where
 abbrev pub HasWaved : CodeParts → Kept → Kept → List Turn → Type 0
 HasWaved code old new told = (main : Start CodeScript) (first : List ℕ) (s : State CodeScript) → IsCore code main first old s
     → (n : State CodeScript) × (turns : List waves.Turn) × IsWave (asks code) s turns n × AreTold old.tree.tasks told turns × IsCore code main first new n
+
+-- The bodies are out since the core kept what stood before, and these are their parts over its memory.
+pub record AwaitsParts (code : CodeParts) (before k : Kept) (steppers : List TaskNo) (parts : List Segment) : Type 0 where
+  pub main : Start CodeScript
+  pub first : List ℕ
+  pub state : State CodeScript
+  pub core : IsCore code main first before state
+  pub bodies : List Body
+  pub lent : HasLent code before k steppers bodies
+  pub parts_are : ArePartsOf code before.cells bodies parts
 
 -- In the midst of a wave that began where the core kept what stood before: the parts of some of the tasks that may act are put in, and those of these are left.
 pub record Midway (code : CodeParts) (main : Start CodeScript) (first : List ℕ) (s : State CodeScript) (before : Kept) (all left : List TaskNo) (parts : List Segment) (told : List Turn) (k : Kept) : Type 0 where

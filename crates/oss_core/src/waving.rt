@@ -21,18 +21,11 @@ use oss_model::TaskNo;
 use oss_part::Segment;
 use std::alloc::{AllocError, Global};
 
-/// Who makes the parts of a wave: on one thread, or on several.
-pub trait Parts {
-    /// The part of each of these bodies, over a memory that nobody changes meanwhile, in their order. Want of memory is the one error.
-    fn parts(
-        &self,
-        code: &Code,
-        memory: &[u64],
-        bodies: Vec<Body>,
-    ) -> Result<Vec<Segment>, AllocError>
-        requires known { (b : Known) → IsIn b bodies.items → IsKnown code.now b }
-        requires room { length memory.now ≤ 1048576 }
-        ensures { IfOk result (λ parts. ArePartsOf code.now memory.now bodies.items parts.items) };
+/// The bodies that are out in a wave, with the tasks that they are of, in point order.
+#[derive(Drop)]
+pub struct Lent {
+    pub steppers: Vec<TaskNo>,
+    pub bodies: Vec<Body>,
 }
 
 /// A body that stands in the place of one that is out: one of those that have served before, or a new one.
@@ -50,28 +43,39 @@ impl<D: Deps> Core<D> {
     ghost use Rattle.oss_core.specs.Cores.{kept_of};
     ghost use Rattle.oss_core.specs.Kept.{IsRunning, Kept};
     ghost use Rattle.oss_core.specs.Left.{AreLeft};
-    ghost use Rattle.oss_core.specs.Turns.{HasWaved, IsMidway, KeepsTasks, Midway};
+    ghost use Rattle.oss_core.specs.Turns.{AwaitsParts, HasLent, HasWaved, IsMidway, KeepsTasks, Midway};
 
-    /// One wave: the part of each of these tasks that may act, each over the memory at the beginning of the wave, and then put in one after the other in point order. The answer tells how many acts each
-    /// task made. Conditions: the list has each task that is not complete, in point order, and memory has at most 1,048,576 cells. After want of memory the core is given up.
-    pub fn wave<W: Parts>(
+    /// A wave begins: the bodies of those of these tasks that may act go out, and spare ones stand in their places until `end_wave`. Conditions: the list has each
+    /// task that is not complete, in point order; the code has at most 1,048,576 cells. After want of memory the core is given up.
+    pub fn begin_wave(
         &mut self,
         code: &Code,
-        work: &W,
         left: &[TaskNo],
         spares: &mut Vec<Body>,
-    ) -> Result<Vec<Turn>, AllocError>
+    ) -> Result<Lent, AllocError>
         requires running { IsRunning code.now (kept_of D.seen self.old) }
         requires left { AreLeft self.old.tree.tasks left.now }
         requires cells { length code.now.first ≤ 1048576 }
-        requires room { length self.old.cells.items ≤ 1048576 }
-        ensures waved { IfOk result (λ turns. HasWaved code.now (kept_of D.seen self.old) (kept_of D.seen self.new) turns.items) }
-        ensures tasks { OnOk result (KeepsTasks self.old.tree.tasks self.new.tree.tasks) }
+        ensures { IfOk result (λ lent. HasLent code.now (kept_of D.seen self.old) (kept_of D.seen self.new) lent.steppers.items lent.bodies.items) }
     {
         let steppers = self.steppers(left)?;
         let bodies = self.lend(code, steppers.as_slice(), spares)?;
-        let parts = work.parts(code, self.cells.as_slice(), bodies)?;
-        self.put_all(steppers.as_slice(), parts, spares)
+        Ok(Lent { steppers, bodies })
+    }
+
+    /// The wave ends: the parts of these tasks are put in, one after the other in point order. The answer tells how many acts each task made. Condition: these
+    /// are the parts of the bodies that are out, over the memory of the core. After want of memory the core is given up.
+    pub fn end_wave(
+        &mut self,
+        steppers: &[TaskNo],
+        parts: Vec<Segment>,
+        spares: &mut Vec<Body>,
+    ) -> Result<Vec<Turn>, AllocError>
+        requires { (code : CodeParts) × (before : Kept) × AwaitsParts code before (kept_of D.seen self.old) steppers.now parts.items }
+        ensures waved { IfOk result (λ turns. (code : CodeParts) (before : Kept) → AwaitsParts code before (kept_of D.seen self.old) steppers.now parts.items → HasWaved code before (kept_of D.seen self.new) turns.items) }
+        ensures tasks { OnOk result (KeepsTasks self.old.tree.tasks self.new.tree.tasks) }
+    {
+        self.put_all(steppers, parts, spares)
     }
 
     /// The bodies of these tasks go out, and others stand in their places meanwhile. After want of memory the core is given up.

@@ -1,4 +1,4 @@
-use Rattle.std.proofs.Common.{◌≡◌, ◌≤◌, ℕ, Some, arith, subst}
+use Rattle.std.proofs.Common.{◌≡◌, ℕ, Some, arith, subst}
 use Rattle.oss_core.specs.Putting.{IsRunPut}
 use Rattle.oss_core.proofs.WriteLemmas.{more_put, none_put}
 use Rattle.oss_core.proofs.putting.fill.Goals as goal

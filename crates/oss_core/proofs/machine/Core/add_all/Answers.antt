@@ -1,6 +1,5 @@
 use Rattle.std.proofs.Common.{refl, rules}
 use Rattle.oss_core.specs.Cores.{kept_of}
-use Rattle.oss_core.specs.Kept.{Kept}
 use Rattle.std.specs.Vec.Iter.{into_iter_items}
 use Rattle.oss_core.proofs.AddLemmas.{adding_begins, adding_more, adding_opens, adding_room, all_added, counted_begins, counted_next, nothing_left}
 use Rattle.oss_core.proofs.machine.Core.add_all.Goals as goal

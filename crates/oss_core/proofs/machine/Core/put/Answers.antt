@@ -1,4 +1,4 @@
-use Rattle.std.proofs.Common.{◌≡◌, ◌∙◌, ◌++◌, ℕ, List, ap, arith, length, length-set, refl, subst, sym}
+use Rattle.std.proofs.Common.{◌∙◌, ◌++◌, ℕ, List, ap, arith, length, length-set, refl, subst, sym}
 use Rattle.oss_tree.specs.declared.output.Print.{Print}
 use Rattle.oss_core.specs.Kept.{Kept}
 use Rattle.oss_core.specs.Cores.{kept_of}

@@ -1,9 +1,8 @@
-use Rattle.std.proofs.Common.{◌<◌, ℕ, get_or, length, rules, subst}
+use Rattle.std.proofs.Common.{◌<◌, get_or, length, rules, subst}
 use Rattle.std.specs.Vec.Iter.{into_iter_items}
 use Rattle.oss_model.specs.declared.task_no.TaskNo.{TaskNo}
-use Rattle.oss_core.specs.declared.creating.Newborn.{Newborn}
 use Rattle.oss_core.specs.Cores.{kept_of}
-use Rattle.oss_core.specs.Putting.{AreNewborns, MayAdd}
+use Rattle.oss_core.specs.Putting.{MayAdd}
 use Rattle.oss_core.proofs.AddLemmas.{counted_begins, counted_next, nothing_left}
 use Rattle.oss_core.proofs.NextLemmas.{next_is, next_within}
 use Rattle.oss_core.proofs.WavingLemmas.{get_at, part_next, parts_begin, parts_end, parts_more}

@@ -1,4 +1,4 @@
-use Rattle.std.proofs.Common.{◌≡◌, ◌∙◌, refl, sym, subst, drop, List, [], length}
+use Rattle.std.proofs.Common.{◌∙◌, refl, sym, subst, drop, List}
 use Rattle.std.proofs.lemmas.List.{drop_all}
 use Rattle.oss_model.specs.declared.task_no.TaskNo.{TaskNo}
 use Rattle.oss_core.specs.Cores.{kept_of}
