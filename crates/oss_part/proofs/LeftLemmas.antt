@@ -1,6 +1,6 @@
 -- Behind each act of its part less is left to do for a body.
-use Rattle.std.proofs.Common.{◌≡◌, ◌≢◌, ℕ, ◌<◌, ◌⊎◌, inl, inr, refl, List, [], ◌∷◌, arith, Bool, true, false}
-use Rattle.oss_model.specs.Bodies.{Act, Body, IsHalt, Order, Start, stage_act}
+use Rattle.std.proofs.Common.{◌≡◌, ◌≢◌, ℕ, ◌<◌, ◌⊎◌, inl, inr, refl, List, [], ◌∷◌, arith, false}
+use Rattle.oss_model.specs.Bodies.{Act, IsHalt, Order, Start, stage_act}
 use Rattle.oss_model.specs.Bodies.Act.{Created}
 use Rattle.oss_model.specs.Machine.{Task}
 use Rattle.oss_model.proofs.PotentialLemmas.{creation_falls}
