@@ -14,4 +14,5 @@ pub mod Stops
 pub mod Left
 pub mod Passing
 pub mod Remaining
+pub mod Steppers
 pub mod Turns

@@ -1,10 +1,11 @@
 -- A wave as a core makes it: the parts of the tasks that may act, and what is told of them.
 -- Read against: tasks 1 and 2, which may both act, and main, which waits. Task 1 stores 5 in x and ends, and task 2 prints and ends: the wave is told as two acts and a tick
 -- of each, those of task 1 first, and their numbers are their numbers in the tree, where their points are 0.0 and 0.1.
-use Rattle.std.specs.Prelude.{◌≡◌, ◌≤◌, ℕ, ◌-◌, ◌^◌, min, List, [], ◌∷◌, length}
-use Rattle.oss_model.specs.Order.{written}
+use Rattle.std.specs.Prelude.{◌≡◌, ◌≤◌, ℕ, ◌-◌, ◌^◌, min, List, [], ◌∷◌, length, Some, slice_get, slice_set}
+use Rattle.oss_model.specs.Order.{IsIn, written}
 use Rattle.oss_model.specs.Bodies.{Start}
 use Rattle.oss_model.specs.Machine.{State}
+use Rattle.oss_model.specs.declared.task_no.TaskNo.{TaskNo}
 use Rattle.oss_rounds.specs.Waves as waves
 use Rattle.oss_rounds.specs.Waves.{IsWave}
 use Rattle.oss_code.specs.declared.code.CodeParts.{CodeParts}
@@ -15,9 +16,11 @@ use Rattle.oss_body.specs.Relation.{IsBody}
 use Rattle.oss_tree.specs.declared.task.Task.{Task as TreeTask}
 use Rattle.oss_tree.specs.Tasks.{HasPoint}
 use Rattle.oss_part.specs.declared.segment.Segment.{Segment}
-use Rattle.oss_part.specs.Segments.{IsSegment}
+use Rattle.oss_part.specs.Segments.{IsKnown, IsSegment}
+use Rattle.oss_core.specs.declared.held.Held.{Held}
 use Rattle.oss_core.specs.declared.turns.Turn.{Turn}
 use Rattle.oss_core.specs.Kept.{IsCore, Kept}
+use Rattle.oss_core.specs.Steppers.{AreSteppers}
 
 -- The part is that of the body over this memory, whatever task it is the body of.
 abbrev pub IsPartOf : CodeParts → List ℕ → Body → Segment → Type 0
@@ -29,6 +32,35 @@ ArePartsOf code memory [] [] = Unit {0}
 ArePartsOf code memory (b ∷ bs) (s ∷ ss) = IsPartOf code memory b s × ArePartsOf code memory bs ss
 ArePartsOf code memory [] (s ∷ ss) = ⊥
 ArePartsOf code memory (b ∷ bs) [] = ⊥
+
+-- The body of one task is this one now, and what it owes is as before.
+pub record HasBody (v : ℕ) (body : Body) (old new : List Held) : Type 0 where
+  pub before : Held
+  pub was : slice_get old v ≡ Some before
+  pub after : Held
+  pub body_is : after.body ≡ body
+  pub owed : after.owed.pieces ≡ before.owed.pieces
+  pub tasks : new ≡ slice_set old v after
+
+-- The second list is the first with these bodies thought back into the places of these tasks.
+abbrev pub IsFilled : List TaskNo → List Body → List Held → List Held → Type 0
+IsFilled [] [] tasks filled = filled ≡ tasks
+IsFilled (v ∷ vs) (b ∷ bs) tasks filled = (mid : List Held) × IsFilled vs bs tasks mid × HasBody v.0 b mid filled
+IsFilled [] (b ∷ bs) tasks filled = ⊥
+IsFilled (v ∷ vs) [] tasks filled = ⊥
+
+-- All but the bodies of its tasks is as it was.
+pub record IsBeside (old new : Kept) : Type 0 where
+  pub tree : new.tree ≡ old.tree
+  pub seen : new.seen ≡ old.seen
+  pub cells : new.cells ≡ old.cells
+
+-- The bodies of the tasks that may act have gone out: with these, the core is as it was. Each is a body, after some answers, of a task of the code.
+pub record HasLent (code : CodeParts) (old new : Kept) (steppers : List TaskNo) (bodies : List Body) : Type 0 where
+  pub are_steppers : AreSteppers old steppers
+  pub filled : IsFilled steppers bodies new.tasks old.tasks
+  pub beside : IsBeside old new
+  pub known : (b : Body) → IsIn b bodies → IsKnown code b
 
 -- What was told of a turn is that turn: the task by its number and by its path, and its acts. The number of acts stays at its greatest value.
 pub record IsTold (tasks : List TreeTask) (one : Turn) (turn : waves.Turn) : Type 0 where
@@ -55,3 +87,13 @@ pub record KeepsTasks (old new : List TreeTask) : Type 0 where
 abbrev pub HasWaved : CodeParts → Kept → Kept → List Turn → Type 0
 HasWaved code old new told = (main : Start CodeScript) (first : List ℕ) (s : State CodeScript) → IsCore code main first old s
     → (n : State CodeScript) × (turns : List waves.Turn) × IsWave (asks code) s turns n × AreTold old.tree.tasks told turns × IsCore code main first new n
+
+-- The bodies are out since the core kept what stood before, and these are their parts over its memory.
+pub record AwaitsParts (code : CodeParts) (before k : Kept) (steppers : List TaskNo) (parts : List Segment) : Type 0 where
+  pub main : Start CodeScript
+  pub first : List ℕ
+  pub state : State CodeScript
+  pub core : IsCore code main first before state
+  pub bodies : List Body
+  pub lent : HasLent code before k steppers bodies
+  pub parts_are : ArePartsOf code before.cells bodies parts

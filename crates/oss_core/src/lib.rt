@@ -28,4 +28,4 @@ pub use laws::{core_moves_fall, core_passes_fall, core_rounds_fall, core_waves_f
 pub use machine::Core;
 pub use passing::Passed;
 pub use turns::Turn;
-pub use waving::Parts;
+pub use waving::Lent;
