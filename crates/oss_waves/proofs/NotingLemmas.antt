@@ -1,9 +1,9 @@
 -- What is noted of a wave and of a pass are the lines of its trace.
-use Rattle.std.proofs.Common.{◌≡◌, ℕ, zero, suc, ◌+◌, ◌-◌, ◌<◌, ◌≤◌, refl, sym, ap, ◌∙◌, subst, arith, List, [], ◌∷◌, ◌++◌, length, Bool, true, false, Some}
+use Rattle.std.proofs.Common.{◌≡◌, ℕ, zero, suc, ◌-◌, ◌<◌, ◌≤◌, refl, sym, ap, ◌∙◌, subst, arith, List, [], ◌∷◌, ◌++◌, length, Bool, true, false, Some}
 use Rattle.std.specs.Prelude.{slice_get, map}
 use Rattle.std.proofs.lemmas.Option.{slice_get_within}
 use Rattle.oss_model.specs.Order.{written}
-use Rattle.oss_rounds.specs.Rounds.{Line, Span, let_line, join_line, line_from, span_line, step_line, turn_line}
+use Rattle.oss_rounds.specs.Rounds.{Line, Span, line_from, span_line, step_line, turn_line}
 use Rattle.oss_rounds.specs.Waves as waves
 use Rattle.oss_groups.specs.Groups.{AreGiven}
 use Rattle.oss_tree.specs.declared.task.Task.{Task}
@@ -15,7 +15,6 @@ use Rattle.oss_core.specs.Turns.{AreTold, IsTold, KeepsTasks}
 use Rattle.oss_core.proofs.KeepLemmas.{some_is}
 use Rattle.oss_core.proofs.RunsLemmas.{point_after}
 use Rattle.oss_sched.specs.declared.moves.TextMove.{TextMove}
-use Rattle.oss_sched.specs.declared.moves.TextMove.TheVariants.{Step, Let, Join}
 use Rattle.oss_waves.specs.Noting.{IsGivenOf, IsStepOf, Notes, given_by}
 use Rattle.oss_waves.specs.WaveRuns.{line_of, lines_of}
 use Rattle.oss_waves.proofs.ListLemmas.{map_both}

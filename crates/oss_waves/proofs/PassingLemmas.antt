@@ -4,7 +4,6 @@ use Rattle.std.specs.Prelude.{◌==◌, not, slice_get}
 use Rattle.std.proofs.lemmas.Bool.Decides.{nat_tests}
 use Rattle.std.specs.List.{flat_map}
 use Rattle.std.proofs.lemmas.List.{append-nil}
-use Rattle.oss_model.specs.Bodies.{Start}
 use Rattle.oss_model.specs.Machine.{State}
 use Rattle.oss_rounds.specs.Passes.{GivenUp, IsPass, Passes, idles, passes}
 use Rattle.oss_rounds.specs.Rounds.{Line, pass_lines, spans}
@@ -14,13 +13,13 @@ use Rattle.oss_machine.specs.Machines.{asks}
 use Rattle.oss_tree.specs.declared.task.Task.{Task}
 use Rattle.oss_core.specs.declared.passing.Passed.{Passed}
 use Rattle.oss_core.specs.CoreLeft.{core_left}
-use Rattle.oss_core.specs.Kept.{IsCore, IsRunning, Kept}
+use Rattle.oss_core.specs.Kept.{IsRunning, Kept}
 use Rattle.oss_core.specs.Passing.{HasPassed, HaveGiven, TellsOf}
 use Rattle.oss_core.proofs.FallLemmas.{core_passes_fall}
 use Rattle.oss_core.proofs.PassLemmas.{idle_pass, none_told}
 use Rattle.oss_sched.specs.declared.moves.TextMove.{TextMove}
 use Rattle.oss_waves.specs.Noting.{IsGivenOf, Notes}
-use Rattle.oss_waves.specs.Rounding.{HasMadePass, HasMadePasses, HavePassesGone, IsAtRest, PassMade, PassesGo, PassesMade}
+use Rattle.oss_waves.specs.Rounding.{HasMadePass, HasMadePasses, HavePassesGone, IsAtRest}
 use Rattle.oss_waves.specs.WaveRuns.{lines_of}
 use Rattle.oss_waves.proofs.NotingLemmas.{passed_noted, passed_there}
 
@@ -102,14 +101,14 @@ one_more code old mid new before between after some e gone made main first s cor
       state = q.state;
       lists = p.lists ++ q.list ∷ [];
       leads = λ rest n h.
-      subst (λ (lists : List (List GivenUp)). Passes (asks code) s lists n) (sym (append_assoc p.lists (q.list ∷ []) rest))
+          subst (λ (lists : List (List GivenUp)). Passes (asks code) s lists n) (sym (append_assoc p.lists (q.list ∷ []) rest))
           (p.leads (q.list ∷ rest) n
           (subst (λ (list : List GivenUp). Passes (asks code) p.state (list ∷ rest) n) (sym x.is) (passes (subst (λ (list : List GivenUp). IsPass (asks code) p.state list q.state) x.is q.pass) h)));
       core = q.core;
       lines = q.lines
-      ∙ (ap (λ (xs : List Line). xs ++ pass_lines q.list) p.lines
-      ∙ (append_assoc (lines_of before) (flat_map pass_lines p.lists) (pass_lines q.list)
-      ∙ ap (λ (xs : List Line). lines_of before ++ xs) (ap (λ (xs : List Line). flat_map pass_lines p.lists ++ xs) (sym (one_list q.list)) ∙ sym (lists_both p.lists (q.list ∷ [])))));
+          ∙ (ap (λ (xs : List Line). xs ++ pass_lines q.list) p.lines
+          ∙ (append_assoc (lines_of before) (flat_map pass_lines p.lists) (pass_lines q.list)
+          ∙ ap (λ (xs : List Line). lines_of before ++ xs) (ap (λ (xs : List Line). flat_map pass_lines p.lists ++ xs) (sym (one_list q.list)) ∙ sym (lists_both p.lists (q.list ∷ [])))));
     }
 
 -- less is left to do behind it

@@ -1,5 +1,5 @@
 -- Rounds: a wave with the passes behind it, one round after the other, and the end, where no move is left.
-use Rattle.std.proofs.Common.{◌≡◌, ◌≢◌, ℕ, ◌+◌, ◌<◌, ◌≤◌, refl, sym, ap, ◌∙◌, subst, arith, List, [], ◌∷◌, ◌++◌, length, append_assoc, max}
+use Rattle.std.proofs.Common.{◌≡◌, ◌≢◌, ℕ, ◌<◌, refl, sym, ap, ◌∙◌, subst, arith, List, [], ◌∷◌, ◌++◌, length, append_assoc, max}
 use Rattle.std.specs.Prelude.{map, Vec}
 use Rattle.std.specs.declared.alloc.Global.{Global}
 use Rattle.std.specs.List.{flat_map}
@@ -10,7 +10,7 @@ use Rattle.oss_model.specs.Machine.{State, Task}
 use Rattle.oss_model.specs.Moves.{CanStep, SomeMove, a_join, a_let, a_step}
 use Rattle.oss_model.specs.Order.{IsIn, here}
 use Rattle.oss_model.specs.declared.task_no.TaskNo.{TaskNo}
-use Rattle.oss_rounds.specs.Rounds.{IsRound, Line, Round, Rounds, follows, pass_lines, round_lines, stopped, turn_line, widest}
+use Rattle.oss_rounds.specs.Rounds.{Line, Round, Rounds, follows, pass_lines, round_lines, stopped, turn_line, widest}
 use Rattle.oss_rounds.specs.Waves.{IsWave, TakeTurns, Turn, no_turns}
 use Rattle.oss_rounds.proofs.MovesLemmas.{rounds_end}
 use Rattle.oss_code.specs.declared.code.CodeParts.{CodeParts}
@@ -24,8 +24,8 @@ use Rattle.oss_sched.specs.declared.moves.TextMove.{TextMove}
 use Rattle.oss_waves.specs.declared.rounds.Ran.{Ran}
 use Rattle.oss_waves.specs.declared.rounds.Went.{Went}
 use Rattle.oss_waves.specs.declared.rounds.Went.TheVariants.{On, Stopped}
-use Rattle.oss_waves.specs.Rounding.{HasMadePasses, HasMadeRounds, HasMadeWave, HaveRoundsGone, IsAtRest, IsFinal, IsResting, IsRoundOf, NoneActs, PassesMade, RoundMade, RoundsGo, RoundsMade, WaveMade}
-use Rattle.oss_waves.specs.WaveRuns.{line_of, lines_of}
+use Rattle.oss_waves.specs.Rounding.{HasMadePasses, HasMadeRounds, HasMadeWave, HaveRoundsGone, IsAtRest, IsFinal, IsResting, IsRoundOf, NoneActs, RoundMade}
+use Rattle.oss_waves.specs.WaveRuns.{lines_of}
 use Rattle.oss_waves.proofs.ListLemmas.{map_both}
 
 -- a wave without turns leaves the state as it is

@@ -1,5 +1,5 @@
 -- A run by waves from its beginning, and what it gives.
-use Rattle.std.proofs.Common.{◌≡◌, ◌≢◌, ℕ, ◌<◌, ◌≤◌, ◌^◌, ◌-◌, refl, sym, ap, ◌∙◌, subst, arith, true, List, [], ◌∷◌, length, min, Result, Ok, Err}
+use Rattle.std.proofs.Common.{◌≡◌, ℕ, ◌<◌, ◌^◌, ◌-◌, sym, ap, ◌∙◌, subst, arith, true, List, length, min, Result, Ok, Err}
 use Rattle.std.specs.Prelude.{IfOk}
 use Rattle.std.specs.declared.alloc.AllocError.{AllocError}
 use Rattle.oss_syntax.specs.declared.access.Op.{Op}
@@ -9,11 +9,11 @@ use Rattle.oss_model.specs.Answers.{IsAnswer, IsResult}
 use Rattle.oss_model.specs.Bodies.{Start}
 use Rattle.oss_model.specs.Context.{right_of}
 use Rattle.oss_model.specs.Rights.{Holds}
-use Rattle.oss_model.specs.Machine.{At, State, Task}
-use Rattle.oss_model.specs.Moves.{CanJoin, CanLet, opening}
+use Rattle.oss_model.specs.Machine.{State, Task}
+use Rattle.oss_model.specs.Moves.{opening}
 use Rattle.oss_model.proofs.SequenceLemmas.{opening_at}
 use Rattle.oss_model.proofs.TerminationTheorem.{run_has_result}
-use Rattle.oss_rounds.specs.Rounds.{Line, Trace, trace_of}
+use Rattle.oss_rounds.specs.Rounds.{Line, Trace}
 use Rattle.oss_rounds.proofs.MovesLemmas.{answer_is_the_result}
 use Rattle.oss_code.specs.declared.code.CodeParts.{CodeParts}
 use Rattle.oss_machine.specs.Frames.{CodeScript}
@@ -26,7 +26,7 @@ use Rattle.oss_core.proofs.CoreLeftLemmas.{memory_size, tasks_counted}
 use Rattle.oss_sched.specs.declared.moves.WaveRecord.{WaveRecord}
 use Rattle.oss_waves.specs.declared.rounds.Ran.{Ran}
 use Rattle.oss_waves.specs.Rounding.{HasMadeRounds, IsAtRest, IsResting}
-use Rattle.oss_waves.specs.WaveRuns.{IsWaveRun, lines_of, trace_in}
+use Rattle.oss_waves.specs.WaveRuns.{IsWaveRun, trace_in}
 
 -- main alone has no cell to give up
 pub opening_rests : (code : CodeParts) (main : Start CodeScript) (first : List ℕ) (k : Kept) → IsCore code main first k (opening main first) → IsAtRest (asks code) (opening main first)

@@ -1,11 +1,11 @@
 -- Waves: what is told of them, and the tasks that are left behind them.
-use Rattle.std.proofs.Common.{◌≡◌, ℕ, zero, suc, ◌<◌, ◌≤◌, refl, sym, ap, ◌∙◌, subst, arith, List, [], ◌∷◌, ◌++◌, length, Some}
+use Rattle.std.proofs.Common.{◌≡◌, ℕ, ◌<◌, refl, ◌∙◌, subst, arith, List, [], ◌∷◌, length, Some}
 use Rattle.std.specs.Prelude.{slice_get}
-use Rattle.oss_model.specs.Order.{IsBefore, IsIn, here, there, written}
+use Rattle.oss_model.specs.Order.{IsIn, here, there, written}
 use Rattle.oss_model.specs.Bodies.{Start}
 use Rattle.oss_model.specs.Machine as machine
 use Rattle.oss_model.specs.Machine.{State}
-use Rattle.oss_model.specs.Moves.{Reached, opening}
+use Rattle.oss_model.specs.Moves.{opening}
 use Rattle.oss_model.specs.Sequence.{Sequential}
 use Rattle.oss_model.specs.declared.task_no.TaskNo.{TaskNo}
 use Rattle.oss_model.proofs.AgreementTheorem.{reached_agrees}
@@ -19,7 +19,7 @@ use Rattle.oss_code.specs.declared.code.CodeParts.{CodeParts}
 use Rattle.oss_machine.specs.Frames.{CodeScript}
 use Rattle.oss_machine.specs.Machines.{asks}
 use Rattle.oss_tree.specs.declared.task.Task.{Task}
-use Rattle.oss_tree.specs.Tasks.{HasPoint, IsComplete, number}
+use Rattle.oss_tree.specs.Tasks.{HasPoint, IsComplete}
 use Rattle.oss_tree.proofs.ListLemmas.{there_is}
 use Rattle.oss_core.specs.declared.turns.Turn.{Turn}
 use Rattle.oss_core.specs.Kept.{IsCore, IsRunning, Kept}
@@ -29,7 +29,7 @@ use Rattle.oss_core.specs.Turns.{AreTold, HasWaved, KeepsTasks}
 use Rattle.oss_core.proofs.TreeFacts.{complete_tells, path_of_point, point_of_path, at_number, sizes}
 use Rattle.oss_sched.specs.declared.moves.TextMove.{TextMove}
 use Rattle.oss_waves.specs.Noting.{IsStepOf, Notes}
-use Rattle.oss_waves.specs.Rounding.{HasMadeWave, WaveMade}
+use Rattle.oss_waves.specs.Rounding.{HasMadeWave}
 use Rattle.oss_waves.proofs.NotingLemmas.{turn_there, turns_noted}
 
 -- as many turns as were told

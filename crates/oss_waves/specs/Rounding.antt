@@ -2,7 +2,7 @@
 -- Read against: main creates out(x) and waits. In the first wave main has a turn, and no pass behind it gives anything up, so what is noted is `step 0 3`; in the second the
 -- task has one, and the first pass behind it gives x up, and the second nothing: what is noted is `step 0.0 3`, `let 0.0 0 1`. Behind main's last turn no task may
 -- act: the next wave has no turn, and the run has stopped.
-use Rattle.std.specs.Prelude.{◌≡◌, ◌≢◌, ℕ, ◌↔◌, Bool, false, List, [], ◌++◌, length, map}
+use Rattle.std.specs.Prelude.{◌≡◌, ℕ, ◌↔◌, Bool, false, List, [], ◌++◌, length, map}
 use Rattle.std.specs.List.{flat_map}
 use Rattle.oss_syntax.specs.declared.access.Op.{Op}
 use Rattle.oss_model.specs.Answers.{IsStopped}

@@ -1,4 +1,3 @@
-use Rattle.std.proofs.Common.{rules}
 use Rattle.oss_waves.specs.Noting.{IsGivenOf}
 use Rattle.oss_waves.proofs.ListLemmas.{given_one, item_at}
 use Rattle.oss_waves.proofs.noting.note_passed.Goals as goal

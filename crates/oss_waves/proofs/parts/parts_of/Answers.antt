@@ -1,4 +1,3 @@
-use Rattle.std.proofs.Common.{◌≡◌}
 use denote.Param.Send.{sendable}
 use Rattle.oss_part.proofs.SendLemmas.{ready_send, segment_send}
 use Rattle.oss_waves.proofs.ReadyLemmas.{parts_are}

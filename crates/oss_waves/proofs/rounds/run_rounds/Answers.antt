@@ -1,4 +1,4 @@
-use Rattle.std.proofs.Common.{◌≡◌, ◌≤◌, arith, length, List, max, rules, subst, sym}
+use Rattle.std.proofs.Common.{◌≡◌, arith, length, List, max, rules, subst, sym}
 use Rattle.oss_core.specs.Cores.{kept_of}
 use Rattle.oss_sched.specs.declared.moves.TextMove.{TextMove}
 use Rattle.oss_waves.specs.Rounding.{HaveRoundsGone}
@@ -6,12 +6,12 @@ use Rattle.oss_waves.proofs.RoundLemmas.{last_round, one_round, resting_runs, ro
 use Rattle.oss_waves.proofs.rounds.run_rounds.Goals as goal
 
 pub round-requires-clause-running : goal.round-requires-clause-running
-round-requires-clause-running g c =
+round-requires-clause-running g c κs within =
     resting_runs c.args.code.now (kept_of g.D.Deps.seen c.rounds.core)
     (rounds_resting c.args.code.now (kept_of g.D.Deps.seen c.args.core.now) (kept_of g.D.Deps.seen c.rounds.core) c.rounds.waves c.rounds.widest c.requires.resting c.rounds.invariant.gone)
 
 pub round-requires-clause-room : goal.round-requires-clause-room
-round-requires-clause-room g c =
+round-requires-clause-room g c κs within =
     let e : length c.rounds.core.cells.items ≡ length c.args.core.now.cells.items
     = rounds_room c.args.code.now (kept_of g.D.Deps.seen c.args.core.now) (kept_of g.D.Deps.seen c.rounds.core) c.rounds.waves c.rounds.widest c.requires.resting c.rounds.invariant.gone in
     let r = c.requires.room in

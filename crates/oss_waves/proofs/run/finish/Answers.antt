@@ -1,4 +1,4 @@
-use Rattle.std.proofs.Common.{◌≡◌, ap, ◌∙◌}
+use Rattle.std.proofs.Common.{ap, ◌∙◌}
 use Rattle.oss_core.specs.Kept.{Kept}
 use Rattle.oss_waves.proofs.run.finish.Goals as goal
 
