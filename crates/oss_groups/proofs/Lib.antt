@@ -1,2 +1,2 @@
 mod GroupLemmas
-mod ListLemmas
+pub mod ListLemmas

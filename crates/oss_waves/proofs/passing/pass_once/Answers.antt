@@ -1,0 +1,20 @@
+use Rattle.std.proofs.Common.{◌≡◌, ◌∙◌, ap, arith, length, ℕ, subst, sym, List, vec_len}
+use Rattle.std.specs.Prelude.{◌==◌}
+use Rattle.oss_core.specs.Cores.{kept_of}
+use Rattle.oss_core.specs.declared.passing.Passed.{Passed}
+use Rattle.oss_waves.specs.Noting.{IsGivenOf, Notes}
+use Rattle.oss_waves.proofs.PassingLemmas.{made_there, none_in, pass_made}
+use Rattle.oss_waves.proofs.passing.pass_once.Goals as goal
+
+pub note_passed-requires-clause-there : goal.note_passed-requires-clause-there
+note_passed-requires-clause-there g c = λ at one e.
+    (made_there c.args.code.now (kept_of g.D.Deps.seen c.args.core.now) (kept_of g.D.Deps.seen c.pass.new.self) c.in_ok-passed.passed.items c.requires.running c.in_ok-passed.ensures.passed c.in_ok-passed.ensures.tasks at one (rw (sym c.as_slice.ensures.value) e)).0
+
+pub note_passed-requires-clause-rise : goal.note_passed-requires-clause-rise
+note_passed-requires-clause-rise g c = λ at one e.
+    (made_there c.args.code.now (kept_of g.D.Deps.seen c.args.core.now) (kept_of g.D.Deps.seen c.pass.new.self) c.in_ok-passed.passed.items c.requires.running c.in_ok-passed.ensures.passed c.in_ok-passed.ensures.tasks at one (rw (sym c.as_slice.ensures.value) e)).1
+
+pub returns-clause-pass : goal.returns-clause-pass
+returns-clause-pass g c =
+    pass_made c.args.code.now (kept_of g.D.Deps.seen c.args.core.now) (kept_of g.D.Deps.seen c.pass.new.self) c.in_ok-passed.passed.items c.args.lines.now c.note_passed.new.lines _ c.in_ok-passed.ensures.passed c.in_ok-passed.ensures.tasks
+    (subst (λ (told : List Passed). Notes (IsGivenOf c.pass.new.self.tree.tasks) told c.args.lines.now c.note_passed.new.lines) c.as_slice.ensures.value c.in_ok-note_passed.ensures) (none_in c.in_ok-passed.passed.items c.is_empty.result (let l : vec_len c.in_ok-passed.passed ≡ length c.in_ok-passed.passed.items = omega (arith, c.in_ok-passed.passed.ok.0) in c.is_empty.ensures ∙ ap (λ (n : ℕ). n == 0) l))

@@ -1,0 +1,4 @@
+pub mod WaveRuns
+pub mod Readies
+pub mod Noting
+pub mod Rounding
