@@ -1,5 +1,7 @@
 //! A program with two tasks, worked by hand: its record and its answer, whatever the number of workers.
 
+ghost use Rattle.std.specs.Prelude.{◌<◌};
+
 use crate::{WaveRun, waves};
 use oss_code::{Code, CodeParts, GlobalPlace, Instr, SectionBase, SectionForm};
 use oss_deps::PlainDeps;
