@@ -57,11 +57,6 @@ wave_running code old new before after count running waved =
     let w = waved running.main running.first running.state running.core in
     record { main = running.main; first = running.first; state = w.state; core = w.core }
 
-pub passes_running : (code : CodeParts) (old new : Kept) (before after : List TextMove) → IsRunning code old → HasMadePasses code old new before after → IsRunning code new
-passes_running code old new before after running made =
-    let p = made running.main running.first running.state running.core in
-    record { main = running.main; first = running.first; state = p.state; core = p.core }
-
 -- a wave in which some task had a turn, and the passes behind it, are a round
 pub round_made : (code : CodeParts) (old mid new : Kept) (before between after : List TextMove) (count : ℕ) → count ≢ 0 → HasMadeWave code old mid before between count → HasMadePasses code mid new between after
     → (main : Start CodeScript) (first : List ℕ) (s : State CodeScript) → IsCore code main first old s → RoundMade code main first s new before after count

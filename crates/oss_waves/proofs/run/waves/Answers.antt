@@ -5,8 +5,8 @@ use Rattle.oss_waves.proofs.RunLemmas.{opening_resting, run_given}
 use Rattle.oss_waves.proofs.WavingLemmas.{left_none}
 use Rattle.oss_waves.proofs.run.waves.Goals as goal
 
-pub remaining-requires-clause-left : goal.remaining-requires-clause-left
-remaining-requires-clause-left g c = rw c.new-2.ensures.items (left_none c.in_ok-core.core.tree.tasks)
+pub remaining-requires : goal.remaining-requires
+remaining-requires g c = rw c.new-2.ensures.items (left_none c.in_ok-core.core.tree.tasks)
 
 pub run_rounds-requires-clause-resting : goal.run_rounds-requires-clause-resting
 run_rounds-requires-clause-resting g c κs within = opening_resting c.args.code.now (code_main c.args.code.now c.args.fuel) c.args.code.now.first (kept_of g.D.Deps.seen c.in_ok-core.core) c.in_ok-core.ensures
