@@ -1,0 +1,6 @@
+//! Runs by waves.
+#![tactic(auto)]
+
+mod run;
+
+pub use run::{WaveRun, waves};
