@@ -13,7 +13,6 @@ use Rattle.oss_parse.proofs.OneProgram.{parsed_once}
 use Rattle.oss_command.specs.Commands.{Command, asked_of}
 use Rattle.oss_command.specs.Commands.Command.{check, replay, run, soak, trace}
 use Rattle.oss_command.specs.declared.options.Options.{Options}
-use Rattle.oss_command.specs.declared.options.RunMode.{RunMode}
 use Rattle.oss_gen.specs.Generated.{generated_text}
 use Rattle.oss_meaning.specs.Expressions.{TreeScript}
 use Rattle.oss_meaning.specs.Meaning.{asks_of}
@@ -35,8 +34,7 @@ use Rattle.oss_top.specs.Replays.IsTextsReply.{accepted as texts_accepted, refus
 use Rattle.oss_top.specs.Replays.IsFilesReply.{fit, too_large as files_too_large, too_long}
 use Rattle.oss_top.specs.Reply.{AreHeld, AreShown, IsCommandReply, IsComplete, IsFileReply, IsOutcome, IsProgramReply, IsReply, IsRunReply, IsShelfReply, IsTextReply, IsUnwritten, Texts}
 use Rattle.oss_top.specs.Reply.IsProgramReply.{checked, ran, soaked, traced}
-use Rattle.oss_top.specs.Soaks.{IsSoakReply, IsTaskCount}
-use Rattle.oss_top.specs.Soaks.IsTaskCount.{of_outcome, of_trace}
+use Rattle.oss_top.specs.Soaks.{IsSoakReply}
 use Rattle.oss_top.specs.Traces.{IsTraceOf, IsTraceReply, text_of}
 use Rattle.oss_top.specs.Reply.IsTextReply.{accepted, refused_text}
 use Rattle.oss_top.specs.Reply.IsFileReply.{too_large, fits}
@@ -66,14 +64,9 @@ trace_once fuel p reply other x y =
     x.is_reply ∙ ap (λ (t : Trace). trace_reply (text_of t) x.outcome.answer) (traced_once p fuel x.trace y.trace x.is_trace y.is_trace)
     ∙ ap (λ (o : Outcome). trace_reply (text_of y.trace) o.answer) (outcome_once p fuel x.outcome y.outcome x.is_outcome y.is_outcome) ∙ sym y.is_reply
 
-count_once : (p : Program) (fuel count other : ℕ) (mode : RunMode) → IsTaskCount p fuel count mode → IsTaskCount p fuel other mode → count ≡ other
-count_once p fuel count other mode (of_outcome o x e) (of_outcome q y f) = e ∙ ap (λ (z : Outcome). z.tasks) (outcome_once p fuel o q x y) ∙ sym f
-count_once p fuel count other mode (of_trace t x e) (of_trace u y f) = e ∙ ap (λ (z : Trace). z.tasks) (traced_once p fuel t u x y) ∙ sym f
-
 soak_once : (options : Options) (p : Program) (reply other : Reply) → IsSoakReply options p reply → IsSoakReply options p other → reply ≡ other
 soak_once options p reply other x y =
-    x.is_reply ∙ ap (λ (n : ℕ). soak_reply n x.outcome.answer) (count_once p options.fuel x.count y.count options.mode x.is_count y.is_count)
-    ∙ ap (λ (o : Outcome). soak_reply y.count o.answer) (outcome_once p options.fuel x.outcome y.outcome x.is_outcome y.is_outcome) ∙ sym y.is_reply
+    x.is_reply ∙ ap (λ (o : Outcome). soak_reply o.tasks o.answer) (outcome_once p options.fuel x.outcome y.outcome x.is_outcome y.is_outcome) ∙ sym y.is_reply
 
 program_once : (c : Command) (p : Program) (reply other : Reply) → IsProgramReply c p reply → IsProgramReply c p other → reply ≡ other
 program_once c p reply other (checked x) (checked y) = x ∙ sym y

@@ -1,14 +1,16 @@
 -- A run of the code of a program gives what the program's own run gives.
-use Rattle.std.proofs.Common.{◌≡◌, ◌∙◌, ℕ, List, [], ◌∷◌, refl, sym, ap}
+use Rattle.std.proofs.Common.{◌≡◌, ◌∙◌, ℕ, List, [], ◌∷◌, refl, sym, ap, subst}
 use Rattle.std.specs.Prelude.{map}
 use Rattle.oss_syntax.specs.declared.tree.program.Program.{Program}
 use Rattle.oss_model.specs.Agreement.{AreWords}
 use Rattle.oss_model.specs.declared.answer.Answer.{Answer}
+use Rattle.oss_model.specs.declared.answer.Answer.TheVariants.{Done, Fault}
 use Rattle.oss_rounds.specs.Rounds.{trace_of}
-use Rattle.oss_meaning.specs.Results.{Outcome}
+use Rattle.oss_meaning.specs.Meaning.{asks_of}
+use Rattle.oss_meaning.specs.Results.{Outcome, first_cells, main_of}
 use Rattle.oss_code.specs.declared.code.CodeParts.{CodeParts}
 use Rattle.oss_lower.specs.Programs.{IsCodeOf}
-use Rattle.oss_lower.proofs.OutcomeLaws.{main_outcomes_alike}
+use Rattle.oss_lower.proofs.OutcomeLaws.{main_outcomes_alike, main_setting}
 use Rattle.oss_machine.specs.Machines.{asks}
 use Rattle.oss_body.specs.Mains.{code_main}
 use Rattle.oss_deps.specs.Seen.{Seen}
@@ -20,16 +22,14 @@ use Rattle.oss_sched.specs.declared.moves.TextMove.{TextMove}
 use Rattle.oss_sched.specs.declared.moves.TextMove.TheVariants.{Step, Let, Join}
 use Rattle.oss_waves.specs.WaveRuns.{IsWaveRun, line_of, lines_of, trace_in}
 use Rattle.oss_command.specs.declared.options.Options.{Options}
-use Rattle.oss_command.specs.declared.options.RunMode.{RunMode}
-use Rattle.oss_command.specs.declared.options.RunMode.TheVariants as mode
 use Rattle.oss_top.specs.Forms.{answer_reply, soak_reply, trace_reply}
 use Rattle.oss_top.specs.Reply.{IsRunReply}
-use Rattle.oss_top.specs.Runs.{AreWavesOf, IsRanBy, IsRanOf}
+use Rattle.oss_top.specs.Runs.{AreWavesOf, IsDone, IsRanBy, IsRanOf}
 use Rattle.oss_top.specs.Soaks.{IsSoakReply}
-use Rattle.oss_top.specs.Soaks.IsTaskCount.{of_outcome, of_trace}
 use Rattle.oss_top.specs.Traces.{IsTraceReply, move_of, record_of}
 use Rattle.oss_top.specs.declared.reply.Reply.{Reply}
 use Rattle.oss_top.proofs.CodeMoves.{outcome_of}
+use Rattle.oss_top.proofs.CountLemmas.{as_many_tasks}
 use Rattle.oss_top.proofs.TraceMoves.{traces_of_code}
 
 pub ran-of : (p : Program) (code : CodeParts) (fuel : ℕ) (ran : Ran) → IsCodeOf p.items code → AreWords code.first → IsRan code fuel ran → IsRanOf p.items fuel ran
@@ -60,44 +60,55 @@ pub waves_of : (p : Program) (code : CodeParts) (fuel : ℕ) (seen : Seen) (answ
     → IsWaveRun code fuel seen answer waves → AreWavesOf p fuel answer waves
 waves_of p code fuel seen answer waves of words run =
     let o = outcome_of (asks code) (code_main code fuel) code.first answer run.result_is in
+    let of_program = (main_outcomes_alike p.items code of words fuel o.0).1 o.1 in
+    let trace = traces_of_code p.items code of fuel (trace_of run.rounds run.state) (record { rounds = run.rounds; state = run.state; runs = run.runs; trace_is = refl }) in
+    let recorded : waves ≡ record_of (trace_of run.rounds run.state) = sym (record_back waves) ∙ ap record_of run.trace_is in
     record {
       outcome = o.0;
-      is_outcome = (main_outcomes_alike p.items code of words fuel o.0).1 o.1;
+      is_outcome = of_program;
       answer_is = sym o.2;
       trace = trace_of run.rounds run.state;
-      is_trace = traces_of_code p.items code of fuel (trace_of run.rounds run.state) (record { rounds = run.rounds; state = run.state; runs = run.runs; trace_is = refl });
-      recorded = sym (record_back waves) ∙ ap record_of run.trace_is;
+      is_trace = trace;
+      recorded = recorded;
+      tasks = λ done.
+          ap (λ (w : WaveRecord). w.tasks) recorded
+          ∙ as_many_tasks (asks_of p.items) (main_of p.items fuel) (first_cells p.items) (trace_of run.rounds run.state) o.0 (main_setting p.items fuel (subst AreWords of.first words)) trace of_program done;
     }
 
 -- the same answer and record, by other names
 pub waves_kept : (p : Program) (fuel : ℕ) (answer told : Answer) (waves kept : WaveRecord) → told ≡ answer → kept ≡ waves → AreWavesOf p fuel answer waves → AreWavesOf p fuel told kept
 waves_kept p fuel answer told waves kept e f is =
-    record { outcome = is.outcome; is_outcome = is.is_outcome; answer_is = e ∙ is.answer_is; trace = is.trace; is_trace = is.is_trace; recorded = f ∙ is.recorded }
-
--- a run one task after the other is one in its mode
-pub ran_serially : (p : Program) (fuel : ℕ) (ran : Ran) → IsRanOf p.items fuel ran → IsRanBy mode.Serial p fuel ran
-ran_serially p fuel ran is = record { outcome = is.outcome; is_outcome = is.is_outcome; answer = is.answer; count = of_outcome is.outcome is.is_outcome is.tasks }
-
--- and one by waves too, with the tasks of its trace
-pub ran_by_waves : (p : Program) (fuel : ℕ) (waves : WaveRecord) (ran : Ran) → AreWavesOf p fuel ran.answer waves → ran.tasks ≡ waves.tasks → IsRanBy mode.Waves p fuel ran
-ran_by_waves p fuel waves ran is same =
     record {
       outcome = is.outcome;
       is_outcome = is.is_outcome;
-      answer = is.answer_is;
-      count = of_trace is.trace is.is_trace (same ∙ ap (λ (w : WaveRecord). w.tasks) is.recorded);
+      answer_is = e ∙ is.answer_is;
+      trace = is.trace;
+      is_trace = is.is_trace;
+      recorded = f ∙ is.recorded;
+      tasks = λ done. ap (λ (w : WaveRecord). w.tasks) f ∙ is.tasks done;
     }
 
+-- what a run one task after the other gives
+pub ran_serially : (p : Program) (fuel : ℕ) (ran : Ran) → IsRanOf p.items fuel ran → IsRanBy p fuel ran
+ran_serially p fuel ran is = record { outcome = is.outcome; is_outcome = is.is_outcome; answer = is.answer; tasks = λ done. is.tasks }
+
+-- and what one by waves gives
+pub ran_by_waves : (p : Program) (fuel : ℕ) (waves : WaveRecord) (ran : Ran) → AreWavesOf p fuel ran.answer waves → ran.tasks ≡ waves.tasks → IsRanBy p fuel ran
+ran_by_waves p fuel waves ran is same = record { outcome = is.outcome; is_outcome = is.is_outcome; answer = is.answer_is; tasks = λ done. same ∙ is.tasks done }
+
 -- the reply to a run
-pub run_replies : (p : Program) (options : Options) (ran : Ran) (reply : Reply) → IsRanBy options.mode p options.fuel ran → reply ≡ answer_reply options.dump p ran.answer
-    → IsRunReply options p reply
+pub run_replies : (p : Program) (options : Options) (ran : Ran) (reply : Reply) → IsRanBy p options.fuel ran → reply ≡ answer_reply options.dump p ran.answer → IsRunReply options p reply
 run_replies p options ran reply is e = record { outcome = is.outcome; is_outcome = is.is_outcome; is_reply = e ∙ ap (answer_reply options.dump p) is.answer }
 
+-- the number of tasks is told where the program came to its end
+counts_alike : (a : Answer) (n m : ℕ) → (IsDone a → n ≡ m) → soak_reply n a ≡ soak_reply m a
+counts_alike (Done text cells) n m same = ap (λ (k : ℕ). soak_reply k (Done text cells)) (same tt)
+counts_alike (Fault kind line text) n m same = refl
+
 -- the reply to a soak
-pub soak_replies : (p : Program) (options : Options) (ran : Ran) (reply : Reply) → IsRanBy options.mode p options.fuel ran → reply ≡ soak_reply ran.tasks ran.answer
-    → IsSoakReply options p reply
+pub soak_replies : (p : Program) (options : Options) (ran : Ran) (reply : Reply) → IsRanBy p options.fuel ran → reply ≡ soak_reply ran.tasks ran.answer → IsSoakReply options p reply
 soak_replies p options ran reply is e =
-    record { count = ran.tasks; is_count = is.count; outcome = is.outcome; is_outcome = is.is_outcome; is_reply = e ∙ ap (soak_reply ran.tasks) is.answer }
+    record { outcome = is.outcome; is_outcome = is.is_outcome; is_reply = e ∙ ap (soak_reply ran.tasks) is.answer ∙ counts_alike is.outcome.answer ran.tasks is.outcome.tasks is.tasks }
 
 -- the reply to a trace
 pub trace_replies : (p : Program) (fuel : ℕ) (answer : Answer) (waves : WaveRecord) (reply : Reply) → AreWavesOf p fuel answer waves → reply ≡ trace_reply (trace_text waves) answer

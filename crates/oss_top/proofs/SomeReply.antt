@@ -25,8 +25,6 @@ use Rattle.oss_parse.specs.ProgramReading.{read_text}
 use Rattle.oss_parse.proofs.ParsedLemmas.{parsed}
 use Rattle.oss_command.specs.Commands.{Command}
 use Rattle.oss_command.specs.Commands.Command.{run, check, trace, replay, soak}
-use Rattle.oss_command.specs.declared.options.RunMode.{RunMode}
-use Rattle.oss_command.specs.declared.options.RunMode.TheVariants as mode
 use Rattle.oss_rounds.proofs.ExistLemmas.{has_trace}
 use Rattle.oss_meaning.specs.Expressions.{TreeScript}
 use Rattle.oss_meaning.specs.Meaning.{asks_of}
@@ -41,8 +39,6 @@ use Rattle.oss_top.specs.ProgramTexts.Refuses.{by_grammar, by_rules}
 use Rattle.oss_top.specs.Forms.{accepted_line, answer_reply, done_reply, error_reply, most_bytes, soak_reply, too_large_line, trace_reply}
 use Rattle.oss_top.specs.Reply.{IsFileReply, IsTextReply, IsProgramReply}
 use Rattle.oss_top.specs.Reply.IsProgramReply.{checked, ran, soaked, traced}
-use Rattle.oss_top.specs.Soaks.{IsTaskCount}
-use Rattle.oss_top.specs.Soaks.IsTaskCount.{of_outcome, of_trace}
 use Rattle.oss_top.specs.Traces.{IsTraceOf, text_of}
 use Rattle.oss_rounds.specs.Rounds.{Trace}
 use Rattle.oss_top.specs.Reply.IsTextReply.{accepted, refused_text}
@@ -95,10 +91,6 @@ some_trace text p a fuel =
     let code = programs_have_codes items (accepted_places text p a.is_text a.obeys) in
     has_trace TreeScript (asks_of items) (main_of items fuel) (first_cells items) (accepted_setting text p a.is_text a.obeys fuel) (programs_are_lively items code.0 (codes_ask_alike items code.0 code.1))
 
-some_count : (text : List ℕ) (p : Program) → Accepts text p → (fuel : ℕ) (mode : RunMode) → (n : ℕ) × IsTaskCount (program_written p) fuel n mode
-some_count text p a fuel mode.Serial = let (o, is) = some_outcome text p a fuel in (o.tasks, of_outcome o is refl)
-some_count text p a fuel mode.Waves = let (t, is) = some_trace text p a fuel in (t.tasks, of_trace t is refl)
-
 program_reply : (c : Command) → IsOfOneText c → (text : List ℕ) (p : Program) → Accepts text p → (reply : Reply) × IsProgramReply c (program_written p) reply
 program_reply (check file) of text p a = (done_reply accepted_line, checked refl)
 program_reply (replay file schedule fuel) of text p a = absurd of
@@ -111,8 +103,7 @@ program_reply (trace file options) of text p a =
     (trace_reply (text_of t) o.answer, traced (record { trace = t; is_trace = has; outcome = o; is_outcome = is; is_reply = refl }))
 program_reply (soak number size options) of text p a =
     let (o, is) = some_outcome text p a options.fuel in
-    let (n, counts) = some_count text p a options.fuel options.mode in
-    (soak_reply n o.answer, soaked (record { count = n; is_count = counts; outcome = o; is_outcome = is; is_reply = refl }))
+    (soak_reply o.tasks o.answer, soaked (record { outcome = o; is_outcome = is; is_reply = refl }))
 
 text_reply : (c : Command) → IsOfOneText c → (text : List ℕ) → (reply : Reply) × IsTextReply c text reply
 text_reply c of text = from (some_parse text) where

@@ -62,7 +62,7 @@ fn run_by_mode<R: Threads + Sync, G: Gate>(
     gate: &G,
 ) -> Result<Ran, AllocError>
     requires { 0 < options.workers }
-    ensures { IfOk result (λ ran. IsRanBy options.mode known.now options.fuel ran) }
+    ensures { IfOk result (λ ran. IsRanBy known.now options.fuel ran) }
 {
     match options.mode {
         RunMode::Serial => serial_run(alloc, known, options.fuel),
@@ -88,7 +88,7 @@ fn counted_waves<R: Threads + Sync, G: Gate>(
     gate: &G,
 ) -> Result<Ran, AllocError>
     requires { 0 < options.workers }
-    ensures { IfOk result (λ ran. IsRanBy RunMode.Waves known.now options.fuel ran) }
+    ensures { IfOk result (λ ran. IsRanBy known.now options.fuel ran) }
 {
     let Waved { answer, waves } = wave_run(rt, alloc, known, options, gate)?;
     Ok(Ran {
