@@ -15,7 +15,8 @@
 #   schedule: LINE        a line of the schedule; each such line is one more
 #   end: no newline       where the newline at the end of the file does not belong to the program
 #   program:              what stands behind this line is the program, to the end of the file
-# It is called in a folder that holds nothing but the program, as p.c, and the schedule, where the case has one, as s.txt.
+# It is called in a folder that holds nothing but the program, as p.c, and the schedule, where the case has one, as s.txt. A run without a mode is called in the mode
+# serial too, and a trace is replayed.
 top=$(CDPATH='' cd -- "$(dirname -- "$0")/.." && pwd) || exit 1
 program=${1:-$top/nest6}
 case $program in
@@ -45,6 +46,13 @@ expect() {
   shift 4
   "$program" "$@" >"$work/out" 2>"$work/err" </dev/null
   judge "$name" "$wanted" "$out" "$err" $?
+}
+
+# replay_trace NAME: the replay of the trace of p.c that is left in $work/out, against its run
+replay_trace() {
+  cp "$work/out" t.txt
+  "$program" run p.c --mode=serial >"$work/run_out" 2>"$work/run_err" </dev/null
+  expect "$1, replayed" $? "$work/run_out" "$work/run_err" replay p.c t.txt
 }
 
 # leaves the program of a case in p.c, its schedule in s.txt, and what is said of them in `words`, `status`, `out_text`, `err_text`
@@ -89,6 +97,7 @@ for file in *.c; do
   expect "examples/$file" "$status" "$name.out" "$err" run "$file"
 done
 expect "examples/tasks.schedule" 0 tasks.out "$work/nothing" replay tasks.c tasks.schedule
+expect "the trace of examples/tasks.c" 0 tasks.schedule "$work/nothing" trace tasks.c
 
 # The examples were run by the script, which looks at every source first. From here on the program is called itself.
 [ "$#" -gt 0 ] || program=$top/crates/nest6/out/nest6
@@ -102,6 +111,15 @@ for file in "$top"/tests/cases/*/*.case; do
   # The words are parted here.
   # shellcheck disable=SC2086
   expect "${file#"$top"/}" "$status" "$work/wanted_out" "$work/wanted_err" $words
+  # A run by waves says what a run of one task after the other says, and the trace of a run is a schedule that leads to the same answer.
+  case $status$words in
+    2* | *--mode* | *--deps*) ;;
+    *' run '*)
+      # shellcheck disable=SC2086
+      expect "${file#"$top"/} in serial mode" "$status" "$work/wanted_out" "$work/wanted_err" $words --mode=serial
+      ;;
+    [01]' trace p.c') replay_trace "${file#"$top"/}" ;;
+  esac
   set +f
 done
 

@@ -4,7 +4,7 @@
 ghost use Rattle.std.specs.Prelude.{◌≡◌, drop};
 ghost use Rattle.nest6.specs.Given.{IsGiven};
 
-use oss_io::{FileShelf, StdSink};
+use oss_io::{FileShelf, NoGate, StdSink};
 use oss_top::{Sinks, Status, nest6};
 use std::alloc::Global;
 use std::env;
@@ -20,10 +20,12 @@ fn main(rt: HostRuntime) -> ExitCode {
     let mut shelf = FileShelf::new(alloc, &rt);
     let mut sinks = sinks_of(rt.stdout(), rt.stderr());
     ExitCode::from(nest6(
+        &rt,
         alloc,
         behind_first(words.as_slice()),
         &mut shelf,
         &mut sinks,
+        &NoGate,
     ))
 }
 

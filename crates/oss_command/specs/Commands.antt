@@ -1,37 +1,50 @@
 -- The words of the command line, behind the name of the program: a command, its operands and its options, in any order behind the command. A word that begins
 -- with `--` is an option; an operand is not empty and does not begin with `-`. What is not listed for the command is refused, and so is an option that stands
 -- twice, by its name, or whose value is out of form.
--- Read against: no words, `run`, `run a.c b.c`, `run -a`, `run a.c --fuel=0`, `run a.c --fuel=01`, `run a.c --fuel=5 --fuel=5`, `run a.c --dump=1`, `run a.c --mode=waves` and `check
--- a.c --fuel=5` are refused; `run --dump a.c --workers=64` asks to run the file `a.c` with a dump, 64 workers and fuel for 1,000,000 ticks a task.
+-- Read against: no words, `run`, `run a.c b.c`, `run -a`, `run a.c --fuel=0`, `run a.c --fuel=01`, `run a.c --fuel=5 --fuel=5`, `run a.c --dump=1`, `run a.c --mode=workers` and `check
+-- a.c --fuel=5` are refused; `run --dump a.c --workers=64` asks to run the file `a.c` by waves with a dump, 64 workers and fuel for 1,000,000 ticks a task. `run a.c --deps=plain` and
+-- `run a.c --mode=serial` are runs by waves and one task after the other; both options together are refused, and so is `run a.c --deps=regions`.
 -- And: `replay a.c s.txt` asks to replay the schedule in the file `s.txt` on the program in `a.c`, with fuel for 1,000,000 ticks a task, and `replay --fuel=5 a.c s.txt` with fuel for 5;
 -- `replay a.c`, `replay a.c s.txt t.txt`, `replay a.c s.txt --dump` and `replay a.c --fuel=0 s.txt` are refused.
-use Rattle.std.specs.Prelude.{◌≡◌, ℕ, Bool, true, false, not, ◌&&◌, ◌||◌, ◌==◌, if◌then◌else◌, nat_le, List, [], ◌∷◌, ◌++◌, length, take, drop, Option, Some, None, Result, Ok, Err, codes, option_map}
+-- And: `trace a.c --fuel=5` asks for the trace of the run by waves of `a.c`, and `trace a.c --mode=waves`, `trace a.c --dump` and `trace a.c --workers=4` are refused. `soak 7 9` asks
+-- to run the generated program from 7 on with 9 tasks; `soak 18446744073709551615 9000 --mode=serial` is one too, and `soak 7`, `soak 07 9`, `soak 7 0`, `soak 7 9001`, `soak 7 9 --fuel=5`
+-- and `soak 18446744073709551616 9` are refused.
+use Rattle.std.specs.Prelude.{◌≡◌, ◌<◌, ℕ, Bool, true, false, not, ◌&&◌, ◌||◌, ◌==◌, if◌then◌else◌, nat_le, List, [], ◌∷◌, ◌++◌, length, take, drop, Option, Some, None, Result, Ok, Err, codes, option_map}
 use Rattle.std.specs.Str.{bytes_eq}
 use Rattle.oss_sched.specs.Reading.{number_in}
 use Rattle.oss_command.specs.declared.options.Options.{Options}
 use Rattle.oss_command.specs.declared.options.RunMode.{RunMode}
 use Rattle.oss_command.specs.declared.options.RunMode.TheVariants as mode
+use Rattle.oss_command.specs.declared.options.DepsKind.{DepsKind}
+use Rattle.oss_command.specs.declared.options.DepsKind.TheVariants as deps
 use Rattle.oss_command.specs.declared.command.Command.{Command as Told}
 use Rattle.oss_command.specs.declared.command.Command.TheVariants as told
 use Rattle.oss_command.specs.declared.command.WordsRefused.{WordsRefused}
 
--- What is asked for, of the program in the file of this name. A replay is of the schedule in a second file, and each task in it has so much fuel.
+-- What is asked for, of the program in the file of this name. A replay is of the schedule in a second file, and each task in it has so much fuel. A soak is a run of a program without a
+-- file: the generated one from a number on, of so many tasks.
 pub data Command : Type 0 where
   run : (file : List ℕ) (options : Options) → Command
   check : (file : List ℕ) → Command
+  trace : (file : List ℕ) (options : Options) → Command
   replay : (file schedule : List ℕ) (fuel : ℕ) → Command
+  soak : (number size : ℕ) (options : Options) → Command
 
--- the name of the file with its program
-abbrev pub file_of : Command → List ℕ
-file_of (run file options) = file
-file_of (check file) = file
-file_of (replay file schedule fuel) = file
+-- the name of the file with its program, where it has one
+abbrev pub file_of : Command → Option (List ℕ)
+file_of (run file options) = Some file
+file_of (check file) = Some file
+file_of (trace file options) = Some file
+file_of (replay file schedule fuel) = Some file
+file_of (soak number size options) = None
 
 -- the name of the file with its schedule, where it has one
 abbrev pub schedule_of : Command → Option (List ℕ)
 schedule_of (run file options) = None
 schedule_of (check file) = None
+schedule_of (trace file options) = None
 schedule_of (replay file schedule fuel) = Some schedule
+schedule_of (soak number size options) = None
 
 -- Operands
 
@@ -93,11 +106,19 @@ number_by least most default absent = Some default
 number_by least most default (once v) = number_in least most v
 number_by least most default again = None
 
--- the mode of a run
+-- The mode of a run: by waves where nothing is said.
 abbrev pub mode_by : Standing → Option RunMode
-mode_by absent = Some mode.Serial
-mode_by (once v) = if bytes_eq v (codes "serial") then Some mode.Serial else None
+mode_by absent = Some mode.Waves
+mode_by (once v) = if bytes_eq v (codes "serial") then Some mode.Serial else if bytes_eq v (codes "waves") then Some mode.Waves else None
 mode_by again = None
+
+-- The dependency system of a run in this mode: there is one, and it may be named where the run is by waves.
+abbrev pub deps_by : Option RunMode → Standing → Option DepsKind
+deps_by (Some mode.Waves) (once v) = if bytes_eq v (codes "plain") then Some deps.Plain else None
+deps_by (Some mode.Serial) (once v) = None
+deps_by None (once v) = None
+deps_by m absent = Some deps.Plain
+deps_by m again = None
 
 -- an option without a value: whether it stands
 abbrev pub flag_by : Standing → Option Bool
@@ -107,6 +128,9 @@ flag_by again = None
 
 abbrev pub mode_name : List ℕ
 mode_name = codes "--mode="
+
+abbrev pub deps_name : List ℕ
+deps_name = codes "--deps="
 
 abbrev pub workers_name : List ℕ
 workers_name = codes "--workers="
@@ -119,24 +143,36 @@ dump_name = codes "--dump"
 
 -- a word that `run` may have
 abbrev pub is_listed : List ℕ → Bool
-is_listed w = is_operand w || is_there (behind mode_name w) || is_there (behind workers_name w) || is_there (behind fuel_name w) || bytes_eq w dump_name
+is_listed w = is_operand w || is_there (behind mode_name w) || is_there (behind deps_name w) || is_there (behind workers_name w) || is_there (behind fuel_name w) || bytes_eq w dump_name
+
+-- a word that `trace` may have
+abbrev pub is_trace_word : List ℕ → Bool
+is_trace_word w = is_operand w || is_there (behind deps_name w) || is_there (behind fuel_name w)
+
+-- a word that `soak` may have
+abbrev pub is_soak_word : List ℕ → Bool
+is_soak_word w = is_operand w || is_there (behind mode_name w) || is_there (behind deps_name w) || is_there (behind workers_name w)
 
 -- a word that `replay` may have
 abbrev pub is_replay_word : List ℕ → Bool
 is_replay_word w = is_operand w || is_there (behind fuel_name w)
 
--- what the options say, each by itself; none where one of them stands twice or has a value out of form
-abbrev pub options_by : Option RunMode → Option ℕ → Option ℕ → Option Bool → Option Options
-options_by (Some mode) (Some workers) (Some fuel) (Some dump) = Some (record { mode = mode; workers = workers; fuel = fuel; dump = dump })
-options_by _ _ _ _ = None
+-- what the options say; none where one of them stands twice or has a value out of form
+abbrev pub options_by : Option RunMode → Option DepsKind → Option ℕ → Option ℕ → Option Bool → Option Options
+options_by (Some mode) (Some deps) (Some workers) (Some fuel) (Some dump) = Some (record { mode = mode; deps = deps; workers = workers; fuel = fuel; dump = dump })
+options_by _ _ _ _ _ = None
 
 -- the fuel of each task: for 1 to 1,000,000,000 ticks, and for 1,000,000 where nothing is said
 abbrev pub fuel_in : List (List ℕ) → Option ℕ
 fuel_in words = number_by 1 1000000000 1000000 (standing (values_of fuel_name words))
 
--- the options of a run: where nothing is said, the mode is serial and there are 4 workers, of 1 to 64
+-- the mode that words say
+abbrev pub mode_in : List (List ℕ) → Option RunMode
+mode_in words = mode_by (standing (values_of mode_name words))
+
+-- The options of a run: where nothing is said, it is by waves, over the plain lists, with 4 workers, of 1 to 64, with fuel for 1,000,000 ticks a task, and without a dump.
 abbrev pub options_in : List (List ℕ) → Option Options
-options_in words = options_by (mode_by (standing (values_of mode_name words))) (number_by 1 64 4 (standing (values_of workers_name words))) (fuel_in words)
+options_in words = options_by (mode_in words) (deps_by (mode_in words) (standing (values_of deps_name words))) (number_by 1 64 4 (standing (values_of workers_name words))) (fuel_in words)
     (flag_by (standing (values_of dump_name words)))
 
 -- Commands
@@ -150,6 +186,21 @@ run_of _ _ = None
 abbrev pub replay_of : Option (List ℕ × List ℕ) → Option ℕ → Option Command
 replay_of (Some (file, schedule)) (Some fuel) = Some (replay file schedule fuel)
 replay_of _ _ = None
+
+-- a trace of a file with options, if both are there
+abbrev pub trace_of : Option (List ℕ) → Option Options → Option Command
+trace_of (Some file) (Some options) = Some (trace file options)
+trace_of _ _ = None
+
+-- a soak by two numbers with options, if each is there
+abbrev pub soak_by : Option ℕ → Option ℕ → Option Options → Option Command
+soak_by (Some number) (Some size) (Some options) = Some (soak number size options)
+soak_by _ _ _ = None
+
+-- The same by two words: the first is a number of 64 bits, and the second one from 1 to 9,000.
+abbrev pub soak_of : Option (List ℕ × List ℕ) → Option Options → Option Command
+soak_of (Some (number, size)) options = soak_by (number_in 0 18446744073709551615 number) (number_in 1 9000 size) options
+soak_of None options = None
 
 -- each of the words passes the test
 abbrev pub all_by : (List ℕ → Bool) → List (List ℕ) → Bool
@@ -166,9 +217,16 @@ check_asked words = if all_by is_operand words then option_map (λ file. check f
 abbrev pub replay_asked : List (List ℕ) → Option Command
 replay_asked words = if all_by is_replay_word words then replay_of (the_two (operands_in words)) (fuel_in words) else None
 
+abbrev pub trace_asked : List (List ℕ) → Option Command
+trace_asked words = if all_by is_trace_word words then trace_of (the_one (operands_in words)) (options_in words) else None
+
+abbrev pub soak_asked : List (List ℕ) → Option Command
+soak_asked words = if all_by is_soak_word words then soak_of (the_two (operands_in words)) (options_in words) else None
+
 abbrev pub asked_by : List ℕ → List (List ℕ) → Option Command
 asked_by word rest = if bytes_eq word (codes "run") then run_asked rest else if bytes_eq word (codes "check") then check_asked rest
-    else if bytes_eq word (codes "replay") then replay_asked rest else None
+    else if bytes_eq word (codes "trace") then trace_asked rest else if bytes_eq word (codes "replay") then replay_asked rest
+    else if bytes_eq word (codes "soak") then soak_asked rest else None
 
 -- what the words ask for; none where they are refused
 abbrev pub asked_of : List (List ℕ) → Option Command
@@ -179,7 +237,17 @@ asked_of (word ∷ rest) = asked_by word rest
 abbrev pub meant : Told → Command
 meant (told.Run file options) = run file.now options
 meant (told.Check file) = check file.now
+meant (told.Trace file options) = trace file.now options
 meant (told.Replay asked) = replay asked.file.now asked.schedule.now asked.fuel
+meant (told.Soak asked) = soak asked.number asked.size asked.options
+
+-- A command that runs a program has a worker at least.
+abbrev pub HasWorkers : Command → Type 0
+HasWorkers (run file options) = 0 < options.workers
+HasWorkers (check file) = Unit {0}
+HasWorkers (trace file options) = 0 < options.workers
+HasWorkers (replay file schedule fuel) = Unit {0}
+HasWorkers (soak number size options) = 0 < options.workers
 
 abbrev pub IsAskedBy : Option Command → Result Told WordsRefused → Type 0
 IsAskedBy command (Ok t) = command ≡ Some (meant t)

@@ -1,11 +1,17 @@
 //! What the words of the command line ask for.
 
-ghost use Rattle.std.specs.Prelude.{◌≡◌, map};
+ghost use Rattle.std.specs.Prelude.{◌≡◌, ◌≤◌, map, option_map, Some, IfOk, IfSome};
 ghost use Rattle.std.specs.String.{string_bytes};
-ghost use Rattle.oss_command.specs.Commands.{IsAsked, IsAskedBy, asked_by, check_asked, file_of, meant, replay_asked, run_asked};
+ghost use Rattle.oss_command.specs.Commands.{HasWorkers, IsAsked, IsAskedBy, asked_by, check_asked, file_of, meant, replay_asked, run_asked, soak_asked, soak_of, trace_asked};
+ghost use Rattle.oss_command.specs.Commands.Command.{soak};
 
-use crate::operands::{are_listed, are_operands, are_replay_words, the_operand, the_two_operands};
+use crate::operands::{
+    are_listed, are_operands, are_replay_words, are_soak_words, are_trace_words, the_operand,
+    the_two_operands,
+};
 use crate::options::{Options, read_fuel, read_options};
+use crate::soak::Soak;
+use oss_sched::number_within;
 use thiserror::Error;
 
 /// A schedule and the program that it is replayed on, by the names of their files.
@@ -26,8 +32,12 @@ pub enum Command<'w> {
     Run(&'w str, Options),
     /// To tell whether a file is a program.
     Check(&'w str),
+    /// To tell the trace of the run by waves of the program in a file. Of the options only the fuel and the dependency system may be said.
+    Trace(&'w str, Options),
     /// To replay a schedule on the program in a file.
     Replay(Replay<'w>),
+    /// To run a generated program.
+    Soak(Soak),
 }
 
 /// Why words are refused.
@@ -41,7 +51,8 @@ pub enum WordsRefused {
 /// Reads the words behind the program's name: a command, and its operands and options. `Usage` exactly where they are something
 /// else. It takes no memory.
 pub fn read_words(words: &[String]) -> Result<Command<'_>, WordsRefused>
-    ensures { IsAsked (map string_bytes words.now) result }
+    ensures asked { IsAsked (map string_bytes words.now) result }
+    ensures workers { IfOk result (λ told. HasWorkers (meant told)) }
 {
     match words {
         [] => Err(WordsRefused::Usage),
@@ -51,7 +62,8 @@ pub fn read_words(words: &[String]) -> Result<Command<'_>, WordsRefused>
 
 /// What a command asks for with the words behind it.
 fn command_on<'w>(command: &str, rest: &'w [String]) -> Result<Command<'w>, WordsRefused>
-    ensures { IsAskedBy (asked_by command.now (map string_bytes rest.now)) result }
+    ensures asked { IsAskedBy (asked_by command.now (map string_bytes rest.now)) result }
+    ensures workers { IfOk result (λ told. HasWorkers (meant told)) }
 {
     if command == "run" {
         return run_on(rest);
@@ -59,15 +71,22 @@ fn command_on<'w>(command: &str, rest: &'w [String]) -> Result<Command<'w>, Word
     if command == "check" {
         return check_on(rest);
     }
+    if command == "trace" {
+        return trace_on(rest);
+    }
     if command == "replay" {
         return replay_on(rest);
+    }
+    if command == "soak" {
+        return soak_on(rest);
     }
     Err(WordsRefused::Usage)
 }
 
 /// What `run` asks for with the words behind it.
 fn run_on(rest: &[String]) -> Result<Command<'_>, WordsRefused>
-    ensures { IsAskedBy (run_asked (map string_bytes rest.now)) result }
+    ensures asked { IsAskedBy (run_asked (map string_bytes rest.now)) result }
+    ensures workers { IfOk result (λ told. HasWorkers (meant told)) }
 {
     if !are_listed(rest) {
         return Err(WordsRefused::Usage);
@@ -83,7 +102,8 @@ fn run_on(rest: &[String]) -> Result<Command<'_>, WordsRefused>
 
 /// What `check` asks for with the words behind it.
 fn check_on(rest: &[String]) -> Result<Command<'_>, WordsRefused>
-    ensures { IsAskedBy (check_asked (map string_bytes rest.now)) result }
+    ensures asked { IsAskedBy (check_asked (map string_bytes rest.now)) result }
+    ensures workers { IfOk result (λ told. HasWorkers (meant told)) }
 {
     if !are_operands(rest) {
         return Err(WordsRefused::Usage);
@@ -95,9 +115,27 @@ fn check_on(rest: &[String]) -> Result<Command<'_>, WordsRefused>
     }
 }
 
+/// What `trace` asks for with the words behind it.
+fn trace_on(rest: &[String]) -> Result<Command<'_>, WordsRefused>
+    ensures asked { IsAskedBy (trace_asked (map string_bytes rest.now)) result }
+    ensures workers { IfOk result (λ told. HasWorkers (meant told)) }
+{
+    if !are_trace_words(rest) {
+        return Err(WordsRefused::Usage);
+    }
+    let Some(file) = the_operand(rest) else {
+        return Err(WordsRefused::Usage);
+    };
+    match read_options(rest) {
+        Some(options) => Ok(Command::Trace(file, options)),
+        None => Err(WordsRefused::Usage),
+    }
+}
+
 /// What `replay` asks for with the words behind it.
 fn replay_on(rest: &[String]) -> Result<Command<'_>, WordsRefused>
-    ensures { IsAskedBy (replay_asked (map string_bytes rest.now)) result }
+    ensures asked { IsAskedBy (replay_asked (map string_bytes rest.now)) result }
+    ensures workers { IfOk result (λ told. HasWorkers (meant told)) }
 {
     if !are_replay_words(rest) {
         return Err(WordsRefused::Usage);
@@ -115,15 +153,49 @@ fn replay_on(rest: &[String]) -> Result<Command<'_>, WordsRefused>
     }
 }
 
+/// What `soak` asks for with the words behind it.
+fn soak_on(rest: &[String]) -> Result<Command<'_>, WordsRefused>
+    ensures asked { IsAskedBy (soak_asked (map string_bytes rest.now)) result }
+    ensures workers { IfOk result (λ told. HasWorkers (meant told)) }
+{
+    if !are_soak_words(rest) {
+        return Err(WordsRefused::Usage);
+    }
+    let Some((number, size)) = the_two_operands(rest) else {
+        return Err(WordsRefused::Usage);
+    };
+    match soak_by(number.as_bytes(), size.as_bytes(), read_options(rest)) {
+        Some(asked) => Ok(Command::Soak(asked)),
+        None => Err(WordsRefused::Usage),
+    }
+}
+
+/// The soak that two words and options ask for.
+fn soak_by(number: &[u8], size: &[u8], options: Option<Options>) -> Option<Soak>
+    ensures asked { option_map (λ asked. soak asked.number asked.size asked.options) result ≡ soak_of (Some (number.now, size.now)) options }
+    ensures options { IfSome result (λ asked. options ≡ Some asked.options) }
+{
+    let number = number_within(0, 18_446_744_073_709_551_615, number)?;
+    let size = number_within(1, 9000, size)?;
+    let options = options?;
+    Some(Soak {
+        number,
+        size: size as u32,
+        options,
+    })
+}
+
 impl<'w> Command<'w> {
-    /// The name of the file with the program.
-    pub fn file(self) -> &'w str
-        ensures { result.now ≡ file_of (meant self.entry) }
+    /// The name of the file with the program, where the program stands in one.
+    pub fn file(self) -> Option<&'w str>
+        ensures { option_map (λ file. file.now) result ≡ file_of (meant self.entry) }
     {
         match self {
-            Command::Run(file, _) => file,
-            Command::Check(file) => file,
-            Command::Replay(asked) => asked.file,
+            Command::Run(file, _) => Some(file),
+            Command::Check(file) => Some(file),
+            Command::Trace(file, _) => Some(file),
+            Command::Replay(asked) => Some(asked.file),
+            Command::Soak(_) => None,
         }
     }
 }

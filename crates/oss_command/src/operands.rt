@@ -2,7 +2,7 @@
 
 ghost use Rattle.std.specs.Prelude.{◌≡◌, map, option_map};
 ghost use Rattle.std.specs.String.{string_bytes};
-ghost use Rattle.oss_command.specs.Commands.{all_by, is_listed, is_operand, is_replay_word, operands_in, the_one, the_two};
+ghost use Rattle.oss_command.specs.Commands.{all_by, is_listed, is_operand, is_replay_word, is_soak_word, is_trace_word, operands_in, the_one, the_two};
 
 use crate::values::behind;
 
@@ -23,9 +23,31 @@ fn can_be_listed(word: &str) -> bool
     let bytes = word.as_bytes();
     can_be_operand(word)
         || behind(b"--mode=", bytes).is_some()
+        || behind(b"--deps=", bytes).is_some()
         || behind(b"--workers=", bytes).is_some()
         || behind(b"--fuel=", bytes).is_some()
         || word == "--dump"
+}
+
+/// Whether a word may stand behind `trace`.
+fn can_be_trace_word(word: &str) -> bool
+    ensures { result ≡ is_trace_word word.now }
+{
+    let bytes = word.as_bytes();
+    can_be_operand(word)
+        || behind(b"--deps=", bytes).is_some()
+        || behind(b"--fuel=", bytes).is_some()
+}
+
+/// Whether a word may stand behind `soak`.
+fn can_be_soak_word(word: &str) -> bool
+    ensures { result ≡ is_soak_word word.now }
+{
+    let bytes = word.as_bytes();
+    can_be_operand(word)
+        || behind(b"--mode=", bytes).is_some()
+        || behind(b"--deps=", bytes).is_some()
+        || behind(b"--workers=", bytes).is_some()
 }
 
 /// Whether a word may stand behind `replay`.
@@ -65,6 +87,30 @@ pub fn are_replay_words(words: &[String]) -> bool
 {
     for word in words {
         if !can_be_replay_word(word.as_str()) {
+            return false;
+        }
+    }
+    true
+}
+
+/// Whether each of the words may stand behind `trace`.
+pub fn are_trace_words(words: &[String]) -> bool
+    ensures { result ≡ all_by is_trace_word (map string_bytes words.now) }
+{
+    for word in words {
+        if !can_be_trace_word(word.as_str()) {
+            return false;
+        }
+    }
+    true
+}
+
+/// Whether each of the words may stand behind `soak`.
+pub fn are_soak_words(words: &[String]) -> bool
+    ensures { result ≡ all_by is_soak_word (map string_bytes words.now) }
+{
+    for word in words {
+        if !can_be_soak_word(word.as_str()) {
             return false;
         }
     }

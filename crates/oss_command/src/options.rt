@@ -1,8 +1,9 @@
 //! The options of a run, and the fuel of a replay.
 
-ghost use Rattle.std.specs.Prelude.{◌≡◌, map};
+ghost use Rattle.std.specs.Prelude.{◌≡◌, ◌≤◌, ◌<◌, map, IfSome};
 ghost use Rattle.std.specs.String.{string_bytes};
-ghost use Rattle.oss_command.specs.Commands.{flag_by, fuel_in, mode_by, number_by, options_in};
+ghost use Rattle.oss_command.specs.Commands.{deps_by, flag_by, fuel_in, mode_by, number_by, options_in};
+ghost use Rattle.oss_command.specs.Commands.Standing.{once};
 ghost use Rattle.oss_command.specs.Values.{stands};
 
 use crate::values::{Stands, value_of};
@@ -13,13 +14,24 @@ use oss_sched::number_within;
 pub enum RunMode {
     /// One task after the other, each where it is created.
     Serial,
+    /// In waves: the tasks that may act do so side by side, and then give up what they can.
+    Waves,
+}
+
+/// How it is told what tasks wait for.
+#[derive(Clone, Copy, Debug, PartialEq, Eq)]
+pub enum DepsKind {
+    /// By plain lists of the accesses to each cell.
+    Plain,
 }
 
 /// The options of a run. What the words do not say has its default.
 #[derive(Clone, Copy, Debug, PartialEq, Eq)]
 pub struct Options {
-    /// `--mode=`; serial where nothing is said.
+    /// `--mode=`; waves where nothing is said.
     pub mode: RunMode,
+    /// `--deps=`, of a run by waves alone; plain where nothing is said.
+    pub deps: DepsKind,
     /// `--workers=`, 1 to 64; 4 where nothing is said. A serial run has one thread whatever is said.
     pub workers: u32,
     /// `--fuel=`, the ticks that a task may do, 1 to 1,000,000,000; 1,000,000 where nothing is said.
@@ -28,17 +40,20 @@ pub struct Options {
     pub dump: bool,
 }
 
-/// The options that the words behind `run` say; none where one stands twice or has a value out of form.
+/// The options that the words behind a command say; none where one stands twice or has a value out of form.
 pub fn read_options(words: &[String]) -> Option<Options>
-    ensures { result ≡ options_in (map string_bytes words.now) }
+    ensures value { result ≡ options_in (map string_bytes words.now) }
+    ensures workers { IfSome result (λ options. 0 < options.workers) }
 {
     let mode = mode_of(value_of(b"--mode=", words));
+    let deps = deps_of(mode, value_of(b"--deps=", words));
     let workers = number_of(value_of(b"--workers=", words), 1, 64, 4);
     let fuel = read_fuel(words);
     let dump = flag_of(value_of(b"--dump", words));
-    match (mode, workers, fuel, dump) {
-        (Some(mode), Some(workers), Some(fuel), Some(dump)) => Some(Options {
+    match (mode, deps, workers, fuel, dump) {
+        (Some(mode), Some(deps), Some(workers), Some(fuel), Some(dump)) => Some(Options {
             mode,
+            deps,
             workers,
             fuel,
             dump,
@@ -59,21 +74,57 @@ fn mode_of(told: Stands<'_>) -> Option<RunMode>
     ensures { result ≡ mode_by (stands told.entry) }
 {
     match told {
-        Stands::Absent => Some(RunMode::Serial),
-        Stands::Once(value) => {
-            if value == b"serial".as_slice() {
-                Some(RunMode::Serial)
+        Stands::Absent => Some(RunMode::Waves),
+        Stands::Once(value) => mode_named(value),
+        Stands::Again => None,
+    }
+}
+
+/// The mode with this name.
+fn mode_named(value: &[u8]) -> Option<RunMode>
+    ensures { result ≡ mode_by (once value.now) }
+{
+    if value == b"serial".as_slice() {
+        return Some(RunMode::Serial);
+    }
+    if value == b"waves".as_slice() {
+        return Some(RunMode::Waves);
+    }
+    None
+}
+
+/// The dependency system that an option gives in this mode.
+fn deps_of(mode: Option<RunMode>, told: Stands<'_>) -> Option<DepsKind>
+    ensures { result ≡ deps_by mode (stands told.entry) }
+{
+    match told {
+        Stands::Absent => Some(DepsKind::Plain),
+        Stands::Once(value) => deps_named(mode, value),
+        Stands::Again => None,
+    }
+}
+
+/// The dependency system with this name, where the mode has it.
+fn deps_named(mode: Option<RunMode>, value: &[u8]) -> Option<DepsKind>
+    ensures { result ≡ deps_by mode (once value.now) }
+{
+    match mode {
+        Some(RunMode::Waves) => {
+            if value == b"plain".as_slice() {
+                Some(DepsKind::Plain)
             } else {
                 None
             }
         }
-        Stands::Again => None,
+        Some(RunMode::Serial) => None,
+        None => None,
     }
 }
 
 /// The number that an option gives, between these two.
 fn number_of(told: Stands<'_>, least: u32, most: u32, default: u32) -> Option<u32>
-    ensures { result ≡ number_by least most default (stands told.entry) }
+    ensures value { result ≡ number_by least most default (stands told.entry) }
+    ensures above { least ≤ default → IfSome result (λ number. least ≤ number) }
 {
     match told {
         Stands::Absent => Some(default),

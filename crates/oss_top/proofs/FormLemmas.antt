@@ -6,7 +6,7 @@ use Rattle.std.proofs.lemmas.List.{append-nil, length-replicate}
 use Rattle.oss_io.specs.Faults.{Rises}
 use Rattle.oss_io.specs.Spans.{ShelfFailed, ShelfQuiet, ShelfSeen, ShelfSpan, SinkSpan, TookWhole}
 use Rattle.oss_command.specs.Commands.{Command, file_of}
-use Rattle.oss_command.specs.Commands.Command.{check, replay, run}
+use Rattle.oss_command.specs.Commands.Command.{check, replay, run, soak, trace}
 use Rattle.oss_report.specs.Replays.{schedule_line}
 use Rattle.oss_top.specs.Forms.{error_reply, most_bytes, too_large_line}
 use Rattle.oss_top.specs.Reads.{IsReadReply, IsScheduleRead}
@@ -39,20 +39,29 @@ shown : (given : Option (List ℕ)) → (text : List ℕ) × IfSome given (λ t.
 shown None = ([], tt)
 shown (Some t) = (t, refl)
 
-long_command : (held : List ℕ → Option (List ℕ)) (c : Command) (text : List ℕ) (reply : Reply) → IfSome (held (file_of c)) (λ t. text ≡ t) → most_bytes < length text
+-- a text that is told under one name of a file is told under the other
+at_name : (held : List ℕ → Option (List ℕ)) (file name text : List ℕ) → Some file ≡ Some name → IfSome (held name) (λ t. text ≡ t) → IfSome (held file) (λ t. text ≡ t)
+at_name held file name text e same = let one : name ≡ file = cc in subst (λ (n : List ℕ). IfSome (held n) (λ t. text ≡ t)) one same
+
+no_name : (name : List ℕ) → None ≡ Some name → ⊥
+no_name name e = cc
+
+long_command : (held : List ℕ → Option (List ℕ)) (c : Command) (file text : List ℕ) (reply : Reply) → file_of c ≡ Some file → IfSome (held file) (λ t. text ≡ t) → most_bytes < length text
     → reply ≡ error_reply status.TextRefused too_large_line → (texts : Texts) × AreShown held c texts × IsCommandReply c texts reply
-long_command held (run file options) text reply same more is = (record { file = text; schedule = [] }, same, too_large more is)
-long_command held (check file) text reply same more is = (record { file = text; schedule = [] }, same, too_large more is)
-long_command held (replay file schedule fuel) text reply same more is =
+long_command held (run file options) name text reply e same more is = (record { file = text; schedule = [] }, at_name held file name text e same, too_large more is)
+long_command held (check file) name text reply e same more is = (record { file = text; schedule = [] }, at_name held file name text e same, too_large more is)
+long_command held (trace file options) name text reply e same more is = (record { file = text; schedule = [] }, at_name held file name text e same, too_large more is)
+long_command held (replay file schedule fuel) name text reply e same more is =
     let (listing, told) = shown (held schedule) in
-    (record { file = text; schedule = listing }, (same, told), files_too_large more is)
+    (record { file = text; schedule = listing }, (at_name held file name text e same, told), files_too_large more is)
+long_command held (soak number size options) name text reply e same more is = absurd (no_name name e)
 
 -- the reply to a file that is too long
-pub long_replies : (shelf : ShelfSpan) (c : Command) (reply : Reply) → ShelfQuiet shelf → IfSome (shelf.before.held (file_of c)) (λ t. most_bytes < length t)
+pub long_replies : (shelf : ShelfSpan) (c : Command) (file : List ℕ) (reply : Reply) → file_of c ≡ Some file → ShelfQuiet shelf → IfSome (shelf.before.held file) (λ t. most_bytes < length t)
     → reply ≡ error_reply status.TextRefused too_large_line → IsShelfReply c shelf reply
-long_replies shelf c reply still long is =
-    let (text, same, more) = long_text most_bytes (shelf.before.held (file_of c)) (longer most_bytes) long in
-    let (texts, told, replies) = long_command shelf.before.held c text reply same more is in
+long_replies shelf c file reply named still long is =
+    let (text, same, more) = long_text most_bytes (shelf.before.held file) (longer most_bytes) long in
+    let (texts, told, replies) = long_command shelf.before.held c file text reply named same more is in
     by_texts texts still told replies
 
 -- the reply to a schedule that is too long
@@ -67,13 +76,26 @@ module _ (before mid after : ShelfSeen) (same : (name : List ℕ) → mid.held n
   failed_whole f = subst (λ n. Rises n after.faults) still f
 
   -- what is replied once the program has been read is the reply to the command
-  pub read_replies : (c : Command) (text : List ℕ) (reply : Reply) → IfSome (before.held (file_of c)) (λ t. text ≡ t) → length text ≤ most_bytes
+  pub read_replies : (c : Command) (name text : List ℕ) (reply : Reply) → file_of c ≡ Some name → IfSome (before.held name) (λ t. text ≡ t) → length text ≤ most_bytes
       → IsReadReply c text (record { before = mid; after = after }) reply → IsShelfReply c (record { before = before; after = after }) reply
-  read_replies (run file options) text reply told few (quiet, is) = by_texts (record { file = text; schedule = [] }) (quiet ∙ still) told (fits few is)
-  read_replies (check file) text reply told few (quiet, is) = by_texts (record { file = text; schedule = [] }) (quiet ∙ still) told (fits few is)
-  read_replies (replay file schedule fuel) text reply told few (schedule_unread failed last is) = unread_schedule schedule text refl told few (failed_whole failed) last is
-  read_replies (replay file schedule fuel) text reply told few (by_schedule listing quiet shows is) =
-      by_texts (record { file = text; schedule = listing }) (quiet ∙ still) (told, subst (λ o. IfSome o (λ t. listing ≡ t)) (same schedule) shows) is
+  read_replies (run file options) name text reply e told few (quiet, is) =
+      by_texts (record { file = text; schedule = [] }) (quiet ∙ still) (at_name before.held file name text e told) (fits few is)
+  read_replies (check file) name text reply e told few (quiet, is) =
+      by_texts (record { file = text; schedule = [] }) (quiet ∙ still) (at_name before.held file name text e told) (fits few is)
+  read_replies (trace file options) name text reply e told few (quiet, is) =
+      by_texts (record { file = text; schedule = [] }) (quiet ∙ still) (at_name before.held file name text e told) (fits few is)
+  read_replies (soak number size options) name text reply e told few is = absurd (no_name name e)
+  read_replies (replay file schedule fuel) name text reply e told few (schedule_unread failed last is) = unread_schedule name schedule text e refl told few (failed_whole failed) last is
+  read_replies (replay file schedule fuel) name text reply e told few (by_schedule listing quiet shows is) =
+      by_texts (record { file = text; schedule = listing }) (quiet ∙ still) (at_name before.held file name text e told, subst (λ o. IfSome o (λ t. listing ≡ t)) (same schedule) shows) is
+
+-- the reply to a command without a file
+pub unfiled_replies : (shelf : ShelfSpan) (c : Command) (reply : Reply) → file_of c ≡ None → IsReadReply c [] shelf reply → IsShelfReply c shelf reply
+unfiled_replies shelf (run file options) reply e is = absurd (no_name file (sym e))
+unfiled_replies shelf (check file) reply e is = absurd (no_name file (sym e))
+unfiled_replies shelf (trace file options) reply e is = absurd (no_name file (sym e))
+unfiled_replies shelf (replay file schedule fuel) reply e is = absurd (no_name file (sym e))
+unfiled_replies shelf (soak number size options) reply e (quiet, is) = by_texts (record { file = []; schedule = [] }) quiet tt is
 
 nothing_more : (known : Option (List ℕ)) → known ≡ append_known known []
 nothing_more None = refl

@@ -11,13 +11,18 @@ use Rattle.oss_grammar.specs.TaskLoops.{program_written}
 use Rattle.oss_model.specs.Texts.{refusal_line}
 use Rattle.oss_parse.proofs.OneProgram.{parsed_once}
 use Rattle.oss_command.specs.Commands.{Command, asked_of}
-use Rattle.oss_command.specs.Commands.Command.{check, replay, run}
+use Rattle.oss_command.specs.Commands.Command.{check, replay, run, soak, trace}
 use Rattle.oss_command.specs.declared.options.Options.{Options}
-use Rattle.oss_meaning.specs.Results.{first_cells, main_of}
+use Rattle.oss_gen.specs.Generated.{generated_text}
+use Rattle.oss_meaning.specs.Expressions.{TreeScript}
+use Rattle.oss_meaning.specs.Meaning.{asks_of}
+use Rattle.oss_meaning.specs.Results.{IsOutcomeOf, Outcome, first_cells, main_of}
+use Rattle.oss_rounds.specs.Rounds.{Trace}
+use Rattle.oss_rounds.proofs.OneRunLemmas.{one_trace}
 use Rattle.oss_lower.proofs.OutcomeLaws.{outcomes_are_one}
 use Rattle.oss_sched.proofs.OneReading.{read_once}
 use Rattle.oss_report.specs.Replays.{schedule_line}
-use Rattle.oss_top.specs.Forms.{answer_reply, error_reply}
+use Rattle.oss_top.specs.Forms.{answer_reply, error_reply, soak_reply, trace_reply}
 use Rattle.oss_top.specs.OneReply.{IsReplied, IsRepliedOnce}
 use Rattle.oss_top.specs.ProgramTexts.{Accepts, Refuses}
 use Rattle.oss_top.specs.ProgramTexts.Refuses.{by_grammar, by_rules}
@@ -28,7 +33,9 @@ use Rattle.oss_top.specs.Replays.IsScheduleReply.{replayed, wrong_line}
 use Rattle.oss_top.specs.Replays.IsTextsReply.{accepted as texts_accepted, refused_text as texts_refused}
 use Rattle.oss_top.specs.Replays.IsFilesReply.{fit, too_large as files_too_large, too_long}
 use Rattle.oss_top.specs.Reply.{AreHeld, AreShown, IsCommandReply, IsComplete, IsFileReply, IsOutcome, IsProgramReply, IsReply, IsRunReply, IsShelfReply, IsTextReply, IsUnwritten, Texts}
-use Rattle.oss_top.specs.Reply.IsProgramReply.{checked, ran}
+use Rattle.oss_top.specs.Reply.IsProgramReply.{checked, ran, soaked, traced}
+use Rattle.oss_top.specs.Soaks.{IsSoakReply}
+use Rattle.oss_top.specs.Traces.{IsTraceOf, IsTraceReply, text_of}
 use Rattle.oss_top.specs.Reply.IsTextReply.{accepted, refused_text}
 use Rattle.oss_top.specs.Reply.IsFileReply.{too_large, fits}
 use Rattle.oss_top.specs.Reply.IsReply.{no_memory, of_command, usage}
@@ -42,14 +49,30 @@ use Rattle.oss_top.specs.declared.status.Status.TheVariants as status
 one_some : (r other : Refused) (o : Option Refused) → o ≡ Some r → o ≡ Some other → r ≡ other
 one_some r other o a b = cc
 
+outcome_once : (p : Program) (fuel : ℕ) (o q : Outcome) → IsOutcomeOf p.items fuel o → IsOutcomeOf p.items fuel q → o ≡ q
+outcome_once p fuel o q x y = outcomes_are_one p.items (main_of p.items fuel) (first_cells p.items) o q x y
+
+traced_once : (p : Program) (fuel : ℕ) (t u : Trace) → IsTraceOf p fuel t → IsTraceOf p fuel u → t ≡ u
+traced_once p fuel t u x y = one_trace TreeScript (asks_of p.items) (main_of p.items fuel) (first_cells p.items) t u x y
+
 run_once : (options : Options) (p : Program) (reply other : Reply) → IsRunReply options p reply → IsRunReply options p other → reply ≡ other
 run_once options p reply other x y =
-    let same = outcomes_are_one p.items (main_of p.items options.fuel) (first_cells p.items) x.outcome y.outcome x.is_outcome y.is_outcome in
-    x.is_reply ∙ ap (λ o. answer_reply options.dump p o.answer) same ∙ sym y.is_reply
+    x.is_reply ∙ ap (λ (o : Outcome). answer_reply options.dump p o.answer) (outcome_once p options.fuel x.outcome y.outcome x.is_outcome y.is_outcome) ∙ sym y.is_reply
+
+trace_once : (fuel : ℕ) (p : Program) (reply other : Reply) → IsTraceReply fuel p reply → IsTraceReply fuel p other → reply ≡ other
+trace_once fuel p reply other x y =
+    x.is_reply ∙ ap (λ (t : Trace). trace_reply (text_of t) x.outcome.answer) (traced_once p fuel x.trace y.trace x.is_trace y.is_trace)
+    ∙ ap (λ (o : Outcome). trace_reply (text_of y.trace) o.answer) (outcome_once p fuel x.outcome y.outcome x.is_outcome y.is_outcome) ∙ sym y.is_reply
+
+soak_once : (options : Options) (p : Program) (reply other : Reply) → IsSoakReply options p reply → IsSoakReply options p other → reply ≡ other
+soak_once options p reply other x y =
+    x.is_reply ∙ ap (λ (o : Outcome). soak_reply o.tasks o.answer) (outcome_once p options.fuel x.outcome y.outcome x.is_outcome y.is_outcome) ∙ sym y.is_reply
 
 program_once : (c : Command) (p : Program) (reply other : Reply) → IsProgramReply c p reply → IsProgramReply c p other → reply ≡ other
 program_once c p reply other (checked x) (checked y) = x ∙ sym y
 program_once c p reply other (ran {options} x) (ran y) = run_once options p reply other x y
+program_once c p reply other (traced {options} x) (traced y) = trace_once options.fuel p reply other x y
+program_once c p reply other (soaked {options} x) (soaked y) = soak_once options p reply other x y
 
 module _ (text : List ℕ) (once : IsParsedOnce text) where
   -- a text that is accepted is not refused
@@ -121,6 +144,8 @@ replied_once text schedule = record { one = files_once text schedule (parsed_onc
 command_once : (c : Command) (texts : Texts) (reply other : Reply) → IsCommandReply c texts reply → IsCommandReply c texts other → reply ≡ other
 command_once (run file options) texts reply other x y = (replied texts.file).one (run file options) reply other x y
 command_once (check file) texts reply other x y = (replied texts.file).one (check file) reply other x y
+command_once (trace file options) texts reply other x y = (replied texts.file).one (trace file options) reply other x y
+command_once (soak number size options) texts reply other x y = (replied (generated_text number size)).one (soak number size options) reply other x y
 command_once (replay file schedule fuel) texts reply other x y = (replied_once texts.file texts.schedule).one fuel reply other x y
 
 -- the text that is shown is the one that is held
@@ -131,6 +156,8 @@ same_text text shown held same is = rw is at same
 by_held : (held : List ℕ → Option (List ℕ)) (c : Command) (told texts : Texts) (reply : Reply) → AreShown held c told → AreHeld held c texts → IsCommandReply c told reply → IsCommandReply c texts reply
 by_held held (run file options) told texts reply same is x = subst (λ t. IsFileReply (run file options) t reply) (same_text texts.file told.file (held file) same is) x
 by_held held (check file) told texts reply same is x = subst (λ t. IsFileReply (check file) t reply) (same_text texts.file told.file (held file) same is) x
+by_held held (trace file options) told texts reply same is x = subst (λ t. IsFileReply (trace file options) t reply) (same_text texts.file told.file (held file) same is) x
+by_held held (soak number size options) told texts reply same is x = x
 by_held held (replay file schedule fuel) told texts reply (same, shows) (is, holds) x =
     subst (λ t. IsFilesReply fuel t texts.schedule reply) (same_text texts.file told.file (held file) same is)
     (subst (λ t. IsFilesReply fuel told.file t reply) (same_text texts.schedule told.schedule (held schedule) shows holds) x)
@@ -138,8 +165,8 @@ by_held held (replay file schedule fuel) told texts reply (same, shows) (is, hol
 module _ (words : List (List ℕ)) (shelf : ShelfSpan) (still : ¬ ShelfFailed shelf) where
   -- the reply to a command, where no read failed
   shelf_complete : (c : Command) (texts : Texts) → AreHeld shelf.before.held c texts → (reply : Reply) → IsShelfReply c shelf reply → (other : Reply) → IsCommandReply c texts other → reply ≡ other
-  shelf_complete c texts held reply (unread failed last is) other w = absurd (still failed)
-  shelf_complete c texts held reply (unread_schedule schedule text of same few failed last is) other w = absurd (still failed)
+  shelf_complete c texts held reply (unread file named failed last is) other w = absurd (still failed)
+  shelf_complete c texts held reply (unread_schedule file schedule text named of same few failed last is) other w = absurd (still failed)
   shelf_complete c texts held reply (by_texts told quiet same is) other w = command_once c texts reply other (by_held shelf.before.held c told texts reply same held is) w
 
   -- the number of a reply, where no read failed

@@ -24,14 +24,23 @@ use Rattle.oss_parse.specs.Parsed.{told_of}
 use Rattle.oss_parse.specs.ProgramReading.{read_text}
 use Rattle.oss_parse.proofs.ParsedLemmas.{parsed}
 use Rattle.oss_command.specs.Commands.{Command}
-use Rattle.oss_command.specs.Commands.Command.{run, check, replay}
-use Rattle.oss_lower.proofs.TextPlaces.{accepted_programs_have_one_outcome}
+use Rattle.oss_command.specs.Commands.Command.{run, check, trace, replay, soak}
+use Rattle.oss_rounds.proofs.ExistLemmas.{has_trace}
+use Rattle.oss_meaning.specs.Expressions.{TreeScript}
+use Rattle.oss_meaning.specs.Meaning.{asks_of}
+use Rattle.oss_meaning.specs.Results.{IsOutcomeOf, Outcome, first_cells, main_of}
+use Rattle.oss_lower.proofs.LiveLemmas.{programs_are_lively}
+use Rattle.oss_lower.proofs.OutcomeLaws.{programs_have_codes}
+use Rattle.oss_lower.proofs.ProgramLemmas.{codes_ask_alike}
+use Rattle.oss_lower.proofs.TextPlaces.{accepted_places, accepted_programs_have_one_outcome, accepted_setting}
 use Rattle.oss_top.specs.OneReply.{IsOfOneText}
 use Rattle.oss_top.specs.ProgramTexts.{Accepts, Refuses}
 use Rattle.oss_top.specs.ProgramTexts.Refuses.{by_grammar, by_rules}
-use Rattle.oss_top.specs.Forms.{accepted_line, answer_reply, done_reply, error_reply, most_bytes, too_large_line}
+use Rattle.oss_top.specs.Forms.{accepted_line, answer_reply, done_reply, error_reply, most_bytes, soak_reply, too_large_line, trace_reply}
 use Rattle.oss_top.specs.Reply.{IsFileReply, IsTextReply, IsProgramReply}
-use Rattle.oss_top.specs.Reply.IsProgramReply.{checked, ran}
+use Rattle.oss_top.specs.Reply.IsProgramReply.{checked, ran, soaked, traced}
+use Rattle.oss_top.specs.Traces.{IsTraceOf, text_of}
+use Rattle.oss_rounds.specs.Rounds.{Trace}
 use Rattle.oss_top.specs.Reply.IsTextReply.{accepted, refused_text}
 use Rattle.oss_top.specs.Reply.IsFileReply.{too_large, fits}
 use Rattle.oss_top.specs.declared.reply.Reply.{Reply}
@@ -72,12 +81,29 @@ some_parse text = from (some_reading (length text) Beginning 1 text (omega arith
   from (inl (ts, w)) = told ts w (told_of text ts (read_text ts)) refl
   from (inr (kind, at, w)) = inr (record { kind = kind; line = at; token = 0 }, by_tokens w refl)
 
+some_outcome : (text : List ℕ) (p : Program) → Accepts text p → (fuel : ℕ) → (o : Outcome) × IsOutcomeOf (program_written p).items fuel o
+some_outcome text p a fuel = (accepted_programs_have_one_outcome text p a.is_text a.obeys fuel).some
+
+-- the program has a code, so it is lively, and has a trace
+some_trace : (text : List ℕ) (p : Program) → Accepts text p → (fuel : ℕ) → (t : Trace) × IsTraceOf (program_written p) fuel t
+some_trace text p a fuel =
+    let items = (program_written p).items in
+    let code = programs_have_codes items (accepted_places text p a.is_text a.obeys) in
+    has_trace TreeScript (asks_of items) (main_of items fuel) (first_cells items) (accepted_setting text p a.is_text a.obeys fuel) (programs_are_lively items code.0 (codes_ask_alike items code.0 code.1))
+
 program_reply : (c : Command) → IsOfOneText c → (text : List ℕ) (p : Program) → Accepts text p → (reply : Reply) × IsProgramReply c (program_written p) reply
 program_reply (check file) of text p a = (done_reply accepted_line, checked refl)
 program_reply (replay file schedule fuel) of text p a = absurd of
 program_reply (run file options) of text p a =
-    let (o, is) = (accepted_programs_have_one_outcome text p a.is_text a.obeys options.fuel).some in
+    let (o, is) = some_outcome text p a options.fuel in
     (answer_reply options.dump (program_written p) o.answer, ran (record { outcome = o; is_outcome = is; is_reply = refl }))
+program_reply (trace file options) of text p a =
+    let (o, is) = some_outcome text p a options.fuel in
+    let (t, has) = some_trace text p a options.fuel in
+    (trace_reply (text_of t) o.answer, traced (record { trace = t; is_trace = has; outcome = o; is_outcome = is; is_reply = refl }))
+program_reply (soak number size options) of text p a =
+    let (o, is) = some_outcome text p a options.fuel in
+    (soak_reply o.tasks o.answer, soaked (record { outcome = o; is_outcome = is; is_reply = refl }))
 
 text_reply : (c : Command) → IsOfOneText c → (text : List ℕ) → (reply : Reply) × IsTextReply c text reply
 text_reply c of text = from (some_parse text) where

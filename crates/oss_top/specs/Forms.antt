@@ -1,6 +1,8 @@
 -- The forms of replies, and the lines that they have beside those of faults, refusals and replays.
--- Read against: the answer Done with the output `6` has a reply with that output and the status Done; a fault has one with the output before it, and with its line on the error output.
+-- Read against: the answer Done with the output `6` has a reply with that output and the status Done; a fault has one with the output before it, and with its line on the error output. A soak of
+-- three tasks with that answer has the output `tasks 3`, a newline and `6`; a trace has all its lines on the output, whatever the answer is.
 use Rattle.std.specs.Prelude.{ℕ, Bool, true, false, List, [], ◌∷◌, ◌++◌, codes}
+use Rattle.std.specs.Fmt.{decimal}
 use Rattle.oss_syntax.specs.declared.tree.program.Program.{Program}
 use Rattle.oss_syntax.specs.declared.refusal.RefusedKind.TheVariants as refused
 use Rattle.oss_model.specs.declared.answer.Answer.{Answer}
@@ -37,7 +39,25 @@ abbrev pub dump_behind : Bool → Program → List ℕ → List ℕ
 dump_behind false program cells = []
 dump_behind true program cells = dump_text program.items cells
 
+-- the reply to a command that came to a fault, with this output and the line of the fault
+abbrev pub fault_reply : List ℕ → List ℕ → Reply
+fault_reply text line = record { status = status.Fault; out = text; err = line }
+
 -- the reply to a run of the program that has this answer, with a dump or without
 abbrev pub answer_reply : Bool → Program → Answer → Reply
 answer_reply dump program (Done text cells) = done_reply (text ++ dump_behind dump program cells)
-answer_reply dump program (Fault kind line text) = record { status = status.Fault; out = text; err = fault_line kind line }
+answer_reply dump program (Fault kind line text) = fault_reply text (fault_line kind line)
+
+-- the reply to a trace with this text, of a program that has this answer
+abbrev pub trace_reply : List ℕ → Answer → Reply
+trace_reply trace (Done text cells) = done_reply trace
+trace_reply trace (Fault kind line text) = fault_reply trace (fault_line kind line)
+
+-- the line that tells how many tasks there were
+abbrev pub tasks_line : ℕ → List ℕ
+tasks_line count = codes "tasks " ++ decimal count ++ 10 ∷ []
+
+-- the reply to a soak that had so many tasks and has this answer
+abbrev pub soak_reply : ℕ → Answer → Reply
+soak_reply count (Done text cells) = done_reply (tasks_line count ++ text)
+soak_reply count (Fault kind line text) = fault_reply text (fault_line kind line)

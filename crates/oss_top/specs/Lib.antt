@@ -6,4 +6,6 @@ pub mod Reads
 pub mod Replays
 pub mod Reply
 pub mod Runs
+pub mod Soaks
 pub mod Statuses
+pub mod Traces

@@ -1,20 +1,22 @@
--- A text has one reply to a check and to a run: there is one, and two by their definition are equal in status, output and error output. Two texts have at most one to a
+-- A text has one reply to a check, a run, a trace and a soak: there is one, and two by their definition are equal in status, output and error output. Two texts have at most one to a
 -- replay.
 -- Read against: a text is accepted as one program or refused for one reason, since its grammar leaves no choice; and a text that is
--- too long is refused as that, whatever stands in it; and the sequential run of a program comes to its end, and to one. A schedule is one list of moves or has one first
+-- too long is refused as that, whatever stands in it; and the sequential run of a program comes to its end, and to one, as its run by waves does. A schedule is one list of moves or has one first
 -- wrong line; and its moves lead to one state, or one of them is the first that is not enabled.
 use Rattle.std.specs.Prelude.{◌≡◌, ℕ, List}
 use Rattle.oss_command.specs.Commands.{Command}
-use Rattle.oss_command.specs.Commands.Command.{run, check, replay}
+use Rattle.oss_command.specs.Commands.Command.{run, check, trace, replay, soak}
 use Rattle.oss_top.specs.Replays.{IsFilesReply}
 use Rattle.oss_top.specs.Reply.{IsFileReply}
 use Rattle.oss_top.specs.declared.reply.Reply.{Reply}
 
--- The command has the text of a program alone.
+-- The command has the text of a program alone, read or generated.
 abbrev pub IsOfOneText : Command → Type 0
 IsOfOneText (run file options) = Unit {0}
 IsOfOneText (check file) = Unit {0}
+IsOfOneText (trace file options) = Unit {0}
 IsOfOneText (replay file schedule fuel) = ⊥
+IsOfOneText (soak number size options) = Unit {0}
 
 pub record IsReplied (text : List ℕ) : Type 0 where
   pub some : (c : Command) → IsOfOneText c → (reply : Reply) × IsFileReply c text reply

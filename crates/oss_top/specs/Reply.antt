@@ -11,7 +11,7 @@
 --
 -- Read against: of `long x; int main() { x = 1; }` the reply to `check` is Done with `ok`, to `run` Done with nothing, and to `run --dump` Done with the line
 -- `x = 1`; with `x = 1 / x;` in its place the reply to `run`, with a dump or without, is Fault with nothing on the output and DivideByZero at line 1; of the empty text
--- it is TextRefused with NoMain at line 1 to all three, and to a replay, whatever lines its schedule has; and of words that are refused, no file is read.
+-- it is TextRefused with NoMain at line 1 to all three, to `trace`, and to a replay, whatever lines its schedule has; and of words that are refused, no file is read.
 use Rattle.std.specs.Prelude.{◌≡◌, ◌≤◌, ◌<◌, ◌⊎◌, ℕ, List, [], length, Option, Some, None, IfSome}
 use Rattle.oss_io.specs.Spans.{ShelfSpan, ShelfFailed, ShelfQuiet, SinkSpan, SinkFailed, TookWhole, TookPart, Untouched}
 use Rattle.oss_syntax.specs.declared.tree.program.Program.{Program}
@@ -20,37 +20,42 @@ use Rattle.oss_model.specs.Texts.{refusal_line}
 use Rattle.oss_grammar.specs.TaskLoops.{program_written}
 use Rattle.oss_meaning.specs.Results.{IsOutcomeOf, Outcome}
 use Rattle.oss_command.specs.Commands.{Command, asked_of, file_of, schedule_of, usage_line}
-use Rattle.oss_command.specs.Commands.Command.{run, check, replay}
+use Rattle.oss_command.specs.Commands.Command.{run, check, trace, replay, soak}
 use Rattle.oss_command.specs.declared.options.Options.{Options}
+use Rattle.oss_gen.specs.Generated.{generated_text}
 use Rattle.oss_top.specs.Forms.{accepted_line, answer_reply, done_reply, error_reply, most_bytes, too_large_line, unread_line}
 use Rattle.oss_top.specs.ProgramTexts.{Accepts, Refuses}
 use Rattle.oss_top.specs.Replays.{IsFilesReply}
+use Rattle.oss_top.specs.Soaks.{IsSoakReply}
 use Rattle.oss_top.specs.Statuses.{number_of}
+use Rattle.oss_top.specs.Traces.{IsTraceReply}
 use Rattle.oss_top.specs.declared.reply.Reply.{Reply}
 use Rattle.oss_top.specs.declared.status.Status.TheVariants as status
 
--- The reply to a run of a program that breaks no rule, with these options: that of the answer of its sequential run, in which each task has so much fuel.
+-- The reply to a run of a program that breaks no rule, with these options: that of the answer of its sequential run, in which each task has so much fuel. It is the same in each mode.
 pub record IsRunReply (options : Options) (program : Program) (reply : Reply) : Type 0 where
   pub outcome : Outcome
   pub is_outcome : IsOutcomeOf program.items options.fuel outcome
   pub is_reply : reply ≡ answer_reply options.dump program outcome.answer
 
--- The reply of a check or a run to a program that breaks no rule: a check accepts it, and a run runs it.
+-- The reply of a command with one text to a program that breaks no rule: a check accepts it, a run runs it, a trace tells of its run by waves, and a soak runs it and counts its tasks.
 pub data IsProgramReply : Command → Program → Reply → Type 0 where
   checked : {file : List ℕ} {program : Program} {reply : Reply} → reply ≡ done_reply accepted_line → IsProgramReply (check file) program reply
   ran : {file : List ℕ} {options : Options} {program : Program} {reply : Reply} → IsRunReply options program reply → IsProgramReply (run file options) program reply
+  traced : {file : List ℕ} {options : Options} {program : Program} {reply : Reply} → IsTraceReply options.fuel program reply → IsProgramReply (trace file options) program reply
+  soaked : {number size : ℕ} {options : Options} {program : Program} {reply : Reply} → IsSoakReply options program reply → IsProgramReply (soak number size options) program reply
 
--- the reply of a check or a run to a text of at most 1,048,576 bytes: that to its program with each task loop written out, where it is accepted
+-- the reply of such a command to a text of at most 1,048,576 bytes: that to its program with each task loop written out, where it is accepted
 pub data IsTextReply (c : Command) (text : List ℕ) (reply : Reply) : Type 0 where
   accepted : (program : Program) → Accepts text program → IsProgramReply c (program_written program) reply → IsTextReply c text reply
   refused_text : (r : Refused) → Refuses text r → reply ≡ error_reply status.TextRefused (refusal_line r.kind r.line) → IsTextReply c text reply
 
--- the reply of a check or a run to a text of any length
+-- the reply of such a command to a text of any length
 pub data IsFileReply (c : Command) (text : List ℕ) (reply : Reply) : Type 0 where
   too_large : most_bytes < length text → reply ≡ error_reply status.TextRefused too_large_line → IsFileReply c text reply
   fits : length text ≤ most_bytes → IsTextReply c text reply → IsFileReply c text reply
 
--- The texts of the files of a command: that of its program, and that of its schedule, which a replay alone has.
+-- The texts of the files of a command: that of its program, which a soak has not, and that of its schedule, which a replay alone has.
 pub record Texts : Type 0 where
   pub file : List ℕ
   pub schedule : List ℕ
@@ -59,26 +64,32 @@ pub record Texts : Type 0 where
 abbrev pub IsCommandReply : Command → Texts → Reply → Type 0
 IsCommandReply (run file options) texts reply = IsFileReply (run file options) texts.file reply
 IsCommandReply (check file) texts reply = IsFileReply (check file) texts.file reply
+IsCommandReply (trace file options) texts reply = IsFileReply (trace file options) texts.file reply
 IsCommandReply (replay file schedule fuel) texts reply = IsFilesReply fuel texts.file texts.schedule reply
+IsCommandReply (soak number size options) texts reply = IsFileReply (soak number size options) (generated_text number size) reply
 
 -- These are the texts that are told under the names of the files, as far as any are told.
 abbrev pub AreShown : (List ℕ → Option (List ℕ)) → Command → Texts → Type 0
 AreShown held (run file options) texts = IfSome (held file) (λ t. texts.file ≡ t)
 AreShown held (check file) texts = IfSome (held file) (λ t. texts.file ≡ t)
+AreShown held (trace file options) texts = IfSome (held file) (λ t. texts.file ≡ t)
+AreShown held (soak number size options) texts = Unit {0}
 AreShown held (replay file schedule fuel) texts = IfSome (held file) (λ t. texts.file ≡ t) × IfSome (held schedule) (λ t. texts.schedule ≡ t)
 
 -- The texts are told under the names of the files, and are these.
 abbrev pub AreHeld : (List ℕ → Option (List ℕ)) → Command → Texts → Type 0
 AreHeld held (run file options) texts = held file ≡ Some texts.file
 AreHeld held (check file) texts = held file ≡ Some texts.file
+AreHeld held (trace file options) texts = held file ≡ Some texts.file
+AreHeld held (soak number size options) texts = Unit {0}
 AreHeld held (replay file schedule fuel) texts = (held file ≡ Some texts.file) × (held schedule ≡ Some texts.schedule)
 
 -- The reply to a command, by what is seen of the shelf:
 --   that a file could not be read, only where the shelf failed in this call, at the name of the file; that of a schedule is read behind a program's that is not too long;
 --   else by the texts, which are those that the shelf holds under the names where it tells them, and the shelf has not failed.
 pub data IsShelfReply (c : Command) (shelf : ShelfSpan) (reply : Reply) : Type 0 where
-  unread : ShelfFailed shelf → shelf.after.last ≡ file_of c → reply ≡ error_reply status.Unread (unread_line (file_of c)) → IsShelfReply c shelf reply
-  unread_schedule : (schedule text : List ℕ) → schedule_of c ≡ Some schedule → IfSome (shelf.before.held (file_of c)) (λ t. text ≡ t) → length text ≤ most_bytes
+  unread : (file : List ℕ) → file_of c ≡ Some file → ShelfFailed shelf → shelf.after.last ≡ file → reply ≡ error_reply status.Unread (unread_line file) → IsShelfReply c shelf reply
+  unread_schedule : (file schedule text : List ℕ) → file_of c ≡ Some file → schedule_of c ≡ Some schedule → IfSome (shelf.before.held file) (λ t. text ≡ t) → length text ≤ most_bytes
       → ShelfFailed shelf → shelf.after.last ≡ schedule → reply ≡ error_reply status.Unread (unread_line schedule) → IsShelfReply c shelf reply
   by_texts : (texts : Texts) → ShelfQuiet shelf → AreShown shelf.before.held c texts → IsCommandReply c texts reply → IsShelfReply c shelf reply
 

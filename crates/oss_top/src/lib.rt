@@ -1,4 +1,4 @@
-//! The top call: it reads words and files, checks and runs programs, replays schedules, and tells what comes of it.
+//! The top call: it reads words and files, checks, runs and traces programs, replays schedules, and tells what comes of it.
 #![tactic(auto)]
 
 mod known;
@@ -11,8 +11,12 @@ mod status;
 mod tests;
 mod texts;
 mod top;
+mod trace;
+mod waved;
 
 pub use laws::{a_replay_has_one_reply, a_text_has_one_reply, every_order_gives_the_reply};
-pub use oss_command::{Command, Options, Replay, RunMode, WordsRefused, read_words};
+pub use oss_command::{
+    Command, DepsKind, Options, Replay, RunMode, Soak, WordsRefused, read_words,
+};
 pub use status::Status;
 pub use top::{Sinks, nest6};

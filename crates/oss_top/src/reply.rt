@@ -1,25 +1,29 @@
 //! What the top call replies, before it is written.
 
-ghost use Rattle.std.specs.Prelude.{◌≡◌, ◌≤◌, ℕ, List as Items, length, map, IfOk};
+ghost use Rattle.std.specs.Prelude.{◌≡◌, ◌≤◌, ◌<◌, ℕ, List as Items, Some, length, map, IfOk};
 ghost use Rattle.std.specs.String.{string_bytes};
 ghost use Rattle.oss_io.specs.Spans.{shelf_span};
 ghost use Rattle.oss_model.specs.Texts.{refusal_line as line_of_refusal};
-ghost use Rattle.oss_command.specs.Commands.{meant};
-ghost use Rattle.oss_command.specs.Commands.Command.{check, run};
-ghost use Rattle.oss_top.specs.Forms.{accepted_line, done_reply, error_reply};
+ghost use Rattle.oss_command.specs.Commands.{HasWorkers, file_of, meant};
+ghost use Rattle.oss_command.specs.Commands.Command.{check, run, soak, trace};
+ghost use Rattle.oss_gen.specs.Generated.{generated_text};
+ghost use Rattle.oss_top.specs.Forms.{accepted_line, done_reply, error_reply, fault_reply};
 ghost use Rattle.oss_top.specs.Reads.{IsReadReply};
-ghost use Rattle.oss_top.specs.Reply.{IsReply, IsShelfReply, IsTextReply};
+ghost use Rattle.oss_top.specs.Reply.{IsFileReply, IsReply, IsShelfReply, IsTextReply};
 
 use crate::known::known;
 use crate::replay::reply_to_replay;
-use crate::run::reply_to_run;
+use crate::run::{reply_to_run, reply_to_soak};
 use crate::status::Status;
 use crate::texts;
-use oss_command::{Command, Options, read_words};
-use oss_io::{Shelf, ShelfFault};
+use crate::trace::reply_to_trace;
+use oss_command::{Command, Options, Soak, read_words};
+use oss_gen::generated;
+use oss_io::{Gate, Shelf, ShelfFault};
 use oss_report::refusal_line;
 use oss_syntax::{Bytes, Refusal, Refused, RefusedKind};
 use std::alloc::{AllocError, Global};
+use std::thread::Threads;
 
 /// The most bytes of a program text.
 const MOST_BYTES: usize = 1_048_576;
@@ -54,18 +58,31 @@ impl Reply {
             err: Bytes::new(alloc),
         }
     }
+
+    /// The reply to a command that came to a fault, with this output and the line of the fault.
+    pub fn fault(text: Bytes, line: Bytes) -> Reply
+        ensures { result ≡ fault_reply text line }
+    {
+        Reply {
+            status: Status::Fault,
+            out: text,
+            err: line,
+        }
+    }
 }
 
 /// Works out the reply to words, from a shelf. Want of memory is the one error.
-pub fn reply_to<S: Shelf>(
+pub fn reply_to<R: Threads + Sync, S: Shelf, G: Gate>(
+    rt: &R,
     alloc: Global,
     words: &[String],
     shelf: &mut S,
+    gate: &G,
 ) -> Result<Reply, AllocError>
     ensures { IfOk result (λ reply. IsReply (map string_bytes words.now) (shelf_span S.held S.faults S.last shelf.old shelf.new) reply) }
 {
     match read_words(words) {
-        Ok(command) => reply_to_command(alloc, command, shelf),
+        Ok(command) => reply_to_command(rt, alloc, command, shelf, gate),
         Err(_) => {
             let line = texts::usage(alloc)?;
             Ok(Reply::error(alloc, Status::WordsRefused, line))
@@ -74,18 +91,40 @@ pub fn reply_to<S: Shelf>(
 }
 
 /// The reply to a command, from a shelf.
-fn reply_to_command<S: Shelf>(
+fn reply_to_command<R: Threads + Sync, S: Shelf, G: Gate>(
+    rt: &R,
     alloc: Global,
     command: Command<'_>,
     shelf: &mut S,
+    gate: &G,
 ) -> Result<Reply, AllocError>
+    requires { HasWorkers (meant command) }
+    ensures { IfOk result (λ reply. IsShelfReply (meant command.entry) (shelf_span S.held S.faults S.last shelf.old shelf.new) reply) }
+{
+    match command.file() {
+        Some(file) => reply_to_file(rt, alloc, command, file, shelf, gate),
+        None => reply_to_read(rt, alloc, command, &[], shelf, gate),
+    }
+}
+
+/// The reply to a command whose program stands in this file, from a shelf.
+fn reply_to_file<R: Threads + Sync, S: Shelf, G: Gate>(
+    rt: &R,
+    alloc: Global,
+    command: Command<'_>,
+    file: &str,
+    shelf: &mut S,
+    gate: &G,
+) -> Result<Reply, AllocError>
+    requires workers { HasWorkers (meant command) }
+    requires named { file_of (meant command) ≡ Some file.now }
     ensures { IfOk result (λ reply. IsShelfReply (meant command.entry) (shelf_span S.held S.faults S.last shelf.old shelf.new) reply) }
 {
     let mut text = Vec::new(alloc);
-    match shelf.read(command.file(), MOST_BYTES, &mut text) {
-        Ok(()) => reply_to_read(alloc, command, text.as_slice(), shelf),
+    match shelf.read(file, MOST_BYTES, &mut text) {
+        Ok(()) => reply_to_read(rt, alloc, command, text.as_slice(), shelf, gate),
         Err(ShelfFault::Failed) => {
-            let line = texts::unread(alloc, command.file())?;
+            let line = texts::unread(alloc, file)?;
             Ok(Reply::error(alloc, Status::Unread, line))
         }
         Err(ShelfFault::TooLong) => refused(alloc, RefusedKind::TooLarge),
@@ -93,21 +132,43 @@ fn reply_to_command<S: Shelf>(
     }
 }
 
-/// The reply to a command whose program has this text.
-fn reply_to_read<S: Shelf>(
+/// The reply to a command whose program has this text, where it stands in a file.
+fn reply_to_read<R: Threads + Sync, S: Shelf, G: Gate>(
+    rt: &R,
     alloc: Global,
     command: Command<'_>,
     text: &[u8],
     shelf: &mut S,
+    gate: &G,
 ) -> Result<Reply, AllocError>
-    requires { length text.now ≤ 1048576 }
+    requires workers { HasWorkers (meant command) }
+    requires few { length text.now ≤ 1048576 }
     ensures { IfOk result (λ reply. IsReadReply (meant command.entry) text.now (shelf_span S.held S.faults S.last shelf.old shelf.new) reply) }
 {
     match command {
-        Command::Run(_, options) => run_text(alloc, options, text),
+        Command::Run(_, options) => run_text(rt, alloc, options, text, gate),
         Command::Check(_) => check_text(alloc, text),
+        Command::Trace(_, options) => trace_text(rt, alloc, options, text, gate),
         Command::Replay(asked) => reply_to_replay(alloc, asked, text, shelf),
+        Command::Soak(asked) => soaked(rt, alloc, asked, gate),
     }
+}
+
+/// The reply to a soak.
+fn soaked<R: Threads + Sync, G: Gate>(
+    rt: &R,
+    alloc: Global,
+    asked: Soak,
+    gate: &G,
+) -> Result<Reply, AllocError>
+    requires { 0 < asked.options.workers }
+    ensures { IfOk result (λ reply. IsFileReply (soak asked.number asked.size asked.options) (generated_text asked.number asked.size) reply) }
+{
+    let text = generated(alloc, asked.number, asked.size)?;
+    if text.as_slice().len() > MOST_BYTES {
+        return refused(alloc, RefusedKind::TooLarge);
+    }
+    soak_text(rt, alloc, asked.options, text.as_slice(), gate)
 }
 
 /// The reply of a check to the text of a file.
@@ -122,12 +183,55 @@ fn check_text(alloc: Global, text: &[u8]) -> Result<Reply, AllocError>
 }
 
 /// The reply of a run to the text of a file.
-fn run_text(alloc: Global, options: Options, text: &[u8]) -> Result<Reply, AllocError>
-    requires { length text.now ≤ 1048576 }
+fn run_text<R: Threads + Sync, G: Gate>(
+    rt: &R,
+    alloc: Global,
+    options: Options,
+    text: &[u8],
+    gate: &G,
+) -> Result<Reply, AllocError>
+    requires workers { 0 < options.workers }
+    requires few { length text.now ≤ 1048576 }
     ensures { IfOk result (λ reply. (file : Items ℕ) → IsTextReply (run file options) text.now reply) }
 {
     match known(alloc, text) {
-        Ok(known) => reply_to_run(alloc, &known, options),
+        Ok(known) => reply_to_run(rt, alloc, &known, options, gate),
+        Err(refusal) => reply_to_refusal(alloc, refusal),
+    }
+}
+
+/// The reply of a trace to the text of a file.
+fn trace_text<R: Threads + Sync, G: Gate>(
+    rt: &R,
+    alloc: Global,
+    options: Options,
+    text: &[u8],
+    gate: &G,
+) -> Result<Reply, AllocError>
+    requires workers { 0 < options.workers }
+    requires few { length text.now ≤ 1048576 }
+    ensures { IfOk result (λ reply. (file : Items ℕ) → IsTextReply (trace file options) text.now reply) }
+{
+    match known(alloc, text) {
+        Ok(known) => reply_to_trace(rt, alloc, &known, options, gate),
+        Err(refusal) => reply_to_refusal(alloc, refusal),
+    }
+}
+
+/// The reply of a soak to the text that was generated for it.
+fn soak_text<R: Threads + Sync, G: Gate>(
+    rt: &R,
+    alloc: Global,
+    options: Options,
+    text: &[u8],
+    gate: &G,
+) -> Result<Reply, AllocError>
+    requires workers { 0 < options.workers }
+    requires few { length text.now ≤ 1048576 }
+    ensures { IfOk result (λ reply. (number size : ℕ) → IsTextReply (soak number size options) text.now reply) }
+{
+    match known(alloc, text) {
+        Ok(known) => reply_to_soak(rt, alloc, &known, options, gate),
         Err(refusal) => reply_to_refusal(alloc, refusal),
     }
 }

@@ -1,8 +1,8 @@
 //! The lines that the top call tells of words, of files and of a check.
 
-ghost use Rattle.std.specs.Prelude.{◌≡◌, IfOk};
+ghost use Rattle.std.specs.Prelude.{◌≡◌, ◌++◌, IfOk};
 ghost use Rattle.oss_command.specs.Commands.{usage_line};
-ghost use Rattle.oss_top.specs.Forms.{accepted_line, unread_line};
+ghost use Rattle.oss_top.specs.Forms.{accepted_line, tasks_line, unread_line};
 
 use oss_syntax::Bytes;
 use std::alloc::{AllocError, Global};
@@ -32,4 +32,14 @@ pub fn accepted(alloc: Global) -> Result<Bytes, AllocError>
     ensures { IfOk result (λ line. line ≡ accepted_line) }
 {
     Bytes::from_slice(alloc, b"ok\n")
+}
+
+/// `tasks T`, and the output behind it.
+pub fn counted(alloc: Global, tasks: u64, output: &Bytes) -> Result<Bytes, AllocError>
+    ensures { IfOk result (λ text. text ≡ tasks_line tasks ++ output.now) }
+{
+    let line = format!(in alloc; "tasks {tasks}\n")?;
+    let mut text = Bytes::from_slice(alloc, line.as_bytes())?;
+    text.extend(output.as_slice())?;
+    Ok(text)
 }

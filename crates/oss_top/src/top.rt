@@ -7,8 +7,9 @@ ghost use Rattle.oss_top.specs.Reply.{IsComplete, IsOutcome, IsUnwritten};
 
 use crate::reply::{Reply, reply_to};
 use crate::status::Status;
-use oss_io::{Shelf, Sink, SinkFault, write_whole};
+use oss_io::{Gate, Shelf, Sink, SinkFault, write_whole};
 use std::alloc::Global;
+use std::thread::Threads;
 
 /// The sinks of a call: the output and the error output.
 #[derive(Drop)]
@@ -17,25 +18,28 @@ pub struct Sinks<O, E> {
     pub err: E,
 }
 
-/// Reads the words behind the program's name, reads the file that they name from the shelf, checks it or runs it, and writes
-/// the texts, the output first. The result is the number of a `Status`.
+/// Reads the words behind the program's name, reads the files that they name from the shelf, checks or runs the program, and writes
+/// the texts, the output first. The result is the number of a `Status`. A run by waves has its workers from `rt`, and each task passes
+/// the gate before its first step.
 ///
 /// It is 0 where the command is done: a check that accepts the file, a program that ran to its end. It is 1 where the
 /// program ran into a fault, 2 where the words are refused, 3 where the file is too long or its text is refused, 4 where the
 /// shelf failed, 5 where a sink failed, and 6 for want of memory: `IsOutcome` says of each what stands on the sinks, and when
 /// it comes. Where nothing failed, it is that of the file's one reply, or 6: `IsComplete`.
-pub fn nest6<S: Shelf, O: Sink, E: Sink>(
+pub fn nest6<R: Threads + Sync, S: Shelf, O: Sink, E: Sink, G: Gate>(
+    rt: &R,
     alloc: Global,
     words: &[String],
     shelf: &mut S,
     sinks: &mut Sinks<O, E>,
+    gate: &G,
 ) -> u8
     ensures outcome { IsOutcome (map string_bytes words.now) (shelf_span S.held S.faults S.last shelf.old shelf.new)
         (sink_span O.taken O.faults sinks.old.out sinks.new.out) (sink_span E.taken E.faults sinks.old.err sinks.new.err) result }
     ensures complete { IsComplete (map string_bytes words.now) (shelf_span S.held S.faults S.last shelf.old shelf.new)
         (sink_span O.taken O.faults sinks.old.out sinks.new.out) (sink_span E.taken E.faults sinks.old.err sinks.new.err) result }
 {
-    match reply_to(alloc, words, shelf) {
+    match reply_to(rt, alloc, words, shelf, gate) {
         Ok(reply) => match deliver(&reply, sinks) {
             Ok(()) => reply.status.number(),
             Err(_) => Status::Unwritten.number(),

@@ -3,9 +3,10 @@
 ghost use Rattle.std.specs.Prelude.{◌<◌};
 
 use crate::{Sinks, nest6};
-use oss_io::{MemoryShelf, MemorySink};
+use oss_io::{MemoryShelf, MemorySink, NoGate};
 use std::alloc::{AllocError, Global};
 use std::test::Fail;
+use std::thread::Threads;
 
 const PROGRAM: &str = "int main() { printf(\"%d\\n\", 0 - 12); }";
 
@@ -33,7 +34,8 @@ fn shelf_with(alloc: Global, text: &str) -> Result<MemoryShelf, AllocError> {
     Ok(shelf)
 }
 
-fn call(
+fn call<R: Threads + Sync>(
+    rt: &R,
     alloc: Global,
     words: &[&str],
     mut shelf: MemoryShelf,
@@ -43,7 +45,7 @@ fn call(
     for word in words {
         given.push(String::from_str(alloc, word)?)?;
     }
-    let status = nest6(alloc, given.as_slice(), &mut shelf, &mut sinks);
+    let status = nest6(rt, alloc, given.as_slice(), &mut shelf, &mut sinks, &NoGate);
     Ok(Told { status, sinks })
 }
 
@@ -70,7 +72,7 @@ fn a_file_that_cannot_be_read_is_named(rt: HostRuntime) -> Result<(), Fail> {
         out: sink(alloc)?,
         err: sink(alloc)?,
     };
-    let told = call(alloc, &["run", "p.c"], shelf, sinks)?;
+    let told = call(&rt, alloc, &["run", "p.c"], shelf, sinks)?;
     assert!(rt; told.is(4, "", "cannot read p.c\n"));
     Ok(())
 }
@@ -82,13 +84,20 @@ fn an_output_that_fails_holds_a_prefix(rt: HostRuntime) -> Result<(), Fail> {
         out: failing_sink(alloc, 1, 3)?,
         err: sink(alloc)?,
     };
-    let told = call(alloc, &["run", "p.c"], shelf_with(alloc, PROGRAM)?, sinks)?;
+    let told = call(
+        &rt,
+        alloc,
+        &["run", "p.c"],
+        shelf_with(alloc, PROGRAM)?,
+        sinks,
+    )?;
     assert!(rt; told.is(5, "-1", ""));
     Ok(())
 }
 
 /// What these words tell where the error output takes pieces of this size and fails at this call.
-fn with_failing_errors(
+fn with_failing_errors<R: Threads + Sync>(
+    rt: &R,
     alloc: Global,
     words: &[&str],
     piece: usize,
@@ -100,13 +109,13 @@ fn with_failing_errors(
         out: sink(alloc)?,
         err: failing_sink(alloc, piece, at)?,
     };
-    call(alloc, words, shelf_with(alloc, LENT)?, sinks)
+    call(rt, alloc, words, shelf_with(alloc, LENT)?, sinks)
 }
 
 #[test]
 fn an_error_output_that_fails_holds_a_prefix(rt: HostRuntime) -> Result<(), Fail> {
     let alloc = rt.alloc();
-    assert!(rt; with_failing_errors(alloc, &["run"], 3, 3)?.is(5, "", "usage:"));
-    assert!(rt; with_failing_errors(alloc, &["run", "p.c"], 7, 2)?.is(5, "a", "fault: "));
+    assert!(rt; with_failing_errors(&rt, alloc, &["run"], 3, 3)?.is(5, "", "usage:"));
+    assert!(rt; with_failing_errors(&rt, alloc, &["run", "p.c"], 7, 2)?.is(5, "a", "fault: "));
     Ok(())
 }

@@ -9,5 +9,11 @@ returns-in-Run g c = if_ok c.run_text.result (λ reply is. rw (ap meant c.in-Run
 pub returns-in-Check : goal.returns-in-Check
 returns-in-Check g c = if_ok c.check_text.result (λ reply is. rw (ap meant c.in-Check.is) (refl, is _)) c.check_text.ensures
 
+pub returns-in-Trace : goal.returns-in-Trace
+returns-in-Trace g c = if_ok c.trace_text.result (λ reply is. rw (ap meant c.in-Trace.is) (refl, is _)) c.trace_text.ensures
+
 pub returns-in-Replay : goal.returns-in-Replay
 returns-in-Replay g c = if_ok c.reply_to_replay.result (λ reply is. rw (ap meant c.in-Replay.is) is) c.reply_to_replay.ensures
+
+pub returns-in-Soak : goal.returns-in-Soak
+returns-in-Soak g c = if_ok c.soaked.result (λ reply is. rw (ap meant c.in-Soak.is) (refl, is)) c.soaked.ensures

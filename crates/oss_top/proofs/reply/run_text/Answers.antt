@@ -7,10 +7,10 @@ use Rattle.oss_top.proofs.FormLemmas.{if_ok}
 use Rattle.oss_top.proofs.reply.run_text.Goals as goal
 
 pub returns-in-Ok : goal.returns-in-Ok
-returns-in-Ok c =
+returns-in-Ok g c =
     let known = c.in-Ok.ensures in
     if_ok c.reply_to_run.result (λ reply is file. accepted known.program known.accepts (ran (subst (λ p. IsRunReply c.args.options p reply) known.is_of is))) c.reply_to_run.ensures
 
 pub returns-in-Err : goal.returns-in-Err
-returns-in-Err c =
+returns-in-Err g c =
     if_ok c.reply_to_refusal.result (λ reply is file. refused_text is.0 (subst (λ e. IsKnown c.args.text.now (Err e)) is.1 c.in-Err.ensures) is.2) c.reply_to_refusal.ensures

@@ -1,0 +1,15 @@
+use Rattle.std.proofs.Common.{◌≡◌, ◌∙◌, ◌≤◌, List, ℕ, length, rules, subst}
+use Rattle.oss_command.specs.Commands.Command.{soak}
+use Rattle.oss_gen.specs.Generated.{generated_text}
+use Rattle.oss_top.specs.Reply.{IsFileReply}
+use Rattle.oss_top.specs.Reply.IsFileReply.{fits}
+use Rattle.oss_top.proofs.FormLemmas.{if_ok}
+use Rattle.oss_top.proofs.reply.soaked.Goals as goal
+
+pub returns : goal.returns
+returns g c =
+    let asked = c.args.asked in
+    let text = c.as_slice-2.result.now in
+    let few : length text ≤ 1048576 = search rules in
+    let same : text ≡ generated_text asked.number asked.size = c.as_slice-2.ensures ∙ c.in_ok-text.ensures in
+    if_ok c.soak_text.result (λ reply is. subst (λ (t : List ℕ). IsFileReply (soak asked.number asked.size asked.options) t reply) same (fits few (is asked.number asked.size))) c.soak_text.ensures

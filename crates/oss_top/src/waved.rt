@@ -1,0 +1,52 @@
+//! The run by waves of a program.
+
+ghost use Rattle.std.specs.Prelude.{◌≡◌, ◌<◌, IfOk};
+ghost use Rattle.oss_top.specs.Runs.{AreWavesOf};
+
+use crate::run::are_words;
+use oss_command::Options;
+use oss_deps::{Deps, PlainDeps};
+use oss_io::Gate;
+use oss_lower::lower;
+use oss_model::Answer;
+use oss_names::Known;
+use oss_sched::WaveRecord;
+use oss_waves::{WaveRun, waves};
+use std::alloc::{AllocError, Global};
+use std::thread::Threads;
+
+/// What a run by waves gives of a program.
+#[derive(Drop)]
+pub struct Waved {
+    /// The output and the cells at its end, or the fault that stopped it with the output before it.
+    pub answer: Answer,
+    /// What was done in each wave.
+    pub waves: WaveRecord,
+}
+
+/// The run by waves of a program, by its code.
+pub fn wave_run<R: Threads + Sync, G: Gate>(
+    rt: &R,
+    alloc: Global,
+    known: &Known,
+    options: Options,
+    gate: &G,
+) -> Result<Waved, AllocError>
+    requires { 0 < options.workers }
+    ensures { IfOk result (λ run. AreWavesOf known.now options.fuel run.answer run.waves) }
+{
+    let code = lower(alloc, known)?;
+    are_words(code.first().as_slice());
+    let deps = PlainDeps::new(alloc);
+    let run = waves(rt, alloc, &code, options.fuel, deps, options.workers, gate)?;
+    Ok(without_deps(run))
+}
+
+/// The run without what its tasks waited for.
+fn without_deps<D: Deps>(run: WaveRun<D>) -> Waved
+    ensures answer { result.answer ≡ run.answer }
+    ensures waves { result.waves ≡ run.waves }
+{
+    let WaveRun { answer, waves, .. } = run;
+    Waved { answer, waves }
+}
