@@ -2,7 +2,7 @@
 use Rattle.std.proofs.Common.{◌≡◌, ◌∙◌, ℕ, ◌+◌, Bool, true, false, List, [], ◌∷◌, Option, Some, None, refl, sym, ap, subst}
 use Rattle.std.specs.Prelude.{◌-◌, ◌^◌, ◌||◌, if◌then◌else◌, min, option_map}
 use Rattle.oss_model.specs.Agreement.{Setting}
-use Rattle.oss_model.specs.Bodies.{Act, IsFault, Program as Asks, Start, stage_act, stage_created}
+use Rattle.oss_model.specs.Bodies.{IsFault, Program as Asks, Start, stage_act, stage_created}
 use Rattle.oss_model.specs.Bodies.Act.{Created, Over}
 use Rattle.oss_model.specs.Claims.{IsStoppedAs, ended, failed}
 use Rattle.oss_model.specs.History.{IsMade}

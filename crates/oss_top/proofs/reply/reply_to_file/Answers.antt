@@ -1,4 +1,4 @@
-use Rattle.std.proofs.Common.{◌≡◌, ◌∙◌, ◌<◌, ◌≤◌, Err, List, ℕ, ap, length, sym, subst}
+use Rattle.std.proofs.Common.{◌≡◌, ◌∙◌, ◌≤◌, Err, List, ℕ, ap, length, sym, subst}
 use Rattle.std.specs.Prelude.{IfSome}
 use Rattle.oss_command.specs.Commands.{meant}
 use Rattle.oss_top.specs.Forms.{error_reply, most_bytes}
