@@ -1,0 +1,45 @@
+#!/bin/sh
+# Times runs by waves of the built program, or of PROGRAM where one is handed over, and prints a table: how much faster four workers are than one on tasks that do not wait for each other, how the time of a
+# generated program grows with its size, and how runs by waves stand beside those of one task after the other where tasks are many.
+# usage: waves.sh [PROGRAM]
+# shellcheck source=bench/built.sh
+. "$(dirname -- "$0")/built.sh"
+
+cat >loops.c <<'PROGRAM'
+long x[64];
+int main() {
+  for (long t = 0; t < 64; t++) {
+#pragma oss task out(x[t])
+    {
+      long s = 0;
+      for (long i = 0; i < 100000; i++) s = s + i * t;
+      x[t] = s;
+    }
+  }
+}
+PROGRAM
+cat >chain.c <<'PROGRAM'
+long x;
+int main() {
+  for (long t = 0; t < 10000; t++) {
+#pragma oss task inout(x)
+    x = x + 1;
+  }
+}
+PROGRAM
+cat >apart.c <<'PROGRAM'
+long x[20000];
+int main() {
+  for (long t = 0; t < 20000; t++) {
+#pragma oss task out(x[t])
+    x[t] = t;
+  }
+}
+PROGRAM
+
+echo "what | first | second | ratio"
+grown "64 tasks of 300,000 ticks: 4 workers, 1 worker" "$(timed "$program" run loops.c --workers=4)" "$(timed "$program" run loops.c --workers=1)"
+grown "a generated program of 200 tasks beside one of 100" "$(timed "$program" soak 7 100)" "$(timed "$program" soak 7 200)"
+grown "a generated program of 400 tasks beside one of 200" "$(timed "$program" soak 7 200)" "$(timed "$program" soak 7 400)"
+grown "20,000 tasks apart: serial, by waves" "$(timed "$program" run apart.c --mode=serial)" "$(timed "$program" run apart.c)"
+grown "a chain of 10,000 tasks: serial, by waves" "$(timed "$program" run chain.c --mode=serial)" "$(timed "$program" run chain.c)"
