@@ -57,13 +57,13 @@ owed_some (Fold op) true e = cc
 owed_some _ _ e = cc
 
 -- of a cell that the task must give up nothing is owed only once it is given
-owed_none : (path : List ℕ) (given : Bool) (x : Context) (c : ℕ) → Owes path x c → owed_of path given (right_of x c) ≡ None → given ≡ true
+pub owed_none : (path : List ℕ) (given : Bool) (x : Context) (c : ℕ) → Owes path x c → owed_of path given (right_of x c) ≡ None → given ≡ true
 owed_none [] given x c o e = absurd o
 owed_none (k ∷ p) true x c o e = refl
 owed_none (k ∷ p) false x c (m, strong, h) e = absurd (owed_some m strong (ap owed_by (sym h) ∙ e))
 
 -- nothing is owed of a cell that is given, or that the task need not give up
-none_owed : (path : List ℕ) (given : Bool) (x : Context) (c : ℕ) → (Owes path x c → given ≡ true) → owed_of path given (right_of x c) ≡ None
+pub none_owed : (path : List ℕ) (given : Bool) (x : Context) (c : ℕ) → (Owes path x c → given ≡ true) → owed_of path given (right_of x c) ≡ None
 none_owed [] given x c f = refl
 none_owed (k ∷ p) true x c f = refl
 none_owed (k ∷ p) false x c f = go (right_of x c) (λ m strong e. f (m, strong, e))

@@ -34,7 +34,7 @@ use Rattle.oss_core.specs.declared.creating.Newborn.{Newborn}
 use Rattle.oss_core.specs.declared.held.Held.{Held}
 use Rattle.oss_core.specs.declared.turns.Turn.{Turn}
 use Rattle.oss_core.specs.Kept.{IsCore, Kept}
-use Rattle.oss_core.specs.Left.{AreInPointOrder}
+use Rattle.oss_core.specs.PointOrder.{AreInPointOrder}
 use Rattle.oss_core.specs.Putting.{AreNewborns, HasBody, IsPut, IsWritten, MayAdd, OpensAll, held_of, with_newborn, with_newborns, with_tasks}
 use Rattle.oss_core.specs.Turns.{ArePartsOf, AreTold, IsFilled, IsPartOf, IsTold, KeepsPoints, Midway, with_held}
 use Rattle.oss_core.proofs.ActLemmas.{running}
@@ -42,6 +42,7 @@ use Rattle.oss_core.proofs.CoreLemmas.{held_at}
 use Rattle.oss_core.proofs.ExactLemmas.{step_told}
 use Rattle.oss_core.proofs.FillLemmas.{filled_more, filled_other, filled_size}
 use Rattle.oss_core.proofs.KeepLemmas.{some_is}
+use Rattle.oss_core.proofs.LeavingLemmas.{turn_leaves}
 use Rattle.oss_core.proofs.PutFacts.{point_grown, point_new, point_noted}
 use Rattle.oss_core.proofs.PutLemmas.{may_add, put_made}
 use Rattle.oss_core.proofs.TreeFacts.{sizes}
@@ -267,6 +268,7 @@ module _ (code : CodeParts) (main : Start CodeScript) (first : List ℕ) (s : St
       taken = turns_more P h.turns turn h.taken made.1;
       turns_are = λ x i. on_turn x (in_either h.turns (turn ∷ []) i);
       told_are = told_more before.tree.tasks told h.turns one turn h.told_are (record { point = subst (λ (u : TaskNo). HasPoint before.tree.tasks u.0 (written p)) (sym task_is) stepper.point; acts = acts_are ∙ segment.count });
+      leaves = turn_leaves told one v.0 (ap (λ (u : TaskNo). u.0) task_is) xs part.body part.prints.items before (with_held h.filled k) (with_held filled new) h.leaves put_filled;
     }
       where
         on_turn : (x : waves.Turn) → IsIn x h.turns ⊎ IsIn x (turn ∷ []) → IsTurn P s x

@@ -21,12 +21,15 @@ use Rattle.oss_core.specs.declared.creating.Newborn.{Newborn}
 use Rattle.oss_core.specs.declared.held.Held.{Held}
 use Rattle.oss_core.specs.declared.turns.Turn.{Turn}
 use Rattle.oss_core.specs.Kept.{IsCore, Kept}
-use Rattle.oss_core.specs.Left.{AreInPointOrder}
+use Rattle.oss_core.specs.Enabled.{MayStep}
+use Rattle.oss_core.specs.Leaving.{HasTurn, HaveTurned}
+use Rattle.oss_core.specs.PointOrder.{AreInPointOrder}
 use Rattle.oss_core.specs.Putting.{AreNewborns, IsPut, IsWritten, MayAdd}
 use Rattle.oss_core.specs.Steppers.{AreSteppers}
 use Rattle.oss_core.specs.Turns.{ArePartsOf, AreTold, IsFilled, IsMidway, Midway, with_held}
 use Rattle.oss_core.proofs.ExactLemmas.{step_tells}
 use Rattle.oss_core.proofs.KeepLemmas.{some_is}
+use Rattle.oss_core.proofs.LeavingLemmas.{nothing_turned}
 use Rattle.oss_core.proofs.MidwayLemmas.{part_may, part_put, part_sizes, part_there}
 use Rattle.oss_core.proofs.TreeFacts.{one_path, point_of_path}
 
@@ -135,6 +138,12 @@ told_turn tasks (y ∷ told) (x ∷ turns) h v here = (x, here, h.0.point)
 told_turn tasks (y ∷ told) (x ∷ turns) h v (there i) = let r = told_turn tasks told turns h.1 v i in (r.0, there r.1, r.2)
 
 -- all parts are put in: the wave is made
+-- the tasks of turns
+in_tasks : (told : List Turn) (one : Turn) → IsIn one told → IsIn one.task (map (λ (t : Turn). t.task) told)
+in_tasks [] one i = elim i [ ]
+in_tasks (t ∷ told) one here = here
+in_tasks (t ∷ told) one (there i) = there (in_tasks told one i)
+
 module _ (code : CodeParts) (main : Start CodeScript) (first : List ℕ) (s : State CodeScript) (before : Kept) (all : List TaskNo) (told : List Turn) (k : Kept) (h : Midway code main first s before all [] [] told k) where
   told_all : map (λ (t : Turn). t.task) told ≡ all
   told_all = sym (append-nil (map (λ (t : Turn). t.task) told)) ∙ h.split
@@ -167,6 +176,14 @@ module _ (code : CodeParts) (main : Start CodeScript) (first : List ℕ) (s : St
     subst (λ (ts : List Held). IsCore code main first (with_held ts k) h.state) (filled_is h.bodies h.parts_are h.filled_is) h.core,
   )
 
+  -- and of all tasks that had no turn nothing is kept otherwise
+  pub wave_leaves : HaveTurned told before k
+  wave_leaves = subst (λ (ts : List Held). HaveTurned told before (with_held ts k)) (filled_is h.bodies h.parts_are h.filled_is) h.leaves
+
+  -- each of those that had one might step
+  pub wave_may : (v : ℕ) → HasTurn told v → MayStep before.tasks before.tree.tasks before.seen v
+  wave_may v t = subst (λ (n : ℕ). MayStep before.tasks before.tree.tasks before.seen n) t.task (h.steppers.may t.one.task (subst (IsIn t.one.task) told_all (in_tasks told t.one t.listed)))
+
 -- a wave begins: the bodies of the tasks that may act are out
 pub wave_begun : (code : CodeParts) (main : Start CodeScript) (first : List ℕ) (s : State CodeScript) (before k : Kept) (steppers : List TaskNo) (bodies : List Body) (parts : List Segment) → IsCore code main first before s → AreSteppers before steppers
     → IsFilled steppers bodies k.tasks before.tasks → k.tree ≡ before.tree → k.seen ≡ before.seen → k.cells ≡ before.cells → ArePartsOf code before.cells bodies parts → Midway code main first s before steppers steppers parts [] k
@@ -188,6 +205,7 @@ wave_begun code main first s before k steppers bodies parts core are filled tree
   taken = no_turns;
   turns_are = λ turn i. elim i [ ];
   told_are = tt;
+  leaves = subst (λ (x : Kept). HaveTurned [] before x) same (nothing_turned before);
 }
   where
     same : before ≡ with_held before.tasks k

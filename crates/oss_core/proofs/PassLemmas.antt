@@ -1,4 +1,4 @@
--- A pass, task by task: the tasks that are left are visited in point order, and at the places of all others nothing may be given up.
+-- A pass, task by task: the tasks that are asked are visited in point order, and at the places of all others nothing may be given up.
 use Rattle.std.proofs.Common.{◌≡◌, ℕ, zero, suc, ◌+◌, ◌<◌, ◌≤◌, ◌⊎◌, inl, inr, refl, sym, subst, ap, ◌∙◌, arith, List, [], ◌∷◌, ◌++◌, length, reverse, Bool, true, false, Some, get_or}
 use Rattle.std.specs.Prelude.{if◌then◌else◌, slice_get}
 use Rattle.std.proofs.lemmas.Option.{slice_get-get_or, slice_get_within}
@@ -8,7 +8,7 @@ use Rattle.oss_model.specs.Order.{IsBefore, IsEarlierKey, IsIn, here, there, les
 use Rattle.oss_model.specs.Rights.{Holds}
 use Rattle.oss_model.specs.Context.{right_of}
 use Rattle.oss_model.specs.Bodies.{Start}
-use Rattle.oss_model.specs.Machine.{State, Task, At, Owes}
+use Rattle.oss_model.specs.Machine.{State, Task, At}
 use Rattle.oss_model.specs.Moves.{CanJoin, CanLet}
 use Rattle.oss_model.specs.declared.task_no.TaskNo.{TaskNo}
 use Rattle.oss_model.proofs.OrderLemmas.{Compared, before_not, compare}
@@ -24,15 +24,19 @@ use Rattle.oss_code.specs.declared.code.CodeParts.{CodeParts}
 use Rattle.oss_machine.specs.Frames.{CodeScript}
 use Rattle.oss_machine.specs.Machines.{asks}
 use Rattle.oss_tree.specs.declared.task.Task.{Task as TreeTask}
-use Rattle.oss_tree.specs.Tasks.{HasPoint, IsComplete, complete, given_task, number}
+use Rattle.oss_tree.specs.Tasks.{HasPoint, number}
 use Rattle.oss_tree.proofs.ListLemmas.{there_is}
 use Rattle.oss_core.specs.declared.passing.Passed.{Passed}
+use Rattle.oss_core.specs.Awake.{HaveGivers, IsStill}
 use Rattle.oss_core.specs.Kept.{IsCore, Kept}
-use Rattle.oss_core.specs.Left.{AreInPointOrder, AreLeft}
+use Rattle.oss_core.specs.Leaving.{HaveGivenUp}
+use Rattle.oss_core.specs.PointOrder.{AreInPointOrder}
 use Rattle.oss_core.specs.Passing.{CellsPassed, HasPassed, HaveGiven, MayNothing, OwesNoneFrom, RunPassed, TaskPassed, TasksPassed, TellsOf, more_cells, more_tasks, no_cells, no_tasks}
+use Rattle.oss_core.proofs.AwakeLemmas.{still_after, still_nothing}
 use Rattle.oss_core.proofs.KeepLemmas.{some_is}
+use Rattle.oss_core.proofs.LeavingLemmas.{nothing_given, run_leaves}
 use Rattle.oss_core.proofs.RunsLemmas.{cell_kept, given_itself, given_then, point_after, run_made}
-use Rattle.oss_core.proofs.TreeFacts.{core_made, keeps_tasks, one_path, point_of_path}
+use Rattle.oss_core.proofs.TreeFacts.{core_made, one_path, point_of_path}
 use Rattle.oss_core.proofs.WalkLemmas as walks
 use Rattle.oss_core.proofs.WalkLemmas.{cells_below, place, visits_idle}
 
@@ -48,8 +52,8 @@ in_list (z ∷ xs) zero y g = let k : z ≡ y = some_is g in subst (λ t. IsIn t
 in_list (z ∷ xs) (suc n) y g = there (in_list xs n y g)
 
 -- a task of the list is one of the tree
-pub is_left : (tasks : List TreeTask) (left : List TaskNo) → AreLeft tasks left → (i : ℕ) (d : TaskNo) → i < length left → (get_or left i d).0 < length tasks
-is_left tasks left are i d l = are.there (get_or left i d) (in_list left i (get_or left i d) (slice_get-get_or left i d l))
+pub is_asked : (k : Kept) (left : List TaskNo) → HaveGivers k left → (i : ℕ) (d : TaskNo) → i < length left → (get_or left i d).0 < length k.tree.tasks
+is_asked k left are i d l = are.there (get_or left i d) (in_list left i (get_or left i d) (slice_get-get_or left i d l))
 
 -- two tasks of a list in point order
 pub in_order : (tasks : List TreeTask) (left : List TaskNo) → AreInPointOrder tasks left → (i j : ℕ) → i < j → (v w : TaskNo) → slice_get left i ≡ Some v → slice_get left j ≡ Some w → (p q : List ℕ) → HasPoint tasks v.0 p → HasPoint tasks w.0 q → IsBefore p q
@@ -131,6 +135,7 @@ module _ (code : CodeParts) (main : Start CodeScript) (first : List ℕ) (old : 
     pub now : IsCore code main first k state
     pub tells : TellsOf old.tree.tasks told (spans list)
     pub given : HaveGiven old.tree.tasks k.tree.tasks
+    pub leaves : HaveGivenUp told old k
 
   -- behind every cell of a place
   abbrev pub top : ℕ
@@ -149,6 +154,7 @@ module _ (code : CodeParts) (main : Start CodeScript) (first : List ℕ) (old : 
         now = r.core;
         tells = r.told old.tree.tasks core.known.tree_is point x.list x.tells;
         given = given_then x.given r.given;
+        leaves = run_leaves x.leaves run;
       }
 
   pub cells_stood : (v : ℕ) (p : List ℕ) (k : Kept) (told : List Passed) → HasPoint old.tree.tasks v (written p) → Stood k (place p 0) told → {hi : ℕ} {new : Kept} {after : List Passed} → CellsPassed code v k told hi new after → Stood new (place p hi) after
@@ -170,41 +176,20 @@ module _ (code : CodeParts) (main : Start CodeScript) (first : List ℕ) (old : 
         now = y.now;
         tells = y.tells;
         given = y.given;
+        leaves = y.leaves;
       }
 
-  -- a task that had given up all its cells
-  pub record GaveAll (w : ℕ) : Type 0 where
-    pub one : TreeTask
-    pub at_ : slice_get old.tree.tasks w ≡ Some one
-    pub gave : one.gave_all ≡ true
+  -- at the places of a task that was still nothing may be given up
+  still_kept : (w : ℕ) (k : Kept) (to : Place) (told : List Passed) (x : Stood k to told) → IsStill old w → (a : Place) → HasPoint old.tree.tasks w (written a.path) → IsKept (asks code) x.state a
+  still_kept w k to told x still a point =
+      cell_kept x.now w 0 (suc a.cell) a.path (point_after x.given w (written a.path) point) (still_nothing k w 0 (suc a.cell) (still_after told old k w x.leaves still)) a.cell (omega arith) (omega arith)
 
-  -- may give up none
-  gave_kept : (w : ℕ) (k : Kept) (to : Place) (told : List Passed) (x : Stood k to told) → GaveAll w → (a : Place) → HasPoint old.tree.tasks w (written a.path) → IsPlace s a → IsKept (asks code) x.state a
-  gave_kept w k to told x g a point is = record { no_let = λ t can. given t can.at_ can.kept; no_join = λ op t can. given t can.at_ can.kept }
-    where
-      now_gave : (slice_get k.tree.tasks w ≡ Some g.one) ⊎ (slice_get k.tree.tasks w ≡ Some (given_task g.one)) → (one : TreeTask) × (slice_get k.tree.tasks w ≡ Some one) × (one.gave_all ≡ true)
-      now_gave (inl e) = (g.one, e, g.gave)
-      now_gave (inr e) = (given_task g.one, e, refl)
-
-      given : (t : Task CodeScript) → At x.state a.path t → (IsIn a.cell t.given → ⊥) → ⊥
-      given t h kept =
-          let n = now_gave (x.given.each w g.one g.at_) in
-          let r = (keeps_tasks x.now).there w n.0 n.1 in
-          let now_point = point_after x.given w (written a.path) point in
-          let path : r.0 ≡ a.path = one_path r.0 a.path (sym r.2.point ∙ ap (λ (o : TreeTask). o.point) (some_is (sym n.1 ∙ now_point.at_)) ∙ now_point.point) in
-          let task : r.1 ≡ t = at_same x.state a.path r.1 t (subst (λ (q : List ℕ). At x.state q r.1) path r.2.at_) h in
-          let u = x.walk.starts a.path t h in
-          let first_task : is.task ≡ u.0 = at_same s a.path is.task u.0 is.at_ u.1 in
-          let owes : Owes a.path t.body.start.context a.cell = subst (λ (b : Start CodeScript). Owes a.path b.context a.cell) (ap (λ (o : Task CodeScript). o.body.start) first_task ∙ u.2) is.owes in
-          let owes_there : Owes r.0 r.1.body.start.context a.cell = subst (λ (q : List ℕ). Owes q r.1.body.start.context a.cell) (sym path) (subst (λ (o : Task CodeScript). Owes a.path o.body.start.context a.cell) (sym task) owes) in
-          kept (subst (λ (o : Task CodeScript). IsIn a.cell o.given) task (r.2.gave_all.0 n.2 a.cell owes_there))
-
-  module _ (left : List TaskNo) (are_left : AreLeft old.tree.tasks left) where
-    -- so many tasks of the list were passed: each task of the tree is one of the others, had given up all its cells, or lies behind
+  module _ (left : List TaskNo) (are_left : HaveGivers old left) where
+    -- so many tasks of the list were passed: each task of the tree is one of the others, was still, or lies behind
     pub record Halfway (i : ℕ) (k : Kept) (told : List Passed) : Type 0 where
       pub to : Place
       pub stood : Stood k to told
-      pub rest : (w : ℕ) (p : List ℕ) → HasPoint old.tree.tasks w (written p) → ((j : ℕ) × (i ≤ j) × (slice_get left j ≡ Some (number w))) ⊎ (GaveAll w ⊎ ((c : ℕ) → c < top → IsEarlierPlace (place p c) to))
+      pub rest : (w : ℕ) (p : List ℕ) → HasPoint old.tree.tasks w (written p) → ((j : ℕ) × (i ≤ j) × (slice_get left j ≡ Some (number w))) ⊎ (IsStill old w ⊎ ((c : ℕ) → c < top → IsEarlierPlace (place p c) to))
       pub ahead : (j : ℕ) (w : TaskNo) (p : List ℕ) → i ≤ j → slice_get left j ≡ Some w → HasPoint old.tree.tasks w.0 (written p) → (to ≡ place p 0) ⊎ IsEarlierPlace to (place p 0)
 
     begins : Halfway 0 old []
@@ -217,8 +202,9 @@ module _ (code : CodeParts) (main : Start CodeScript) (first : List ℕ) (old : 
         now = core;
         tells = tt;
         given = given_itself old.tree.tasks;
+        leaves = nothing_given old;
       };
-      rest = λ w p point. rest w point.task point.at_ point.task.gave_all refl p;
+      rest = λ w p point. rest w p (are_left.all w (slice_get_within old.tree.tasks w point.task point.at_));
       ahead = λ j w p l e point. ahead p (compare (reverse []) (reverse p));
     }
       where
@@ -229,13 +215,9 @@ module _ (code : CodeParts) (main : Start CodeScript) (first : List ℕ) (old : 
         none a (inl h) = never (reverse a.path) h
         none a (inr (e, l)) = omega (arith, l)
 
-        rest : (w : ℕ) (one : TreeTask) → slice_get old.tree.tasks w ≡ Some one → (b : Bool) → one.gave_all ≡ b → (p : List ℕ)
-            → ((j : ℕ) × (0 ≤ j) × (slice_get left j ≡ Some (number w))) ⊎ (GaveAll w ⊎ ((c : ℕ) → c < top → IsEarlierPlace (place p c) (place [] 0)))
-        rest w one e true g p = inr (inl (record { one = one; at_ = e; gave = g }))
-        rest w one e false g p = let k = in_at (number w) left (are_left.all w (slice_get_within old.tree.tasks w one e) open_) in inl (k.0, omega arith, k.1)
-          where
-            open_ : IsComplete old.tree.tasks w → ⊥
-            open_ (complete other f closed below) = let same : one ≡ other = some_is (sym e ∙ f) in let a : one.gave_all ≡ true = ap (λ (o : TreeTask). o.gave_all) same ∙ closed.1 in absurd cc
+        rest : (w : ℕ) (p : List ℕ) → IsIn (number w) left ⊎ IsStill old w → ((j : ℕ) × (0 ≤ j) × (slice_get left j ≡ Some (number w))) ⊎ (IsStill old w ⊎ ((c : ℕ) → c < top → IsEarlierPlace (place p c) (place [] 0)))
+        rest w p (inl i) = let k = in_at (number w) left i in inl (k.0, omega arith, k.1)
+        rest w p (inr still) = inr (inl still)
 
         ahead : (p : List ℕ) → Compared (reverse []) (reverse p) → (place [] 0 ≡ place p 0) ⊎ IsEarlierPlace (place [] 0) (place p 0)
         ahead p (Compared.before h) = inr (inl h)
@@ -277,9 +259,9 @@ module _ (code : CodeParts) (main : Start CodeScript) (first : List ℕ) (old : 
           not_behind (inl l) (inr m) = never_both (reverse a.path) (reverse p) l m
           not_behind (inr (e, l)) c = omega (arith, l)
 
-          go : (w : ℕ) → HasPoint old.tree.tasks w (written a.path) → ((j : ℕ) × (i ≤ j) × (slice_get left j ≡ Some (number w))) ⊎ (GaveAll w ⊎ ((c : ℕ) → c < top → IsEarlierPlace (place a.path c) x.to)) → IsKept (asks code) x.stood.state a
+          go : (w : ℕ) → HasPoint old.tree.tasks w (written a.path) → ((j : ℕ) × (i ≤ j) × (slice_get left j ≡ Some (number w))) ⊎ (IsStill old w ⊎ ((c : ℕ) → c < top → IsEarlierPlace (place a.path c) x.to)) → IsKept (asks code) x.stood.state a
           go w has (inl (j, l, e)) = absurd (not_behind h (next_or_behind j w a.path l e has))
-          go w has (inr (inl g)) = gave_kept w k x.to told x.stood g a has is
+          go w has (inr (inl g)) = still_kept w k x.to told x.stood g a has
           go w has (inr (inr b)) = absurd (f (b a.cell (below_top a is)))
 
       -- the next task
@@ -291,6 +273,7 @@ module _ (code : CodeParts) (main : Start CodeScript) (first : List ℕ) (old : 
         now = x.stood.now;
         tells = x.stood.tells;
         given = x.stood.given;
+        leaves = x.stood.leaves;
       }
 
       -- and behind it
@@ -305,11 +288,11 @@ module _ (code : CodeParts) (main : Start CodeScript) (first : List ℕ) (old : 
           behind_it : (q : List ℕ) → q ≡ p → (c : ℕ) → c < top → IsEarlierPlace (place q c) (place p top)
           behind_it q e c l = inr (e, l)
 
-          rest : (w : ℕ) (q : List ℕ) → HasPoint old.tree.tasks w (written q) → ((j : ℕ) × (i ≤ j) × (slice_get left j ≡ Some (number w))) ⊎ (GaveAll w ⊎ ((c : ℕ) → c < top → IsEarlierPlace (place q c) x.to))
-              → ((j : ℕ) × (suc i ≤ j) × (slice_get left j ≡ Some (number w))) ⊎ (GaveAll w ⊎ ((c : ℕ) → c < top → IsEarlierPlace (place q c) (place p top)))
+          rest : (w : ℕ) (q : List ℕ) → HasPoint old.tree.tasks w (written q) → ((j : ℕ) × (i ≤ j) × (slice_get left j ≡ Some (number w))) ⊎ (IsStill old w ⊎ ((c : ℕ) → c < top → IsEarlierPlace (place q c) x.to))
+              → ((j : ℕ) × (suc i ≤ j) × (slice_get left j ≡ Some (number w))) ⊎ (IsStill old w ⊎ ((c : ℕ) → c < top → IsEarlierPlace (place q c) (place p top)))
           rest w q h (inl (j, l, e)) = by (same_or_later j l)
             where
-              by : (j ≡ i) ⊎ (i < j) → ((j : ℕ) × (suc i ≤ j) × (slice_get left j ≡ Some (number w))) ⊎ (GaveAll w ⊎ ((c : ℕ) → c < top → IsEarlierPlace (place q c) (place p top)))
+              by : (j ≡ i) ⊎ (i < j) → ((j : ℕ) × (suc i ≤ j) × (slice_get left j ≡ Some (number w))) ⊎ (IsStill old w ⊎ ((c : ℕ) → c < top → IsEarlierPlace (place q c) (place p top)))
               by (inl f) =
                   let same_task : number w ≡ v = some_is (sym e ∙ ap (λ (n : ℕ). slice_get left n) f ∙ is_next) in
                   let at_ : slice_get old.tree.tasks w ≡ slice_get old.tree.tasks v.0 = ap (λ (t : TaskNo). slice_get old.tree.tasks t.0) same_task in
@@ -353,9 +336,9 @@ module _ (code : CodeParts) (main : Start CodeScript) (first : List ℕ) (old : 
             let has = point_of_path core w.0 a.path w.1 in
             go w.0 has (x.rest w.0 a.path has)
           where
-            go : (w : ℕ) → HasPoint old.tree.tasks w (written a.path) → ((j : ℕ) × (length left ≤ j) × (slice_get left j ≡ Some (number w))) ⊎ (GaveAll w ⊎ ((c : ℕ) → c < top → IsEarlierPlace (place a.path c) x.to)) → IsKept (asks code) x.stood.state a
+            go : (w : ℕ) → HasPoint old.tree.tasks w (written a.path) → ((j : ℕ) × (length left ≤ j) × (slice_get left j ≡ Some (number w))) ⊎ (IsStill old w ⊎ ((c : ℕ) → c < top → IsEarlierPlace (place a.path c) x.to)) → IsKept (asks code) x.stood.state a
             go w has (inl (j, l, e)) = let m = slice_get_within left j (number w) e in absurd (omega (arith, l, m))
-            go w has (inr (inl g)) = gave_kept w new x.to told x.stood g a has is
+            go w has (inr (inl g)) = still_kept w new x.to told x.stood g a has
             go w has (inr (inr b)) = absurd (f (b a.cell (below_top a is)))
 
 -- where nothing is told of a pass, no cell may be given up and no slot joined, and the core stands for the same state
@@ -366,7 +349,7 @@ idle_told {code = code} {main = main} {first = first} {old = old} {new = new} {s
     (subst (λ (n : State CodeScript). IsIdle code s n) idle.same_state idle, subst (λ (n : State CodeScript). IsCore code main first new n) idle.same_state made.4)
 
 -- all tasks were passed: so a pass was made, from each state
-pub has_passed : (code : CodeParts) (old new : Kept) (left : List TaskNo) (told : List Passed) → AreLeft old.tree.tasks left → TasksPassed code left old (length left) new told → HasPassed code old new told
+pub has_passed : (code : CodeParts) (old new : Kept) (left : List TaskNo) (told : List Passed) → HaveGivers old left → TasksPassed code left old (length left) new told → HasPassed code old new told
 has_passed code old new left told are_left t main first s core =
     let places = places_are (asks code) s in
     pass_made code main first old s core places.0 places.1 left are_left new told t

@@ -1,5 +1,5 @@
 -- Tasks with their points, and the order in which a stable sort by these puts them.
-use Rattle.std.proofs.Common.{◌≡◌, ℕ, suc, ◌+◌, ◌<◌, ◌≤◌, ◌⊎◌, inl, inr, refl, sym, subst, ap, ◌∙◌, arith, List, [], ◌∷◌, ◌++◌, length, take, map, get_or, Bool, true, false}
+use Rattle.std.proofs.Common.{◌≡◌, ℕ, zero, suc, ◌+◌, ◌<◌, ◌≤◌, ◌⊎◌, inl, inr, refl, sym, subst, ap, ◌∙◌, arith, List, [], ◌∷◌, ◌++◌, length, take, map, get_or, Bool, true, false}
 use Rattle.std.specs.Prelude.{◌&&◌, not, cond}
 use Rattle.std.specs.List.{filter}
 use Rattle.std.specs.List.Sorted.{IsStableBy, ties}
@@ -12,7 +12,6 @@ use Rattle.std.proofs.lemmas.Cmp.{nat_list_cmp_total}
 use Rattle.std.proofs.lemmas.List.{map-append, take_all, take_more}
 use Rattle.std.proofs.lemmas.List.MinMax.{ranks_by}
 use Rattle.std.proofs.lemmas.List.Sorted.{sorted_far}
-use Rattle.std.proofs.lemmas.Option.{slice_get_within}
 use Rattle.oss_model.specs.Order.{IsBefore, IsIn, here, there}
 use Rattle.oss_model.specs.declared.task_no.TaskNo.{TaskNo}
 use Rattle.oss_model.proofs.OrderLemmas.{before_not}
@@ -22,9 +21,9 @@ use Rattle.oss_tree.specs.Tasks.{HasPoint, IsTree, number}
 use Rattle.oss_tree.proofs.ListLemmas.{some_is}
 use Rattle.oss_tree.proofs.OutputLemmas.{before_told, told_before}
 use Rattle.oss_tree.proofs.TreeLemmas.{one_point}
-use Rattle.oss_core.specs.declared.remaining.Placed.{Placed}
-use Rattle.oss_core.specs.Left.{AreInPointOrder, AreLeft}
-use Rattle.oss_core.specs.Remaining.{AreLeftOf, AreOnce, AreSorted, comes_before}
+use Rattle.oss_core.specs.declared.ordering.Placed.{Placed}
+use Rattle.oss_core.specs.PointOrder.{AreInPointOrder}
+use Rattle.oss_core.specs.Ordering.{AreInOrder, AreOnce, AreSorted, comes_before}
 use Rattle.oss_core.proofs.SteppersLemmas.{in_cases, in_either}
 
 -- points order tasks
@@ -194,6 +193,12 @@ of_tasks [] i = elim i [ ]
 of_tasks (x ∷ xs) here = (x, here, refl)
 of_tasks (x ∷ xs) (there i) = let k = of_tasks xs i in (k.0, there k.1, k.2)
 
+-- a member of the list, by its place
+pub at_in : (left : List TaskNo) (i : ℕ) (d : TaskNo) → i < length left → IsIn (get_or left i d) left
+at_in [] i d l = absurd (omega (arith, l))
+at_in (x ∷ xs) zero d l = here
+at_in (x ∷ xs) (suc i) d l = there (at_in xs i d (omega (arith, l)))
+
 -- The list has these tasks with their points.
 pub record ArePlaced (tasks : List Task) (left : List TaskNo) (placed : List Placed) : Type 0 where
   pub tasks_are : map (λ (x : Placed). x.task) placed ≡ left
@@ -227,24 +232,24 @@ module _ (tasks : List Task) (tree : IsTree tasks) where
           let second = same_point tasks w.0 k.0.point.now q (subst (λ (t : TaskNo). HasPoint tasks t.0 k.0.point.now) k.2 (points k.0 (there k.1))) hq in
           subst (λ (a : List ℕ). IsBefore a q) first (subst (λ (b : List ℕ). IsBefore x.point.now b) second (r.0 k.0 k.1))
 
-  -- sorted by their points, the tasks that are left are so in point order
-  pub sorted_left : (left : List TaskNo) (placed : List Placed) (now : List TaskNo) → AreLeftOf tasks (length tasks) left → ArePlaced tasks left placed → AreSorted placed now → AreLeft tasks now
-  sorted_left left placed now are in_place s = subst (AreLeft tasks) (sym s.tasks_are) (record { ordered = in_point_order s.shown rises points; there = λ v i. there_in v i; all = λ v l n. all_in v (are.all v l n) })
+  -- sorted by their points, tasks stand in point order
+  pub sorted_all : (list : List TaskNo) (placed : List Placed) (now : List TaskNo) → AreOnce list → ArePlaced tasks list placed → AreSorted placed now → AreInOrder tasks list now
+  sorted_all list placed now once in_place s = subst (AreInOrder tasks list) (sym s.tasks_are) (record { ordered = in_point_order s.shown rises points; all = λ v i. all_in v i; only = λ v i. only_in v i })
     where
       points : (x : Placed) → IsIn x s.shown → HasPoint tasks x.task.0 x.point.now
       points x i = in_place.points x (was_in placed s.shown s.stable x i)
 
       rises : AreRising s.shown
       rises =
-          let few = few_tie placed (apart placed (subst AreOnce (sym in_place.tasks_are) are.once) in_place.points) in
+          let few = few_tie placed (apart placed (subst AreOnce (sym in_place.tasks_are) once) in_place.points) in
           rising s.shown (none_falls s.shown (λ i j d l m. sorted_far comes_before ranks s.shown s.sorted i j d l m)) (λ x. subst (λ (xs : List Placed). length xs ≤ 1) (sym (s.stable x)) (few x))
 
-      there_in : (v : TaskNo) → IsIn v (map task_of s.shown) → v.0 < length tasks
-      there_in v i = let k = of_tasks s.shown i in let h = points k.0 k.1 in subst (λ (t : TaskNo). t.0 < length tasks) k.2 (slice_get_within tasks k.0.task.0 h.task h.at_)
+      only_in : (v : TaskNo) → IsIn v (map task_of s.shown) → IsIn v list
+      only_in v i = let k = of_tasks s.shown i in subst (IsIn v) in_place.tasks_are (subst (λ (t : TaskNo). IsIn t (map task_of placed)) k.2 (in_tasks placed (was_in placed s.shown s.stable k.0 k.1)))
 
-      all_in : (v : ℕ) → IsIn (number v) left → IsIn (number v) (map task_of s.shown)
+      all_in : (v : TaskNo) → IsIn v list → IsIn v (map task_of s.shown)
       all_in v i =
-          let k = of_tasks placed (subst (IsIn (number v)) (sym in_place.tasks_are) i) in
+          let k = of_tasks placed (subst (IsIn v) (sym in_place.tasks_are) i) in
           subst (λ (t : TaskNo). IsIn t (map task_of s.shown)) k.2 (in_tasks s.shown (kept_in placed s.shown s.stable k.0 k.1))
 
 -- one task more, with its point

@@ -10,14 +10,15 @@ use Rattle.oss_code.specs.declared.code.CodeParts.{CodeParts}
 use Rattle.oss_machine.specs.Frames.{CodeScript}
 use Rattle.oss_body.specs.Relation.{is_over}
 use Rattle.oss_tree.specs.declared.task.Task.{Task as TreeTask}
-use Rattle.oss_tree.specs.Tasks.{IsComplete, complete, number}
+use Rattle.oss_tree.specs.Tasks.{number}
 use Rattle.oss_core.specs.declared.held.Held.{Held}
+use Rattle.oss_core.specs.Awake.{HaveSteppers}
 use Rattle.oss_core.specs.Enabled.{MayStep}
-use Rattle.oss_core.specs.Kept.{IsCore, IsRunning, Kept}
-use Rattle.oss_core.specs.Left.{AreInPointOrder, AreLeft}
+use Rattle.oss_core.specs.Kept.{IsCore, Kept}
+use Rattle.oss_core.specs.PointOrder.{AreInPointOrder}
 use Rattle.oss_core.specs.Steppers.{AreSteppers, IsAddedWhere}
 use Rattle.oss_core.proofs.KeepLemmas.{some_is}
-use Rattle.oss_core.proofs.TreeFacts.{at_number, kept_within, sizes}
+use Rattle.oss_core.proofs.TreeFacts.{at_number, kept_within}
 
 -- members of a list that is put together of two
 
@@ -73,21 +74,14 @@ stepper_runs core v may one e =
     let x = at_number core v (kept_within core v may.held may.is) in
     ap (λ (o : TreeTask). o.ended) (some_is (sym e ∙ x.task_at)) ∙ x.is_known.ended ∙ sym x.is_held.body_is.ended ∙ ap (λ (h : Held). is_over h.body) (some_is (sym x.held_at ∙ may.is)) ∙ may.goes.running
 
--- so it is left
-stepper_left : {code : CodeParts} {main : Start CodeScript} {first : List ℕ} {k : Kept} {s : State CodeScript} (core : IsCore code main first k s) (left : List TaskNo) → AreLeft k.tree.tasks left → (v : ℕ) → MayStep k.tasks k.tree.tasks k.seen v → IsIn (number v) left
-stepper_left {k = k} core left are v may = are.all v (subst (λ (n : ℕ). v < n) (sym (sizes core)) (kept_within core v may.held may.is)) not_complete
-  where
-    not_complete : IsComplete k.tree.tasks v → ⊥
-    not_complete (complete one e closed below) = let running = stepper_runs core v may one e in let over = closed.0 in absurd cc
-
 -- those that were found among the first of the list, before the rest of it
 pub record AreSoFar (k : Kept) (found rest : List TaskNo) : Type 0 where
   pub ordered : AreInPointOrder k.tree.tasks (found ++ rest)
   pub may : (v : TaskNo) → IsIn v found → MayStep k.tasks k.tree.tasks k.seen v.0
   pub all : (v : ℕ) → MayStep k.tasks k.tree.tasks k.seen v → IsIn (number v) (found ++ rest)
 
-pub so_far_begins : {code : CodeParts} {k : Kept} → IsRunning code k → (left : List TaskNo) → AreLeft k.tree.tasks left → AreSoFar k [] left
-so_far_begins running left are = record { ordered = are.ordered; may = λ v i. elim i [ ]; all = λ v may. stepper_left running.core left are v may }
+pub so_far_begins : (k : Kept) (asked : List TaskNo) → HaveSteppers k asked → AreSoFar k [] asked
+so_far_begins k asked are = record { ordered = are.ordered; may = λ v i. elim i [ ]; all = are.all }
 
 pub so_far_more : (k : Kept) (found new : List TaskNo) (v : TaskNo) (rest : List TaskNo) → AreSoFar k found (v ∷ rest) → IsAddedWhere (MayStep k.tasks k.tree.tasks k.seen v.0) v found new → AreSoFar k new rest
 so_far_more k found new v rest x (inl (may, e)) = subst (λ (xs : List TaskNo). AreSoFar k xs rest) (sym e) (record {

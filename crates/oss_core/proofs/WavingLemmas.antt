@@ -20,13 +20,14 @@ use Rattle.oss_core.specs.declared.creating.Newborn.{Newborn}
 use Rattle.oss_core.specs.declared.held.Held.{Held}
 use Rattle.oss_core.specs.declared.turns.Turn.{Turn}
 use Rattle.oss_core.specs.Kept.{IsRunning, Kept}
-use Rattle.oss_core.specs.Left.{AreInPointOrder}
+use Rattle.oss_core.specs.Leaving.{WasWave}
+use Rattle.oss_core.specs.PointOrder.{AreInPointOrder}
 use Rattle.oss_core.specs.Putting.{AreNewborns, HasBody, IsPut, IsWritten}
 use Rattle.oss_core.specs.Steppers.{AreSteppers}
 use Rattle.oss_core.specs.Turns.{ArePartsOf, AwaitsParts, HasLent, HasWaved, IsBeside, IsFilled, IsMidway, KeepsPoints, KeepsTasks, Midway}
 use Rattle.oss_core.proofs.FillLemmas.{body_back, filled_behind, filled_size}
 use Rattle.oss_core.proofs.ExactLemmas.{body_of, step_told}
-use Rattle.oss_core.proofs.NextLemmas.{HasNext, has_next, one_put, wave_begun, wave_made}
+use Rattle.oss_core.proofs.NextLemmas.{HasNext, has_next, one_put, wave_begun, wave_leaves, wave_made, wave_may}
 
 -- a place of a list has one of its elements
 pub at_in : {A : Type 0} (xs : List A) (i : ℕ) (x : A) → slice_get xs i ≡ Some x → IsIn x xs
@@ -218,6 +219,13 @@ pub awaited_kept : (code : CodeParts) (before k new : Kept) (steppers : List Tas
 awaited_kept code before k new steppers parts told h ends =
     subst (λ (ts : List TreeTask). KeepsTasks ts new.tree.tasks) (sym (ap (λ (t : tree.Kept). t.tasks) h.lent.beside.tree))
     (keeps_tasks_after code before k new steppers h.bodies parts told (running_before h) h.lent.are_steppers h.lent.filled h.lent.beside h.parts_are ends)
+
+-- what it leaves
+pub awaited_turned : (code : CodeParts) (before k new : Kept) (steppers : List TaskNo) (parts : List Segment) (told : List Turn) → AwaitsParts code before k steppers parts
+    → ((c : CodeParts) (main : Start CodeScript) (first : List ℕ) (s : State CodeScript) (b : Kept) → Midway c main first s b steppers steppers parts [] k → Midway c main first s b steppers [] [] told new) → WasWave told before new
+awaited_turned code before k new steppers parts told h ends =
+    let m = ends code h.main h.first h.state before (wave_begun code h.main h.first h.state before k steppers h.bodies parts h.core h.lent.are_steppers h.lent.filled h.lent.beside.tree h.lent.beside.seen h.lent.beside.cells h.parts_are) in
+    record { turned = wave_leaves code h.main h.first h.state before steppers told new m; may = wave_may code h.main h.first h.state before steppers told new m }
 
 -- the tasks that may act are there
 pub steppers_there : (code : CodeParts) (before : Kept) (steppers : List TaskNo) → IsRunning code before → AreSteppers before steppers → (v : TaskNo) → IsIn v steppers → v.0 < length before.tasks

@@ -12,8 +12,12 @@ pub mod Giving
 pub mod Cores
 pub mod CoreLeft
 pub mod Stops
-pub mod Left
+pub mod PointOrder
 pub mod Passing
-pub mod Remaining
+pub mod Ordering
 pub mod Turns
 pub mod Steppers
+pub mod Awake
+pub mod Hindered
+pub mod Hindering
+pub mod Leaving

@@ -126,6 +126,6 @@ pub record TaskPassed (code : CodeParts) (v : ℕ) (old new : Kept) (before afte
   pub past : OwesNoneFrom new v 1048576
 
 -- So many of the tasks were passed, one after the other.
-pub data TasksPassed (code : CodeParts) (left : List TaskNo) (old : Kept) : ℕ → Kept → List Passed → Type 0 where
-  no_tasks : TasksPassed code left old zero old []
-  more_tasks : {i : ℕ} {mid new : Kept} {told after : List Passed} {task : TaskNo} → TasksPassed code left old i mid told → slice_get left i ≡ Some task → TaskPassed code task.0 mid new told after → TasksPassed code left old (suc i) new after
+pub data TasksPassed (code : CodeParts) (asked : List TaskNo) (old : Kept) : ℕ → Kept → List Passed → Type 0 where
+  no_tasks : TasksPassed code asked old zero old []
+  more_tasks : {i : ℕ} {mid new : Kept} {told after : List Passed} {task : TaskNo} → TasksPassed code asked old i mid told → slice_get asked i ≡ Some task → TaskPassed code task.0 mid new told after → TasksPassed code asked old (suc i) new after

@@ -7,7 +7,7 @@ use Rattle.oss_model.specs.declared.task_no.TaskNo.{TaskNo}
 use Rattle.oss_tree.specs.Tasks.{number}
 use Rattle.oss_core.specs.Enabled.{MayStep}
 use Rattle.oss_core.specs.Kept.{Kept}
-use Rattle.oss_core.specs.Left.{AreInPointOrder}
+use Rattle.oss_core.specs.PointOrder.{AreInPointOrder}
 
 -- The list has just the tasks that may step, in point order.
 pub record AreSteppers (k : Kept) (list : List TaskNo) : Type 0 where

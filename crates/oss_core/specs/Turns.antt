@@ -21,6 +21,7 @@ use Rattle.oss_part.specs.Segments.{IsKnown, IsSegment}
 use Rattle.oss_core.specs.declared.held.Held.{Held}
 use Rattle.oss_core.specs.declared.turns.Turn.{Turn}
 use Rattle.oss_core.specs.Kept.{IsCore, Kept}
+use Rattle.oss_core.specs.Leaving.{HaveTurned}
 use Rattle.oss_core.specs.Putting.{HasBody}
 use Rattle.oss_core.specs.Steppers.{AreSteppers}
 
@@ -118,6 +119,8 @@ pub record Midway (code : CodeParts) (main : Start CodeScript) (first : List ℕ
   pub taken : TakeTurns (asks code) s turns state
   pub turns_are : (turn : waves.Turn) → IsIn turn turns → IsTurn (asks code) s turn
   pub told_are : AreTold before.tree.tasks told turns
+  -- what they leave
+  pub leaves : HaveTurned told before (with_held filled k)
 
 -- In the midst of some wave.
 pub record IsMidway (all left : List TaskNo) (parts : List Segment) (told : List Turn) (k : Kept) : Type 0 where

@@ -58,7 +58,7 @@ pub(crate) fn may_go_on<D: Deps>(body: &Body, tree: &Tree, deps: &mut D, task: T
 }
 
 /// Whether this is a fault in the place of an act.
-fn is_fault(act: &Act) -> bool
+pub(crate) fn is_fault(act: &Act) -> bool
     ensures { IsTrue result ↔ (goes_on act.now ≡ false) }
 {
     matches!(act, Act::Fault { .. })

@@ -1,4 +1,4 @@
-//! Passes: what the tasks that are left may give up or join, each at its turn.
+//! Passes: what the tasks that are asked may give up or join, each at its turn.
 
 ghost use Rattle.std.specs.Prelude.{◌≡◌, ◌≤◌, ◌<◌, ◌↔◌, ◌⊎◌, ℕ, true, length, IfOk, IsTrue, List as Items, None, OnOk, Some, slice_get};
 ghost use Rattle.oss_code.specs.declared.code.CodeParts.{CodeParts};
@@ -84,23 +84,26 @@ impl<D: Deps> Core<D> {
     ghost use Rattle.oss_core.specs.declared.held.Held.{Held as Kept};
     ghost use Rattle.oss_core.specs.declared.held.Owed.TheVariants as ways;
     ghost use Rattle.oss_core.specs.Cores.{kept_of};
+    ghost use Rattle.oss_core.specs.Awake.{HaveGivers};
     ghost use Rattle.oss_core.specs.Kept.{IsRunning};
-    ghost use Rattle.oss_core.specs.Left.{AreLeft};
+    ghost use Rattle.oss_core.specs.Leaving.{HaveGivenUp};
     ghost use Rattle.oss_core.specs.Passing.{HasPassed, HaveGiven, OwesRange, RunPassed, TaskPassed};
 
     /// One pass: each of these tasks, in point order, and of each task its cells in rising order, gives up or joins what it may at its turn. The answer
-    /// tells of each longest run of neighbouring cells that one task has given up in one way, in the order of the pass. Condition: the list has each task that
-    /// is not complete, in point order. It costs what the ranges of cells do that these tasks owe, and of slots what their cells do. After want of memory
-    /// the core is given up.
-    pub fn pass(&mut self, code: &Code, left: &[TaskNo]) -> Result<Vec<Passed>, AllocError>
+    /// tells of each longest run of neighbouring cells that one task has given up in one way, in the order of the pass; no task of which it does not
+    /// tell gives anything up. Condition: the list has, in point order, each task that is not still: that owes a cell and has ended, or that has
+    /// released a cell which it owes by a let. Others may stand in it, as in a list of all that are not complete. It costs what the ranges of cells do
+    /// that these tasks owe, and of slots what their cells do. After want of memory the core is given up.
+    pub fn pass(&mut self, code: &Code, asked: &[TaskNo]) -> Result<Vec<Passed>, AllocError>
         requires running { IsRunning code.now (kept_of D.seen self.old) }
-        requires left { AreLeft self.old.tree.tasks left.now }
+        requires asked { HaveGivers (kept_of D.seen self.old) asked.now }
         ensures passed { IfOk result (λ passed. HasPassed code.now (kept_of D.seen self.old) (kept_of D.seen self.new) passed.items) }
+        ensures given_up { IfOk result (λ passed. HaveGivenUp passed.items (kept_of D.seen self.old) (kept_of D.seen self.new)) }
         ensures tasks { OnOk result (HaveGiven self.old.tree.tasks self.new.tree.tasks) }
     {
         let mut passed = Vec::new(self.alloc);
-        for at in 0..left.len() {
-            self.pass_task(code, left[at], &mut passed)?;
+        for at in 0..asked.len() {
+            self.pass_task(code, asked[at], &mut passed)?;
         }
         Ok(passed)
     }

@@ -12,20 +12,20 @@ use std::alloc::AllocError;
 
 impl<D: Deps> Core<D> {
     ghost use Rattle.oss_core.specs.Cores.{kept_of};
+    ghost use Rattle.oss_core.specs.Awake.{HaveSteppers};
     ghost use Rattle.oss_core.specs.Kept.{IsRunning};
-    ghost use Rattle.oss_core.specs.Left.{AreLeft};
     ghost use Rattle.oss_core.specs.Steppers.{AreSteppers};
 
-    /// The tasks whose next acts may be made, in point order: those of the list that may step. Condition: the list has each task that is not complete, in point
-    /// order. Want of memory is the one error, and the core stays in any case.
-    pub fn steppers(&mut self, left: &[TaskNo]) -> Result<Vec<TaskNo>, AllocError>
+    /// The tasks whose next acts may be made, in point order: those of the list that may step. Condition: the list has each task that may step, in point order;
+    /// others may stand in it, as in a list of all that are not complete. Want of memory is the one error, and the core stays in any case.
+    pub fn steppers(&mut self, asked: &[TaskNo]) -> Result<Vec<TaskNo>, AllocError>
         requires running { (code : CodeParts) × IsRunning code (kept_of D.seen self.old) }
-        requires left { AreLeft self.old.tree.tasks left.now }
+        requires asked { HaveSteppers (kept_of D.seen self.old) asked.now }
         ensures steppers { IfOk result (λ steppers. AreSteppers (kept_of D.seen self.old) steppers.items) }
         ensures same { kept_of D.seen self.new ≡ kept_of D.seen self.old }
     {
         let mut steppers = Vec::new(self.alloc);
-        for task in left {
+        for task in asked {
             self.add_stepper(*task, &mut steppers)?;
         }
         Ok(steppers)

@@ -166,18 +166,17 @@ const MAIN: TaskNo = TaskNo(0);
 
 const TASK: TaskNo = TaskNo(1);
 
-#[test]
-fn a_task_in_one_order(rt: HostRuntime) {
-    let code = code(&rt);
-    let mut core = begun(&rt, &code, PlainDeps::new(rt.alloc()));
-    assert!(rt; core.find(&[0]) == Some(MAIN) && core.find(&[0, 0]).is_none());
+/// Main creates the task, prints and waits, and the task runs to its end, with moves between that are not enabled.
+fn run_to_end<D: Deps>(rt: &impl Abort, core: &mut Core<D>, code: &Code)
+    requires { IsRunning code.now (kept_of D.seen core.old) }
+    ensures { IsRunning code.now (kept_of D.seen core.new) }
+{
     let created = [
         (Move::Step(TASK), false),
         (Move::Let(MAIN, 0), false),
         (Move::Step(MAIN), true),
     ];
-    assert_moves(&rt, &mut core, &code, &created);
-    assert!(rt; core.find(&[0, 0]) == Some(TASK) && core.find(&[0, 1]).is_none());
+    assert_moves(rt, core, code, &created);
     let ended = [
         // main prints, and waits
         (Move::Step(MAIN), true),
@@ -192,8 +191,31 @@ fn a_task_in_one_order(rt: HostRuntime) {
         (Move::Step(TASK), false),
         (Move::Step(MAIN), false),
     ];
-    assert_moves(&rt, &mut core, &code, &ended);
+    assert_moves(rt, core, code, &ended);
+}
+
+/// Main waits for the task, which nothing hinders, and which has not given up all its cells.
+fn assert_waits<D: Deps>(rt: &impl Abort, core: &mut Core<D>)
+    requires { (code : Parts) × IsRunning code (kept_of D.seen core.old) }
+    ensures { kept_of D.seen core.new ≡ kept_of D.seen core.old }
+{
+    if core.tree.count() != 2 {
+        panic!(rt; "two tasks");
+    }
+    assert!(rt; core.hindrance(MAIN) == Some(TASK));
+    assert!(rt; core.hindrance(TASK).is_none());
+    assert!(rt; !core.spent(TASK));
+}
+
+#[test]
+fn a_task_in_one_order(rt: HostRuntime) {
+    let code = code(&rt);
+    let mut core = begun(&rt, &code, PlainDeps::new(rt.alloc()));
+    assert!(rt; core.find(&[0]) == Some(MAIN) && core.find(&[0, 0]).is_none());
+    run_to_end(&rt, &mut core, &code);
+    assert!(rt; core.find(&[0, 0]) == Some(TASK) && core.find(&[0, 1]).is_none());
     assert_going(&rt, &mut core, 2);
+    assert_waits(&rt, &mut core);
     let given = [
         (Move::Let(TASK, 1), false),
         (Move::Join(TASK, 0), false),
@@ -225,8 +247,8 @@ fn passed_of<D: Deps>(rt: &impl Abort, core: &mut Core<D>, code: &Code) -> Vec<P
     if core.tree.count() != 2 {
         panic!(rt; "two tasks");
     }
-    let left = [MAIN, TASK];
-    core.pass(code, &left).expect(rt, "memory")
+    let asked = [MAIN, TASK];
+    core.pass(code, &asked).expect(rt, "memory")
 }
 
 /// A pass gives up nothing.

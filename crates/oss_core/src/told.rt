@@ -6,6 +6,7 @@ ghost use Rattle.oss_tree.specs.Tasks.{HasPoint};
 use crate::machine::Core;
 use oss_deps::Deps;
 use oss_model::{Point, TaskNo};
+use oss_tree::Tree;
 
 impl<D: Deps> Core<D> {
     ghost use Rattle.oss_core.specs.Cores.{kept_of};
@@ -15,6 +16,13 @@ impl<D: Deps> Core<D> {
         ensures { result ≡ length self.now.tree.tasks }
     {
         self.tree.count()
+    }
+
+    /// The tree of its tasks. It takes no memory.
+    pub fn tree(&self) -> &Tree
+        ensures { result.now ≡ self.now.tree }
+    {
+        &self.tree
     }
 
     /// The point of the task with this number. Condition: there is one. It takes no memory.

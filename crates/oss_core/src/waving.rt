@@ -41,30 +41,31 @@ fn spare_of(alloc: Global, code: &Code, spares: &mut Vec<Body>) -> Result<Body, 
 
 impl<D: Deps> Core<D> {
     ghost use Rattle.oss_core.specs.Cores.{kept_of};
+    ghost use Rattle.oss_core.specs.Awake.{HaveSteppers};
     ghost use Rattle.oss_core.specs.Kept.{IsRunning, Kept};
-    ghost use Rattle.oss_core.specs.Left.{AreLeft};
+    ghost use Rattle.oss_core.specs.Leaving.{WasWave};
     ghost use Rattle.oss_core.specs.Turns.{AwaitsParts, HasLent, HasWaved, IsMidway, KeepsTasks, Midway};
 
     /// A wave begins: the bodies of those of these tasks that may act go out, and spare ones stand in their places until `end_wave`. Conditions: the list has each
-    /// task that is not complete, in point order; the code has at most 1,048,576 cells. After want of memory the core is given up.
+    /// task that may step, in point order; the code has at most 1,048,576 cells. After want of memory the core is given up.
     pub fn begin_wave(
         &mut self,
         code: &Code,
-        left: &[TaskNo],
+        asked: &[TaskNo],
         spares: &mut Vec<Body>,
     ) -> Result<Lent, AllocError>
         requires running { IsRunning code.now (kept_of D.seen self.old) }
-        requires left { AreLeft self.old.tree.tasks left.now }
+        requires asked { HaveSteppers (kept_of D.seen self.old) asked.now }
         requires cells { length code.now.first ≤ 1048576 }
         ensures { IfOk result (λ lent. HasLent code.now (kept_of D.seen self.old) (kept_of D.seen self.new) lent.steppers.items lent.bodies.items) }
     {
-        let steppers = self.steppers(left)?;
+        let steppers = self.steppers(asked)?;
         let bodies = self.lend(code, steppers.as_slice(), spares)?;
         Ok(Lent { steppers, bodies })
     }
 
-    /// The wave ends: the parts of these tasks are put in, one after the other in point order. The answer tells how many acts each task made. Condition: these
-    /// are the parts of the bodies that are out, over the memory of the core. After want of memory the core is given up.
+    /// The wave ends: the parts of these tasks are put in, one after the other in point order. The answer tells how many acts each task made; of a task
+    /// that made none nothing is kept otherwise. Condition: these are the parts of the bodies that are out, over the memory of the core. After want of memory the core is given up.
     pub fn end_wave(
         &mut self,
         steppers: &[TaskNo],
@@ -73,6 +74,7 @@ impl<D: Deps> Core<D> {
     ) -> Result<Vec<Turn>, AllocError>
         requires { (code : CodeParts) × (before : Kept) × AwaitsParts code before (kept_of D.seen self.old) steppers.now parts.items }
         ensures waved { IfOk result (λ turns. (code : CodeParts) (before : Kept) → AwaitsParts code before (kept_of D.seen self.old) steppers.now parts.items → HasWaved code before (kept_of D.seen self.new) turns.items) }
+        ensures turned { IfOk result (λ turns. (code : CodeParts) (before : Kept) → AwaitsParts code before (kept_of D.seen self.old) steppers.now parts.items → WasWave turns.items before (kept_of D.seen self.new)) }
         ensures tasks { OnOk result (KeepsTasks self.old.tree.tasks self.new.tree.tasks) }
     {
         self.put_all(steppers, parts, spares)

@@ -2,13 +2,14 @@
 use Rattle.std.proofs.Common.{◌≡◌, ℕ, ◌+◌, ◌-◌, ◌<◌, ◌≤◌, zero, suc, refl, sym, ap, subst, ◌∙◌, List, [], ◌∷◌, ◌⊎◌, inl, inr, Bool, true, false, Option, Some, None, arith, length, get_or, drop, ◌↔◌, IsTrue}
 use Rattle.std.proofs.lemmas.Option.{slice_get_within, slice_get_read, get_or_from_slice_get}
 use Rattle.std.proofs.lemmas.List.{drop_more, drop_all}
-use Rattle.std.specs.Prelude.{slice_get}
+use Rattle.std.specs.Prelude.{MatchOption, slice_get}
 use Rattle.oss_syntax.specs.declared.access.Access.{Access}
 use Rattle.oss_syntax.specs.declared.access.Mode.{Mode}
 use Rattle.oss_syntax.specs.declared.access.Mode.TheVariants.{Read, Write, Fold}
 use Rattle.oss_syntax.specs.declared.access.Op.{Op}
 use Rattle.oss_model.specs.Order.{IsIn, here, there}
 use Rattle.oss_model.specs.Forest.{IsJoinSatisfied}
+use Rattle.oss_model.specs.declared.task_no.TaskNo.{TaskNo}
 use Rattle.oss_ranges.specs.Cells.{value_at}
 use Rattle.oss_deps.specs.declared.opened.Open.{Open}
 use Rattle.oss_deps.specs.declared.column.Column.{Column}
@@ -16,11 +17,14 @@ use Rattle.oss_deps.specs.declared.want.Want.{Want}
 use Rattle.oss_deps.specs.declared.want.Want.TheVariants.{ToWrite, ToRead, ToJoin}
 use Rattle.oss_deps.specs.Opens.{access_at, names, mode_at, mode_in, is_some_access, Asks, AreChildrenDone, HasOpened, IsFolding, IsMet, HasCover, opened_forest}
 use Rattle.oss_deps.specs.Kept.{Kept, given_at}
-use Rattle.oss_deps.specs.Places.{first_at, mode_at_place, place_forest, AreLinked, AreMarked, AreModesCovered}
-use Rattle.oss_deps.specs.Wants.{IsSatisfied}
-use Rattle.oss_deps.specs.Columns.{IsNumber, IsNumberOf, IsPlaceOf, IsShown, IsColumn, AreRight, IsNamedOver}
-use Rattle.oss_deps.specs.Met.{AreClear, IsAccessMet, AreAccessesMet, IsStanding}
-use Rattle.oss_deps.proofs.Basics.{clash, some_none, same_at, compared}
+use Rattle.oss_deps.specs.Places.{IsFirstOf, first_at, mode_at_place, place_forest, AreLinked, AreMarked, AreModesCovered}
+use Rattle.oss_deps.specs.Wants.{IsBarOf, IsSatisfied}
+use Rattle.oss_deps.specs.Columns.{IsNumber, IsNumberOf, IsPlaceOf, IsShown, IsColumn, IsPlain, AreRight, IsNamedOver}
+use Rattle.oss_deps.specs.Met.{AreClear, IsAccessMet, AreAccessesMet, IsBarredOver, IsStanding}
+use Rattle.oss_deps.specs.Hindrances.{HasUndoneChild, Hinders}
+use Rattle.oss_deps.proofs.HindranceLemmas.{read_hinders, write_hinders}
+use Rattle.oss_deps.proofs.BarLemmas.{barred_here, child_here}
+use Rattle.oss_deps.proofs.Basics.{some_none, same_at, compared}
 use Rattle.oss_deps.proofs.OpenLemmas.{get_in, one_entry, mode_is, not_main, access_found, in_bounds, bounds_in, named_at}
 use Rattle.oss_deps.proofs.LookupLemmas.{look_at}
 use Rattle.oss_deps.proofs.StretchLemmas.{one_number, exact, shown_here, mode_here, children_exact, covered_here, first_cell, right_at}
@@ -77,32 +81,29 @@ module _ (kept : Kept) (standing : IsStanding kept) (n lo hi : ℕ) (named : IsN
       same_entry : (o : Open) → IsNumber kept.opens n o → named.entry ≡ o
       same_entry o number = one_number kept.opens n named.entry o named.is number
 
-      module _ (want : Want) (result : Bool) (tells : (k : ℕ) → IsPlaceOf column.frames.items n k → (IsTrue result ↔ IsSatisfied (place_forest column.frames.items column.marks.items) want k)) where
-        same_at_cell : (c : ℕ) → column.lo ≤ c → c < column.hi → (o : Open) → IsNumber kept.opens n o → IsTrue result ↔ IsSatisfied (opened_forest kept.opens (given_at kept.pieces kept.columns) c) want o.task
-        same_at_cell c l h o number =
-            let a = tells column_shown.place place in
-            let b = exact kept.opens kept.pieces kept.columns standing.opens_are standing.columns_are at column is c l h n o number column_shown.place place want in
-            (λ e. b.0 (a.0 e), λ s. a.1 (b.1 s))
+      module _ (want : Want) (result : Option TaskNo) (tells : (k : ℕ) → IsPlaceOf column.frames.items n k → MatchOption result (IsSatisfied (place_forest column.frames.items column.marks.items) want k) (λ t. IsBarOf column.frames.items column.marks.items want k t.0)) where
+        pub bar_stops : IsPlain want → (u : TaskNo) → result ≡ Some u → (o : Open) → IsNumber kept.opens n o → IsBarredOver kept want o lo hi u.0
+        bar_stops plain u e o number = record {
+          cell = cell;
+          from = from;
+          within = before;
+          barred =
+              barred_here kept.opens kept.pieces kept.columns standing.opens_are standing.columns_are at column is cell cell_in.0 cell_in.1 n o number column_shown.place place want plain u.0
+              (subst (λ (r : Option TaskNo). MatchOption r (IsSatisfied (place_forest column.frames.items column.marks.items) want column_shown.place) (λ t. IsBarOf column.frames.items column.marks.items want column_shown.place t.0)) e (tells column_shown.place place));
+        }
 
-        pub clear_stops : result ≡ false → (o : Open) → IsNumber kept.opens n o → AreClear kept want o lo hi → ⊥
-        clear_stops e o number f = clash result ((same_at_cell cell cell_in.0 cell_in.1 o number).1 (f cell from before)) e
+        clear_at_cell : result ≡ None → (c : ℕ) → column.lo ≤ c → c < column.hi → (o : Open) → IsNumber kept.opens n o → IsSatisfied (opened_forest kept.opens (given_at kept.pieces kept.columns) c) want o.task
+        clear_at_cell e c l h o number =
+            (exact kept.opens kept.pieces kept.columns standing.opens_are standing.columns_are at column is c l h n o number column_shown.place place want).0
+            (subst (λ (r : Option TaskNo). MatchOption r (IsSatisfied (place_forest column.frames.items column.marks.items) want column_shown.place) (λ t. IsBarOf column.frames.items column.marks.items want column_shown.place t.0)) e (tells column_shown.place place))
 
-        pub clear_goes : result ≡ true → (o : Open) → IsNumber kept.opens n o → AreClear kept want o lo cell → AreClear kept want o lo column.hi
-        clear_goes e o number f c l h = go (at_or_behind c cell)
+        pub bar_goes : result ≡ None → (o : Open) → IsNumber kept.opens n o → AreClear kept want o lo cell → AreClear kept want o lo column.hi
+        bar_goes e o number f c l h = go (compared c cell)
           where
-            at_or_behind : (a b : ℕ) → (a < b) ⊎ (b ≤ a)
-            at_or_behind zero zero = inr (omega arith)
-            at_or_behind zero (suc b) = inl (omega arith)
-            at_or_behind (suc a) zero = inr (omega arith)
-            at_or_behind (suc a) (suc b) = up (at_or_behind a b)
-              where
-                up : (a < b) ⊎ (b ≤ a) → (suc a < suc b) ⊎ (suc b ≤ suc a)
-                up (inl m) = inl (omega (arith, m))
-                up (inr m) = inr (omega (arith, m))
-
-            go : (c < cell) ⊎ (cell ≤ c) → IsSatisfied (opened_forest kept.opens (given_at kept.pieces kept.columns) c) want o.task
+            go : (c < cell) ⊎ ((c ≡ cell) ⊎ (cell < c)) → IsSatisfied (opened_forest kept.opens (given_at kept.pieces kept.columns) c) want o.task
             go (inl m) = f c l m
-            go (inr m) = (same_at_cell c (omega (arith, cell_in.0, m)) h o number).0 e
+            go (inr (inl m)) = clear_at_cell e c (omega (arith, cell_in.0, m)) h o number
+            go (inr (inr m)) = clear_at_cell e c (omega (arith, cell_in.0, m)) h o number
 
       -- the same of the join of a reduction at the cell
       pub join_exact : (result : Bool) → ((k : ℕ) (op : Op) → IsPlaceOf column.frames.items n k → mode_at_place column.frames.items k ≡ Fold op → (IsTrue result ↔ IsSatisfied (place_forest column.frames.items column.marks.items) (ToJoin op) k))
@@ -164,7 +165,7 @@ module _ (kept : Kept) (standing : IsStanding kept) (n cell at : ℕ) (here : va
     pub done_marked : AreMarked column.frames.items column.marks.items None
     done_marked = (first_cell kept.opens kept.pieces kept.columns standing.opens_are standing.columns_are at column is).marked
 
-    module _ (result : Bool) (some : (k : ℕ) → IsPlaceOf column.frames.items n k → (IsTrue result ↔ (first_at column.marks.items k ≡ None))) (none : ((k : ℕ) → IsPlaceOf column.frames.items n k → ⊥) → IsTrue result) where
+    module _ (result : Option TaskNo) (some : (k : ℕ) → IsPlaceOf column.frames.items n k → MatchOption result (first_at column.marks.items k ≡ None) (λ t. IsFirstOf column.frames.items column.marks.items k t.0)) (none : ((k : ℕ) → IsPlaceOf column.frames.items n k → ⊥) → result ≡ None) where
       -- where a task has no access, no child has one
       no_child : (c : ℕ) → column.lo ≤ c → c < column.hi → (t : ℕ) → IsNumberOf kept.opens n t → ((k : ℕ) → IsPlaceOf column.frames.items n k → ⊥) → AreChildrenDone kept.opens (given_at kept.pieces kept.columns) t c
       no_child c l h t number nowhere o i parent named = absurd (go number (standing.opens_are.covered c o i named))
@@ -187,17 +188,25 @@ module _ (kept : Kept) (standing : IsStanding kept) (n cell at : ℕ) (here : va
           go (inl (z, e)) (inl y) = main_at z
           go (inr (q, is_, e)) (inl y) = not_main standing.opens_are.ordered q (get_in kept.opens is_.0 q is_.2) (e ∙ sym parent ∙ y)
 
-      pub done_stops : result ≡ false → (lo hi : ℕ) → lo ≤ cell → cell < hi → (t : ℕ) → IsNumberOf kept.opens n t → ((c : ℕ) → lo ≤ c → c < hi → AreChildrenDone kept.opens (given_at kept.pieces kept.columns) t c) → ⊥
-      done_stops e lo hi from before t number f =
-          clash result (none (λ k p. clash result ((some k p).1 ((children_exact kept.opens kept.pieces kept.columns standing.opens_are standing.columns_are at column is cell done_in.0 done_in.1 n t number k p).1 (f cell from before))) e)) e
-
-      pub done_goes : result ≡ true → (lo t : ℕ) → IsNumberOf kept.opens n t → ((c : ℕ) → lo ≤ c → c < cell → AreChildrenDone kept.opens (given_at kept.pieces kept.columns) t c)
-          → (c : ℕ) → lo ≤ c → c < column.hi → AreChildrenDone kept.opens (given_at kept.pieces kept.columns) t c
-      done_goes e lo t number f c l h = in_three (compared c cell)
+      pub child_stops : (u : TaskNo) → result ≡ Some u → (lo hi : ℕ) → lo ≤ cell → cell < hi → (t : ℕ) → IsNumberOf kept.opens n t → HasUndoneChild kept.opens (given_at kept.pieces kept.columns) t lo hi u.0
+      child_stops u e lo hi from before t number = go (look_at column.frames.items n)
         where
+          go : ((k : ℕ) × IsPlaceOf column.frames.items n k) ⊎ ((k : ℕ) → IsPlaceOf column.frames.items n k → ⊥) → HasUndoneChild kept.opens (given_at kept.pieces kept.columns) t lo hi u.0
+          go (inr nowhere) = absurd (some_none (sym e ∙ none nowhere))
+          go (inl (k, p)) =
+              child_here kept.opens kept.pieces kept.columns standing.opens_are standing.columns_are at column is cell done_in.0 done_in.1 n t number k p u.0
+              (subst (λ (r : Option TaskNo). MatchOption r (first_at column.marks.items k ≡ None) (λ t. IsFirstOf column.frames.items column.marks.items k t.0)) e (some k p)) lo hi from before
+
+      pub child_goes : result ≡ None → (lo t : ℕ) → IsNumberOf kept.opens n t → ((c : ℕ) → lo ≤ c → c < cell → AreChildrenDone kept.opens (given_at kept.pieces kept.columns) t c)
+          → (c : ℕ) → lo ≤ c → c < column.hi → AreChildrenDone kept.opens (given_at kept.pieces kept.columns) t c
+      child_goes e lo t number f c l h = in_three (compared c cell)
+        where
+          no_first : (k : ℕ) → IsPlaceOf column.frames.items n k → first_at column.marks.items k ≡ None
+          no_first k p = subst (λ (r : Option TaskNo). MatchOption r (first_at column.marks.items k ≡ None) (λ t. IsFirstOf column.frames.items column.marks.items k t.0)) e (some k p)
+
           new : column.lo ≤ c → ((k : ℕ) × IsPlaceOf column.frames.items n k) ⊎ ((k : ℕ) → IsPlaceOf column.frames.items n k → ⊥) → AreChildrenDone kept.opens (given_at kept.pieces kept.columns) t c
           new from (inr nowhere) = no_child c from h t number nowhere
-          new from (inl (k, p)) = (children_exact kept.opens kept.pieces kept.columns standing.opens_are standing.columns_are at column is c from h n t number k p).0 ((some k p).0 e)
+          new from (inl (k, p)) = (children_exact kept.opens kept.pieces kept.columns standing.opens_are standing.columns_are at column is c from h n t number k p).0 (no_first k p)
 
           in_three : (c < cell) ⊎ ((c ≡ cell) ⊎ (cell < c)) → AreChildrenDone kept.opens (given_at kept.pieces kept.columns) t c
           in_three (inl m) = f c l m
@@ -250,11 +259,22 @@ not_write e = absurd cc
 not_read : Write ≡ Read → ⊥
 not_read e = absurd cc
 
-pub read_met : (kept : Kept) (o : Open) (a : Access) → a.strong ≡ true → a.mode ≡ Read → (AreClear kept ToRead o a.range.lo a.range.hi → IsAccessMet kept o a) × (IsAccessMet kept o a → AreClear kept ToRead o a.range.lo a.range.hi)
-read_met kept o a s m = (λ f. record { reads = λ x y. f; writes = λ x y. absurd (not_write (sym m ∙ y)) }, λ r. r.reads s m)
+-- the access of an entry is one of each entry with its number
+pub same_access : (kept : Kept) (n : ℕ) (o q : Open) → IsNumber kept.opens n o → IsNumber kept.opens n q → (a : Access) → IsIn a o.accesses → IsIn a q.accesses
+same_access kept n o q number other a i = subst (λ (x : Open). IsIn a x.accesses) (one_number kept.opens n o q number other) i
 
-pub write_met : (kept : Kept) (o : Open) (a : Access) → a.strong ≡ true → a.mode ≡ Write → (AreClear kept ToWrite o a.range.lo a.range.hi → IsAccessMet kept o a) × (IsAccessMet kept o a → AreClear kept ToWrite o a.range.lo a.range.hi)
-write_met kept o a s m = (λ f. record { reads = λ x y. absurd (not_read (sym m ∙ y)); writes = λ x y. f }, λ r. r.writes s m)
+-- A strong read or write that waits hinders its task.
+module _ (kept : Kept) (standing : IsStanding kept) (n : ℕ) (o : Open) (number : IsNumber kept.opens n o) (a : Access) (i : IsIn a o.accesses) (strong : a.strong ≡ true) where
+  asks_at : (m : Mode) → a.mode ≡ m → (c : ℕ) → a.range.lo ≤ c → c < a.range.hi → Asks kept.opens o.task c m
+  asks_at m e c l h = record { entry = o; listed = listed kept standing n o number; number = refl; access = a; at_ = standing.opens_are.once o (listed kept standing n o number) a c i (bounds_in a c l h); mode_is = e; strong = strong }
+
+  pub read_obstacle : a.mode ≡ Read → (r : Option TaskNo) → MatchOption r (AreClear kept ToRead o a.range.lo a.range.hi) (λ u. IsBarredOver kept ToRead o a.range.lo a.range.hi u.0) → MatchOption r (IsAccessMet kept o a) (λ u. Hinders kept.opens (given_at kept.pieces kept.columns) o.task u.0)
+  read_obstacle m None f = record { reads = λ x y. f; writes = λ x y. absurd (not_write (sym m ∙ y)) }
+  read_obstacle m (Some u) b = read_hinders kept.opens (given_at kept.pieces kept.columns) b.cell o.task u.0 (asks_at Read m b.cell b.from b.within) b.barred
+
+  pub write_obstacle : a.mode ≡ Write → (r : Option TaskNo) → MatchOption r (AreClear kept ToWrite o a.range.lo a.range.hi) (λ u. IsBarredOver kept ToWrite o a.range.lo a.range.hi u.0) → MatchOption r (IsAccessMet kept o a) (λ u. Hinders kept.opens (given_at kept.pieces kept.columns) o.task u.0)
+  write_obstacle m None f = record { reads = λ x y. absurd (not_read (sym m ∙ y)); writes = λ x y. f }
+  write_obstacle m (Some u) b = write_hinders kept.opens (given_at kept.pieces kept.columns) b.cell o.task u.0 (asks_at Write m b.cell b.from b.within) b.barred
 
 pub main_met : (kept : Kept) → IsStanding kept → (n t : ℕ) → IsNumberOf kept.opens n t → n ≡ 0 → IsMet kept.opens (given_at kept.pieces kept.columns) t
 main_met kept standing n t number z = record { reads = λ c asks. absurd (none Read c asks (is_main number)); writes = λ c asks. absurd (none Write c asks (is_main number)) }
@@ -270,12 +290,11 @@ pub entry_number : (kept : Kept) (n t : ℕ) → IsNumberOf kept.opens n t → (
 entry_number kept n t (inl (z, e)) h = absurd (h z)
 entry_number kept n t (inr (o, is, e)) h = (o, is)
 
-pub task_met : (kept : Kept) → IsStanding kept → (n t : ℕ) → IsNumberOf kept.opens n t → (n ≡ 0 → ⊥) → (result : Bool) → ((o : Open) → IsNumber kept.opens n o → (IsTrue result ↔ AreAccessesMet kept o)) → IsTrue result ↔ IsMet kept.opens (given_at kept.pieces kept.columns) t
-task_met kept standing n t (inl (z, e)) h result tells = absurd (h z)
-task_met kept standing n t (inr (o, is, e)) h result tells =
-    let a = tells o is in
-    let b = met_exact kept standing n o is in
-    (λ r. subst (λ (x : ℕ). IsMet kept.opens (given_at kept.pieces kept.columns) x) e (b.0 (a.0 r)), λ m. a.1 (b.1 (subst (λ (x : ℕ). IsMet kept.opens (given_at kept.pieces kept.columns) x) (sym e) m)))
+pub task_obstacle : (kept : Kept) → IsStanding kept → (n t : ℕ) → IsNumberOf kept.opens n t → (n ≡ 0 → ⊥) → (r : Option TaskNo) → ((o : Open) → IsNumber kept.opens n o → MatchOption r (AreAccessesMet kept o) (λ u. Hinders kept.opens (given_at kept.pieces kept.columns) o.task u.0))
+    → MatchOption r (IsMet kept.opens (given_at kept.pieces kept.columns) t) (λ u. Hinders kept.opens (given_at kept.pieces kept.columns) t u.0)
+task_obstacle kept standing n t (inl (z, e)) h r tells = absurd (h z)
+task_obstacle kept standing n t (inr (o, is, e)) h None tells = subst (λ (x : ℕ). IsMet kept.opens (given_at kept.pieces kept.columns) x) e ((met_exact kept standing n o is).0 (tells o is))
+task_obstacle kept standing n t (inr (o, is, e)) h (Some u) tells = subst (λ (x : ℕ). Hinders kept.opens (given_at kept.pieces kept.columns) x u.0) e (tells o is)
 
 pub folding_entry : (kept : Kept) → IsStanding kept → (n t c : ℕ) → IsNumberOf kept.opens n t → HasOpened kept.opens c t → (o : Open) × IsNumber kept.opens n o × (o.task ≡ t) × (names c o ≡ true)
 folding_entry kept standing n t c (inl (z, e)) h = absurd (not_main standing.opens_are.ordered h.entry h.listed (h.number ∙ e))

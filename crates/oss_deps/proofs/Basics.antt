@@ -1,6 +1,6 @@
 -- Small facts on tests, options and lists.
 use Rattle.std.proofs.Common.{◌≡◌, ℕ, ◌<◌, zero, suc, refl, sym, ap, ◌∙◌, List, [], ◌∷◌, ◌⊎◌, inl, inr, Bool, true, false, Option, Some, None, arith, length}
-use Rattle.std.specs.Prelude.{◌&&◌, ◌||◌, not, slice_get}
+use Rattle.std.specs.Prelude.{◌&&◌, ◌||◌, ◌↔◌, IsTrue, MatchOption, is_some, not, slice_get}
 
 pub bools : (b : Bool) → (b ≡ true) ⊎ (b ≡ false)
 bools true = inl refl
@@ -61,3 +61,26 @@ compared (suc a) (suc b) = go (compared a b)
 pub not_false : (b : Bool) → not b ≡ false → b ≡ true
 not_false true h = refl
 not_false false h = absurd cc
+
+-- options of which one half is known
+pub some_alone : {A : Type 0} (P R : Type 0) (Q S : A → Type 0) (o : Option A) → is_some o ≡ true → ((a : A) → o ≡ Some a → Q a → S a) → MatchOption o P Q → MatchOption o R S
+some_alone P R Q S None h f m = absurd cc
+some_alone P R Q S (Some a) h f m = f a refl m
+
+pub some_told : {A : Type 0} (R : Type 0) (S : A → Type 0) (o : Option A) → is_some o ≡ true → ((a : A) → o ≡ Some a → S a) → MatchOption o R S
+some_told R S None h f = absurd cc
+some_told R S (Some a) h f = f a refl
+
+pub none_alone : {A : Type 0} (P : Type 0) (Q : A → Type 0) (o : Option A) → is_some o ≡ false → MatchOption o P Q → P
+none_alone P Q None h m = m
+none_alone P Q (Some a) h m = absurd cc
+
+pub none_is : {A : Type 0} (o : Option A) → is_some o ≡ false → o ≡ None
+none_is None h = refl
+none_is (Some a) h = absurd cc
+
+pub none_tells : {A P : Type 0} {Q : A → Type 0} (o : Option A) → MatchOption o P Q → ((a : A) → Q a → P → ⊥) → (result : Bool) → is_some o ≡ not result → IsTrue result ↔ P
+none_tells None m n true e = (λ t. m, λ p. refl)
+none_tells None m n false e = absurd cc
+none_tells (Some a) m n true e = absurd cc
+none_tells (Some a) m n false e = (λ t. absurd cc, λ p. absurd (n a m p))

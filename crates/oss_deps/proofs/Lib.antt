@@ -8,6 +8,8 @@ pub mod CloseLemmas
 pub mod LookupLemmas
 pub mod GrowLemmas
 pub mod StretchLemmas
+pub mod HindranceLemmas
+pub mod BarLemmas
 pub mod AskLemmas
 pub mod GiveLemmas
 pub mod DivideLemmas

@@ -194,7 +194,7 @@ module _ (opens : List Open) (c : ℕ) (frames : List Frame) (are : AreOpens ope
           absurd (apart are.ordered (frame_of k v r).entry (frame_of l w s).entry order ((frame_of k v r).task ∙ r.task ∙ tasks ∙ sym s.task ∙ sym (frame_of l w s).task))
       go (inr (inr h)) = absurd (asym are.ordered order (number_order l k w v s r h))
 
-  mode_same : (k v : ℕ) → R k v → mode_at_place frames k ≡ mode_in opens c v
+  pub mode_same : (k v : ℕ) → R k v → mode_at_place frames k ≡ mode_in opens c v
   mode_same k v r =
       let f = frame_of k v r in
       ap mode_of_frame r.is ∙ sym f.mode ∙ sym (mode_is c are.ordered f.entry (listed k v r)) ∙ ap (λ (t : ℕ). mode_in opens c t) (f.task ∙ r.task)

@@ -80,6 +80,27 @@ module _ (opens : List Open) (pieces : List (Piece ℕ)) (columns : List Column)
         let same = one_number opens n f.entry o (subst (λ (j : ℕ). IsNumber opens j f.entry) p.2 f.is) number in
         ap mode_of_frame p.1 ∙ sym f.mode ∙ ap (λ (x : Open). mode_at c x) same
 
+    -- the task whose access stands at a place
+    pub task_at : (c : ℕ) → column.lo ≤ c → c < column.hi → (n t : ℕ) → IsNumberOf opens n t → (k : ℕ) → IsPlaceOf frames n k → IsTaskAt frames k t
+    task_at c lo hi n t number k p = go number
+      where
+        r : IsColumn opens c column
+        r = right_at c lo hi
+
+        go : IsNumberOf opens n t → IsTaskAt frames k t
+        go (inl (z, e)) = (λ h. e, λ some. absurd (omega (arith, (r.linked.rising 0 k r.linked.main.0 p.0 r.linked.main.1 p.1 (positive some)), p.2, z)))
+          where
+            positive : (k ≡ 0 → ⊥) → 0 < k
+            positive some = in_three (compared 0 k)
+              where
+                in_three : (0 < k) ⊎ ((0 ≡ k) ⊎ (k < 0)) → 0 < k
+                in_three (inl l) = l
+                in_three (inr (inl e)) = absurd (some (sym e))
+                in_three (inr (inr l)) = absurd (omega (arith, l))
+        go (inr (o, is_, e)) =
+            let node = node_of opens c frames r.linked r.shown n o is_ k p in
+            (λ z. absurd (node.not_main z), λ some. (node.frame, node.is, node.task ∙ e))
+
     -- the children's accesses are done where no first one is left
     pub children_exact : (c : ℕ) → column.lo ≤ c → c < column.hi → (n t : ℕ) → IsNumberOf opens n t → (k : ℕ) → IsPlaceOf frames n k → (first_at marks k ≡ None) ↔ AreChildrenDone opens given t c
     children_exact c lo hi n t number k p = (forth, back)
@@ -88,21 +109,7 @@ module _ (opens : List Open) (pieces : List (Piece ℕ)) (columns : List Column)
         r = right_at c lo hi
 
         at_ : IsTaskAt frames k t
-        at_ = go number
-          where
-            go : IsNumberOf opens n t → IsTaskAt frames k t
-            go (inl (z, e)) = (λ h. e, λ some. absurd (omega (arith, (r.linked.rising 0 k r.linked.main.0 p.0 r.linked.main.1 p.1 (positive some)), p.2, z)))
-              where
-                positive : (k ≡ 0 → ⊥) → 0 < k
-                positive some = in_three (compared 0 k)
-                  where
-                    in_three : (0 < k) ⊎ ((0 ≡ k) ⊎ (k < 0)) → 0 < k
-                    in_three (inl l) = l
-                    in_three (inr (inl e)) = absurd (some (sym e))
-                    in_three (inr (inr l)) = absurd (omega (arith, l))
-            go (inr (o, is_, e)) =
-                let node = node_of opens c frames r.linked r.shown n o is_ k p in
-                (λ z. absurd (node.not_main z), λ some. (node.frame, node.is, node.task ∙ e))
+        at_ = task_at c lo hi n t number k p
 
         mark : (m : Mark) × (slice_get marks k ≡ Some m)
         mark = value_within marks k (omega (arith, slice_get_within frames k p.0 p.1, r.marked.same))

@@ -7,3 +7,4 @@ pub mod Columns
 pub mod Met
 pub mod Adding
 pub mod Told
+pub mod Hindrances

@@ -1,14 +1,15 @@
 -- What the accesses of a task wait for, by the ranges of its list.
-use Rattle.std.specs.Prelude.{◌≡◌, ℕ, ◌≤◌, ◌<◌, true}
+use Rattle.std.specs.Prelude.{◌≡◌, ℕ, ◌≤◌, ◌<◌, Bool, false, true, List}
 use Rattle.oss_syntax.specs.declared.access.Access.{Access}
 use Rattle.oss_syntax.specs.declared.access.Mode.TheVariants.{Read, Write}
 use Rattle.oss_model.specs.Order.{IsIn}
+use Rattle.oss_model.specs.Forest.{IsDone}
 use Rattle.oss_deps.specs.declared.opened.Open.{Open}
 use Rattle.oss_deps.specs.declared.want.Want.{Want}
 use Rattle.oss_deps.specs.declared.want.Want.TheVariants.{ToWrite, ToRead}
-use Rattle.oss_deps.specs.Opens.{AreOpens, opened_forest}
+use Rattle.oss_deps.specs.Opens.{AreOpens, HasOpened, IsChild, IsEarlier, mode_at, opened_forest}
 use Rattle.oss_deps.specs.Columns.{AreColumns}
-use Rattle.oss_deps.specs.Wants.{IsSatisfied}
+use Rattle.oss_deps.specs.Wants.{IsSatisfied, may_pass}
 use Rattle.oss_deps.specs.Kept.{Kept, given_at}
 
 -- What is wanted has come at each cell of a range.
@@ -28,3 +29,21 @@ AreAccessesMet kept o = (a : Access) → IsIn a o.accesses → IsAccessMet kept 
 pub record IsStanding (kept : Kept) : Type 0 where
   pub opens_are : AreOpens kept.opens
   pub columns_are : AreColumns kept.opens kept.pieces kept.columns
+
+-- The access of the task u to the cell stands before that of v, on its level or on one above, in a mode that may not be passed.
+pub data IsBefore (opens : List Open) (c : ℕ) (want : Want) (u : ℕ) : ℕ → Type 0 where
+  stands_here : {v : ℕ} (e : IsEarlier opens c u v) → may_pass want (mode_at c e.before) false ≡ false → IsBefore opens c want u v
+  stands_above : {p v : ℕ} → IsChild opens c p v → IsBefore opens c want u p → IsBefore opens c want u v
+
+-- It does, and is not done.
+pub record IsBarred (opens : List Open) (given : ℕ → ℕ → Bool) (c : ℕ) (want : Want) (u v : ℕ) : Type 0 where
+  pub opened : HasOpened opens c u
+  pub undone : IsDone (opened_forest opens given c) u → ⊥
+  pub before : IsBefore opens c want u v
+
+-- The same at a cell of a range.
+pub record IsBarredOver (kept : Kept) (want : Want) (o : Open) (lo hi u : ℕ) : Type 0 where
+  pub cell : ℕ
+  pub from : lo ≤ cell
+  pub within : cell < hi
+  pub barred : IsBarred kept.opens (given_at kept.pieces kept.columns) cell want u o.task

@@ -163,3 +163,11 @@ pub record AreMarksGrown (old new : List Mark) (up : ℕ) : Type 0 where
   pub size : length new ≡ length old + 1
   pub here : slice_get new (length old) ≡ Some (record { given = false; first = None })
   pub mark : (k : ℕ) (m : Mark) → slice_get old k ≡ Some m → IsOldMark (length old) up k m (slice_get new k)
+
+-- The task of the first child's access that is not done.
+pub record IsFirstOf (frames : List Frame) (marks : List Mark) (k t : ℕ) : Type 0 where
+  pub place : ℕ
+  pub first_is : first_at marks k ≡ Some place
+  pub frame : Frame
+  pub is : slice_get frames place ≡ Some frame
+  pub task : frame.task ≡ t

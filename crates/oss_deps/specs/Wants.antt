@@ -1,5 +1,5 @@
 -- What an access waits for, and which accesses of earlier siblings it passes.
-use Rattle.std.specs.Prelude.{◌≡◌, ℕ, ◌≤◌, ◌||◌, Bool, true, false, if◌then◌else◌, List, Some}
+use Rattle.std.specs.Prelude.{◌≡◌, ℕ, ◌≤◌, ◌||◌, Bool, true, false, if◌then◌else◌, List, Some, slice_get}
 use Rattle.oss_syntax.specs.declared.access.Mode.{Mode}
 use Rattle.oss_syntax.specs.declared.access.Op.{Op}
 use Rattle.oss_syntax.specs.declared.access.Mode.TheVariants.{Read, Write, Fold}
@@ -9,7 +9,7 @@ use Rattle.oss_deps.specs.declared.frame.Frame.{Frame}
 use Rattle.oss_deps.specs.declared.frame.Mark.{Mark}
 use Rattle.oss_deps.specs.declared.want.Want.{Want}
 use Rattle.oss_deps.specs.declared.want.Want.TheVariants.{ToWrite, ToRead, ToJoin}
-use Rattle.oss_deps.specs.Places.{IsSibling, closed_at, first_at, mode_at_place}
+use Rattle.oss_deps.specs.Places.{IsBelow, IsSibling, closed_at, first_at, mode_at_place}
 
 -- The access is a reduction by this operator.
 abbrev pub is_fold_of : Op → Mode → Bool
@@ -55,3 +55,21 @@ pub record IsAhead (frames : List Frame) (marks : List Mark) (u v : ℕ) : Type 
 -- None of these stands in the way.
 abbrev pub IsLevelClear : List Frame → List Mark → Want → ℕ → Type 0
 IsLevelClear frames marks want v = (u : ℕ) → IsAhead frames marks u v → may_pass want (mode_at_place frames u) (closed_at marks u) ≡ true
+
+-- The access of an earlier sibling stands in the way.
+pub record IsBarBeside (frames : List Frame) (marks : List Mark) (want : Want) (u v : ℕ) : Type 0 where
+  pub ahead : IsAhead frames marks u v
+  pub stops : may_pass want (mode_at_place frames u) (closed_at marks u) ≡ false
+
+-- An access stands in the way on this level, or on one above.
+pub data IsBar (frames : List Frame) (marks : List Mark) (u : ℕ) : Want → ℕ → Type 0 where
+  bars_here : {want : Want} {v : ℕ} → IsBarBeside frames marks want u v → IsBar frames marks u want v
+  bars_above : {want : Want} {p v : ℕ} → IsBelow frames p v → (p ≡ 0 → ⊥) → IsBar frames marks u (want_above want (mode_at_place frames p)) p → IsBar frames marks u want v
+
+-- The same by the task of the access.
+pub record IsBarOf (frames : List Frame) (marks : List Mark) (want : Want) (v t : ℕ) : Type 0 where
+  pub place : ℕ
+  pub frame : Frame
+  pub is : slice_get frames place ≡ Some frame
+  pub task : frame.task ≡ t
+  pub bar : IsBar frames marks place want v

@@ -1,8 +1,9 @@
-ghost use Rattle.std.specs.Prelude.{◌≡◌, ◌≤◌, ◌<◌, ◌↔◌, ℕ, IsOk, IsTrue, OnErr, OnOk, Some};
+ghost use Rattle.std.specs.Prelude.{◌≡◌, ◌≤◌, ◌<◌, ◌↔◌, ℕ, IsOk, IsTrue, MatchOption, OnErr, OnOk, Some};
 ghost use Rattle.oss_syntax.specs.declared.access.Op.{Op as Operator};
 ghost use Rattle.oss_syntax.specs.declared.access.Mode.TheVariants.{Fold};
 ghost use Rattle.oss_model.specs.Forest.{IsJoinSatisfied};
 ghost use Rattle.oss_deps.specs.Opens.{AreChildrenDone, IsFolding, IsKnown, IsMet, mode_in, opened_forest};
+ghost use Rattle.oss_deps.specs.Hindrances.{HasUndoneChild, Hinders};
 ghost use Rattle.oss_deps.specs.Seen.{CanGive, CanOpen, Gives, IsSame, Opens, Prepares, Reserves};
 
 use oss_model::TaskNo;
@@ -54,6 +55,14 @@ pub trait Deps: Drop {
         ensures met { IsTrue result ↔ IsMet (seen self.old).opens (seen self.old).given task.0 }
         ensures same { IsSame (seen self.old) (seen self.new) };
 
+    /// A task of which an access stands in the way of this one: as long as that access is not done, whatever is opened and given up
+    /// meanwhile, the task may not begin. `None` exactly where the task may begin, as far as its cells go. Condition: the task is main
+    /// or open. It takes no memory.
+    fn obstacle(&mut self, task: TaskNo) -> Option<TaskNo>
+        requires { IsKnown (seen self.old).opens task.0 }
+        ensures obstacle { MatchOption result (IsMet (seen self.old).opens (seen self.old).given task.0) (λ u. Hinders (seen self.old).opens (seen self.old).given task.0 u.0) }
+        ensures same { IsSame (seen self.old) (seen self.new) };
+
     /// Whether the slot of the task may be joined into the cell. Condition: the task is open, and its access to the cell is a
     /// reduction. It takes no memory.
     fn may_join(&mut self, task: TaskNo, cell: u32) -> bool
@@ -66,5 +75,12 @@ pub trait Deps: Drop {
     fn children_done(&mut self, task: TaskNo, range: Range) -> bool
         requires { IsKnown (seen self.old).opens task.0 }
         ensures done { IsTrue result ↔ ((c : ℕ) → range.lo ≤ c → c < range.hi → AreChildrenDone (seen self.old).opens (seen self.old).given task.0 c) }
+        ensures same { IsSame (seen self.old) (seen self.new) };
+
+    /// A child of the task with an access to a cell of the range that is not done. `None` exactly where each such access is done.
+    /// Condition: the task is main or open. It takes no memory.
+    fn undone_child(&mut self, task: TaskNo, range: Range) -> Option<TaskNo>
+        requires { IsKnown (seen self.old).opens task.0 }
+        ensures child { MatchOption result ((c : ℕ) → range.lo ≤ c → c < range.hi → AreChildrenDone (seen self.old).opens (seen self.old).given task.0 c) (λ u. HasUndoneChild (seen self.old).opens (seen self.old).given task.0 range.lo range.hi u.0) }
         ensures same { IsSame (seen self.old) (seen self.new) };
 }

@@ -1,4 +1,4 @@
-ghost use Rattle.std.specs.Prelude.{◌≡◌, ◌↔◌, IsTrue, None};
+ghost use Rattle.std.specs.Prelude.{◌≡◌};
 ghost use Rattle.oss_deps.specs.Places.{is_closed};
 
 use oss_syntax::Mode;
@@ -29,12 +29,5 @@ impl Mark {
         ensures { result ≡ is_closed self }
     {
         self.given && self.first.is_none()
-    }
-
-    /// Whether no child has an access that is not done.
-    pub(crate) fn has_no_open(self) -> bool
-        ensures { IsTrue result ↔ (self.first ≡ None) }
-    {
-        self.first.is_none()
     }
 }

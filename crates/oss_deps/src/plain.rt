@@ -1,7 +1,9 @@
-ghost use Rattle.std.specs.Prelude.{◌≡◌, IsOk, List as Accesses, OnErr, OnOk, Some};
+ghost use Rattle.std.specs.Prelude.{◌≡◌, ◌≤◌, ◌<◌, ℕ, IsOk, List as Accesses, MatchOption, OnErr, OnOk, Some};
 ghost use Rattle.oss_syntax.specs.declared.access.Access.{Access as Meant};
 ghost use Rattle.oss_deps.specs.Seen.{CanOpen, IsNew, IsSame, Opens, Reserves};
-ghost use Rattle.oss_deps.specs.Kept.{seen_of};
+ghost use Rattle.oss_deps.specs.Kept.{given_at, seen_of};
+ghost use Rattle.oss_deps.specs.Opens.{AreChildrenDone, IsKnown, IsMet};
+ghost use Rattle.oss_deps.specs.Hindrances.{HasUndoneChild, Hinders};
 
 use crate::column::Column;
 use crate::cutting::{ask_all, ask_ends};
@@ -108,6 +110,41 @@ impl PlainDeps {
     }
 }
 
+impl PlainDeps {
+    /// The task of which an access stands in the way of this one.
+    fn obstacle_of(&self, task: TaskNo) -> Option<TaskNo>
+        requires { IsKnown self.now.opens task.0 }
+        ensures { MatchOption result (IsMet self.now.opens (given_at self.now.pieces self.now.columns) task.0) (λ u. Hinders self.now.opens (given_at self.now.pieces self.now.columns) task.0 u.0) }
+    {
+        match number_of(self.opens.as_slice(), task.0) {
+            Some(number) => {
+                if number == 0 {
+                    None
+                } else {
+                    self.obstacle_to(number)
+                }
+            }
+            None => unreachable!(),
+        }
+    }
+
+    /// A child of the task with an access to a cell of the range that is not done.
+    fn undone_child_of(&self, task: TaskNo, range: Range) -> Option<TaskNo>
+        requires { IsKnown self.now.opens task.0 }
+        ensures { MatchOption result ((c : ℕ) → range.lo ≤ c → c < range.hi → AreChildrenDone self.now.opens (given_at self.now.pieces self.now.columns) task.0 c) (λ u. HasUndoneChild self.now.opens (given_at self.now.pieces self.now.columns) task.0 range.lo range.hi u.0) }
+    {
+        match number_of(self.opens.as_slice(), task.0) {
+            Some(number) => self.undone_over(number, range),
+            None => unreachable!(),
+        }
+    }
+}
+
+/// What a call costs is told by the stretches that it comes to, and not by their cells: a range has one for each cut in it, and one
+/// more. A task is found at once where tasks are opened in the order of their numbers, and its access in a stretch by halving. `met` and `obstacle` then go back, on each level, over the
+/// accesses behind the first sibling that is not done, and end at the first that stands in the way; so in a chain of writers one step is
+/// enough, and at most each of these accesses is looked at once. `may_join` does so in one stretch. `children_done` and `undone_child`
+/// read one mark in each stretch, and end at the first child that is not done.
 impl Deps for PlainDeps {
     ghost use Rattle.oss_deps.specs.Kept.{seen_of};
 
@@ -156,16 +193,13 @@ impl Deps for PlainDeps {
     }
 
     fn met(&mut self, task: TaskNo) -> bool {
-        match number_of(self.opens.as_slice(), task.0) {
-            Some(number) => {
-                if number == 0 {
-                    true
-                } else {
-                    self.are_accesses_met(number)
-                }
-            }
-            None => unreachable!(),
-        }
+        // the invariant is known where a field is read
+        let _ = &self.alloc;
+        self.obstacle_of(task).is_none()
+    }
+
+    fn obstacle(&mut self, task: TaskNo) -> Option<TaskNo> {
+        self.obstacle_of(task)
     }
 
     fn may_join(&mut self, task: TaskNo, cell: u32) -> bool {
@@ -176,9 +210,10 @@ impl Deps for PlainDeps {
     }
 
     fn children_done(&mut self, task: TaskNo, range: Range) -> bool {
-        match number_of(self.opens.as_slice(), task.0) {
-            Some(number) => self.are_done_over(number, range),
-            None => unreachable!(),
-        }
+        self.undone_child_of(task, range).is_none()
+    }
+
+    fn undone_child(&mut self, task: TaskNo, range: Range) -> Option<TaskNo> {
+        self.undone_child_of(task, range)
     }
 }

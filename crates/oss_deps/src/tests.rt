@@ -2,6 +2,7 @@
 //! the lists answered. A line has three texts with a letter for each task, main first: whether it may begin, whether its slot may be
 //! joined, and whether the accesses of its children are done. A dot stands where there is nothing to ask.
 
+mod obstacles;
 mod told;
 
 ghost use Rattle.std.specs.Prelude.{◌<◌};

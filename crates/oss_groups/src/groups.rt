@@ -8,7 +8,7 @@ use std::alloc::{AllocError, Global};
 use std::thread;
 use std::thread::Threads;
 
-/// Does all jobs, by at most so many workers, 1 to 64, each with neighbouring jobs. A worker has a thread of its own where one can be made, and else its jobs are
+/// Does all jobs, by at most so many workers, 1 or more, each with neighbouring jobs. A worker has a thread of its own where one can be made, and else its jobs are
 /// done one after the other with those of others. The answers stand in the order of their jobs, and are the same for each number of workers as far as `gives`
 /// settles them. Want of memory is the one error; some jobs are then done and others not, and all answers are given up.
 pub fn in_groups<R: Threads + Sync, J: Send + Drop, X: Send + Drop, W: Work<J, X> + Sync>(

@@ -1,4 +1,4 @@
-//! The top call: it reads words and files, checks, runs and traces programs, replays schedules, and tells what comes of it.
+//! The top call: it reads words and files, checks, runs and traces programs, replays schedules, runs generated programs, and tells what comes of it.
 #![tactic(auto)]
 
 mod known;

@@ -15,6 +15,10 @@ use Rattle.oss_core.specs.declared.passing.Passed.{Passed}
 use Rattle.oss_core.specs.CoreLeft.{core_left}
 use Rattle.oss_core.specs.Kept.{IsRunning, Kept}
 use Rattle.oss_core.specs.Passing.{HasPassed, HaveGiven, TellsOf}
+use Rattle.oss_core.specs.Leaving.{HaveGivenUp}
+use Rattle.oss_core.proofs.ExactLemmas.{let_told}
+use Rattle.oss_watch.specs.declared.watch.Watch.{Watch}
+use Rattle.oss_watch.specs.Watches.{HasNoLet, IsBehindPass, IsWatch}
 use Rattle.oss_core.proofs.FallLemmas.{core_passes_fall}
 use Rattle.oss_core.proofs.PassLemmas.{idle_pass, none_told}
 use Rattle.oss_sched.specs.declared.moves.TextMove.{TextMove}
@@ -135,3 +139,25 @@ last_pass code old mid new before between after some e gone made main first s co
       lines = q.lines ∙ (ap (λ (list : List GivenUp). lines_of between ++ pass_lines list) none ∙ (append-nil (lines_of between) ∙ p.lines));
       rest = subst (λ (n : State CodeScript). IsAtRest (asks code) n) (sym idle.same_state) (record { no_let = idle.no_let; no_join = idle.no_join });
     }
+
+-- behind a pass the core still stands for a state of the machine
+pub passed_running : (code : CodeParts) (old new : Kept) (told : List Passed) → IsRunning code old → HasPassed code old new told → IsRunning code new
+passed_running code old new told running passed =
+    let p = passed running.main running.first running.state running.core in
+    record { main = running.main; first = running.first; state = p.0; core = p.4 }
+
+-- and it was right before who is awake
+pub behind_pass : (code : CodeParts) (old new : Kept) (told : List Passed) (w : Watch) → IsRunning code old → IsWatch old w → HaveGivenUp told old new → HaveGiven old.tree.tasks new.tree.tasks → IsBehindPass told new w
+behind_pass code old new told w running watch given tasks = record { code = code; before = old; ran = running; watch = watch; pass = record { given_up = given; tasks = tasks } }
+
+-- at rest no cell may be given up by a let
+pub rest_quiet : (code : CodeParts) (old new : Kept) (before after : List TextMove) → IsRunning code old → HasMadePasses code old new before after → HasNoLet new
+rest_quiet code old new before after running made v c may =
+    let p = made running.main running.first running.state running.core in
+    let l = let_told p.core v c may in
+    p.rest.no_let l.0 c l.1 l.3
+
+pub passes_running : (code : CodeParts) (old new : Kept) (before after : List TextMove) → IsRunning code old → HasMadePasses code old new before after → IsRunning code new
+passes_running code old new before after running made =
+    let p = made running.main running.first running.state running.core in
+    record { main = running.main; first = running.first; state = p.state; core = p.core }

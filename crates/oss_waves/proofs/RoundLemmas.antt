@@ -1,7 +1,6 @@
 -- Rounds: a wave with the passes behind it, one round after the other, and the end, where no move is left.
 use Rattle.std.proofs.Common.{◌≡◌, ◌≢◌, ℕ, ◌<◌, refl, sym, ap, ◌∙◌, subst, arith, List, [], ◌∷◌, ◌++◌, length, append_assoc, max}
-use Rattle.std.specs.Prelude.{map, Vec}
-use Rattle.std.specs.declared.alloc.Global.{Global}
+use Rattle.std.specs.Prelude.{map}
 use Rattle.std.specs.List.{flat_map}
 use Rattle.std.proofs.lemmas.List.{append-nil}
 use Rattle.oss_model.specs.Answers.{IsStopped}
@@ -9,7 +8,6 @@ use Rattle.oss_model.specs.Bodies.{Start}
 use Rattle.oss_model.specs.Machine.{State, Task}
 use Rattle.oss_model.specs.Moves.{CanStep, SomeMove, a_join, a_let, a_step}
 use Rattle.oss_model.specs.Order.{IsIn, here}
-use Rattle.oss_model.specs.declared.task_no.TaskNo.{TaskNo}
 use Rattle.oss_rounds.specs.Rounds.{Line, Round, Rounds, follows, pass_lines, round_lines, stopped, turn_line, widest}
 use Rattle.oss_rounds.specs.Waves.{IsWave, TakeTurns, Turn, no_turns}
 use Rattle.oss_rounds.proofs.MovesLemmas.{rounds_end}
@@ -79,8 +77,8 @@ round_made code old mid new before between after count some waved passed main fi
     can_move (k ∷ rest) ne w = a_step (w.turns_are.only k here).can
 
 -- what came of a round in which some task had a turn, noted on its own
-pub went_on : (code : CodeParts) (old new : Kept) (went : Went) (left : Vec TaskNo Global) (turns : ℕ) (before after : List TextMove) → went ≡ On left turns → before ≡ [] → IsRoundOf went code old new before after → IsRoundOf (On left turns) code old new [] after
-went_on code old new went left turns before after e f h = subst (λ (b : List TextMove). IsRoundOf (On left turns) code old new b after) f (subst (λ (w : Went). IsRoundOf w code old new before after) e h)
+pub went_on : (code : CodeParts) (old new : Kept) (went : Went) (turns : ℕ) (before after : List TextMove) → went ≡ On turns → before ≡ [] → IsRoundOf went code old new before after → IsRoundOf (On turns) code old new [] after
+went_on code old new went turns before after e f h = subst (λ (b : List TextMove). IsRoundOf (On turns) code old new b after) f (subst (λ (w : Went). IsRoundOf w code old new before after) e h)
 
 -- and of one in which none had
 pub went_nowhere : (code : CodeParts) (old new : Kept) (went : Went) (before after : List TextMove) → went ≡ Stopped → IsRoundOf went code old new before after → IsRoundOf Stopped code old new before after

@@ -16,7 +16,6 @@ use Rattle.oss_code.specs.declared.code.CodeParts.{CodeParts}
 use Rattle.oss_machine.specs.Frames.{CodeScript}
 use Rattle.oss_machine.specs.Machines.{asks}
 use Rattle.oss_core.specs.Kept.{IsCore, Kept}
-use Rattle.oss_core.specs.Left.{AreLeft}
 use Rattle.oss_sched.specs.declared.moves.TextMove.{TextMove}
 use Rattle.oss_waves.specs.declared.rounds.Ran.{Ran}
 use Rattle.oss_waves.specs.declared.rounds.Went.{Went}
@@ -111,11 +110,10 @@ pub record NoneActs (code : CodeParts) (main : Start CodeScript) (first : List �
   pub core : IsCore code main first new s
   pub no_step : (p : List ℕ) (t : Task CodeScript) → CanStep (asks code) s p t → ⊥
 
--- What came of a round, from each state for which the core stood: no task may act; or it was made, and these tasks are left.
+-- What came of a round, from each state for which the core stood: no task may act; or it was made.
 abbrev pub IsRoundOf : Went → CodeParts → Kept → Kept → List TextMove → List TextMove → Type 0
 IsRoundOf Stopped code old new before after = (main : Start CodeScript) (first : List ℕ) (s : State CodeScript) → IsCore code main first old s → NoneActs code main first s new
-IsRoundOf (On left turns) code old new before after =
-    ((main : Start CodeScript) (first : List ℕ) (s : State CodeScript) → IsCore code main first old s → RoundMade code main first s new before after turns) × AreLeft new.tree.tasks left.items
+IsRoundOf (On turns) code old new before after = (main : Start CodeScript) (first : List ℕ) (s : State CodeScript) → IsCore code main first old s → RoundMade code main first s new before after turns
 
 -- So far rounds were made: whatever rounds come behind them, these come first.
 pub record RoundsGo (code : CodeParts) (main : Start CodeScript) (first : List ℕ) (s : State CodeScript) (now : Kept) (waves : List (List TextMove)) (most : ℕ) : Type 0 where

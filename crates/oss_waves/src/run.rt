@@ -20,6 +20,7 @@ use oss_deps::Deps;
 use oss_io::Gate;
 use oss_model::Answer;
 use oss_sched::WaveRecord;
+use oss_watch::Watch;
 use std::alloc::{AllocError, Global};
 use std::thread::Threads;
 
@@ -59,8 +60,8 @@ pub fn waves<R: Threads + Sync, D: Deps, G: Gate>(
         gate,
         workers,
     };
-    let left = core.remaining(Vec::new(alloc), 0)?;
-    let ran = run_rounds(alloc, &mut core, code, &team, left)?;
+    let mut watch = Watch::new(alloc, &core)?;
+    let ran = run_rounds(alloc, &mut core, code, &team, &mut watch)?;
     finish(core, ran)
 }
 

@@ -3,8 +3,10 @@
 ghost use Rattle.std.specs.Prelude.{◌≤◌, length, IfOk, OnOk};
 ghost use Rattle.oss_core.specs.Cores.{kept_of};
 ghost use Rattle.oss_core.specs.Kept.{IsRunning};
-ghost use Rattle.oss_core.specs.Left.{AreLeft};
+ghost use Rattle.oss_core.specs.Awake.{HaveSteppers};
+ghost use Rattle.oss_core.specs.Leaving.{WasWave};
 ghost use Rattle.oss_core.specs.Turns.{HasWaved, KeepsTasks};
+ghost use Rattle.oss_watch.specs.Watches.{IsWatch};
 ghost use Rattle.oss_waves.specs.Rounding.{HasMadeWave};
 
 use crate::noting::note_turns;
@@ -18,48 +20,51 @@ use oss_io::Gate;
 use oss_model::TaskNo;
 use oss_sched::TextMove;
 use oss_syntax::List;
+use oss_watch::Watch;
 use std::alloc::AllocError;
 use std::thread::Threads;
 
 /// Makes a wave: the part of each of these tasks that may act, each over the memory at its beginning. The answer tells how many acts each made. Conditions: the
-/// list has each task that is not complete, in point order; code and memory have at most 1,048,576 cells. After want of memory the core is given up.
+/// list has each task that may act, in point order; code and memory have at most 1,048,576 cells. After want of memory the core is given up.
 fn wave<R: Threads + Sync, D: Deps, G: Gate>(
     core: &mut Core<D>,
     code: &Code,
     team: &Team<'_, R, G>,
-    left: &[TaskNo],
+    asked: &[TaskNo],
     spares: &mut Vec<Body>,
 ) -> Result<Vec<Turn>, AllocError>
     requires running { IsRunning code.now (kept_of D.seen core.old) }
-    requires left { AreLeft core.old.tree.tasks left.now }
+    requires asked { HaveSteppers (kept_of D.seen core.old) asked.now }
     requires cells { length code.now.first ≤ 1048576 }
     requires room { length core.old.cells.items ≤ 1048576 }
     ensures waved { IfOk result (λ turns. HasWaved code.now (kept_of D.seen core.old) (kept_of D.seen core.new) turns.items) }
+    ensures turned { IfOk result (λ turns. WasWave turns.items (kept_of D.seen core.old) (kept_of D.seen core.new)) }
     ensures tasks { OnOk result (KeepsTasks core.old.tree.tasks core.new.tree.tasks) }
 {
-    let Lent { steppers, bodies } = core.begin_wave(code, left, spares)?;
+    let Lent { steppers, bodies } = core.begin_wave(code, asked, spares)?;
     let parts = parts_of(team, code, core.cells(), bodies)?;
     core.end_wave(steppers.as_slice(), parts, spares)
 }
 
-/// Makes a wave, and notes it. The answer is how many tasks had a turn. Conditions: the list has each task that is not complete, in point order; code and memory
-/// have at most 1,048,576 cells. After want of memory the core is given up.
+/// Makes a wave, notes it, and wakes those that waited for a task that has ended in it. The answer is how many tasks had a turn. Conditions: code and memory
+/// have at most 1,048,576 cells; each task that may act is awake. After want of memory the core is given up.
 pub(crate) fn wave_once<R: Threads + Sync, D: Deps, G: Gate>(
     core: &mut Core<D>,
     code: &Code,
     team: &Team<'_, R, G>,
-    left: &[TaskNo],
+    watch: &mut Watch,
     spares: &mut Vec<Body>,
     lines: &mut List<TextMove>,
 ) -> Result<u64, AllocError>
     requires running { IsRunning code.now (kept_of D.seen core.old) }
-    requires left { AreLeft core.old.tree.tasks left.now }
+    requires watch { IsWatch (kept_of D.seen core.old) watch.old }
     requires cells { length code.now.first ≤ 1048576 }
     requires room { length core.old.cells.items ≤ 1048576 }
     ensures wave { IfOk result (λ count. HasMadeWave code.now (kept_of D.seen core.old) (kept_of D.seen core.new) lines.old lines.new count) }
-    ensures tasks { OnOk result (KeepsTasks core.old.tree.tasks core.new.tree.tasks) }
+    ensures watch { OnOk result (IsWatch (kept_of D.seen core.new) watch.new) }
 {
-    let turns = wave(core, code, team, left, spares)?;
+    let turns = wave(core, code, team, watch.awake(), spares)?;
     note_turns(core, turns.as_slice(), lines)?;
+    watch.after_wave(core, turns.as_slice())?;
     Ok(turns.len() as u64)
 }

@@ -276,4 +276,26 @@ impl<D: Deps> Told<D> {
             None => None,
         }
     }
+
+    /// The task that stands in the way of a task; none where there is no such task.
+    pub fn obstacle(&mut self, task: u64) -> Option<Option<TaskNo>>
+        requires { IsTold (D.seen self.old.system) self.old.opens.items self.old.gives.items }
+        ensures { IsTold (D.seen self.new.system) self.new.opens.items self.new.gives.items }
+    {
+        match number_of(self.opens.as_slice(), task) {
+            Some(_) => Some(self.system.obstacle(TaskNo(task))),
+            None => None,
+        }
+    }
+
+    /// The child of the task whose access to a range is not done; none where there is no such task.
+    pub fn undone_child(&mut self, task: u64, range: Range) -> Option<Option<TaskNo>>
+        requires { IsTold (D.seen self.old.system) self.old.opens.items self.old.gives.items }
+        ensures { IsTold (D.seen self.new.system) self.new.opens.items self.new.gives.items }
+    {
+        match number_of(self.opens.as_slice(), task) {
+            Some(_) => Some(self.system.undone_child(TaskNo(task), range)),
+            None => None,
+        }
+    }
 }

@@ -1,22 +1,6 @@
-use Rattle.std.proofs.Common.{rules, get_or, length, ◌<◌, sym, subst}
-use Rattle.oss_deps.specs.declared.want.Want.{Want}
-use Rattle.oss_deps.specs.Places.{blank}
-use Rattle.oss_deps.proofs.WalkLemmas.{IsClimbing, up_stops, up_goes, up_within, up_falls}
+use Rattle.oss_deps.proofs.Basics.{none_tells}
+use Rattle.oss_deps.proofs.WalkLemmas.{bar_bars}
 use Rattle.oss_deps.proofs.walking.is_satisfied.Goals as goal
 
-pub returns-then-not-is_level_clear : goal.returns-then-not-is_level_clear
-returns-then-not-is_level_clear c = (λ e. absurd cc, λ s. absurd (up_stops c.args.frames.now c.args.marks.now c.requires.linked c.requires.marked c.requires.covered c.args.wanted c.args.at c.levels.want c.levels.place c.levels.invariant c.levels-test.true blank (λ clear. let h = c.is_level_clear.ensures.1 clear in absurd cc) s))
-
-pub offset_bounds-frames-up : goal.offset_bounds-frames-up
-offset_bounds-frames-up c = let h : (get_or c.args.frames.now c.levels.place blank).up < length c.args.frames.now = up_within c.args.frames.now c.args.marks.now c.requires.linked c.requires.marked c.requires.covered c.args.wanted c.args.at c.levels.want c.levels.place c.levels.invariant c.levels-test.true blank in search rules
-
-pub bounds-frames-up : goal.bounds-frames-up
-bounds-frames-up c = up_within c.args.frames.now c.args.marks.now c.requires.linked c.requires.marked c.requires.covered c.args.wanted c.args.at c.levels.want c.levels.place c.levels.invariant c.levels-test.true blank
-
-pub levels-smaller : goal.levels-smaller
-levels-smaller c = up_falls c.args.frames.now c.args.marks.now c.requires.linked c.requires.marked c.requires.covered c.args.wanted c.args.at c.levels.want c.levels.place c.levels.invariant c.levels-test.true blank
-
-pub levels-preserved : goal.levels-preserved
-levels-preserved c =
-    subst (λ (w : Want). IsClimbing c.args.frames.now c.args.marks.now c.args.wanted c.args.at w (get_or c.args.frames.now c.levels.place blank).up) (sym c.want_above-want.ensures)
-    (up_goes c.args.frames.now c.args.marks.now c.requires.linked c.requires.marked c.requires.covered c.args.wanted c.args.at c.levels.want c.levels.place c.levels.invariant c.levels-test.true blank blank (c.is_level_clear.ensures.0 c.if-not-is_level_clear.false))
+pub returns : goal.returns
+returns c = none_tells c.bar_of.result c.bar_of.ensures (λ u b. bar_bars c.args.frames.now c.args.marks.now c.requires.linked c.requires.marked c.requires.covered u b) c.is_none.result c.is_none.ensures

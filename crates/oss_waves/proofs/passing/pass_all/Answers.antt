@@ -1,17 +1,12 @@
 use Rattle.oss_core.specs.Cores.{kept_of}
-use Rattle.oss_core.proofs.LeftLemmas.{left_after}
-use Rattle.oss_core.proofs.RunsLemmas.{given_itself, given_then}
 use Rattle.oss_waves.proofs.PassingLemmas.{goes_running, last_pass, no_passes, one_more, pass_falls}
 use Rattle.oss_waves.proofs.passing.pass_all.Goals as goal
 
 pub passes-init : goal.passes-init
-passes-init g c = record { gone = no_passes c.args.code.now (kept_of g.D.Deps.seen c.args.core.now) c.args.lines.now; given = given_itself c.args.core.now.tree.tasks }
+passes-init g c = record { gone = no_passes c.args.code.now (kept_of g.D.Deps.seen c.args.core.now) c.args.lines.now; watch = c.requires.watch }
 
 pub pass_once-requires-clause-running : goal.pass_once-requires-clause-running
 pass_once-requires-clause-running g c = goes_running c.args.code.now (kept_of g.D.Deps.seen c.args.core.now) (kept_of g.D.Deps.seen c.passes.core) c.args.lines.now c.passes.lines c.requires.running c.passes.invariant.gone
-
-pub pass_once-requires-clause-left : goal.pass_once-requires-clause-left
-pass_once-requires-clause-left g c = left_after c.passes.invariant.given c.args.left.now c.requires.left
 
 pub passes-smaller : goal.passes-smaller
 passes-smaller g c =
@@ -22,13 +17,10 @@ pub passes-preserved : goal.passes-preserved
 passes-preserved g c = record {
   gone = one_more c.args.code.now (kept_of g.D.Deps.seen c.args.core.now) (kept_of g.D.Deps.seen c.passes.core) (kept_of g.D.Deps.seen c.pass_once.new.core) c.args.lines.now c.passes.lines c.pass_once.new.lines _ c.if-not-branch.false
       c.passes.invariant.gone c.in_ok-pass_once.ensures.pass;
-  given = given_then c.passes.invariant.given c.in_ok-pass_once.ensures.tasks;
+  watch = c.in_ok-pass_once.ensures.watch;
 }
 
 pub returns-then-not-branch-clause-passes : goal.returns-then-not-branch-clause-passes
 returns-then-not-branch-clause-passes g c =
     last_pass c.args.code.now (kept_of g.D.Deps.seen c.args.core.now) (kept_of g.D.Deps.seen c.passes.core) (kept_of g.D.Deps.seen c.pass_once.new.core) c.args.lines.now c.passes.lines c.pass_once.new.lines _ c.if-not-branch.true
     c.passes.invariant.gone c.in_ok-pass_once.ensures.pass
-
-pub returns-then-not-branch-clause-tasks : goal.returns-then-not-branch-clause-tasks
-returns-then-not-branch-clause-tasks g c = given_then c.passes.invariant.given c.in_ok-pass_once.ensures.tasks

@@ -1,6 +1,6 @@
 use Rattle.oss_core.specs.Cores.{kept_of}
 use Rattle.oss_core.specs.CoreLeft.{core_left}
-use Rattle.oss_core.specs.Passing.{HaveGiven}
+use Rattle.oss_watch.specs.Watches.{IsWatch}
 use Rattle.oss_waves.specs.Rounding.{HavePassesGone}
 use Rattle.oss_waves.proofs.passing.pass_all.Given as goal
 
@@ -8,7 +8,7 @@ use Rattle.oss_waves.proofs.passing.pass_all.Given as goal
 abbrev pub invariant-passes : goal.invariant-passes
 invariant-passes g l = record {
   gone : HavePassesGone l.code (kept_of g.D.Deps.seen l.fn.core) (kept_of g.D.Deps.seen l.core) l.fn.lines l.lines;
-  given : HaveGiven l.fn.core.tree.tasks l.core.tree.tasks;
+  watch : IsWatch (kept_of g.D.Deps.seen l.core) l.watch;
 }
 
 -- what is left to do falls with each of them

@@ -1,12 +1,12 @@
 use Rattle.oss_body.specs.Mains.{code_main}
 use Rattle.oss_core.specs.Cores.{kept_of}
-use Rattle.oss_waves.proofs.RoundLemmas.{is_final}
+use Rattle.oss_waves.proofs.RoundLemmas.{is_final, resting_runs}
 use Rattle.oss_waves.proofs.RunLemmas.{opening_resting, run_given}
-use Rattle.oss_waves.proofs.WavingLemmas.{left_none}
 use Rattle.oss_waves.proofs.run.waves.Goals as goal
 
-pub remaining-requires : goal.remaining-requires
-remaining-requires g c = rw c.new-2.ensures.items (left_none c.in_ok-core.core.tree.tasks)
+pub new-requires-2 : goal.new-requires-2
+new-requires-2 g c =
+    (c.args.code.now, resting_runs c.args.code.now (kept_of g.D.Deps.seen c.in_ok-core.core) (opening_resting c.args.code.now (code_main c.args.code.now c.args.fuel) c.args.code.now.first (kept_of g.D.Deps.seen c.in_ok-core.core) c.in_ok-core.ensures))
 
 pub run_rounds-requires-clause-resting : goal.run_rounds-requires-clause-resting
 run_rounds-requires-clause-resting g c κs within = opening_resting c.args.code.now (code_main c.args.code.now c.args.fuel) c.args.code.now.first (kept_of g.D.Deps.seen c.in_ok-core.core) c.in_ok-core.ensures

@@ -8,5 +8,5 @@ abbrev pub invariant-loop-at : goal.invariant-loop-at
 invariant-loop-at g l = record {
   running : IsRunning l.code (kept_of g.D.Deps.seen l.self);
   given : HaveGiven l.initial.self.tree.tasks l.self.tree.tasks;
-  passed : TasksPassed l.code l.left (kept_of g.D.Deps.seen l.initial.self) l.at (kept_of g.D.Deps.seen l.self) l.passed.items;
+  passed : TasksPassed l.code l.asked (kept_of g.D.Deps.seen l.initial.self) l.at (kept_of g.D.Deps.seen l.self) l.passed.items;
 }

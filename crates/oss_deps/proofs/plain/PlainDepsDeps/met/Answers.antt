@@ -1,16 +1,9 @@
-use Rattle.std.proofs.Common.{refl, ap, subst, ◌∙◌, List}
 use Rattle.std.specs.Prelude.{vec_capacity}
-use Rattle.oss_deps.specs.declared.opened.Open.{Open}
-use Rattle.oss_deps.specs.Kept.{Kept}
-use Rattle.oss_deps.specs.Columns.{IsNumberOf}
-use Rattle.oss_deps.proofs.AskLemmas.{standing_of, entry_number, main_met, task_met}
+use Rattle.oss_deps.specs.Kept.{given_at}
+use Rattle.oss_deps.proofs.Basics.{none_tells}
+use Rattle.oss_deps.proofs.HindranceLemmas.{hindered_is_not_met}
+use Rattle.oss_deps.proofs.AskLemmas.{standing_of}
 use Rattle.oss_deps.proofs.plain.PlainDepsDeps.met.Goals as goal
 
-pub returns-then-number-eq0-clause-met : goal.returns-then-number-eq0-clause-met
-returns-then-number-eq0-clause-met c = (λ e. main_met c.args.self.now (standing_of (record { opens = c.self.inside.opens.items; pieces = c.self.inside.map.pieces; columns = c.self.inside.columns.items; ended = c.self.inside.ended; reserved = c.self.inside.reserved }) c.args.self.now (vec_capacity c.self.inside.opens) c.self.view_is c.self.invariant) c.in-Some.number c.args.task.0 (subst (λ (xs : List Open). IsNumberOf xs c.in-Some.number c.args.task.0) (c.as_slice.ensures.value ∙ ap (λ (k : Kept). k.opens) c.self.view_is) c.in-Some.ensures.found) c.if-number-eq0.true, λ m. refl)
-
-pub are_accesses_met-requires : goal.are_accesses_met-requires
-are_accesses_met-requires c = entry_number c.args.self.now c.in-Some.number c.args.task.0 (subst (λ (xs : List Open). IsNumberOf xs c.in-Some.number c.args.task.0) (c.as_slice.ensures.value ∙ ap (λ (k : Kept). k.opens) c.self.view_is) c.in-Some.ensures.found) c.if-number-eq0.false
-
-pub returns-else-number-eq0-clause-met : goal.returns-else-number-eq0-clause-met
-returns-else-number-eq0-clause-met c = task_met c.args.self.now (standing_of (record { opens = c.self.inside.opens.items; pieces = c.self.inside.map.pieces; columns = c.self.inside.columns.items; ended = c.self.inside.ended; reserved = c.self.inside.reserved }) c.args.self.now (vec_capacity c.self.inside.opens) c.self.view_is c.self.invariant) c.in-Some.number c.args.task.0 (subst (λ (xs : List Open). IsNumberOf xs c.in-Some.number c.args.task.0) (c.as_slice.ensures.value ∙ ap (λ (k : Kept). k.opens) c.self.view_is) c.in-Some.ensures.found) c.if-number-eq0.false c.are_accesses_met.result c.are_accesses_met.ensures
+pub returns-clause-met : goal.returns-clause-met
+returns-clause-met c = none_tells c.obstacle_of.result c.obstacle_of.ensures (λ u h. hindered_is_not_met c.args.self.now.opens (given_at c.args.self.now.pieces c.args.self.now.columns) c.args.task.0 u.0 h (standing_of (record { opens = c.self.inside.opens.items; pieces = c.self.inside.map.pieces; columns = c.self.inside.columns.items; ended = c.self.inside.ended; reserved = c.self.inside.reserved }) c.args.self.now (vec_capacity c.self.inside.opens) c.self.view_is c.self.invariant).opens_are) c.is_none.result c.is_none.ensures

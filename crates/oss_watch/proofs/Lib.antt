@@ -1,0 +1,9 @@
+pub mod ListLemmas
+pub mod WakingLemmas
+pub mod CompleteLemmas
+pub mod KeptLemmas
+pub mod GrowingLemmas
+pub mod RestLemmas
+pub mod RoundLemmas
+pub mod SleepLemmas
+pub mod AboveLemmas
