@@ -1,0 +1,12 @@
+pub mod SoundLemmas
+pub mod CompleteLemmas
+pub mod StepLemmas
+pub mod GrowLemmas
+pub mod GiftLemmas
+pub mod QueueLemmas
+pub mod SendLemmas
+pub mod DeliverLemmas
+pub mod GiveLemmas
+pub mod OpenLemmas
+pub mod StartLemmas
+pub mod ClaimLemmas

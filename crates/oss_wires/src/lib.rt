@@ -1,0 +1,15 @@
+//! The accesses to one cell, hung in lists, and the flags that messages move along the lists: what an access may do, and whether it is
+//! done, is told by six flags at the access itself, and nobody looks through the lists.
+#![tactic(auto)]
+
+mod hang;
+pub mod laws;
+mod line;
+mod marks;
+mod queue;
+#[cfg(test)]
+mod tests;
+
+pub use hang::Hang;
+pub use line::Line;
+pub use marks::Marks;
