@@ -1,0 +1,10 @@
+//! Whole programs, run in ways of which no clause says that they happen. What is expected was worked out by hand, or is the answer of the sequential run.
+
+mod draws;
+mod gates;
+mod programs;
+mod reading;
+mod schedules;
+mod turns;
+mod waves;
+mod waving;
