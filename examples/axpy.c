@@ -1,3 +1,4 @@
+#include <stdio.h>
 // y = 3 * x + y by blocks. An outer task names a block of 16 numbers by weak accesses: it touches none of them itself, and its
 // four inner tasks, each of a call of axpy, begin as soon as their own 4 numbers are free. Nobody waits between the two sweeps.
 long x[64], y[64];

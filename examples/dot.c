@@ -1,3 +1,4 @@
+#include <stdio.h>
 // The product of two vectors by blocks of 8. Each task adds to sum under a reduction, so none of them waits for another, and each
 // finds the bits that all and that any of the products have. The task that prints names the three with in: it comes behind all.
 long x[40], y[40], sum, all = -1, any;

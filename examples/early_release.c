@@ -1,3 +1,4 @@
+#include <stdio.h>
 // A task fills a buffer part by part and releases each part as soon as it is full. The readers of a part name it alone, so they can
 // run while the later parts are still being filled. What the task has released it may not touch again.
 long buffer[12], total[3];

@@ -1,3 +1,4 @@
+#include <stdio.h>
 long a, b = 1, c;
 int main() {
   c = a + b; a = b; b = c; printf("%ld", a);

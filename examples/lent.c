@@ -1,3 +1,4 @@
+#include <stdio.h>
 // Main reads what it has lent to a child, and does not wait for it: a fault.
 long x, y;
 int main() {

@@ -1,3 +1,4 @@
+#include <stdio.h>
 // A wrong annotation: each task reads the row above its own, and names its own row alone. On one thread the values would be right
 // all the same; the run tells the line of the first read without right, and what was printed before.
 long m[4][4];

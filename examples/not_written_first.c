@@ -1,3 +1,4 @@
+#include <stdio.h>
 // A wrong annotation: the task says with out that it writes the counter without reading it, and adds to it. With inout, or with a
 // reduction, it would be right.
 long counter = 41;

@@ -1,3 +1,4 @@
+#include <stdio.h>
 // A stencil over a grid of 8 x 8 numbers, in place and by blocks of 2 rows: each inner number becomes the mean of its four
 // neighbours. The task of a block names its own rows with inout, and the row above and the row below by a multidependency. So the
 // second step of a block begins when its neighbours have done what it needs, and a diagonal of blocks can run at once.

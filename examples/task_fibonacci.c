@@ -1,3 +1,4 @@
+#include <stdio.h>
 // Tasks that create tasks: each call of fib is one, and adds its leaves to count under a reduction. From n = 5 on downwards the
 // tasks are final: what they create runs at once inside of them, and a large tree does not fall apart into tiny tasks.
 long count;

@@ -1,3 +1,4 @@
+#include <stdio.h>
 // A task loop cuts its turns into tasks of 4. In the clauses i is the first turn of the task, so each names its own 4 numbers. The
 // pointer of the second loop walks over the same array from behind.
 long a[16];

@@ -1,3 +1,4 @@
+#include <stdio.h>
 // Three statements of arithmetic in two tasks: the second reads what the first wrote.
 long x, y;
 int main() {

@@ -1,3 +1,4 @@
+#include <stdio.h>
 int i = 2147483647;
 unsigned long u;
 long t = -5;

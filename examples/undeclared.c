@@ -1,2 +1,3 @@
+#include <stdio.h>
 long a;
 int main() { a = b; }

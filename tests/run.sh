@@ -4,7 +4,12 @@
 # nothing failed. `tests/run.sh PROGRAM` runs another program than the one of this repository.
 #
 # In examples/, NAME.c is run; NAME.out is its output, NAME.err its error output (empty where there is none), NAME.status its
-# status (0 where there is none).
+# status (0 where there is none). It is run in each mode and with several numbers of workers, and its trace is replayed; NAME.trace is that
+# trace, where there is such a file. Each NAME.schedule leads NAME.c to its end. Where gcc is there, it compiles each NAME.c without a
+# warning, and what it compiles has the same output where the run has no fault.
+#
+# In README.md and docs/GUIDE.md, each block `c` is the program of examples/ that the line before it names, and each block `console` is what
+# its commands, the lines that begin with `$ `, write where they are given one after the other.
 #
 # A case is a file tests/cases/SUBJECT/NAME.case with these lines:
 #   # what the case shows
@@ -87,20 +92,111 @@ read_case() {
 [ $? = 2 ] || cat "$work/build"
 : >"$work/nothing"
 
+# describe NAME: what an example is to write, in `status`, `out` and `err`
+describe() {
+  status=0 out=$1.out err=$work/nothing
+  [ -f "$1.status" ] && status=$(cat "$1.status")
+  [ -f "$1.err" ] && err=$1.err
+}
+
+# follow NAME: the trace of an example, against the stored one where there is one, and its replay
+follow() {
+  describe "$1"
+  "$program" trace "$1.c" >"$work/out" 2>"$work/err" </dev/null
+  got=$?
+  cp "$work/out" "$work/trace"
+  wanted_trace=$work/trace
+  [ -f "$1.trace" ] && wanted_trace=$1.trace
+  judge "the trace of examples/$1.c" "$status" "$wanted_trace" "$err" "$got"
+  expect "the trace of examples/$1.c, replayed" "$status" "$out" "$err" replay "$1.c" "$work/trace"
+}
+
+# compile NAME: what gcc says of an example, which is nothing, and the output of what it compiles; numbers wrap round as those of the language do
+compile() {
+  describe "$1"
+  gcc -Wall -Wno-unknown-pragmas -fwrapv -o "$work/compiled" "$1.c" >"$work/out" 2>"$work/err"
+  judge "examples/$1.c, compiled" 0 "$work/nothing" "$work/nothing" $?
+  [ "$status" = 0 ] || return 0
+  "$work/compiled" >"$work/out" 2>"$work/err" </dev/null
+  judge "what gcc makes of examples/$1.c" 0 "$out" "$work/nothing" $?
+}
+
+# split FILE FOLDER: each fenced block of a document as N.KIND, and the last line before it that is not empty as N.before
+split() {
+  awk -v folder="$2" '
+    !inside && /^```/ { inside = 1; count++; kind = substr($0, 4); block = folder "/" count "." (kind ? kind : "text")
+      note = folder "/" count ".before"; print before >note; close(note); printf "" >block; next }
+    inside && /^```/ { inside = 0; close(block); next }
+    inside { print >block; next }
+    /./ { before = $0 }
+  ' "$1"
+}
+
+# check_document FILE: the blocks `c` and `console` of a document
+check_document() {
+  rm -rf "$work/blocks" "$work/reader"
+  mkdir "$work/blocks" "$work/reader" || return 1
+  split "$top/$1" "$work/blocks"
+  [ -f "$work/blocks/1.before" ] || {
+    failed=$((failed + 1))
+    echo "failed: $1 has no blocks"
+  }
+  ln -s "$top/examples" "$work/reader/examples"
+  ln -s "$program" "$work/reader/nest6"
+  : >"$work/err"
+  for block in "$work/blocks"/*.c; do
+    [ -f "$block" ] || continue
+    shown=$(sed -n 's/.*`\(examples\/[a-z0-9_]*\.c\)`:$/\1/p' "${block%.c}.before")
+    cat "$block" >"$work/out"
+    judge "$1, block $(basename -- "$block"), which shows ${shown:-no file}" 0 "$top/${shown:-no file}" "$work/nothing" 0
+  done
+  for block in "$work/blocks"/*.console; do
+    [ -f "$block" ] || continue
+    # The script tells each command before it gives it, so its whole output is to be the block. A command sees the status of the one before.
+    {
+      echo 'say() { kept=$?; sed -n "$1p" "$block"; return $kept; }'
+      awk '/^\$ / { print "say " NR; print substr($0, 3) }' "$block"
+    } >"$work/script"
+    (cd "$work/reader" && block=$block sh "$work/script") >"$work/out" 2>&1 </dev/null
+    judge "$1, block $(basename -- "$block")" 0 "$block" "$work/nothing" 0
+  done
+}
+
 cd "$top/examples" || exit 1
 for file in *.c; do
-  name=${file%.c}
-  err=$work/nothing
-  [ -f "$name.err" ] && err=$name.err
-  status=0
-  [ -f "$name.status" ] && status=$(cat "$name.status")
-  expect "examples/$file" "$status" "$name.out" "$err" run "$file"
+  describe "${file%.c}"
+  expect "examples/$file" "$status" "${file%.c}.out" "$err" run "$file"
 done
-expect "examples/tasks.schedule" 0 tasks.out "$work/nothing" replay tasks.c tasks.schedule
-expect "the trace of examples/tasks.c" 0 tasks.schedule "$work/nothing" trace tasks.c
 
 # The examples were run by the script, which looks at every source first. From here on the program is called itself.
 [ "$#" -gt 0 ] || program=$top/crates/nest6/out/nest6
+modes='serial waves'
+for file in *.c; do
+  for mode in $modes; do
+    for workers in 1 2 4; do
+      describe "${file%.c}"
+      expect "examples/$file, --mode=$mode --workers=$workers" "$status" "$out" "$err" run "$file" --mode="$mode" --workers="$workers"
+    done
+  done
+  follow "${file%.c}"
+done
+for file in *.schedule; do
+  describe "${file%.schedule}"
+  expect "examples/$file" "$status" "$out" "$err" replay "${file%.schedule}.c" "$file"
+done
+expect "the trace of examples/tasks.c" 0 tasks.schedule "$work/nothing" trace tasks.c
+if command -v gcc >/dev/null 2>&1; then
+  for file in *.c; do
+    # gcc takes no program that is refused.
+    describe "${file%.c}"
+    [ "$status" = 3 ] || compile "${file%.c}"
+  done
+else
+  echo "gcc is not there: it is not looked at what it makes of the examples"
+fi
+check_document README.md
+check_document docs/GUIDE.md
+
 mkdir "$work/case"
 cd "$work/case" || exit 1
 for file in "$top"/tests/cases/*/*.case; do
