@@ -1,21 +1,24 @@
 #!/bin/sh
-# Times programs in the sequential run of the built program, and the same loops in CPython where `python3` is there, in one and the same call, and prints a row
+# Times programs in the sequential run of the built program, and the same loops in CPython, in one and the same call, and prints a row
 # each: the program, its seconds, those of CPython and their ratio. Then it prints what twice the work takes, as a ratio: the growth of ticks, of
-# tasks of one creator, of nested tasks, of cells of an array and of lent ranges. `bench/programs.sh PROGRAM` times another program.
+# tasks of one creator, of nested tasks, of cells of an array and of lent ranges. It wants `python3`, for the clock too. `bench/programs.sh PROGRAM` times
+# another program.
 # shellcheck source=bench/built.sh
 . "$(dirname -- "$0")/built.sh"
+# the interpreter itself: what stands on the path may be a script that looks for it, and takes its time
+python=$(python3 -c 'import sys; print(sys.executable)') || exit 1
 
-# beside NAME FILE: NAME.c in the program and NAME.py in CPython
+# beside WHAT NAME: the sequential run of NAME.c beside NAME.py in CPython
 beside() {
-  own=$(timed "$program" run --fuel=1000000000 "$2.c")
-  other=$(timed python3 "$2.py")
+  own=$(timed "$program" run --mode=serial --fuel=1000000000 "$2.c")
+  other=$(timed "$python" "$2.py")
   echo "$1 | $own s | $other s | $(ratio "$own" "$other")"
 }
 
-# growth NAME: NAME_1.c, and NAME_2.c with twice the work
+# growth WHAT NAME: the sequential runs of NAME_1.c, and of NAME_2.c with twice the work
 growth() {
-  once=$(timed "$program" run --fuel=1000000000 "$2_1.c")
-  twice=$(timed "$program" run --fuel=1000000000 "$2_2.c")
+  once=$(timed "$program" run --mode=serial --fuel=1000000000 "$2_1.c")
+  twice=$(timed "$program" run --mode=serial --fuel=1000000000 "$2_2.c")
   grown "$1" "$once" "$twice"
 }
 
