@@ -1,4 +1,7 @@
 -- What a move changes of what the core keeps.
+-- Read against: main stands before the creation of a task with out(x), and has found nothing; the core keeps its body as number 0, and no entry. The step is
+-- enabled, since main may always begin. Behind it the body of main has found one answer, 0; the body of the task stands behind it as number 1, at its start;
+-- and there is one entry, of task 1 below 0, with out(x). If main then loads x and finds 5, its body has found 5 and 0, and all else is as before.
 use Rattle.std.specs.Prelude.{◌≡◌, ℕ, ◌+◌, ◌<◌, ◌⊎◌, Bool, true, false, List, [], ◌∷◌, ◌++◌, length, slice_get, Some, None}
 use Rattle.oss_model.specs.Bodies.{Order, Program, Act, Body, IsHalt}
 use Rattle.oss_model.specs.Bodies.Act.{Load, Created}

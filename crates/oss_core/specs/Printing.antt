@@ -1,4 +1,6 @@
 -- The prints that a core keeps, in the order of time.
+-- Read against: task 1 prints t, main prints m, and task 1, which has created nothing meanwhile, prints u. The list has t, m and u. Those of task 1 have one key,
+-- and t, which its body has made first, stands before u; that t stands before m says nothing, since the print of main has another key.
 use Rattle.std.specs.Prelude.{◌≡◌, ◌<◌, List, [], ◌∷◌, length, None}
 use Rattle.oss_model.specs.Order.{IsIn}
 use Rattle.oss_model.specs.Bodies.{Program}

@@ -1,4 +1,7 @@
 -- What a core can tell of the moves of a task by numbers, entries and flags alone.
+-- Read against: tasks 1 and 2 of main, in this order. A taskwait of main is told where both are complete, a wait for the newest child where 2 is, and
+-- taskwait on(x) where no access of one of them to x is left undone. A task with out(x) reduction(+: y), without the clause wait, whose body has ended, may give
+-- up x and may not give up y; it may join y once no earlier access to y stands in its way, and then not again.
 use Rattle.std.specs.Prelude.{◌≡◌, ℕ, ◌+◌, ◌⊎◌, Bool, true, false, List, [], slice_get, Some}
 use Rattle.oss_syntax.specs.declared.access.Access.{Access}
 use Rattle.oss_syntax.specs.declared.access.Op.{Op}

@@ -18,8 +18,6 @@ mod ranges_given;
 mod steppers;
 mod stepping;
 mod stopping;
-#[cfg(test)]
-mod tests;
 mod told;
 mod turns;
 mod waiting;

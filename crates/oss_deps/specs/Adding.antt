@@ -1,4 +1,6 @@
 -- The accesses of a new task are added to the stretches that they name.
+-- Read against: task 1 of main with out(a[0;4]), and cuts at 0, 2 and 4. Each of the stretches 0 to 2 and 2 to 4 has main's frame and that of task 1. Task 2
+-- below it, with out(a[0;2]), gets a frame in the first, at place 2, with that of task 1 above it; the second stretch stays as it is.
 use Rattle.std.specs.Prelude.{◌≡◌, ℕ, ◌≤◌, ◌<◌, ◌⊎◌, List, [], length, slice_get, slice_index_or, Some, None}
 use Rattle.oss_syntax.specs.declared.access.Access.{Access}
 use Rattle.oss_syntax.specs.declared.access.Mode.{Mode}

@@ -1,4 +1,6 @@
 -- When the lists of all stretches stand for what was opened and given up.
+-- Read against: weakinout(a) as task 1, of four cells, with the children out(a[0;2]) as task 2 and out(a[2;2]) as task 3, and in(a[0]) as task 4. Cuts are at
+-- 1, 2 and 4. Behind main's frame the stretch from 0 has those of 1, 2 and 4, that from 1 those of 1 and 2, that from 2 those of 1 and 3, and that from 4 none.
 use Rattle.std.specs.Prelude.{◌≡◌, ℕ, ◌+◌, ◌≤◌, ◌<◌, ◌⊎◌, true, false, List, [], length, slice_get, vec_capacity, Option, Some, None}
 use Rattle.oss_syntax.specs.declared.access.Access.{Access}
 use Rattle.oss_syntax.specs.declared.access.Mode.TheVariants.{Write}

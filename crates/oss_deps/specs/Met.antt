@@ -1,4 +1,6 @@
 -- What the accesses of a task wait for, by the ranges of its list.
+-- Read against: weakinout(a) as task 1 of main, its child out(a[0;2]) as task 2, and in(a[0]) as task 4 of main. While nothing is given up, the access of task 4 is
+-- barred at cell 0 by that of task 1, which stands before it; that of task 2 stands below another access, and bars nothing. The access of task 2 is met.
 use Rattle.std.specs.Prelude.{◌≡◌, ℕ, ◌≤◌, ◌<◌, Bool, false, true, List}
 use Rattle.oss_syntax.specs.declared.access.Access.{Access}
 use Rattle.oss_syntax.specs.declared.access.Mode.TheVariants.{Read, Write}

@@ -1,4 +1,6 @@
 -- What an access waits for, and which accesses of earlier siblings it passes.
+-- Read against: reduction(+: x), in(x) and in(x) of three tasks, none of which has given up x. The second read passes the first; neither passes the reduction, until
+-- that is done. A reduction by + behind them passes the first, and no read: that it may be joined wants all of them from the first that is not done to be such reductions.
 use Rattle.std.specs.Prelude.{◌≡◌, ℕ, ◌≤◌, ◌||◌, Bool, true, false, if◌then◌else◌, List, Some, slice_get}
 use Rattle.oss_syntax.specs.declared.access.Mode.{Mode}
 use Rattle.oss_syntax.specs.declared.access.Op.{Op}

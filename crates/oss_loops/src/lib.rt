@@ -8,8 +8,6 @@ mod names;
 mod parts;
 mod round;
 mod statements;
-#[cfg(test)]
-mod tests;
 mod walk;
 
 pub use block::written;

@@ -17,8 +17,6 @@ mod sections;
 mod simple;
 mod site;
 mod statements;
-#[cfg(test)]
-mod tests;
 mod typed;
 
 pub use laws::{

@@ -2,6 +2,9 @@
 
 mod draws;
 mod gates;
+mod looping;
+mod lowering;
+mod moves;
 mod programs;
 mod reading;
 mod schedules;

@@ -2,7 +2,7 @@ use Rattle.std.proofs.Common.{subst}
 use Rattle.oss_core.specs.Changes.{IsMade}
 use Rattle.oss_core.specs.Cores.{kept_of}
 use Rattle.oss_core.specs.Kept.{Kept}
-use Rattle.oss_core.proofs.tests.is_made.Goals as goal
+use Rattle.oss_trials.proofs.tests.moves.is_made.Goals as goal
 
 pub returns-in-Ok : goal.returns-in-Ok
 returns-in-Ok g c =

@@ -2,7 +2,7 @@ use Rattle.std.proofs.Common.{sym, ◌∙◌}
 use Rattle.oss_core.specs.Cores.{kept_of}
 use Rattle.oss_core.specs.Passing.{HasPassed}
 use Rattle.oss_core.proofs.TwoLemmas.{two_asked}
-use Rattle.oss_core.proofs.tests.passed_of.Goals as goal
+use Rattle.oss_trials.proofs.tests.moves.passed_of.Goals as goal
 
 pub pass-requires-clause-asked : goal.pass-requires-clause-asked
 pass-requires-clause-asked g c = two_asked _ c.count.ensures.tree (sym c.count.ensures.count ∙ c.if-count-ne2.false)

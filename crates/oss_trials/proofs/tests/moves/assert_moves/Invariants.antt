@@ -1,6 +1,6 @@
 use Rattle.oss_core.specs.Cores.{kept_of}
 use Rattle.oss_core.specs.Kept.{IsRunning}
-use Rattle.oss_core.proofs.tests.assert_moves.Given as goal
+use Rattle.oss_trials.proofs.tests.moves.assert_moves.Given as goal
 
 -- the core stands for some state
 abbrev pub invariant-loop-m : goal.invariant-loop-m

@@ -2,9 +2,9 @@
 
 mod made;
 
-use crate::lower;
 use made::{flow, nothing, wrap};
 use oss_code::{Code, TaskOrder};
+use oss_lower::lower;
 use oss_machine::{Ask, Machine};
 use oss_names::resolve;
 use oss_syntax::{List, Program};

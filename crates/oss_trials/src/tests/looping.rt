@@ -5,9 +5,9 @@ mod facts;
 mod made;
 mod parts;
 
-use crate::{write_out, writing_out_keeps, written};
 use facts::{assert_block_of_squares, assert_rounds};
 use made::{boxed, head, program, square};
+use oss_loops::{write_out, writing_out_keeps, written};
 use oss_syntax::{Program, Stmt};
 use parts::{body, count, function, other_branch, statement, turns};
 use std::process::Abort;

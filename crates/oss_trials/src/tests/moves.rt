@@ -5,8 +5,8 @@ ghost use Rattle.oss_code.specs.declared.code.CodeParts.{CodeParts as Parts};
 ghost use Rattle.oss_core.specs.Cores.{kept_of};
 ghost use Rattle.oss_core.specs.Kept.{IsRunning};
 
-use crate::{ApplyFault, Core, Passed};
 use oss_code::{Code, CodeParts, GlobalPlace, Instr, SectionBase, SectionForm};
+use oss_core::{ApplyFault, Core, Passed};
 use oss_deps::{Deps, PlainDeps};
 use oss_grammar::Piece;
 use oss_meaning::Declared;
@@ -199,7 +199,7 @@ fn assert_waits<D: Deps>(rt: &impl Abort, core: &mut Core<D>)
     requires { (code : Parts) × IsRunning code (kept_of D.seen core.old) }
     ensures { kept_of D.seen core.new ≡ kept_of D.seen core.old }
 {
-    if core.tree.count() != 2 {
+    if core.tree().count() != 2 {
         panic!(rt; "two tasks");
     }
     assert!(rt; core.hindrance(MAIN) == Some(TASK));
@@ -244,7 +244,7 @@ fn passed_of<D: Deps>(rt: &impl Abort, core: &mut Core<D>, code: &Code) -> Vec<P
     requires { IsRunning code.now (kept_of D.seen core.old) }
     ensures { IsRunning code.now (kept_of D.seen core.new) }
 {
-    if core.tree.count() != 2 {
+    if core.tree().count() != 2 {
         panic!(rt; "two tasks");
     }
     let asked = [MAIN, TASK];
