@@ -1,10 +1,10 @@
 -- How many tasks the list of a state tells: one for each path.
-use Rattle.std.proofs.Common.{◌≡◌, ◌≢◌, ℕ, ◌+◌, ◌-◌, ◌^◌, refl, sym, subst, ap, ◌∙◌, List, [], ◌∷◌, arith, Bool, true, false, Option, Some, None}
-use Rattle.std.specs.Prelude.{◌||◌, if◌then◌else◌, min}
-use Rattle.oss_model.specs.Machine.{State, Task, find, same_path}
-use Rattle.oss_model.proofs.TreeLemmas.{path_found, same_path_is}
+use Rattle.std.proofs.Common.{◌≡◌, ℕ, ◌+◌, refl, sym, subst, ap, ◌∙◌, List, [], ◌∷◌, Bool, true, false, Some, None}
+use Rattle.std.specs.Prelude.{◌||◌, if◌then◌else◌}
+use Rattle.oss_model.specs.Machine.{Task, find, same_path}
+use Rattle.oss_model.proofs.TreeLemmas.{same_path_is}
 use Rattle.oss_model.proofs.Exclusive.{same_self}
-use Rattle.oss_meaning.specs.Results.{is_among, tasks_in, weighed}
+use Rattle.oss_meaning.specs.Results.{is_among, weighed}
 
 -- each task once
 abbrev each : {S : Type 0} → List (List ℕ) → List (Task S) → ℕ

@@ -8,7 +8,8 @@ use Rattle.oss_model.specs.Bodies.Act.{Created, Fault}
 use Rattle.oss_model.specs.Moves.{act_now, found_by, is_ended, new_task}
 use Rattle.oss_model.specs.Sequence.{direct_cells, printed_after}
 use Rattle.oss_model.specs.declared.answer.Answer.TheVariants as answers
-use Rattle.oss_meaning.specs.Results.{IsOutcome, Outcome}
+use Rattle.oss_model.specs.Sequence.{Running}
+use Rattle.oss_meaning.specs.Results.{IsOutcome}
 use Rattle.oss_code.specs.declared.code.CodeParts.{CodeParts}
 use Rattle.oss_machine.specs.Asks.{meant_order}
 use Rattle.oss_machine.specs.Frames.{CodeScript}
@@ -25,9 +26,9 @@ use Rattle.oss_serial.specs.declared.stage.Stage.{Stage}
 use Rattle.oss_serial.specs.declared.stage.Turned.{Turned}
 use Rattle.oss_serial.specs.declared.stage.Turned.TheVariants as turned
 use Rattle.oss_serial.specs.declared.turn.Turn.TheVariants as turns
-use Rattle.oss_serial.specs.Stages.{AreBodies, IsStage, IsTurned, IsUp, bodies_left, left_at, turn_of}
+use Rattle.oss_serial.specs.Stages.{AreBodies, IsFirstStage, IsNext, IsStage, IsTurned, IsUp, bodies_left, left_at, turn_of}
 use Rattle.oss_body.specs.Mains.{code_main}
-use Rattle.oss_serial.specs.Turns.{Stands, answered}
+use Rattle.oss_serial.specs.Turns.{Begins, Ends, Goes, answered}
 use Rattle.oss_serial.proofs.TurnLemmas.{begins, creates_less, ends_all, goes_down, goes_less, goes_on as runs_on, goes_up, more_tasks, stops}
 
 -- What a turn of the code tells of the act
@@ -142,11 +143,11 @@ bodies_left_last code (x ∷ ks) k = let r = bodies_left_last code ks k in omega
 -- Turns
 
 module _ (code : CodeParts) (main : Start CodeScript) (first : List ℕ) where
-  -- a stage of the run, with what is equal to its parts
-  same_stage : (b : Body CodeScript) (above : List (Body CodeScript)) (a : Act CodeScript) (v w : ℕ) (cells output more text : List ℕ) (tasks count : ℕ)
-      → Stands (asks code) main first (answered w b) above (direct_cells a cells) (printed_after a output) tasks → v ≡ w → more ≡ direct_cells a cells → text ≡ printed_after a output → count ≡ tasks
-      → Stands (asks code) main first (answered v b) above more text count
-  same_stage b above a v w cells output more text tasks count h e f g k = rw (e, f, g, k) h
+  -- the next stage of the run, with what is equal to its parts
+  same_stage : (z : Running CodeScript) (b : Body CodeScript) (above : List (Body CodeScript)) (a : Act CodeScript) (v w : ℕ) (cells output more text : List ℕ) (tasks count : ℕ)
+      → Goes (asks code) main first z (answered w b) above (direct_cells a cells) (printed_after a output) tasks → v ≡ w → more ≡ direct_cells a cells → text ≡ printed_after a output → count ≡ tasks
+      → Goes (asks code) main first z (answered v b) above more text count
+  same_stage z b above a v w cells output more text tasks count h e f g k = rw (e, f, g, k) h
 
   module _ (s n : Stage) (a : CodeAct) (st : IsStage code main first s) (seen : act_seen a ≡ act_now (asks code) st.current)
       (cells_are : n.cells.items ≡ direct_cells (act_seen a) s.cells.items) (output_is : n.output.items ≡ printed_after (act_seen a) s.output.items) where
@@ -185,24 +186,26 @@ module _ (code : CodeParts) (main : Start CodeScript) (first : List ℕ) where
           let y = left_is code st.current s.current st.is_current in
           omega (arith, l, x, y)
 
-      pub turn_on : n.current ≡ after → n.above ≡ s.above → n.tasks ≡ s.tasks → is_over after ≡ false → IsStage code main first n × (left_at code n < left_at code s)
-      turn_on c e t alive = (
-        record {
-          current = answered v st.current;
-          above = st.above;
-          is_current = subst (λ (k : Kept). IsBody code st.current.start (v ∷ st.current.found) k) (sym c) is_next;
-          are_above = subst (λ (ks : List Kept). AreBodies code st.above ks) (sym e) st.are_above;
-          stands =
-              same_stage st.current st.above (act_now (asks code) st.current) v (found_by (act_now (asks code) st.current) s.cells.items) s.cells.items s.output.items n.cells.items n.output.items s.tasks n.tasks
-              (runs_on (asks code) main first st.current st.above s.cells.items s.output.items s.tasks st.stands alive_now alone_now (ended_now false alive)) found_now cells_now output_now t;
-        },
-        less,
-      )
+      pub turn_on : n.current ≡ after → n.above ≡ s.above → n.tasks ≡ s.tasks → is_over after ≡ false → IsNext code main first s st n
+      turn_on c e t alive =
+          let went = same_stage st.stands.stage st.current st.above (act_now (asks code) st.current) v (found_by (act_now (asks code) st.current) s.cells.items) s.cells.items s.output.items n.cells.items n.output.items s.tasks n.tasks
+          (runs_on (asks code) main first st.current st.above s.cells.items s.output.items s.tasks st.stands alive_now alone_now (ended_now false alive)) found_now cells_now output_now t in
+          record {
+            stage = record {
+              current = answered v st.current;
+              above = st.above;
+              is_current = subst (λ (k : Kept). IsBody code st.current.start (v ∷ st.current.found) k) (sym c) is_next;
+              are_above = subst (λ (ks : List Kept). AreBodies code st.above ks) (sym e) st.are_above;
+              stands = went.stands;
+            };
+            runs = went.runs;
+            less = less;
+          }
         where
           less : left_at code n < left_at code s
           less = let l = falls in let x = ap (λ (k : Kept). body_left code k) c in let y = ap (λ (ks : List Kept). bodies_left code ks) e in omega (arith, l, x, y)
 
-      pub turn_up : s.above ≡ n.above ++ n.current ∷ [] → n.tasks ≡ s.tasks → is_over after ≡ true → IsStage code main first n × (left_at code n < left_at code s)
+      pub turn_up : s.above ≡ n.above ++ n.current ∷ [] → n.tasks ≡ s.tasks → is_over after ≡ true → IsNext code main first s st n
       turn_up e t over = go (bodies_popped code st.above n.above n.current (subst (λ (ks : List Kept). AreBodies code st.above ks) e st.are_above))
         where
           less : left_at code n < left_at code s
@@ -212,25 +215,20 @@ module _ (code : CodeParts) (main : Start CodeScript) (first : List ℕ) where
               let y = bodies_left_last code n.above n.current in
               omega (arith, l, x, y)
 
-          go : LastBody code st.above n.above n.current → IsStage code main first n × (left_at code n < left_at code s)
+          go : LastBody code st.above n.above n.current → IsNext code main first s st n
           go r =
-              let up = goes_up (asks code) main first st.current st.above s.cells.items s.output.items s.tasks st.stands alive_now r.last r.older alone_now (ended_now true over) r.parts in (
-                record {
-                  current = r.last;
-                  above = r.older;
-                  is_current = r.is_last;
-                  are_above = r.are_older;
-                  stands = rw (cells_now, output_now, t) up;
-                },
-                less,
-              )
+              let up : Goes (asks code) main first st.stands.stage r.last r.older n.cells.items n.output.items n.tasks =
+              rw (cells_now, output_now, t) (goes_up (asks code) main first st.current st.above s.cells.items s.output.items s.tasks st.stands alive_now r.last r.older alone_now (ended_now true over) r.parts) in
+              record {
+                stage = record { current = r.last; above = r.older; is_current = r.is_last; are_above = r.are_older; stands = up.stands };
+                runs = up.runs;
+                less = less;
+              }
 
-      pub turn_ends : s.above ≡ [] → n.tasks ≡ s.tasks → is_over after ≡ true
-          → (entries : ℕ) × IsOutcome (asks code) main first (record { answer = answers.Done n.output.items n.cells.items; tasks = n.tasks; entries = entries })
+      pub turn_ends : s.above ≡ [] → n.tasks ≡ s.tasks → is_over after ≡ true → Ends (asks code) main first st.stands.stage n.cells.items n.output.items n.tasks
       turn_ends e t over =
           let none = bodies_none code st.above (subst (λ (ks : List Kept). AreBodies code st.above ks) e st.are_above) in
-          let r = ends_all (asks code) main first st.current st.above s.cells.items s.output.items s.tasks st.stands alive_now alone_now (ended_now true over) none in
-          (r.0, subst (λ (x : Outcome). IsOutcome (asks code) main first x) (λ i. record { answer = answers.Done (sym output_now i) (sym cells_now i); tasks = sym t i; entries = r.0 }) r.1)
+          rw (cells_now, output_now, t) (ends_all (asks code) main first st.current st.above s.cells.items s.output.items s.tasks st.stands alive_now alone_now (ended_now true over) none)
 
     module _ (setting : Setting main first) (told : turns.Creates ≡ turn_of a s.cells.items) (after : Kept) where
       pub order_of : Order CodeScript
@@ -250,17 +248,20 @@ module _ (code : CodeParts) (main : Start CodeScript) (first : List ℕ) where
 
       pub turn_down : IsBody code st.current.start (answer_to (act_seen a) 0 ∷ st.current.found) after
           → ((o : Order CodeScript) → stage_act (asks code) st.current.start st.current.found ≡ Created o false → IsBody code (child_start (stack_from (asks code) st.current.start st.current.found).base o) [] n.current)
-          → n.above ≡ s.above ++ after ∷ [] → n.tasks ≡ more_tasks s.tasks → IsStage code main first n × (left_at code n < left_at code s)
-      turn_down is_after is_child e t = (
-        record {
-          current = (new_task (asks code) st.current o).body;
-          above = st.above ++ answered 0 st.current ∷ [];
-          is_current = child;
-          are_above = subst (λ (ks : List Kept). AreBodies code (st.above ++ answered 0 st.current ∷ []) ks) (sym e) (bodies_pushed code st.above s.above (answered 0 st.current) after st.are_above next);
-          stands = rw (cells_now, output_now, t) down;
-        },
-        less,
-      )
+          → n.above ≡ s.above ++ after ∷ [] → n.tasks ≡ more_tasks s.tasks → IsNext code main first s st n
+      turn_down is_after is_child e t =
+          let went : Goes (asks code) main first st.stands.stage (new_task (asks code) st.current o).body (st.above ++ answered 0 st.current ∷ []) n.cells.items n.output.items n.tasks = rw (cells_now, output_now, t) down in
+          record {
+            stage = record {
+              current = (new_task (asks code) st.current o).body;
+              above = st.above ++ answered 0 st.current ∷ [];
+              is_current = child;
+              are_above = subst (λ (ks : List Kept). AreBodies code (st.above ++ answered 0 st.current ∷ []) ks) (sym e) (bodies_pushed code st.above s.above (answered 0 st.current) after st.are_above next);
+              stands = went.stands;
+            };
+            runs = went.runs;
+            less = less;
+          }
         where
           o : Order CodeScript
           o = (shown_creates a s.cells.items told).order
@@ -271,9 +272,9 @@ module _ (code : CodeParts) (main : Start CodeScript) (first : List ℕ) where
           next : IsBody code st.current.start (0 ∷ st.current.found) after
           next = subst (λ (w : ℕ). IsBody code st.current.start (w ∷ st.current.found) after) (answer_zero (act_seen a) (shown_creates a s.cells.items told).order (shown_creates a s.cells.items told).is) is_after
 
-          down : Stands (asks code) main first (new_task (asks code) st.current (shown_creates a s.cells.items told).order).body (st.above ++ answered 0 st.current ∷ []) (direct_cells (act_now (asks code) st.current) s.cells.items) (printed_after (act_now (asks code) st.current) s.output.items) (more_tasks s.tasks)
+          down : Goes (asks code) main first st.stands.stage (new_task (asks code) st.current (shown_creates a s.cells.items told).order).body (st.above ++ answered 0 st.current ∷ []) (direct_cells (act_now (asks code) st.current) s.cells.items) (printed_after (act_now (asks code) st.current) s.output.items) (more_tasks s.tasks)
           down =
-              subst (λ (w : ℕ). Stands (asks code) main first (new_task (asks code) st.current (shown_creates a s.cells.items told).order).body (st.above ++ answered w st.current ∷ []) (direct_cells (act_now (asks code) st.current) s.cells.items) (printed_after (act_now (asks code) st.current) s.output.items) (more_tasks s.tasks))
+              subst (λ (w : ℕ). Goes (asks code) main first st.stands.stage (new_task (asks code) st.current (shown_creates a s.cells.items told).order).body (st.above ++ answered w st.current ∷ []) (direct_cells (act_now (asks code) st.current) s.cells.items) (printed_after (act_now (asks code) st.current) s.output.items) (more_tasks s.tasks))
               (found_zero (act_now (asks code) st.current) (shown_creates a s.cells.items told).order created_now_is)
               (goes_down (asks code) main first st.current st.above s.cells.items s.output.items s.tasks st.stands no_halt setting (shown_creates a s.cells.items told).order created_now_is)
 
@@ -302,7 +303,7 @@ runs_still code main first s st = st.is_current.ended ∙ st.stands.alive
 -- the end of a body goes up to its creator, or ends the run
 pub gone_up : (code : CodeParts) (main : Start CodeScript) (first : List ℕ) (s old n : Stage) (a : CodeAct) (st : IsStage code main first s) → act_seen a ≡ act_now (asks code) st.current
     → (t : Turned) → old.cells.items ≡ direct_cells (act_seen a) s.cells.items → old.output.items ≡ printed_after (act_seen a) s.output.items → (v : ℕ) (after : Kept) → turns.Goes v ≡ turn_of a s.cells.items
-    → IsBody code st.current.start (answer_to (act_seen a) v ∷ st.current.found) after → old.above ≡ s.above → old.tasks ≡ s.tasks → is_over after ≡ true → IsUp old n t → IsTurned code main first s n t
+    → IsBody code st.current.start (answer_to (act_seen a) v ∷ st.current.found) after → old.above ≡ s.above → old.tasks ≡ s.tasks → is_over after ≡ true → IsUp old n t → IsTurned code main first s st n t
 gone_up code main first s old n a st seen turned.On cells output v after told is_after above tasks over (b, e) =
     turn_up code main first s n a st seen (b.cells ∙ cells) (b.output ∙ output) v after told is_after (sym above ∙ e) (b.tasks ∙ tasks) over
 gone_up code main first s old n a st seen turned.Ended cells output v after told is_after above tasks over (b, e) =
@@ -315,12 +316,17 @@ shown_after code b a kept_act v after e h = subst (λ (x : CodeAct). IsBody code
 
 -- the run at its beginning
 pub begun : (code : CodeParts) (fuel : ℕ) (s : Stage) → IsBody code (code_main code fuel) [] s.current → s.above ≡ [] → s.cells.items ≡ code.first → s.output.items ≡ [] → s.tasks ≡ 1 → Setting (code_main code fuel) code.first
-    → IsStage code (code_main code fuel) code.first s
+    → IsFirstStage code (code_main code fuel) code.first s
 begun code fuel s is above cells output tasks setting =
+    let at_first : Begins (asks code) (code_main code fuel) code.first (record { start = code_main code fuel; found = [] }) [] s.cells.items s.output.items s.tasks =
+    rw (cells, output, tasks) (begins (asks code) (code_main code fuel) code.first setting) in
     record {
-      current = record { start = code_main code fuel; found = [] };
-      above = [];
-      is_current = is;
-      are_above = subst (λ (ks : List Kept). AreBodies code [] ks) (sym above) tt;
-      stands = rw (cells, output, tasks) (begins (asks code) (code_main code fuel) code.first setting);
+      stage = record {
+        current = record { start = code_main code fuel; found = [] };
+        above = [];
+        is_current = is;
+        are_above = subst (λ (ks : List Kept). AreBodies code [] ks) (sym above) tt;
+        stands = at_first.stands;
+      };
+      opens = at_first.opens;
     }

@@ -1,11 +1,11 @@
 -- Each turn of the loop is an act of the sequential run.
-use Rattle.std.proofs.Common.{◌≡◌, ◌≢◌, ℕ, ◌+◌, ◌-◌, ◌<◌, ◌≤◌, ◌^◌, refl, sym, subst, ap, ◌∙◌, List, [], ◌∷◌, ◌++◌, arith, Bool, true, false, Option, Some, None}
+use Rattle.std.proofs.Common.{◌≡◌, ◌≢◌, ℕ, ◌+◌, ◌-◌, ◌<◌, ◌^◌, refl, sym, subst, ap, ◌∙◌, List, [], ◌∷◌, ◌++◌, arith, Bool, true, false, Option, Some, None}
 use Rattle.std.specs.Prelude.{min, reverse}
 use Rattle.std.proofs.lemmas.List.{reverse-append}
 use Rattle.oss_syntax.specs.declared.fault.FaultKind.{FaultKind}
 use Rattle.oss_model.specs.declared.answer.Answer.TheVariants as answers
 use Rattle.oss_model.specs.Order.{IsSuffix, whole, longer}
-use Rattle.oss_model.specs.Bodies.{Order, Program, Act, Frame, Stack, Start, Body, stack_from, base_after, child_start, settled_stack, frame_act, IsHalt}
+use Rattle.oss_model.specs.Bodies.{Order, Program, Act, Frame, Stack, Start, Body, stack_from, base_after, settled_stack, frame_act, IsHalt}
 use Rattle.oss_model.specs.Bodies.Act.{Created, Fault, Over}
 use Rattle.oss_model.specs.Context.{right_of}
 use Rattle.oss_model.specs.Machine.{Task, At, find, same_path}
@@ -22,7 +22,7 @@ use Rattle.oss_model.proofs.RunLemmas.{Next, next, AboveSame, above_next, no_cre
 use Rattle.oss_model.proofs.TerminationTheorem.{act_at, next_at, start_at, active_stay, active_up, active_down}
 use Rattle.oss_model.proofs.PotentialLemmas.{body_falls, creation_falls}
 use Rattle.oss_meaning.specs.Results.{IsOutcome, Outcome, ends, entries_in, fails, tasks_in, weighed}
-use Rattle.oss_serial.specs.Turns.{AreWaiting, Stands, answered, whole_task}
+use Rattle.oss_serial.specs.Turns.{AreWaiting, Begins, Ends, Goes, Stands, answered, whole_task}
 use Rattle.oss_serial.proofs.CountLemmas.{goes_counted, grows_counted}
 
 shorter : {x : ℕ} {xs ys : List ℕ} → IsSuffix (x ∷ xs) ys → IsSuffix xs ys
@@ -59,24 +59,27 @@ module _ {S : Type 0} (P : Program S) (main : Start S) (first : List ℕ) where
   begun_alive b = ap (λ (s : Stack S). s.ended) (start_at P b)
 
   -- the run begins
-  pub begins : Setting main first → Stands P main first (record { start = main; found = [] }) [] first [] 1
+  pub begins : Setting main first → Begins P main first (record { start = main; found = [] }) [] first [] 1
   begins s =
       record {
-        stage = record { state = opening main first; active = []; printed = [] };
-        run = opens;
-        cells_are = refl;
-        output_is = refl;
-        tasks_are = refl;
-        path = sym s.starts.path;
-        at_ = opening_main main first s.starts.path;
-        alive = begun_alive main;
-        waiting = refl;
+        stands = record {
+          stage = record { state = opening main first; active = []; printed = [] };
+          run = opens;
+          cells_are = refl;
+          output_is = refl;
+          tasks_are = refl;
+          path = sym s.starts.path;
+          at_ = opening_main main first s.starts.path;
+          alive = begun_alive main;
+          waiting = refl;
+        };
+        opens = refl;
       }
 
   -- what a turn gives: the next stage, and the task there
-  record Turned (current : Body S) (above : List (Body S)) (cells output : List ℕ) (tasks : ℕ) : Type 0 where
-    before : Running S
+  record Turned (before : Running S) (current : Body S) (above : List (Body S)) (cells output : List ℕ) (tasks : ℕ) : Type 0 where
     stage : Running S
+    runs : RunsOn P before stage
     run_before : Sequential P main first before
     run : Sequential P main first stage
     cells_are : stage.state.cells ≡ direct_cells (act_now P current) cells
@@ -138,11 +141,11 @@ module _ {S : Type 0} (P : Program S) (main : Start S) (first : List ℕ) where
         let k = grows_counted s.stage.state.tasks (whole_task current) (after_answer (found_by (act_now P current) s.stage.state.cells) (whole_task current)) n refl found_at_path (nobody_there setting o) d in
         ap (λ (ts : List (Task S)). min (weighed (λ t. 1) [] ts) (2 ^ 64 - 1)) e ∙ ap (λ (m : ℕ). min m (2 ^ 64 - 1)) k ∙ capped_more (weighed (λ t. 1) [] s.stage.state.tasks) ∙ ap more_tasks s.tasks_are
 
-    turned : Turned current above cells output tasks
+    turned : Turned s.stage current above cells output tasks
     turned =
         record {
-          before = s.stage;
           stage = went.stage;
+          runs = went.runs;
           run_before = s.run;
           run = runs_on s.run went.runs;
           cells_are = cells_after_turn;
@@ -167,11 +170,11 @@ module _ {S : Type 0} (P : Program S) (main : Start S) (first : List ℕ) where
 
     -- The body goes on.
     pub goes_on : ((o : Order S) → act_now P current ≢ Created o false) → is_ended P (answered (found_by (act_now P current) cells) current) ≡ false
-        → Stands P main first (answered (found_by (act_now P current) cells) current) above (direct_cells (act_now P current) cells) (printed_after (act_now P current) output) tasks
+        → Goes P main first s.stage (answered (found_by (act_now P current) cells) current) above (direct_cells (act_now P current) cells) (printed_after (act_now P current) output) tasks
     goes_on n alive =
         let r = turned current above cells output tasks s g in
-        let e : r.stage.active ≡ r.before.active = r.active ∙ active_stay P (whole_task current) r.before.active (found_by (act_now P current) cells) n alive in
-        record {
+        let e : r.stage.active ≡ s.stage.active = r.active ∙ active_stay P (whole_task current) s.stage.active (found_by (act_now P current) cells) n alive in
+        let next : Stands P main first (answered (found_by (act_now P current) cells) current) above (direct_cells (act_now P current) cells) (printed_after (act_now P current) output) tasks = record {
           stage = r.stage;
           run = r.run;
           cells_are = r.cells_are;
@@ -180,22 +183,23 @@ module _ {S : Type 0} (P : Program S) (main : Start S) (first : List ℕ) where
           path = e ∙ r.path;
           at_ = subst (λ (q : List ℕ). At r.stage.state q (whole_task (answered (found_by (act_now P current) cells) current))) (sym e) r.own;
           alive = alive;
-          waiting = subst (λ (q : List ℕ). AreWaiting P r.stage.state (reverse above) q) (sym e) (waits_stay r.before r.stage r.same (reverse above) r.before.active whole r.waiting);
-        }
+          waiting = subst (λ (q : List ℕ). AreWaiting P r.stage.state (reverse above) q) (sym e) (waits_stay s.stage r.stage r.same (reverse above) s.stage.active whole r.waiting);
+        } in
+        record { stands = next; runs = r.runs }
 
     -- The body has ended, and its creator goes on.
     pub goes_up : (creator : Body S) (rest : List (Body S)) → ((o : Order S) → act_now P current ≢ Created o false) → is_ended P (answered (found_by (act_now P current) cells) current) ≡ true → above ≡ rest ++ creator ∷ []
-        → Stands P main first creator rest (direct_cells (act_now P current) cells) (printed_after (act_now P current) output) tasks
+        → Goes P main first s.stage creator rest (direct_cells (act_now P current) cells) (printed_after (act_now P current) output) tasks
     goes_up creator rest n ended e = go (turned current above cells output tasks s g)
       where
-        go : Turned current above cells output tasks → Stands P main first creator rest (direct_cells (act_now P current) cells) (printed_after (act_now P current) output) tasks
-        go r = up (subst (λ (bs : List (Body S)). AreWaiting P r.before.state bs r.before.active) (ap (λ (bs : List (Body S)). reverse bs) e ∙ reversed rest creator) r.waiting)
+        go : Turned s.stage current above cells output tasks → Goes P main first s.stage creator rest (direct_cells (act_now P current) cells) (printed_after (act_now P current) output) tasks
+        go r = up (subst (λ (bs : List (Body S)). AreWaiting P s.stage.state bs s.stage.active) (ap (λ (bs : List (Body S)). reverse bs) e ∙ reversed rest creator) r.waiting)
           where
-            up : AreWaiting P r.before.state (creator ∷ reverse rest) r.before.active → Stands P main first creator rest (direct_cells (act_now P current) cells) (printed_after (act_now P current) output) tasks
+            up : AreWaiting P s.stage.state (creator ∷ reverse rest) s.stage.active → Goes P main first s.stage creator rest (direct_cells (act_now P current) cells) (printed_after (act_now P current) output) tasks
             up (k, p, at_, alive, w) =
-                let a : r.stage.active ≡ creator.start.path = r.active ∙ active_up P (whole_task current) r.before.active (found_by (act_now P current) cells) n ended ∙ ap path_above p in
-                let t : IsSuffix (k ∷ creator.start.path) r.before.active = subst (λ (q : List ℕ). IsSuffix q r.before.active) p whole in
-                record {
+                let a : r.stage.active ≡ creator.start.path = r.active ∙ active_up P (whole_task current) s.stage.active (found_by (act_now P current) cells) n ended ∙ ap path_above p in
+                let t : IsSuffix (k ∷ creator.start.path) s.stage.active = subst (λ (q : List ℕ). IsSuffix q s.stage.active) p whole in
+                let next : Stands P main first creator rest (direct_cells (act_now P current) cells) (printed_after (act_now P current) output) tasks = record {
                   stage = r.stage;
                   run = r.run;
                   cells_are = r.cells_are;
@@ -204,39 +208,38 @@ module _ {S : Type 0} (P : Program S) (main : Start S) (first : List ℕ) where
                   path = a;
                   at_ = subst (λ (q : List ℕ). At r.stage.state q (whole_task creator)) (sym a) (r.same creator.start.path k (whole_task creator) t at_);
                   alive = alive;
-                  waiting = subst (λ (q : List ℕ). AreWaiting P r.stage.state (reverse rest) q) (sym a) (waits_stay r.before r.stage r.same (reverse rest) creator.start.path (shorter t) w);
-                }
+                  waiting = subst (λ (q : List ℕ). AreWaiting P r.stage.state (reverse rest) q) (sym a) (waits_stay s.stage r.stage r.same (reverse rest) creator.start.path (shorter t) w);
+                } in
+                record { stands = next; runs = r.runs }
 
     -- Main has ended.
     pub ends_all : ((o : Order S) → act_now P current ≢ Created o false) → is_ended P (answered (found_by (act_now P current) cells) current) ≡ true → above ≡ []
-        → (entries : ℕ) × IsOutcome P main first (record { answer = answers.Done (printed_after (act_now P current) output) (direct_cells (act_now P current) cells); tasks = tasks; entries = entries })
+        → Ends P main first s.stage (direct_cells (act_now P current) cells) (printed_after (act_now P current) output) tasks
     ends_all n ended e =
         let r = turned current above cells output tasks s g in
-        let m : r.before.active ≡ [] = subst (λ (bs : List (Body S)). AreWaiting P r.before.state bs r.before.active) (ap (λ (bs : List (Body S)). reverse bs) e) r.waiting in
-        let a : r.stage.active ≡ [] = r.active ∙ active_up P (whole_task current) r.before.active (found_by (act_now P current) cells) n ended ∙ ap path_above m in
+        let m : s.stage.active ≡ [] = subst (λ (bs : List (Body S)). AreWaiting P s.stage.state bs s.stage.active) (ap (λ (bs : List (Body S)). reverse bs) e) r.waiting in
+        let a : r.stage.active ≡ [] = r.active ∙ active_up P (whole_task current) s.stage.active (found_by (act_now P current) cells) n ended ∙ ap path_above m in
         let over : act_now P (answered (found_by (act_now P current) cells) current) ≡ Over = over_stops P current.start (found_by (act_now P current) cells ∷ current.found) ended in
         let end : IsAtEnd P r.stage = record {
           task = whole_task (answered (found_by (act_now P current) cells) current);
           at_ = subst (λ (q : List ℕ). At r.stage.state q (whole_task (answered (found_by (act_now P current) cells) current))) (m ∙ sym a) r.own;
           stops = subst IsHalt (sym over) tt;
-        } in (
-          entries_in r.stage.state,
-          subst (λ (x : Outcome). IsOutcome P main first x) (λ i. record { answer = answers.Done (r.output_is i) (r.cells_are i); tasks = r.plain_tasks n i; entries = entries_in r.stage.state }) (ends r.run end over),
-        )
+        } in
+        record { stage = r.stage; run = r.run; runs = r.runs; at_main = a; end = end; over = over; cells_are = r.cells_are; output_is = r.output_is; tasks_are = r.plain_tasks n }
 
     -- The body creates a task, which runs.
     pub goes_down : Setting main first → (o : Order S) → act_now P current ≡ Created o false
-        → Stands P main first (new_task P current o).body (above ++ answered (found_by (act_now P current) cells) current ∷ []) (direct_cells (act_now P current) cells) (printed_after (act_now P current) output) (more_tasks tasks)
+        → Goes P main first s.stage (new_task P current o).body (above ++ answered (found_by (act_now P current) cells) current ∷ []) (direct_cells (act_now P current) cells) (printed_after (act_now P current) output) (more_tasks tasks)
     goes_down setting o a =
         let r = turned current above cells output tasks s g in
         let b = answered (found_by (act_now P current) cells) current in
-        let d : r.stage.active ≡ created_now P current ∷ r.before.active = r.active ∙ active_down P (whole_task current) r.before.active (found_by (act_now P current) cells) o a in
+        let d : r.stage.active ≡ created_now P current ∷ s.stage.active = r.active ∙ active_down P (whole_task current) s.stage.active (found_by (act_now P current) cells) o a in
         let at_ : At r.stage.state r.stage.active (new_task P current o) = subst (λ (q : List ℕ). At r.stage.state q (new_task P current o)) (sym d) (r.made o a) in
         let alive : is_ended P b ≡ false = created_alive (whole_task current) (found_by (act_now P current) cells) o a in
-        let w : AreWaiting P r.stage.state (reverse above) b.start.path = subst (λ (q : List ℕ). AreWaiting P r.stage.state (reverse above) q) r.path (waits_stay r.before r.stage r.same (reverse above) r.before.active whole r.waiting) in
+        let w : AreWaiting P r.stage.state (reverse above) b.start.path = subst (λ (q : List ℕ). AreWaiting P r.stage.state (reverse above) q) r.path (waits_stay s.stage r.stage r.same (reverse above) s.stage.active whole r.waiting) in
         let own : At r.stage.state b.start.path (whole_task b) = subst (λ (q : List ℕ). At r.stage.state q (whole_task b)) r.path r.own in
         let wait : AreWaiting P r.stage.state (b ∷ reverse above) r.stage.active = (created_now P current, d ∙ ap (λ (q : List ℕ). created_now P current ∷ q) r.path, own, alive, w) in
-        record {
+        let below : Stands P main first (new_task P current o).body (above ++ answered (found_by (act_now P current) cells) current ∷ []) (direct_cells (act_now P current) cells) (printed_after (act_now P current) output) (more_tasks tasks) = record {
           stage = r.stage;
           run = r.run;
           cells_are = r.cells_are;
@@ -246,7 +249,14 @@ module _ {S : Type 0} (P : Program S) (main : Start S) (first : List ℕ) where
           at_ = at_;
           alive = begun_alive (new_task P current o).body.start;
           waiting = subst (λ (bs : List (Body S)). AreWaiting P r.stage.state bs r.stage.active) (sym (reversed above b)) wait;
-        }
+        } in
+        record { stands = below; runs = r.runs }
+
+  -- What the run gives at its end.
+  pub ended_outcome : (z : Running S) (cells output : List ℕ) (tasks : ℕ) → Ends P main first z cells output tasks
+      → (entries : ℕ) × IsOutcome P main first (record { answer = answers.Done output cells; tasks = tasks; entries = entries })
+  ended_outcome z cells output tasks e =
+      (entries_in e.stage.state, subst (λ (x : Outcome). IsOutcome P main first x) (λ i. record { answer = answers.Done (e.output_is i) (e.cells_are i); tasks = e.tasks_are i; entries = entries_in e.stage.state }) (ends e.run e.end e.over))
 
   -- The body stands before a fault.
   pub stops : (current : Body S) (above : List (Body S)) (cells output : List ℕ) (tasks : ℕ) (kind : FaultKind) (line : ℕ) (key : List ℕ) → Stands P main first current above cells output tasks → act_now P current ≡ Fault kind line key

@@ -4,6 +4,8 @@
 use Rattle.std.specs.Prelude.{◌≡◌, ◌<◌, ℕ, ◌+◌, ◌-◌, ◌^◌, min, false, List, [], ◌∷◌, ◌++◌, slice_index}
 use Rattle.oss_model.specs.Bodies.{Body, Order, Start, child_start, stack_from, stage_act}
 use Rattle.oss_model.specs.Bodies.Act.{Created}
+use Rattle.oss_model.specs.Moves.{opening}
+use Rattle.oss_model.specs.Sequence.{RunsOn}
 use Rattle.oss_model.specs.declared.answer.Answer.TheVariants as answers
 use Rattle.oss_meaning.specs.Results.{IsOutcome}
 use Rattle.oss_code.specs.declared.code.CodeParts.{CodeParts}
@@ -20,7 +22,7 @@ use Rattle.oss_serial.specs.declared.stage.Turned.{Turned}
 use Rattle.oss_serial.specs.declared.stage.Turned.TheVariants as turned
 use Rattle.oss_serial.specs.declared.turn.Turn.{Turn}
 use Rattle.oss_serial.specs.declared.turn.Turn.TheVariants as turns
-use Rattle.oss_serial.specs.Turns.{Stands}
+use Rattle.oss_serial.specs.Turns.{Ends, Stands}
 
 -- What comes of a body by its next act: it goes on with what a load finds, or with 0; it creates a task; or a fault stops it.
 abbrev pub turn_of : Act → List ℕ → Turn
@@ -43,6 +45,11 @@ pub record IsStage (code : CodeParts) (main : Start CodeScript) (first : List �
   pub are_above : AreBodies code above s.above
   pub stands : Stands (asks code) main first current above s.cells.items s.output.items s.tasks
 
+-- The kept stage is the first one of the run.
+pub record IsFirstStage (code : CodeParts) (main : Start CodeScript) (first : List ℕ) (s : Stage) : Type 0 where
+  pub stage : IsStage code main first s
+  pub opens : stage.stands.stage ≡ record { state = opening main first; active = []; printed = [] }
+
 -- What is left to do
 
 -- the bodies together
@@ -54,12 +61,17 @@ bodies_left code (b ∷ bs) = body_left code b + bodies_left code bs
 abbrev pub left_at : CodeParts → Stage → ℕ
 left_at code s = body_left code s.current + bodies_left code s.above
 
--- What a turn makes of a stage: another stage, with less to do; or the run is at its end, and this is what it gives.
-abbrev pub IsTurned : CodeParts → Start CodeScript → List ℕ → Stage → Stage → Turned → Type 0
-IsTurned code main first old new turned.On = IsStage code main first new × (left_at code new < left_at code old)
-IsTurned code main first old new turned.Ended =
-    (entries : ℕ) × IsOutcome (asks code) main first (record { answer = answers.Done new.output.items new.cells.items; tasks = new.tasks; entries = entries })
-IsTurned code main first old new (turned.Failed kind line) =
+-- The stage behind a stage of the run: an act of the run leads there, and there is less left to do.
+pub record IsNext (code : CodeParts) (main : Start CodeScript) (first : List ℕ) (old : Stage) (was : IsStage code main first old) (new : Stage) : Type 0 where
+  pub stage : IsStage code main first new
+  pub runs : RunsOn (asks code) was.stands.stage stage.stands.stage
+  pub less : left_at code new < left_at code old
+
+-- What a turn makes of a stage: the next one; or an act of the run leads to its end, where this is what it has; or a fault stops the run, and this is what it gives.
+abbrev pub IsTurned : (code : CodeParts) (main : Start CodeScript) (first : List ℕ) (old : Stage) → IsStage code main first old → Stage → Turned → Type 0
+IsTurned code main first old was new turned.On = IsNext code main first old was new
+IsTurned code main first old was new turned.Ended = Ends (asks code) main first was.stands.stage new.cells.items new.output.items new.tasks
+IsTurned code main first old was new (turned.Failed kind line) =
     (entries : ℕ) × IsOutcome (asks code) main first (record { answer = answers.Fault kind line new.output.items; tasks = new.tasks; entries = entries })
 
 -- All but the bodies is as it was.

@@ -5,4 +5,5 @@ mod run;
 mod stage;
 mod turn;
 
-pub use run::{Ran, serial};
+pub use run::{Ran, begin, serial};
+pub use stage::{Stage, Turned};

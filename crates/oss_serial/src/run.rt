@@ -4,7 +4,7 @@ ghost use Rattle.std.specs.Prelude.{◌≤◌, length, IfOk};
 ghost use Rattle.oss_model.specs.Agreement.{Setting};
 ghost use Rattle.oss_body.specs.Mains.{code_main};
 ghost use Rattle.oss_serial.specs.Runs.{IsRan};
-ghost use Rattle.oss_serial.specs.Stages.{IsStage};
+ghost use Rattle.oss_serial.specs.Stages.{IsFirstStage};
 
 use crate::stage::{Stage, Turned};
 use oss_body::{main_body, main_is_set};
@@ -39,10 +39,10 @@ pub fn serial(alloc: Global, code: &Code, fuel: u32) -> Result<Ran, AllocError>
     }
 }
 
-/// The run at its beginning.
-fn begin(alloc: Global, code: &Code, fuel: u32) -> Result<Stage, AllocError>
+/// The run at its beginning, each task with fuel for so many ticks. Want of memory is the one error. Condition: the code has at most 1,048,576 cells.
+pub fn begin(alloc: Global, code: &Code, fuel: u32) -> Result<Stage, AllocError>
     requires { length code.now.first ≤ 1048576 }
-    ensures stage { IfOk result (λ stage. IsStage code.now (code_main code.now fuel) code.now.first stage) }
+    ensures stage { IfOk result (λ stage. IsFirstStage code.now (code_main code.now fuel) code.now.first stage) }
     ensures setting { IfOk result (λ stage. Setting (code_main code.now fuel) code.now.first) }
 {
     main_is_set(code, fuel);

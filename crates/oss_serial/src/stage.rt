@@ -1,4 +1,4 @@
-//! A stage of the sequential run, and how it goes on.
+//! A stage of the sequential run, and how it goes on. Who follows the run act by act calls `Stage::turn` itself.
 
 ghost use Rattle.std.specs.Prelude.{◌≡◌, List as Items, ℕ, true, false, IfOk, OnOk};
 ghost use Rattle.oss_model.specs.Agreement.{Setting};
@@ -46,7 +46,7 @@ impl Stage {
     /// After want of memory the run is given up.
     pub fn turn(&mut self, code: &Code) -> Result<Turned, AllocError>
         requires running { is_over self.old.current ≡ false }
-        ensures { IfOk result (λ turned. (main : Start CodeScript) (first : Items ℕ) → Setting main first → IsStage code.now main first self.old → IsTurned code.now main first self.old self.new turned) }
+        ensures { IfOk result (λ turned. (main : Start CodeScript) (first : Items ℕ) → Setting main first → (was : IsStage code.now main first self.old) → IsTurned code.now main first self.old was self.new turned) }
     {
         match happen(self.current.pending(), &mut self.cells, &mut self.output)? {
             Turn::Goes(loaded) => {

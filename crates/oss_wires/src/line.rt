@@ -109,6 +109,7 @@ impl Line {
         ensures gave { self.new.hangs ≡ gave_in self.old.hangs at }
         ensures given { IsGift (wires_of self.old.hangs) (wires_of self.new.hangs) at }
         ensures rooms { self.new.rooms ≡ self.old.rooms }
+        ensures room { HasRoom self.old → HasRoom self.new }
     {
         self.head = queue::give(
             self.hangs.as_mut_slice(),
@@ -126,6 +127,7 @@ impl Line {
         ensures hangs { self.new.hangs ≡ self.old.hangs }
         ensures rest { self.new.head ≡ 0 }
         ensures rooms { self.new.rooms ≡ self.old.rooms }
+        ensures room { HasRoom self.old → HasRoom self.new }
     {
         queue::settle(
             self.hangs.as_slice(),

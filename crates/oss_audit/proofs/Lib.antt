@@ -1,0 +1,12 @@
+pub mod PlaceLemmas
+pub mod ActingLemmas
+pub mod FollowLemmas
+pub mod ListLemmas
+pub mod RunLemmas
+pub mod ResultLemmas
+pub mod PathLemmas
+pub mod WayLemmas
+pub mod TakenLemmas
+pub mod FollowingLemmas
+pub mod DepthLemmas
+pub mod AuditLemmas

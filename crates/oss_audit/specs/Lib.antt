@@ -1,0 +1,10 @@
+pub mod Unused
+pub mod Trails
+pub mod CellSets
+pub mod Runs
+pub mod Watches
+pub mod Following
+pub mod Auditing
+pub mod Audits
+pub mod Lines
+pub mod Reply

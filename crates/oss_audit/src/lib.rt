@@ -1,0 +1,16 @@
+//! The audit of a program: what its clauses name and its tasks never touch.
+#![tactic(auto)]
+
+mod begun;
+mod cells;
+mod lines;
+mod run;
+mod runs;
+#[cfg(test)]
+mod tests;
+mod unused;
+mod watch;
+
+pub use lines::audit_lines;
+pub use run::audit;
+pub use unused::{AuditRun, Unused};

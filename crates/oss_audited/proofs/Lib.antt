@@ -1,0 +1,2 @@
+pub mod MovedAudits
+pub mod OneAudit

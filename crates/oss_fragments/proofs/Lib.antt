@@ -1,0 +1,11 @@
+pub mod SearchLemmas
+pub mod StretchLemmas
+pub mod WalkLemmas
+pub mod EntryLemmas
+pub mod DivideLemmas
+pub mod CutLemmas
+pub mod CoverLemmas
+pub mod RoomLemmas
+pub mod ViewLemmas
+pub mod OpenLemmas
+pub mod GiveLemmas

@@ -1,0 +1,5 @@
+pub mod Here
+pub mod Kept
+pub mod Stretches
+pub mod Changes
+pub mod Visits

@@ -1,0 +1,150 @@
+ghost use Rattle.std.specs.Prelude.{◌≡◌, ◌≤◌, ◌<◌, ◌||◌, ℕ, List as Items, IfNone, IfSome, MatchBool, MatchOption, OnErr, OnOk, false, true};
+ghost use Rattle.oss_syntax.specs.declared.access.Access.{Access as Meant};
+ghost use Rattle.oss_deps.specs.Opens.{IsRising, access_at};
+ghost use Rattle.oss_deps.specs.Seen.{in_range, is_access_end, is_end};
+ghost use Rattle.oss_wires.specs.Flags.{Flag, Means, has};
+ghost use Rattle.oss_wires.specs.Tables.{wires_of};
+ghost use Rattle.oss_fragments.specs.Here.{AreEntries, IsEntry, IsGivenUp, IsOpened, IsShown, MayHang, bare};
+ghost use Rattle.oss_fragments.specs.Kept.{here_at, is_cut};
+ghost use Rattle.oss_fragments.specs.Stretches.{AreReady};
+ghost use Rattle.oss_fragments.specs.Visits.{IsPartOf};
+
+use crate::cutting::{ask_all, ask_ends};
+use crate::fragment::Fragment;
+use crate::giving::give_over;
+use crate::opening::open_all;
+use crate::reserving::{make_ready, split_around};
+use crate::splitting::cover;
+use oss_ranges::RangeMap;
+use oss_syntax::{Access, Range};
+use oss_wires::Marks;
+use std::alloc::{AllocError, Global};
+use std::marker::Model;
+
+/// The accesses to all cells of a program. Accesses that overlap in part are cut into fragments, after Perez, Beltran, Labarta and Ayguadé
+/// (IPDPS 2017): cells that no cut divides are one fragment, and have one line of accesses; at a cut the line is copied. What a call costs
+/// is told by the fragments that it comes to, and not by their cells; a cut costs the accesses of the fragment that it divides. An
+/// access takes 84 bytes in each of its fragments, and up to twice that where tables have grown. All flags that are due stand between
+/// two calls. After want of memory each cell has the accesses that it had.
+#[derive(Drop)]
+pub struct Fragments {
+    alloc: Global,
+    map: RangeMap<usize>,
+    fragments: Vec<Fragment>,
+    ended: bool,
+}
+
+impl Model for Fragments {
+    ghost use Rattle.oss_fragments.specs.Kept.{Kept};
+
+    ghost Value = { Kept };
+
+    ghost use Rattle.oss_fragments.specs.Stretches.{AreFragments};
+
+    ghost view = { λ f. record { fragments = f.fragments.items; pieces = f.map.pieces; ended = f.ended } };
+
+    ghost invariant = { λ f. AreFragments f.map.pieces f.fragments.items };
+}
+
+impl Fragments {
+    /// Each cell has main's access alone, and there is no cut. It takes no memory.
+    pub fn new(alloc: Global) -> Fragments
+        ensures here { (c : ℕ) → here_at result c ≡ bare }
+        ensures cuts { (k : ℕ) → is_cut result k ≡ false }
+    {
+        Fragments {
+            alloc,
+            map: RangeMap::new(alloc),
+            fragments: Vec::new(alloc),
+            ended: false,
+        }
+    }
+
+    /// Makes room for one more access to each cell of these, so that `open` with them takes no memory. Other accesses that are ready stay so.
+    /// Err: memory is wanting. In both cases each cell has the accesses that it had, and no cut is new.
+    pub fn reserve(&mut self, accesses: &[Access]) -> Result<(), AllocError>
+        ensures ok { OnOk result (AreReady accesses.now self.new.fragments) }
+        ensures here { (c : ℕ) → here_at self.new c ≡ here_at self.old c }
+        ensures cuts { (k : ℕ) → is_cut self.new k ≡ is_cut self.old k }
+        ensures ready { (others : Items Meant) → AreReady others self.old.fragments → AreReady others self.new.fragments }
+    {
+        cover(self.alloc, &mut self.map, &mut self.fragments)?;
+        make_ready(&mut self.map, &mut self.fragments, accesses)
+    }
+
+    /// The ends of a range become cuts. Err: memory is wanting, and no cut is new. In both cases each cell has the accesses that it had, and
+    /// accesses that are ready stay so.
+    pub fn prepare(&mut self, range: Range) -> Result<(), AllocError>
+        ensures ok { OnOk result ((k : ℕ) → is_cut self.new k ≡ (is_cut self.old k || is_end range k)) }
+        ensures err { OnErr result ((k : ℕ) → is_cut self.new k ≡ is_cut self.old k) }
+        ensures here { (c : ℕ) → here_at self.new c ≡ here_at self.old c }
+        ensures ready { (accesses : Items Meant) → AreReady accesses self.old.fragments → AreReady accesses self.new.fragments }
+    {
+        cover(self.alloc, &mut self.map, &mut self.fragments)?;
+        split_around(&mut self.map, &mut self.fragments, range)?;
+        ask_ends(&self.map, &mut self.fragments, &mut self.ended, range);
+        Ok(())
+    }
+
+    /// Opens a task, by the number of its open, below its creator: in each cell of an access it hangs behind the other children there. The ends of
+    /// the accesses become cuts. It takes no memory. Condition: room was made for the accesses; they rise; and in each of their cells
+    /// the creator has an access that it has not given up and that covers the new one, and no task of this number or a greater one was opened.
+    pub fn open(&mut self, number: usize, parent: usize, accesses: &[Access])
+        requires rising { IsRising accesses.now }
+        requires ready { AreReady accesses.now self.old.fragments }
+        requires may { (c : ℕ) → IfSome (access_at accesses.now c) (λ a. MayHang number parent a.mode (here_at self.old c)) }
+        ensures opened { (c : ℕ) → MatchOption (access_at accesses.now c) (here_at self.new c ≡ here_at self.old c) (λ a. IsOpened number parent a.mode (here_at self.old c) (here_at self.new c)) }
+        ensures cuts { (k : ℕ) → is_cut self.new k ≡ (is_cut self.old k || is_access_end accesses.now k) }
+    {
+        open_all(&self.map, &mut self.fragments, number, parent, accesses);
+        ask_all(&self.map, &mut self.fragments, &mut self.ended, accesses);
+    }
+
+    /// A task gives up the cells of a range. It takes no memory. Condition: both ends of the range are cuts, and the task has an access to
+    /// each of its cells.
+    pub fn give(&mut self, number: usize, range: Range)
+        requires begins { is_cut self.old range.lo ≡ true }
+        requires ends { is_cut self.old range.hi ≡ true }
+        requires shown { (c : ℕ) → range.lo ≤ c → c < range.hi → IsShown number (here_at self.old c) }
+        ensures given { (c : ℕ) → MatchBool (in_range range c) (IsGivenUp number (here_at self.old c) (here_at self.new c)) (here_at self.new c ≡ here_at self.old c) }
+        ensures cuts { (k : ℕ) → is_cut self.new k ≡ is_cut self.old k }
+        ensures ready { (accesses : Items Meant) → AreReady accesses self.old.fragments → AreReady accesses self.new.fragments }
+    {
+        give_over(&self.map, &mut self.fragments, number, range);
+    }
+
+    /// The flags of the access of a task to a cell: each stands exactly where what it says is so. It costs the logarithms of the numbers of
+    /// fragments and of accesses, and takes no memory. Condition: the task is not main, and has an access to the cell.
+    pub fn flags(&self, number: usize, cell: u32) -> Marks
+        requires bound { cell < 1048576 }
+        requires shown { IsShown number (here_at self.now cell) }
+        ensures sound { (f : Flag) (v : ℕ) → IsEntry (here_at self.now cell) number v → has f result ≡ true → Means (wires_of (here_at self.now cell).hangs) f v }
+        ensures complete { (f : Flag) (v : ℕ) → IsEntry (here_at self.now cell) number v → Means (wires_of (here_at self.now cell).hangs) f v → has f result ≡ true }
+    {
+        match self.at(cell) {
+            Some(fragment) => fragment.flags(number),
+            None => unreachable!(),
+        }
+    }
+
+    /// In each cell, each access is that of one task. It does nothing.
+    pub fn have_entries(&self)
+        ensures { (c : ℕ) → AreEntries (here_at self.now c) }
+    {
+        // the invariant is known where a field is read
+        let _ = &self.alloc;
+    }
+
+    /// The fragment of a cell, and so the accesses to all cells up to its end. None where no cell has an access but main's. It takes no
+    /// memory, and costs the logarithm of the number of fragments. Condition: a program may have the cell.
+    pub fn at(&self, cell: u32) -> Option<&Fragment>
+        requires { cell < 1048576 }
+        ensures found { IfSome result (λ a. IsPartOf self.now cell a.now) }
+        ensures none { IfNone result ((c : ℕ) → here_at self.now c ≡ bare) }
+    {
+        match self.map.get(cell) {
+            Some(at) => Some(&self.fragments[at]),
+            None => None,
+        }
+    }
+}

@@ -1,0 +1,24 @@
+ghost use Rattle.std.specs.Prelude.{◌≡◌, ◌<◌, ℕ, IfNone, IfSome, Some, slice_get};
+
+/// Where a number stands among numbers that rise. It costs the logarithm of how many there are.
+pub(crate) fn place_of(numbers: &[usize], number: usize) -> Option<usize>
+    requires { (j k s t : ℕ) → slice_get numbers.now j ≡ Some s → slice_get numbers.now k ≡ Some t → j < k → s < t }
+    ensures found { IfSome result (λ at. slice_get numbers.now at ≡ Some number) }
+    ensures none { IfNone result ((at : ℕ) → slice_get numbers.now at ≡ Some number → ⊥) }
+{
+    let mut lo = 0;
+    let mut hi = numbers.len();
+    'halves: while lo < hi {
+        let middle = lo + (hi - lo) / 2;
+        let here = numbers[middle];
+        if here == number {
+            return Some(middle);
+        }
+        if here < number {
+            lo = middle + 1;
+        } else {
+            hi = middle;
+        }
+    }
+    None
+}

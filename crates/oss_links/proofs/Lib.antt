@@ -1,0 +1,13 @@
+pub mod HeldLemmas
+pub mod GrowLemmas
+pub mod AlikeLemmas
+pub mod ConditionLemmas
+pub mod ReadLemmas
+pub mod MetLemmas
+pub mod ChildLemmas
+pub mod SearchLemmas
+pub mod WayLemmas
+pub mod NumberLemmas
+pub mod OpeningLemmas
+pub mod CellLemmas
+pub mod ClaimLemmas

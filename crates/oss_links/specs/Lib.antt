@@ -1,0 +1,5 @@
+pub mod Claims
+pub mod Held
+pub mod Numbers
+pub mod Readings
+pub mod Search

@@ -1,0 +1,15 @@
+pub mod TableLemmas
+pub mod CloseLemmas
+pub mod WalkLemmas
+pub mod ToldLemmas
+pub mod FrameLemmas
+pub mod ActLemmas
+pub mod SealLemmas
+pub mod ActedLemmas
+pub mod OpenLemmas
+pub mod EndedLemmas
+pub mod WayLemmas
+pub mod StepLemmas
+pub mod TurnWays
+pub mod SpanLemmas
+pub mod EdgeLemmas

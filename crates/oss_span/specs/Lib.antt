@@ -1,0 +1,9 @@
+pub mod Bests
+pub mod Changes
+pub mod Acts
+pub mod Tables
+pub mod Frames
+pub mod Links
+pub mod Shown
+pub mod Passes
+pub mod Spans

@@ -1,0 +1,15 @@
+//! How parallel a program can be at best: its ticks, and a longest chain of acts that each wait for the one before.
+#![tactic(auto)]
+
+mod best;
+mod close;
+mod frame;
+mod link;
+mod marks;
+mod node;
+mod pass;
+mod run;
+mod table;
+mod walk;
+
+pub use link::{Link, SpanRun};
