@@ -21,7 +21,7 @@
 #   end: no newline       where the newline at the end of the file does not belong to the program
 #   program:              what stands behind this line is the program, to the end of the file
 # It is called in a folder that holds nothing but the program, as p.c, and the schedule, where the case has one, as s.txt. A run without a mode is called in the mode
-# serial too, and a trace is replayed.
+# serial too, and a trace is made over the other dependency system too, and replayed.
 top=$(CDPATH='' cd -- "$(dirname -- "$0")/.." && pwd) || exit 1
 program=${1:-$top/nest6}
 case $program in
@@ -108,6 +108,7 @@ follow() {
   wanted_trace=$work/trace
   [ -f "$1.trace" ] && wanted_trace=$1.trace
   judge "the trace of examples/$1.c" "$status" "$wanted_trace" "$err" "$got"
+  expect "the trace of examples/$1.c over the plain lists" "$status" "$wanted_trace" "$err" trace "$1.c" --deps=plain
   expect "the trace of examples/$1.c, replayed" "$status" "$out" "$err" replay "$1.c" "$work/trace"
 }
 
@@ -214,14 +215,18 @@ for file in "$top"/tests/cases/*/*.case; do
       # shellcheck disable=SC2086
       expect "${file#"$top"/} in serial mode" "$status" "$work/wanted_out" "$work/wanted_err" $words --mode=serial
       ;;
-    [01]' trace p.c') replay_trace "${file#"$top"/}" ;;
+    [01]' trace p.c')
+      replay_trace "${file#"$top"/}"
+      # Both dependency systems have the same trace.
+      expect "${file#"$top"/} over the plain lists" "$status" "$work/wanted_out" "$work/wanted_err" trace p.c --deps=plain
+      ;;
   esac
   set +f
 done
 
 mkdir "$work/words"
 cd "$work/words" || exit 1
-echo 'usage: nest6 run FILE | check FILE | trace FILE | replay FILE SCHEDULE | soak NUMBER SIZE' >usage
+echo 'usage: nest6 run FILE | check FILE | trace FILE | replay FILE SCHEDULE | soak NUMBER SIZE | audit FILE' >usage
 echo 'refused: NoMain at line 1' >no_main
 echo 'refused: Lexical at line 2' >lexical
 echo 'refused: TooLarge at line 1' >too_large

@@ -3,12 +3,14 @@
 -- twice, by its name, or whose value is out of form.
 -- Read against: no words, `run`, `run a.c b.c`, `run -a`, `run a.c --fuel=0`, `run a.c --fuel=01`, `run a.c --fuel=5 --fuel=5`, `run a.c --dump=1`, `run a.c --mode=workers` and `check
 -- a.c --fuel=5` are refused; `run --dump a.c --workers=64` asks to run the file `a.c` by waves with a dump, 64 workers and fuel for 1,000,000 ticks a task. `run a.c --deps=plain` and
--- `run a.c --mode=serial` are runs by waves and one task after the other; both options together are refused, and so is `run a.c --deps=regions`.
+-- `run a.c --mode=serial` are runs by waves, over the plain lists, and one task after the other; both options together are refused, and so is `run a.c --deps=words`.
 -- And: `replay a.c s.txt` asks to replay the schedule in the file `s.txt` on the program in `a.c`, with fuel for 1,000,000 ticks a task, and `replay --fuel=5 a.c s.txt` with fuel for 5;
 -- `replay a.c`, `replay a.c s.txt t.txt`, `replay a.c s.txt --dump` and `replay a.c --fuel=0 s.txt` are refused.
 -- And: `trace a.c --fuel=5` asks for the trace of the run by waves of `a.c`, and `trace a.c --mode=waves`, `trace a.c --dump` and `trace a.c --workers=4` are refused. `soak 7 9` asks
 -- to run the generated program from 7 on with 9 tasks; `soak 18446744073709551615 9000 --mode=serial` is one too, and `soak 7`, `soak 07 9`, `soak 7 0`, `soak 7 9001`, `soak 7 9 --fuel=5`
 -- and `soak 18446744073709551616 9` are refused.
+-- And: `audit a.c` asks for what the tasks of the program in `a.c` name and never touch, with fuel for 1,000,000 ticks a task, and `audit --fuel=5 a.c` with fuel for 5; `audit`, `audit a.c b.c`,
+-- `audit a.c --dump` and `audit a.c --fuel=0` are refused.
 use Rattle.std.specs.Prelude.{◌≡◌, ◌<◌, ℕ, Bool, true, false, not, ◌&&◌, ◌||◌, ◌==◌, if◌then◌else◌, nat_le, List, [], ◌∷◌, ◌++◌, length, take, drop, Option, Some, None, Result, Ok, Err, codes, option_map}
 use Rattle.std.specs.Str.{bytes_eq}
 use Rattle.oss_sched.specs.Reading.{number_in}
@@ -22,13 +24,14 @@ use Rattle.oss_command.specs.declared.command.Command.TheVariants as told
 use Rattle.oss_command.specs.declared.command.WordsRefused.{WordsRefused}
 
 -- What is asked for, of the program in the file of this name. A replay is of the schedule in a second file, and each task in it has so much fuel. A soak is a run of a program without a
--- file: the generated one from a number on, of so many tasks.
+-- file: the generated one from a number on, of so many tasks. An audit is what its tasks name and never touch, where each has so much fuel.
 pub data Command : Type 0 where
   run : (file : List ℕ) (options : Options) → Command
   check : (file : List ℕ) → Command
   trace : (file : List ℕ) (options : Options) → Command
   replay : (file schedule : List ℕ) (fuel : ℕ) → Command
   soak : (number size : ℕ) (options : Options) → Command
+  audit : (file : List ℕ) (fuel : ℕ) → Command
 
 -- the name of the file with its program, where it has one
 abbrev pub file_of : Command → Option (List ℕ)
@@ -37,6 +40,7 @@ file_of (check file) = Some file
 file_of (trace file options) = Some file
 file_of (replay file schedule fuel) = Some file
 file_of (soak number size options) = None
+file_of (audit file fuel) = Some file
 
 -- the name of the file with its schedule, where it has one
 abbrev pub schedule_of : Command → Option (List ℕ)
@@ -45,6 +49,7 @@ schedule_of (check file) = None
 schedule_of (trace file options) = None
 schedule_of (replay file schedule fuel) = Some schedule
 schedule_of (soak number size options) = None
+schedule_of (audit file fuel) = None
 
 -- Operands
 
@@ -112,12 +117,16 @@ mode_by absent = Some mode.Waves
 mode_by (once v) = if bytes_eq v (codes "serial") then Some mode.Serial else if bytes_eq v (codes "waves") then Some mode.Waves else None
 mode_by again = None
 
--- The dependency system of a run in this mode: there is one, and it may be named where the run is by waves.
+-- The dependency system with this name.
+abbrev pub system_by : List ℕ → Option DepsKind
+system_by v = if bytes_eq v (codes "regions") then Some deps.Regions else if bytes_eq v (codes "plain") then Some deps.Plain else None
+
+-- The dependency system of a run in this mode: there is one, regions where nothing is said, and it may be named where the run is by waves.
 abbrev pub deps_by : Option RunMode → Standing → Option DepsKind
-deps_by (Some mode.Waves) (once v) = if bytes_eq v (codes "plain") then Some deps.Plain else None
+deps_by (Some mode.Waves) (once v) = system_by v
 deps_by (Some mode.Serial) (once v) = None
 deps_by None (once v) = None
-deps_by m absent = Some deps.Plain
+deps_by m absent = Some deps.Regions
 deps_by m again = None
 
 -- an option without a value: whether it stands
@@ -153,9 +162,9 @@ is_trace_word w = is_operand w || is_there (behind deps_name w) || is_there (beh
 abbrev pub is_soak_word : List ℕ → Bool
 is_soak_word w = is_operand w || is_there (behind mode_name w) || is_there (behind deps_name w) || is_there (behind workers_name w)
 
--- a word that `replay` may have
-abbrev pub is_replay_word : List ℕ → Bool
-is_replay_word w = is_operand w || is_there (behind fuel_name w)
+-- a word that `replay` and `audit` may have
+abbrev pub is_fuel_word : List ℕ → Bool
+is_fuel_word w = is_operand w || is_there (behind fuel_name w)
 
 -- what the options say; none where one of them stands twice or has a value out of form
 abbrev pub options_by : Option RunMode → Option DepsKind → Option ℕ → Option ℕ → Option Bool → Option Options
@@ -170,7 +179,7 @@ fuel_in words = number_by 1 1000000000 1000000 (standing (values_of fuel_name wo
 abbrev pub mode_in : List (List ℕ) → Option RunMode
 mode_in words = mode_by (standing (values_of mode_name words))
 
--- The options of a run: where nothing is said, it is by waves, over the plain lists, with 4 workers, of 1 to 64, with fuel for 1,000,000 ticks a task, and without a dump.
+-- The options of a run: where nothing is said, it is by waves, over regions, with 4 workers, of 1 to 64, with fuel for 1,000,000 ticks a task, and without a dump.
 abbrev pub options_in : List (List ℕ) → Option Options
 options_in words = options_by (mode_in words) (deps_by (mode_in words) (standing (values_of deps_name words))) (number_by 1 64 4 (standing (values_of workers_name words))) (fuel_in words)
     (flag_by (standing (values_of dump_name words)))
@@ -186,6 +195,11 @@ run_of _ _ = None
 abbrev pub replay_of : Option (List ℕ × List ℕ) → Option ℕ → Option Command
 replay_of (Some (file, schedule)) (Some fuel) = Some (replay file schedule fuel)
 replay_of _ _ = None
+
+-- an audit of a file, if that and the fuel are there
+abbrev pub audit_of : Option (List ℕ) → Option ℕ → Option Command
+audit_of (Some file) (Some fuel) = Some (audit file fuel)
+audit_of _ _ = None
 
 -- a trace of a file with options, if both are there
 abbrev pub trace_of : Option (List ℕ) → Option Options → Option Command
@@ -215,7 +229,10 @@ abbrev pub check_asked : List (List ℕ) → Option Command
 check_asked words = if all_by is_operand words then option_map (λ file. check file) (the_one words) else None
 
 abbrev pub replay_asked : List (List ℕ) → Option Command
-replay_asked words = if all_by is_replay_word words then replay_of (the_two (operands_in words)) (fuel_in words) else None
+replay_asked words = if all_by is_fuel_word words then replay_of (the_two (operands_in words)) (fuel_in words) else None
+
+abbrev pub audit_asked : List (List ℕ) → Option Command
+audit_asked words = if all_by is_fuel_word words then audit_of (the_one (operands_in words)) (fuel_in words) else None
 
 abbrev pub trace_asked : List (List ℕ) → Option Command
 trace_asked words = if all_by is_trace_word words then trace_of (the_one (operands_in words)) (options_in words) else None
@@ -226,7 +243,7 @@ soak_asked words = if all_by is_soak_word words then soak_of (the_two (operands_
 abbrev pub asked_by : List ℕ → List (List ℕ) → Option Command
 asked_by word rest = if bytes_eq word (codes "run") then run_asked rest else if bytes_eq word (codes "check") then check_asked rest
     else if bytes_eq word (codes "trace") then trace_asked rest else if bytes_eq word (codes "replay") then replay_asked rest
-    else if bytes_eq word (codes "soak") then soak_asked rest else None
+    else if bytes_eq word (codes "soak") then soak_asked rest else if bytes_eq word (codes "audit") then audit_asked rest else None
 
 -- what the words ask for; none where they are refused
 abbrev pub asked_of : List (List ℕ) → Option Command
@@ -240,6 +257,7 @@ meant (told.Check file) = check file.now
 meant (told.Trace file options) = trace file.now options
 meant (told.Replay asked) = replay asked.file.now asked.schedule.now asked.fuel
 meant (told.Soak asked) = soak asked.number asked.size asked.options
+meant (told.Audit file fuel) = audit file.now fuel
 
 -- A command that runs a program has a worker at least.
 abbrev pub HasWorkers : Command → Type 0
@@ -248,6 +266,7 @@ HasWorkers (check file) = Unit {0}
 HasWorkers (trace file options) = 0 < options.workers
 HasWorkers (replay file schedule fuel) = Unit {0}
 HasWorkers (soak number size options) = 0 < options.workers
+HasWorkers (audit file fuel) = Unit {0}
 
 abbrev pub IsAskedBy : Option Command → Result Told WordsRefused → Type 0
 IsAskedBy command (Ok t) = command ≡ Some (meant t)
@@ -258,4 +277,4 @@ IsAsked words told = IsAskedBy (asked_of words) told
 
 -- what is told of words that are refused
 abbrev pub usage_line : List ℕ
-usage_line = codes "usage: nest6 run FILE | check FILE | trace FILE | replay FILE SCHEDULE | soak NUMBER SIZE" ++ 10 ∷ []
+usage_line = codes "usage: nest6 run FILE | check FILE | trace FILE | replay FILE SCHEDULE | soak NUMBER SIZE | audit FILE" ++ 10 ∷ []

@@ -2,11 +2,11 @@
 
 ghost use Rattle.std.specs.Prelude.{◌≡◌, ◌≤◌, map, option_map, Some, IfOk, IfSome};
 ghost use Rattle.std.specs.String.{string_bytes};
-ghost use Rattle.oss_command.specs.Commands.{HasWorkers, IsAsked, IsAskedBy, asked_by, check_asked, file_of, meant, replay_asked, run_asked, soak_asked, soak_of, trace_asked};
+ghost use Rattle.oss_command.specs.Commands.{HasWorkers, IsAsked, IsAskedBy, asked_by, audit_asked, check_asked, file_of, meant, replay_asked, run_asked, soak_asked, soak_of, trace_asked};
 ghost use Rattle.oss_command.specs.Commands.Command.{soak};
 
 use crate::operands::{
-    are_listed, are_operands, are_replay_words, are_soak_words, are_trace_words, the_operand,
+    are_fuel_words, are_listed, are_operands, are_soak_words, are_trace_words, the_operand,
     the_two_operands,
 };
 use crate::options::{Options, read_fuel, read_options};
@@ -38,6 +38,8 @@ pub enum Command<'w> {
     Replay(Replay<'w>),
     /// To run a generated program.
     Soak(Soak),
+    /// To tell which cells the tasks of the program in a file name and never touch, where a task may do so many ticks, 1 to 1,000,000,000; 1,000,000 where nothing is said.
+    Audit(&'w str, u32),
 }
 
 /// Why words are refused.
@@ -79,6 +81,9 @@ fn command_on<'w>(command: &str, rest: &'w [String]) -> Result<Command<'w>, Word
     }
     if command == "soak" {
         return soak_on(rest);
+    }
+    if command == "audit" {
+        return audit_on(rest);
     }
     Err(WordsRefused::Usage)
 }
@@ -137,7 +142,7 @@ fn replay_on(rest: &[String]) -> Result<Command<'_>, WordsRefused>
     ensures asked { IsAskedBy (replay_asked (map string_bytes rest.now)) result }
     ensures workers { IfOk result (λ told. HasWorkers (meant told)) }
 {
-    if !are_replay_words(rest) {
+    if !are_fuel_words(rest) {
         return Err(WordsRefused::Usage);
     }
     let Some((file, schedule)) = the_two_operands(rest) else {
@@ -170,6 +175,23 @@ fn soak_on(rest: &[String]) -> Result<Command<'_>, WordsRefused>
     }
 }
 
+/// What `audit` asks for with the words behind it.
+fn audit_on(rest: &[String]) -> Result<Command<'_>, WordsRefused>
+    ensures asked { IsAskedBy (audit_asked (map string_bytes rest.now)) result }
+    ensures workers { IfOk result (λ told. HasWorkers (meant told)) }
+{
+    if !are_fuel_words(rest) {
+        return Err(WordsRefused::Usage);
+    }
+    let Some(file) = the_operand(rest) else {
+        return Err(WordsRefused::Usage);
+    };
+    match read_fuel(rest) {
+        Some(fuel) => Ok(Command::Audit(file, fuel)),
+        None => Err(WordsRefused::Usage),
+    }
+}
+
 /// The soak that two words and options ask for.
 fn soak_by(number: &[u8], size: &[u8], options: Option<Options>) -> Option<Soak>
     ensures asked { option_map (λ asked. soak asked.number asked.size asked.options) result ≡ soak_of (Some (number.now, size.now)) options }
@@ -196,6 +218,7 @@ impl<'w> Command<'w> {
             Command::Trace(file, _) => Some(file),
             Command::Replay(asked) => Some(asked.file),
             Command::Soak(_) => None,
+            Command::Audit(file, _) => Some(file),
         }
     }
 }

@@ -2,7 +2,7 @@
 
 ghost use Rattle.std.specs.Prelude.{◌≡◌, map, option_map};
 ghost use Rattle.std.specs.String.{string_bytes};
-ghost use Rattle.oss_command.specs.Commands.{all_by, is_listed, is_operand, is_replay_word, is_soak_word, is_trace_word, operands_in, the_one, the_two};
+ghost use Rattle.oss_command.specs.Commands.{all_by, is_listed, is_operand, is_fuel_word, is_soak_word, is_trace_word, operands_in, the_one, the_two};
 
 use crate::values::behind;
 
@@ -50,9 +50,9 @@ fn can_be_soak_word(word: &str) -> bool
         || behind(b"--workers=", bytes).is_some()
 }
 
-/// Whether a word may stand behind `replay`.
-fn can_be_replay_word(word: &str) -> bool
-    ensures { result ≡ is_replay_word word.now }
+/// Whether a word may stand behind `replay` and `audit`.
+fn can_be_fuel_word(word: &str) -> bool
+    ensures { result ≡ is_fuel_word word.now }
 {
     can_be_operand(word) || behind(b"--fuel=", word.as_bytes()).is_some()
 }
@@ -81,12 +81,12 @@ pub fn are_listed(words: &[String]) -> bool
     true
 }
 
-/// Whether each of the words may stand behind `replay`.
-pub fn are_replay_words(words: &[String]) -> bool
-    ensures { result ≡ all_by is_replay_word (map string_bytes words.now) }
+/// Whether each of the words may stand behind `replay` and `audit`.
+pub fn are_fuel_words(words: &[String]) -> bool
+    ensures { result ≡ all_by is_fuel_word (map string_bytes words.now) }
 {
     for word in words {
-        if !can_be_replay_word(word.as_str()) {
+        if !can_be_fuel_word(word.as_str()) {
             return false;
         }
     }

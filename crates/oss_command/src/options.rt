@@ -2,7 +2,7 @@
 
 ghost use Rattle.std.specs.Prelude.{◌≡◌, ◌≤◌, ◌<◌, map, IfSome};
 ghost use Rattle.std.specs.String.{string_bytes};
-ghost use Rattle.oss_command.specs.Commands.{deps_by, flag_by, fuel_in, mode_by, number_by, options_in};
+ghost use Rattle.oss_command.specs.Commands.{deps_by, flag_by, fuel_in, mode_by, number_by, options_in, system_by};
 ghost use Rattle.oss_command.specs.Commands.Standing.{once};
 ghost use Rattle.oss_command.specs.Values.{stands};
 
@@ -21,6 +21,8 @@ pub enum RunMode {
 /// How it is told what tasks wait for.
 #[derive(Clone, Copy, Debug, PartialEq, Eq)]
 pub enum DepsKind {
+    /// By ranges of cells that have the same accesses, whose flags messages move.
+    Regions,
     /// By plain lists of the accesses to each cell.
     Plain,
 }
@@ -30,7 +32,7 @@ pub enum DepsKind {
 pub struct Options {
     /// `--mode=`; waves where nothing is said.
     pub mode: RunMode,
-    /// `--deps=`, of a run by waves alone; plain where nothing is said.
+    /// `--deps=`, of a run by waves alone; regions where nothing is said.
     pub deps: DepsKind,
     /// `--workers=`, 1 to 64; 4 where nothing is said. A serial run has one thread whatever is said.
     pub workers: u32,
@@ -98,7 +100,7 @@ fn deps_of(mode: Option<RunMode>, told: Stands<'_>) -> Option<DepsKind>
     ensures { result ≡ deps_by mode (stands told.entry) }
 {
     match told {
-        Stands::Absent => Some(DepsKind::Plain),
+        Stands::Absent => Some(DepsKind::Regions),
         Stands::Once(value) => deps_named(mode, value),
         Stands::Again => None,
     }
@@ -109,16 +111,23 @@ fn deps_named(mode: Option<RunMode>, value: &[u8]) -> Option<DepsKind>
     ensures { result ≡ deps_by mode (once value.now) }
 {
     match mode {
-        Some(RunMode::Waves) => {
-            if value == b"plain".as_slice() {
-                Some(DepsKind::Plain)
-            } else {
-                None
-            }
-        }
+        Some(RunMode::Waves) => system_named(value),
         Some(RunMode::Serial) => None,
         None => None,
     }
+}
+
+/// The dependency system with this name.
+fn system_named(value: &[u8]) -> Option<DepsKind>
+    ensures { result ≡ system_by value.now }
+{
+    if value == b"regions".as_slice() {
+        return Some(DepsKind::Regions);
+    }
+    if value == b"plain".as_slice() {
+        return Some(DepsKind::Plain);
+    }
+    None
 }
 
 /// The number that an option gives, between these two.

@@ -1,5 +1,5 @@
 -- Texts have one reply at most, and where nothing fails it is the one that comes.
-use Rattle.std.proofs.Common.{◌≡◌, ℕ, List, Option, Some, None, sym, ap, ◌∙◌, subst, arith, ◌⊎◌, inl, inr}
+use Rattle.std.proofs.Common.{◌≡◌, ℕ, List, Option, Some, None, refl, sym, ap, ◌∙◌, subst, arith, ◌⊎◌, inl, inr}
 use Rattle.std.specs.Prelude.{IfSome}
 use Rattle.oss_io.specs.Spans.{ShelfSpan, ShelfFailed, SinkSpan, SinkFailed}
 use Rattle.oss_syntax.specs.declared.tree.program.Program.{Program}
@@ -11,7 +11,7 @@ use Rattle.oss_grammar.specs.TaskLoops.{program_written}
 use Rattle.oss_model.specs.Texts.{refusal_line}
 use Rattle.oss_parse.proofs.OneProgram.{parsed_once}
 use Rattle.oss_command.specs.Commands.{Command, asked_of}
-use Rattle.oss_command.specs.Commands.Command.{check, replay, run, soak, trace}
+use Rattle.oss_command.specs.Commands.Command.{audit, check, replay, run, soak, trace}
 use Rattle.oss_command.specs.declared.options.Options.{Options}
 use Rattle.oss_gen.specs.Generated.{generated_text}
 use Rattle.oss_meaning.specs.Expressions.{TreeScript}
@@ -20,10 +20,17 @@ use Rattle.oss_meaning.specs.Results.{IsOutcomeOf, Outcome, first_cells, main_of
 use Rattle.oss_rounds.specs.Rounds.{Trace}
 use Rattle.oss_rounds.proofs.OneRunLemmas.{one_trace}
 use Rattle.oss_lower.proofs.OutcomeLaws.{outcomes_are_one}
+use Rattle.oss_model.specs.declared.answer.Answer.{Answer}
+use Rattle.oss_model.specs.declared.answer.Answer.TheVariants.{Done, Fault}
+use Rattle.oss_meaning.specs.Results.IsOutcome.{ends as outcome_ends}
+use Rattle.oss_audit.specs.Unused.{IsAudited}
+use Rattle.oss_audit.specs.Unused.IsAudited.{ends as audit_ends, fails as audit_fails}
+use Rattle.oss_audit.specs.declared.unused.Unused.{Unused}
 use Rattle.oss_sched.proofs.OneReading.{read_once}
 use Rattle.oss_report.specs.Replays.{schedule_line}
-use Rattle.oss_top.specs.Forms.{answer_reply, error_reply, soak_reply, trace_reply}
-use Rattle.oss_top.specs.OneReply.{IsReplied, IsRepliedOnce}
+use Rattle.oss_top.specs.Audits.{IsAuditReply}
+use Rattle.oss_top.specs.Forms.{answer_reply, error_reply, soak_reply, told_reply, trace_reply}
+use Rattle.oss_top.specs.OneReply.{IsOfOneText, IsReplied, IsRepliedOnce}
 use Rattle.oss_top.specs.ProgramTexts.{Accepts, Refuses}
 use Rattle.oss_top.specs.ProgramTexts.Refuses.{by_grammar, by_rules}
 use Rattle.oss_top.proofs.ReplayLemmas.{replay_once}
@@ -33,7 +40,7 @@ use Rattle.oss_top.specs.Replays.IsScheduleReply.{replayed, wrong_line}
 use Rattle.oss_top.specs.Replays.IsTextsReply.{accepted as texts_accepted, refused_text as texts_refused}
 use Rattle.oss_top.specs.Replays.IsFilesReply.{fit, too_large as files_too_large, too_long}
 use Rattle.oss_top.specs.Reply.{AreHeld, AreShown, IsCommandReply, IsComplete, IsFileReply, IsOutcome, IsProgramReply, IsReply, IsRunReply, IsShelfReply, IsTextReply, IsUnwritten, Texts}
-use Rattle.oss_top.specs.Reply.IsProgramReply.{checked, ran, soaked, traced}
+use Rattle.oss_top.specs.Reply.IsProgramReply.{audited, checked, ran, soaked, traced}
 use Rattle.oss_top.specs.Soaks.{IsSoakReply}
 use Rattle.oss_top.specs.Traces.{IsTraceOf, IsTraceReply, text_of}
 use Rattle.oss_top.specs.Reply.IsTextReply.{accepted, refused_text}
@@ -44,6 +51,7 @@ use Rattle.oss_top.specs.Reply.IsUnwritten.{no_output, no_errors}
 use Rattle.oss_top.specs.Reply.IsOutcome.{written, unwritten}
 use Rattle.oss_top.specs.Statuses.{number_of}
 use Rattle.oss_top.specs.declared.reply.Reply.{Reply}
+use Rattle.oss_top.specs.declared.status.Status.{Status}
 use Rattle.oss_top.specs.declared.status.Status.TheVariants as status
 
 one_some : (r other : Refused) (o : Option Refused) → o ≡ Some r → o ≡ Some other → r ≡ other
@@ -68,11 +76,39 @@ soak_once : (options : Options) (p : Program) (reply other : Reply) → IsSoakRe
 soak_once options p reply other x y =
     x.is_reply ∙ ap (λ (o : Outcome). soak_reply o.tasks o.answer) (outcome_once p options.fuel x.outcome y.outcome x.is_outcome y.is_outcome) ∙ sym y.is_reply
 
-program_once : (c : Command) (p : Program) (reply other : Reply) → IsProgramReply c p reply → IsProgramReply c p other → reply ≡ other
-program_once c p reply other (checked x) (checked y) = x ∙ sym y
-program_once c p reply other (ran {options} x) (ran y) = run_once options p reply other x y
-program_once c p reply other (traced {options} x) (traced y) = trace_once options.fuel p reply other x y
-program_once c p reply other (soaked {options} x) (soaked y) = soak_once options p reply other x y
+-- an audit has the answer of the run's outcome
+audited_outcome : (p : Program) (fuel : ℕ) (a : Answer) (us : List Unused) → IsAudited (asks_of p.items) (main_of p.items fuel) (first_cells p.items) a us → (o : Outcome) × IsOutcomeOf p.items fuel o × (o.answer ≡ a)
+audited_outcome p fuel a us (audit_ends made end over are) = (_, outcome_ends made end over, refl)
+audited_outcome p fuel a us (audit_fails {o} is fault) = (o, is, fault)
+
+-- the status is told by the answer
+told_status : (a : Answer) (text other : List ℕ) → (told_reply text a).status ≡ (told_reply other a).status
+told_status (Done printed cells) text other = refl
+told_status (Fault kind line printed) text other = refl
+
+audit_alike : (fuel : ℕ) (p : Program) (reply other : Reply) → IsAuditReply fuel p reply → IsAuditReply fuel p other → reply.status ≡ other.status
+audit_alike fuel p reply other x y =
+    let (o, is, e) = audited_outcome p fuel x.answer x.audited.unused x.audited.audited in
+    let (q, at, f) = audited_outcome p fuel y.answer y.audited.unused y.audited.audited in
+    let same : x.answer ≡ y.answer = sym e ∙ ap (λ (z : Outcome). z.answer) (outcome_once p fuel o q is at) ∙ f in
+    ap (λ (r : Reply). r.status) x.is_reply ∙ ap (λ (a : Answer). (told_reply x.text a).status) same ∙ told_status y.answer x.text y.text ∙ ap (λ (r : Reply). r.status) (sym y.is_reply)
+
+program_once : (c : Command) → IsOfOneText c → (p : Program) (reply other : Reply) → IsProgramReply c p reply → IsProgramReply c p other → reply ≡ other
+program_once c of p reply other (checked x) (checked y) = x ∙ sym y
+program_once c of p reply other (ran {options} x) (ran y) = run_once options p reply other x y
+program_once c of p reply other (traced {options} x) (traced y) = trace_once options.fuel p reply other x y
+program_once c of p reply other (soaked {options} x) (soaked y) = soak_once options p reply other x y
+program_once c of p reply other (audited {fuel} x) (audited y) = absurd of
+
+abbrev status_of : Reply → Status
+status_of reply = reply.status
+
+program_alike : (c : Command) (p : Program) (reply other : Reply) → IsProgramReply c p reply → IsProgramReply c p other → status_of reply ≡ status_of other
+program_alike c p reply other (checked x) (checked y) = ap status_of (x ∙ sym y)
+program_alike c p reply other (ran {options} x) (ran y) = ap status_of (run_once options p reply other x y)
+program_alike c p reply other (traced {options} x) (traced y) = ap status_of (trace_once options.fuel p reply other x y)
+program_alike c p reply other (soaked {options} x) (soaked y) = ap status_of (soak_once options p reply other x y)
+program_alike c p reply other (audited {fuel} x) (audited y) = audit_alike fuel p reply other x y
 
 module _ (text : List ℕ) (once : IsParsedOnce text) where
   -- a text that is accepted is not refused
@@ -91,20 +127,22 @@ module _ (text : List ℕ) (once : IsParsedOnce text) where
   refused_once r other (by_rules p v d) (by_rules q w e) =
       one_some r other (refusal_of p) d (subst (λ z. refusal_of z ≡ Some other) (once.one_program q p w v) e)
 
-  text_once : (c : Command) (reply other : Reply) → IsTextReply c text reply → IsTextReply c text other → reply ≡ other
-  text_once c reply other (accepted p a x) (accepted p' b y) =
-      program_once c (program_written p) reply other x (subst (λ z. IsProgramReply c (program_written z) other) (once.one_program p' p b.is_text a.is_text) y)
-  text_once c reply other (accepted p a x) (refused_text r w y) = absurd (no_refusal p r a w)
-  text_once c reply other (refused_text r w x) (accepted p a y) = absurd (no_refusal p r a w)
-  text_once c reply other (refused_text r v x) (refused_text r' w y) = x ∙ ap told (refused_once r r' v w) ∙ sym y where
-    told : Refused → Reply
-    told z = error_reply status.TextRefused (refusal_line z.kind z.line)
+  -- What two replies to a program have in common, two replies to a text have in common.
+  module _ {A : Type 0} (f : Reply → A) (c : Command) (same : (p : Program) (reply other : Reply) → IsProgramReply c p reply → IsProgramReply c p other → f reply ≡ f other) where
+    text_once : (reply other : Reply) → IsTextReply c text reply → IsTextReply c text other → f reply ≡ f other
+    text_once reply other (accepted p a x) (accepted p' b y) =
+        same (program_written p) reply other x (subst (λ z. IsProgramReply c (program_written z) other) (once.one_program p' p b.is_text a.is_text) y)
+    text_once reply other (accepted p a x) (refused_text r w y) = absurd (no_refusal p r a w)
+    text_once reply other (refused_text r w x) (accepted p a y) = absurd (no_refusal p r a w)
+    text_once reply other (refused_text r v x) (refused_text r' w y) = ap f (x ∙ ap told (refused_once r r' v w) ∙ sym y) where
+      told : Refused → Reply
+      told z = error_reply status.TextRefused (refusal_line z.kind z.line)
 
-  file_once : (c : Command) (reply other : Reply) → IsFileReply c text reply → IsFileReply c text other → reply ≡ other
-  file_once c reply other (too_large m x) (too_large n y) = x ∙ sym y
-  file_once c reply other (too_large m x) (fits n y) = absurd (omega arith)
-  file_once c reply other (fits m x) (too_large n y) = absurd (omega arith)
-  file_once c reply other (fits m x) (fits n y) = text_once c reply other x y
+    file_once : (reply other : Reply) → IsFileReply c text reply → IsFileReply c text other → f reply ≡ f other
+    file_once reply other (too_large m x) (too_large n y) = ap f (x ∙ sym y)
+    file_once reply other (too_large m x) (fits n y) = absurd (omega arith)
+    file_once reply other (fits m x) (too_large n y) = absurd (omega arith)
+    file_once reply other (fits m x) (fits n y) = text_once reply other x y
 
 -- a text of a program and one of a schedule have one reply to a replay
 module _ (text schedule : List ℕ) (once : IsParsedOnce text) (fuel : ℕ) where
@@ -136,17 +174,22 @@ module _ (text schedule : List ℕ) (once : IsParsedOnce text) (fuel : ℕ) wher
   files_once reply other (fit few less x) (fit few2 less2 y) = texts_once reply other x y
 
 pub replied : (text : List ℕ) → IsReplied text
-replied text = record { some = file_reply text; one = file_once text (parsed_once text) }
+replied text = record { some = file_reply text; one = λ c of. file_once text (parsed_once text) (λ (r : Reply). r) c (program_once c of) }
+
+-- two replies to a command with one text have one status
+file_alike : (text : List ℕ) (c : Command) (reply other : Reply) → IsFileReply c text reply → IsFileReply c text other → status_of reply ≡ status_of other
+file_alike text c = file_once text (parsed_once text) status_of c (program_alike c)
 
 pub replied_once : (text schedule : List ℕ) → IsRepliedOnce text schedule
 replied_once text schedule = record { one = files_once text schedule (parsed_once text) }
 
-command_once : (c : Command) (texts : Texts) (reply other : Reply) → IsCommandReply c texts reply → IsCommandReply c texts other → reply ≡ other
-command_once (run file options) texts reply other x y = (replied texts.file).one (run file options) reply other x y
-command_once (check file) texts reply other x y = (replied texts.file).one (check file) reply other x y
-command_once (trace file options) texts reply other x y = (replied texts.file).one (trace file options) reply other x y
-command_once (soak number size options) texts reply other x y = (replied (generated_text number size)).one (soak number size options) reply other x y
-command_once (replay file schedule fuel) texts reply other x y = (replied_once texts.file texts.schedule).one fuel reply other x y
+command_alike : (c : Command) (texts : Texts) (reply other : Reply) → IsCommandReply c texts reply → IsCommandReply c texts other → status_of reply ≡ status_of other
+command_alike (run file options) texts reply other x y = file_alike texts.file (run file options) reply other x y
+command_alike (check file) texts reply other x y = file_alike texts.file (check file) reply other x y
+command_alike (trace file options) texts reply other x y = file_alike texts.file (trace file options) reply other x y
+command_alike (soak number size options) texts reply other x y = file_alike (generated_text number size) (soak number size options) reply other x y
+command_alike (audit file fuel) texts reply other x y = file_alike texts.file (audit file fuel) reply other x y
+command_alike (replay file schedule fuel) texts reply other x y = ap status_of ((replied_once texts.file texts.schedule).one fuel reply other x y)
 
 -- the text that is shown is the one that is held
 same_text : (text shown : List ℕ) (held : Option (List ℕ)) → IfSome held (λ t. shown ≡ t) → held ≡ Some text → shown ≡ text
@@ -158,16 +201,17 @@ by_held held (run file options) told texts reply same is x = subst (λ t. IsFile
 by_held held (check file) told texts reply same is x = subst (λ t. IsFileReply (check file) t reply) (same_text texts.file told.file (held file) same is) x
 by_held held (trace file options) told texts reply same is x = subst (λ t. IsFileReply (trace file options) t reply) (same_text texts.file told.file (held file) same is) x
 by_held held (soak number size options) told texts reply same is x = x
+by_held held (audit file fuel) told texts reply same is x = subst (λ t. IsFileReply (audit file fuel) t reply) (same_text texts.file told.file (held file) same is) x
 by_held held (replay file schedule fuel) told texts reply (same, shows) (is, holds) x =
     subst (λ t. IsFilesReply fuel t texts.schedule reply) (same_text texts.file told.file (held file) same is)
     (subst (λ t. IsFilesReply fuel told.file t reply) (same_text texts.schedule told.schedule (held schedule) shows holds) x)
 
 module _ (words : List (List ℕ)) (shelf : ShelfSpan) (still : ¬ ShelfFailed shelf) where
   -- the reply to a command, where no read failed
-  shelf_complete : (c : Command) (texts : Texts) → AreHeld shelf.before.held c texts → (reply : Reply) → IsShelfReply c shelf reply → (other : Reply) → IsCommandReply c texts other → reply ≡ other
+  shelf_complete : (c : Command) (texts : Texts) → AreHeld shelf.before.held c texts → (reply : Reply) → IsShelfReply c shelf reply → (other : Reply) → IsCommandReply c texts other → status_of reply ≡ status_of other
   shelf_complete c texts held reply (unread file named failed last is) other w = absurd (still failed)
   shelf_complete c texts held reply (unread_schedule file schedule text named of same few failed last is) other w = absurd (still failed)
-  shelf_complete c texts held reply (by_texts told quiet same is) other w = command_once c texts reply other (by_held shelf.before.held c told texts reply same held is) w
+  shelf_complete c texts held reply (by_texts told quiet same is) other w = command_alike c texts reply other (by_held shelf.before.held c told texts reply same held is) w
 
   -- the number of a reply, where no read failed
   reply_complete : (reply : Reply) → IsReply words shelf reply → (c : Command) (texts : Texts) → asked_of words ≡ Some c → AreHeld shelf.before.held c texts
@@ -175,7 +219,7 @@ module _ (words : List (List ℕ)) (shelf : ShelfSpan) (still : ¬ ShelfFailed s
   reply_complete reply (usage none quiet is) c texts named given other w = let both : None ≡ Some c = sym none ∙ named in absurd (cc)
   reply_complete reply (of_command d asked is) c texts named given other w =
       let one : d ≡ c = cc in
-      inl (ap (λ r. number_of r.status) (shelf_complete c texts given reply (subst (λ e. IsShelfReply e shelf reply) one is) other w))
+      inl (ap number_of (shelf_complete c texts given reply (subst (λ e. IsShelfReply e shelf reply) one is) other w))
   reply_complete reply (no_memory is) c texts named given other w = inr (ap (λ r. number_of r.status) is)
 
 -- what could not be written shows in a count

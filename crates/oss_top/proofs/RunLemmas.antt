@@ -22,7 +22,11 @@ use Rattle.oss_sched.specs.declared.moves.TextMove.{TextMove}
 use Rattle.oss_sched.specs.declared.moves.TextMove.TheVariants.{Step, Let, Join}
 use Rattle.oss_waves.specs.WaveRuns.{IsWaveRun, line_of, lines_of, trace_in}
 use Rattle.oss_command.specs.declared.options.Options.{Options}
-use Rattle.oss_top.specs.Forms.{answer_reply, soak_reply, trace_reply}
+use Rattle.oss_audit.specs.Lines.{audit_text}
+use Rattle.oss_audit.specs.Reply.{IsAuditedOf}
+use Rattle.oss_audit.specs.declared.unused.Unused.{Unused}
+use Rattle.oss_top.specs.Audits.{IsAuditReply}
+use Rattle.oss_top.specs.Forms.{answer_reply, soak_reply, told_reply, trace_reply}
 use Rattle.oss_top.specs.Reply.{IsRunReply}
 use Rattle.oss_top.specs.Runs.{AreWavesOf, IsDone, IsRanBy, IsRanOf}
 use Rattle.oss_top.specs.Soaks.{IsSoakReply}
@@ -121,3 +125,7 @@ trace_replies p fuel answer waves reply is e =
       is_outcome = is.is_outcome;
       is_reply = e ∙ ap (λ (w : WaveRecord). trace_reply (trace_text w) answer) is.recorded ∙ ap (trace_reply _) is.answer_is;
     }
+
+-- the reply to an audit
+pub audit_replies : (p : Program) (fuel : ℕ) (answer : Answer) (us : List Unused) (text : List ℕ) (reply : Reply) → IsAuditedOf p.items fuel answer us → text ≡ audit_text us → reply ≡ told_reply text answer → IsAuditReply fuel p reply
+audit_replies p fuel answer us text reply is e f = record { answer = answer; text = text; audited = record { unused = us; audited = is; text_is = e }; is_reply = f }

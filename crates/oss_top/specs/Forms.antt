@@ -53,6 +53,11 @@ abbrev pub trace_reply : List ℕ → Answer → Reply
 trace_reply trace (Done text cells) = done_reply trace
 trace_reply trace (Fault kind line text) = fault_reply trace (fault_line kind line)
 
+-- the reply that tells a text of a program's run to its end, and that of its fault alone
+abbrev pub told_reply : List ℕ → Answer → Reply
+told_reply told (Done text cells) = done_reply told
+told_reply told (Fault kind line text) = fault_reply [] (fault_line kind line)
+
 -- the line that tells how many tasks there were
 abbrev pub tasks_line : ℕ → List ℕ
 tasks_line count = codes "tasks " ++ decimal count ++ 10 ∷ []

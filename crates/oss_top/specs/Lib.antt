@@ -1,3 +1,4 @@
+pub mod Audits
 pub mod EveryOrder
 pub mod Forms
 pub mod OneReply

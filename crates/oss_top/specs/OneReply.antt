@@ -5,22 +5,23 @@
 -- wrong line; and its moves lead to one state, or one of them is the first that is not enabled.
 use Rattle.std.specs.Prelude.{◌≡◌, ℕ, List}
 use Rattle.oss_command.specs.Commands.{Command}
-use Rattle.oss_command.specs.Commands.Command.{run, check, trace, replay, soak}
+use Rattle.oss_command.specs.Commands.Command.{audit, run, check, trace, replay, soak}
 use Rattle.oss_top.specs.Replays.{IsFilesReply}
 use Rattle.oss_top.specs.Reply.{IsFileReply}
 use Rattle.oss_top.specs.declared.reply.Reply.{Reply}
 
--- The command has the text of a program alone, read or generated.
+-- The command has the text of a program alone, read or generated, and tells of its run or its rules.
 abbrev pub IsOfOneText : Command → Type 0
 IsOfOneText (run file options) = Unit {0}
 IsOfOneText (check file) = Unit {0}
 IsOfOneText (trace file options) = Unit {0}
 IsOfOneText (replay file schedule fuel) = ⊥
+IsOfOneText (audit file fuel) = ⊥
 IsOfOneText (soak number size options) = Unit {0}
 
 pub record IsReplied (text : List ℕ) : Type 0 where
   pub some : (c : Command) → IsOfOneText c → (reply : Reply) × IsFileReply c text reply
-  pub one : (c : Command) (reply other : Reply) → IsFileReply c text reply → IsFileReply c text other → reply ≡ other
+  pub one : (c : Command) → IsOfOneText c → (reply other : Reply) → IsFileReply c text reply → IsFileReply c text other → reply ≡ other
 
 pub record IsRepliedOnce (text schedule : List ℕ) : Type 0 where
   pub one : (fuel : ℕ) (reply other : Reply) → IsFilesReply fuel text schedule reply → IsFilesReply fuel text schedule other → reply ≡ other

@@ -1,6 +1,7 @@
-//! The top call: it reads words and files, checks, runs and traces programs, replays schedules, runs generated programs, and tells what comes of it.
+//! The top call: it reads words and files, checks, runs and traces programs, replays schedules, audits programs, runs generated ones, and tells what comes of it.
 #![tactic(auto)]
 
+mod audit;
 mod known;
 mod laws;
 mod replay;

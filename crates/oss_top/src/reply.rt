@@ -5,12 +5,13 @@ ghost use Rattle.std.specs.String.{string_bytes};
 ghost use Rattle.oss_io.specs.Spans.{shelf_span};
 ghost use Rattle.oss_model.specs.Texts.{refusal_line as line_of_refusal};
 ghost use Rattle.oss_command.specs.Commands.{HasWorkers, file_of, meant};
-ghost use Rattle.oss_command.specs.Commands.Command.{check, run, soak, trace};
+ghost use Rattle.oss_command.specs.Commands.Command.{audit, check, run, soak, trace};
 ghost use Rattle.oss_gen.specs.Generated.{generated_text};
 ghost use Rattle.oss_top.specs.Forms.{accepted_line, done_reply, error_reply, fault_reply};
 ghost use Rattle.oss_top.specs.Reads.{IsReadReply};
 ghost use Rattle.oss_top.specs.Reply.{IsFileReply, IsReply, IsShelfReply, IsTextReply};
 
+use crate::audit::reply_to_audit;
 use crate::known::known;
 use crate::replay::reply_to_replay;
 use crate::run::{reply_to_run, reply_to_soak};
@@ -151,6 +152,7 @@ fn reply_to_read<R: Threads + Sync, S: Shelf, G: Gate>(
         Command::Trace(_, options) => trace_text(rt, alloc, options, text, gate),
         Command::Replay(asked) => reply_to_replay(alloc, asked, text, shelf),
         Command::Soak(asked) => soaked(rt, alloc, asked, gate),
+        Command::Audit(_, fuel) => audit_text(alloc, fuel, text),
     }
 }
 
@@ -214,6 +216,17 @@ fn trace_text<R: Threads + Sync, G: Gate>(
 {
     match known(alloc, text) {
         Ok(known) => reply_to_trace(rt, alloc, &known, options, gate),
+        Err(refusal) => reply_to_refusal(alloc, refusal),
+    }
+}
+
+/// The reply of an audit to the text of a file.
+fn audit_text(alloc: Global, fuel: u32, text: &[u8]) -> Result<Reply, AllocError>
+    requires { length text.now ≤ 1048576 }
+    ensures { IfOk result (λ reply. (file : Items ℕ) → IsTextReply (audit file fuel) text.now reply) }
+{
+    match known(alloc, text) {
+        Ok(known) => reply_to_audit(alloc, fuel, &known),
         Err(refusal) => reply_to_refusal(alloc, refusal),
     }
 }

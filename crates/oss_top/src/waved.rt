@@ -1,15 +1,16 @@
 //! The run by waves of a program.
 
-ghost use Rattle.std.specs.Prelude.{◌≡◌, ◌<◌, IfOk};
+ghost use Rattle.std.specs.Prelude.{◌≡◌, ◌<◌, [], ℕ, false, IfOk};
 ghost use Rattle.oss_top.specs.Runs.{AreWavesOf};
 
 use crate::run::are_words;
-use oss_command::Options;
+use oss_command::{DepsKind, Options};
 use oss_deps::{Deps, PlainDeps};
 use oss_io::Gate;
 use oss_lower::lower;
 use oss_model::Answer;
 use oss_names::Known;
+use oss_regions::Regions;
 use oss_sched::WaveRecord;
 use oss_waves::{WaveRun, waves};
 use std::alloc::{AllocError, Global};
@@ -35,9 +36,28 @@ pub fn wave_run<R: Threads + Sync, G: Gate>(
     requires { 0 < options.workers }
     ensures { IfOk result (λ run. AreWavesOf known.now options.fuel run.answer run.waves) }
 {
+    match options.deps {
+        DepsKind::Regions => waved_over(rt, alloc, known, options, Regions::new(alloc), gate),
+        DepsKind::Plain => waved_over(rt, alloc, known, options, PlainDeps::new(alloc), gate),
+    }
+}
+
+/// The run by waves of a program over a dependency system in which no task is opened.
+fn waved_over<R: Threads + Sync, D: Deps, G: Gate>(
+    rt: &R,
+    alloc: Global,
+    known: &Known,
+    options: Options,
+    deps: D,
+    gate: &G,
+) -> Result<Waved, AllocError>
+    requires workers { 0 < options.workers }
+    requires opens { (D.seen deps).opens ≡ [] }
+    requires given { (t c : ℕ) → (D.seen deps).given t c ≡ false }
+    ensures { IfOk result (λ run. AreWavesOf known.now options.fuel run.answer run.waves) }
+{
     let code = lower(alloc, known)?;
     are_words(code.first().as_slice());
-    let deps = PlainDeps::new(alloc);
     let run = waves(rt, alloc, &code, options.fuel, deps, options.workers, gate)?;
     Ok(without_deps(run))
 }

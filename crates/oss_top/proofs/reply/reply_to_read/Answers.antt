@@ -17,3 +17,6 @@ returns-in-Replay g c = if_ok c.reply_to_replay.result (λ reply is. rw (ap mean
 
 pub returns-in-Soak : goal.returns-in-Soak
 returns-in-Soak g c = if_ok c.soaked.result (λ reply is. rw (ap meant c.in-Soak.is) (refl, is)) c.soaked.ensures
+
+pub returns-in-Audit : goal.returns-in-Audit
+returns-in-Audit g c = if_ok c.audit_text.result (λ reply is. rw (ap meant c.in-Audit.is) (refl, is _)) c.audit_text.ensures

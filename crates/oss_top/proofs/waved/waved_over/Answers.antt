@@ -1,7 +1,7 @@
 use Rattle.std.proofs.Common.{◌∙◌, subst}
 use Rattle.oss_model.specs.Agreement.{AreWords}
 use Rattle.oss_top.proofs.RunLemmas.{waves_kept, waves_of}
-use Rattle.oss_top.proofs.waved.wave_run.Goals as goal
+use Rattle.oss_top.proofs.waved.waved_over.Goals as goal
 
 pub returns : goal.returns
 returns g c =
