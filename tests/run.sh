@@ -108,8 +108,8 @@ follow() {
   wanted_trace=$work/trace
   [ -f "$1.trace" ] && wanted_trace=$1.trace
   judge "the trace of examples/$1.c" "$status" "$wanted_trace" "$err" "$got"
-  expect "the trace of examples/$1.c over the plain lists" "$status" "$wanted_trace" "$err" trace "$1.c" --deps=plain
   expect "the trace of examples/$1.c, replayed" "$status" "$out" "$err" replay "$1.c" "$work/trace"
+  expect "the trace of examples/$1.c over the plain lists" "$status" "$wanted_trace" "$err" trace "$1.c" --deps=plain
 }
 
 # compile NAME: what gcc says of an example, which is nothing, and the output of what it compiles; numbers wrap round as those of the language do

@@ -1,0 +1,69 @@
+#!/bin/sh
+# Times runs by waves of the built program, or of PROGRAM where one is handed over, over both dependency systems, and prints a table: the time over regions, that over the plain lists and their ratio, and how
+# the time over regions grows with twice the tasks: a chain of tasks on one cell, tasks on cells of their own, tasks on ranges of 64 cells at random, weak tasks with children, and generated programs.
+# It wants `python3` for the clock.
+# usage: regions.sh [PROGRAM]
+# shellcheck source=bench/built.sh
+. "$(dirname -- "$0")/built.sh"
+
+for times in 1 2; do
+  cat >"chain_$times.c" <<PROGRAM
+long x;
+int main() {
+  for (long t = 0; t < $((times * 20000)); t++) {
+#pragma oss task inout(x)
+    x = x + 1;
+  }
+}
+PROGRAM
+  cat >"apart_$times.c" <<PROGRAM
+long x[40000];
+int main() {
+  for (long t = 0; t < $((times * 20000)); t++) {
+#pragma oss task out(x[t])
+    x[t] = t;
+  }
+}
+PROGRAM
+  cat >"ranges_$times.c" <<PROGRAM
+long a[1048576];
+int main() {
+  unsigned long s = 7;
+  for (long t = 0; t < $((times * 4096)); t++) {
+    s = s * 6364136223846793005UL + 1442695040888963407UL;
+    long at = (s >> 33) % 1048513;
+#pragma oss task inout(a[at; 64])
+    a[at] = a[at] + 1;
+  }
+}
+PROGRAM
+  cat >"weak_$times.c" <<PROGRAM
+long a[20];
+int main() {
+  for (long t = 0; t < $((times * 1000)); t++) {
+#pragma oss task weakinout(a)
+    for (long i = 0; i < 20; i++) {
+#pragma oss task inout(a[i])
+      a[i] = a[i] + 1;
+    }
+  }
+}
+PROGRAM
+done
+
+# row WHAT NAME: NAME_1.c over regions and over the plain lists, and NAME_2.c, with twice the tasks, over regions
+row() {
+  regions=$(timed "$program" run "$2_1.c")
+  plain=$(timed "$program" run "$2_1.c" --deps=plain)
+  twice=$(timed "$program" run "$2_2.c")
+  echo "$1 | $regions s | $plain s | $(ratio "$regions" "$plain") | $(ratio "$twice" "$regions")"
+}
+
+echo 'what | regions | plain | ratio | twice the tasks'
+row 'a chain of 20,000 tasks on one cell' chain
+row '20,000 tasks on cells of their own' apart
+row '4,096 tasks on 64 cells each at random' ranges
+row '1,000 weak tasks with 20 children each' weak
+half=$(timed "$program" soak 7 4500)
+whole=$(timed "$program" soak 7 9000)
+echo "soak 7 9000 | $whole s | not taken | | $(ratio "$whole" "$half")"
