@@ -1,3 +1,4 @@
+# shellcheck shell=sh
 # Read by the scripts of this folder that time the built program. It finds and builds that program, the one that is handed over or that of this repository, as `$program`, and
 # goes to a folder of its own, which is removed at the end.
 top=$(CDPATH='' cd -- "$(dirname -- "$0")/.." && pwd) || exit 1
@@ -9,6 +10,8 @@ esac
 work=$(mktemp -d) || exit 1
 trap 'rm -rf "$work"' EXIT
 cd "$work" || exit 1
+# shellcheck source=bench/sources.sh
+. "$top/bench/sources.sh"
 "$program" check /dev/null >/dev/null 2>&1
 
 # timed WORD..: the seconds that a call takes, the best of three
@@ -26,6 +29,12 @@ for _ in range(3):
 print("%.3f" % best)
 PROGRAM
 }
+
+# serially NAME: the seconds of the sequential run of NAME.c
+serially() { timed "$program" run --mode=serial --fuel=1000000000 "$1.c"; }
+
+# interpreter: the path of CPython itself: what stands on the path may be a script that looks for it, and takes its time
+interpreter() { python3 -c 'import sys; print(sys.executable)'; }
 
 ratio() { awk -v a="$1" -v b="$2" 'BEGIN { printf "%.2f", a / b }'; }
 

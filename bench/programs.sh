@@ -5,31 +5,19 @@
 # another program.
 # shellcheck source=bench/built.sh
 . "$(dirname -- "$0")/built.sh"
-# the interpreter itself: what stands on the path may be a script that looks for it, and takes its time
-python=$(python3 -c 'import sys; print(sys.executable)') || exit 1
+python=$(interpreter) || exit 1
 
 # beside WHAT NAME: the sequential run of NAME.c beside NAME.py in CPython
 beside() {
-  own=$(timed "$program" run --mode=serial --fuel=1000000000 "$2.c")
+  own=$(serially "$2")
   other=$(timed "$python" "$2.py")
   echo "$1 | $own s | $other s | $(ratio "$own" "$other")"
 }
 
 # growth WHAT NAME: the sequential runs of NAME_1.c, and of NAME_2.c with twice the work
-growth() {
-  once=$(timed "$program" run --mode=serial --fuel=1000000000 "$2_1.c")
-  twice=$(timed "$program" run --mode=serial --fuel=1000000000 "$2_2.c")
-  grown "$1" "$once" "$twice"
-}
+growth() { grown "$1" "$(serially "$2_1")" "$(serially "$2_2")"; }
 
-cat >arrays.c <<'PROGRAM'
-long a[1000];
-int main() {
-  for (long k = 0; k < 300; k++)
-    for (long i = 0; i < 1000; i++) a[i] = a[i] * 3 + i;
-  printf("%ld\n", a[999]);
-}
-PROGRAM
+array_source long %ld 300 >arrays.c
 cat >arrays.py <<'PROGRAM'
 a = [0] * 1000
 def main():
@@ -43,17 +31,8 @@ def main():
     print(a[999])
 main()
 PROGRAM
-cat >calls.c <<'PROGRAM'
-long fibonacci(long n) { if (n < 2) return n; return fibonacci(n - 1) + fibonacci(n - 2); }
-int main() { printf("%ld\n", fibonacci(24)); }
-PROGRAM
-cat >calls.py <<'PROGRAM'
-def fibonacci(n):
-    if n < 2:
-        return n
-    return fibonacci(n - 1) + fibonacci(n - 2)
-print(fibonacci(24))
-PROGRAM
+calls_source 24 >calls.c
+calls_in_python 24 >calls.py
 cat >reduction.c <<'PROGRAM'
 unsigned long s;
 int main() {
@@ -119,34 +98,15 @@ for times in 1 2; do
   cat >"ticks_$times.c" <<PROGRAM
 int main() { long s = 0, i = 0; while (i < $((times * 300000))) { s = s + i * 3; i = i + 1; } printf("%ld\\n", s); }
 PROGRAM
-  cat >"tasks_$times.c" <<PROGRAM
-long x;
-int main() {
-  for (long i = 0; i < $((times * 30000)); i++) {
-#pragma oss task inout(x)
-    x = x + i;
-  }
-}
-PROGRAM
+  tasks_source x $((times * 30000)) 'inout(x)' 'x = x + i;' >"tasks_$times.c"
   cat >"nested_$times.c" <<PROGRAM
 long x;
 #pragma oss task inout(*p)
 void down(long *p, long n) { *p = *p + 1; if (n > 0) down(p, n - 1); }
 int main() { for (long i = 0; i < $((times * 500)); i++) { down(&x, 50); } }
 PROGRAM
-  cat >"cells_$times.c" <<PROGRAM
-long a[$((times * 200000))];
-int main() { for (long i = 0; i < $((times * 200000)); i++) a[i] = i; }
-PROGRAM
-  cat >"lent_$times.c" <<PROGRAM
-long a[$((times * 60000))];
-int main() {
-  for (long i = 0; i < $((times * 30000)); i++) {
-#pragma oss task out(a[2 * i])
-    a[2 * i] = i;
-  }
-}
-PROGRAM
+  filled_source $((times * 200000)) >"cells_$times.c"
+  tasks_source "a[$((times * 60000))]" $((times * 30000)) 'out(a[2 * i])' 'a[2 * i] = i;' >"lent_$times.c"
 done
 
 echo 'program | nest6 | CPython | ratio'

@@ -7,24 +7,8 @@
 . "$(dirname -- "$0")/built.sh"
 
 for times in 1 2; do
-  cat >"chain_$times.c" <<PROGRAM
-long x;
-int main() {
-  for (long t = 0; t < $((times * 20000)); t++) {
-#pragma oss task inout(x)
-    x = x + 1;
-  }
-}
-PROGRAM
-  cat >"apart_$times.c" <<PROGRAM
-long x[40000];
-int main() {
-  for (long t = 0; t < $((times * 20000)); t++) {
-#pragma oss task out(x[t])
-    x[t] = t;
-  }
-}
-PROGRAM
+  chain_source $((times * 20000)) >"chain_$times.c"
+  apart_source $((times * 20000)) 40000 >"apart_$times.c"
   cat >"ranges_$times.c" <<PROGRAM
 long a[1048576];
 int main() {
@@ -37,18 +21,7 @@ int main() {
   }
 }
 PROGRAM
-  cat >"weak_$times.c" <<PROGRAM
-long a[20];
-int main() {
-  for (long t = 0; t < $((times * 1000)); t++) {
-#pragma oss task weakinout(a)
-    for (long i = 0; i < 20; i++) {
-#pragma oss task inout(a[i])
-      a[i] = a[i] + 1;
-    }
-  }
-}
-PROGRAM
+  weak_source $((times * 1000)) >"weak_$times.c"
 done
 
 # row WHAT NAME: NAME_1.c over regions and over the plain lists, and NAME_2.c, with twice the tasks, over regions

@@ -16,8 +16,7 @@ has() { command -v "$1" >/dev/null 2>&1; }
 
 # Without python3 the clock is that of date, which adds about a millisecond to each time.
 if has python3; then
-  # the interpreter itself: what stands on the path may be a script that looks for it, and takes its time
-  python=$(python3 -c 'import sys; print(sys.executable)')
+  python=$(interpreter)
 else
   python=
   timed() {
@@ -60,7 +59,7 @@ beside() {
   "$program" run --mode=serial --fuel=1000000000 "$2.c" >own.out
   "$python" "$2.py" >other.out
   cmp -s own.out other.out || echo "run.sh: $2.c and $2.py do not print the same" >&2
-  own=$(timed "$program" run --mode=serial --fuel=1000000000 "$2.c")
+  own=$(serially "$2")
   other=$(timed "$python" "$2.py")
   row "$1" "$own s" "$other s" "$(ratio "$own" "$other")"
 }
@@ -82,14 +81,7 @@ def main():
     print(s)
 main()
 PROGRAM
-  cat >array.c <<'PROGRAM'
-unsigned long a[1000];
-int main() {
-  for (long k = 0; k < 1000; k++)
-    for (long i = 0; i < 1000; i++) a[i] = a[i] * 3 + i;
-  printf("%lu\n", a[999]);
-}
-PROGRAM
+  array_source 'unsigned long' %lu 1000 >array.c
   cat >array.py <<'PROGRAM'
 a = [0] * 1000
 def main():
@@ -99,17 +91,8 @@ def main():
     print(a[999])
 main()
 PROGRAM
-  cat >calls.c <<'PROGRAM'
-long fibonacci(long n) { if (n < 2) return n; return fibonacci(n - 1) + fibonacci(n - 2); }
-int main() { printf("%ld\n", fibonacci(27)); }
-PROGRAM
-  cat >calls.py <<'PROGRAM'
-def fibonacci(n):
-    if n < 2:
-        return n
-    return fibonacci(n - 1) + fibonacci(n - 2)
-print(fibonacci(27))
-PROGRAM
+  calls_source 27 >calls.c
+  calls_in_python 27 >calls.py
   cat >sieve.c <<'PROGRAM'
 long marked[200001];
 int main() {
@@ -175,19 +158,7 @@ tasks_row() {
 
 # threads_rows: 64 tasks that do not wait, by waves on one worker and on more
 threads_rows() {
-  cat >loops.c <<'PROGRAM'
-long x[64];
-int main() {
-  for (long t = 0; t < 64; t++) {
-#pragma oss task out(x[t])
-    {
-      long s = 0;
-      for (long i = 0; i < 30000; i++) s = s + i * t;
-      x[t] = s;
-    }
-  }
-}
-PROGRAM
+  loops_source 30000 >loops.c
   alone=
   for workers in 1 2 4; do
     now=$(timed "$program" run --mode=waves --workers="$workers" loops.c)
@@ -216,7 +187,7 @@ memory_row() {
 write_memory() {
   for times in 1 2; do
     echo "long x; int main() { for (long i = 0; i < $((times * 500000)); i++) x = i; }" >"one_$times.c"
-    echo "long x[$((times * 250000))]; int main() { for (long i = 0; i < $((times * 250000)); i++) x[i] = i; }" >"cells_$times.c"
+    filled_source $((times * 250000)) >"cells_$times.c"
     cat >"tasks_$times.c" <<PROGRAM
 long x[64];
 int main() {

@@ -6,37 +6,9 @@
 # shellcheck source=bench/built.sh
 . "$(dirname -- "$0")/built.sh"
 
-cat >loops.c <<'PROGRAM'
-long x[64];
-int main() {
-  for (long t = 0; t < 64; t++) {
-#pragma oss task out(x[t])
-    {
-      long s = 0;
-      for (long i = 0; i < 100000; i++) s = s + i * t;
-      x[t] = s;
-    }
-  }
-}
-PROGRAM
-cat >chain.c <<'PROGRAM'
-long x;
-int main() {
-  for (long t = 0; t < 10000; t++) {
-#pragma oss task inout(x)
-    x = x + 1;
-  }
-}
-PROGRAM
-cat >apart.c <<'PROGRAM'
-long x[20000];
-int main() {
-  for (long t = 0; t < 20000; t++) {
-#pragma oss task out(x[t])
-    x[t] = t;
-  }
-}
-PROGRAM
+loops_source 100000 >loops.c
+chain_source 10000 >chain.c
+apart_source 20000 20000 >apart.c
 
 echo "what | first | second | ratio"
 alone=$(timed "$program" run loops.c --workers=1)

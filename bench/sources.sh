@@ -1,0 +1,92 @@
+# shellcheck shell=sh
+# Read by built.sh, for the scripts of this folder that time the built program: the texts of programs that two or more of them run, each a function that
+# writes the text to standard output.
+
+# tasks_source GLOBALS COUNT CLAUSES STATEMENT: main creates COUNT tasks, with these clauses each, and the one with the number i does the statement
+tasks_source() {
+  cat <<PROGRAM
+long $1;
+int main() {
+  for (long i = 0; i < $2; i++) {
+#pragma oss task $3
+    $4
+  }
+}
+PROGRAM
+}
+
+# chain_source COUNT: tasks that each add to the same cell, one after the other
+chain_source() { tasks_source x "$1" 'inout(x)' 'x = x + 1;'; }
+
+# apart_source COUNT CELLS: tasks that each write a cell of their own, of so many
+apart_source() { tasks_source "x[$2]" "$1" 'out(x[i])' 'x[i] = i;'; }
+
+# weak_source COUNT: weak tasks in turn, each with 20 children on the cells of one array
+weak_source() {
+  cat <<PROGRAM
+long a[20];
+int main() {
+  for (long t = 0; t < $1; t++) {
+#pragma oss task weakinout(a)
+    for (long i = 0; i < 20; i++) {
+#pragma oss task inout(a[i])
+      a[i] = a[i] + 1;
+    }
+  }
+}
+PROGRAM
+}
+
+# filled_source CELLS: main writes each cell of an array
+filled_source() {
+  cat <<PROGRAM
+long x[$1];
+int main() { for (long i = 0; i < $1; i++) x[i] = i; }
+PROGRAM
+}
+
+# loops_source TURNS: 64 tasks that do not wait for each other, of so many turns each
+loops_source() {
+  cat <<PROGRAM
+long x[64];
+int main() {
+  for (long t = 0; t < 64; t++) {
+#pragma oss task out(x[t])
+    {
+      long s = 0;
+      for (long i = 0; i < $1; i++) s = s + i * t;
+      x[t] = s;
+    }
+  }
+}
+PROGRAM
+}
+
+# array_source TYPE CONVERSION TURNS: each turn writes an array of 1,000 cells of this type; the last cell is printed by the conversion
+array_source() {
+  cat <<PROGRAM
+$1 a[1000];
+int main() {
+  for (long k = 0; k < $3; k++)
+    for (long i = 0; i < 1000; i++) a[i] = a[i] * 3 + i;
+  printf("$2\\n", a[999]);
+}
+PROGRAM
+}
+
+# calls_source NUMBER, calls_in_python NUMBER: calls in calls, which print this Fibonacci number
+calls_source() {
+  cat <<PROGRAM
+long fibonacci(long n) { if (n < 2) return n; return fibonacci(n - 1) + fibonacci(n - 2); }
+int main() { printf("%ld\\n", fibonacci($1)); }
+PROGRAM
+}
+calls_in_python() {
+  cat <<PROGRAM
+def fibonacci(n):
+    if n < 2:
+        return n
+    return fibonacci(n - 1) + fibonacci(n - 2)
+print(fibonacci($1))
+PROGRAM
+}
