@@ -156,12 +156,13 @@ impl<D: Deps> Core<D> {
     }
 
     /// Makes a move: `Ok` exactly where it was enabled and was made, so that the core stands for a state to which the move leads. `NotNow` comes exactly where it
-    /// is not enabled, before memory is taken, and the core is as it was. After `Memory` the core is given up. The code is the one with which the core was made.
+    /// is not enabled, before memory is taken, and the core is as it was. `Memory` comes of an enabled move alone, and after it the core is given up. The code is the one with which the core was made.
     pub fn apply(&mut self, code: &Code, m: Move) -> Result<(), ApplyFault>
         requires { IsRunning code.now (kept_of D.seen self.old) }
         ensures ok { OnOk result (IsMade code.now (kept_of D.seen self.old) (kept_of D.seen self.new) m) }
         ensures not_now { result ≡ Err faults.NotNow → (main : Start CodeScript) (first : Items ℕ) (s : State CodeScript) → IsCore code.now main first (kept_of D.seen self.old) s → (n : State CodeScript) → IsMove (asks code.now) self.old.tree.tasks m s n → ⊥ }
         ensures same { result ≡ Err faults.NotNow → kept_of D.seen self.new ≡ kept_of D.seen self.old }
+        ensures now { (result ≡ Err faults.NotNow → ⊥) → (main : Start CodeScript) (first : Items ℕ) (s : State CodeScript) → IsCore code.now main first (kept_of D.seen self.old) s → (n : State CodeScript) × IsMove (asks code.now) self.old.tree.tasks m s n }
     {
         if !self.enabled(&m) {
             return Err(ApplyFault::NotNow);

@@ -9,3 +9,9 @@ returns-then-not-enabled-clause-not_now g c = λ e main first s core n made. let
 
 pub returns-in-Ok-clause-ok : goal.returns-in-Ok-clause-ok
 returns-in-Ok-clause-ok g c = subst (λ (k : Kept). IsMade c.args.code.now k (kept_of g.D.Deps.seen c.make.new.self) c.args.m) c.enabled.ensures.same c.in-Ok.ensures
+
+pub returns-in-Ok-clause-now : goal.returns-in-Ok-clause-now
+returns-in-Ok-clause-now g c = λ no main first s core. (c.enabled.ensures.enabled c.args.code.now main first s core).0 c.if-not-enabled.false
+
+pub returns-in-Err-clause-now : goal.returns-in-Err-clause-now
+returns-in-Err-clause-now g c = λ no main first s core. (c.enabled.ensures.enabled c.args.code.now main first s core).0 c.if-not-enabled.false
