@@ -18,6 +18,7 @@
 #   out: TEXT             the output, with escapes as `printf %b` reads them; more such lines are joined; none where it is empty
 #   err: LINE             the one line of the error output; none where it is empty
 #   schedule: LINE        a line of the schedule; each such line is one more
+#   links: follow         where the output goes on, behind what is told of it, with links of a chain, which has at least as many acts as the second line tells ticks
 #   end: no newline       where the newline at the end of the file does not belong to the program
 #   program:              what stands behind this line is the program, to the end of the file
 # It is called in a folder that holds nothing but the program, as p.c, and the schedule, where the case has one, as s.txt. A run without a mode is called in the mode
@@ -53,6 +54,20 @@ expect() {
   judge "$name" "$wanted" "$out" "$err" $?
 }
 
+# expect_chain NAME STATUS OUT-FILE ERR-FILE WORD..: the same, where links follow. Any longest chain may be told, so what is looked at is that each line is a link, and that
+# the acts are no fewer than the ticks of the second line.
+expect_chain() {
+  name=$1 wanted=$2 out=$3 err=$4
+  shift 4
+  "$program" "$@" >"$work/told" 2>"$work/err" </dev/null
+  got=$?
+  awk 'NR <= 2 { print; ticks = $2; next }
+    /^acts [0-9.]+ [0-9]+ [1-9][0-9]*$/ { acts += $4; next }
+    !/^(let|join) [0-9.]+ [0-9]+$/ { print }
+    END { if (acts < ticks) print "acts " acts + 0 " ticks " ticks }' "$work/told" >"$work/out"
+  judge "$name" "$wanted" "$out" "$err" "$got"
+}
+
 # replay_trace NAME: the replay of the trace of p.c that is left in $work/out, against its run
 replay_trace() {
   cp "$work/out" t.txt
@@ -60,9 +75,9 @@ replay_trace() {
   expect "$1, replayed" $? "$work/run_out" "$work/run_err" replay p.c t.txt
 }
 
-# leaves the program of a case in p.c, its schedule in s.txt, and what is said of them in `words`, `status`, `out_text`, `err_text`
+# leaves the program of a case in p.c, its schedule in s.txt, and what is said of them in `words`, `status`, `out_text`, `err_text` and `judged`
 read_case() {
-  words='' status='' out_text='' err_text='' end=''
+  words='' status='' out_text='' err_text='' end='' judged=expect
   rm -f s.txt
   {
     while IFS= read -r line; do
@@ -74,6 +89,7 @@ read_case() {
         'err: '*) err_text=${line#err: }'\n' ;;
         'schedule: '*) printf '%s\n' "${line#schedule: }" >>s.txt ;;
         'schedule:') echo >>s.txt ;;
+        'links: follow') judged=expect_chain ;;
         'end: no newline') end=cut ;;
         '# '*) ;;
         *) status="a number; this line is unknown: $line" ;;
@@ -207,7 +223,7 @@ for file in "$top"/tests/cases/*/*.case; do
   set -f
   # The words are parted here.
   # shellcheck disable=SC2086
-  expect "${file#"$top"/}" "$status" "$work/wanted_out" "$work/wanted_err" $words
+  "$judged" "${file#"$top"/}" "$status" "$work/wanted_out" "$work/wanted_err" $words
   # A run by waves says what a run of one task after the other says, and the trace of a run is a schedule that leads to the same answer.
   case $status$words in
     2* | *--mode* | *--deps*) ;;
@@ -226,7 +242,7 @@ done
 
 mkdir "$work/words"
 cd "$work/words" || exit 1
-echo 'usage: nest6 run FILE | check FILE | trace FILE | replay FILE SCHEDULE | soak NUMBER SIZE | audit FILE' >usage
+echo 'usage: nest6 run FILE | check FILE | trace FILE | replay FILE SCHEDULE | soak NUMBER SIZE | span FILE | audit FILE' >usage
 echo 'refused: NoMain at line 1' >no_main
 echo 'refused: Lexical at line 2' >lexical
 echo 'refused: TooLarge at line 1' >too_large

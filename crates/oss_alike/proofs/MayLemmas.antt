@@ -22,10 +22,10 @@ module _ {S T : Type 0} (P : Program S) (Q : Program T) (R : Start S → Start T
   top_forth : (c : ℕ) (p : List ℕ) → IsTop s c p → IsTop n c p
   top_forth c p (is_top {k = k} h) = is_top (access_forth c (k ∷ []) h)
 
-  child_forth : (c : ℕ) (u v : List ℕ) → IsChild s c u v → IsChild n c u v
+  pub child_forth : (c : ℕ) (u v : List ℕ) → IsChild s c u v → IsChild n c u v
   child_forth c u v (is_child {k = k} {i = i} {p = p} a b) = is_child (access_forth c (i ∷ p) a) (access_forth c (k ∷ i ∷ p) b)
 
-  earlier_forth : (c : ℕ) (u v : List ℕ) → IsEarlier s c u v → IsEarlier n c u v
+  pub earlier_forth : (c : ℕ) (u v : List ℕ) → IsEarlier s c u v → IsEarlier n c u v
   earlier_forth c u v (is_earlier {i = i} {p = p} l a) = is_earlier l (access_forth c (i ∷ p) a)
 
   given_forth : (c : ℕ) (p : List ℕ) → HasGiven s c p → HasGiven n c p
@@ -33,7 +33,7 @@ module _ {S T : Type 0} (P : Program S) (Q : Program T) (R : Start S → Start T
       let k = at_forth same p a.task a.at_ in
       record { task = k.0; at_ = k.1; given = subst (λ (xs : List ℕ). IsIn c xs) k.2.given a.given }
 
-  mode_alike : (o : Option (Task S)) (q : Option (Task T)) (c : ℕ) → AreFoundAlike R o q → mode_in o c ≡ mode_in q c
+  pub mode_alike : (o : Option (Task S)) (q : Option (Task T)) (c : ℕ) → AreFoundAlike R o q → mode_in o c ≡ mode_in q c
   mode_alike None None c h = refl
   mode_alike None (Some u) c h = absurd h
   mode_alike (Some t) None c h = absurd h

@@ -10,7 +10,7 @@ use Rattle.oss_model.specs.Moves.{act_now, created_now, is_ended, found_by, afte
 use Rattle.oss_model.specs.Sequence.{Running, Sequential, opens, runs_on, RunsOn, direct_cells, printed_after, path_above, active_after}
 use Rattle.oss_model.specs.Answers.{IsResult, ends, fails}
 use Rattle.oss_alike.specs.Alike.{AreActsAlike, both_tick, both_load, both_store, both_fold, both_create, both_include, both_await, both_wait, both_wait_on, both_release, both_print, both_end, both_fault, both_over, IsBisimulation, AreTasksAlike, IsAlike}
-use Rattle.oss_alike.proofs.TurnLemmas.{acts_back, at_forth}
+use Rattle.oss_alike.proofs.TurnLemmas.{acts_back, at_both, at_forth}
 use Rattle.oss_alike.proofs.ActLemmas.{halt_back, now, created_alike, answered_alike}
 use Rattle.oss_alike.proofs.MakeLemmas.{acting, acts, acting_cells}
 use Rattle.oss_alike.proofs.AlikeTheorem.{opening_alike, answer_alike, task_step_alike}
@@ -20,7 +20,7 @@ goes_to : List ℕ → Bool → List ℕ
 goes_to p e = if e then path_above p else p
 
 module _ {S T : Type 0} {R : Start S → Start T → Type 0} {f : Frame S} {g : Frame T} where
-  over_forth : {a : Act S} {b : Act T} → AreActsAlike R f g a b → a ≡ Over → b ≡ Over
+  pub over_forth : {a : Act S} {b : Act T} → AreActsAlike R f g a b → a ≡ Over → b ≡ Over
   over_forth both_over e = refl
   over_forth both_tick e = cc
   over_forth both_load e = cc
@@ -93,51 +93,54 @@ pub record IsStageAlike {S T : Type 0} (R : Start S → Start T → Type 0) (z :
   pub printed : z.printed ≡ y.printed
 
 module _ {S T : Type 0} (P : Program S) (Q : Program T) (R : Start S → Start T → Type 0) (is : IsBisimulation P Q R) where
-  -- the runs go on to stages that are alike
-  goes_on : (z x : Running S) (y : Running T) → IsStageAlike R z y → RunsOn P z x → (w : Running T) × RunsOn Q y w × IsStageAlike R x w
-  goes_on z x y same r = (
-    record { state = acting y.state y.active u at_u Q cells; active = active_after Q u y.active w act; printed = printed_after act y.printed },
-    record {
-      task = u;
-      at_ = at_u;
-      goes = λ h. r.goes (halt_back (now P Q R is k.2).acts h);
-      tasks = acts y.state y.active u at_u Q cells;
-      cells = acting_cells y.state y.active u at_u Q cells;
-      active = refl;
-      printed = refl;
-    },
-    record {
-      state = record {
-        cells = r.cells ∙ (ap (direct_cells (act_now P r.task.body)) same.state.cells ∙ (direct_alike (now P Q R is k.2).acts y.state.cells ∙ sym (acting_cells y.state y.active u at_u Q cells)));
-        tasks = λ q. task_step_alike P Q R is same.state y.active k.2
-            (subst (λ (p : List ℕ). TaskStep P z.state p r.task (found_by (act_now P r.task.body) z.state.cells) x.state) same.active r.tasks) (acts y.state y.active u at_u Q cells) q;
-      };
-      active = r.active ∙ (ap (λ (p : List ℕ). active_after P r.task p v (act_now P r.task.body)) same.active
-          ∙ active_alike P Q r.task u y.active v w (created_alike P Q R is k.2) (now P Q R is (answered_alike k.2 v w (answer_alike P Q R is same.state k.2))).ended (now P Q R is k.2).acts);
-      printed = r.printed ∙ (ap (printed_after (act_now P r.task.body)) same.printed ∙ printed_alike (now P Q R is k.2).acts y.printed);
-    },
-  )
+  -- two runs that go on from stages that are alike come to stages that are
+  pub both_go_on : (z x : Running S) (y w : Running T) → IsStageAlike R z y → RunsOn P z x → RunsOn Q y w → IsStageAlike R x w
+  both_go_on z x y w same r m = record {
+    state = record {
+      cells = r.cells ∙ (ap (direct_cells (act_now P r.task.body)) same.state.cells ∙ (direct_alike (now P Q R is k).acts y.state.cells ∙ sym m.cells));
+      tasks = λ q. task_step_alike P Q R is same.state y.active k
+          (subst (λ (p : List ℕ). TaskStep P z.state p r.task v x.state) same.active r.tasks) m.tasks q;
+    };
+    active = r.active ∙ (ap (λ (p : List ℕ). active_after P r.task p v (act_now P r.task.body)) same.active
+        ∙ (active_alike P Q r.task m.task y.active v u (created_alike P Q R is k) (now P Q R is (answered_alike k v u (answer_alike P Q R is same.state k))).ended (now P Q R is k).acts ∙ sym m.active));
+    printed = r.printed ∙ (ap (printed_after (act_now P r.task.body)) same.printed ∙ (printed_alike (now P Q R is k).acts y.printed ∙ sym m.printed));
+  }
     where
-      k : (u : Task T) × At y.state y.active u × AreTasksAlike R r.task u
-      k = at_forth same.state y.active r.task (subst (λ (p : List ℕ). At z.state p r.task) same.active r.at_)
-
-      u : Task T
-      u = k.0
-
-      at_u : At y.state y.active u
-      at_u = k.1
-
-      act : Act T
-      act = act_now Q u.body
-
-      cells : List ℕ
-      cells = direct_cells act y.state.cells
+      k : AreTasksAlike R r.task m.task
+      k = at_both same.state y.active r.task m.task (subst (λ (p : List ℕ). At z.state p r.task) same.active r.at_) m.at_
 
       v : ℕ
       v = found_by (act_now P r.task.body) z.state.cells
 
-      w : ℕ
-      w = found_by act y.state.cells
+      u : ℕ
+      u = found_by (act_now Q m.task.body) y.state.cells
+
+  -- the runs go on to stages that are alike
+  pub goes_on : (z x : Running S) (y : Running T) → IsStageAlike R z y → RunsOn P z x → (w : Running T) × RunsOn Q y w × IsStageAlike R x w
+  goes_on z x y same r = (w, on, both_go_on z x y w same r on)
+    where
+      k : (u : Task T) × At y.state y.active u × AreTasksAlike R r.task u
+      k = at_forth same.state y.active r.task (subst (λ (p : List ℕ). At z.state p r.task) same.active r.at_)
+
+      act : Act T
+      act = act_now Q k.0.body
+
+      cells : List ℕ
+      cells = direct_cells act y.state.cells
+
+      w : Running T
+      w = record { state = acting y.state y.active k.0 k.1 Q cells; active = active_after Q k.0 y.active (found_by act y.state.cells) act; printed = printed_after act y.printed }
+
+      on : RunsOn Q y w
+      on = record {
+        task = k.0;
+        at_ = k.1;
+        goes = λ h. r.goes (halt_back (now P Q R is k.2).acts h);
+        tasks = acts y.state y.active k.0 k.1 Q cells;
+        cells = acting_cells y.state y.active k.0 k.1 Q cells;
+        active = refl;
+        printed = refl;
+      }
 
   -- the sequential runs have stages that are alike
   pub sequential_too : (main : Start S) (other : Start T) (cells : List ℕ) → R main other → {z : Running S} → Sequential P main cells z → (y : Running T) × Sequential Q other cells y × IsStageAlike R z y

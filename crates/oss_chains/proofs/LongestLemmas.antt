@@ -1,14 +1,14 @@
 -- A longest chain of the pass, told of its events.
-use Rattle.std.proofs.Common.{◌≡◌, ◌≤◌, ◌<◌, ◌⊎◌, inl, inr, refl, sym, subst, ap, ◌∙◌, ℕ, zero, suc, ◌+◌, ◌-◌, ◌^◌, Bool, true, false, List, [], ◌∷◌, ◌++◌, length, Option, Some, None, arith}
-use Rattle.std.specs.Prelude.{if◌then◌else◌, min, nat_le, reverse}
+use Rattle.std.proofs.Common.{◌≡◌, ◌≤◌, ◌⊎◌, inl, inr, refl, sym, subst, ap, ◌∙◌, ℕ, suc, ◌+◌, Bool, true, false, List, [], ◌∷◌, ◌++◌, length, Option, arith}
+use Rattle.std.specs.Prelude.{if◌then◌else◌, nat_le, reverse}
 use Rattle.std.proofs.lemmas.Bool.Decides.{nat_tests}
 use Rattle.std.proofs.lemmas.List.{reverse-append}
 use Rattle.oss_model.specs.Bodies.{Act, Program, Start, stage_act}
-use Rattle.oss_model.specs.Machine.{HasAccess, State, Task, find}
+use Rattle.oss_model.specs.Machine.{HasAccess, State, Task}
 use Rattle.oss_model.specs.Order.{IsIn, here, there, IsSuffix, whole, longer}
 use Rattle.oss_model.specs.Sequence.{Running, Sequential, opens, runs_on}
 use Rattle.oss_model.proofs.OrderLemmas.{suffix_drop, suffix_length}
-use Rattle.oss_chains.specs.Chains.{Best, IsChain, IsMost, IsTrail, none, one, more, capped, ticks_in}
+use Rattle.oss_chains.specs.Chains.{Best, IsMost, IsTrail, none, more, capped, ticks_in}
 use Rattle.oss_chains.specs.Happenings.{Happening, Acting, Giving, Does, HasTicks, IsHappening, IsLeft, last_act, last_cell, WaitsFor, follows, begins, reads, writes, waits, awaits, waits_on, released, ends, ends_below, joins, tick_of}
 use Rattle.oss_chains.specs.Runs.{IsEventChain, IsLongest, Ticks, no_ticks, more_ticks, answers_before, ticks_at, ticks_of_act}
 use Rattle.oss_chains.proofs.WaitLemmas.{one_before, ended_at, join_ahead, read_ahead, under, write_ahead}

@@ -1,7 +1,7 @@
 -- The ticks of a run, and the longest of its chains.
 -- Read against: main creates a task with one tick and waits: there are main's ticks and one more; each chain from main's first act through the creation, the
 -- task's tick and its end to the wait has them all.
-use Rattle.std.specs.Prelude.{◌≡◌, ◌≤◌, ℕ, ◌+◌, nat_le, if◌then◌else◌, List, [], ◌∷◌, length, reverse, Option, Some, None}
+use Rattle.std.specs.Prelude.{◌≤◌, ℕ, ◌+◌, nat_le, if◌then◌else◌, List, [], ◌∷◌, length, Option, Some, None}
 use Rattle.oss_model.specs.Bodies.{Program, Start, stage_act}
 use Rattle.oss_model.specs.Machine.{State, Task, find}
 use Rattle.oss_model.specs.Moves.{act_now, opening}

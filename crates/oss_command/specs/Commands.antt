@@ -10,7 +10,7 @@
 -- to run the generated program from 7 on with 9 tasks; `soak 18446744073709551615 9000 --mode=serial` is one too, and `soak 7`, `soak 07 9`, `soak 7 0`, `soak 7 9001`, `soak 7 9 --fuel=5`
 -- and `soak 18446744073709551616 9` are refused.
 -- And: `audit a.c` asks for what the tasks of the program in `a.c` name and never touch, with fuel for 1,000,000 ticks a task, and `audit --fuel=5 a.c` with fuel for 5; `audit`, `audit a.c b.c`,
--- `audit a.c --dump` and `audit a.c --fuel=0` are refused.
+-- `audit a.c --dump` and `audit a.c --fuel=0` are refused. `span` takes the same words: `span a.c` asks how parallel the program in `a.c` can be at best.
 use Rattle.std.specs.Prelude.{◌≡◌, ◌<◌, ℕ, Bool, true, false, not, ◌&&◌, ◌||◌, ◌==◌, if◌then◌else◌, nat_le, List, [], ◌∷◌, ◌++◌, length, take, drop, Option, Some, None, Result, Ok, Err, codes, option_map}
 use Rattle.std.specs.Str.{bytes_eq}
 use Rattle.oss_sched.specs.Reading.{number_in}
@@ -24,7 +24,7 @@ use Rattle.oss_command.specs.declared.command.Command.TheVariants as told
 use Rattle.oss_command.specs.declared.command.WordsRefused.{WordsRefused}
 
 -- What is asked for, of the program in the file of this name. A replay is of the schedule in a second file, and each task in it has so much fuel. A soak is a run of a program without a
--- file: the generated one from a number on, of so many tasks. An audit is what its tasks name and never touch, where each has so much fuel.
+-- file: the generated one from a number on, of so many tasks. An audit is what its tasks name and never touch, and a span how parallel it can be at best, where each task has so much fuel.
 pub data Command : Type 0 where
   run : (file : List ℕ) (options : Options) → Command
   check : (file : List ℕ) → Command
@@ -32,6 +32,7 @@ pub data Command : Type 0 where
   replay : (file schedule : List ℕ) (fuel : ℕ) → Command
   soak : (number size : ℕ) (options : Options) → Command
   audit : (file : List ℕ) (fuel : ℕ) → Command
+  span : (file : List ℕ) (fuel : ℕ) → Command
 
 -- the name of the file with its program, where it has one
 abbrev pub file_of : Command → Option (List ℕ)
@@ -41,6 +42,7 @@ file_of (trace file options) = Some file
 file_of (replay file schedule fuel) = Some file
 file_of (soak number size options) = None
 file_of (audit file fuel) = Some file
+file_of (span file fuel) = Some file
 
 -- the name of the file with its schedule, where it has one
 abbrev pub schedule_of : Command → Option (List ℕ)
@@ -50,6 +52,7 @@ schedule_of (trace file options) = None
 schedule_of (replay file schedule fuel) = Some schedule
 schedule_of (soak number size options) = None
 schedule_of (audit file fuel) = None
+schedule_of (span file fuel) = None
 
 -- Operands
 
@@ -162,7 +165,7 @@ is_trace_word w = is_operand w || is_there (behind deps_name w) || is_there (beh
 abbrev pub is_soak_word : List ℕ → Bool
 is_soak_word w = is_operand w || is_there (behind mode_name w) || is_there (behind deps_name w) || is_there (behind workers_name w)
 
--- a word that `replay` and `audit` may have
+-- a word that `replay`, `span` and `audit` may have
 abbrev pub is_fuel_word : List ℕ → Bool
 is_fuel_word w = is_operand w || is_there (behind fuel_name w)
 
@@ -196,10 +199,10 @@ abbrev pub replay_of : Option (List ℕ × List ℕ) → Option ℕ → Option C
 replay_of (Some (file, schedule)) (Some fuel) = Some (replay file schedule fuel)
 replay_of _ _ = None
 
--- an audit of a file, if that and the fuel are there
-abbrev pub audit_of : Option (List ℕ) → Option ℕ → Option Command
-audit_of (Some file) (Some fuel) = Some (audit file fuel)
-audit_of _ _ = None
+-- a file with the fuel, if both are there
+abbrev pub with_fuel : Option (List ℕ) → Option ℕ → Option (List ℕ × ℕ)
+with_fuel (Some file) (Some fuel) = Some (file, fuel)
+with_fuel _ _ = None
 
 -- a trace of a file with options, if both are there
 abbrev pub trace_of : Option (List ℕ) → Option Options → Option Command
@@ -231,8 +234,14 @@ check_asked words = if all_by is_operand words then option_map (λ file. check f
 abbrev pub replay_asked : List (List ℕ) → Option Command
 replay_asked words = if all_by is_fuel_word words then replay_of (the_two (operands_in words)) (fuel_in words) else None
 
+abbrev pub file_and_fuel_in : List (List ℕ) → Option (List ℕ × ℕ)
+file_and_fuel_in words = if all_by is_fuel_word words then with_fuel (the_one (operands_in words)) (fuel_in words) else None
+
 abbrev pub audit_asked : List (List ℕ) → Option Command
-audit_asked words = if all_by is_fuel_word words then audit_of (the_one (operands_in words)) (fuel_in words) else None
+audit_asked words = option_map (λ asked. audit asked.0 asked.1) (file_and_fuel_in words)
+
+abbrev pub span_asked : List (List ℕ) → Option Command
+span_asked words = option_map (λ asked. span asked.0 asked.1) (file_and_fuel_in words)
 
 abbrev pub trace_asked : List (List ℕ) → Option Command
 trace_asked words = if all_by is_trace_word words then trace_of (the_one (operands_in words)) (options_in words) else None
@@ -243,7 +252,8 @@ soak_asked words = if all_by is_soak_word words then soak_of (the_two (operands_
 abbrev pub asked_by : List ℕ → List (List ℕ) → Option Command
 asked_by word rest = if bytes_eq word (codes "run") then run_asked rest else if bytes_eq word (codes "check") then check_asked rest
     else if bytes_eq word (codes "trace") then trace_asked rest else if bytes_eq word (codes "replay") then replay_asked rest
-    else if bytes_eq word (codes "soak") then soak_asked rest else if bytes_eq word (codes "audit") then audit_asked rest else None
+    else if bytes_eq word (codes "soak") then soak_asked rest else if bytes_eq word (codes "span") then span_asked rest
+    else if bytes_eq word (codes "audit") then audit_asked rest else None
 
 -- what the words ask for; none where they are refused
 abbrev pub asked_of : List (List ℕ) → Option Command
@@ -258,6 +268,7 @@ meant (told.Trace file options) = trace file.now options
 meant (told.Replay asked) = replay asked.file.now asked.schedule.now asked.fuel
 meant (told.Soak asked) = soak asked.number asked.size asked.options
 meant (told.Audit file fuel) = audit file.now fuel
+meant (told.Span file fuel) = span file.now fuel
 
 -- A command that runs a program has a worker at least.
 abbrev pub HasWorkers : Command → Type 0
@@ -267,6 +278,7 @@ HasWorkers (trace file options) = 0 < options.workers
 HasWorkers (replay file schedule fuel) = Unit {0}
 HasWorkers (soak number size options) = 0 < options.workers
 HasWorkers (audit file fuel) = Unit {0}
+HasWorkers (span file fuel) = Unit {0}
 
 abbrev pub IsAskedBy : Option Command → Result Told WordsRefused → Type 0
 IsAskedBy command (Ok t) = command ≡ Some (meant t)
@@ -277,4 +289,4 @@ IsAsked words told = IsAskedBy (asked_of words) told
 
 -- what is told of words that are refused
 abbrev pub usage_line : List ℕ
-usage_line = codes "usage: nest6 run FILE | check FILE | trace FILE | replay FILE SCHEDULE | soak NUMBER SIZE | audit FILE" ++ 10 ∷ []
+usage_line = codes "usage: nest6 run FILE | check FILE | trace FILE | replay FILE SCHEDULE | soak NUMBER SIZE | span FILE | audit FILE" ++ 10 ∷ []

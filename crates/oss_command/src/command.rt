@@ -2,7 +2,7 @@
 
 ghost use Rattle.std.specs.Prelude.{◌≡◌, ◌≤◌, map, option_map, Some, IfOk, IfSome};
 ghost use Rattle.std.specs.String.{string_bytes};
-ghost use Rattle.oss_command.specs.Commands.{HasWorkers, IsAsked, IsAskedBy, asked_by, audit_asked, check_asked, file_of, meant, replay_asked, run_asked, soak_asked, soak_of, trace_asked};
+ghost use Rattle.oss_command.specs.Commands.{HasWorkers, IsAsked, IsAskedBy, asked_by, audit_asked, check_asked, file_and_fuel_in, file_of, meant, replay_asked, run_asked, soak_asked, soak_of, span_asked, trace_asked};
 ghost use Rattle.oss_command.specs.Commands.Command.{soak};
 
 use crate::operands::{
@@ -40,6 +40,8 @@ pub enum Command<'w> {
     Soak(Soak),
     /// To tell which cells the tasks of the program in a file name and never touch, where a task may do so many ticks, 1 to 1,000,000,000; 1,000,000 where nothing is said.
     Audit(&'w str, u32),
+    /// To tell how parallel the program in a file can be at best, where a task may do so many ticks, 1 to 1,000,000,000; 1,000,000 where nothing is said.
+    Span(&'w str, u32),
 }
 
 /// Why words are refused.
@@ -81,6 +83,9 @@ fn command_on<'w>(command: &str, rest: &'w [String]) -> Result<Command<'w>, Word
     }
     if command == "soak" {
         return soak_on(rest);
+    }
+    if command == "span" {
+        return span_on(rest);
     }
     if command == "audit" {
         return audit_on(rest);
@@ -175,21 +180,38 @@ fn soak_on(rest: &[String]) -> Result<Command<'_>, WordsRefused>
     }
 }
 
+/// What `span` asks for with the words behind it.
+fn span_on(rest: &[String]) -> Result<Command<'_>, WordsRefused>
+    ensures asked { IsAskedBy (span_asked (map string_bytes rest.now)) result }
+    ensures workers { IfOk result (λ told. HasWorkers (meant told)) }
+{
+    match file_and_fuel(rest) {
+        Some((file, fuel)) => Ok(Command::Span(file, fuel)),
+        None => Err(WordsRefused::Usage),
+    }
+}
+
 /// What `audit` asks for with the words behind it.
 fn audit_on(rest: &[String]) -> Result<Command<'_>, WordsRefused>
     ensures asked { IsAskedBy (audit_asked (map string_bytes rest.now)) result }
     ensures workers { IfOk result (λ told. HasWorkers (meant told)) }
 {
-    if !are_fuel_words(rest) {
-        return Err(WordsRefused::Usage);
-    }
-    let Some(file) = the_operand(rest) else {
-        return Err(WordsRefused::Usage);
-    };
-    match read_fuel(rest) {
-        Some(fuel) => Ok(Command::Audit(file, fuel)),
+    match file_and_fuel(rest) {
+        Some((file, fuel)) => Ok(Command::Audit(file, fuel)),
         None => Err(WordsRefused::Usage),
     }
+}
+
+/// The file and the fuel that `audit` and `span` take from the words behind them; none where the words are something else.
+fn file_and_fuel(rest: &[String]) -> Option<(&str, u32)>
+    ensures { option_map (λ asked. (asked.0.now, asked.1)) result ≡ file_and_fuel_in (map string_bytes rest.now) }
+{
+    if !are_fuel_words(rest) {
+        return None;
+    }
+    let file = the_operand(rest)?;
+    let fuel = read_fuel(rest)?;
+    Some((file, fuel))
 }
 
 /// The soak that two words and options ask for.
@@ -219,6 +241,7 @@ impl<'w> Command<'w> {
             Command::Replay(asked) => Some(asked.file),
             Command::Soak(_) => None,
             Command::Audit(file, _) => Some(file),
+            Command::Span(file, _) => Some(file),
         }
     }
 }

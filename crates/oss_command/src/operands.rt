@@ -50,7 +50,7 @@ fn can_be_soak_word(word: &str) -> bool
         || behind(b"--workers=", bytes).is_some()
 }
 
-/// Whether a word may stand behind `replay` and `audit`.
+/// Whether a word may stand behind `replay`, `span` and `audit`.
 fn can_be_fuel_word(word: &str) -> bool
     ensures { result ≡ is_fuel_word word.now }
 {
@@ -81,7 +81,7 @@ pub fn are_listed(words: &[String]) -> bool
     true
 }
 
-/// Whether each of the words may stand behind `replay` and `audit`.
+/// Whether each of the words may stand behind `replay`, `span` and `audit`.
 pub fn are_fuel_words(words: &[String]) -> bool
     ensures { result ≡ all_by is_fuel_word (map string_bytes words.now) }
 {

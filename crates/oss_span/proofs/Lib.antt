@@ -13,3 +13,4 @@ pub mod StepLemmas
 pub mod TurnWays
 pub mod SpanLemmas
 pub mod EdgeLemmas
+pub mod BesideLemmas

@@ -7,3 +7,6 @@ pub mod Links
 pub mod Shown
 pub mod Passes
 pub mod Spans
+pub mod Endings
+pub mod Lines
+pub mod Reply

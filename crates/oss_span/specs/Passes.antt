@@ -1,19 +1,17 @@
 -- What is kept beside the sequential run, of all tasks that have not ended, and how it goes on.
-use Rattle.std.specs.Prelude.{◌≡◌, ◌<◌, ℕ, false, List, [], ◌∷◌, ◌++◌, length, reverse, None}
+use Rattle.std.specs.Prelude.{◌≡◌, ◌<◌, ℕ, false, List, [], ◌∷◌, ◌++◌, length, None}
 use Rattle.oss_syntax.specs.declared.access.Access.{Access}
 use Rattle.oss_code.specs.declared.code.CodeParts.{CodeParts}
 use Rattle.oss_judge.specs.Joined.{IsRising, held_right}
 use Rattle.oss_machine.specs.Frames.{CodeScript}
-use Rattle.oss_model.specs.Bodies.{Program, Start}
+use Rattle.oss_model.specs.Bodies.{Start}
 use Rattle.oss_model.specs.Context.{right_of}
-use Rattle.oss_model.specs.Machine.{State}
 use Rattle.oss_model.specs.Order.{written}
 use Rattle.oss_model.specs.Rights.{right_from}
 use Rattle.oss_ranges.specs.Cells.{value_at}
 use Rattle.oss_body.specs.declared.act.Act.{Act as CodeAct}
 use Rattle.oss_body.specs.declared.body.Body.{Body as Kept}
 use Rattle.oss_body.specs.Relation.{IsBody, has_wait}
-use Rattle.oss_chains.specs.Happenings.{Happening}
 use Rattle.oss_span.specs.declared.best.Best.{Best}
 use Rattle.oss_span.specs.declared.frame.Frame.{Frame}
 use Rattle.oss_span.specs.declared.link.Link.{Link}
@@ -23,8 +21,7 @@ use Rattle.oss_span.specs.declared.run.Run.{Run}
 use Rattle.oss_span.specs.Acts.{IsSealed, ticked}
 use Rattle.oss_span.specs.Bests.{better, no_best}
 use Rattle.oss_span.specs.Frames.{IsActed, IsClosed, IsOpened, is_tick}
-use Rattle.oss_span.specs.Links.{Unfolds}
-use Rattle.oss_span.specs.Shown.{Shows}
+use Rattle.oss_span.specs.Shown.{AreLinksOf}
 use Rattle.oss_span.specs.Tables.{painted}
 
 -- These are the accesses of the body, and this is its point.
@@ -69,7 +66,7 @@ pub record IsTold (pass : Pass) (ticks : ℕ) (links : List Link) : Type 0 where
   pub nodes : List Node
   pub sealed : IsSealed pass.frame.task pass.frame.run run pass.nodes nodes last
   pub ticks_are : ticks ≡ (better last pass.frame.left).mark.ticks
-  pub unfolds : (P : Program CodeScript) (s : State CodeScript) (es : List Happening) → Shows P s nodes pass.points (better last pass.frame.left).mark.end (better last pass.frame.left).cell es → Unfolds P s links (reverse es)
+  pub unfolds : AreLinksOf nodes pass.points (better last pass.frame.left) links
 
 -- So many tasks stood above the one that ran, and so many above the one that runs.
 pub record IsFollowed (depth now : ℕ) (body : Kept) (old new : Pass) : Type 0 where

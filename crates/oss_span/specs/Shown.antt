@@ -1,7 +1,8 @@
 -- Which chain the nodes show that ends at one of them.
 -- Read against: the node of main's acts 2 and 3 behind nothing shows these two acts, the later one first; the node of a giving by the task 0.1 behind that one shows, at
 -- cell 4, the giving of cell 4 and then these two.
-use Rattle.std.specs.Prelude.{◌≡◌, ◌≤◌, ◌<◌, ℕ, zero, suc, ◌-◌, nat_lt, if◌then◌else◌, List, [], ◌∷◌, Option, Some, None, slice_get, unwrap_or}
+use Rattle.std.specs.Prelude.{◌≡◌, ◌≤◌, ◌<◌, ℕ, zero, suc, ◌-◌, nat_lt, if◌then◌else◌, List, [], ◌∷◌, Option, Some, None, reverse, slice_get, unwrap_or}
+use Rattle.oss_machine.specs.Frames.{CodeScript}
 use Rattle.oss_model.specs.Bodies.{Program}
 use Rattle.oss_model.specs.Machine.{State}
 use Rattle.oss_model.specs.Order.{written}
@@ -14,7 +15,7 @@ use Rattle.oss_span.specs.declared.node.Node.TheVariants.{Acts, Gives}
 use Rattle.oss_span.specs.declared.node.Verb.{Verb}
 use Rattle.oss_span.specs.declared.node.Verb.TheVariants as verbs
 use Rattle.oss_span.specs.declared.walk.Step.{Step}
-use Rattle.oss_span.specs.Links.{IsJoined}
+use Rattle.oss_span.specs.Links.{IsJoined, Unfolds}
 
 -- So many acts of a task, from the one before `end` on down, in front of these events.
 abbrev pub acts_back : List ℕ → ℕ → ℕ → List Happening → List Happening
@@ -60,3 +61,7 @@ IsStepOf points c None step = step ≡ None
 
 abbrev pub IsStep : List Node → List (List ℕ) → ℕ → ℕ → Option Step → Type 0
 IsStep nodes points at_ c step = IsStepOf points c (slice_get nodes at_) step
+
+-- Whichever chain the nodes show in this end, in whichever state, the links stand for it, its first event first.
+abbrev pub AreLinksOf : List Node → List (List ℕ) → Best → List Link → Type 0
+AreLinksOf nodes points best links = (P : Program CodeScript) (s : State CodeScript) (es : List Happening) → Shows P s nodes points best.mark.end best.cell es → Unfolds P s links (reverse es)

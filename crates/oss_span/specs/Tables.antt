@@ -8,10 +8,19 @@ use Rattle.oss_ranges.specs.Cells.{is_within, value_at}
 use Rattle.oss_span.specs.declared.best.Best.{Best}
 use Rattle.oss_span.specs.declared.best.Mark.{Mark}
 use Rattle.oss_span.specs.declared.marks.Marks.{Marks}
+use Rattle.oss_span.specs.declared.marks.Change.{Change}
 use Rattle.oss_span.specs.declared.marks.Change.TheVariants.{Release}
 use Rattle.oss_span.specs.declared.marks.Way.{Way}
 use Rattle.oss_span.specs.Bests.{no_best}
 use Rattle.oss_span.specs.Changes.{changed_at, opened, picked}
+
+-- Each cell of the range of which something is kept is changed so, and the others are as they were.
+abbrev pub AreChanged : Range → Change → List (Piece Marks) → List (Piece Marks) → Type 0
+AreChanged range change old new = (c : ℕ) → value_at new c ≡ (if is_within range.lo range.hi c then changed_at change (value_at old c) else value_at old c)
+
+-- Of each cell of the access is kept what the creator gives to it, and the others are as they were.
+abbrev pub AreOpened : Access → List (Piece Marks) → List (Piece Marks) → List (Piece Marks) → Type 0
+AreOpened access creator old new = (c : ℕ) → value_at new c ≡ (if is_within access.range.lo access.range.hi c then Some (opened (value_at creator c) access.mode access.strong) else value_at old c)
 
 -- What is kept of a cell after each access was opened over what the creator keeps of it, the last one last.
 abbrev pub painted : Option Marks → List Access → ℕ → Option Marks → Option Marks

@@ -82,7 +82,7 @@ fn close_cells(
     child: &RangeMap<Marks>,
     kept: Best,
 ) -> Result<Best, AllocError>
-    ensures cells { IfOk result (λ lets. AreClosed (length nodes.old) nodes.new task kept child.now.pieces creator.old.pieces creator.new.pieces 1048576 lets) }
+    ensures cells { IfOk result (λ b. AreClosed (length nodes.old) nodes.new task kept child.now.pieces creator.old.pieces creator.new.pieces 1048576 b) }
     ensures grows { OnOk result (Grows nodes.old nodes.new) }
 {
     let mut lets = no_best();

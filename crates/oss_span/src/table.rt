@@ -1,10 +1,8 @@
 //! What a task keeps of its cells, by ranges.
 
-ghost use Rattle.std.specs.Prelude.{◌≡◌, ◌≤◌, ◌<◌, ℕ, [], if◌then◌else◌, IfOk, OnOk, Some, None};
-ghost use Rattle.oss_model.specs.Rights.{right_from};
-ghost use Rattle.oss_ranges.specs.Cells.{is_within, value_at};
-ghost use Rattle.oss_span.specs.Changes.{changed_at, opened};
-ghost use Rattle.oss_span.specs.Tables.{IsGreatest, IsGreatestOf, painted, released};
+ghost use Rattle.std.specs.Prelude.{◌≡◌, ℕ, IfOk, OnOk, None};
+ghost use Rattle.oss_ranges.specs.Cells.{value_at};
+ghost use Rattle.oss_span.specs.Tables.{AreChanged, AreOpened, IsGreatest, IsGreatestOf, painted, released};
 
 use crate::best::{Best, Mark, no_best};
 use crate::marks::{Change, Marks, Way, opened_at};
@@ -18,7 +16,7 @@ pub fn change_all(
     range: Range,
     change: Change,
 ) -> Result<(), AllocError>
-    ensures { OnOk result ((c : ℕ) → value_at table.new.pieces c ≡ (if is_within range.lo range.hi c then changed_at change (value_at table.old.pieces c) else value_at table.old.pieces c)) }
+    ensures { OnOk result (AreChanged range change table.old.pieces table.new.pieces) }
 {
     let mut from = range.lo;
     while from < range.hi {
@@ -37,7 +35,7 @@ fn open_access(
     creator: &RangeMap<Marks>,
     access: Access,
 ) -> Result<(), AllocError>
-    ensures { OnOk result ((c : ℕ) → value_at table.new.pieces c ≡ (if is_within access.range.lo access.range.hi c then Some (opened (value_at creator.now.pieces c) access.mode access.strong) else value_at table.old.pieces c)) }
+    ensures { OnOk result (AreOpened access creator.now.pieces table.old.pieces table.new.pieces) }
 {
     let range = access.range;
     let mut from = range.lo;

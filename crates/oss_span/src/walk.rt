@@ -1,12 +1,7 @@
 //! A longest chain, read off the nodes.
 
-ghost use Rattle.std.specs.Prelude.{◌≡◌, ◌<◌, [], List as Items, ℕ, Option, None, IfOk, IfSome, OnOk, reverse};
-ghost use Rattle.oss_machine.specs.Frames.{CodeScript};
-ghost use Rattle.oss_model.specs.Bodies.{Program};
-ghost use Rattle.oss_model.specs.Machine.{State};
-ghost use Rattle.oss_chains.specs.Happenings.{Happening};
-ghost use Rattle.oss_span.specs.Links.{Unfolds};
-ghost use Rattle.oss_span.specs.Shown.{IsStep, Shows, below};
+ghost use Rattle.std.specs.Prelude.{◌≡◌, ◌<◌, IfOk, IfSome};
+ghost use Rattle.oss_span.specs.Shown.{AreLinksOf, IsStep, below};
 
 use crate::best::Best;
 use crate::link::Link;
@@ -29,7 +24,7 @@ pub fn links_of(
     points: &[Point],
     best: Best,
 ) -> Result<List<Link>, AllocError>
-    ensures { IfOk result (λ links. (P : Program CodeScript) (s : State CodeScript) (es : Items Happening) → Shows P s nodes.now points.now best.mark.end best.cell es → Unfolds P s links (reverse es)) }
+    ensures { IfOk result (λ links. AreLinksOf nodes.now points.now best links) }
 {
     let mut links = Vec::new(alloc);
     let mut end = best.mark.end;

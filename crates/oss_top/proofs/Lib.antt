@@ -1,7 +1,6 @@
 pub mod FormLemmas
 pub mod KnownLemmas
 pub mod OrderLemmas
-pub mod CodeMoves
 pub mod CountLemmas
 pub mod TraceMoves
 pub mod ReplayLemmas

@@ -33,7 +33,7 @@ use Rattle.oss_top.specs.Replays.{IsReplayReply, beginning}
 use Rattle.oss_top.specs.Replays.IsReplayReply.{ended, stuck, unfinished}
 use Rattle.oss_top.specs.declared.reply.Reply.{Reply}
 use Rattle.oss_top.specs.declared.status.Status.TheVariants as status
-use Rattle.oss_top.proofs.CodeMoves.{codes_do_the_same, codes_open_alike, is_moved, outcome_of}
+use Rattle.oss_spanned.proofs.CodeMoves.{codes_do_the_same, codes_open_alike, is_moved, outcome_of}
 
 module _ (p : Program) (code : CodeParts) (of : IsCodeOf p.items code) (words : AreWords code.first) (fuel : ℕ) (list : List TextMove) where
   abbrev P : Asks TreeScript

@@ -11,7 +11,7 @@ use Rattle.oss_grammar.specs.TaskLoops.{program_written}
 use Rattle.oss_model.specs.Texts.{refusal_line}
 use Rattle.oss_parse.proofs.OneProgram.{parsed_once}
 use Rattle.oss_command.specs.Commands.{Command, asked_of}
-use Rattle.oss_command.specs.Commands.Command.{audit, check, replay, run, soak, trace}
+use Rattle.oss_command.specs.Commands.Command.{audit, check, replay, run, soak, span, trace}
 use Rattle.oss_command.specs.declared.options.Options.{Options}
 use Rattle.oss_gen.specs.Generated.{generated_text}
 use Rattle.oss_meaning.specs.Expressions.{TreeScript}
@@ -23,14 +23,15 @@ use Rattle.oss_lower.proofs.OutcomeLaws.{outcomes_are_one}
 use Rattle.oss_model.specs.declared.answer.Answer.{Answer}
 use Rattle.oss_model.specs.declared.answer.Answer.TheVariants.{Done, Fault}
 use Rattle.oss_meaning.specs.Results.IsOutcome.{ends as outcome_ends}
-use Rattle.oss_audit.specs.Unused.{IsAudited}
-use Rattle.oss_audit.specs.Unused.IsAudited.{ends as audit_ends, fails as audit_fails}
-use Rattle.oss_audit.specs.declared.unused.Unused.{Unused}
+use Rattle.oss_audit.specs.Lines.{audit_text}
+use Rattle.oss_audited.proofs.OneAudit.{audits_are_one}
+use Rattle.oss_spanned.proofs.SpanMoves.{spans_agree}
 use Rattle.oss_sched.proofs.OneReading.{read_once}
 use Rattle.oss_report.specs.Replays.{schedule_line}
 use Rattle.oss_top.specs.Audits.{IsAuditReply}
+use Rattle.oss_top.specs.Spans.{IsSpanReply}
 use Rattle.oss_top.specs.Forms.{answer_reply, error_reply, soak_reply, told_reply, trace_reply}
-use Rattle.oss_top.specs.OneReply.{IsOfOneText, IsReplied, IsRepliedOnce}
+use Rattle.oss_top.specs.OneReply.{IsOfOneReply, IsReplied, IsRepliedOnce}
 use Rattle.oss_top.specs.ProgramTexts.{Accepts, Refuses}
 use Rattle.oss_top.specs.ProgramTexts.Refuses.{by_grammar, by_rules}
 use Rattle.oss_top.proofs.ReplayLemmas.{replay_once}
@@ -40,7 +41,7 @@ use Rattle.oss_top.specs.Replays.IsScheduleReply.{replayed, wrong_line}
 use Rattle.oss_top.specs.Replays.IsTextsReply.{accepted as texts_accepted, refused_text as texts_refused}
 use Rattle.oss_top.specs.Replays.IsFilesReply.{fit, too_large as files_too_large, too_long}
 use Rattle.oss_top.specs.Reply.{AreHeld, AreShown, IsCommandReply, IsComplete, IsFileReply, IsOutcome, IsProgramReply, IsReply, IsRunReply, IsShelfReply, IsTextReply, IsUnwritten, Texts}
-use Rattle.oss_top.specs.Reply.IsProgramReply.{audited, checked, ran, soaked, traced}
+use Rattle.oss_top.specs.Reply.IsProgramReply.{audited, checked, ran, soaked, spanned, traced}
 use Rattle.oss_top.specs.Soaks.{IsSoakReply}
 use Rattle.oss_top.specs.Traces.{IsTraceOf, IsTraceReply, text_of}
 use Rattle.oss_top.specs.Reply.IsTextReply.{accepted, refused_text}
@@ -76,29 +77,29 @@ soak_once : (options : Options) (p : Program) (reply other : Reply) → IsSoakRe
 soak_once options p reply other x y =
     x.is_reply ∙ ap (λ (o : Outcome). soak_reply o.tasks o.answer) (outcome_once p options.fuel x.outcome y.outcome x.is_outcome y.is_outcome) ∙ sym y.is_reply
 
--- an audit has the answer of the run's outcome
-audited_outcome : (p : Program) (fuel : ℕ) (a : Answer) (us : List Unused) → IsAudited (asks_of p.items) (main_of p.items fuel) (first_cells p.items) a us → (o : Outcome) × IsOutcomeOf p.items fuel o × (o.answer ≡ a)
-audited_outcome p fuel a us (audit_ends made end over are) = (_, outcome_ends made end over, refl)
-audited_outcome p fuel a us (audit_fails {o} is fault) = (o, is, fault)
+audit_once : (fuel : ℕ) (p : Program) (reply other : Reply) → IsAuditReply fuel p reply → IsAuditReply fuel p other → reply ≡ other
+audit_once fuel p reply other x y =
+    let (same, list) = audits_are_one TreeScript (asks_of p.items) (main_of p.items fuel) (first_cells p.items) x.answer y.answer x.audited.unused y.audited.unused x.audited.audited y.audited.audited in
+    let texts : x.text ≡ y.text = x.audited.text_is ∙ ap audit_text list ∙ sym y.audited.text_is in
+    x.is_reply ∙ (λ i. told_reply (texts i) (same i)) ∙ sym y.is_reply
 
 -- the status is told by the answer
 told_status : (a : Answer) (text other : List ℕ) → (told_reply text a).status ≡ (told_reply other a).status
 told_status (Done printed cells) text other = refl
 told_status (Fault kind line printed) text other = refl
 
-audit_alike : (fuel : ℕ) (p : Program) (reply other : Reply) → IsAuditReply fuel p reply → IsAuditReply fuel p other → reply.status ≡ other.status
-audit_alike fuel p reply other x y =
-    let (o, is, e) = audited_outcome p fuel x.answer x.audited.unused x.audited.audited in
-    let (q, at, f) = audited_outcome p fuel y.answer y.audited.unused y.audited.audited in
-    let same : x.answer ≡ y.answer = sym e ∙ ap (λ (z : Outcome). z.answer) (outcome_once p fuel o q is at) ∙ f in
+span_alike : (fuel : ℕ) (p : Program) (reply other : Reply) → IsSpanReply fuel p reply → IsSpanReply fuel p other → reply.status ≡ other.status
+span_alike fuel p reply other x y =
+    let (same, _, _) = spans_agree TreeScript (asks_of p.items) (main_of p.items fuel) (first_cells p.items) x.answer y.answer x.told.work y.told.work x.told.span y.told.span x.told.chain y.told.chain x.told.spanned y.told.spanned in
     ap (λ (r : Reply). r.status) x.is_reply ∙ ap (λ (a : Answer). (told_reply x.text a).status) same ∙ told_status y.answer x.text y.text ∙ ap (λ (r : Reply). r.status) (sym y.is_reply)
 
-program_once : (c : Command) → IsOfOneText c → (p : Program) (reply other : Reply) → IsProgramReply c p reply → IsProgramReply c p other → reply ≡ other
+program_once : (c : Command) → IsOfOneReply c → (p : Program) (reply other : Reply) → IsProgramReply c p reply → IsProgramReply c p other → reply ≡ other
 program_once c of p reply other (checked x) (checked y) = x ∙ sym y
 program_once c of p reply other (ran {options} x) (ran y) = run_once options p reply other x y
 program_once c of p reply other (traced {options} x) (traced y) = trace_once options.fuel p reply other x y
 program_once c of p reply other (soaked {options} x) (soaked y) = soak_once options p reply other x y
-program_once c of p reply other (audited {fuel} x) (audited y) = absurd of
+program_once c of p reply other (audited {fuel} x) (audited y) = audit_once fuel p reply other x y
+program_once c of p reply other (spanned {fuel} x) (spanned y) = absurd of
 
 abbrev status_of : Reply → Status
 status_of reply = reply.status
@@ -108,7 +109,8 @@ program_alike c p reply other (checked x) (checked y) = ap status_of (x ∙ sym 
 program_alike c p reply other (ran {options} x) (ran y) = ap status_of (run_once options p reply other x y)
 program_alike c p reply other (traced {options} x) (traced y) = ap status_of (trace_once options.fuel p reply other x y)
 program_alike c p reply other (soaked {options} x) (soaked y) = ap status_of (soak_once options p reply other x y)
-program_alike c p reply other (audited {fuel} x) (audited y) = audit_alike fuel p reply other x y
+program_alike c p reply other (audited {fuel} x) (audited y) = ap status_of (audit_once fuel p reply other x y)
+program_alike c p reply other (spanned {fuel} x) (spanned y) = span_alike fuel p reply other x y
 
 module _ (text : List ℕ) (once : IsParsedOnce text) where
   -- a text that is accepted is not refused
@@ -189,6 +191,7 @@ command_alike (check file) texts reply other x y = file_alike texts.file (check 
 command_alike (trace file options) texts reply other x y = file_alike texts.file (trace file options) reply other x y
 command_alike (soak number size options) texts reply other x y = file_alike (generated_text number size) (soak number size options) reply other x y
 command_alike (audit file fuel) texts reply other x y = file_alike texts.file (audit file fuel) reply other x y
+command_alike (span file fuel) texts reply other x y = file_alike texts.file (span file fuel) reply other x y
 command_alike (replay file schedule fuel) texts reply other x y = ap status_of ((replied_once texts.file texts.schedule).one fuel reply other x y)
 
 -- the text that is shown is the one that is held
@@ -202,6 +205,7 @@ by_held held (check file) told texts reply same is x = subst (λ t. IsFileReply 
 by_held held (trace file options) told texts reply same is x = subst (λ t. IsFileReply (trace file options) t reply) (same_text texts.file told.file (held file) same is) x
 by_held held (soak number size options) told texts reply same is x = x
 by_held held (audit file fuel) told texts reply same is x = subst (λ t. IsFileReply (audit file fuel) t reply) (same_text texts.file told.file (held file) same is) x
+by_held held (span file fuel) told texts reply same is x = subst (λ t. IsFileReply (span file fuel) t reply) (same_text texts.file told.file (held file) same is) x
 by_held held (replay file schedule fuel) told texts reply (same, shows) (is, holds) x =
     subst (λ t. IsFilesReply fuel t texts.schedule reply) (same_text texts.file told.file (held file) same is)
     (subst (λ t. IsFilesReply fuel told.file t reply) (same_text texts.schedule told.schedule (held schedule) shows holds) x)

@@ -26,13 +26,16 @@ use Rattle.oss_audit.specs.Lines.{audit_text}
 use Rattle.oss_audit.specs.Reply.{IsAuditedOf}
 use Rattle.oss_audit.specs.declared.unused.Unused.{Unused}
 use Rattle.oss_top.specs.Audits.{IsAuditReply}
+use Rattle.oss_top.specs.Spans.{IsSpanReply}
+use Rattle.oss_span.specs.Reply.{IsSpannedOf, span_text}
+use Rattle.oss_span.specs.declared.link.Link.{Link}
 use Rattle.oss_top.specs.Forms.{answer_reply, soak_reply, told_reply, trace_reply}
 use Rattle.oss_top.specs.Reply.{IsRunReply}
 use Rattle.oss_top.specs.Runs.{AreWavesOf, IsDone, IsRanBy, IsRanOf}
 use Rattle.oss_top.specs.Soaks.{IsSoakReply}
 use Rattle.oss_top.specs.Traces.{IsTraceReply, move_of, record_of}
 use Rattle.oss_top.specs.declared.reply.Reply.{Reply}
-use Rattle.oss_top.proofs.CodeMoves.{outcome_of}
+use Rattle.oss_spanned.proofs.CodeMoves.{outcome_of}
 use Rattle.oss_top.proofs.CountLemmas.{as_many_tasks}
 use Rattle.oss_top.proofs.TraceMoves.{traces_of_code}
 
@@ -129,3 +132,8 @@ trace_replies p fuel answer waves reply is e =
 -- the reply to an audit
 pub audit_replies : (p : Program) (fuel : ℕ) (answer : Answer) (us : List Unused) (text : List ℕ) (reply : Reply) → IsAuditedOf p.items fuel answer us → text ≡ audit_text us → reply ≡ told_reply text answer → IsAuditReply fuel p reply
 audit_replies p fuel answer us text reply is e f = record { answer = answer; text = text; audited = record { unused = us; audited = is; text_is = e }; is_reply = f }
+
+-- the reply that tells of a longest chain
+pub span_replies : (p : Program) (fuel : ℕ) (answer : Answer) (work span : ℕ) (chain : List Link) (text : List ℕ) (reply : Reply) → IsSpannedOf p.items fuel answer work span chain → text ≡ span_text work span chain
+    → reply ≡ told_reply text answer → IsSpanReply fuel p reply
+span_replies p fuel answer work span chain text reply is e f = record { answer = answer; text = text; told = record { work = work; span = span; chain = chain; spanned = is; text_is = e }; is_reply = f }

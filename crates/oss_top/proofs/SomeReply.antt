@@ -24,7 +24,7 @@ use Rattle.oss_parse.specs.Parsed.{told_of}
 use Rattle.oss_parse.specs.ProgramReading.{read_text}
 use Rattle.oss_parse.proofs.ParsedLemmas.{parsed}
 use Rattle.oss_command.specs.Commands.{Command}
-use Rattle.oss_command.specs.Commands.Command.{audit, run, check, trace, replay, soak}
+use Rattle.oss_command.specs.Commands.Command.{audit, run, check, trace, replay, soak, span}
 use Rattle.oss_rounds.proofs.ExistLemmas.{has_trace}
 use Rattle.oss_meaning.specs.Expressions.{TreeScript}
 use Rattle.oss_meaning.specs.Meaning.{asks_of}
@@ -95,6 +95,7 @@ program_reply : (c : Command) → IsOfOneText c → (text : List ℕ) (p : Progr
 program_reply (check file) of text p a = (done_reply accepted_line, checked refl)
 program_reply (replay file schedule fuel) of text p a = absurd of
 program_reply (audit file fuel) of text p a = absurd of
+program_reply (span file fuel) of text p a = absurd of
 program_reply (run file options) of text p a =
     let (o, is) = some_outcome text p a options.fuel in
     (answer_reply options.dump (program_written p) o.answer, ran (record { outcome = o; is_outcome = is; is_reply = refl }))

@@ -12,7 +12,7 @@ use Rattle.oss_machine.specs.Machines.{asks}
 use Rattle.oss_body.specs.Mains.{code_main}
 use Rattle.oss_lower.specs.Programs.{IsCodeOf}
 use Rattle.oss_lower.proofs.OutcomeLaws.{start_is}
-use Rattle.oss_top.proofs.CodeMoves.{codes_do_the_same, is_moved}
+use Rattle.oss_spanned.proofs.CodeMoves.{codes_do_the_same, is_moved}
 
 module _ (all : List Item) (code : CodeParts) (of : IsCodeOf all code) (fuel : ℕ) (trace : Trace) where
   -- the trace of the code is that of the program

@@ -1,4 +1,5 @@
 pub mod Audits
+pub mod Spans
 pub mod EveryOrder
 pub mod Forms
 pub mod OneReply

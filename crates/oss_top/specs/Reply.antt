@@ -11,7 +11,7 @@
 --
 -- Read against: of `long x; int main() { x = 1; }` the reply to `check` is Done with `ok`, to `run` Done with nothing, and to `run --dump` Done with the line
 -- `x = 1`; with `x = 1 / x;` in its place the reply to `run`, with a dump or without, is Fault with nothing on the output and DivideByZero at line 1; of the empty text
--- it is TextRefused with NoMain at line 1 to all three, to `trace` and `audit`, and to a replay, whatever lines its schedule has; and of words that are refused, no file is read.
+-- it is TextRefused with NoMain at line 1 to all three, to `trace`, `span` and `audit`, and to a replay, whatever lines its schedule has; and of words that are refused, no file is read.
 use Rattle.std.specs.Prelude.{◌≡◌, ◌≤◌, ◌<◌, ◌⊎◌, ℕ, List, [], length, Option, Some, None, IfSome}
 use Rattle.oss_io.specs.Spans.{ShelfSpan, ShelfFailed, ShelfQuiet, SinkSpan, SinkFailed, TookWhole, TookPart, Untouched}
 use Rattle.oss_syntax.specs.declared.tree.program.Program.{Program}
@@ -20,7 +20,7 @@ use Rattle.oss_model.specs.Texts.{refusal_line}
 use Rattle.oss_grammar.specs.TaskLoops.{program_written}
 use Rattle.oss_meaning.specs.Results.{IsOutcomeOf, Outcome}
 use Rattle.oss_command.specs.Commands.{Command, asked_of, file_of, schedule_of, usage_line}
-use Rattle.oss_command.specs.Commands.Command.{audit, run, check, trace, replay, soak}
+use Rattle.oss_command.specs.Commands.Command.{audit, run, check, trace, replay, soak, span}
 use Rattle.oss_command.specs.declared.options.Options.{Options}
 use Rattle.oss_gen.specs.Generated.{generated_text}
 use Rattle.oss_top.specs.Audits.{IsAuditReply}
@@ -28,6 +28,7 @@ use Rattle.oss_top.specs.Forms.{accepted_line, answer_reply, done_reply, error_r
 use Rattle.oss_top.specs.ProgramTexts.{Accepts, Refuses}
 use Rattle.oss_top.specs.Replays.{IsFilesReply}
 use Rattle.oss_top.specs.Soaks.{IsSoakReply}
+use Rattle.oss_top.specs.Spans.{IsSpanReply}
 use Rattle.oss_top.specs.Statuses.{number_of}
 use Rattle.oss_top.specs.Traces.{IsTraceReply}
 use Rattle.oss_top.specs.declared.reply.Reply.{Reply}
@@ -39,14 +40,15 @@ pub record IsRunReply (options : Options) (program : Program) (reply : Reply) : 
   pub is_outcome : IsOutcomeOf program.items options.fuel outcome
   pub is_reply : reply ≡ answer_reply options.dump program outcome.answer
 
--- The reply of a command with one text to a program that breaks no rule: a check accepts it, a run runs it, a trace tells of its run by waves, a soak runs it and counts its tasks, and an
--- audit tells which cells its tasks name and never touch.
+-- The reply of a command with one text to a program that breaks no rule: a check accepts it, a run runs it, a trace tells of its run by waves, a soak runs it and counts its tasks, an
+-- audit tells which cells its tasks name and never touch, and a span how parallel it can be at best.
 pub data IsProgramReply : Command → Program → Reply → Type 0 where
   checked : {file : List ℕ} {program : Program} {reply : Reply} → reply ≡ done_reply accepted_line → IsProgramReply (check file) program reply
   ran : {file : List ℕ} {options : Options} {program : Program} {reply : Reply} → IsRunReply options program reply → IsProgramReply (run file options) program reply
   traced : {file : List ℕ} {options : Options} {program : Program} {reply : Reply} → IsTraceReply options.fuel program reply → IsProgramReply (trace file options) program reply
   soaked : {number size : ℕ} {options : Options} {program : Program} {reply : Reply} → IsSoakReply options program reply → IsProgramReply (soak number size options) program reply
   audited : {file : List ℕ} {fuel : ℕ} {program : Program} {reply : Reply} → IsAuditReply fuel program reply → IsProgramReply (audit file fuel) program reply
+  spanned : {file : List ℕ} {fuel : ℕ} {program : Program} {reply : Reply} → IsSpanReply fuel program reply → IsProgramReply (span file fuel) program reply
 
 -- the reply of such a command to a text of at most 1,048,576 bytes: that to its program with each task loop written out, where it is accepted
 pub data IsTextReply (c : Command) (text : List ℕ) (reply : Reply) : Type 0 where
@@ -71,6 +73,7 @@ IsCommandReply (trace file options) texts reply = IsFileReply (trace file option
 IsCommandReply (replay file schedule fuel) texts reply = IsFilesReply fuel texts.file texts.schedule reply
 IsCommandReply (soak number size options) texts reply = IsFileReply (soak number size options) (generated_text number size) reply
 IsCommandReply (audit file fuel) texts reply = IsFileReply (audit file fuel) texts.file reply
+IsCommandReply (span file fuel) texts reply = IsFileReply (span file fuel) texts.file reply
 
 -- These are the texts that are told under the names of the files, as far as any are told.
 abbrev pub AreShown : (List ℕ → Option (List ℕ)) → Command → Texts → Type 0
@@ -79,6 +82,7 @@ AreShown held (check file) texts = IfSome (held file) (λ t. texts.file ≡ t)
 AreShown held (trace file options) texts = IfSome (held file) (λ t. texts.file ≡ t)
 AreShown held (soak number size options) texts = Unit {0}
 AreShown held (audit file fuel) texts = IfSome (held file) (λ t. texts.file ≡ t)
+AreShown held (span file fuel) texts = IfSome (held file) (λ t. texts.file ≡ t)
 AreShown held (replay file schedule fuel) texts = IfSome (held file) (λ t. texts.file ≡ t) × IfSome (held schedule) (λ t. texts.schedule ≡ t)
 
 -- The texts are told under the names of the files, and are these.
@@ -88,6 +92,7 @@ AreHeld held (check file) texts = held file ≡ Some texts.file
 AreHeld held (trace file options) texts = held file ≡ Some texts.file
 AreHeld held (soak number size options) texts = Unit {0}
 AreHeld held (audit file fuel) texts = held file ≡ Some texts.file
+AreHeld held (span file fuel) texts = held file ≡ Some texts.file
 AreHeld held (replay file schedule fuel) texts = (held file ≡ Some texts.file) × (held schedule ≡ Some texts.schedule)
 
 -- The reply to a command, by what is seen of the shelf:

@@ -1,4 +1,4 @@
-//! The top call: it reads words and files, checks, runs and traces programs, replays schedules, audits programs, runs generated ones, and tells what comes of it.
+//! The top call: it reads words and files, checks, runs and traces programs, replays schedules, tells how parallel programs can be, audits them, runs generated ones, and tells what comes of it.
 #![tactic(auto)]
 
 mod audit;
@@ -7,6 +7,7 @@ mod laws;
 mod replay;
 mod reply;
 mod run;
+mod span;
 mod status;
 #[cfg(test)]
 mod tests;

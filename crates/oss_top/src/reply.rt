@@ -5,7 +5,7 @@ ghost use Rattle.std.specs.String.{string_bytes};
 ghost use Rattle.oss_io.specs.Spans.{shelf_span};
 ghost use Rattle.oss_model.specs.Texts.{refusal_line as line_of_refusal};
 ghost use Rattle.oss_command.specs.Commands.{HasWorkers, file_of, meant};
-ghost use Rattle.oss_command.specs.Commands.Command.{audit, check, run, soak, trace};
+ghost use Rattle.oss_command.specs.Commands.Command.{audit, check, run, soak, span, trace};
 ghost use Rattle.oss_gen.specs.Generated.{generated_text};
 ghost use Rattle.oss_top.specs.Forms.{accepted_line, done_reply, error_reply, fault_reply};
 ghost use Rattle.oss_top.specs.Reads.{IsReadReply};
@@ -15,6 +15,7 @@ use crate::audit::reply_to_audit;
 use crate::known::known;
 use crate::replay::reply_to_replay;
 use crate::run::{reply_to_run, reply_to_soak};
+use crate::span::reply_to_span;
 use crate::status::Status;
 use crate::texts;
 use crate::trace::reply_to_trace;
@@ -153,6 +154,7 @@ fn reply_to_read<R: Threads + Sync, S: Shelf, G: Gate>(
         Command::Replay(asked) => reply_to_replay(alloc, asked, text, shelf),
         Command::Soak(asked) => soaked(rt, alloc, asked, gate),
         Command::Audit(_, fuel) => audit_text(alloc, fuel, text),
+        Command::Span(_, fuel) => span_text(alloc, fuel, text),
     }
 }
 
@@ -227,6 +229,17 @@ fn audit_text(alloc: Global, fuel: u32, text: &[u8]) -> Result<Reply, AllocError
 {
     match known(alloc, text) {
         Ok(known) => reply_to_audit(alloc, fuel, &known),
+        Err(refusal) => reply_to_refusal(alloc, refusal),
+    }
+}
+
+/// The reply that tells how parallel the program with this text can be.
+fn span_text(alloc: Global, fuel: u32, text: &[u8]) -> Result<Reply, AllocError>
+    requires { length text.now ≤ 1048576 }
+    ensures { IfOk result (λ reply. (file : Items ℕ) → IsTextReply (span file fuel) text.now reply) }
+{
+    match known(alloc, text) {
+        Ok(known) => reply_to_span(alloc, fuel, &known),
         Err(refusal) => reply_to_refusal(alloc, refusal),
     }
 }

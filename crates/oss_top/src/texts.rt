@@ -13,7 +13,7 @@ pub fn usage(alloc: Global) -> Result<Bytes, AllocError>
 {
     Bytes::from_slice(
         alloc,
-        b"usage: nest6 run FILE | check FILE | trace FILE | replay FILE SCHEDULE | soak NUMBER SIZE | audit FILE\n",
+        b"usage: nest6 run FILE | check FILE | trace FILE | replay FILE SCHEDULE | soak NUMBER SIZE | span FILE | audit FILE\n",
     )
 }
 

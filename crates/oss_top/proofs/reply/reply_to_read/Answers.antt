@@ -20,3 +20,6 @@ returns-in-Soak g c = if_ok c.soaked.result (λ reply is. rw (ap meant c.in-Soak
 
 pub returns-in-Audit : goal.returns-in-Audit
 returns-in-Audit g c = if_ok c.audit_text.result (λ reply is. rw (ap meant c.in-Audit.is) (refl, is _)) c.audit_text.ensures
+
+pub returns-in-Span : goal.returns-in-Span
+returns-in-Span g c = if_ok c.span_text.result (λ reply is. rw (ap meant c.in-Span.is) (refl, is _)) c.span_text.ensures

@@ -1,0 +1,4 @@
+pub mod CodeMoves
+pub mod ChainMoves
+pub mod TickMoves
+pub mod SpanMoves
