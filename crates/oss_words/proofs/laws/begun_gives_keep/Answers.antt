@@ -1,0 +1,5 @@
+use Rattle.oss_words.proofs.RuleLaw.{rule_begin}
+use Rattle.oss_words.proofs.laws.begun_gives_keep.Goals as goal
+
+pub returns : goal.returns
+returns c = λ n draw net gave states states' infos views id v w gave' e rule at l h x y up d t. rule_begin n net gave states states' infos draw views id v w rule at gave' e l up t h x y d

@@ -1,0 +1,5 @@
+use Rattle.oss_words.proofs.KnowLemmas.{no_sibling_hangs}
+use Rattle.oss_words.proofs.laws.owners_know_lists.Goals as goal
+
+pub returns : goal.returns
+returns c = λ n draw net gave states infos views id v o rule at own none. no_sibling_hangs n draw net gave states infos views rule id v o at own none
