@@ -1,5 +1,6 @@
 //! Whole programs, run in ways of which no clause says that they happen. What is expected was worked out by hand, or is the answer of the sequential run.
 
+mod chains;
 mod draws;
 mod gates;
 mod looping;

@@ -1,0 +1,16 @@
+mod PointLemmas
+mod ListLemmas
+mod EndLemmas
+mod NoteLemmas
+mod MadeLemmas
+mod WaitingLemmas
+mod CellLemmas
+mod GivingLemmas
+mod OrderLemmas
+mod HoldingLemmas
+mod StepLemmas
+mod RecordLemmas
+mod TickLemmas
+mod FollowLemmas
+mod OneEndLemmas
+mod FinalLemmas

@@ -1,0 +1,10 @@
+use Rattle.std.proofs.Common.{◌∙◌, ap}
+use Rattle.std.specs.Prelude.{◌&&◌}
+use Rattle.oss_certify.specs.Holding.{is_told}
+use Rattle.oss_certify.proofs.FinalLemmas.{certified}
+use Rattle.oss_certify.proofs.run.check_from.Goals as goal
+
+pub returns-in-Ok : goal.returns-in-Ok
+returns-in-Ok c =
+    certified c.args.code.now c.args.fuel c.follow.new.watch.record c.in-Ok.ended c.told.result c.args.chain.now c.args.ticks c.in-Ok.ensures
+    (c.told.ensures ∙ ap (λ ls. c.in-Ok.ended && is_told c.follow.new.watch.record ls c.args.ticks) c.as_slice.ensures)
