@@ -1,0 +1,16 @@
+pub mod CallLemmas
+pub mod DeliverLemmas
+pub mod DrawLemmas
+pub mod FamilyLemmas
+pub mod FillLemmas
+pub mod GiveLemmas
+pub mod HoldLemmas
+pub mod LinkLemmas
+pub mod NetLemmas
+pub mod PlaceLemmas
+pub mod ReadLemmas
+pub mod ReleaseLemmas
+pub mod RoomLemmas
+pub mod SeatLemmas
+pub mod TableLemmas
+pub mod WordLemmas
