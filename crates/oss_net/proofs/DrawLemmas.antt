@@ -14,7 +14,8 @@ use Rattle.oss_words.specs.Bits.{state_at, state_word, info_at}
 use Rattle.oss_words.specs.Rule.{Rule}
 use Rattle.oss_words.specs.SeatSteps.{Draws, Drawing, enough, too_few, numbers}
 use Rattle.oss_words.specs.Sums.{total}
-use Rattle.oss_words.specs.Views.{View, At}
+use Rattle.oss_words.specs.Net.{Place}
+use Rattle.oss_words.specs.Views.{View, Among, At}
 use Rattle.oss_words.proofs.RuleLaw.{rule_draw}
 use Rattle.oss_net.specs.declared.sight.Sight.{Sight}
 use Rattle.oss_net.specs.Moves.{drew, missed}
@@ -86,6 +87,10 @@ draws n id s count most may live size ws sights stands at =
     let low : x ≤ 1099545182208 = draw_small n ws sights stands id s at in
     let word : (x + count) % 2 ^ 64 ≡ x + count = mod_small (x + count) (2 ^ 64) (omega (arith, low, most)) in
     let old = stands.knows id s at in
+    let seats = stands.rule.seats in
+    let owns : (e : ℕ) → Among e s.known.view.owned → e < x = (λ e m. (seats.owned_drawn id s.known.view (view_at sights id s at) e m).0) in
+    let linked : (e : ℕ) (p : Place) → Among (record { entry = e; place = p }) s.known.view.links → e < x =
+    (λ e p m. let r = seats.named_link id s.known.view (view_at sights id s at) (record { entry = e; place = p }) m in seats.hung_drawn e (λ q. r.1 (sym r.0 ∙ q))) in
     subst (λ (y : ℕ). (s' : Sight) × Stands n (set ws 0 y) (set sights id s') × plays.Draws (step 0 0 count 0 maybe.none) (s, []) x (s', [])) (sym word) (dite (dec_le (x + count) n)
     (λ le.
     let s' : Sight = record { known = drew count x s.known } in
@@ -98,7 +103,7 @@ draws n id s count most may live size ws sights stands at =
     let found : Drawing n x count s.known.view s'.known.view = enough le refl refl in
     let step_is : Draws n x (x + count) count s.known.view s'.known.view = record { most = most; may = may; live = grind (arith, live); adds = refl; found = found; held = refl; half = refl; links = refl; gives = refl; seen = refl; delivered = refl; parts = refl; splits = refl } in
     let rule = rule_draw n stands.net stands.gave (states_of ws) (infos_of ws) x (views_of sights) stands.rule (x + count) count id s.known.view s'.known.view (view_at sights id s at) step_is in
-    (s', drawn_stands n ws sights stands id s s' at count rule knows refl refl refl, (refl, omega (arith, low), (λ _. refl), (λ lt. absurd (omega (arith, lt, le, size))))))
+    (s', drawn_stands n ws sights stands id s s' at count rule knows refl refl refl, (refl, omega (arith, low), owns, seats.main_drawn, linked, (λ _. refl), (λ lt. absurd (omega (arith, lt, le, size))))))
     (λ gt.
     let more : n < x + count = lt_of_not-le gt in
     let s' : Sight = record { known = missed x s.known } in
@@ -106,4 +111,4 @@ draws n id s count most may live size ws sights stands at =
     let found : Drawing n x count s.known.view s'.known.view = too_few more refl refl in
     let step_is : Draws n x (x + count) count s.known.view s'.known.view = record { most = most; may = may; live = grind (arith, live); adds = refl; found = found; held = refl; half = refl; links = refl; gives = refl; seen = refl; delivered = refl; parts = refl; splits = refl } in
     let rule = rule_draw n stands.net stands.gave (states_of ws) (infos_of ws) x (views_of sights) stands.rule (x + count) count id s.known.view s'.known.view (view_at sights id s at) step_is in
-    (s', drawn_stands n ws sights stands id s s' at count rule knows refl refl refl, (refl, omega (arith, low), (λ le. absurd (omega (arith, le, more, size))), (λ _. refl)))))
+    (s', drawn_stands n ws sights stands id s s' at count rule knows refl refl refl, (refl, omega (arith, low), owns, seats.main_drawn, linked, (λ le. absurd (omega (arith, le, more, size))), (λ _. refl)))))

@@ -12,7 +12,7 @@ use Rattle.oss_words.specs.SeatSteps.{numbers}
 use Rattle.oss_words.specs.Views.{Among, among_first, among_later, View, Seen}
 use Rattle.oss_words.proofs.SeatLemmas.{among_append, among_left}
 use Rattle.oss_net.specs.declared.held.Held.{Held}
-use Rattle.oss_net.specs.Calls.{Carries, Hung, Released, Delivered, LinkSends, GiveSends}
+use Rattle.oss_net.specs.Calls.{Carries, Hung, Released, Delivered, LinkSends, GiveSends, with_none, with_last}
 use Rattle.oss_net.specs.Known.{Known, Told, first_known}
 use Rattle.oss_net.specs.Moves.{drew, missed, keeping, handed, joined}
 use Rattle.oss_net.specs.Standing.{Idle, Ready, Settled, Learns, message_of}
@@ -116,8 +116,14 @@ released_learns a b d e h l = record {
   links = ap (λ (v : View). v.links) l.view ∙ h.links;
   gives = ap (λ (v : View). v.gives) l.view ∙ h.gives;
   delivered = ap (λ (v : View). v.delivered) l.view ∙ h.delivered;
-  sends = subst (λ (z : List Message). GiveSends a e z) (sym (ap (λ (v : View). v.held) l.view)) h.sends;
+  sends = subst (λ (z : List Message). GiveSends a d e z) (sym (ap (λ (v : View). v.held) l.view)) (sends_learns h.sends);
 }
+  where
+    sends_learns : GiveSends a b e b.view.held → GiveSends a d e b.view.held
+    sends_learns s = elim s [
+      | with_none i t none x ↦ with_none i (l.told (record { entry = e; info = i }) t) none x
+      | with_last j i t kin none x ↦ with_last j i (l.told (record { entry = j; info = i }) t) kin none x
+    ]
 
 pub delivered_learns : (a b d : Known) → Delivered a b → Learns b d → Delivered a d
 delivered_learns a b d h l = record {
@@ -127,6 +133,7 @@ delivered_learns a b d h l = record {
   delivered = ap (λ (v : View). v.delivered) l.view ∙ h.delivered;
   message = h.message;
   info = h.info;
+  told = h.told;
   found = h.found;
   held = h.held;
   first = h.first;

@@ -77,13 +77,13 @@ module _ (n : ℕ) (a b : Known) (e : ℕ) (idle : Idle n a) (may : MayRelease a
 
   -- with no child
   module _ (c : Known) (x : ℕ) (i : EntryInfo) (q : c ≡ gave_up e i x b) where
-    pub whole_released : ((j : ℕ) → Among (record { entry = j; place = first e }) a.view.links → ⊥) → Released a c e
-    whole_released none = subst (λ (z : Known). Released a z e) (sym q) record {
+    pub whole_released : Among (record { entry = e; info = i }) b.told → ((j : ℕ) → Among (record { entry = j; place = first e }) a.view.links → ⊥) → Released a c e
+    whole_released told none = subst (λ (z : Known). Released a z e) (sym q) record {
       carries = carries_on (gave_up e i x b) refl refl refl refl refl refl refl;
       links = w.links;
       gives = ap (λ (z : List ℕ). e ∷ z) w.gives;
       delivered = w.delivered;
-      sends = with_none i none record { found = x; messages = refl };
+      sends = with_none i told none record { found = x; messages = refl };
     }
 
     pub whole_idle : Bounded c → Idle n c
@@ -94,13 +94,13 @@ module _ (n : ℕ) (a b : Known) (e : ℕ) (idle : Idle n a) (may : MayRelease a
     both : c ≡ rose e l i y (half_gave e x b)
     both = q ∙ ap (λ (z : Known). rose e l i y z) p
 
-    pub above_released : Kin a.view.links e l → ((j : ℕ) → Among (record { entry = j; place = after l }) a.view.links → ⊥) → Released a c e
-    above_released kin none = subst (λ (z : Known). Released a z e) (sym both) record {
+    pub above_released : Among (record { entry = l; info = i }) b.told → Kin a.view.links e l → ((j : ℕ) → Among (record { entry = j; place = after l }) a.view.links → ⊥) → Released a c e
+    above_released told kin none = subst (λ (z : Known). Released a z e) (sym both) record {
       carries = carries_on (rose e l i y (half_gave e x b)) refl refl refl refl refl refl refl;
       links = w.links;
       gives = ap (λ (z : List ℕ). e ∷ z) w.gives;
       delivered = w.delivered;
-      sends = with_last l i kin none record { found = y; messages = ap (λ (z : List Message). z ++ sent l (state_at y) (state_at (y + (64 + 65536 * e))) i) (w.held ∙ may.empty) };
+      sends = with_last l i told kin none record { found = y; messages = ap (λ (z : List Message). z ++ sent l (state_at y) (state_at (y + (64 + 65536 * e))) i) (w.held ∙ may.empty) };
     }
 
     pub above_idle : Bounded c → Idle n c
@@ -132,8 +132,8 @@ released_from a b c e w r = record {
   gives = r.gives ∙ ap (λ (z : List ℕ). e ∷ z) w.gives;
   delivered = r.delivered ∙ w.delivered;
   sends = elim r.sends [
-    | with_none i none m ↦ with_none i (λ j h. none j (subst (λ (z : List Hung). Among (record { entry = j; place = first e }) z) (sym w.links) h)) m
-    | with_last l i kin none m ↦ with_last l i (subst (λ (z : List Hung). Kin z e l) w.links kin) (λ j h. none j (subst (λ (z : List Hung). Among (record { entry = j; place = after l }) z) (sym w.links) h)) m
+    | with_none i t none m ↦ with_none i t (λ j h. none j (subst (λ (z : List Hung). Among (record { entry = j; place = first e }) z) (sym w.links) h)) m
+    | with_last l i t kin none m ↦ with_last l i t (subst (λ (z : List Hung). Kin z e l) w.links kin) (λ j h. none j (subst (λ (z : List Hung). Among (record { entry = j; place = after l }) z) (sym w.links) h)) m
   ];
 }
 

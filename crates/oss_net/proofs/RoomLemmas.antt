@@ -102,6 +102,7 @@ module _ (held : List Held) (k : Known) (ready : Ready held [] k) (bound : Bound
     delivered = refl;
     message = message_of x;
     info = info_at x.info;
+    told = first_told;
     found = n;
     held = first_held;
     first = all_before;

@@ -80,10 +80,11 @@ pub record Hung (a b : Known) (e : ℕ) (i : EntryInfo) (p : After) : Type 0 whe
   pub told : Among (record { entry = e; info = i }) b.told
   pub sends : LinkSends a e i p b.view.held
 
--- What a give leaves held: with no child, what its step completed; else what the link of the last child to the entry did.
-pub data GiveSends (k : Known) (e : ℕ) (held : List Message) : Type 0 where
-  with_none : (i : EntryInfo) → ((j : ℕ) → Among (record { entry = j; place = first e }) k.view.links → ⊥) → Completed held e i 24 → GiveSends k e held
-  with_last : (l : ℕ) (i : EntryInfo) → Kin k.view.links e l → ((j : ℕ) → Among (record { entry = j; place = after l }) k.view.links → ⊥) → Completed held l i (64 + 65536 * e) → GiveSends k e held
+-- What a give leaves held: with no child, what its step completed; else what the link of the last child to the entry did. The seat knew k, and
+-- behind the give, by which it is told of the entry or of the child, it knows b.
+pub data GiveSends (k b : Known) (e : ℕ) (held : List Message) : Type 0 where
+  with_none : (i : EntryInfo) → Among (record { entry = e; info = i }) b.told → ((j : ℕ) → Among (record { entry = j; place = first e }) k.view.links → ⊥) → Completed held e i 24 → GiveSends k b e held
+  with_last : (l : ℕ) (i : EntryInfo) → Among (record { entry = l; info = i }) b.told → Kin k.view.links e l → ((j : ℕ) → Among (record { entry = j; place = after l }) k.view.links → ⊥) → Completed held l i (64 + 65536 * e) → GiveSends k b e held
 
 -- Behind a give.
 pub record Released (a b : Known) (e : ℕ) : Type 0 where
@@ -91,7 +92,7 @@ pub record Released (a b : Known) (e : ℕ) : Type 0 where
   pub links : b.view.links ≡ a.view.links
   pub gives : b.view.gives ≡ e ∷ a.view.gives
   pub delivered : b.view.delivered ≡ a.view.delivered
-  pub sends : GiveSends a e b.view.held
+  pub sends : GiveSends a b e b.view.held
 
 -- The order of delivery: the entry of the first message is deeper than that of the second, or as deep and its flag no greater.
 pub data Before (k : Known) (m b : Message) : Type 0 where
@@ -105,6 +106,7 @@ pub record Delivered (a b : Known) : Type 0 where
   pub delivered : b.view.delivered ≡ 1 + a.view.delivered
   pub message : Message
   pub info : EntryInfo
+  pub told : Among (record { entry = message.entry; info = info }) a.told
   pub found : ℕ
   pub held : Has message a.view.held
   pub first : (m : Message) → Has m (without message a.view.held) → Before a message m

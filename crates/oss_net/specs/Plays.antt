@@ -8,7 +8,7 @@ use Rattle.oss_words.specs.declared.entry.EntryInfo.{EntryInfo}
 use Rattle.oss_words.specs.declared.message.Message.{Message}
 use Rattle.oss_words.specs.Bits.{state_at, info_at, weight}
 use Rattle.oss_words.specs.Members.{Has}
-use Rattle.oss_words.specs.Net.{first, after}
+use Rattle.oss_words.specs.Net.{Place, first, after}
 use Rattle.oss_words.specs.Views.{Among}
 use Rattle.oss_net.specs.declared.sight.Sight.{Sight}
 use Rattle.oss_net.specs.Known.{Known, Family, Rests}
@@ -41,10 +41,12 @@ Looks s v n w =
     × ((e : ℕ) → s.word ≡ 1 + 2 * e → Family v.0.known e (state_at n))
     × ((e : ℕ) → s.word ≡ 1 + 2 * e → v.0.known.view.parts ≡ 65537 → v.0.known.view.held ≡ [] → v.0.known.view.half ≡ [] → Rests v.0.known e (state_at n))
 
--- Entries were drawn, or too few were left.
+-- Entries were drawn, or too few were left. What was found is above entry 0 and above what the seat owned and had linked.
 abbrev pub Draws : Telling
 Draws s v n w =
     (w.1 ≡ v.1) × (n < 2199023255552)
+    × ((e : ℕ) → Among e v.0.known.view.owned → e < n) × (0 < n)
+    × ((e : ℕ) (p : Place) → Among (record { entry = e; place = p }) v.0.known.view.links → e < n)
     × (n + s.first ≤ v.0.known.entries → w.0.known ≡ drew s.first n v.0.known)
     × (v.0.known.entries < n + s.first → w.0.known ≡ missed n v.0.known)
 

@@ -4,6 +4,7 @@ ghost use Rattle.std.specs.Prelude.{◌≡◌, ◌≢◌, ◌<◌, ◌≤◌, �
 ghost use Rattle.oss_words.specs.declared.entry.After.{After};
 ghost use Rattle.oss_words.specs.declared.entry.EntryInfo.{EntryInfo};
 ghost use Rattle.oss_words.specs.Bits.{state_at};
+ghost use Rattle.oss_words.specs.Net.{Place};
 ghost use Rattle.oss_words.specs.Views.{Among};
 ghost use Rattle.oss_net.specs.Calls.{MayHang, Hung, MayRelease, Released, Delivered};
 ghost use Rattle.oss_net.specs.Known.{Known, Family, Rests, first_known};
@@ -80,13 +81,16 @@ impl WordNet {
         has_some(&seat.held)
     }
 
-    /// So many new entries, from 1 to 16,777,216: the first of them; they follow each other. `None` where fewer were left at its step, and then none are left.
+    /// So many new entries, from 1 to 16,777,216: the first of them; they follow each other, and are above every entry that the seat owned or had linked. `None` where fewer were left at its
+    /// step, and then none are left.
     pub fn draw(&self, seat: &mut WordSeat, count: u32) -> Option<u32>
         requires net { seat.old.net ≡ self.now.table }
         requires first { seat.old.known.view.failed ≡ 0 }
         requires most { (0 < count) × (count ≤ 16777216) }
         ensures same { (seat.new.net ≡ seat.old.net) × (seat.new.id ≡ seat.old.id) }
         ensures some { IfSome result (λ n. (n + count ≤ self.now.entries) × (seat.new.known ≡ drew count n seat.old.known)) }
+        ensures fresh { IfSome result (λ n. (e : ℕ) → Among e seat.old.known.view.owned → e < n) }
+        ensures above { IfSome result (λ n. (0 < n) × ((e : ℕ) (p : Place) → Among (record { entry = e; place = p }) seat.old.known.view.links → e < n)) }
         ensures none { IfNone result ((n : ℕ) × (self.now.entries < n + count) × (seat.new.known ≡ missed n seat.old.known)) }
     {
         let found = add_draw(&self.table.shared, &mut seat.place, count);

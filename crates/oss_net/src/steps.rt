@@ -8,7 +8,7 @@ ghost use Rattle.oss_words.specs.Bits.{state_at, info_at, weight};
 ghost use Rattle.oss_words.specs.declared.entry.EntryInfo.{EntryInfo};
 ghost use Rattle.oss_words.specs.declared.message.Message.{Message};
 ghost use Rattle.oss_words.specs.Members.{Has};
-ghost use Rattle.oss_words.specs.Net.{first, after};
+ghost use Rattle.oss_words.specs.Net.{Place as Spot, first, after};
 ghost use Rattle.oss_words.specs.Steps.{no_flags};
 ghost use Rattle.oss_words.specs.Views.{Among};
 
@@ -92,6 +92,8 @@ pub(crate) fn add_draw(words: &Words, seat: &mut Place, count: u32) -> u64
     requires most { count ≤ 16777216 }
     ensures stays { Stays seat.old seat.new }
     ensures small { result < 2199023255552 }
+    ensures fresh { (e : ℕ) → Among e seat.old.me.0.known.view.owned → e < result }
+    ensures above { (0 < result) × ((e : ℕ) (p : Spot) → Among (record { entry = e; place = p }) seat.old.me.0.known.view.links → e < result) }
     ensures enough { result + count ≤ words.now.key → seat.new.me.0.known ≡ drew count result seat.old.me.0.known }
     ensures short { words.now.key < result + count → seat.new.me.0.known ≡ missed result seat.old.me.0.known }
 {

@@ -23,7 +23,10 @@ returns-clause-released c =
     let a : Known = c.args.place.now.me.0.known in
     let w = watches_info a c.last_child-last.new.place.me.0.known c.read_info-word.new.seat.me.0.known c.last_child-last.result c.read_info-word.result c.last_child-last.ensures.watches c.read_info-word.ensures.known in
     above_released c.args.words.now.key a c.read_info-word.new.seat.me.0.known c.args.entry c.requires.idle c.requires.may w c.begin_give.new.seat.me.0.known c.link_last-found.new.seat.me.0.known c.last_child-last.result c.begin_give.result c.link_last-found.result c.info_of-info.result
-    c.begin_give.ensures.known c.link_last-found.ensures.known c.last_child-last.ensures.child.0 c.last_child-last.ensures.last
+    c.begin_give.ensures.known c.link_last-found.ensures.known
+    (subst (λ (i : EntryInfo). Among (record { entry = c.last_child-last.result; info = i }) c.read_info-word.new.seat.me.0.known.told) (sym c.info_of-info.ensures)
+    (told_now c.last_child-last.new.place.me.0.known c.read_info-word.new.seat.me.0.known c.last_child-last.result c.read_info-word.result c.read_info-word.ensures.known))
+    c.last_child-last.ensures.child.0 c.last_child-last.ensures.last
 
 pub returns-clause-sent : goal.returns-clause-sent
 returns-clause-sent c =

@@ -25,6 +25,8 @@ returns-clause-released c =
     let a : Known = c.args.place.now.me.0.known in
     let w = watches_info a c.read_state.new.seat.me.0.known c.read_info-word.new.seat.me.0.known c.args.entry c.read_info-word.result (watches_more a a c.read_state.new.seat.me.0.known c.args.entry c.read_state.result (watches_none a) c.read_state.ensures.known) c.read_info-word.ensures.known in
     whole_released c.args.words.now.key a c.read_info-word.new.seat.me.0.known c.args.entry c.requires.idle c.requires.may w c.give_whole-found.new.seat.me.0.known c.give_whole-found.result c.info_of-info.result c.give_whole-found.ensures.known
+    (subst (λ (i : EntryInfo). Among (record { entry = c.args.entry; info = i }) c.read_info-word.new.seat.me.0.known.told) (sym c.info_of-info.ensures)
+    (told_now c.read_state.new.seat.me.0.known c.read_info-word.new.seat.me.0.known c.args.entry c.read_info-word.result c.read_info-word.ensures.known))
     (c.read_state.ensures.family.unheaded c.requires.may.own (sym (ap (λ s. s.headed) c.state_of-state.ensures) ∙ c.if-state.false))
 
 pub returns-clause-sent : goal.returns-clause-sent
