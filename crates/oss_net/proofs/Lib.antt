@@ -1,4 +1,5 @@
 pub mod CallLemmas
+pub mod CloseLemmas
 pub mod DeliverLemmas
 pub mod DrawLemmas
 pub mod FamilyLemmas

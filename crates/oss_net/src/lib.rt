@@ -1,6 +1,7 @@
 //! The access words of many tasks in one table, moved by single atomic steps of many threads.
 #![tactic(auto)]
 
+mod closing;
 mod delivering;
 mod families;
 mod giving;

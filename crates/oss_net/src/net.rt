@@ -11,6 +11,7 @@ ghost use Rattle.oss_net.specs.Known.{Known, Family, Rests, first_known};
 ghost use Rattle.oss_net.specs.Moves.{drew, missed, looked, keeping, handed, joined};
 ghost use Rattle.oss_net.specs.Standing.{Netted, Standing};
 
+use crate::closing::close_table;
 use crate::delivering::deliver_first;
 use crate::giving::give_up;
 use crate::held::{ROOM, has_some};
@@ -184,5 +185,22 @@ impl WordNet {
         let WordSeat { place, held } = other;
         drop(held);
         merge(&self.table.shared, &mut seat.place, place, &seat.held);
+    }
+
+    /// The end of the net: the state words, in order of the entries. The seat has all parts of the net, so that each other seat was joined to it, and holds nothing. It is an error where memory
+    /// is wanted.
+    pub fn close(self, seat: WordSeat) -> Result<Vec<u64>, AllocError>
+        requires net { seat.net ≡ self.table }
+        requires all { seat.known.view.parts ≡ 65537 }
+        requires empty { seat.known.view.held ≡ [] }
+        ensures size { IfOk result (λ v. length v.items ≡ self.entries) }
+        ensures rests { IfOk result (λ v. (e : ℕ) → e < self.entries → Rests seat.known e (state_at (slice_index v.items e))) }
+    {
+        let mut states = Vec::with_capacity(self.alloc, self.entries as usize)?;
+        let WordNet { table, entries, .. } = self;
+        let WordSeat { place, held } = seat;
+        drop(held);
+        close_table(table, place, &mut states, entries);
+        Ok(states)
     }
 }
