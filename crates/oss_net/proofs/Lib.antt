@@ -12,6 +12,7 @@ pub mod PlaceLemmas
 pub mod ReadLemmas
 pub mod ReleaseLemmas
 pub mod RoomLemmas
+pub mod RowLemmas
 pub mod SeatLemmas
 pub mod TableLemmas
 pub mod WordLemmas

@@ -15,6 +15,8 @@ mod seat;
 mod seats;
 mod sight;
 mod steps;
+#[cfg(test)]
+mod tests;
 
 pub use net::WordNet;
 pub use seat::WordSeat;
