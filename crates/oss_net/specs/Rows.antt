@@ -22,10 +22,11 @@ abbrev pub chain : ℕ → ℕ → List Hung
 chain t zero = record { entry = t + 0; place = top } ∷ []
 chain t (suc n) = record { entry = t + suc n; place = spot t n } ∷ chain t n
 
--- The info of the weak access, and of a sibling below it.
+-- The info of the weak access.
 abbrev pub info_above : EntryInfo
 info_above = record { mode = Write; strong = false; depth = 1; parent = 0; task = 1 }
 
+-- And of a sibling below it.
 abbrev pub info_below : ℕ → EntryInfo
 info_below t = record { mode = Write; strong = true; depth = 2; parent = t; task = 2 }
 
