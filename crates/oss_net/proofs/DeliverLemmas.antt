@@ -29,7 +29,7 @@ use Rattle.oss_net.specs.Moves.{without, passed}
 use Rattle.oss_net.specs.Plays.{Bounded, Passes}
 use Rattle.oss_net.specs.Table.{states_of, infos_of, views_of, Sits, Stands}
 use Rattle.oss_net.proofs.ReadLemmas.{held_names}
-use Rattle.oss_net.proofs.TableLemmas.{view_at, at_here, Steps}
+use Rattle.oss_net.proofs.TableLemmas.{view_at, at_here, Steps, one_info}
 use Rattle.oss_net.proofs.WordLemmas.{parts_fit, added, with_flag, flag_sets, flag_adds, flag_fits, flag_neat, one_weight, after, here, apart_from, hung_stands, knows_on}
 
 same_message : (a b : Message) → a.entry ≡ b.entry → a.flag ≡ b.flag → a ≡ b
@@ -139,5 +139,6 @@ module _ (n id : ℕ) (s : Sight) (m : Message) (i : EntryInfo) (held : Has m s.
               let same = same_message m b e f in
               let info : i ≡ j = sym is.1 ∙ ap (λ (z : ℕ). infos_of ws z) e ∙ ((stands.knows id s at).told (record { entry = b.entry; info = j }) t).1 in
               λ k. passed (same k) (info k) (weight m.flag) x s.known),
+          one_info n ws sights stands id s at,
         ),
       )

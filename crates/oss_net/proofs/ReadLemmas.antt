@@ -31,7 +31,7 @@ use Rattle.oss_net.specs.Known.{Told, Kin, eldest, younger, Family, Rests}
 use Rattle.oss_net.specs.Moves.{informed, looked}
 use Rattle.oss_net.specs.Plays.{Informs, Looks}
 use Rattle.oss_net.specs.Table.{states_of, infos_of, views_of, Sits, Knows, Stands}
-use Rattle.oss_net.proofs.TableLemmas.{view_at, sight_at, views_change, view_stays, read_stands, Steps}
+use Rattle.oss_net.proofs.TableLemmas.{view_at, sight_at, one_info, views_change, view_stays, read_stands, Steps}
 
 pub clashes : (p q : Place) → p ≡ q → (q ≡ apart → ⊥) → p ≢ apart
 clashes p q e ne a = ne (sym e ∙ a)
@@ -204,5 +204,6 @@ looks n id s e live size inside ws sights stands at =
         (λ h. let k = child_inside n ws sights stands e inside h in omega (arith, k, size)),
         (λ f q. let same : e ≡ f = omega (arith, q) in subst (λ (z : ℕ). Family s.known z (state_at x)) same (family n ws sights stands id s at e inside)),
         (λ f q all empty whole. let same : e ≡ f = omega (arith, q) in subst (λ (z : ℕ). Rests s.known z (state_at x)) same (rests n ws sights stands id s at all empty whole e)),
+        one_info n ws sights stands id s at,
       ),
     )

@@ -15,12 +15,18 @@ use Rattle.oss_words.specs.Net.{Net, apart}
 use Rattle.oss_words.specs.Rule.{Rule}
 use Rattle.oss_words.specs.Views.{View, Among, At}
 use Rattle.oss_net.specs.declared.sight.Sight.{Sight}
-use Rattle.oss_net.specs.Known.{Filling}
+use Rattle.oss_net.specs.Known.{Filling, OneInfo}
 use Rattle.oss_net.specs.Table.{states_of, infos_of, views_of, Sits, Knows, Filled, filled, Stands}
 
 -- the view of a seat among the views
 pub view_at : (sights : List Sight) (id : ℕ) (s : Sight) → Sits sights id s → At (views_of sights) id s.known.view
 view_at sights id s at = at_map (λ (s : Sight). s.known.view) sights id s at
+
+-- what a seat was told of an entry is what its info word says
+pub one_info : (n : ℕ) (ws : List ℕ) (sights : List Sight) → Stands n ws sights → (id : ℕ) (s : Sight) → Sits sights id s → OneInfo s.known
+one_info n ws sights stands id s at e i j a b =
+    let knows = stands.knows id s at in
+    sym (knows.told (record { entry = e; info = i }) a).1 ∙ (knows.told (record { entry = e; info = j }) b).1
 
 -- a seat that is changed stands where it stood
 pub at_here : (sights : List Sight) (id : ℕ) (s s' : Sight) → Sits sights id s → Sits (set sights id s') id s'

@@ -32,6 +32,10 @@ pub record Known : Type 0 where
   pub word : ℕ
   pub found : ℕ
 
+-- What a seat was told of an entry is one info, however often it was told.
+abbrev pub OneInfo : Known → Type 0
+OneInfo k = (e : ℕ) (i j : EntryInfo) → Among (record { entry = e; info = i }) k.told → Among (record { entry = e; info = j }) k.told → i ≡ j
+
 -- What the seat knows with which a net of n entries is made.
 abbrev pub first_known : ℕ → Known
 first_known n = record { entries = n; view = first_view; told = []; filling = []; word = 0; found = 0 }

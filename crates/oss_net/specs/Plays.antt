@@ -11,7 +11,7 @@ use Rattle.oss_words.specs.Members.{Has}
 use Rattle.oss_words.specs.Net.{Place, first, after}
 use Rattle.oss_words.specs.Views.{Among}
 use Rattle.oss_net.specs.declared.sight.Sight.{Sight}
-use Rattle.oss_net.specs.Known.{Known, Family, Rests}
+use Rattle.oss_net.specs.Known.{Known, OneInfo, Family, Rests}
 use Rattle.oss_net.specs.Moves.{informed, looked, drew, missed, passed, gave_up, half_gave, rose, filled_info, filled_state, began, linked_at}
 
 -- The type of what a step tells.
@@ -33,13 +33,14 @@ Informs s v n w =
     (w.1 ≡ v.1) × ((e : ℕ) → s.word ≡ 2 + 2 * e → w.0.known ≡ informed e n v.0.known)
     × ((e : ℕ) → s.word ≡ 2 + 2 * e → (j : EntryInfo) → Among (record { entry = e; info = j }) v.0.known.told → info_at n ≡ j)
 
--- A state word was read. Its links lead to entries of the table.
+-- A state word was read. Its links lead to entries of the table, and what the seat was told of an entry is its info.
 abbrev pub Looks : Telling
 Looks s v n w =
     (w.1 ≡ v.1) × ((e : ℕ) → s.word ≡ 1 + 2 * e → w.0.known ≡ looked e n v.0.known)
     × ((state_at n).linked ≡ true → (state_at n).next < v.0.known.entries) × ((state_at n).headed ≡ true → (state_at n).child < v.0.known.entries)
     × ((e : ℕ) → s.word ≡ 1 + 2 * e → Family v.0.known e (state_at n))
     × ((e : ℕ) → s.word ≡ 1 + 2 * e → v.0.known.view.parts ≡ 65537 → v.0.known.view.held ≡ [] → v.0.known.view.half ≡ [] → Rests v.0.known e (state_at n))
+    × OneInfo v.0.known
 
 -- Entries were drawn, or too few were left. What was found is above entry 0 and above what the seat owned and had linked.
 abbrev pub Draws : Telling
@@ -55,6 +56,7 @@ abbrev pub Passes : Telling
 Passes s v n w =
     (w.1 ≡ v.1) × Bounded w.0.known × Sums n s.first × (w.0.known.view.delivered ≤ 6 * v.0.known.entries)
     × ((m : Message) (i : EntryInfo) → 1 ≤ m.flag → m.flag ≤ 5 → s.word ≡ 1 + 2 * m.entry → s.first ≡ weight m.flag → Among (record { entry = m.entry; info = i }) v.0.known.told → w.0.known ≡ passed m i s.first n v.0.known)
+    × OneInfo v.0.known
 
 -- An entry with no child was given up.
 abbrev pub Gives : Telling

@@ -2,6 +2,7 @@
 ghost use Rattle.std.specs.Prelude.{◌≡◌, ◌<◌, ◌≤◌, ◌+◌, ◌*◌, [], length, vec_capacity};
 ghost use Rattle.oss_net.specs.Asks.{On, Stays};
 ghost use Rattle.oss_net.specs.Calls.{Delivered};
+ghost use Rattle.oss_net.specs.Known.{OneInfo};
 ghost use Rattle.oss_net.specs.Standing.{Idle, Ready};
 
 use crate::held::{Held, first_of};
@@ -22,6 +23,7 @@ pub(crate) fn deliver_first(words: &Words, place: &mut Place, held: &mut Vec<Hel
     ensures delivered { Delivered place.old.me.0.known place.new.me.0.known }
     ensures room { 1024 ≤ vec_capacity held.new }
     ensures work { place.new.me.0.known.view.delivered ≤ 6 * words.now.key }
+    ensures one { OneInfo place.old.me.0.known }
 {
     let first = held.swap_remove(first_of(held.as_slice()));
     let message = Message {

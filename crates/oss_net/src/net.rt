@@ -7,7 +7,7 @@ ghost use Rattle.oss_words.specs.Bits.{state_at};
 ghost use Rattle.oss_words.specs.Net.{Place};
 ghost use Rattle.oss_words.specs.Views.{Among};
 ghost use Rattle.oss_net.specs.Calls.{MayHang, Hung, MayRelease, Released, Delivered};
-ghost use Rattle.oss_net.specs.Known.{Known, Family, Rests, first_known};
+ghost use Rattle.oss_net.specs.Known.{Known, OneInfo, Family, Rests, first_known};
 ghost use Rattle.oss_net.specs.Moves.{drew, missed, looked, keeping, handed, joined};
 ghost use Rattle.oss_net.specs.Standing.{Netted, Standing};
 
@@ -131,20 +131,22 @@ impl WordNet {
         hold(words, &mut seat.place, &mut seat.held, &sent);
     }
 
-    /// Delivers the held message that comes first. It takes no memory and waits for nobody. A seat delivers at most six messages for each entry of the net.
+    /// Delivers the held message that comes first. It takes no memory and waits for nobody. A seat delivers at most six messages for each entry of the net. What it was told of an entry is one
+    /// info, so it is the info of the message's entry by which more is sent.
     pub fn deliver(&self, seat: &mut WordSeat)
         requires net { seat.old.net ≡ self.now.table }
         requires some { seat.old.known.view.held ≢ [] }
         ensures same { (seat.new.net ≡ seat.old.net) × (seat.new.id ≡ seat.old.id) }
         ensures delivered { Delivered seat.old.known seat.new.known }
         ensures bounded { seat.new.known.view.delivered ≤ 6 * self.now.entries }
+        ensures one { OneInfo seat.old.known }
     {
         let words = &self.table.shared;
         let sent = deliver_first(words, &mut seat.place, &mut seat.held);
         hold(words, &mut seat.place, &mut seat.held, &sent);
     }
 
-    /// The state word of an entry, as it was read in one step. It tells the seat of the links that it has made; and where the seat holds nothing and all parts of the net,
+    /// The state word of an entry, as it was read in one step. It tells the seat of the links that it has made, and that what it was told of an entry is one info; and where the seat holds nothing and all parts of the net,
     /// so that each other seat was joined to it, each flag stands exactly where its condition holds.
     pub fn flags(&self, seat: &mut WordSeat, entry: u32) -> u64
         requires net { seat.old.net ≡ self.now.table }
@@ -153,6 +155,7 @@ impl WordNet {
         ensures known { seat.new.known ≡ looked entry result seat.old.known }
         ensures family { Family seat.old.known entry (state_at result) }
         ensures rests { seat.old.known.view.parts ≡ 65537 → seat.old.known.view.held ≡ [] → Rests seat.old.known entry (state_at result) }
+        ensures one { OneInfo seat.old.known }
     {
         read_state(&self.table.shared, &mut seat.place, entry)
     }

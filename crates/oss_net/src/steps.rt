@@ -1,7 +1,7 @@
 // One function for each kind of atomic step on the words of a net.
 ghost use Rattle.std.specs.Prelude.{◌≡◌, ◌≢◌, ◌<◌, ◌≤◌, ◌+◌, ◌*◌, ℕ, true, [], ◌∷◌};
 ghost use Rattle.oss_net.specs.Asks.{On, Stays, Hangs, MayFill, MayStart, MayLink, MayFollow, MayHead, MayGive, Later};
-ghost use Rattle.oss_net.specs.Known.{Kin, Family, Rests};
+ghost use Rattle.oss_net.specs.Known.{Kin, OneInfo, Family, Rests};
 ghost use Rattle.oss_net.specs.Moves.{informed, looked, drew, missed, filled_info, filled_state, began, linked_at, gave_up, half_gave, rose, passed, without, clear_alone, next_mask, child_mask};
 ghost use Rattle.oss_net.specs.Plays.{Bounded, Sums, Informs, Looks, Draws, FillsInfo, FillsState, Opens, Follows, Heads, Gives, Begins, Rises, Passes};
 ghost use Rattle.oss_words.specs.Bits.{state_at, info_at, weight};
@@ -74,6 +74,7 @@ pub(crate) fn read_state(words: &Words, seat: &mut Place, entry: u32) -> u64
     ensures links { ((state_at result).linked ≡ true → (state_at result).next < words.now.key) × ((state_at result).headed ≡ true → (state_at result).child < words.now.key) }
     ensures family { Family seat.old.me.0.known entry (state_at result) }
     ensures rests { seat.old.me.0.known.view.parts ≡ 65537 → seat.old.me.0.known.view.held ≡ [] → seat.old.me.0.known.view.half ≡ [] → Rests seat.old.me.0.known entry (state_at result) }
+    ensures one { OneInfo seat.old.me.0.known }
 {
     words.load::<Look>(seat, state_place(entry))
 }
@@ -303,6 +304,7 @@ pub(crate) fn set_flag(words: &Words, seat: &mut Place, message: Message, _info:
     ensures bounded { Bounded seat.new.me.0.known }
     ensures sums { Sums result (weight message.flag) }
     ensures work { seat.new.me.0.known.view.delivered ≤ 6 * words.now.key }
+    ensures one { OneInfo seat.old.me.0.known }
 {
     words.fetch_add::<Pass>(seat, state_place(message.entry), weight_of(message.flag))
 }
