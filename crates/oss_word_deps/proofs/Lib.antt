@@ -1,0 +1,14 @@
+pub mod LedgerLemmas
+pub mod LookupLemmas
+pub mod GrowLemmas
+pub mod SoundLemmas
+pub mod BookedLemmas
+pub mod WritingLemmas
+pub mod ExtendLemmas
+pub mod KnownLemmas
+pub mod FollowLemmas
+pub mod TellLemmas
+pub mod QueryLemmas
+pub mod GiveLemmas
+pub mod OpenLemmas
+pub mod SystemLemmas

@@ -1,0 +1,7 @@
+pub mod Ledger
+pub mod Sound
+pub mod Booked
+pub mod Known
+pub mod Asked
+pub mod Growing
+pub mod Shelved

@@ -1,0 +1,36 @@
+use oss_words::{After, EntryInfo};
+
+/// The access of a task to one cell, as it stands in a net. It never changes.
+#[derive(Clone, Copy, Debug)]
+pub struct Entry {
+    /// The number of the task.
+    pub task: u64,
+    /// The cell, below 1,048,576.
+    pub cell: u32,
+    /// What the info word of the entry says.
+    pub info: EntryInfo,
+    /// Where the entry is linked.
+    pub after: After,
+}
+
+/// What has become of an entry.
+#[derive(Clone, Copy, Debug)]
+pub struct Mark {
+    /// The last child's entry, 0 where there is none.
+    pub last: u32,
+    /// The task has given up the cell.
+    pub given: bool,
+}
+
+/// The entries of a task, in the order of their cells.
+#[derive(Clone, Copy, Debug)]
+pub struct Job {
+    /// The number of the task.
+    pub task: u64,
+    /// How deep the task is nested: 1 for a child of main, at most 64.
+    pub depth: u8,
+    /// Its first entry.
+    pub first: u32,
+    /// The entry behind its last.
+    pub end: u32,
+}
