@@ -22,7 +22,7 @@
 #   end: no newline       where the newline at the end of the file does not belong to the program
 #   program:              what stands behind this line is the program, to the end of the file
 # It is called in a folder that holds nothing but the program, as p.c, and the schedule, where the case has one, as s.txt. A run without a mode is called in the mode
-# serial too, and a trace is made over the other dependency system too, and replayed.
+# serial too, and a trace is made over the other dependency systems too, and replayed.
 top=$(CDPATH='' cd -- "$(dirname -- "$0")/.." && pwd) || exit 1
 program=${1:-$top/nest6}
 case $program in
@@ -66,6 +66,12 @@ expect_chain() {
     !/^(let|join) [0-9.]+ [0-9]+$/ { print }
     END { if (acts < ticks) print "acts " acts + 0 " ticks " ticks }' "$work/told" >"$work/out"
   judge "$name" "$wanted" "$out" "$err" "$got"
+}
+
+# other_systems NAME STATUS OUT-FILE ERR-FILE FILE: the trace of FILE over each dependency system that is not the one of a run where nothing is said
+other_systems() {
+  expect "$1 over the plain lists" "$2" "$3" "$4" trace "$5" --deps=plain
+  expect "$1 over words" "$2" "$3" "$4" trace "$5" --deps=words
 }
 
 # replay_trace NAME: the replay of the trace of p.c that is left in $work/out, against its run
@@ -125,7 +131,7 @@ follow() {
   [ -f "$1.trace" ] && wanted_trace=$1.trace
   judge "the trace of examples/$1.c" "$status" "$wanted_trace" "$err" "$got"
   expect "the trace of examples/$1.c, replayed" "$status" "$out" "$err" replay "$1.c" "$work/trace"
-  expect "the trace of examples/$1.c over the plain lists" "$status" "$wanted_trace" "$err" trace "$1.c" --deps=plain
+  other_systems "the trace of examples/$1.c" "$status" "$wanted_trace" "$err" "$1.c"
 }
 
 # compile NAME: what gcc says of an example, which is nothing, and the output of what it compiles; numbers wrap round as those of the language do
@@ -233,8 +239,8 @@ for file in "$top"/tests/cases/*/*.case; do
       ;;
     [01]' trace p.c')
       replay_trace "${file#"$top"/}"
-      # Both dependency systems have the same trace.
-      expect "${file#"$top"/} over the plain lists" "$status" "$work/wanted_out" "$work/wanted_err" trace p.c --deps=plain
+      # All dependency systems have the same trace.
+      other_systems "${file#"$top"/}" "$status" "$work/wanted_out" "$work/wanted_err" p.c
       ;;
   esac
   set +f
@@ -297,6 +303,12 @@ expect "a schedule of 16,777,217 bytes on a text that is refused" 3 ../nothing f
 expect "a program of 1,048,577 bytes and no schedule" 3 ../nothing too_large replay long.c missing.txt
 expect "a schedule whose last line lacks its newline" 0 ../nothing ../nothing replay none.c cut.txt
 rm full.txt long.txt
+
+# A generated program writes the same in each mode, and over each dependency system.
+"$program" soak 7 2000 --mode=serial >soak.out 2>"$work/err" </dev/null
+for deps in regions plain words; do
+  expect "a generated program of 2,000 tasks, --deps=$deps" 0 soak.out ../nothing soak 7 2000 --deps="$deps"
+done
 
 # The creation of a task is a tick of its creator, and so is a print.
 for count in 999998 999999; do

@@ -3,7 +3,8 @@
 -- twice, by its name, or whose value is out of form.
 -- Read against: no words, `run`, `run a.c b.c`, `run -a`, `run a.c --fuel=0`, `run a.c --fuel=01`, `run a.c --fuel=5 --fuel=5`, `run a.c --dump=1`, `run a.c --mode=workers` and `check
 -- a.c --fuel=5` are refused; `run --dump a.c --workers=64` asks to run the file `a.c` by waves with a dump, 64 workers and fuel for 1,000,000 ticks a task. `run a.c --deps=plain` and
--- `run a.c --mode=serial` are runs by waves, over the plain lists, and one task after the other; both options together are refused, and so is `run a.c --deps=words`.
+-- `run a.c --mode=serial` are runs by waves, over the plain lists, and one task after the other; both options together are refused, and so is `run a.c --deps=lists`.
+-- `trace a.c --deps=words` and `soak 7 9 --deps=words` are by waves, over words, and `soak 7 9 --mode=serial --deps=words` is refused.
 -- And: `replay a.c s.txt` asks to replay the schedule in the file `s.txt` on the program in `a.c`, with fuel for 1,000,000 ticks a task, and `replay --fuel=5 a.c s.txt` with fuel for 5;
 -- `replay a.c`, `replay a.c s.txt t.txt`, `replay a.c s.txt --dump` and `replay a.c --fuel=0 s.txt` are refused.
 -- And: `trace a.c --fuel=5` asks for the trace of the run by waves of `a.c`, and `trace a.c --mode=waves`, `trace a.c --dump` and `trace a.c --workers=4` are refused. `soak 7 9` asks
@@ -122,7 +123,7 @@ mode_by again = None
 
 -- The dependency system with this name.
 abbrev pub system_by : List ℕ → Option DepsKind
-system_by v = if bytes_eq v (codes "regions") then Some deps.Regions else if bytes_eq v (codes "plain") then Some deps.Plain else None
+system_by v = if bytes_eq v (codes "regions") then Some deps.Regions else if bytes_eq v (codes "plain") then Some deps.Plain else if bytes_eq v (codes "words") then Some deps.Words else None
 
 -- The dependency system of a run in this mode: there is one, regions where nothing is said, and it may be named where the run is by waves.
 abbrev pub deps_by : Option RunMode → Standing → Option DepsKind

@@ -25,6 +25,8 @@ pub enum DepsKind {
     Regions,
     /// By plain lists of the accesses to each cell.
     Plain,
+    /// By a net of atomic words, one for each access of a task to a cell.
+    Words,
 }
 
 /// The options of a run. What the words do not say has its default.
@@ -126,6 +128,9 @@ fn system_named(value: &[u8]) -> Option<DepsKind>
     }
     if value == b"plain".as_slice() {
         return Some(DepsKind::Plain);
+    }
+    if value == b"words".as_slice() {
+        return Some(DepsKind::Words);
     }
     None
 }

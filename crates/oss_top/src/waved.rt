@@ -13,8 +13,12 @@ use oss_names::Known;
 use oss_regions::Regions;
 use oss_sched::WaveRecord;
 use oss_waves::{WaveRun, waves};
+use oss_word_deps::WordDeps;
 use std::alloc::{AllocError, Global};
 use std::thread::Threads;
+
+/// How many entries a net of words has at most; where a run needs more, plain lists go on in its place.
+const MOST_ENTRIES: u32 = 16_777_216;
 
 /// What a run by waves gives of a program.
 #[derive(Drop)]
@@ -39,6 +43,10 @@ pub fn wave_run<R: Threads + Sync, G: Gate>(
     match options.deps {
         DepsKind::Regions => waved_over(rt, alloc, known, options, Regions::new(alloc), gate),
         DepsKind::Plain => waved_over(rt, alloc, known, options, PlainDeps::new(alloc), gate),
+        DepsKind::Words => {
+            let deps = WordDeps::new(alloc, MOST_ENTRIES)?;
+            waved_over(rt, alloc, known, options, deps, gate)
+        }
     }
 }
 
