@@ -1,5 +1,5 @@
 #!/bin/sh
-# Times runs by waves of the built program, or of PROGRAM where one is handed over, over both dependency systems, and prints a table: the time over regions, that over the plain lists and their ratio, and how
+# Times runs by waves of the built program, or of PROGRAM where one is handed over, over regions and over the plain lists, and prints a table: the time over regions, that over the plain lists and their ratio, and how
 # the time over regions grows with twice the tasks: a chain of tasks on one cell, tasks on cells of their own, tasks on ranges of 64 cells at random, weak tasks with children, and generated programs.
 # It wants `python3` for the clock.
 # usage: regions.sh [PROGRAM]
@@ -9,18 +9,7 @@
 for times in 1 2; do
   chain_source $((times * 20000)) >"chain_$times.c"
   apart_source $((times * 20000)) 40000 >"apart_$times.c"
-  cat >"ranges_$times.c" <<PROGRAM
-long a[1048576];
-int main() {
-  unsigned long s = 7;
-  for (long t = 0; t < $((times * 4096)); t++) {
-    s = s * 6364136223846793005UL + 1442695040888963407UL;
-    long at = (s >> 33) % 1048513;
-#pragma oss task inout(a[at; 64])
-    a[at] = a[at] + 1;
-  }
-}
-PROGRAM
+  ranges_source $((times * 4096)) >"ranges_$times.c"
   weak_source $((times * 1000)) >"weak_$times.c"
 done
 

@@ -21,6 +21,22 @@ chain_source() { tasks_source x "$1" 'inout(x)' 'x = x + 1;'; }
 # apart_source COUNT CELLS: tasks that each write a cell of their own, of so many
 apart_source() { tasks_source "x[$2]" "$1" 'out(x[i])' 'x[i] = i;'; }
 
+# ranges_source COUNT: tasks that each name 64 neighbouring cells, at random
+ranges_source() {
+  cat <<PROGRAM
+long a[1048576];
+int main() {
+  unsigned long s = 7;
+  for (long t = 0; t < $1; t++) {
+    s = s * 6364136223846793005UL + 1442695040888963407UL;
+    long at = (s >> 33) % 1048513;
+#pragma oss task inout(a[at; 64])
+    a[at] = a[at] + 1;
+  }
+}
+PROGRAM
+}
+
 # weak_source COUNT: weak tasks in turn, each with 20 children on the cells of one array
 weak_source() {
   cat <<PROGRAM
