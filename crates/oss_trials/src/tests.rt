@@ -12,3 +12,4 @@ mod schedules;
 mod turns;
 mod waves;
 mod waving;
+mod words;
