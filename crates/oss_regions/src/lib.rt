@@ -7,8 +7,6 @@ mod parts;
 mod regions;
 mod reserved;
 mod system;
-#[cfg(test)]
-mod tests;
 mod walking;
 
 pub use regions::Regions;
