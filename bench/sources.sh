@@ -106,3 +106,21 @@ def fibonacci(n):
 print(fibonacci($1))
 PROGRAM
 }
+
+# dependency_sources: the programs by which dependency systems are timed, as files: each once, and once with twice the tasks
+dependency_sources() {
+  for times in 1 2; do
+    chain_source $((times * 20000)) >"chain_$times.c"
+    apart_source $((times * 20000)) 40000 >"apart_$times.c"
+    ranges_source $((times * 4096)) >"ranges_$times.c"
+    weak_source $((times * 1000)) >"weak_$times.c"
+  done
+}
+
+# dependency_rows: a row for each of these, by the script's own `row WHAT NAME`
+dependency_rows() {
+  row 'a chain of 20,000 tasks on one cell' chain
+  row '20,000 tasks on cells of their own' apart
+  row '4,096 tasks on 64 cells each at random' ranges
+  row '1,000 weak tasks with 20 children each' weak
+}

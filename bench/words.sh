@@ -6,12 +6,7 @@
 # shellcheck source=bench/built.sh
 . "$(dirname -- "$0")/built.sh"
 
-for times in 1 2; do
-  chain_source $((times * 20000)) >"chain_$times.c"
-  apart_source $((times * 20000)) 40000 >"apart_$times.c"
-  ranges_source $((times * 4096)) >"ranges_$times.c"
-  weak_source $((times * 1000)) >"weak_$times.c"
-done
+dependency_sources
 
 # row WHAT NAME: NAME_1.c over words and over regions, and NAME_2.c, with twice the tasks, over words
 row() {
@@ -22,10 +17,7 @@ row() {
 }
 
 echo 'what | words | regions | ratio | twice the tasks'
-row 'a chain of 20,000 tasks on one cell' chain
-row '20,000 tasks on cells of their own' apart
-row '4,096 tasks on 64 cells each at random' ranges
-row '1,000 weak tasks with 20 children each' weak
+dependency_rows
 half=$(timed "$program" soak 7 4500 --deps=words)
 whole=$(timed "$program" soak 7 9000 --deps=words)
 regions=$(timed "$program" soak 7 9000 --deps=regions)
