@@ -94,22 +94,22 @@ module _ (code : CodeParts) (fuel : ℕ) (old : Stage) (watch : Watch) (rec : Is
     point_is : noted.point ≡ written rec.is_stage.stands.stage.active
     point_is = noted.is_point code rec.is_stage.current.start rec.is_stage.current.found rec.is_stage.is_current ∙ ap (λ (q : List ℕ). written q) (sym rec.is_stage.stands.path)
 
-    what_is : (w : Option What) → IsWhatOf act w → now_what (asks code) (code_main code fuel) code.first rec.setting.starts rec.is_stage.stands.stage y model r watch.record rec.kept w
+    what_is : (w : Option What) → IsWhatOf act w → now_what (asks code) (code_main code fuel) code.first rec.setting.starts rec.is_stage.stands.stage y model r watch.recorded rec.kept w
     what_is None h = λ i. h (subst IsNoted (sym same_act) i)
     what_is (Some w) h = subst (λ (b : Act CodeScript). IsSeen w b) same_act h
 
-    notes_now : NotesOn (asks code) (code_main code fuel) code.first rec.setting.starts rec.is_stage.stands.stage y model r watch.record rec.kept mid.record.notes
+    notes_now : NotesOn (asks code) (code_main code fuel) code.first rec.setting.starts rec.is_stage.stands.stage y model r watch.recorded rec.kept mid.recorded.notes
     notes_now =
-        subst (λ (xs : List Note). NotesOn (asks code) (code_main code fuel) code.first rec.setting.starts rec.is_stage.stands.stage y model r watch.record rec.kept xs)
-        (sym (noted.notes ∙ ap (λ (n : ℕ). with_note watch.record.notes noted.point n noted.what) acts_are))
-        (notes_on (asks code) (code_main code fuel) code.first rec.setting.starts rec.is_stage.stands.stage y model r watch.record rec.kept noted.point noted.what point_is (what_is noted.what noted.is_what))
+        subst (λ (xs : List Note). NotesOn (asks code) (code_main code fuel) code.first rec.setting.starts rec.is_stage.stands.stage y model r watch.recorded rec.kept xs)
+        (sym (noted.notes ∙ ap (λ (n : ℕ). with_note watch.recorded.notes noted.point n noted.what) acts_are))
+        (notes_on (asks code) (code_main code fuel) code.first rec.setting.starts rec.is_stage.stands.stage y model r watch.recorded rec.kept noted.point noted.what point_is (what_is noted.what noted.is_what))
 
     -- nothing was created
-    same_made : ((o : Order CodeScript) → act_now (asks code) r.task.body ≢ Created o false) → IsRecord (asks code) y.state mid.record
+    same_made : ((o : Order CodeScript) → act_now (asks code) r.task.body ≢ Created o false) → IsRecord (asks code) y.state mid.recorded
     same_made ne =
-        record_on (asks code) (code_main code fuel) code.first rec.setting.starts rec.is_stage.stands.stage y model r watch.record rec.kept mid.record notes_now
-        (subst (λ (xs : List Made). MadeOn (asks code) (code_main code fuel) code.first rec.setting.starts rec.is_stage.stands.stage y model r watch.record rec.kept xs) (sym noted.rest.0)
-        (made_same (asks code) (code_main code fuel) code.first rec.setting.starts rec.is_stage.stands.stage y model r watch.record rec.kept ne))
+        record_on (asks code) (code_main code fuel) code.first rec.setting.starts rec.is_stage.stands.stage y model r watch.recorded rec.kept mid.recorded notes_now
+        (subst (λ (xs : List Made). MadeOn (asks code) (code_main code fuel) code.first rec.setting.starts rec.is_stage.stands.stage y model r watch.recorded rec.kept xs) (sym noted.rest.0)
+        (made_same (asks code) (code_main code fuel) code.first rec.setting.starts rec.is_stage.stands.stage y model r watch.recorded rec.kept ne))
 
     keeps : (q : List ℕ) (u : Task CodeScript) → length q < length rec.is_stage.stands.stage.active → At rec.is_stage.stands.stage.state q u → At y.state q u
     keeps q u l h =
@@ -137,17 +137,17 @@ module _ (code : CodeParts) (fuel : ℕ) (old : Stage) (watch : Watch) (rec : Is
     runs_now : (u : Task CodeScript) → At go.stage.stands.stage.state go.stage.stands.stage.active u → u ≡ whole_task go.stage.current
     runs_now u h = at_same go.stage.stands.stage.state go.stage.stands.stage.active u (whole_task go.stage.current) h go.stage.stands.at_
 
-    make : IsRecord (asks code) go.stage.stands.stage.state next.record → next.acts ≡ length go.stage.current.found → AreDone go.stage.stands.stage.state go.stage.stands.stage.active (reverse next.above) → IsRecording code fuel new next
+    make : IsRecord (asks code) go.stage.stands.stage.state next.recorded → next.acts ≡ length go.stage.current.found → AreDone go.stage.stands.stage.state go.stage.stands.stage.active (reverse next.above) → IsRecording code fuel new next
     make k a b = record { setting = rec.setting; is_stage = go.stage; kept = k; acts = a; above = b }
 
     goes_down : (o : Order CodeScript) → act_now (asks code) go.runs.task.body ≡ Created o false → go.stage.stands.stage.active ≡ created_now (asks code) go.runs.task.body ∷ rec.is_stage.stands.stage.active → IsRecording code fuel new next
     goes_down o a q =
         make
-        (record_on (asks code) (code_main code fuel) code.first rec.setting.starts rec.is_stage.stands.stage go.stage.stands.stage (model go.stage.stands.stage go.runs) go.runs watch.record rec.kept next.record
-        (subst (λ (xs : List Note). NotesOn (asks code) (code_main code fuel) code.first rec.setting.starts rec.is_stage.stands.stage go.stage.stands.stage (model go.stage.stands.stage go.runs) go.runs watch.record rec.kept xs) (sym k.rest.0) (notes_now go.stage.stands.stage go.runs))
-        (subst (λ (xs : List Made). MadeOn (asks code) (code_main code fuel) code.first rec.setting.starts rec.is_stage.stands.stage go.stage.stands.stage (model go.stage.stands.stage go.runs) go.runs watch.record rec.kept xs)
+        (record_on (asks code) (code_main code fuel) code.first rec.setting.starts rec.is_stage.stands.stage go.stage.stands.stage (model go.stage.stands.stage go.runs) go.runs watch.recorded rec.kept next.recorded
+        (subst (λ (xs : List Note). NotesOn (asks code) (code_main code fuel) code.first rec.setting.starts rec.is_stage.stands.stage go.stage.stands.stage (model go.stage.stands.stage go.runs) go.runs watch.recorded rec.kept xs) (sym k.rest.0) (notes_now go.stage.stands.stage go.runs))
+        (subst (λ (xs : List Made). MadeOn (asks code) (code_main code fuel) code.first rec.setting.starts rec.is_stage.stands.stage go.stage.stands.stage (model go.stage.stands.stage go.runs) go.runs watch.recorded rec.kept xs)
         (sym (k.all ∙ ap (λ (xs : List Made). xs ++ k.made ∷ []) noted.rest.0))
-        (made_more (asks code) (code_main code fuel) code.first rec.setting.starts rec.is_stage.stands.stage go.stage.stands.stage (model go.stage.stands.stage go.runs) go.runs watch.record rec.kept o a k.made point
+        (made_more (asks code) (code_main code fuel) code.first rec.setting.starts rec.is_stage.stands.stage go.stage.stands.stage (model go.stage.stands.stage go.runs) go.runs watch.recorded rec.kept o a k.made point
         (k.number ∙ (noted.rest.1 ∙ acts_are go.stage.stands.stage go.runs))
         (k.wait code go.stage.current.start go.stage.current.found go.stage.is_current ∙ ap (λ (t : Task CodeScript). t.body.start.order.wait) (sym child))
         (λ c. k.rights code go.stage.current.start go.stage.current.found go.stage.is_current c ∙ ap (λ (t : Task CodeScript). held_right (right_of t.body.start.context c)) (sym child)) k.rising)))
@@ -238,7 +238,7 @@ module _ (code : CodeParts) (fuel : ℕ) (old : Stage) (watch : Watch) (rec : Is
         by_turn a q (stay ne e) = stays ne q
 
   -- main has ended
-  pub recording_ends : {cells output : List ℕ} {tasks : ℕ} → Ends (asks code) (code_main code fuel) code.first rec.is_stage.stands.stage cells output tasks → IsDoneRecord code fuel mid.record
+  pub recording_ends : {cells output : List ℕ} {tasks : ℕ} → Ends (asks code) (code_main code fuel) code.first rec.is_stage.stands.stage cells output tasks → IsDoneRecord code fuel mid.recorded
   recording_ends ends = record { setting = rec.setting; stage = ends.stage; run = ends.run; end_ = ends.end; over = ends.over; kept = same_made ends.stage ends.runs none }
     where
       found : ℕ
@@ -255,7 +255,7 @@ module _ (code : CodeParts) (fuel : ℕ) (old : Stage) (watch : Watch) (rec : Is
           by_turn a q (up ne e) = ne
           by_turn a q (stay ne e) = ne
 
-module _ (code : CodeParts) (fuel : ℕ) (stage : Stage) (is_first : IsFirstStage code (code_main code fuel) code.first stage) (setting : Setting (code_main code fuel) code.first) (watch : Watch) (notes : watch.record.notes ≡ []) (made : watch.record.made ≡ []) (acts : watch.acts ≡ 0) (above : watch.above ≡ []) where
+module _ (code : CodeParts) (fuel : ℕ) (stage : Stage) (is_first : IsFirstStage code (code_main code fuel) code.first stage) (setting : Setting (code_main code fuel) code.first) (watch : Watch) (notes : watch.recorded.notes ≡ []) (made : watch.recorded.made ≡ []) (acts : watch.acts ≡ 0) (above : watch.above ≡ []) where
   opened_at : (p : List ℕ) (t : Task CodeScript) → At is_first.stage.stands.stage.state p t → (p ≡ []) × (t ≡ record { body = record { start = code_main code fuel; found = [] }; given = [] })
   opened_at p t h = opening_at (code_main code fuel) code.first p t setting.starts.path (subst (λ (z : Running CodeScript). At z.state p t) is_first.opens h)
 
@@ -277,10 +277,10 @@ module _ (code : CodeParts) (fuel : ℕ) (stage : Stage) (is_first : IsFirstStag
     setting = setting;
     is_stage = is_first.stage;
     kept = record {
-      notes_so = λ x i. absurd (nothing_in watch.record.notes notes i);
+      notes_so = λ x i. absurd (nothing_in watch.recorded.notes notes i);
       noted = λ p n k a d i. absurd (nothing_done d);
       once = subst (λ (xs : List Note). Rattle.oss_certify.specs.Records.AreOnce xs) (sym notes) tt;
-      made_so = λ m i. absurd (nothing_in watch.record.made made i);
+      made_so = λ m i. absurd (nothing_in watch.recorded.made made i);
       made = λ k p t h. absurd (no_path k p (opened_at (k ∷ p) t h).0);
     };
     acts = acts ∙ sym (ap (λ (t : Task CodeScript). length t.body.found) (opened_at is_first.stage.stands.stage.active (whole_task is_first.stage.current) is_first.stage.stands.at_).1);

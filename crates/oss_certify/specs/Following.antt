@@ -38,8 +38,8 @@ pub record IsOn (act : CodeAct) (body : Kept) (old new : Watch) : Type 0 where
   pub point : List ℕ
   pub is_what : IsWhatOf act what
   pub is_point : IsPointOf body point
-  pub notes : new.record.notes ≡ with_note old.record.notes point old.acts what
-  pub rest : (new.record.made ≡ old.record.made) × (new.acts ≡ old.acts) × (new.above ≡ old.above)
+  pub notes : new.recorded.notes ≡ with_note old.recorded.notes point old.acts what
+  pub rest : (new.recorded.made ≡ old.recorded.made) × (new.acts ≡ old.acts) × (new.above ≡ old.above)
 
 -- The task with this body, which was created, runs.
 pub record IsDown (body : Kept) (old new : Watch) : Type 0 where
@@ -49,17 +49,17 @@ pub record IsDown (body : Kept) (old new : Watch) : Type 0 where
   pub wait : (code : CodeParts) (start : Start CodeScript) (found : List ℕ) → IsBody code start found body → made.wait ≡ start.order.wait
   pub rights : (code : CodeParts) (start : Start CodeScript) (found : List ℕ) → IsBody code start found body → (c : ℕ) → right_from false made.accesses c ≡ held_right (right_of start.context c)
   pub rising : IsRising made.accesses
-  pub all : new.record.made ≡ old.record.made ++ made ∷ []
-  pub rest : (new.record.notes ≡ old.record.notes) × (new.acts ≡ 0) × (new.above ≡ old.above ++ (old.acts + 1) ∷ [])
+  pub all : new.recorded.made ≡ old.recorded.made ++ made ∷ []
+  pub rest : (new.recorded.notes ≡ old.recorded.notes) × (new.acts ≡ 0) × (new.above ≡ old.above ++ (old.acts + 1) ∷ [])
 
 -- The creator of the task that ran runs, where there is one.
 pub record IsUp (old new : Watch) : Type 0 where
   pub creator : (older : List ℕ) (n : ℕ) → old.above ≡ older ++ n ∷ [] → (new.above ≡ older) × (new.acts ≡ n)
-  pub same : new.record ≡ old.record
+  pub same : new.recorded ≡ old.recorded
 
 -- The same task runs.
 pub record IsStill (old new : Watch) : Type 0 where
-  pub same : new.record ≡ old.record
+  pub same : new.recorded ≡ old.recorded
   pub rest : (new.above ≡ old.above) × (new.acts ≡ old.acts + 1)
 
 -- So many tasks stood above the one that ran, and so many above the one that runs.

@@ -29,7 +29,7 @@ AreDone s _ _ = ⊥
 pub record IsRecording (code : CodeParts) (fuel : ℕ) (stage : Stage) (watch : Watch) : Type 0 where
   pub setting : Setting (code_main code fuel) code.first
   pub is_stage : IsStage code (code_main code fuel) code.first stage
-  pub kept : IsRecord (asks code) is_stage.stands.stage.state watch.record
+  pub kept : IsRecord (asks code) is_stage.stands.stage.state watch.recorded
   pub acts : watch.acts ≡ length is_stage.current.found
   pub above : AreDone is_stage.stands.stage.state is_stage.stands.stage.active (reverse watch.above)
 

@@ -49,7 +49,7 @@ fn check_from(
     ensures { IfOk result (λ told. IsTrue told ↔ IsCertified code.now fuel chain.now ticks) }
 {
     match follow(code, fuel, &mut stage, &mut watch) {
-        Ok(ended) => Ok(told(ended, &watch.record, chain.as_slice(), ticks)),
+        Ok(ended) => Ok(told(ended, &watch.recorded, chain.as_slice(), ticks)),
         Err(error) => Err(error),
     }
 }
@@ -64,7 +64,7 @@ fn told(ended: bool, noted: &Record, links: &[Link], ticks: u64) -> bool
 /// Follows the run until it is over; whether main is done then.
 fn follow(code: &Code, fuel: u32, stage: &mut Stage, watch: &mut Watch) -> Result<bool, AllocError>
     requires { IsRecording code.now fuel stage.old watch.old }
-    ensures { IfOk result (λ ended. IsEndRecorded code.now fuel watch.new.record ended) }
+    ensures { IfOk result (λ ended. IsEndRecorded code.now fuel watch.new.recorded ended) }
 {
     'turns: loop {
         let depth = stage.above.len();

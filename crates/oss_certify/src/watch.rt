@@ -16,7 +16,7 @@ pub struct Watch {
     /// Where memory is taken from.
     pub alloc: Global,
     /// The record so far.
-    pub record: Record,
+    pub recorded: Record,
     /// How many acts the task that runs has done.
     pub acts: u64,
     /// How many acts each of the tasks above it has done, with the creation that it waits for, the oldest first.
@@ -74,14 +74,14 @@ fn add_note(
 impl Watch {
     /// Before the first act of main.
     pub fn new(alloc: Global) -> Watch
-        ensures notes { result.record.notes ≡ [] }
-        ensures made { result.record.made ≡ [] }
+        ensures notes { result.recorded.notes ≡ [] }
+        ensures made { result.recorded.made ≡ [] }
         ensures acts { result.acts ≡ 0 }
         ensures above { result.above ≡ [] }
     {
         Watch {
             alloc,
-            record: Record {
+            recorded: Record {
                 notes: List::new(alloc),
                 made: List::new(alloc),
             },
@@ -96,7 +96,7 @@ impl Watch {
     {
         let what = what_of(self.alloc, act)?;
         let point = body.point().copy()?;
-        add_note(&mut self.record.notes, point, self.acts, what)
+        add_note(&mut self.recorded.notes, point, self.acts, what)
     }
 
     /// The act was the creation of the task with this body, which runs now. After want of memory the run is given up.
@@ -109,7 +109,7 @@ impl Watch {
             wait: body.waits(),
             accesses: body.accesses()?,
         };
-        self.record.made.push(made)?;
+        self.recorded.made.push(made)?;
         self.above.push(more(self.acts)?)?;
         self.acts = 0;
         Ok(())
