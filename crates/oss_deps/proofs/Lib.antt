@@ -19,4 +19,3 @@ pub mod CutLemmas
 pub mod NewLemmas
 pub mod SameLemmas
 pub mod PlainLemmas
-pub mod ToldLemmas

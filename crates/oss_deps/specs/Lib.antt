@@ -6,5 +6,4 @@ pub mod Wants
 pub mod Columns
 pub mod Met
 pub mod Adding
-pub mod Told
 pub mod Hindrances

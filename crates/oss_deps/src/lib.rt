@@ -16,8 +16,6 @@ mod plain;
 mod reserved;
 mod reserving;
 mod splitting;
-#[cfg(test)]
-mod tests;
 mod walking;
 mod want;
 
