@@ -1,6 +1,7 @@
 #!/bin/sh
 # Builds and runs a bench program in a folder of its own, and prints its lines of times.
-# usage: program.sh NAME CRATES LIBRARIES [COMMAND]: the program is bench/NAME.program; it stands on LIBRARIES, and all that these stand on are CRATES.
+# usage: program.sh NAME CRATES LIBRARIES [COMMAND]: the program is bench/NAME.program, and bench/NAME.proofs has the proofs of its functions where they need some. It stands
+# on LIBRARIES, and all that these stand on are CRATES.
 # COMMAND is run, which proves all before, or try, which proves nothing and builds with tests of what is proved elsewhere, so that it is slower.
 top=$(CDPATH='' cd -- "$(dirname -- "$0")/.." && pwd) || exit 1
 work=$(mktemp -d) || exit 1
@@ -16,6 +17,12 @@ done
 cp "$top/HANDLES" "$work/HANDLES"
 printf '%s\n' "bench_$1: $3" >>"$work/crates.txt"
 cp "$top/bench/$1.program" "$work/crates/bench_$1/src/main.rt"
+if [ -f "$top/bench/$1.proofs" ]; then
+  # each part of it is a file, named by the line before it
+  awk -v to="$work/crates/bench_$1/proofs" '
+    /^=== / { file = to "/" $2 ".antt"; folder = file; sub("/[^/]*$", "", folder); system("mkdir -p " folder); next }
+    { print >file }' "$top/bench/$1.proofs" || exit 1
+fi
 cd "$work/crates/bench_$1" || exit 1
 rt "${4:-run}" >"$work/log" 2>&1
 status=$?
