@@ -11,5 +11,4 @@ mod reading;
 mod schedules;
 mod turns;
 mod waves;
-mod waving;
 mod words;

@@ -7,7 +7,7 @@ ghost use Rattle.oss_watch.specs.Watches.{HasNoLet, IsWatch};
 
 use crate::tests::reading::code_of;
 use crate::tests::waves;
-use crate::tests::waving::{pass_once, wave};
+use crate::{pass_once, wave};
 use oss_body::Body;
 use oss_code::Code;
 use oss_core::{Core, Passed, Turn};

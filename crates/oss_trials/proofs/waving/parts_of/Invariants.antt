@@ -4,7 +4,7 @@ use Rattle.oss_body.specs.declared.body.Body.{Body}
 use Rattle.oss_model.specs.Order.{IsIn}
 use Rattle.oss_part.specs.Segments.{IsKnown}
 use Rattle.oss_core.specs.Turns.{ArePartsOf}
-use Rattle.oss_trials.proofs.tests.waving.parts_of.Given as goal
+use Rattle.oss_trials.proofs.waving.parts_of.Given as goal
 
 -- the parts so far are there, and those left are bodies of tasks
 abbrev pub invariant-loop-body : goal.invariant-loop-body

@@ -1,6 +1,6 @@
 use Rattle.std.specs.Vec.Iter.{into_iter_items, into_iter_len}
 use Rattle.oss_trials.proofs.TrialLemmas.{first_known, one_less, parts_more, rest_known}
-use Rattle.oss_trials.proofs.tests.waving.parts_of.Goals as goal
+use Rattle.oss_trials.proofs.waving.parts_of.Goals as goal
 
 pub invariant_of-ready : goal.invariant_of-ready
 invariant_of-ready c = record { known = first_known c.args.code.now (into_iter_items c.loop-body.body-iterator) c.in-Some.body (into_iter_items c.next.new.self) c.in-Some.ensures.steps.0 c.loop-body.invariant.known }

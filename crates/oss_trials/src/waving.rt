@@ -6,6 +6,7 @@ ghost use Rattle.oss_core.specs.Awake.{HaveSteppers};
 ghost use Rattle.oss_core.specs.Cores.{kept_of};
 ghost use Rattle.oss_core.specs.Kept.{IsRunning};
 ghost use Rattle.oss_core.specs.Leaving.{WasWave};
+ghost use Rattle.oss_core.specs.Passing.{HasPassed};
 ghost use Rattle.oss_core.specs.Turns.{ArePartsOf, HasWaved, KeepsTasks};
 ghost use Rattle.oss_model.specs.Order.{IsIn};
 ghost use Rattle.oss_part.specs.Segments.{IsKnown};
@@ -43,8 +44,9 @@ fn parts_of(
     Ok(parts)
 }
 
-/// Makes a wave of the tasks that are awake, and wakes those that waited for a task that has ended in it. The answer tells how many acts each task made that may act.
-pub(crate) fn wave<D: Deps>(
+/// Makes a wave: each task that may act makes its part, and those wake that waited for a task which has ended in it. The answer tells how many acts each
+/// of them made. After want of memory core and watch are given up.
+pub fn wave<D: Deps>(
     alloc: Global,
     core: &mut Core<D>,
     code: &Code,
@@ -55,6 +57,7 @@ pub(crate) fn wave<D: Deps>(
     requires watch { IsWatch (kept_of D.seen core.old) watch.old }
     requires cells { length code.now.first ≤ 1048576 }
     requires room { length core.old.cells.items ≤ 1048576 }
+    ensures waved { IfOk result (λ turns. HasWaved code.now (kept_of D.seen core.old) (kept_of D.seen core.new) turns.items) }
     ensures running { OnOk result (IsRunning code.now (kept_of D.seen core.new)) }
     ensures watch { OnOk result (IsWatch (kept_of D.seen core.new) watch.new) }
 {
@@ -84,14 +87,16 @@ fn bare_wave<D: Deps>(
     core.end_wave(steppers.as_slice(), parts, spares)
 }
 
-/// Makes a pass over the tasks that are awake, and wakes those that waited for what it gave up. The answer tells of each run of cells that was given up.
-pub(crate) fn pass_once<D: Deps>(
+/// Makes a pass: each task gives up and joins what it may, and those wake that waited for it. The answer tells of each run of cells that was given up;
+/// where it is empty, no task has a cell left that it may give up. After want of memory core and watch are given up.
+pub fn pass_once<D: Deps>(
     core: &mut Core<D>,
     code: &Code,
     watch: &mut Watch,
 ) -> Result<Vec<Passed>, AllocError>
     requires running { IsRunning code.now (kept_of D.seen core.old) }
     requires watch { IsWatch (kept_of D.seen core.old) watch.old }
+    ensures passed { IfOk result (λ passed. HasPassed code.now (kept_of D.seen core.old) (kept_of D.seen core.new) passed.items) }
     ensures running { OnOk result (IsRunning code.now (kept_of D.seen core.new)) }
     ensures watch { OnOk result (IsWatch (kept_of D.seen core.new) watch.new) }
     ensures quiet { IfOk result (λ passed. passed.items ≡ [] → HasNoLet (kept_of D.seen core.new)) }

@@ -6,7 +6,7 @@ use Rattle.oss_core.specs.Cores.{kept_of}
 use Rattle.oss_watch.specs.Watches.{IsBehindPass}
 use Rattle.oss_watch.proofs.RoundLemmas.{has_givers}
 use Rattle.oss_trials.proofs.TrialLemmas.{behind_pass, pass_running, passed_quiet, passed_there}
-use Rattle.oss_trials.proofs.tests.waving.pass_once.Goals as goal
+use Rattle.oss_trials.proofs.waving.pass_once.Goals as goal
 
 pub pass-requires-clause-asked : goal.pass-requires-clause-asked
 pass-requires-clause-asked g c = subst (λ (ts : List TaskNo). HaveGivers (kept_of g.D.Deps.seen c.args.core.now) ts) (sym c.awake.ensures) (has_givers (kept_of g.D.Deps.seen c.args.core.now) c.args.watch.now c.requires.watch)

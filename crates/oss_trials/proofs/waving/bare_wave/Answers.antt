@@ -2,7 +2,7 @@ use Rattle.std.proofs.Common.{rules}
 use Rattle.oss_core.specs.Cores.{kept_of}
 use Rattle.oss_core.specs.Turns.{AwaitsParts}
 use Rattle.oss_core.proofs.CallLemmas.{if_ok}
-use Rattle.oss_trials.proofs.tests.waving.bare_wave.Goals as goal
+use Rattle.oss_trials.proofs.waving.bare_wave.Goals as goal
 
 pub returns-clause-waved : goal.returns-clause-waved
 returns-clause-waved g c =

@@ -6,7 +6,7 @@ use Rattle.oss_core.specs.Cores.{kept_of}
 use Rattle.oss_watch.specs.Watches.{IsBehindWave}
 use Rattle.oss_watch.proofs.RoundLemmas.{has_steppers}
 use Rattle.oss_trials.proofs.TrialLemmas.{behind_wave, turns_there, wave_running}
-use Rattle.oss_trials.proofs.tests.waving.wave.Goals as goal
+use Rattle.oss_trials.proofs.waving.wave.Goals as goal
 
 pub bare_wave-requires-clause-asked : goal.bare_wave-requires-clause-asked
 bare_wave-requires-clause-asked g c = subst (λ (ts : List TaskNo). HaveSteppers (kept_of g.D.Deps.seen c.args.core.now) ts) (sym c.awake.ensures) (has_steppers c.requires.running c.args.watch.now c.requires.watch)
