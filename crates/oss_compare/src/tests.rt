@@ -5,8 +5,8 @@ mod obstacles;
 mod worked;
 
 ghost use Rattle.std.specs.Prelude.{◌≤◌, ◌<◌};
-ghost use Rattle.oss_deps.specs.Kept.{seen_of};
 ghost use Rattle.oss_deps.specs.Seen.{IsNew};
+ghost use Rattle.oss_word_deps.specs.Worded.{seen_by};
 ghost use Rattle.oss_compare.specs.Told.{IsTold};
 
 use crate::Told;
@@ -18,7 +18,7 @@ use std::process::Abort;
 /// A new system by words, with so many entries at most.
 pub fn new_words(rt: &(impl Abort + AllocGlobal), most: u32) -> WordDeps
     requires { (0 < most) × (most ≤ 16777216) }
-    ensures { IsNew (seen_of result) }
+    ensures { IsNew (seen_by result) }
 {
     match WordDeps::new(rt.alloc(), most) {
         Ok(system) => system,

@@ -196,6 +196,13 @@ impl<D: Deps> Told<D> {
         }
     }
 
+    /// The system.
+    pub fn system(&self) -> &D
+        ensures { result.now ≡ self.now.system }
+    {
+        &self.system
+    }
+
     /// An access is reserved. After want of memory what was told is as before.
     pub fn reserve(&mut self, access: Access) -> Result<(), AllocError>
         requires { IsTold (D.seen self.old.system) self.old.opens.items self.old.gives.items }

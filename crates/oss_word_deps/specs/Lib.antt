@@ -5,3 +5,4 @@ pub mod Known
 pub mod Asked
 pub mod Growing
 pub mod Shelved
+pub mod Worded

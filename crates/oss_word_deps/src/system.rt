@@ -1,8 +1,8 @@
 ghost use Rattle.std.specs.Prelude.{◌≡◌, ◌<◌, ◌≤◌, ◌↔◌, ℕ, IfOk, IfSome, IsTrue, OnOk, Some, None};
 ghost use Rattle.oss_deps.specs.Seen.{IsNew, Seen};
-ghost use Rattle.oss_deps.specs.Kept.{seen_of};
 ghost use Rattle.oss_word_deps.specs.Booked.{IsBooked};
 ghost use Rattle.oss_word_deps.specs.Shelved.{AreRight, Shelved};
+ghost use Rattle.oss_word_deps.specs.Worded.{seen_by};
 
 use crate::beside::{give_in, make_room, open_in};
 use crate::words::Words;
@@ -26,12 +26,12 @@ pub struct WordDeps {
 }
 
 impl Model for WordDeps {
-    ghost use Rattle.oss_deps.specs.Kept.{Kept};
     ghost use Rattle.oss_word_deps.specs.Shelved.{AreRight};
+    ghost use Rattle.oss_word_deps.specs.Worded.{Worded, entries_of};
 
-    ghost Value = { Kept };
+    ghost Value = { Worded };
 
-    ghost view = { λ d. d.kept };
+    ghost view = { λ d. record { lists = d.kept; entries = entries_of d.words } };
 
     ghost invariant = { λ d. AreRight d.most d.kept d.words };
 }
@@ -55,7 +55,8 @@ impl WordDeps {
     /// No task is opened. `most` is from 1 to 16,777,216: so many entries its net has at most, of which one stands for main. It is an error where memory is wanted.
     pub fn new(alloc: Global, most: u32) -> Result<WordDeps, AllocError>
         requires { (0 < most) × (most ≤ 16777216) }
-        ensures { IfOk result (λ deps. IsNew (seen_of deps)) }
+        ensures new { IfOk result (λ deps. IsNew (seen_by deps)) }
+        ensures entries { IfOk result (λ deps. IfSome deps.entries (λ n. n ≤ most)) }
     {
         let words = first_words(alloc, most)?;
         Ok(WordDeps {
@@ -64,15 +65,25 @@ impl WordDeps {
             words,
         })
     }
+
+    /// How many entries its net has, of which one stands for main. None: it has given the net up, and answers from its lists.
+    pub fn entries(&self) -> Option<u32>
+        ensures { result ≡ self.now.entries }
+    {
+        match &self.words {
+            Some(words) => Some(words.size()),
+            None => None,
+        }
+    }
 }
 
 /// What the words cost is told by the cells of the accesses: each has an entry of its own, which is linked and given up in a few atomic steps, and is found by halving.
 /// `met` reads a word for each strong access of the task to a cell, and `children_done` one for each cell of the range. `obstacle` and `undone_child` are asked of
 /// the plain lists.
 impl Deps for WordDeps {
-    ghost use Rattle.oss_deps.specs.Kept.{seen_of};
+    ghost use Rattle.oss_word_deps.specs.Worded.{seen_by};
 
-    ghost seen = { seen_of };
+    ghost seen = { seen_by };
 
     fn reserve(&mut self, accesses: &List<Access>) -> Result<(), AllocError> {
         make_room(&mut self.words, self.most, accesses.as_slice())?;

@@ -154,6 +154,13 @@ pub(crate) enum Kept {
 }
 
 impl Words {
+    /// How many entries the net has.
+    pub(crate) fn size(&self) -> u32
+        ensures { result ≡ self.now.size }
+    {
+        self.net.size()
+    }
+
     /// An empty book, and its net. `None` where the entries could not be drawn.
     pub(crate) fn new(alloc: Global, size: u32) -> Result<Option<Words>, AllocError>
         requires { (2 ≤ size) × (size ≤ 16777216) }

@@ -248,8 +248,8 @@ fn play<A: Deps, B: Deps>(rt: &impl Abort, one: &mut Told<A>, other: &mut Told<B
     compare_all(rt, one, other, dice.range());
 }
 
-/// One run of a new system beside the plain lists.
-fn run_beside<D: Deps>(rt: &(impl Abort + AllocGlobal), system: D, dice: &mut Dice)
+/// One run of a new system beside the plain lists. Gives it back, with what it was told.
+fn run_beside<D: Deps>(rt: &(impl Abort + AllocGlobal), system: D, dice: &mut Dice) -> Told<D>
     requires { IsNew (D.seen system) }
 {
     let mut one = Told::new(rt.alloc(), PlainDeps::new(rt.alloc()));
@@ -261,14 +261,14 @@ fn run_beside<D: Deps>(rt: &(impl Abort + AllocGlobal), system: D, dice: &mut Di
         "{opened} {given} {joins}"
     );
     drop(one);
-    drop(other);
+    other
 }
 
 #[test]
 fn ranges_answer_as_lists_do(rt: HostRuntime) {
     let mut dice = Dice { state: 7 };
     'runs: for _ in 0..RUNS {
-        run_beside(&rt, Regions::new(rt.alloc()), &mut dice);
+        drop(run_beside(&rt, Regions::new(rt.alloc()), &mut dice));
     }
 }
 
@@ -276,7 +276,9 @@ fn ranges_answer_as_lists_do(rt: HostRuntime) {
 fn words_answer_as_lists_do(rt: HostRuntime) {
     let mut dice = Dice { state: 7 };
     'runs: for _ in 0..RUNS {
-        run_beside(&rt, new_words(&rt, 16_777_216), &mut dice);
+        let told = run_beside(&rt, new_words(&rt, 16_777_216), &mut dice);
+        assert_eq!(&rt; told.system().entries(), Some(65_536));
+        drop(told);
     }
 }
 
@@ -285,6 +287,10 @@ fn words_answer_as_lists_do(rt: HostRuntime) {
 fn words_that_are_given_up_answer_as_lists_do(rt: HostRuntime) {
     let mut dice = Dice { state: 7 };
     'runs: for _ in 0..RUNS {
-        run_beside(&rt, new_words(&rt, 64), &mut dice);
+        let words = new_words(&rt, 64);
+        assert_eq!(&rt; words.entries(), Some(64));
+        let told = run_beside(&rt, words, &mut dice);
+        assert_eq!(&rt; told.system().entries(), None);
+        drop(told);
     }
 }

@@ -17,12 +17,12 @@ use std::thread::Threads;
 /// A task has fuel for so many ticks.
 const FUEL: u32 = 1_000_000;
 
-/// The record of a run of a code over a dependency system, as a text.
+/// The record of a run of a code over a dependency system, as a text, and the system behind it.
 fn record_over<R: Abort + AllocGlobal + Threads + Sync, D: Deps>(
     rt: &R,
     code: &Code,
     deps: D,
-) -> Bytes
+) -> (Bytes, D)
     requires cells { length code.now.first ≤ 1048576 }
     requires opens { (D.seen deps).opens ≡ [] }
     requires given { (t c : ℕ) → (D.seen deps).given t c ≡ false }
@@ -34,8 +34,8 @@ fn record_over<R: Abort + AllocGlobal + Threads + Sync, D: Deps>(
         deps,
     } = run;
     let record = schedule_text(rt.alloc(), &told).expect(rt, "memory");
-    drop((answer, told, deps));
-    record
+    drop((answer, told));
+    (record, deps)
 }
 
 /// The code of the generated program from 7 on with 200 tasks, each with up to 16 cells.
@@ -50,11 +50,18 @@ fn generated_code(rt: &(impl Abort + AllocGlobal)) -> Code
 #[test]
 fn a_run_over_words_has_the_record_of_one_over_plain_lists(rt: HostRuntime) {
     let code = generated_code(&rt);
-    let plain = record_over(&rt, &code, PlainDeps::new(rt.alloc()));
+    let (plain, lists) = record_over(&rt, &code, PlainDeps::new(rt.alloc()));
+    drop(lists);
     // a net of 64 entries is given up in the run, one of 16,777,216 is not
     let few = WordDeps::new(rt.alloc(), 64).expect(&rt, "memory");
-    assert!(&rt; record_over(&rt, &code, few).as_slice() == plain.as_slice());
+    let (record, few) = record_over(&rt, &code, few);
+    assert!(&rt; record.as_slice() == plain.as_slice());
+    assert_eq!(&rt; few.entries(), None);
+    drop((record, few));
     let many = WordDeps::new(rt.alloc(), 16_777_216).expect(&rt, "memory");
-    assert!(&rt; record_over(&rt, &code, many).as_slice() == plain.as_slice());
+    let (record, many) = record_over(&rt, &code, many);
+    assert!(&rt; record.as_slice() == plain.as_slice());
+    assert!(&rt; many.entries().is_some());
+    drop((record, many));
     drop((plain, code));
 }
