@@ -1,6 +1,6 @@
 #!/bin/sh
 # Builds and runs a bench program in a folder of its own, and prints its lines of times.
-# usage: program.sh NAME CRATES LIBRARIES [COMMAND]: the program is bench/NAME.program, and bench/NAME.proofs has the proofs of its functions where they need some. It stands
+# usage: program.sh NAME CRATES LIBRARIES [COMMAND]: the program is bench/NAME.program, and bench/NAME.proofs has its definitions and the proofs of its functions where there are some. It stands
 # on LIBRARIES, and all that these stand on are CRATES.
 # COMMAND is run, which proves all before, or try, which proves nothing and builds with tests of what is proved elsewhere, so that it is slower.
 top=$(CDPATH='' cd -- "$(dirname -- "$0")/.." && pwd) || exit 1
@@ -19,7 +19,7 @@ printf '%s\n' "bench_$1: $3" >>"$work/crates.txt"
 cp "$top/bench/$1.program" "$work/crates/bench_$1/src/main.rt"
 if [ -f "$top/bench/$1.proofs" ]; then
   # each part of it is a file, named by the line before it
-  awk -v to="$work/crates/bench_$1/proofs" '
+  awk -v to="$work/crates/bench_$1" '
     /^=== / { file = to "/" $2 ".antt"; folder = file; sub("/[^/]*$", "", folder); system("mkdir -p " folder); next }
     { print >file }' "$top/bench/$1.proofs" || exit 1
 fi

@@ -1,0 +1,6 @@
+use Rattle.oss_retired.proofs.RemainderLemmas.{remainder}
+use Rattle.oss_retired.proofs.copying.Copy.told.Goals as goal
+
+pub returns-clause-remainder : goal.returns-clause-remainder
+returns-clause-remainder c = λ opens cell ord is. remainder opens cell c.args.line.now.hangs c.args.line.now.stand c.args.numbers.now c.args.self.line.hangs c.args.self.numbers.items c.args.self.places.items c.args.self.owners.items ord is
+    (c.is_settled-settled.ensures.rest c.requires.settled) c.is_settled-settled.ensures.listed c.is_settled-wired.ensures.wired c.requires.copied c.requires.given

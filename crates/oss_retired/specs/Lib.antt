@@ -1,0 +1,4 @@
+pub mod Claims
+pub mod Copies
+pub mod Remainder
+pub mod Retired

@@ -1,0 +1,10 @@
+//! Accesses to a cell that are done, with all before them, may be left out of the lists of the cell: laws, and a copy of a line that leaves them out.
+#![tactic(auto)]
+
+mod copying;
+pub mod laws;
+mod remainder;
+#[cfg(test)]
+mod tests;
+
+pub use remainder::{Remainder, remainder_of};
