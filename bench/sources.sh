@@ -53,6 +53,24 @@ int main() {
 PROGRAM
 }
 
+# cuts_source COUNT: tasks on a whole array, and behind these, once they are done, as many on one cell of it each
+cuts_source() {
+  cat <<PROGRAM
+long a[$1];
+int main() {
+  for (long t = 0; t < $1; t++) {
+#pragma oss task inout(a)
+    a[0] = a[0] + t;
+  }
+#pragma oss taskwait
+  for (long i = 0; i < $1; i++) {
+#pragma oss task inout(a[i])
+    a[i] = a[i] + 1;
+  }
+}
+PROGRAM
+}
+
 # filled_source CELLS: main writes each cell of an array
 filled_source() {
   cat <<PROGRAM

@@ -10,6 +10,7 @@ use Rattle.oss_fragments.specs.Here.{AreEntries, bare, here_of}
 use Rattle.oss_fragments.specs.Kept.{here_by}
 use Rattle.oss_fragments.specs.Stretches.{AreFragments, IsFragment}
 use Rattle.oss_fragments.specs.Changes.{IsFiner}
+use Rattle.oss_fragments.proofs.LessLemmas.{less_same}
 use Rattle.oss_fragments.proofs.StretchLemmas.{before_or, none_placed, read_here, read_some}
 
 pub bare_entries : AreEntries bare
@@ -30,7 +31,7 @@ module _ (all : Fragment) (new_pieces : List (Piece ℕ)) (lo_is : all.lo ≡ 0)
   pub cover_finer : (pieces : List (Piece ℕ)) → Assigns 0 1048576 (Some 0) pieces new_pieces → AreFragments pieces [] → IsFiner pieces [] new_pieces (all ∷ [])
   cover_finer pieces map old = record {
     are = λ s. are;
-    here = λ s c. cell c (before_or c 1048576);
+    here = λ s c. less_same (here_by pieces [] c) (here_by new_pieces (all ∷ []) c) (sym (cell c (before_or c 1048576)));
     asked = λ k. rw asked_is refl;
     divided = λ n. absurd (n refl);
     room = λ n. absurd (n refl);

@@ -9,21 +9,23 @@ use Rattle.oss_ranges.specs.declared.piece.Piece.{Piece}
 use Rattle.oss_ranges.specs.Cells.{Assigns, value_at}
 use Rattle.oss_deps.proofs.Basics.{bools, both, both_of, some_is, some_none, same_at, compared}
 use Rattle.oss_deps.proofs.CloseLemmas.{same_number, get_set_same, get_set_other}
+use Rattle.oss_retired.proofs.TableLemmas.{same_tells}
 use Rattle.oss_fragments.specs.declared.fragment.Fragment.{Fragment}
 use Rattle.oss_fragments.specs.Here.{AreEntries, here_of}
 use Rattle.oss_fragments.specs.Kept.{here_by, is_asked}
 use Rattle.oss_fragments.specs.Stretches.{AreFragments, IsFragment, IsDivided, HasRoom, HaveRoom, IsReady, AreReady}
 use Rattle.oss_fragments.specs.Changes.{IsFiner, IsDividedAt}
+use Rattle.oss_fragments.proofs.LessLemmas.{less_both, less_same}
 use Rattle.oss_fragments.proofs.StretchLemmas.{before_or, IsPlaced, placed, read_here, read_some, one_place, one_fragment, begin_divides}
 
 pub finer_same : (pieces : List (Piece ℕ)) (fragments : List Fragment) → IsFiner pieces fragments pieces fragments
-finer_same pieces fragments = record { are = λ s. s; here = λ s c. refl; asked = λ k. refl; divided = λ n k d. d; room = λ n lo hi r. r; some = λ n. n }
+finer_same pieces fragments = record { are = λ s. s; here = λ s c. same_tells (here_by pieces fragments c).hangs (here_by pieces fragments c).tasks; asked = λ k. refl; divided = λ n k d. d; room = λ n lo hi r. r; some = λ n. n }
 
 pub finer_both : (pieces : List (Piece ℕ)) (fragments : List Fragment) (pieces2 : List (Piece ℕ)) (fragments2 : List Fragment) (pieces3 : List (Piece ℕ)) (fragments3 : List Fragment)
     → IsFiner pieces fragments pieces2 fragments2 → IsFiner pieces2 fragments2 pieces3 fragments3 → IsFiner pieces fragments pieces3 fragments3
 finer_both pieces fragments pieces2 fragments2 pieces3 fragments3 f g = record {
   are = λ s. g.are (f.are s);
-  here = λ s c. g.here (f.are s) c ∙ f.here s c;
+  here = λ s c. less_both (here_by pieces fragments c) (here_by pieces2 fragments2 c) (here_by pieces3 fragments3 c) (f.here s c) (g.here (f.are s) c);
   asked = λ k. g.asked k ∙ f.asked k;
   divided = λ n k d. g.divided (f.some n) k (f.divided n k d);
   room = λ n lo hi r. g.room (f.some n) lo hi (f.room n lo hi r);
@@ -199,7 +201,7 @@ module _ (pieces : List (Piece ℕ)) (fragments : List Fragment) (new_pieces : L
   pub divided_finer : IsFiner pieces fragments new_pieces new
   divided_finer = record {
     are = divided_are;
-    here = divided_cell;
+    here = λ s c. less_same (here_by pieces fragments c) (here_by new_pieces new c) (sym (divided_cell s c));
     asked = divided_asked;
     divided = λ x. divided_still;
     room = λ x. divided_room;

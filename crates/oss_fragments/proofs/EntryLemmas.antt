@@ -1,15 +1,15 @@
 -- The accesses of a fragment once a task is opened there, or has given it up.
-use Rattle.std.proofs.Common.{◌≡◌, ℕ, ◌+◌, ◌<◌, zero, suc, refl, sym, ap, subst, ◌∙◌, List, [], ◌∷◌, ◌++◌, ◌⊎◌, inl, inr, Bool, true, false, Some, arith, length}
+use Rattle.std.proofs.Common.{◌≡◌, ℕ, ◌+◌, ◌<◌, zero, suc, refl, sym, ap, subst, ◌∙◌, List, [], ◌∷◌, ◌++◌, ◌⊎◌, inl, inr, true, false, Some, arith, length}
 use Rattle.std.proofs.lemmas.List.{length-set, length_push}
 use Rattle.std.proofs.lemmas.Option.{slice_get_within}
-use Rattle.std.specs.Prelude.{◌==◌, MatchBool, slice_get}
+use Rattle.std.specs.Prelude.{◌==◌, slice_get}
 use Rattle.oss_syntax.specs.declared.access.Mode.{Mode}
 use Rattle.oss_deps.proofs.Basics.{bools, some_is, same_at}
 use Rattle.oss_wires.specs.declared.hang.Hang.{Hang}
 use Rattle.oss_wires.specs.Steps.{IsHung, IsGift}
 use Rattle.oss_wires.specs.Tables.{gave_in, given_up, hang_at, last_in, new_hang, next_link, opened_in, wires_of, with_last, with_next}
 use Rattle.oss_fragments.specs.declared.fragment.Fragment.{Fragment}
-use Rattle.oss_fragments.specs.Here.{Here, AreEntries, IsEntry, IsGivenUp, IsOpened, IsShown, here_of}
+use Rattle.oss_fragments.specs.Here.{Here, AreEntries, IsEntry, here_of}
 use Rattle.oss_fragments.specs.Stretches.{IsFragment, HasRoom}
 use Rattle.oss_fragments.specs.Changes.{HasSameEdges, IsOpenedIn, IsGivenIn}
 
@@ -103,20 +103,3 @@ module _ (a : Fragment) (right : IsFragment a) where
     };
     room = room;
   }
-
-pushed_last : (xs : List ℕ) (y : ℕ) → slice_get (xs ++ y ∷ []) (length xs) ≡ Some y
-pushed_last [] y = refl
-pushed_last (x ∷ xs) y = pushed_last xs y
-
--- who has an access keeps it where a task is opened
-pub shown_still : (number parent : ℕ) (mode : Mode) (old new : Here) → IsOpened number parent mode old new → (m : ℕ) → IsShown m old → IsShown m new
-shown_still number parent mode old new o m s = record { not_main = s.not_main; entry = s.entry; entry_is = subst (λ (xs : List ℕ). slice_get xs s.entry ≡ Some m) (sym o.tasks) (front_get old.tasks number s.entry m s.entry_is) }
-
--- and the task that is opened has one
-pub shown_new : (number parent : ℕ) (mode : Mode) (old new : Here) → IsOpened number parent mode old new → (number ≡ 0 → ⊥) → IsShown number new
-shown_new number parent mode old new o n = record { not_main = n; entry = length old.tasks; entry_is = subst (λ (xs : List ℕ). slice_get xs (length old.tasks) ≡ Some number) (sym o.tasks) (pushed_last old.tasks number) }
-
--- and where a task gives up the cell, or another one
-pub shown_given : (number : ℕ) (is_in : Bool) (old new : Here) → MatchBool is_in (IsGivenUp number old new) (new ≡ old) → (m : ℕ) → IsShown m old → IsShown m new
-shown_given number true old new g m s = record { not_main = s.not_main; entry = s.entry; entry_is = subst (λ (xs : List ℕ). slice_get xs s.entry ≡ Some m) (sym g.tasks) s.entry_is }
-shown_given number false old new e m s = subst (λ (h : Here). IsShown m h) (sym e) s

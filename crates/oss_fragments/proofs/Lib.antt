@@ -1,4 +1,5 @@
 pub mod SearchLemmas
+pub mod LessLemmas
 pub mod StretchLemmas
 pub mod WalkLemmas
 pub mod EntryLemmas

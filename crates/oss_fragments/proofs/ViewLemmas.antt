@@ -4,7 +4,7 @@ use Rattle.std.specs.Prelude.{IfSome}
 use Rattle.oss_syntax.specs.declared.access.Access.{Access}
 use Rattle.oss_ranges.specs.Cells.{value_at}
 use Rattle.oss_deps.proofs.Basics.{some_none}
-use Rattle.oss_fragments.specs.Here.{Here, IsShown, MayHang, bare}
+use Rattle.oss_fragments.specs.Here.{Here, IsLess, IsShown, MayHang, bare}
 use Rattle.oss_fragments.specs.Kept.{Kept, here_at, here_by, is_cut, is_cut_by}
 use Rattle.oss_fragments.specs.Stretches.{AreFragments, AreReady}
 use Rattle.oss_fragments.proofs.StretchLemmas.{none_placed, read_here}
@@ -30,6 +30,9 @@ shown_fields view seen e number c h = subst (λ (x : Kept). IsShown number (here
 
 pub may_fields : (view seen : Kept) → view ≡ seen → (number parent c : ℕ) (o : Option Access) → IfSome o (λ a. MayHang number parent a.mode (here_at seen c)) → IfSome o (λ a. MayHang number parent a.mode (here_by view.pieces view.fragments c))
 may_fields view seen e number parent c o h = subst (λ (x : Kept). IfSome o (λ a. MayHang number parent a.mode (here_at x c))) (sym e) h
+
+pub less_seen : (view seen : Kept) → view ≡ seen → (c : ℕ) (new : Here) → IsLess (here_by view.pieces view.fragments c) new → IsLess (here_at seen c) new
+less_seen view seen e c new h = subst (λ (x : Kept). IsLess (here_at x c) new) e h
 
 pub given_seen : (view seen : Kept) → view ≡ seen → (number c : ℕ) (is_in : Bool) (new : Here) → IsGivenBy number is_in (here_by view.pieces view.fragments c) new → IsGivenBy number is_in (here_at seen c) new
 given_seen view seen e number c is_in new h = subst (λ (x : Kept). IsGivenBy number is_in (here_at x c) new) e h

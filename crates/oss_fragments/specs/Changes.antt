@@ -1,19 +1,21 @@
--- How the fragments change: one is divided, begins become cuts, or the fragments of a range change one after the other.
+-- How the fragments change: accesses on which nothing depends any more are left out of one, one is divided, begins become cuts, or the fragments
+-- of a range change one after the other.
 -- Read against: `0..8` divided at 4 gives `0..4` in its place and `4..8` behind all others, with the same accesses; a walk from 0 up to 4
--- changes the first and not the second.
-use Rattle.std.specs.Prelude.{◌≡◌, ℕ, ◌+◌, ◌<◌, ◌≤◌, ◌⊎◌, false, List, [], length, slice_get, Some}
+-- changes the first and not the second. Where task 1 has given up the cells 0 to 7 and is done there, `0..8` with main and task 1 is left with
+-- main alone before it is divided.
+use Rattle.std.specs.Prelude.{◌≡◌, ℕ, ◌+◌, ◌<◌, ◌≤◌, ◌⊎◌, false, List, [], length, set, slice_get, Some}
 use Rattle.oss_syntax.specs.declared.access.Mode.{Mode}
 use Rattle.oss_ranges.specs.declared.piece.Piece.{Piece}
 use Rattle.oss_ranges.specs.Cells.{Assigns}
 use Rattle.oss_fragments.specs.declared.fragment.Fragment.{Fragment}
-use Rattle.oss_fragments.specs.Here.{here_of, IsOpened, IsGivenUp}
+use Rattle.oss_fragments.specs.Here.{here_of, IsLess, IsOpened, IsGivenUp}
 use Rattle.oss_fragments.specs.Kept.{here_by, is_asked}
 use Rattle.oss_fragments.specs.Stretches.{AreFragments, IsFragment, IsDivided, HasRoom, HaveRoom}
 
--- The fragments stand for the same as before: at most, some were divided, or have got room.
+-- The fragments tell the same as before: at most, some were divided or have got room, and accesses on which nothing depends any more are left out.
 pub record IsFiner (pieces : List (Piece ℕ)) (fragments : List Fragment) (new_pieces : List (Piece ℕ)) (new : List Fragment) : Type 0 where
   pub are : AreFragments pieces fragments → AreFragments new_pieces new
-  pub here : AreFragments pieces fragments → (c : ℕ) → here_by new_pieces new c ≡ here_by pieces fragments c
+  pub here : AreFragments pieces fragments → (c : ℕ) → IsLess (here_by pieces fragments c) (here_by new_pieces new c)
   pub asked : (k : ℕ) → is_asked new k ≡ is_asked fragments k
   pub divided : (fragments ≡ [] → ⊥) → (k : ℕ) → IsDivided fragments k → IsDivided new k
   pub room : (fragments ≡ [] → ⊥) → (lo hi : ℕ) → HaveRoom fragments lo hi → HaveRoom new lo hi
@@ -63,6 +65,21 @@ pub record IsRoomier (a b : Fragment) : Type 0 where
   pub here : here_of b ≡ here_of a
   pub settled : b.line.head ≡ a.line.head
   pub room : HasRoom a → HasRoom b
+
+-- At most, accesses on which nothing depends any more are left out of the fragment. If it had room, it has.
+pub record IsThinner (a b : Fragment) : Type 0 where
+  pub here : IsLess (here_of a) (here_of b)
+  pub right : IsFragment b
+  pub room : HasRoom a → HasRoom b
+
+-- They are left out of the fragment at this place, and all others are as before.
+pub record IsThinnedAt (old new : List Fragment) (at : ℕ) : Type 0 where
+  pub one : Fragment
+  pub one_is : slice_get old at ≡ Some one
+  pub less : Fragment
+  pub edges : HasSameEdges one less
+  pub thinner : IsThinner one less
+  pub all : new ≡ set old at less
 
 -- It has room now.
 pub record HasGotRoom (a b : Fragment) : Type 0 where

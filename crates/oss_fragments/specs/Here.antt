@@ -1,13 +1,15 @@
 -- The accesses to one cell as contracts see them, and how an opening and a gift change them. Access 0 is main's. Tasks go by the numbers of
 -- their opens, which rise; main is number 0.
 -- Read against: main writes a cell; tasks 1 and 2 are opened there below main, and task 4 below 1. The numbers are 0, 1, 2, 4, so task 4 has
--- access 3; it hangs first in the list of access 1. Where task 4 gives up the cell, the row of access 3 alone changes.
+-- access 3; it hangs first in the list of access 1. Where task 4 gives up the cell, the row of access 3 alone changes. Where task 1 then gives it
+-- up too, accesses 1 and 3 are spent. Without them the numbers are 0 and 2, and the same is told.
 use Rattle.std.specs.Prelude.{◌≡◌, ℕ, ◌<◌, false, true, List, [], ◌∷◌, ◌++◌, length, slice_get, Some}
 use Rattle.oss_syntax.specs.declared.access.Mode.{Mode}
 use Rattle.oss_model.specs.Rights.{covers}
 use Rattle.oss_wires.specs.declared.hang.Hang.{Hang}
 use Rattle.oss_wires.specs.Steps.{IsHung, IsGift}
 use Rattle.oss_wires.specs.Tables.{gave_in, hang_at, no_hang, opened_in, wires_of}
+use Rattle.oss_retired.specs.Tables.{TellsTheSame}
 use Rattle.oss_fragments.specs.declared.fragment.Fragment.{Fragment}
 
 -- The accesses to one cell.
@@ -24,6 +26,10 @@ here_of a = record { hangs = a.line.hangs; tasks = a.tasks.items }
 -- Main alone.
 abbrev pub bare : Here
 bare = record { hangs = no_hang ∷ []; tasks = 0 ∷ [] }
+
+-- By both, the same is told of the opened tasks: at most, accesses on which nothing depends any more are left out.
+abbrev pub IsLess : Here → Here → Type 0
+IsLess old new = TellsTheSame old.hangs old.tasks new.hangs new.tasks
 
 -- The access of the task.
 abbrev pub IsEntry : Here → ℕ → ℕ → Type 0

@@ -1,15 +1,15 @@
-ghost use Rattle.std.specs.Prelude.{◌≡◌, ◌<◌, ◌++◌, [], ◌∷◌, ℕ, false, true, length, IfNone, IfOk, IfSome, OnOk};
+ghost use Rattle.std.specs.Prelude.{◌≡◌, ◌<◌, ◌++◌, [], ◌∷◌, ℕ, false, true, length, IfNone, IfOk, IfSome, OnErr, OnOk};
 ghost use Rattle.oss_model.specs.Rights.{covers};
-ghost use Rattle.oss_wires.specs.Flags.{Flag, Means, has};
 ghost use Rattle.oss_wires.specs.Steps.{IsGift, IsHung};
 ghost use Rattle.oss_wires.specs.Tables.{gave_in, hang_at, opened_in, wires_of};
 ghost use Rattle.oss_fragments.specs.Here.{AreEntries, IsEntry, IsShown, MayHang, bare, here_of};
 ghost use Rattle.oss_fragments.specs.Stretches.{HasRoom, IsFragment};
-ghost use Rattle.oss_fragments.specs.Changes.{HasSameEdges, IsGivenIn, IsOpenedIn, IsRoomier};
+ghost use Rattle.oss_fragments.specs.Changes.{HasSameEdges, IsGivenIn, IsOpenedIn, IsRoomier, IsThinner};
 
 use crate::places::place_of;
+use oss_retired::{Remainder, has_spent, remainder_of};
 use oss_syntax::Mode;
-use oss_wires::{Line, Marks};
+use oss_wires::Line;
 use std::alloc::{AllocError, Global};
 
 /// Cells that no cut divides: all have the same accesses, which are kept once.
@@ -80,6 +80,27 @@ impl Fragment {
         self.line.reserve()
     }
 
+    /// Leaves out the accesses that are spent, so that a copy of the fragment has none of them. It costs as much as there are accesses, and
+    /// one look at each where none is spent. Err: memory is wanting, and nothing has changed.
+    pub(crate) fn thin(&mut self, alloc: Global) -> Result<(), AllocError>
+        requires right { IsFragment self.old }
+        ensures edges { HasSameEdges self.old self.new }
+        ensures thinner { IsThinner self.old self.new }
+        ensures err { OnErr result (self.new ≡ self.old) }
+    {
+        if !has_spent(&self.line) {
+            return Ok(());
+        }
+        let mut rest = remainder_of(alloc, &self.line, self.tasks.as_slice())?;
+        // the tables are new and just as large as what is left: a fragment that had room for one more access is to have it still
+        rest.line.reserve()?;
+        rest.numbers.reserve(1)?;
+        let Remainder { line, numbers } = rest;
+        self.line = line;
+        self.tasks = numbers;
+        Ok(())
+    }
+
     /// The access of a task, by the number of its open; main's is 0. None: the task has none here. It costs the logarithm of the number of
     /// accesses.
     pub fn entry_of(&self, number: usize) -> Option<usize>
@@ -88,19 +109,6 @@ impl Fragment {
         ensures none { IfNone result ((at : ℕ) → IsEntry (here_of self.now) number at → ⊥) }
     {
         place_of(self.tasks.as_slice(), number)
-    }
-
-    /// The flags of the access of a task: each stands exactly where what it says is so. Condition: the task is not main, and has an access.
-    pub fn flags(&self, number: usize) -> Marks
-        requires right { IsFragment self.now }
-        requires shown { IsShown number (here_of self.now) }
-        ensures sound { (f : Flag) (v : ℕ) → IsEntry (here_of self.now) number v → has f result ≡ true → Means (wires_of self.now.line.hangs) f v }
-        ensures complete { (f : Flag) (v : ℕ) → IsEntry (here_of self.now) number v → Means (wires_of self.now.line.hangs) f v → has f result ≡ true }
-    {
-        match place_of(self.tasks.as_slice(), number) {
-            Some(at) => self.line.flags(at),
-            None => unreachable!(),
-        }
     }
 
     /// Opens a task, by the number of its open, below its creator. Its flags stand.

@@ -2,9 +2,7 @@ ghost use Rattle.std.specs.Prelude.{◌≡◌, ◌≤◌, ◌<◌, ◌||◌, ℕ
 ghost use Rattle.oss_syntax.specs.declared.access.Access.{Access as Meant};
 ghost use Rattle.oss_deps.specs.Opens.{IsRising, access_at};
 ghost use Rattle.oss_deps.specs.Seen.{in_range, is_access_end, is_end};
-ghost use Rattle.oss_wires.specs.Flags.{Flag, Means, has};
-ghost use Rattle.oss_wires.specs.Tables.{wires_of};
-ghost use Rattle.oss_fragments.specs.Here.{AreEntries, IsEntry, IsGivenUp, IsOpened, IsShown, MayHang, bare};
+ghost use Rattle.oss_fragments.specs.Here.{IsGivenUp, IsLess, IsOpened, IsShown, MayHang, bare};
 ghost use Rattle.oss_fragments.specs.Kept.{here_at, is_cut};
 ghost use Rattle.oss_fragments.specs.Stretches.{AreReady};
 ghost use Rattle.oss_fragments.specs.Visits.{IsPartOf};
@@ -17,15 +15,15 @@ use crate::reserving::{make_ready, split_around};
 use crate::splitting::cover;
 use oss_ranges::RangeMap;
 use oss_syntax::{Access, Range};
-use oss_wires::Marks;
 use std::alloc::{AllocError, Global};
 use std::marker::Model;
 
 /// The accesses to all cells of a program. Accesses that overlap in part are cut into fragments, after Perez, Beltran, Labarta and Ayguadé
-/// (IPDPS 2017): cells that no cut divides are one fragment, and have one line of accesses; at a cut the line is copied. What a call costs
-/// is told by the fragments that it comes to, and not by their cells; a cut costs the accesses of the fragment that it divides. An
-/// access takes 84 bytes in each of its fragments, and up to twice that where tables have grown. All flags that are due stand between
-/// two calls. After want of memory each cell has the accesses that it had.
+/// (IPDPS 2017): cells that no cut divides are one fragment, and have one line of accesses; at a cut the line is copied, without the accesses
+/// that are spent: done, and nothing earlier in the way of a write. These are left out of both parts, since nothing depends on them any more, so
+/// many cuts under many finished accesses stay cheap. What a call costs is told by the fragments that it comes to, and not by their cells; a
+/// cut costs the accesses of the fragment that it divides. An access takes 84 bytes in each of its fragments, and up to twice that where tables
+/// have grown. All flags that are due stand between two calls. Also after want of memory, each cell's accesses tell the same of the opened tasks.
 #[derive(Drop)]
 pub struct Fragments {
     alloc: Global,
@@ -61,27 +59,28 @@ impl Fragments {
     }
 
     /// Makes room for one more access to each cell of these, so that `open` with them takes no memory. Other accesses that are ready stay so.
-    /// Err: memory is wanting. In both cases each cell has the accesses that it had, and no cut is new.
+    /// Err: memory is wanting. In both cases no cut is new, and by each cell's accesses the same is told of the opened tasks: accesses on which
+    /// nothing depends any more may be left out.
     pub fn reserve(&mut self, accesses: &[Access]) -> Result<(), AllocError>
         ensures ok { OnOk result (AreReady accesses.now self.new.fragments) }
-        ensures here { (c : ℕ) → here_at self.new c ≡ here_at self.old c }
+        ensures here { (c : ℕ) → IsLess (here_at self.old c) (here_at self.new c) }
         ensures cuts { (k : ℕ) → is_cut self.new k ≡ is_cut self.old k }
         ensures ready { (others : Items Meant) → AreReady others self.old.fragments → AreReady others self.new.fragments }
     {
         cover(self.alloc, &mut self.map, &mut self.fragments)?;
-        make_ready(&mut self.map, &mut self.fragments, accesses)
+        make_ready(self.alloc, &mut self.map, &mut self.fragments, accesses)
     }
 
-    /// The ends of a range become cuts. Err: memory is wanting, and no cut is new. In both cases each cell has the accesses that it had, and
-    /// accesses that are ready stay so.
+    /// The ends of a range become cuts. Err: memory is wanting, and no cut is new. In both cases accesses that are ready stay so, and by each
+    /// cell's accesses the same is told of the opened tasks: accesses on which nothing depends any more may be left out.
     pub fn prepare(&mut self, range: Range) -> Result<(), AllocError>
         ensures ok { OnOk result ((k : ℕ) → is_cut self.new k ≡ (is_cut self.old k || is_end range k)) }
         ensures err { OnErr result ((k : ℕ) → is_cut self.new k ≡ is_cut self.old k) }
-        ensures here { (c : ℕ) → here_at self.new c ≡ here_at self.old c }
+        ensures here { (c : ℕ) → IsLess (here_at self.old c) (here_at self.new c) }
         ensures ready { (accesses : Items Meant) → AreReady accesses self.old.fragments → AreReady accesses self.new.fragments }
     {
         cover(self.alloc, &mut self.map, &mut self.fragments)?;
-        split_around(&mut self.map, &mut self.fragments, range)?;
+        split_around(self.alloc, &mut self.map, &mut self.fragments, range)?;
         ask_ends(&self.map, &mut self.fragments, &mut self.ended, range);
         Ok(())
     }
@@ -111,28 +110,6 @@ impl Fragments {
         ensures ready { (accesses : Items Meant) → AreReady accesses self.old.fragments → AreReady accesses self.new.fragments }
     {
         give_over(&self.map, &mut self.fragments, number, range);
-    }
-
-    /// The flags of the access of a task to a cell: each stands exactly where what it says is so. It costs the logarithms of the numbers of
-    /// fragments and of accesses, and takes no memory. Condition: the task is not main, and has an access to the cell.
-    pub fn flags(&self, number: usize, cell: u32) -> Marks
-        requires bound { cell < 1048576 }
-        requires shown { IsShown number (here_at self.now cell) }
-        ensures sound { (f : Flag) (v : ℕ) → IsEntry (here_at self.now cell) number v → has f result ≡ true → Means (wires_of (here_at self.now cell).hangs) f v }
-        ensures complete { (f : Flag) (v : ℕ) → IsEntry (here_at self.now cell) number v → Means (wires_of (here_at self.now cell).hangs) f v → has f result ≡ true }
-    {
-        match self.at(cell) {
-            Some(fragment) => fragment.flags(number),
-            None => unreachable!(),
-        }
-    }
-
-    /// In each cell, each access is that of one task. It does nothing.
-    pub fn have_entries(&self)
-        ensures { (c : ℕ) → AreEntries (here_at self.now c) }
-    {
-        // the invariant is known where a field is read
-        let _ = &self.alloc;
     }
 
     /// The fragment of a cell, and so the accesses to all cells up to its end. None where no cell has an access but main's. It takes no

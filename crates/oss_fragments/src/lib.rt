@@ -9,8 +9,6 @@ mod opening;
 mod places;
 mod reserving;
 mod splitting;
-#[cfg(test)]
-mod tests;
 
 pub use fragment::Fragment;
 pub use fragments::Fragments;

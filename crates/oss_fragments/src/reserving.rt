@@ -9,7 +9,7 @@ use crate::fragment::Fragment;
 use crate::splitting::split;
 use oss_ranges::RangeMap;
 use oss_syntax::{Access, Range};
-use std::alloc::AllocError;
+use std::alloc::{AllocError, Global};
 
 /// The place of the fragment of a cell that is in one.
 pub(crate) fn place_at(map: &RangeMap<usize>, cell: u32) -> usize
@@ -24,6 +24,7 @@ pub(crate) fn place_at(map: &RangeMap<usize>, cell: u32) -> usize
 
 /// Divides the fragments at the ends of a range.
 pub(crate) fn split_around(
+    alloc: Global,
     map: &mut RangeMap<usize>,
     fragments: &mut Vec<Fragment>,
     range: Range,
@@ -34,8 +35,8 @@ pub(crate) fn split_around(
     ensures begins { OnOk result (IsDivided fragments.new.items range.lo) }
     ensures ends { OnOk result (IsDivided fragments.new.items range.hi) }
 {
-    split(map, fragments, range.lo)?;
-    split(map, fragments, range.hi)?;
+    split(alloc, map, fragments, range.lo)?;
+    split(alloc, map, fragments, range.hi)?;
     Ok(())
 }
 
@@ -63,6 +64,7 @@ fn make_room(
 
 /// Divides the fragments at the ends of accesses, and makes room for one more access in each fragment of these.
 pub(crate) fn make_ready(
+    alloc: Global,
     map: &mut RangeMap<usize>,
     fragments: &mut Vec<Fragment>,
     accesses: &[Access],
@@ -73,7 +75,7 @@ pub(crate) fn make_ready(
     ensures ready { OnOk result ((a : Meant) → IsIn a accesses.now → IsReady fragments.new.items a.range.lo a.range.hi) }
 {
     for access in accesses {
-        split_around(map, fragments, access.range)?;
+        split_around(alloc, map, fragments, access.range)?;
         make_room(map, fragments, access.range)?;
     }
     Ok(())

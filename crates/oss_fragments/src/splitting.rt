@@ -1,8 +1,8 @@
-ghost use Rattle.std.specs.Prelude.{◌≡◌, ◌<◌, [], Some, OnErr, OnOk, slice_get};
+ghost use Rattle.std.specs.Prelude.{◌≡◌, ◌<◌, [], length, Some, OnErr, OnOk, slice_get};
 ghost use Rattle.oss_ranges.specs.Cells.{value_at};
 ghost use Rattle.oss_fragments.specs.declared.fragment.Fragment.{Fragment as Part};
-ghost use Rattle.oss_fragments.specs.Stretches.{AreFragments, IsDivided};
-ghost use Rattle.oss_fragments.specs.Changes.{IsDividedAt, IsFiner};
+ghost use Rattle.oss_fragments.specs.Stretches.{AreFragments, IsDivided, IsFragment};
+ghost use Rattle.oss_fragments.specs.Changes.{IsDividedAt, IsFiner, IsThinnedAt};
 
 use crate::fragment::Fragment;
 use oss_ranges::RangeMap;
@@ -33,8 +33,9 @@ pub(crate) fn cover(
     Ok(())
 }
 
-/// Divides the fragment that has a cell and the one before it.
+/// Divides the fragment that has a cell and the one before it. What is spent of its accesses is left out first, so neither part has it.
 pub(crate) fn split(
+    alloc: Global,
     map: &mut RangeMap<usize>,
     fragments: &mut Vec<Fragment>,
     cell: u32,
@@ -46,6 +47,7 @@ pub(crate) fn split(
     match map.get(cell) {
         Some(at) => {
             if fragments[at].lo < cell {
+                thin_at(alloc, fragments, at)?;
                 divide(map, fragments, at, cell)
             } else {
                 Ok(())
@@ -53,6 +55,15 @@ pub(crate) fn split(
         }
         None => Ok(()),
     }
+}
+
+/// Leaves out what is spent of the accesses of a fragment.
+fn thin_at(alloc: Global, fragments: &mut Vec<Fragment>, at: usize) -> Result<(), AllocError>
+    requires within { at < length fragments.old.items }
+    requires right { (a : Part) → slice_get fragments.old.items at ≡ Some a → IsFragment a }
+    ensures { IsThinnedAt fragments.old.items fragments.new.items at }
+{
+    fragments[at].thin(alloc)
 }
 
 /// Divides a fragment at a cell inside of it: the cells from there on get a copy of its accesses.

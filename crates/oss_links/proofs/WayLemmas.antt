@@ -60,7 +60,7 @@ module _ (opens : List Open) (given : ℕ → ℕ → Bool) (c : ℕ) (w : Wires
       down want s t v y r up x.0 x.1 (stands_above ((pairs.child q x.0 p y k x.1).1 (n, below)) b)
 
   module _ (F : ℕ → Marks) (rest : AreAtRest w F) where
-    undone_of : (s u : ℕ) → entry s u → is_over (F u) ≡ false → IsDone (opened_forest opens given c) s → ⊥
+    pub undone_of : (s u : ℕ) → entry s u → is_over (F u) ≡ false → IsDone (opened_forest opens given c) s → ⊥
     undone_of s u r h d =
         true_not_false (is_over (F u)) (over_told w are.wired F rest.due u (are.not_main s u r).1 ((same_as opens given c w entry ord are s u r).done.0 d)) h
 
@@ -68,7 +68,7 @@ module _ (opens : List Open) (given : ℕ → ℕ → Bool) (c : ℕ) (w : Wires
     over_is true f = absurd (f refl)
     over_is false f = refl
 
-    barred : (want : _) (m : Mode) (t s v u : ℕ) → ((n : Mode) → passes m n (F u) ≡ false → may_pass want n false ≡ false) → entry t v → entry s u → IsInTheWay w F m v u → IsBarred opens given c want s t
+    pub barred : (want : _) (m : Mode) (t s v u : ℕ) → ((n : Mode) → passes m n (F u) ≡ false → may_pass want n false ≡ false) → entry t v → entry s u → IsInTheWay w F m v u → IsBarred opens given c want s t
     barred want m t s v u stops r q is = record {
       opened = are.opened s u q;
       undone = undone_of s u q (over_is (is_over (F u)) (not_over m (w.mode u) (F u) is.stops));

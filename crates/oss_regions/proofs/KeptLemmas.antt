@@ -9,20 +9,22 @@ use Rattle.oss_syntax.specs.declared.access.Range.{Range}
 use Rattle.oss_model.specs.Rights.{covers}
 use Rattle.oss_deps.specs.declared.opened.Open.{Open}
 use Rattle.oss_deps.specs.Columns.{IsNumberOf}
-use Rattle.oss_deps.specs.Opens.{AreOpens, HasOpened, IsOpened as WasOpened, access_at, is_some_access, mode_at, mode_of_access, names}
-use Rattle.oss_deps.specs.Seen.{CanGive, CanOpen, Gives, Opens, Seen, in_range, is_access_end}
+use Rattle.oss_deps.specs.Opens.{AreOpens, AreOrdered, HasOpened, IsOpened as WasOpened, access_at, is_some_access, mode_at, mode_of_access, names}
+use Rattle.oss_deps.specs.Seen.{CanGive, CanOpen, Gives, Opens, Prepares, Reserves, Seen, in_range, is_access_end, is_end}
 use Rattle.oss_deps.proofs.Basics.{both, some_is}
 use Rattle.oss_deps.proofs.NewLemmas.{opens_added, opens_none}
 use Rattle.oss_deps.proofs.OpenLemmas.{not_main}
 use Rattle.oss_wires.specs.declared.hang.Hang.{Hang}
 use Rattle.oss_wires.specs.Steps.{IsHung}
 use Rattle.oss_wires.specs.Tables.{given_up, hang_at, opened_in, wires_of}
-use Rattle.oss_fragments.specs.Here.{Here, IsGivenUp, IsOpened, IsShown, MayHang, bare}
+use Rattle.oss_fragments.specs.Here.{Here, IsGivenUp, IsLess, IsOpened, IsShown, MayHang, bare}
 use Rattle.oss_fragments.specs.Kept.{Kept as Cells, here_at, is_cut}
 use Rattle.oss_fragments.specs.Stretches.{AreReady}
-use Rattle.oss_links.specs.Numbers.{IsCellHeld, given_by, task_by}
-use Rattle.oss_links.proofs.CellLemmas.{bare_cell, cell_aside, cell_given, cell_grows, cell_lends, cell_shows, given_aside, given_later}
+use Rattle.oss_links.specs.Numbers.{task_by}
 use Rattle.oss_links.proofs.NumberLemmas.{task_of_entry}
+use Rattle.oss_retired.specs.Tables.{IsCellLeft, given_left}
+use Rattle.oss_retired.proofs.CallLemmas.{left_aside, left_given, left_grows, left_later, left_lends, left_opened_within, left_shows}
+use Rattle.oss_retired.proofs.TableLemmas.{bare_left}
 use Rattle.oss_regions.specs.Kept.{AreRight, Kept, given_at, seen_of}
 
 no_some : {accesses : List Access} → None ≡ Some accesses → ⊥
@@ -31,10 +33,48 @@ no_some e = absurd cc
 pub right_new : (opens : List Open) (capacity : ℕ) (cells : Cells) → opens ≡ [] → ((c : ℕ) → here_at cells c ≡ bare) → AreRight opens capacity cells None
 right_new opens capacity cells e none = record {
   opens_are = subst AreOpens (sym e) opens_none;
-  held = λ c. subst (λ (y : Here). IsCellHeld opens c y.hangs y.tasks) (sym (none c)) (subst (λ (xs : List Open). IsCellHeld xs c bare.hangs bare.tasks) (sym e) (bare_cell c));
+  held = λ c. subst (λ (y : Here). IsCellLeft opens c y.hangs y.tasks) (sym (none c)) (subst (λ (xs : List Open). IsCellLeft xs c bare.hangs bare.tasks) (sym e) (bare_left c));
   ready = λ accesses h. absurd (no_some h);
   room = λ accesses h. absurd (no_some h);
 }
+
+-- Accesses are left out at most.
+module _ (opens : List Open) (capacity : ℕ) (cells new : Cells) (reserved : Option (List Access)) (right : AreRight opens capacity cells reserved) (less : (c : ℕ) → IsLess (here_at cells c) (here_at new c)) where
+  given_less : (t c : ℕ) → given_at opens new t c ≡ given_at opens cells t c
+  given_less t c = (less c opens c right.opens_are.ordered (right.held c)).1 t
+
+  right_less : (more : List Open) (more_capacity : ℕ) (other : Option (List Access)) → more ≡ opens → ((accesses : List Access) → other ≡ Some accesses → AreReady accesses new.fragments) → ((accesses : List Access) → other ≡ Some accesses → length more < more_capacity)
+      → AreRight more more_capacity new other
+  right_less more more_capacity other e ready room = record {
+    opens_are = subst AreOpens (sym e) right.opens_are;
+    held = λ c. subst (λ (xs : List Open). IsCellLeft xs c (here_at new c).hangs (here_at new c).tasks) (sym e) (less c opens c right.opens_are.ordered (right.held c)).0;
+    ready = ready;
+    room = room;
+  }
+
+  -- the same is reserved, or nothing
+  pub right_still : (more : List Open) (more_capacity : ℕ) → more ≡ opens → capacity ≤ more_capacity → ((accesses : List Access) → AreReady accesses cells.fragments → AreReady accesses new.fragments) → AreRight more more_capacity new reserved
+  right_still more more_capacity e l ready = right_less more more_capacity reserved e (λ accesses h. ready accesses (right.ready accesses h)) (λ accesses h. omega (arith, right.room accesses h, ap length e, l))
+
+  pub right_none : AreRight opens capacity new None
+  right_none = right_less opens capacity None refl (λ accesses h. absurd (no_some h)) (λ accesses h. absurd (no_some h))
+
+  -- other accesses are
+  pub right_reserved : (more : List Open) (more_capacity : ℕ) (accesses copy : List Access) → more ≡ opens → length more < more_capacity → copy ≡ accesses → AreReady accesses new.fragments → AreRight more more_capacity new (Some copy)
+  right_reserved more more_capacity accesses copy e l same ready =
+      right_less more more_capacity (Some copy) e (λ xs h. subst (λ (ys : List Access). AreReady ys new.fragments) (sym same ∙ some_is h) ready) (λ xs h. l)
+
+  pub seen_prepares : (range : Range) → ((k : ℕ) → is_cut new k ≡ (is_cut cells k || is_end range k)) → Prepares range (seen_of (record { opens = opens; cells = cells; reserved = reserved })) (seen_of (record { opens = opens; cells = new; reserved = None }))
+  seen_prepares range cuts = record { opens = refl; given = given_less; cuts = cuts; reserved = refl }
+
+  pub seen_reserves : (more : List Open) (accesses copy : List Access) → more ≡ opens → copy ≡ accesses → ((k : ℕ) → is_cut new k ≡ is_cut cells k)
+      → Reserves accesses (seen_of (record { opens = opens; cells = cells; reserved = reserved })) (seen_of (record { opens = more; cells = new; reserved = Some copy }))
+  seen_reserves more accesses copy e same cuts = record {
+    opens = e;
+    given = λ t c. ap (λ (xs : List Open). given_at xs new t c) e ∙ given_less t c;
+    cuts = cuts;
+    reserved = ap (λ (xs : List Access). Some xs) same;
+  }
 
 -- A task is opened.
 module _ (kept : Kept) (capacity : ℕ) (right : AreRight kept.opens capacity kept.cells kept.reserved) (o : Open) (parent : ℕ) (can : CanOpen (seen_of kept) o) (number : IsNumberOf kept.opens parent o.parent) where
@@ -47,13 +87,13 @@ module _ (kept : Kept) (capacity : ℕ) (right : AreRight kept.opens capacity ke
   lends : (c : ℕ) (a : Access) → access_at o.accesses c ≡ Some a → MayHang (length kept.opens + 1) parent a.mode (here_at kept.cells c)
   lends c a e =
       let is = right.held c in
-      let l = cell_lends (seen_of kept) c (here_at kept.cells c).hangs (here_at kept.cells c).tasks o parent right.opens_are.ordered is can (named_of c a e) number (λ t. refl) in
+      let l = left_lends (seen_of kept) c (here_at kept.cells c).hangs (here_at kept.cells c).tasks o right.opens_are.ordered is (λ t. refl) can parent (named_of c a e) number in
       record {
         above = l.0;
         above_is = l.1;
         held = l.2;
         covered = subst (λ (m : Mode). covers (hang_at (here_at kept.cells c).hangs l.0).mode m ≡ true) (mode_of c a e) l.3;
-        newest = λ v t h. let k = is.opened v t h in omega (arith, k);
+        newest = λ v t h. let k = left_opened_within kept.opens c (here_at kept.cells c).hangs (here_at kept.cells c).tasks is v t h in omega (arith, k);
       }
 
   pub may_hang : (c : ℕ) → IfSome (access_at o.accesses c) (λ a. MayHang (length kept.opens + 1) parent a.mode (here_at kept.cells c))
@@ -65,7 +105,10 @@ module _ (kept : Kept) (capacity : ℕ) (right : AreRight kept.opens capacity ke
 
   module _ (new : Cells) (opened : (c : ℕ) → MatchOption (access_at o.accesses c) (here_at new c ≡ here_at kept.cells c) (λ a. IsOpened (length kept.opens + 1) parent a.mode (here_at kept.cells c) (here_at new c))) where
     abbrev IsGrownCell : ℕ → Type 0
-    IsGrownCell c = IsCellHeld (kept.opens ++ o ∷ []) c (here_at new c).hangs (here_at new c).tasks × ((t : ℕ) → given_at (kept.opens ++ o ∷ []) new t c ≡ given_at kept.opens kept.cells t c)
+    IsGrownCell c = IsCellLeft (kept.opens ++ o ∷ []) c (here_at new c).hangs (here_at new c).tasks × ((t : ℕ) → given_at (kept.opens ++ o ∷ []) new t c ≡ given_at kept.opens kept.cells t c)
+
+    ordered : AreOrdered (kept.opens ++ o ∷ [])
+    ordered = (opens_added (seen_of kept) o right.opens_are can).ordered
 
     grown : (c : ℕ) → IsGrownCell c
     grown c = go (access_at o.accesses c) refl (opened c)
@@ -77,16 +120,17 @@ module _ (kept : Kept) (capacity : ℕ) (right : AreRight kept.opens capacity ke
         named a e is =
             let mode = sym (mode_of c a e) in
             let hangs : (here_at new c).hangs ≡ opened_in old.hangs is.above (mode_at c o) = is.hangs ∙ ap (λ (m : Mode). opened_in old.hangs is.above m) mode in
-            let g = cell_grows (seen_of kept) c old.hangs old.tasks o parent right.opens_are.ordered (right.held c) can (named_of c a e) number is.above is.above_is (subst (λ (xs : List Hang). IsHung (wires_of old.hangs) (wires_of xs) is.above (length old.hangs)) hangs is.hung) in (
-              subst (λ (xs : List Hang). IsCellHeld (kept.opens ++ o ∷ []) c xs (here_at new c).tasks) (sym hangs) (subst (λ (xs : List ℕ). IsCellHeld (kept.opens ++ o ∷ []) c (opened_in old.hangs is.above (mode_at c o)) xs) (sym is.tasks) g.0),
-              λ t. ap (λ (xs : List Hang). given_by (kept.opens ++ o ∷ []) xs (here_at new c).tasks t) hangs ∙ (ap (λ (xs : List ℕ). given_by (kept.opens ++ o ∷ []) (opened_in old.hangs is.above (mode_at c o)) xs t) is.tasks ∙ g.1 t),
+            let g = left_grows (seen_of kept) c old.hangs old.tasks o right.opens_are.ordered (right.held c) (λ t. refl) can parent (named_of c a e) number ordered is.above is.above_is (subst (λ (xs : List Hang). IsHung (wires_of old.hangs) (wires_of xs) is.above (length old.hangs)) hangs is.hung) in (
+              subst (λ (xs : List Hang). IsCellLeft (kept.opens ++ o ∷ []) c xs (here_at new c).tasks) (sym hangs) (subst (λ (xs : List ℕ). IsCellLeft (kept.opens ++ o ∷ []) c (opened_in old.hangs is.above (mode_at c o)) xs) (sym is.tasks) g.0),
+              λ t. ap (λ (xs : List Hang). given_left (kept.opens ++ o ∷ []) c xs (here_at new c).tasks t) hangs ∙ (ap (λ (xs : List ℕ). given_left (kept.opens ++ o ∷ []) c (opened_in old.hangs is.above (mode_at c o)) xs t) is.tasks ∙ g.1 t),
             )
 
         aside : access_at o.accesses c ≡ None → here_at new c ≡ old → IsGrownCell c
-        aside e same = (
-          subst (λ (y : Here). IsCellHeld (kept.opens ++ o ∷ []) c y.hangs y.tasks) (sym same) (cell_aside kept.opens c old.hangs old.tasks (right.held c) o (ap is_some_access e) can.fresh),
-          λ t. ap (λ (y : Here). given_by (kept.opens ++ o ∷ []) y.hangs y.tasks t) same ∙ given_aside kept.opens c old.hangs old.tasks (right.held c) o t,
-        )
+        aside e same =
+            let g = left_aside (seen_of kept) c old.hangs old.tasks o right.opens_are.ordered (right.held c) (λ t. refl) can ordered (ap is_some_access e) in (
+              subst (λ (y : Here). IsCellLeft (kept.opens ++ o ∷ []) c y.hangs y.tasks) (sym same) g.0,
+              λ t. ap (λ (y : Here). given_left (kept.opens ++ o ∷ []) c y.hangs y.tasks t) same ∙ g.1 t,
+            )
 
         go : (x : Option Access) → access_at o.accesses c ≡ x → MatchOption x (here_at new c ≡ old) (λ a. IsOpened (length kept.opens + 1) parent a.mode old (here_at new c)) → IsGrownCell c
         go None e h = aside e h
@@ -120,13 +164,13 @@ range_has range c h = let k = both (nat_le range.lo c) (nat_lt c range.hi) h in 
 
 -- A task gives up a range.
 module _ (kept : Kept) (capacity : ℕ) (right : AreRight kept.opens capacity kept.cells kept.reserved) (task n : ℕ) (range : Range) (can : CanGive task range (seen_of kept)) (number : IsNumberOf kept.opens n task) where
-  shows : (c : ℕ) → HasOpened kept.opens c task → (v : ℕ) × (slice_get (here_at kept.cells c).tasks v ≡ Some n) × (n ≡ 0 → ⊥) × ((u : ℕ) → slice_get (here_at kept.cells c).tasks u ≡ Some n → task_by kept.opens (here_at kept.cells c).tasks u ≡ Some task)
-  shows c opened = go number
+  shows : (c : ℕ) → HasOpened kept.opens c task → given_at kept.opens kept.cells task c ≡ false → (v : ℕ) × (slice_get (here_at kept.cells c).tasks v ≡ Some n) × (n ≡ 0 → ⊥) × ((u : ℕ) → slice_get (here_at kept.cells c).tasks u ≡ Some n → task_by kept.opens (here_at kept.cells c).tasks u ≡ Some task)
+  shows c opened holds = go number
     where
       go : IsNumberOf kept.opens n task → (v : ℕ) × (slice_get (here_at kept.cells c).tasks v ≡ Some n) × (n ≡ 0 → ⊥) × ((u : ℕ) → slice_get (here_at kept.cells c).tasks u ≡ Some n → task_by kept.opens (here_at kept.cells c).tasks u ≡ Some task)
       go (inl z) = absurd (not_main right.opens_are.ordered opened.entry opened.listed (opened.number ∙ z.1))
       go (inr (o, is, e)) =
-          let v = cell_shows kept.opens c (here_at kept.cells c).hangs (here_at kept.cells c).tasks o n task right.opens_are.ordered (right.held c) is e opened in (
+          let v = left_shows kept.opens c (here_at kept.cells c).hangs (here_at kept.cells c).tasks o n task right.opens_are.ordered (right.held c) is e opened holds in (
             v.0,
             v.1,
             λ z. let k = is.1 in absurd (omega (arith, k, z)),
@@ -134,11 +178,11 @@ module _ (kept : Kept) (capacity : ℕ) (right : AreRight kept.opens capacity ke
           )
 
   pub gives_shown : (c : ℕ) → range.lo ≤ c → c < range.hi → IsShown n (here_at kept.cells c)
-  gives_shown c l h = let v = shows c (can.named c l h) in record { not_main = v.2; entry = v.0; entry_is = v.1 }
+  gives_shown c l h = let v = shows c (can.named c l h) (can.held c l h) in record { not_main = v.2; entry = v.0; entry_is = v.1 }
 
   module _ (new : Cells) (given : (c : ℕ) → MatchBool (in_range range c) (IsGivenUp n (here_at kept.cells c) (here_at new c)) (here_at new c ≡ here_at kept.cells c)) where
     abbrev IsGivenCell : ℕ → Type 0
-    IsGivenCell c = IsCellHeld kept.opens c (here_at new c).hangs (here_at new c).tasks × ((t : ℕ) → given_at kept.opens new t c ≡ (given_at kept.opens kept.cells t c || ((task == t) && in_range range c)))
+    IsGivenCell c = IsCellLeft kept.opens c (here_at new c).hangs (here_at new c).tasks × ((t : ℕ) → given_at kept.opens new t c ≡ (given_at kept.opens kept.cells t c || ((task == t) && in_range range c)))
 
     gone : (c : ℕ) → IsGivenCell c
     gone c = go (in_range range c) refl (given c)
@@ -149,18 +193,19 @@ module _ (kept : Kept) (capacity : ℕ) (right : AreRight kept.opens capacity ke
         inside : in_range range c ≡ true → IsGivenUp n old (here_at new c) → IsGivenCell c
         inside e is =
             let b = range_has range c e in
-            let v = shows c (can.named c b.0 b.1) in
+            let v = shows c (can.named c b.0 b.1) (can.held c b.0 b.1) in
             let long : length (here_at new c).hangs ≡ length old.hangs = ap length is.hangs ∙ length-set old.hangs is.entry (given_up (hang_at old.hangs is.entry)) in
             let at = v.3 is.entry is.entry_is in (
-              subst (λ (xs : List ℕ). IsCellHeld kept.opens c (here_at new c).hangs xs) (sym is.tasks) (cell_given kept.opens c old.hangs (here_at new c).hangs old.tasks (right.held c) task is.entry is.given long at),
-              λ t. ap (λ (xs : List ℕ). given_by kept.opens (here_at new c).hangs xs t) is.tasks
-                  ∙ (given_later kept.opens c old.hangs (here_at new c).hangs old.tasks (right.held c) task is.entry is.given long at t ∙ ap (λ (x : Bool). given_by kept.opens old.hangs old.tasks t || x) (sym (ap (λ (x : Bool). (task == t) && x) e ∙ and_true (task == t)))),
+              subst (λ (xs : List ℕ). IsCellLeft kept.opens c (here_at new c).hangs xs) (sym is.tasks) (left_given kept.opens c old.hangs (here_at new c).hangs old.tasks right.opens_are.ordered (right.held c) task is.entry is.given long at),
+              λ t. ap (λ (xs : List ℕ). given_left kept.opens c (here_at new c).hangs xs t) is.tasks
+                  ∙ (left_later kept.opens c old.hangs (here_at new c).hangs old.tasks right.opens_are.ordered (right.held c) task is.entry is.given long at t ∙ ap (λ (x : Bool). given_left kept.opens c old.hangs old.tasks t || x) (sym (ap (λ (x : Bool). (task == t) && x) e ∙ and_true (task == t)))),
             )
 
         outside : in_range range c ≡ false → here_at new c ≡ old → IsGivenCell c
         outside e same = (
-          subst (λ (y : Here). IsCellHeld kept.opens c y.hangs y.tasks) (sym same) (right.held c),
-          λ t. ap (λ (y : Here). given_by kept.opens y.hangs y.tasks t) same ∙ sym (ap (λ (x : Bool). given_by kept.opens old.hangs old.tasks t || ((task == t) && x)) e ∙ (ap (λ (x : Bool). given_by kept.opens old.hangs old.tasks t || x) (and_false (task == t)) ∙ or_false (given_by kept.opens old.hangs old.tasks t))),
+          subst (λ (y : Here). IsCellLeft kept.opens c y.hangs y.tasks) (sym same) (right.held c),
+          λ t. ap (λ (y : Here). given_left kept.opens c y.hangs y.tasks t) same
+              ∙ sym (ap (λ (x : Bool). given_left kept.opens c old.hangs old.tasks t || ((task == t) && x)) e ∙ (ap (λ (x : Bool). given_left kept.opens c old.hangs old.tasks t || x) (and_false (task == t)) ∙ or_false (given_left kept.opens c old.hangs old.tasks t))),
         )
 
         go : (b : Bool) → in_range range c ≡ b → MatchBool b (IsGivenUp n old (here_at new c)) (here_at new c ≡ old) → IsGivenCell c
@@ -174,6 +219,12 @@ module _ (kept : Kept) (capacity : ℕ) (right : AreRight kept.opens capacity ke
     seen_gives cuts = record { opens = refl; given = λ t c. (gone c).1 t; cuts = cuts; reserved = refl }
 
 -- What the code knows of what is kept inside.
+pub prepares_seen : {view seen : Kept} {range : Range} (new : Seen) → view ≡ seen → Prepares range (seen_of view) new → Prepares range (seen_of seen) new
+prepares_seen {range = range} new is prepares = subst (λ (k : Kept). Prepares range (seen_of k) new) is prepares
+
+pub reserves_seen : {view seen : Kept} {accesses : List Access} (new : Seen) → view ≡ seen → Reserves accesses (seen_of view) new → Reserves accesses (seen_of seen) new
+reserves_seen {accesses = accesses} new is reserves = subst (λ (k : Kept). Reserves accesses (seen_of k) new) is reserves
+
 pub can_give : {view seen : Kept} {task : ℕ} {range : Range} → view ≡ seen → CanGive task range (seen_of seen) → CanGive task range (seen_of view)
 can_give {task = task} {range = range} is can = subst (λ (k : Kept). CanGive task range (seen_of k)) (sym is) can
 

@@ -12,7 +12,11 @@ use Rattle.oss_deps.proofs.AskLemmas.{named_within}
 use Rattle.oss_deps.proofs.OpenLemmas.{access_found, bounds_in, get_in, in_bounds, one_entry}
 use Rattle.oss_fragments.specs.Here.{Here, bare}
 use Rattle.oss_fragments.specs.Kept.{here_at}
-use Rattle.oss_links.specs.Numbers.{IsCellHeld, task_by}
+use Rattle.oss_links.specs.Numbers.{task_by}
+use Rattle.oss_links.specs.Readings.{TellOfTask}
+use Rattle.oss_retired.specs.Claims.{all_marks}
+use Rattle.oss_retired.specs.Tables.{IsCellLeft, given_left}
+use Rattle.oss_retired.proofs.ToldLemmas.{gone_tells}
 use Rattle.oss_regions.specs.Asked.{IsSatisfied}
 use Rattle.oss_regions.specs.Kept.{AreRight, AsksOver, IsAccessMet, Kept, given_at}
 
@@ -23,16 +27,15 @@ asks_opened opens t c mode asks = record { entry = asks.entry; listed = asks.lis
 pub opened_within : (opens : List Open) (t c : ℕ) → HasOpened opens c t → c < 1048576
 opened_within opens t c h = named_within h.entry c h.named
 
--- where no cell has an access, no task was opened with one
-pub nothing_there : (kept : Kept) {capacity : ℕ} → AreRight kept.opens capacity kept.cells kept.reserved → ((c : ℕ) → here_at kept.cells c ≡ bare) → (t c : ℕ) → HasOpened kept.opens c t → ⊥
-nothing_there kept right none t c opened = go (subst (λ (y : Here). IsCellHeld kept.opens c y.hangs y.tasks) (none c) (right.held c))
+-- where no cell has an access, nothing is waited for: all flags of a task's access stand
+pub nothing_there : (kept : Kept) {capacity : ℕ} → AreRight kept.opens capacity kept.cells kept.reserved → ((c : ℕ) → here_at kept.cells c ≡ bare) → (t c : ℕ) → HasOpened kept.opens c t → TellOfTask kept.opens (given_at kept.opens kept.cells) c t all_marks
+nothing_there kept right none t c opened =
+    gone_tells kept.opens right.opens_are.ordered (given_at kept.opens kept.cells) c bare.hangs bare.tasks (subst (λ (y : Here). IsCellLeft kept.opens c y.hangs y.tasks) (none c) (right.held c))
+    (λ s. ap (λ (y : Here). given_left kept.opens c y.hangs y.tasks s) (none c)) right.opens_are.covered t opened no_access
   where
     no_access : (v : ℕ) → task_by kept.opens (0 ∷ []) v ≡ Some t → ⊥
     no_access zero h = cc
     no_access (suc v) h = cc
-
-    go : IsCellHeld kept.opens c bare.hangs bare.tasks → ⊥
-    go is = let r = is.held.held t opened in no_access r.0 r.1
 
 -- The access of a strong read or write asks for the mode at each of its cells.
 pub access_asks : (opens : List Open) (n : ℕ) (o : Open) (a : Access) → ((c : ℕ) → in_access a c ≡ true → access_at o.accesses c ≡ Some a) → IsNumber opens n o → IsIn a o.accesses → a.strong ≡ true → AsksOver opens n a.mode a.range.lo a.range.hi

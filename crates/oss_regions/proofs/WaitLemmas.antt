@@ -20,57 +20,17 @@ use Rattle.oss_wires.proofs.StepLemmas.{same_or}
 use Rattle.oss_wires.specs.Flags.{AreAtRest}
 use Rattle.oss_wires.specs.Tables.{marks_at, wires_of}
 use Rattle.oss_fragments.specs.declared.fragment.Fragment.{Fragment}
-use Rattle.oss_fragments.specs.Here.{IsEntry, IsShown, bare, here_of}
+use Rattle.oss_fragments.specs.Here.{IsEntry, bare, here_of}
 use Rattle.oss_fragments.specs.Kept.{here_at}
 use Rattle.oss_fragments.specs.Visits.{IsPartOf}
 use Rattle.oss_links.specs.Numbers.{task_numbered}
 use Rattle.oss_links.specs.Readings.{is_let, is_list_done}
 use Rattle.oss_links.proofs.MetLemmas.{main_is_met}
 use Rattle.oss_regions.specs.Asked.{IsNumberInTheWay, IsNumberUndone}
-use Rattle.oss_regions.specs.Kept.{AreRight, AreSatisfied, AsksOver, IsAccessMet, Kept, given_at}
-use Rattle.oss_regions.proofs.PartLemmas.{bar_goes, bar_hinders, let_at, bar_named, child_named, child_undone, childless_at, children_at, joins_exact, part_shows}
+use Rattle.oss_regions.specs.Kept.{AreRight, AreSatisfied, AreSatisfiedTo, AsksOver, IsAccessMet, Kept, given_at}
+use Rattle.oss_regions.proofs.AskLemmas.{all_satisfied}
+use Rattle.oss_regions.proofs.PartLemmas.{bar_goes, bar_hinders, let_at, bar_named, child_named, child_undone, childless_at, children_at, gone_goes, gone_joins, joins_exact}
 use Rattle.oss_regions.proofs.RangeLemmas.{access_asks, accesses_met, met_access, asks_opened, nothing_there}
-
--- what a task waits for in a range
-module _ (kept : Kept) {capacity : ℕ} (right : AreRight kept.opens capacity kept.cells kept.reserved) (n : ℕ) (mode : Mode) (lo hi : ℕ) (asks : AsksOver kept.opens n mode lo hi) (cell : ℕ) (from : lo ≤ cell) (before : cell < hi) where
-  opened_here : HasOpened kept.opens cell asks.entry.task
-  opened_here = asks_opened kept.opens asks.entry.task cell mode (asks.asks cell from before)
-
-  pub none_there : ((c : ℕ) → here_at kept.cells c ≡ bare) → ⊥
-  none_there none = nothing_there kept right none asks.entry.task cell opened_here
-
-  module _ (part : Fragment) (is : IsPartOf kept.cells cell part) where
-    pub asks_shown : IsShown n (here_of part)
-    asks_shown = part_shows kept right cell part is n asks.entry asks.is opened_here
-
-    module _ (rest : AreAtRest (wires_of part.line.hangs) (marks_at part.line.stand)) (result : Option ℕ)
-        (bar : (v : ℕ) → IsEntry (here_of part) n v → MatchOption result (is_let mode (marks_at part.line.stand v) ≡ true) (λ m. IsNumberInTheWay part.line.hangs part.line.stand part.tasks.items mode v m)) where
-      way_of : (m : ℕ) → result ≡ Some m → IsNumberInTheWay part.line.hangs part.line.stand part.tasks.items mode asks_shown.entry m
-      way_of m e = subst (λ (r : Option ℕ). MatchOption r (is_let mode (marks_at part.line.stand asks_shown.entry) ≡ true) (λ k. IsNumberInTheWay part.line.hangs part.line.stand part.tasks.items mode asks_shown.entry k)) e (bar asks_shown.entry asks_shown.entry_is)
-
-      let_of : result ≡ None → is_let mode (marks_at part.line.stand asks_shown.entry) ≡ true
-      let_of e = subst (λ (r : Option ℕ). MatchOption r (is_let mode (marks_at part.line.stand asks_shown.entry) ≡ true) (λ k. IsNumberInTheWay part.line.hangs part.line.stand part.tasks.items mode asks_shown.entry k)) e (bar asks_shown.entry asks_shown.entry_is)
-
-      pub bar_some : (m : ℕ) → result ≡ Some m → (m ≡ 0 → ⊥) × (m ≤ length kept.opens)
-      bar_some m e = bar_named kept right cell part is rest n asks_shown.entry asks_shown.entry_is asks.entry asks.is mode m (way_of m e)
-
-      pub bar_stops : (m s : ℕ) → result ≡ Some m → task_numbered kept.opens m ≡ Some s → (o : Open) → IsNumber kept.opens n o → Hinders kept.opens (given_at kept.opens kept.cells) o.task s
-      bar_stops m s e task o number =
-          subst (λ (x : Open). Hinders kept.opens (given_at kept.opens kept.cells) x.task s) (one_number kept.opens n asks.entry o asks.is number)
-          (bar_hinders kept right cell part is rest n asks_shown.entry asks_shown.entry_is asks.entry asks.is mode m s (asks.asks cell from before) (way_of m e) task)
-
-      pub bar_passes : result ≡ None → (o : Open) → IsNumber kept.opens n o → AreSatisfied kept mode o lo cell → AreSatisfied kept mode o lo part.hi
-      bar_passes e o number f = bar_goes kept right cell part is rest n asks_shown.entry asks_shown.entry_is o number mode lo (let_of e) f
-
-    module _ (rest : AreAtRest (wires_of part.line.hangs) (marks_at part.line.stand)) (result : Bool) (lets : (v : ℕ) → IsEntry (here_of part) n v → result ≡ is_let mode (marks_at part.line.stand v)) where
-      pub let_stops : result ≡ false → (o : Open) → IsNumber kept.opens n o → AreSatisfied kept mode o lo hi → ⊥
-      let_stops e o number f =
-          let h = let_at kept right cell part is rest n asks_shown.entry asks_shown.entry_is o number mode (f cell from before) in
-          let k = sym e ∙ (lets asks_shown.entry asks_shown.entry_is ∙ h) in
-          cc
-
-      pub let_passes : result ≡ true → (o : Open) → IsNumber kept.opens n o → AreSatisfied kept mode o lo cell → AreSatisfied kept mode o lo part.hi
-      let_passes e o number f = bar_goes kept right cell part is rest n asks_shown.entry asks_shown.entry_is o number mode lo (sym (lets asks_shown.entry asks_shown.entry_is) ∙ e) f
 
 look : (xs : List ℕ) (n : ℕ) → ((p : ℕ) × (slice_get xs p ≡ Some n)) ⊎ ((p : ℕ) → slice_get xs p ≡ Some n → ⊥)
 look [] n = inr (λ p e. absurd cc)
@@ -84,6 +44,69 @@ look (x ∷ xs) n = go (same_or x n) (look xs n)
         nowhere : (p : ℕ) → slice_get (x ∷ xs) p ≡ Some n → ⊥
         nowhere zero e = k (some_is e)
         nowhere (suc p) e = f p e
+
+-- what a task waits for in a range
+module _ (kept : Kept) {capacity : ℕ} (right : AreRight kept.opens capacity kept.cells kept.reserved) (n : ℕ) (mode : Mode) (lo hi : ℕ) (asks : AsksOver kept.opens n mode lo hi) where
+  opened_over : (o : Open) → IsNumber kept.opens n o → (c : ℕ) → lo ≤ c → c < hi → HasOpened kept.opens c o.task
+  opened_over o number c l h = subst (λ (x : Open). HasOpened kept.opens c x.task) (one_number kept.opens n asks.entry o asks.is number) (asks_opened kept.opens asks.entry.task c mode (asks.asks c l h))
+
+  pub asks_not_main : n ≡ 0 → ⊥
+  asks_not_main z = let k = asks.is.1 in absurd (omega (arith, k, z))
+
+  -- where no cell has an access, nothing
+  pub none_there : ((c : ℕ) → here_at kept.cells c ≡ bare) → (o : Open) → IsNumber kept.opens n o → AreSatisfied kept mode o lo hi
+  none_there none o number c l h = all_satisfied kept.opens (given_at kept.opens kept.cells) c o.task mode (nothing_there kept right none o.task c (opened_over o number c l h))
+
+  module _ (cell : ℕ) (from : lo ≤ cell) (before : cell < hi) (part : Fragment) (is : IsPartOf kept.cells cell part) (rest : AreAtRest (wires_of part.line.hangs) (marks_at part.line.stand)) where
+    abbrev Found : Type 0
+    Found = ((v : ℕ) × IsEntry (here_of part) n v) ⊎ ((v : ℕ) → IsEntry (here_of part) n v → ⊥)
+
+    found : Found
+    found = look part.tasks.items n
+
+    module _ (result : Option ℕ) (bar : (v : ℕ) → IsEntry (here_of part) n v → MatchOption result (is_let mode (marks_at part.line.stand v) ≡ true) (λ m. IsNumberInTheWay part.line.hangs part.line.stand part.tasks.items mode v m))
+        (none : ((v : ℕ) → IsEntry (here_of part) n v → ⊥) → result ≡ None) where
+      way_of : (v m : ℕ) → IsEntry (here_of part) n v → result ≡ Some m → IsNumberInTheWay part.line.hangs part.line.stand part.tasks.items mode v m
+      way_of v m at e = subst (λ (r : Option ℕ). MatchOption r (is_let mode (marks_at part.line.stand v) ≡ true) (λ k. IsNumberInTheWay part.line.hangs part.line.stand part.tasks.items mode v k)) e (bar v at)
+
+      let_of : (v : ℕ) → IsEntry (here_of part) n v → result ≡ None → is_let mode (marks_at part.line.stand v) ≡ true
+      let_of v at e = subst (λ (r : Option ℕ). MatchOption r (is_let mode (marks_at part.line.stand v) ≡ true) (λ k. IsNumberInTheWay part.line.hangs part.line.stand part.tasks.items mode v k)) e (bar v at)
+
+      pub bar_some : (m : ℕ) → result ≡ Some m → (m ≡ 0 → ⊥) × (m ≤ length kept.opens)
+      bar_some m e = go found
+        where
+          go : Found → (m ≡ 0 → ⊥) × (m ≤ length kept.opens)
+          go (inl (v, at)) = bar_named kept right cell part is rest n v at asks.entry asks.is mode m (way_of v m at e)
+          go (inr h) = absurd (let k = sym e ∙ none h in cc)
+
+      pub bar_stops : (m s : ℕ) → result ≡ Some m → task_numbered kept.opens m ≡ Some s → (o : Open) → IsNumber kept.opens n o → Hinders kept.opens (given_at kept.opens kept.cells) o.task s
+      bar_stops m s e task o number = subst (λ (x : Open). Hinders kept.opens (given_at kept.opens kept.cells) x.task s) (one_number kept.opens n asks.entry o asks.is number) (go found)
+        where
+          go : Found → Hinders kept.opens (given_at kept.opens kept.cells) asks.entry.task s
+          go (inl (v, at)) = bar_hinders kept right cell part is rest n v at asks.entry asks.is mode m s (asks.asks cell from before) (way_of v m at e) task
+          go (inr h) = absurd (let k = sym e ∙ none h in cc)
+
+      pub bar_passes : result ≡ None → (o : Open) → IsNumber kept.opens n o → AreSatisfiedTo kept mode o lo hi cell → AreSatisfiedTo kept mode o lo hi part.hi
+      bar_passes e o number f = go found
+        where
+          go : Found → AreSatisfiedTo kept mode o lo hi part.hi
+          go (inl (v, at)) = bar_goes kept right cell part is rest n v at o number mode lo hi (let_of v at e) f
+          go (inr h) = gone_goes kept right cell part is n o number h mode lo hi (opened_over o number) f
+
+    module _ (result : Bool) (lets : (v : ℕ) → IsEntry (here_of part) n v → result ≡ is_let mode (marks_at part.line.stand v)) (none : ((v : ℕ) → IsEntry (here_of part) n v → ⊥) → result ≡ true) where
+      pub let_stops : result ≡ false → (o : Open) → IsNumber kept.opens n o → AreSatisfied kept mode o lo hi → ⊥
+      let_stops e o number f = go found
+        where
+          go : Found → ⊥
+          go (inl (v, at)) = let k = sym e ∙ (lets v at ∙ let_at kept right cell part is rest n v at o number mode (f cell from before)) in cc
+          go (inr h) = let k = sym e ∙ none h in cc
+
+      pub let_passes : result ≡ true → (o : Open) → IsNumber kept.opens n o → AreSatisfiedTo kept mode o lo hi cell → AreSatisfiedTo kept mode o lo hi part.hi
+      let_passes e o number f = go found
+        where
+          go : Found → AreSatisfiedTo kept mode o lo hi part.hi
+          go (inl (v, at)) = bar_goes kept right cell part is rest n v at o number mode lo hi (sym (lets v at) ∙ e) f
+          go (inr h) = gone_goes kept right cell part is n o number h mode lo hi (opened_over o number) f
 
 -- the children of a task in a range
 module _ (kept : Kept) {capacity : ℕ} (right : AreRight kept.opens capacity kept.cells kept.reserved) (n cell : ℕ) (part : Fragment) (is : IsPartOf kept.cells cell part)
@@ -116,7 +139,7 @@ module _ (kept : Kept) {capacity : ℕ} (right : AreRight kept.opens capacity ke
     where
       here : part.lo ≤ c → ((p : ℕ) × IsEntry (here_of part) n p) ⊎ ((p : ℕ) → IsEntry (here_of part) n p → ⊥) → AreChildrenDone kept.opens (given_at kept.opens kept.cells) t c
       here k (inl (p, at)) = children_at kept right cell part is rest n p at t number (told_as None e p at) c k h
-      here k (inr nowhere) = childless_at kept right cell part is rest n t number nowhere c k h
+      here k (inr nowhere) = childless_at kept right cell part is n t number nowhere c k h
 
       pick : (c < cell) ⊎ ((c ≡ cell) ⊎ (cell < c)) → AreChildrenDone kept.opens (given_at kept.opens kept.cells) t c
       pick (inl m) = f c l m
@@ -125,7 +148,7 @@ module _ (kept : Kept) {capacity : ℕ} (right : AreRight kept.opens capacity ke
 
 -- where no cell has an access, no task has a child with one
 pub none_done : (kept : Kept) {capacity : ℕ} → AreRight kept.opens capacity kept.cells kept.reserved → ((c : ℕ) → here_at kept.cells c ≡ bare) → (t c : ℕ) → AreChildrenDone kept.opens (given_at kept.opens kept.cells) t c
-none_done kept right none t c o i parent named = absurd (nothing_there kept right none o.task c (record { entry = o; listed = i; number = refl; named = named }))
+none_done kept right none t c o i parent named = (nothing_there kept right none o.task c (record { entry = o; listed = i; number = refl; named = named })).done.0 refl
 
 -- one access, and all accesses of a task
 pub one_access : (kept : Kept) {capacity : ℕ} → AreRight kept.opens capacity kept.cells kept.reserved → (n : ℕ) (o : Open) (a : Access) → IsNumber kept.opens n o → IsIn a o.accesses → a.strong ≡ true → AsksOver kept.opens n a.mode a.range.lo a.range.hi
@@ -157,11 +180,19 @@ folding_entry kept right n t c number h = let o = opened_entry kept right n t c 
 
 -- the join of a reduction
 pub joins_told : (kept : Kept) {capacity : ℕ} (right : AreRight kept.opens capacity kept.cells kept.reserved) (cell : ℕ) (part : Fragment) (is : IsPartOf kept.cells cell part) → AreAtRest (wires_of part.line.hangs) (marks_at part.line.stand)
-    → (n : ℕ) (o : Open) → IsNumber kept.opens n o → HasOpened kept.opens cell o.task → (result : Bool) → ((v : ℕ) → IsEntry (here_of part) n v → result ≡ (marks_at part.line.stand v).joins)
+    → (n : ℕ) (o : Open) → IsNumber kept.opens n o → HasOpened kept.opens cell o.task → (result : Bool) → ((v : ℕ) → IsEntry (here_of part) n v → result ≡ (marks_at part.line.stand v).joins) → (((v : ℕ) → IsEntry (here_of part) n v → ⊥) → result ≡ true)
     → (q : Open) (op : Op) → IsNumber kept.opens n q → mode_in kept.opens cell q.task ≡ Fold op → (IsTrue result ↔ IsJoinSatisfied (opened_forest kept.opens (given_at kept.opens kept.cells) cell) op q.task)
-joins_told kept right cell part is rest n o number opened result tells q op other mode =
-    let shown = part_shows kept right cell part is n o number opened in
-    joins_exact kept right cell part is rest n shown.entry shown.entry_is q other result op (tells shown.entry shown.entry_is) mode
+joins_told kept right cell part is rest n o number opened result tells none q op other mode = go (look part.tasks.items n)
+  where
+    go : ((v : ℕ) × IsEntry (here_of part) n v) ⊎ ((v : ℕ) → IsEntry (here_of part) n v → ⊥) → (IsTrue result ↔ IsJoinSatisfied (opened_forest kept.opens (given_at kept.opens kept.cells) cell) op q.task)
+    go (inl (v, at)) = joins_exact kept right cell part is rest n v at q other result op (tells v at) mode
+    go (inr h) = gone_joins kept right cell part is n q other h (subst (λ (x : Open). HasOpened kept.opens cell x.task) (one_number kept.opens n o q number other) opened) result (none h) op mode
+
+-- where no cell has an access, it is joined at once
+pub joins_none : (kept : Kept) {capacity : ℕ} (right : AreRight kept.opens capacity kept.cells kept.reserved) → ((c : ℕ) → here_at kept.cells c ≡ bare) → (n cell : ℕ) (o : Open) → IsNumber kept.opens n o → HasOpened kept.opens cell o.task
+    → (q : Open) (op : Op) → IsNumber kept.opens n q → mode_in kept.opens cell q.task ≡ Fold op → (IsTrue true ↔ IsJoinSatisfied (opened_forest kept.opens (given_at kept.opens kept.cells) cell) op q.task)
+joins_none kept right none n cell o number opened q op other mode =
+    (λ h. ((nothing_there kept right none q.task cell (subst (λ (x : Open). HasOpened kept.opens cell x.task) (one_number kept.opens n o q number other) opened)).joins op mode).0 refl, λ s. refl)
 
 pub joins_task : (kept : Kept) {capacity : ℕ} → AreRight kept.opens capacity kept.cells kept.reserved → (n t c : ℕ) → IsNumberOf kept.opens n t → HasOpened kept.opens c t → (result : Bool)
     → ((o : Open) (op : Op) → IsNumber kept.opens n o → mode_in kept.opens c o.task ≡ Fold op → (IsTrue result ↔ IsJoinSatisfied (opened_forest kept.opens (given_at kept.opens kept.cells) c) op o.task))

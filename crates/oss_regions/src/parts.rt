@@ -2,7 +2,7 @@ ghost use Rattle.std.specs.Prelude.{◌≡◌, ◌<◌, ◌⊎◌, ℕ, None, tr
 ghost use Rattle.oss_wires.specs.Flags.{AreAtRest};
 ghost use Rattle.oss_wires.specs.Tables.{marks_at, wires_of};
 ghost use Rattle.oss_links.specs.Readings.{is_let, is_list_done};
-ghost use Rattle.oss_fragments.specs.Here.{IsEntry, IsShown, here_of};
+ghost use Rattle.oss_fragments.specs.Here.{IsEntry, here_of};
 ghost use Rattle.oss_fragments.specs.Stretches.{IsFragment};
 ghost use Rattle.oss_regions.specs.Asked.{IsNumberInTheWay, IsNumberUndone};
 
@@ -11,31 +11,33 @@ use crate::walking::is_let;
 use oss_fragments::Fragment;
 use oss_syntax::Mode;
 
-/// The number of the open whose access to the cells of a fragment stands in the way of that of a task, which waits in this mode.
+/// The number of the open whose access to the cells of a fragment stands in the way of that of a task, which waits in this mode. None where the task's is there no more.
 pub(crate) fn bar_in(part: &Fragment, number: usize, mode: Mode) -> Option<usize>
     requires right { IsFragment part.now }
-    requires shown { IsShown number (here_of part.now) }
+    requires main { number ≡ 0 → ⊥ }
     ensures bar { (v : ℕ) → IsEntry (here_of part.now) number v → MatchOption result (is_let mode (marks_at part.now.line.stand v) ≡ true) (λ n. IsNumberInTheWay part.now.line.hangs part.now.line.stand part.now.tasks.items mode v n) }
+    ensures none { ((v : ℕ) → IsEntry (here_of part.now) number v → ⊥) → result ≡ None }
     ensures rest { AreAtRest (wires_of part.now.line.hangs) (marks_at part.now.line.stand) }
 {
     let _settled = part.line.is_settled();
     match part.entry_of(number) {
         Some(at) => number_in_the_way(&part.line, part.tasks.as_slice(), mode, at),
-        None => unreachable!(),
+        None => None,
     }
 }
 
-/// The flag stands that a task asks for which waits in this mode for the cells of a fragment.
+/// The flag stands that a task asks for which waits in this mode for the cells of a fragment, or its access is there no more.
 pub(crate) fn lets_in(part: &Fragment, number: usize, mode: Mode) -> bool
     requires right { IsFragment part.now }
-    requires shown { IsShown number (here_of part.now) }
+    requires main { number ≡ 0 → ⊥ }
     ensures lets { (v : ℕ) → IsEntry (here_of part.now) number v → result ≡ is_let mode (marks_at part.now.line.stand v) }
+    ensures none { ((v : ℕ) → IsEntry (here_of part.now) number v → ⊥) → result ≡ true }
     ensures rest { AreAtRest (wires_of part.now.line.hangs) (marks_at part.now.line.stand) }
 {
     let _settled = part.line.is_settled();
     match part.entry_of(number) {
         Some(at) => is_let(mode, part.line.flags(at)),
-        None => unreachable!(),
+        None => true,
     }
 }
 
@@ -53,16 +55,17 @@ pub(crate) fn child_in(part: &Fragment, number: usize) -> Option<usize>
     }
 }
 
-/// The access of a task to the cells of a fragment may be joined, as far as its flag tells.
+/// The access of a task to the cells of a fragment may be joined, as far as its flag tells, or is there no more.
 pub(crate) fn joins_in(part: &Fragment, number: usize) -> bool
     requires right { IsFragment part.now }
-    requires shown { IsShown number (here_of part.now) }
+    requires main { number ≡ 0 → ⊥ }
     ensures joins { (v : ℕ) → IsEntry (here_of part.now) number v → result ≡ (marks_at part.now.line.stand v).joins }
+    ensures none { ((v : ℕ) → IsEntry (here_of part.now) number v → ⊥) → result ≡ true }
     ensures rest { AreAtRest (wires_of part.now.line.hangs) (marks_at part.now.line.stand) }
 {
     let _settled = part.line.is_settled();
     match part.entry_of(number) {
         Some(at) => part.line.flags(at).joins,
-        None => unreachable!(),
+        None => true,
     }
 }

@@ -1,4 +1,4 @@
-ghost use Rattle.std.specs.Prelude.{◌≡◌, ◌↔◌, ◌≤◌, ◌<◌, ◌+◌, ℕ, IsOk, IsTrue, List as Accesses, MatchOption, None, OnErr, OnOk, Some};
+ghost use Rattle.std.specs.Prelude.{◌≡◌, ◌↔◌, ◌≤◌, ◌<◌, ◌+◌, ℕ, IsOk, IsTrue, List as Accesses, MatchOption, None, OnErr, OnOk, Some, length};
 ghost use Rattle.oss_syntax.specs.declared.access.Access.{Access as Meant};
 ghost use Rattle.oss_syntax.specs.declared.access.Op.{Op as Operator};
 ghost use Rattle.oss_syntax.specs.declared.access.Mode.TheVariants.{Fold};
@@ -9,6 +9,7 @@ ghost use Rattle.oss_deps.specs.Columns.{IsNumber, IsNumberOf};
 ghost use Rattle.oss_deps.specs.Opens.{AreChildrenDone, HasOpened, IsFolding, IsKnown, IsMet, mode_in, opened_forest};
 ghost use Rattle.oss_deps.specs.Hindrances.{HasUndoneChild, Hinders};
 ghost use Rattle.oss_deps.specs.Seen.{IsNew};
+ghost use Rattle.oss_fragments.specs.Kept.{here_at};
 ghost use Rattle.oss_regions.specs.Kept.{AreSatisfied, AsksOver, IsAccessMet, given_at, seen_of};
 
 use crate::lookups::{number_of, task_of};
@@ -56,6 +57,18 @@ impl Regions {
         }
     }
 
+    /// How many accesses are kept at a cell, main's among them: those on which nothing depends any more are left out where a cut comes. It takes no memory. Condition: a program may
+    /// have the cell.
+    pub fn kept_at(&self, cell: u32) -> usize
+        requires { cell < 1048576 }
+        ensures { result ≡ length (here_at self.now.cells cell).tasks }
+    {
+        match self.cells.at(cell) {
+            Some(part) => part.tasks.len(),
+            None => 1,
+        }
+    }
+
     /// The task whose access stands in the way of that of a task to a cell of a range, where it waits in this mode.
     fn bar_over(&self, number: usize, mode: Mode, range: Range) -> Option<TaskNo>
         requires { AsksOver self.now.opens number mode range.lo range.hi }
@@ -71,7 +84,7 @@ impl Regions {
                     }
                     cell = part.hi;
                 }
-                None => unreachable!(),
+                None => return None,
             }
         }
         None
@@ -135,7 +148,7 @@ impl Regions {
                     }
                     cell = part.hi;
                 }
-                None => unreachable!(),
+                None => return true,
             }
         }
         true
@@ -234,7 +247,7 @@ impl Regions {
     {
         match self.cells.at(cell) {
             Some(part) => joins_in(part, number),
-            None => unreachable!(),
+            None => true,
         }
     }
 }

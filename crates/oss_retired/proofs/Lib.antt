@@ -6,3 +6,7 @@ pub mod DoneLemmas
 pub mod CopyLemmas
 pub mod GiveLemmas
 pub mod RemainderLemmas
+pub mod TableLemmas
+pub mod CallLemmas
+pub mod ToldLemmas
+pub mod RisingLemmas

@@ -61,7 +61,7 @@ module _ (w : Wires) (ok : AreWired w) where
       go (inr (inl k)) = k
       go (inr (inr k)) = let r = rises w ok v u k in absurd (omega (arith, r, l))
 
-task_is : (t : ℕ) (x : Option ℕ) → is_task t x ≡ true → x ≡ Some t
+pub task_is : (t : ℕ) (x : Option ℕ) → is_task t x ≡ true → x ≡ Some t
 task_is t None h = absurd cc
 task_is t (Some s) h = ap (λ (y : ℕ). Some y) (eqb-true s t h)
 
@@ -74,12 +74,12 @@ task_left_in r [] i = refl
 task_left_in r (o ∷ opens) zero = refl
 task_left_in r (o ∷ opens) (suc i) = task_left_in r opens i
 
-task_left : (r : ℕ → Bool) (opens : List Open) (x : Option ℕ) → option_and_then (task_numbered (left_of r opens)) x ≡ option_and_then (task_numbered opens) x
+pub task_left : (r : ℕ → Bool) (opens : List Open) (x : Option ℕ) → option_and_then (task_numbered (left_of r opens)) x ≡ option_and_then (task_numbered opens) x
 task_left r opens None = refl
 task_left r opens (Some zero) = refl
 task_left r opens (Some (suc i)) = task_left_in r opens i
 
-left_long : (r : ℕ → Bool) (opens : List Open) → length (left_of r opens) ≡ length opens
+pub left_long : (r : ℕ → Bool) (opens : List Open) → length (left_of r opens) ≡ length opens
 left_long r [] = refl
 left_long r (o ∷ opens) = ap suc (left_long r opens)
 

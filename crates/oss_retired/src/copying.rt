@@ -1,12 +1,12 @@
 //! A line, copied access by access.
 
-ghost use Rattle.std.specs.Prelude.{◌≡◌, ◌<◌, ◌+◌, ◌++◌, [], ◌∷◌, false, true, length, IfOk, OnOk};
+ghost use Rattle.std.specs.Prelude.{◌≡◌, ◌<◌, ◌+◌, ◌++◌, [], ◌∷◌, false, true, length, slice_get, IfOk, OnOk, Some};
 ghost use Rattle.oss_model.specs.Rights.{covers};
 ghost use Rattle.oss_wires.specs.Steps.{IsHung};
 ghost use Rattle.oss_wires.specs.Tables.{hang_at, marks_at, no_hang, opened_in, wires_of};
 ghost use Rattle.oss_wires.specs.Wires.{AreWired, IsBelow};
 ghost use Rattle.oss_retired.specs.Copies.{AreCopied, AreGivenUp, AreHolding, at_};
-ghost use Rattle.oss_retired.specs.Remainder.{IsRemainder, is_spent};
+ghost use Rattle.oss_retired.specs.Remainder.{AreRising, IsRemainder, is_spent};
 
 use crate::remainder::Remainder;
 use oss_syntax::Mode;
@@ -26,7 +26,7 @@ pub(crate) struct Copy {
 }
 
 /// The access is done, and may write.
-fn is_spent(flags: Marks) -> bool
+pub(crate) fn is_spent(flags: Marks) -> bool
     ensures { result ≡ is_spent flags }
 {
     flags.done && flags.writes
@@ -194,6 +194,9 @@ impl Copy {
         requires copied { AreCopied line.now.hangs line.now.stand numbers.now (length line.now.hangs) self.line.hangs self.numbers.items self.places.items self.owners.items }
         requires given { AreGivenUp line.now.hangs line.now.stand (length line.now.hangs) (length line.now.hangs) self.line.hangs self.places.items }
         ensures remainder { IsRemainder line.now.hangs line.now.stand numbers.now result.line.hangs result.numbers.items }
+        ensures size { length result.numbers.items ≡ length result.line.hangs }
+        ensures main { slice_get result.numbers.items 0 ≡ Some 0 }
+        ensures rising { AreRising numbers.now → AreRising result.numbers.items }
         ensures same { result.line ≡ self.line }
     {
         let _settled = line.is_settled();

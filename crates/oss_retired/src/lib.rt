@@ -7,4 +7,4 @@ mod remainder;
 #[cfg(test)]
 mod tests;
 
-pub use remainder::{Remainder, remainder_of};
+pub use remainder::{Remainder, has_spent, remainder_of};

@@ -1,9 +1,11 @@
 //! A line without the accesses on which nothing depends any more.
 
-ghost use Rattle.std.specs.Prelude.{◌≡◌, ◌<◌, length, IfOk};
-ghost use Rattle.oss_retired.specs.Remainder.{IsRemainder};
+ghost use Rattle.std.specs.Prelude.{◌≡◌, ◌<◌, ◌↔◌, ℕ, length, slice_get, true, IfOk, IsTrue, Some};
+ghost use Rattle.oss_wires.specs.Tables.{marks_at};
+ghost use Rattle.oss_retired.specs.Remainder.{AreRising, IsRemainder, is_spent};
+ghost use Rattle.oss_retired.specs.Tables.{TellsTheSame};
 
-use crate::copying::copied;
+use crate::copying::{copied, is_spent};
 use oss_wires::Line;
 use std::alloc::{AllocError, Global};
 
@@ -22,10 +24,27 @@ pub fn remainder_of(alloc: Global, line: &Line, numbers: &[usize]) -> Result<Rem
     requires size { length numbers.now ≡ length line.now.hangs }
     requires some { 0 < length line.now.hangs }
     ensures remainder { IfOk result (λ l. IsRemainder line.now.hangs line.now.stand numbers.now l.line.hangs l.numbers.items) }
+    ensures same { IfOk result (λ l. TellsTheSame line.now.hangs numbers.now l.line.hangs l.numbers.items) }
     ensures settled { IfOk result (λ l. l.line.head ≡ 0) }
+    ensures size { IfOk result (λ l. length l.numbers.items ≡ length l.line.hangs) }
+    ensures main { IfOk result (λ l. slice_get l.numbers.items 0 ≡ Some 0) }
+    ensures rising { IfOk result (λ l. AreRising numbers.now → AreRising l.numbers.items) }
 {
     let mut copy = copied(alloc, line, numbers)?;
     copy.give_all(line, numbers);
     copy.line.settle();
     Ok(copy.told(line, numbers))
+}
+
+/// An access of the line is spent. Condition: the line is settled.
+pub fn has_spent(line: &Line) -> bool
+    requires settled { line.now.head ≡ 0 }
+    ensures { IsTrue result ↔ ((v : ℕ) × (v < length line.now.hangs) × ((v ≡ 0 → ⊥) × (is_spent (marks_at line.now.stand v) ≡ true))) }
+{
+    for at in 1..line.count() {
+        if is_spent(line.flags(at)) {
+            return true;
+        }
+    }
+    false
 }

@@ -3,7 +3,7 @@
 ghost use Rattle.std.specs.Prelude.{◌≡◌, true};
 ghost use Rattle.oss_model.specs.Rights.{covers};
 
-use crate::remainder_of;
+use crate::{has_spent, remainder_of};
 use oss_syntax::{Mode, Op};
 use oss_wires::Line;
 use std::alloc::Global;
@@ -60,6 +60,7 @@ fn assert_left(
     assert!(rt; line.is_settled());
     assert!(rt; numbers.len() == line.count());
     assert!(rt; line.count() > 0);
+    assert_eq!(rt; has_spent(line), left.len() < numbers.len());
     let rest = remainder_of(alloc, line, numbers)?;
     assert_eq!(rt; rest.numbers.as_slice(), left);
     for (at, mark) in marks.iter().enumerate() {

@@ -249,6 +249,22 @@ fn a_cell_given_up_early() -> [Moment; 10] {
     ]
 }
 
+/// A writer and its child that are done before cuts come, then a reduction, a reader and a writer of some of their cells.
+fn cuts_behind_what_is_done() -> [Moment; 10] {
+    [
+        open(1, 0, writes(0, 4), *b"yy....", *b"......", *b"ny...."),
+        open(2, 1, writes(0, 4), *b"yyy...", *b"......", *b"nny..."),
+        give(1, 0, 4, *b"yyy...", *b"......", *b"nny..."),
+        give(2, 0, 4, *b"yyy...", *b"......", *b"yyy..."),
+        open(3, 0, adds(0, 1), *b"yyyy..", *b"...y..", *b"nyyy.."),
+        open(4, 0, reads(0, 2), *b"yyyyn.", *b"...y..", *b"nyyyy."),
+        open(5, 0, writes(3, 4), *b"yyyyny", *b"...y..", *b"nyyyyy"),
+        give(3, 0, 1, *b"yyyyyy", *b"...y..", *b"nyyyyy"),
+        give(4, 0, 2, *b"yyyyyy", *b"...y..", *b"yyyyyy"),
+        give(5, 3, 4, *b"yyyyyy", *b"...y..", *b"yyyyyy"),
+    ]
+}
+
 fn letter(answer: Option<bool>) -> u8 {
     match answer {
         Some(true) => b'y',
@@ -333,4 +349,30 @@ fn each_system_answers_as_was_worked_by_hand(rt: HostRuntime) {
     play_each(&rt, first, &nested_runs());
     play_each(&rt, first, &a_run_below_a_writer());
     play_each(&rt, two, &a_cell_given_up_early());
+    play_each(&rt, first, &cuts_behind_what_is_done());
+}
+
+/// A writer and its child of four cells: their accesses are kept until both are done there and a cut comes.
+#[test]
+fn what_is_done_is_left_out_at_a_cut(rt: HostRuntime) {
+    let alloc = rt.alloc();
+    let mut told = Told::new(alloc, Regions::new(alloc));
+    assert_eq!(&rt; told.system().kept_at(0), 1);
+    tell(&rt, &mut told, Event::Open(1, 0, writes(0, 4)));
+    tell(&rt, &mut told, Event::Open(2, 1, writes(0, 4)));
+    tell(&rt, &mut told, Event::Give(1, Range { lo: 0, hi: 4 }));
+    tell(&rt, &mut told, Event::Give(2, Range { lo: 3, hi: 4 }));
+    // the cut at 3 came before the child was done anywhere
+    assert_eq!(&rt; told.system().kept_at(0), 3);
+    assert_eq!(&rt; told.system().kept_at(3), 3);
+    tell(&rt, &mut told, Event::Open(3, 0, adds(3, 4)));
+    tell(&rt, &mut told, Event::Give(2, Range { lo: 0, hi: 3 }));
+    // no cut divides the cell 3 alone, nor the cells before it as yet
+    assert_eq!(&rt; told.system().kept_at(0), 3);
+    assert_eq!(&rt; told.system().kept_at(3), 4);
+    tell(&rt, &mut told, Event::Open(4, 0, reads(0, 1)));
+    assert_eq!(&rt; told.system().kept_at(0), 2);
+    assert_eq!(&rt; told.system().kept_at(1), 1);
+    assert_eq!(&rt; told.system().kept_at(3), 4);
+    drop(told);
 }

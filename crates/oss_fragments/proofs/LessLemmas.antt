@@ -1,0 +1,36 @@
+-- What tells the same of the opened tasks.
+use Rattle.std.proofs.Common.{◌≡◌, ℕ, sym, ap, subst, ◌∙◌, List, Some, arith, length}
+use Rattle.std.specs.Prelude.{slice_get}
+use Rattle.oss_wires.specs.declared.hang.Hang.{Hang}
+use Rattle.oss_retired.specs.Remainder.{AreRising}
+use Rattle.oss_retired.specs.Tables.{TellsTheSame}
+use Rattle.oss_retired.proofs.TableLemmas.{same_tells, tells_both}
+use Rattle.oss_fragments.specs.declared.fragment.Fragment.{Fragment}
+use Rattle.oss_fragments.specs.Here.{Here, IsLess}
+use Rattle.oss_fragments.specs.Stretches.{IsFragment, HasRoom}
+use Rattle.oss_fragments.specs.Changes.{HasSameEdges, IsThinner}
+
+pub less_same : (a b : Here) → a ≡ b → IsLess a b
+less_same a b e = subst (λ (x : Here). IsLess a x) e (same_tells a.hangs a.tasks)
+
+pub less_both : (a b c : Here) → IsLess a b → IsLess b c → IsLess a c
+less_both a b c f g = tells_both a.hangs a.tasks b.hangs b.tasks c.hangs c.tasks f g
+
+-- a fragment with what is left in place
+pub thinned_of : (a b : Fragment) (numbers : List ℕ) (less : List Hang) (fewer : List ℕ) → IsFragment a → HasSameEdges a b → numbers ≡ a.tasks.items → b.line.hangs ≡ less → b.tasks.items ≡ fewer → TellsTheSame a.line.hangs numbers less fewer → b.line.head ≡ 0
+    → length fewer ≡ length less → slice_get fewer 0 ≡ Some 0 → (AreRising numbers → AreRising fewer) → HasRoom b → IsThinner a b
+thinned_of a b numbers less fewer f e same hangs tasks tells settled size main rising room = record {
+  here = subst (λ (xs : List ℕ). TellsTheSame a.line.hangs xs b.line.hangs b.tasks.items) same
+      (subst (λ (hs : List Hang). TellsTheSame a.line.hangs numbers hs b.tasks.items) (sym hangs) (subst (λ (xs : List ℕ). TellsTheSame a.line.hangs numbers less xs) (sym tasks) tells));
+  right = record {
+    some = omega (arith, e.lo, e.hi, f.some);
+    within = omega (arith, e.hi, f.within);
+    settled = settled;
+    entries = record {
+      size = ap length tasks ∙ size ∙ ap length (sym hangs);
+      main = subst (λ (xs : List ℕ). slice_get xs 0 ≡ Some 0) (sym tasks) main;
+      rising = subst AreRising (sym tasks) (rising (subst AreRising (sym same) f.entries.rising));
+    };
+  };
+  room = λ r. room;
+}
