@@ -1,10 +1,13 @@
 -- What tells the same of the opened tasks.
-use Rattle.std.proofs.Common.{◌≡◌, ℕ, sym, ap, subst, ◌∙◌, List, Some, arith, length}
-use Rattle.std.specs.Prelude.{slice_get}
+use Rattle.std.proofs.Common.{◌≡◌, ℕ, ◌<◌, sym, ap, subst, ◌∙◌, ◌⊎◌, inl, inr, Bool, true, false, ◌↔◌, List, Some, arith, length}
+use Rattle.std.specs.Prelude.{IsTrue, slice_get}
+use Rattle.oss_deps.proofs.Basics.{bools, clash}
 use Rattle.oss_wires.specs.declared.hang.Hang.{Hang}
-use Rattle.oss_retired.specs.Remainder.{AreRising}
+use Rattle.oss_wires.specs.declared.marks.Marks.{Marks}
+use Rattle.oss_wires.specs.Tables.{marks_at}
+use Rattle.oss_retired.specs.Remainder.{AreRising, IsRemainder, is_spent}
 use Rattle.oss_retired.specs.Tables.{TellsTheSame}
-use Rattle.oss_retired.proofs.TableLemmas.{same_tells, tells_both}
+use Rattle.oss_retired.proofs.TableLemmas.{same_tells, tells_both, whole_remainder}
 use Rattle.oss_fragments.specs.declared.fragment.Fragment.{Fragment}
 use Rattle.oss_fragments.specs.Here.{Here, IsLess}
 use Rattle.oss_fragments.specs.Stretches.{IsFragment, HasRoom}
@@ -34,3 +37,16 @@ thinned_of a b numbers less fewer f e same hangs tasks tells settled size main r
   };
   room = λ r. room;
 }
+
+-- where nothing is spent, what is kept is what is left
+pub none_spent : (hangs : List Hang) (stand : List Marks) (numbers : List ℕ) → length numbers ≡ length hangs → (result : Bool) → (IsTrue result ↔ ((v : ℕ) × (v < length hangs) × ((v ≡ 0 → ⊥) × (is_spent (marks_at stand v) ≡ true)))) → result ≡ false
+    → IsRemainder hangs stand numbers hangs numbers
+none_spent hangs stand numbers size result told e = whole_remainder hangs stand numbers (λ v n l. go v n l (bools (is_spent (marks_at stand v))))
+  where
+    go : (v : ℕ) → (v ≡ 0 → ⊥) → v < length numbers → (is_spent (marks_at stand v) ≡ true) ⊎ (is_spent (marks_at stand v) ≡ false) → is_spent (marks_at stand v) ≡ false
+    go v n l (inr f) = f
+    go v n l (inl f) = clash result (told.1 (v, omega (arith, l, size), (n, f))) e
+
+pub left_as : (hangs : List Hang) (stand : List Marks) (numbers : List ℕ) (less now : List Hang) (fewer kept : List ℕ) (as_slice : List ℕ) → as_slice ≡ numbers → now ≡ less → kept ≡ fewer → IsRemainder hangs stand as_slice less fewer → IsRemainder hangs stand numbers now kept
+left_as hangs stand numbers less now fewer kept as_slice e f g rest =
+    subst (λ (ns : List ℕ). IsRemainder hangs stand ns now kept) e (subst (λ (hs : List Hang). IsRemainder hangs stand as_slice hs kept) (sym f) (subst (λ (xs : List ℕ). IsRemainder hangs stand as_slice less xs) (sym g) rest))

@@ -72,7 +72,7 @@ pub record IsThinner (a b : Fragment) : Type 0 where
   pub right : IsFragment b
   pub room : HasRoom a → HasRoom b
 
--- They are left out of the fragment at this place, and all others are as before.
+-- At most, such accesses are left out of the fragment at this place, and all others are as before.
 pub record IsThinnedAt (old new : List Fragment) (at : ℕ) : Type 0 where
   pub one : Fragment
   pub one_is : slice_get old at ≡ Some one

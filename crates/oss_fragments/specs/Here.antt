@@ -9,6 +9,7 @@ use Rattle.oss_model.specs.Rights.{covers}
 use Rattle.oss_wires.specs.declared.hang.Hang.{Hang}
 use Rattle.oss_wires.specs.Steps.{IsHung, IsGift}
 use Rattle.oss_wires.specs.Tables.{gave_in, hang_at, no_hang, opened_in, wires_of}
+use Rattle.oss_retired.specs.Remainder.{AreRising}
 use Rattle.oss_retired.specs.Tables.{TellsTheSame}
 use Rattle.oss_fragments.specs.declared.fragment.Fragment.{Fragment}
 
@@ -39,10 +40,10 @@ IsEntry h number v = slice_get h.tasks v ≡ Some number
 pub record AreEntries (h : Here) : Type 0 where
   pub size : length h.tasks ≡ length h.hangs
   pub main : slice_get h.tasks 0 ≡ Some 0
-  pub rising : (j k s t : ℕ) → slice_get h.tasks j ≡ Some s → slice_get h.tasks k ≡ Some t → j < k → s < t
+  pub rising : AreRising h.tasks
 
 -- A task of this number and mode may be opened below this creator: the creator has an access that it has not given up and that covers
--- the mode, and no task was opened there that has this number or a greater one.
+-- the mode, and no access that is kept there is of a task with this number or a greater one.
 pub record MayHang (number parent : ℕ) (mode : Mode) (h : Here) : Type 0 where
   pub above : ℕ
   pub above_is : IsEntry h parent above
@@ -58,7 +59,7 @@ pub record IsOpened (number parent : ℕ) (mode : Mode) (old new : Here) : Type 
   pub hung : IsHung (wires_of old.hangs) (wires_of new.hangs) above (length old.hangs)
   pub tasks : new.tasks ≡ old.tasks ++ number ∷ []
 
--- The task has an access.
+-- The task has an access that is kept there.
 pub record IsShown (number : ℕ) (h : Here) : Type 0 where
   pub not_main : number ≡ 0 → ⊥
   pub entry : ℕ

@@ -2,6 +2,7 @@ ghost use Rattle.std.specs.Prelude.{◌≡◌, ◌<◌, ◌++◌, [], ◌∷◌,
 ghost use Rattle.oss_model.specs.Rights.{covers};
 ghost use Rattle.oss_wires.specs.Steps.{IsGift, IsHung};
 ghost use Rattle.oss_wires.specs.Tables.{gave_in, hang_at, opened_in, wires_of};
+ghost use Rattle.oss_retired.specs.Remainder.{IsRemainder};
 ghost use Rattle.oss_fragments.specs.Here.{AreEntries, IsEntry, IsShown, MayHang, bare, here_of};
 ghost use Rattle.oss_fragments.specs.Stretches.{HasRoom, IsFragment};
 ghost use Rattle.oss_fragments.specs.Changes.{HasSameEdges, IsGivenIn, IsOpenedIn, IsRoomier, IsThinner};
@@ -86,13 +87,14 @@ impl Fragment {
         requires right { IsFragment self.old }
         ensures edges { HasSameEdges self.old self.new }
         ensures thinner { IsThinner self.old self.new }
+        ensures left { OnOk result (IsRemainder self.old.line.hangs self.old.line.stand self.old.tasks.items self.new.line.hangs self.new.tasks.items) }
         ensures err { OnErr result (self.new ≡ self.old) }
     {
         if !has_spent(&self.line) {
             return Ok(());
         }
         let mut rest = remainder_of(alloc, &self.line, self.tasks.as_slice())?;
-        // the tables are new and just as large as what is left: a fragment that had room for one more access is to have it still
+        // the tables are new and may be full: a fragment that had room for one more access is to have it still
         rest.line.reserve()?;
         rest.numbers.reserve(1)?;
         let Remainder { line, numbers } = rest;
@@ -101,8 +103,8 @@ impl Fragment {
         Ok(())
     }
 
-    /// The access of a task, by the number of its open; main's is 0. None: the task has none here. It costs the logarithm of the number of
-    /// accesses.
+    /// The access of a task, by the number of its open; main's is 0. None: none is kept here; the task has none, or it was left out. It costs
+    /// the logarithm of the number of accesses.
     pub fn entry_of(&self, number: usize) -> Option<usize>
         requires { AreEntries (here_of self.now) }
         ensures found { IfSome result (λ at. IsEntry (here_of self.now) number at) }

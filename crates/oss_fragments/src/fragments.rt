@@ -19,11 +19,11 @@ use std::alloc::{AllocError, Global};
 use std::marker::Model;
 
 /// The accesses to all cells of a program. Accesses that overlap in part are cut into fragments, after Perez, Beltran, Labarta and Ayguadé
-/// (IPDPS 2017): cells that no cut divides are one fragment, and have one line of accesses; at a cut the line is copied, without the accesses
-/// that are spent: done, and nothing earlier in the way of a write. These are left out of both parts, since nothing depends on them any more, so
-/// many cuts under many finished accesses stay cheap. What a call costs is told by the fragments that it comes to, and not by their cells; a
+/// (IPDPS 2017): cells that no cut divides are one fragment, and have one line of accesses; where a fragment is divided the line is copied, without the
+/// accesses that are spent: done, and nothing earlier in the way of a write. These are left out of both parts, since nothing depends on them any
+/// more, so many cuts behind many finished accesses stay cheap. What a call costs is told by the fragments that it comes to, and not by their cells; a
 /// cut costs the accesses of the fragment that it divides. An access takes 84 bytes in each of its fragments, and up to twice that where tables
-/// have grown. All flags that are due stand between two calls. Also after want of memory, each cell's accesses tell the same of the opened tasks.
+/// have grown. All flags that are due stand between two calls. Also after want of memory, each cell's accesses tell the same of the opened tasks as before.
 #[derive(Drop)]
 pub struct Fragments {
     alloc: Global,
@@ -87,7 +87,8 @@ impl Fragments {
 
     /// Opens a task, by the number of its open, below its creator: in each cell of an access it hangs behind the other children there. The ends of
     /// the accesses become cuts. It takes no memory. Condition: room was made for the accesses; they rise; and in each of their cells
-    /// the creator has an access that it has not given up and that covers the new one, and no task of this number or a greater one was opened.
+    /// the creator has an access that it has not given up and that covers the new one, and no access that is kept there is of this number or a
+    /// greater one.
     pub fn open(&mut self, number: usize, parent: usize, accesses: &[Access])
         requires rising { IsRising accesses.now }
         requires ready { AreReady accesses.now self.old.fragments }
@@ -99,8 +100,8 @@ impl Fragments {
         ask_all(&self.map, &mut self.fragments, &mut self.ended, accesses);
     }
 
-    /// A task gives up the cells of a range. It takes no memory. Condition: both ends of the range are cuts, and the task has an access to
-    /// each of its cells.
+    /// A task gives up the cells of a range. It takes no memory. Condition: both ends of the range are cuts, and the task's access to each
+    /// of its cells is kept there, as one that is not given up always is.
     pub fn give(&mut self, number: usize, range: Range)
         requires begins { is_cut self.old range.lo ≡ true }
         requires ends { is_cut self.old range.hi ≡ true }

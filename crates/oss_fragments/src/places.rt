@@ -1,8 +1,9 @@
-ghost use Rattle.std.specs.Prelude.{◌≡◌, ◌<◌, ℕ, IfNone, IfSome, Some, slice_get};
+ghost use Rattle.std.specs.Prelude.{◌≡◌, ℕ, IfNone, IfSome, Some, slice_get};
+ghost use Rattle.oss_retired.specs.Remainder.{AreRising};
 
 /// Where a number stands among numbers that rise. It costs the logarithm of how many there are.
 pub(crate) fn place_of(numbers: &[usize], number: usize) -> Option<usize>
-    requires { (j k s t : ℕ) → slice_get numbers.now j ≡ Some s → slice_get numbers.now k ≡ Some t → j < k → s < t }
+    requires { AreRising numbers.now }
     ensures found { IfSome result (λ at. slice_get numbers.now at ≡ Some number) }
     ensures none { IfNone result ((at : ℕ) → slice_get numbers.now at ≡ Some number → ⊥) }
 {

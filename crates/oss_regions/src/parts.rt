@@ -11,7 +11,8 @@ use crate::walking::is_let;
 use oss_fragments::Fragment;
 use oss_syntax::Mode;
 
-/// The number of the open whose access to the cells of a fragment stands in the way of that of a task, which waits in this mode. None where the task's is there no more.
+/// The number of the open whose access to the cells of a fragment stands in the way of that of a task, which waits in this mode. None where
+/// nothing does, or where the task's is there no more.
 pub(crate) fn bar_in(part: &Fragment, number: usize, mode: Mode) -> Option<usize>
     requires right { IsFragment part.now }
     requires main { number ≡ 0 → ⊥ }
@@ -41,7 +42,8 @@ pub(crate) fn lets_in(part: &Fragment, number: usize, mode: Mode) -> bool
     }
 }
 
-/// The number of the open of a child of a task whose access to the cells of a fragment is not done. None where the task has no access there.
+/// The number of the open of a child of a task whose access to the cells of a fragment is not done. None where each is done, or
+/// where the task has no access there, or none any more.
 pub(crate) fn child_in(part: &Fragment, number: usize) -> Option<usize>
     requires right { IsFragment part.now }
     ensures child { (p : ℕ) → IsEntry (here_of part.now) number p → MatchOption result (is_list_done (wires_of part.now.line.hangs) (marks_at part.now.line.stand) p ≡ true) (λ n. IsNumberUndone part.now.line.hangs part.now.line.stand part.now.tasks.items p n) }

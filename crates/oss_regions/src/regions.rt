@@ -22,7 +22,7 @@ use std::alloc::Global;
 use std::marker::Model;
 
 /// The accesses to each cell in lists that cells share which no cut divides, with flags that messages move along the lists: what may
-/// go on is told by the flags of an access alone, however many accesses stand before it.
+/// go on is told by the flags of an access alone, however many accesses stand before it, or by there being none any more.
 #[derive(Drop)]
 pub struct Regions {
     pub(crate) alloc: Global,
@@ -57,8 +57,8 @@ impl Regions {
         }
     }
 
-    /// How many accesses are kept at a cell, main's among them: those on which nothing depends any more are left out where a cut comes. It takes no memory. Condition: a program may
-    /// have the cell.
+    /// How many accesses are kept at a cell, main's among them. Those on which nothing depends any more are left out where its fragment is divided.
+    /// It takes no memory, and costs the logarithm of the number of fragments. Condition: a program may have the cell.
     pub fn kept_at(&self, cell: u32) -> usize
         requires { cell < 1048576 }
         ensures { result ≡ length (here_at self.now.cells cell).tasks }
@@ -84,6 +84,7 @@ impl Regions {
                     }
                     cell = part.hi;
                 }
+                // no cell has an access but main's, so the task's was left out
                 None => return None,
             }
         }
@@ -148,6 +149,7 @@ impl Regions {
                     }
                     cell = part.hi;
                 }
+                // no cell has an access but main's, so the task's was left out
                 None => return true,
             }
         }
@@ -247,6 +249,7 @@ impl Regions {
     {
         match self.cells.at(cell) {
             Some(part) => joins_in(part, number),
+            // no cell has an access but main's, so the task's was left out
             None => true,
         }
     }

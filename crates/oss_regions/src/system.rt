@@ -48,9 +48,9 @@ impl Regions {
 }
 
 /// What a call costs is told by the fragments of the cells that it comes to, and not by their cells. A task is found at once where tasks are
-/// opened in the order of their numbers, and its access in a fragment by halving. `met`, `may_join` and `children_done` then look at the
-/// flags of one access in each fragment. `obstacle` and `undone_child` go back over the accesses before it until the first that stands in
-/// the way, or is not done.
+/// opened in the order of their numbers, and its access in a fragment by halving. `met` and `may_join` then look at the flags of one
+/// access in each fragment, and so does `children_done` where all are done. `obstacle` and `undone_child` go back over the accesses before it until
+/// the first that stands in the way, or is not done.
 impl Deps for Regions {
     ghost use Rattle.oss_regions.specs.Kept.{seen_of};
 

@@ -1,7 +1,6 @@
 -- A table from which retired accesses were left out, where a task is opened or gives up the cell.
 use Rattle.std.proofs.Common.{◌≡◌, ℕ, zero, suc, ◌+◌, ◌≤◌, refl, sym, subst, ap, ◌∙◌, List, [], ◌∷◌, ◌++◌, ◌⊎◌, inl, inr, Bool, true, false, Some, arith, add-one, length}
-use Rattle.std.specs.Prelude.{◌==◌, ◌||◌, if◌then◌else◌, slice_get}
-use Rattle.oss_syntax.specs.declared.access.Access.{Access}
+use Rattle.std.specs.Prelude.{◌==◌, ◌||◌, slice_get}
 use Rattle.oss_syntax.specs.declared.access.Mode.{Mode}
 use Rattle.oss_syntax.specs.declared.access.Mode.TheVariants.{Write}
 use Rattle.oss_model.specs.Rights.{covers}
@@ -23,16 +22,9 @@ use Rattle.oss_retired.specs.Tables.{IsCellLeft, given_left, retired_by}
 use Rattle.oss_retired.proofs.KeepLemmas.{gifts_keep, openings_keep}
 use Rattle.oss_retired.proofs.LeftLemmas.{in_left, mode_in_left}
 use Rattle.oss_retired.proofs.RemainderLemmas.{left_long}
-use Rattle.oss_retired.proofs.TableLemmas.{entry_left, given_kept, retired_is, task_kept}
+use Rattle.oss_retired.proofs.TableLemmas.{left_same, entry_left, given_kept, retired_is, task_kept}
 
--- what is left of an open that is not retired is the open
-left_same : (r : ℕ → Bool) (o : Open) → r o.task ≡ false → left r o ≡ o
-left_same r o e = ap (λ (x : List Access). record o { accesses = x }) (go (r o.task) e)
-  where
-    go : (b : Bool) → b ≡ false → (if b then [] else o.accesses) ≡ o.accesses
-    go true e = absurd cc
-    go false e = refl
-
+-- an open more, which is not retired
 left_added : (r : ℕ → Bool) (opens : List Open) (o : Open) → r o.task ≡ false → left_of r (opens ++ o ∷ []) ≡ left_of r opens ++ o ∷ []
 left_added r [] o e = ap (λ (x : Open). x ∷ []) (left_same r o e)
 left_added r (q ∷ opens) o e = ap (λ (xs : List Open). left r q ∷ xs) (left_added r opens o e)

@@ -1,6 +1,7 @@
 -- The table of a cell from which retired accesses were left out, at the calls of a system.
 use Rattle.std.proofs.Common.{◌≡◌, ℕ, zero, suc, ◌+◌, ◌<◌, refl, sym, subst, ap, ◌∙◌, List, [], ◌∷◌, ◌⊎◌, inl, inr, Bool, true, false, Some, arith, length, eq-eqb, eqb-true}
-use Rattle.std.specs.Prelude.{◌==◌, ◌&&◌, not, slice_get}
+use Rattle.std.specs.Prelude.{◌==◌, ◌&&◌, not, slice_get, if◌then◌else◌}
+use Rattle.oss_syntax.specs.declared.access.Access.{Access}
 use Rattle.oss_deps.specs.declared.opened.Open.{Open}
 use Rattle.oss_deps.specs.Opens.{AreOrdered, HasOpened, names}
 use Rattle.oss_deps.proofs.Basics.{bools, both, both_of, clash, or_cases, or_left, or_right, some_is}
@@ -12,7 +13,7 @@ use Rattle.oss_links.specs.Numbers.{IsCellHeld, any_below, given_by, is_task, ta
 use Rattle.oss_links.proofs.CellLemmas.{bare_cell}
 use Rattle.oss_links.proofs.NumberLemmas.{any_found, entry_of_task, same_bools, task_of_entry}
 use Rattle.oss_retired.specs.Remainder.{IsRemainder, IsRemainderFor, is_spent, spent_by}
-use Rattle.oss_retired.specs.Retired.{AreRetired, either, left_of}
+use Rattle.oss_retired.specs.Retired.{AreRetired, either, left, left_of}
 use Rattle.oss_retired.specs.Tables.{IsCellLeft, TellsTheSame, given_left, is_left_out, is_listed, retired_by}
 use Rattle.oss_retired.proofs.KeepLemmas.{gifts_keep, none_are_retired}
 use Rattle.oss_retired.proofs.LeftLemmas.{left_opened, left_ordered, opened_left}
@@ -148,6 +149,39 @@ pub tells_both : (hangs : List Hang) (numbers : List ℕ) (hangs2 : List Hang) (
 tells_both hangs numbers hangs2 numbers2 hangs3 numbers3 f g opens c ord is =
     let a = f opens c ord is in
     let b = g opens c ord a.0 in (b.0, λ t. b.1 t ∙ a.1 t)
+
+-- what is left of an open that is not retired is the open
+pub left_same : (r : ℕ → Bool) (o : Open) → r o.task ≡ false → left r o ≡ o
+left_same r o e = ap (λ (x : List Access). record o { accesses = x }) (go (r o.task) e)
+  where
+    go : (b : Bool) → b ≡ false → (if b then [] else o.accesses) ≡ o.accesses
+    go true e = absurd cc
+    go false e = refl
+
+left_all : (r : ℕ → Bool) (opens : List Open) → ((t : ℕ) → r t ≡ false) → left_of r opens ≡ opens
+left_all r [] none = refl
+left_all r (o ∷ opens) none = (λ i. left_same r o (none o.task) i ∷ left_all r opens none i)
+
+-- a table of which nothing is spent is its own remainder
+pub whole_remainder : (hangs : List Hang) (stand : List Marks) (numbers : List ℕ) → ((v : ℕ) → (v ≡ 0 → ⊥) → v < length numbers → is_spent (marks_at stand v) ≡ false) → IsRemainder hangs stand numbers hangs numbers
+whole_remainder hangs stand numbers kept opens c ord is = record {
+  retired = record { done = λ t e h. not_spent t e; free = λ t e h. not_spent t e; front = λ u v e h k. not_spent v e; below = λ u v e h. not_spent u e };
+  held = subst (λ (xs : List Open). IsCellHeld xs c hangs numbers) (sym (left_all (spent_by opens stand numbers) opens none)) is;
+  given = λ t e. given_kept (spent_by opens stand numbers) opens hangs numbers t;
+}
+  where
+    none : (t : ℕ) → spent_by opens stand numbers t ≡ false
+    none t = go (bools (spent_by opens stand numbers t))
+      where
+        go : (spent_by opens stand numbers t ≡ true) ⊎ (spent_by opens stand numbers t ≡ false) → spent_by opens stand numbers t ≡ false
+        go (inr e) = e
+        go (inl e) =
+            let k = any_found (length numbers) (λ v. is_task t (task_by opens numbers v) && is_spent (marks_at stand v)) e in
+            let b = both (is_task t (task_by opens numbers k.0)) (is_spent (marks_at stand k.0)) k.2 in
+            clash (is_spent (marks_at stand k.0)) b.1 (kept k.0 (is.held.not_main t k.0 (task_is t (task_by opens numbers k.0) b.0)).1 k.1)
+
+    not_spent : {A : Type 0} (t : ℕ) → spent_by opens stand numbers t ≡ true → A
+    not_spent t e = clash (spent_by opens stand numbers t) e (none t)
 
 -- A table without its spent accesses tells the same.
 module _ (hangs : List Hang) (stand : List Marks) (numbers : List ℕ) (less : List Hang) (fewer : List ℕ) (rest : IsRemainder hangs stand numbers less fewer) (opens : List Open) (c : ℕ) (ord : AreOrdered opens) (is : IsCellLeft opens c hangs numbers) where

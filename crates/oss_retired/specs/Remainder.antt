@@ -1,4 +1,4 @@
--- The table of a cell without the accesses that are done and may write: what of them can still come to matter is nothing.
+-- The table of a cell without the accesses that are done and may write: none of them can matter any more.
 -- Read against: the tasks of `Retired`, with 1 and 2 over. The table has the rows 0 to 4, with the numbers 0, 1, 2, 3, 4; rows 1 and 2 are spent, so the remainder has
 -- the numbers 0, 3, 4: row 1 of it is the access of 3, first in main's list, and row 2 that of 4 behind it.
 use Rattle.std.specs.Prelude.{◌≡◌, ℕ, ◌<◌, ◌&&◌, Bool, false, List, Some, length, slice_get}
@@ -10,7 +10,7 @@ use Rattle.oss_wires.specs.Tables.{marks_at}
 use Rattle.oss_links.specs.Numbers.{IsCellHeld, any_below, given_by, is_task, task_by}
 use Rattle.oss_retired.specs.Retired.{AreRetired, left_of}
 
--- Each number is greater than those before it.
+-- Each number is greater than those before it, as 0, 3, 4 are.
 abbrev pub AreRising : List ℕ → Type 0
 AreRising numbers = (j k s t : ℕ) → slice_get numbers j ≡ Some s → slice_get numbers k ≡ Some t → j < k → s < t
 

@@ -26,7 +26,7 @@ retired_by opens numbers c t = is_left_out opens zero numbers c t
 abbrev pub given_left : List Open → ℕ → List Hang → List ℕ → ℕ → Bool
 given_left opens c hangs numbers t = given_by opens hangs numbers t || retired_by opens numbers c t
 
--- The table of the cell c, and the numbers of its accesses, hold what is left of those of the tasks that were opened with the cell, and those that it does not hold may be retired.
+-- The table of the cell c, and the numbers of its accesses, hold the accesses that are left; those that were left out are of tasks that were opened with the cell, and may be retired.
 pub record IsCellLeft (opens : List Open) (c : ℕ) (hangs : List Hang) (numbers : List ℕ) : Type 0 where
   pub retired : ℕ → Bool
   pub opened : (t : ℕ) → retired t ≡ true → HasOpened opens c t

@@ -16,9 +16,10 @@ pub struct Remainder {
     pub numbers: Vec<usize>,
 }
 
-/// The accesses to a cell without those that are spent: done, with nothing earlier in the way of a write of them. All before such an access in its list, and all below it, is
-/// spent too, and what is told of each other access stays so: a released access stands in no list any more (Perez, Beltran, Labarta and Ayguadé, IPDPS 2017). It is an error
-/// where memory is wanted. It costs as much as there are accesses. Conditions: the line is settled; each access has a number.
+/// The accesses to a cell without those that are spent: done, with nothing earlier in the way of a write of them. All before such an access in its list, and all below it, are
+/// spent too, and what is told of each other access stays so: a released access stands in no list any more (Perez, Beltran, Labarta and Ayguadé, IPDPS 2017). What is left tells
+/// the same of the opened tasks, and numbers that rise still do. Err: memory is wanting. It costs as much as there are accesses. Conditions: the line is settled; each access has
+/// a number, and main's is among them.
 pub fn remainder_of(alloc: Global, line: &Line, numbers: &[usize]) -> Result<Remainder, AllocError>
     requires settled { line.now.head ≡ 0 }
     requires size { length numbers.now ≡ length line.now.hangs }
@@ -36,7 +37,7 @@ pub fn remainder_of(alloc: Global, line: &Line, numbers: &[usize]) -> Result<Rem
     Ok(copy.told(line, numbers))
 }
 
-/// An access of the line is spent. Condition: the line is settled.
+/// An access of the line, other than main's, is spent. It costs one look at each at most. Condition: the line is settled.
 pub fn has_spent(line: &Line) -> bool
     requires settled { line.now.head ≡ 0 }
     ensures { IsTrue result ↔ ((v : ℕ) × (v < length line.now.hangs) × ((v ≡ 0 → ⊥) × (is_spent (marks_at line.now.stand v) ≡ true))) }

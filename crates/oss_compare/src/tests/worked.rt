@@ -1,6 +1,6 @@
 //! What each task waits for at each moment of some lists that were worked by hand, from what is defined of accesses and not from what
 //! a system answered. A line has three texts with a letter for each task, main first: whether it may begin, whether its slot may be
-//! joined, and whether the accesses of its children are done. A dot stands where there is nothing to ask.
+//! joined, and whether the accesses of its children are done. A dot stands where there is nothing to ask. And how many accesses regions keep.
 
 ghost use Rattle.std.specs.Prelude.{◌<◌};
 ghost use Rattle.oss_deps.specs.Seen.{IsNew};
@@ -265,6 +265,20 @@ fn cuts_behind_what_is_done() -> [Moment; 10] {
     ]
 }
 
+/// A reduction that is done before a cut parts its cells, and a reader and a writer behind it.
+fn a_reduction_that_is_left_out() -> [Moment; 8] {
+    [
+        open(1, 0, weakly(0, 4), *b"yy....", *b"......", *b"ny...."),
+        open(2, 1, adds(0, 2), *b"yyy...", *b"..y...", *b"nny..."),
+        give(1, 0, 4, *b"yyy...", *b"..y...", *b"nny..."),
+        give(2, 0, 2, *b"yyy...", *b"..y...", *b"yyy..."),
+        open(3, 0, reads(1, 2), *b"yyyy..", *b"..y...", *b"yyyy.."),
+        open(4, 0, writes(0, 4), *b"yyyyn.", *b"..y...", *b"nyyyy."),
+        give(3, 1, 2, *b"yyyyy.", *b"..y...", *b"nyyyy."),
+        give(4, 0, 4, *b"yyyyy.", *b"..y...", *b"yyyyy."),
+    ]
+}
+
 fn letter(answer: Option<bool>) -> u8 {
     match answer {
         Some(true) => b'y',
@@ -350,6 +364,7 @@ fn each_system_answers_as_was_worked_by_hand(rt: HostRuntime) {
     play_each(&rt, first, &a_run_below_a_writer());
     play_each(&rt, two, &a_cell_given_up_early());
     play_each(&rt, first, &cuts_behind_what_is_done());
+    play_each(&rt, first, &a_reduction_that_is_left_out());
 }
 
 /// A writer and its child of four cells: their accesses are kept until both are done there and a cut comes.
