@@ -1,10 +1,9 @@
 -- A body after its next act is that of the definitions.
 use Rattle.std.proofs.Common.{◌≡◌, ℕ, refl, sym, ap, ◌∙◌, subst, List, [], ◌∷◌, Bool, true, false, Some}
-use Rattle.std.specs.Prelude.{not}
 use Rattle.oss_syntax.specs.declared.access.Mode.TheVariants.{Fold}
 use Rattle.oss_syntax.specs.declared.access.Op.{Op}
 use Rattle.oss_model.specs.Order.{written}
-use Rattle.oss_model.specs.Rights.{Right, Holds}
+use Rattle.oss_model.specs.Rights.{Holds}
 use Rattle.oss_model.specs.Moves.{slot_more, slot_of}
 use Rattle.oss_model.specs.Context.{Context, child_context, right_of}
 use Rattle.oss_model.specs.Bodies.{Order, Program, Act as MeantAct, Created, Start, Frame as Meant, Stack, act_of, child_frame, child_start, frame_act, settled_frame, settled_parts, settled_stack, stack_after, stack_from, stage_act, start_frame, top_frame}
@@ -16,18 +15,19 @@ use Rattle.oss_machine.specs.Asks.{meant_order, script_of}
 use Rattle.oss_machine.specs.Frames.{CodeScript}
 use Rattle.oss_machine.specs.Machines.{asks, machine_start}
 use Rattle.oss_slots.specs.Slots.{fresh, slot_at}
+use Rattle.oss_body.specs.declared.act.Act.{Act}
 use Rattle.oss_body.specs.declared.act.Act.TheVariants as acts
 use Rattle.oss_body.specs.declared.act.Creation.{Creation}
 use Rattle.oss_body.specs.declared.body.Body.{Body}
-use Rattle.oss_body.specs.declared.frame.Frame.{Frame}
+use Rattle.oss_body.specs.Places.{Framed as Frame}
 use Rattle.oss_body.specs.declared.own.Own.{Own}
 use Rattle.oss_body.specs.declared.tasks.Tasks.{Tasks}
 use Rattle.oss_body.specs.Acts.{HasContext, act_seen}
 use Rattle.oss_body.specs.Kept.{kept}
 use Rattle.oss_body.specs.Places.{Placed, place_of}
-use Rattle.oss_body.specs.Stacks.{kept_stack, own_place, rest_of}
+use Rattle.oss_body.specs.Stacks.{IsFollowed, kept_stack, own_place}
 use Rattle.oss_body.specs.Relation.{HasStarted, IsBody}
-use Rattle.oss_body.proofs.StackLemmas.{own_place_is, some_task}
+use Rattle.oss_body.proofs.StackLemmas.{own_place_is}
 
 abbrev pub tasks_with : Frame → List Frame → Tasks
 tasks_with top below = record { top = top; below = below; ended = false }
@@ -35,25 +35,6 @@ tasks_with top below = record { top = top; below = below; ended = false }
 -- where the task of a body stands
 pub point_is : (code : CodeParts) (start : Start CodeScript) (found : List ℕ) (b : Body) → IsBody code start found b → (own_place b.tasks).path ≡ written start.path
 point_is code start found b is = ap (λ (p : Placed). p.path) is.place ∙ ap written (stack_ok (asks code) start found).path
-
--- what is kept of a body whose task that acts is settled
-settled_kept : (code : CodeParts) (base : Meant CodeScript) (inner : List (Meant CodeScript)) (ended : Bool) (x : Frame) → x ≡ kept code (settled_frame (asks code) (top_frame base inner))
-    → ◌≡◌ {A = Tasks} record { top = x; below = rest_of code base inner; ended = ended } (kept_stack code (settled_parts (asks code) base inner ended))
-settled_kept code base [] ended x h = rw h refl
-settled_kept code base (f ∷ fs) ended x h = rw h refl
-
--- the act that stands next, where empty says that the body's own task acts
-settled_act : (code : CodeParts) (slots : ℕ → Right) (base : Meant CodeScript) (inner : List (Meant CodeScript)) (empty : Bool) → (empty ≡ true → rest_of code base inner ≡ []) → (rest_of code base inner ≡ [] → empty ≡ true) → (a : MeantAct CodeScript)
-    → a ≡ frame_act (asks code) slots (not empty) (settled_frame (asks code) (top_frame base inner)) (settled_frame (asks code) (top_frame base inner)).awaits → a ≡ act_of (asks code) slots (settled_parts (asks code) base inner false)
-unfolding act_of
-settled_act code slots base [] empty there back a h = rw (sym (ap not (back refl))) h
-settled_act code slots base (f ∷ fs) true there back a h = absurd (some_task code base fs (there refl))
-settled_act code slots base (f ∷ fs) false there back a h = h
-
--- the task that acts is the settled one
-settled_top : (P : Program CodeScript) (base : Meant CodeScript) (inner : List (Meant CodeScript)) (ended : Bool) → top_frame (settled_parts P base inner ended).base (settled_parts P base inner ended).inner ≡ settled_frame P (top_frame base inner)
-settled_top P base [] ended = refl
-settled_top P base (f ∷ fs) ended = refl
 
 -- the body's own task stands where it stood
 settled_place : (P : Program CodeScript) (base : Meant CodeScript) (inner : List (Meant CodeScript)) (ended : Bool) → place_of (settled_parts P base inner ended).base ≡ place_of base
@@ -138,8 +119,23 @@ pub record OwnAfter (old : Own) (act : MeantAct CodeScript) (own : Own) : Type 0
   pub priority : own.priority ≡ old.priority
   pub slots : (c : ℕ) (op : Op) (held : ℕ) → slot_at old.slots c ≡ Some (record { op = op; value = held }) → slot_at own.slots c ≡ Some (record { op = op; value = slot_more act c op held })
 
+-- a body of which all that tells anything is as it was
+pub stays : (code : CodeParts) (start : Start CodeScript) (found : List ℕ) (old new : Body) → new.own ≡ old.own → new.begun ≡ old.begun → new.tasks ≡ old.tasks → new.act ≡ old.act → IsBody code start found old → IsBody code start found new
+stays code start found old new own begun tasks act is = record {
+  context = ap (λ (o : Own). o.context) own ∙ is.context;
+  wait = ap (λ (o : Own). o.wait) own ∙ is.wait;
+  priority = ap (λ (o : Own). o.priority) own ∙ is.priority;
+  slots = λ c op h. ap (λ (o : Own). slot_at o.slots c) own ∙ is.slots c op h;
+  begun = begun ∙ is.begun;
+  place = ap own_place tasks ∙ is.place;
+  ended = ap (λ (t : Tasks). t.ended) tasks ∙ is.ended;
+  tasks = λ e. tasks ∙ is.tasks (ap (λ (t : Tasks). t.ended) (sym tasks) ∙ e);
+  act = λ e. ap act_seen act ∙ is.act (ap (λ (t : Tasks). t.ended) (sym tasks) ∙ e);
+  child = λ e. subst (HasContext (top_frame (stack_from (asks code) start found).base (stack_from (asks code) start found).inner).context) (sym act) (is.child (ap (λ (t : Tasks). t.ended) (sym tasks) ∙ e));
+}
+
 -- A body after its next act
-module _ (code : CodeParts) (start : Start CodeScript) (found : List ℕ) (old : Body) (v : ℕ) (is : IsBody code start found old) (running : old.tasks.ended ≡ false) (new : Tasks) where
+module _ (code : CodeParts) (start : Start CodeScript) (found : List ℕ) (old : Body) (v : ℕ) (is : IsBody code start found old) (running : old.tasks.ended ≡ false) where
   abbrev P : Program CodeScript
   P = asks code
 
@@ -164,53 +160,30 @@ module _ (code : CodeParts) (start : Start CodeScript) (found : List ℕ) (old :
   settled_ended base [] ended = refl
   settled_ended base (f ∷ fs) ended = refl
 
-  place_after : new ≡ kept_stack code next → own_place new ≡ place_of (stack_from P start (v ∷ found)).base
-  place_after h = ap own_place h ∙ own_place_is code next ∙ sym (settled_place P next.base next.inner next.ended) ∙ ap (λ (s : Stack CodeScript). place_of s.base) (sym after_act)
+  -- the body's own task, and whether it has ended
+  place_after : (t : Tasks) (a : Act) → IsFollowed code (right_of old.own.context) next t a → (e : Bool) → t.ended ≡ e → (own_place t ≡ place_of (stack_from P start (v ∷ found)).base) × (t.ended ≡ (stack_from P start (v ∷ found)).ended)
+  place_after t a f true e = (
+    ap own_place (f.over e) ∙ own_place_is code next ∙ sym (settled_place P next.base next.inner next.ended) ∙ ap (λ (s : Stack CodeScript). place_of s.base) (sym after_act),
+    ap (λ (x : Tasks). x.ended) (f.over e) ∙ settled_ended next.base next.inner next.ended ∙ ap (λ (s : Stack CodeScript). s.ended) (sym after_act),
+  )
+  place_after t a f false e =
+      (ap own_place (f.on e) ∙ own_place_is code (settled_stack P next) ∙ ap (λ (s : Stack CodeScript). place_of s.base) (sym after_act), ap (λ (x : Tasks). x.ended) (f.on e) ∙ ap (λ (s : Stack CodeScript). s.ended) (sym after_act))
 
-  -- the body has ended
-  pub ends : new ≡ kept_stack code next → new.ended ≡ true → (b : Body) → OwnAfter old.own (act_seen old.act) b.own → b.begun ≡ true → b.tasks ≡ new → IsBody code start (v ∷ found) b
-  ends h over b own begun tasks =
-      let ended : b.tasks.ended ≡ (stack_from P start (v ∷ found)).ended =
-      ap (λ (t : Tasks). t.ended) (tasks ∙ h) ∙ settled_ended next.base next.inner next.ended ∙ sym (ap (λ (s : Stack CodeScript). s.ended) after_act) in
-      let past : b.tasks.ended ≡ true = ap (λ (t : Tasks). t.ended) tasks ∙ over in
-      record {
-        context = own.context ∙ is.context;
-        wait = own.wait ∙ is.wait;
-        priority = own.priority ∙ is.priority;
-        slots = slots_after b.own own;
-        begun = begun;
-        place = ap own_place tasks ∙ place_after h;
-        ended = ended;
-        tasks = λ e. absurd (cc (e, past));
-        act = λ e. absurd (cc (e, past));
-        child = λ e. absurd (cc (e, past));
-      }
-
-  -- the body goes on
-  pub goes : new ≡ kept_stack code next → new.ended ≡ false → (empty : Bool) → (empty ≡ true → new.below ≡ []) → (new.below ≡ [] → empty ≡ true) → (top : Frame) → top ≡ kept code (settled_frame P (top_frame next.base next.inner))
-      → (b : Body) → act_seen b.act ≡ frame_act P (right_of b.own.context) (not empty) (settled_frame P (top_frame next.base next.inner)) (settled_frame P (top_frame next.base next.inner)).awaits
-      → HasContext top.place.context b.act → OwnAfter old.own (act_seen old.act) b.own → b.begun ≡ true → b.tasks ≡ record { top = top; below = new.below; ended = new.ended } → IsBody code start (v ∷ found) b
+  -- the body goes on, or has ended
+  pub advanced : (b : Body) → IsFollowed code (right_of old.own.context) next b.tasks b.act → HasContext b.tasks.top.place.context b.act → OwnAfter old.own (act_seen old.act) b.own → b.begun ≡ true → IsBody code start (v ∷ found) b
   unfolding stage_act
-  goes h live empty there back top settled b acts child own begun tasks =
-      let below : new.below ≡ rest_of code next.base next.inner = ap (λ (t : Tasks). t.below) h in
-      let ends_not : next.ended ≡ false = sym (ap (λ (t : Tasks). t.ended) h) ∙ live in
-      let t : ◌≡◌ {A = Tasks} record { top = top; below = new.below; ended = new.ended } (kept_stack code (settled_parts P next.base next.inner next.ended)) =
-      rw below (rw (ap (λ (t : Tasks). t.ended) h) (settled_kept code next.base next.inner next.ended top settled)) in
-      let all : b.tasks ≡ kept_stack code (stack_from P start (v ∷ found)) = (tasks ∙ t) ∙ ap (kept_stack code) (sym after_act) in
-      let a : act_seen b.act ≡ act_of P (right_of b.own.context) (settled_parts P next.base next.inner false) =
-      settled_act code (right_of b.own.context) next.base next.inner empty (λ e. sym below ∙ there e) (λ e. back (below ∙ e)) (act_seen b.act) acts in
-      let a2 : act_seen b.act ≡ act_of P (right_of b.own.context) (settled_stack P next) = subst (λ (e : Bool). act_seen b.act ≡ act_of P (right_of b.own.context) (settled_parts P next.base next.inner e)) (sym ends_not) a in
-      let x : top.place.context ≡ (top_frame (stack_from P start (v ∷ found)).base (stack_from P start (v ∷ found)).inner).context =
-      ap (λ (f : Frame). f.place.context) settled ∙ ap (λ (f : Meant CodeScript). f.context) (sym (settled_top P next.base next.inner next.ended)) ∙ ap (λ (s : Stack CodeScript). (top_frame s.base s.inner).context) (sym after_act) in
+  advanced b f child own begun =
+      let all = λ (e : b.tasks.ended ≡ false). f.on e ∙ ap (kept_stack code) (sym after_act) in
+      let where_it_stands = place_after b.tasks b.act f b.tasks.ended refl in
       record {
         context = own.context ∙ is.context;
         wait = own.wait ∙ is.wait;
         priority = own.priority ∙ is.priority;
         slots = slots_after b.own own;
         begun = begun;
-        place = ap own_place all ∙ own_place_is code (stack_from P start (v ∷ found));
-        ended = ap (λ (t : Tasks). t.ended) all;
-        tasks = λ e. all;
-        act = λ e. a2 ∙ ap (act_of P (right_of b.own.context)) (sym after_act) ∙ ap (λ (y : Context). act_of P (right_of y) (stack_from P start (v ∷ found))) (own.context ∙ is.context);
-        child = λ e. subst (λ (y : Context). HasContext y b.act) x child;
+        place = where_it_stands.0;
+        ended = where_it_stands.1;
+        tasks = all;
+        act = λ e. f.act e ∙ ap (act_of P (right_of old.own.context)) (sym after_act) ∙ ap (λ (y : Context). act_of P (right_of y) (stack_from P start (v ∷ found))) is.context;
+        child = λ e. subst (λ (y : Context). HasContext y b.act) (ap (λ (t : Tasks). t.top.place.context) (all e)) child;
       }

@@ -11,7 +11,7 @@ use Rattle.oss_machine.specs.Frames.{CodeScript}
 use Rattle.oss_machine.specs.Machines.{asks}
 use Rattle.oss_machine.proofs.LiveTheorem.{lively}
 use Rattle.oss_body.specs.declared.body.Body.{Body as Kept}
-use Rattle.oss_body.specs.declared.frame.Frame.{Frame as KeptFrame}
+use Rattle.oss_body.specs.Places.{Framed as KeptFrame}
 use Rattle.oss_body.specs.declared.tasks.Tasks.{Tasks}
 use Rattle.oss_body.specs.Kept.{kept}
 use Rattle.oss_body.specs.Left.{body_left, kept_share, kept_shares}

@@ -1,6 +1,10 @@
 mod Advancing
-mod CreationLemmas
+mod BehindLemmas
+mod DraftLemmas
+mod FollowLemmas
+mod FrameLemmas
 pub mod LeftLemmas
 mod Results
+mod SilentLemmas
 mod SlotLemmas
 mod StackLemmas

@@ -4,7 +4,7 @@ use Rattle.std.proofs.lemmas.List.{length-append}
 use Rattle.oss_code.specs.declared.code.CodeParts.{CodeParts}
 use Rattle.oss_machine.specs.Frames.{CodeScript}
 use Rattle.oss_model.specs.Bodies.{Order, Created, Frame as Meant, Stack, after_creation, child_frame, including_frame, stack_after, top_frame}
-use Rattle.oss_body.specs.declared.frame.Frame.{Frame}
+use Rattle.oss_body.specs.Places.{Framed as Frame}
 use Rattle.oss_body.specs.declared.tasks.Tasks.{Tasks}
 use Rattle.oss_body.specs.Kept.{kept}
 use Rattle.oss_body.specs.Places.{place_of}

@@ -4,7 +4,7 @@ use Rattle.oss_model.specs.Bodies.{Frame as Meant}
 use Rattle.oss_code.specs.declared.code.CodeParts.{CodeParts}
 use Rattle.oss_machine.specs.Frames.{CodeScript}
 use Rattle.oss_machine.specs.Machines.{machine_at}
-use Rattle.oss_body.specs.declared.frame.Frame.{Frame}
+use Rattle.oss_body.specs.Places.{Framed as Frame}
 use Rattle.oss_body.specs.Places.{place_of}
 
 -- A task of the definitions as it is kept: after the answers 0 and 5 it is the machine after these two.

@@ -6,7 +6,7 @@ use Rattle.oss_model.specs.Potential.{share_of}
 use Rattle.oss_code.specs.declared.code.CodeParts.{CodeParts}
 use Rattle.oss_machine.specs.Machines.{most_left, room}
 use Rattle.oss_body.specs.declared.body.Body.{Body}
-use Rattle.oss_body.specs.declared.frame.Frame.{Frame}
+use Rattle.oss_body.specs.Places.{Framed as Frame}
 
 -- No function of the code makes more steps before an ask.
 abbrev pub most_room : CodeParts → ℕ

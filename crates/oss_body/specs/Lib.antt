@@ -1,8 +1,11 @@
 pub mod Acts
+pub mod Behind
+pub mod Drafts
 pub mod Kept
 pub mod Left
 pub mod Mains
 pub mod Places
 pub mod Relation
+pub mod Silent
 pub mod Slots
 pub mod Stacks

@@ -1,10 +1,14 @@
 -- What is kept of all tasks of a body.
 -- Read against: a final task that runs an included one is kept as the included one, and below it the final one.
-use Rattle.std.specs.Prelude.{false, List, [], ◌∷◌, ◌++◌}
-use Rattle.oss_model.specs.Bodies.{Order, Frame as Meant, Stack, child_frame, including_frame, top_frame}
+use Rattle.std.specs.Prelude.{◌≡◌, ◌&&◌, ℕ, Bool, true, false, not, List, [], ◌∷◌, ◌++◌}
+use Rattle.oss_model.specs.Bodies.{Act as MeantAct, Created, Ended, Order, Frame as Meant, Stack, act_of, child_frame, including_frame, settled_stack, top_frame}
+use Rattle.oss_model.specs.Rights.{Right}
 use Rattle.oss_code.specs.declared.code.CodeParts.{CodeParts}
 use Rattle.oss_machine.specs.Frames.{CodeScript}
-use Rattle.oss_body.specs.declared.frame.Frame.{Frame}
+use Rattle.oss_machine.specs.Machines.{asks}
+use Rattle.oss_body.specs.declared.act.Act.{Act}
+use Rattle.oss_body.specs.Acts.{act_seen}
+use Rattle.oss_body.specs.Places.{Framed as Frame}
 use Rattle.oss_body.specs.declared.tasks.Tasks.{Tasks}
 use Rattle.oss_body.specs.Kept.{kept}
 use Rattle.oss_body.specs.Places.{Placed}
@@ -39,3 +43,21 @@ first_place top (f ∷ fs) = f.place
 
 abbrev pub own_place : Tasks → Placed
 own_place t = first_place t.top t.below
+
+-- There is no task: below the one that acts where that is the body's own.
+abbrev pub is_nil : List Frame → Bool
+is_nil [] = true
+is_nil (f ∷ fs) = false
+
+-- The act leaves the task that acts the one that does, where this is alone or not: one that is not includes each task that it creates.
+abbrev pub stays_on : MeantAct CodeScript → Bool → Bool
+stays_on (Created order included) alone = not included && alone
+stays_on Ended alone = false
+stays_on _ alone = true
+
+-- The tasks behind an act, and the act that stands next, where the body stands so behind the first: before the next act asks are passed that are none.
+-- Of a body that has ended there is no next act.
+pub record IsFollowed (code : CodeParts) (slots : ℕ → Right) (s : Stack CodeScript) (t : Tasks) (next : Act) : Type 0 where
+  pub over : t.ended ≡ true → t ≡ kept_stack code s
+  pub on : t.ended ≡ false → t ≡ kept_stack code (settled_stack (asks code) s)
+  pub act : t.ended ≡ false → act_seen next ≡ act_of (asks code) slots (settled_stack (asks code) s)

@@ -1,5 +1,5 @@
 //! A body.
-ghost use Rattle.std.specs.Prelude.{◌≡◌, ◌∷◌, ◌≤◌, ◌<◌, [], List as Items, ℕ, Bool, suc, length, true, false, IfOk, OnOk};
+ghost use Rattle.std.specs.Prelude.{◌≡◌, ◌∷◌, ◌≤◌, ◌<◌, [], List as Items, ℕ, Bool, suc, length, true, false, IfOk, OnErr, OnOk};
 ghost use Rattle.oss_code.specs.declared.code.CodeParts.{CodeParts};
 ghost use Rattle.oss_judge.specs.Joined.{IsRising, held_mark, held_right};
 ghost use Rattle.oss_machine.specs.Asks.{meant_order, script_of};
@@ -13,8 +13,10 @@ ghost use Rattle.oss_model.specs.Rights.{Holds, is_released, mark_from, right_fr
 ghost use Rattle.oss_syntax.specs.declared.access.Mode.TheVariants.{Fold};
 ghost use Rattle.oss_syntax.specs.declared.access.Op.{Op};
 ghost use Rattle.oss_body.specs.Acts.{act_seen, answer_to, creates, goes_on, passed};
+ghost use Rattle.oss_body.specs.Places.{IsKey};
 
 use crate::act::Act;
+use crate::below::Below;
 use crate::frame::Frame;
 use crate::own::Own;
 use crate::place::Place;
@@ -24,6 +26,7 @@ use oss_judge::Context;
 use oss_model::Point;
 use oss_syntax::{Access, List};
 use std::alloc::{AllocError, Global};
+use std::mem;
 
 /// A body: one task of a program, and the tasks that it includes (OmpSs-2, execution model; the task directive, its clause `final`). It
 /// tells the act that stands next, and goes on behind it. Of what it has done nothing is kept: it costs the contexts and the
@@ -37,7 +40,10 @@ pub struct Body {
     begun: bool,
     tasks: Tasks,
     act: Act,
+    /// The key at which the task that acts does, where it is kept: a fault takes it, so that it wants no memory.
+    key: Option<Point>,
     ghost judged: { passed act tasks.top.place.context ≡ true },
+    ghost keyed: { IsKey key tasks.top.place },
 }
 
 impl Body {
@@ -67,17 +73,19 @@ impl Body {
         ensures { IfOk result (λ body. (start : Start CodeScript) → HasStarted start own → top ≡ kept code.now (start_frame (asks code.now) start) → IsBody code.now start [] body) }
     {
         let mut top = top;
-        let act = top.next(alloc, code, &own.context, false)?;
+        let mut key = None;
+        let act = top.next(alloc, code, &own.context, false, &mut key)?;
         Ok(Body {
             alloc,
             own,
             begun: false,
             tasks: Tasks {
                 top,
-                below: List::new(alloc),
+                below: Below::new(alloc),
                 ended: false,
             },
             act,
+            key,
         })
     }
 
@@ -91,26 +99,29 @@ impl Body {
     }
 
     /// The pending act has happened, and a load found this number, which else says nothing. The code is the one with which the body was
-    /// started. Where memory is wanting nothing is told of the body any more, and it is of no use but to be dropped. Condition: the body has
-    /// not ended, and the act is no fault.
+    /// started. Where memory is wanting the body stays: it has the same start, the same answers and the same pending act, and the call may be
+    /// made again. Condition: the body has not ended, and the act is no fault.
     pub fn advance(&mut self, code: &Code, loaded: u64) -> Result<(), AllocError>
         requires running { is_over self.old ≡ false }
         requires goes { goes_on (pending_of self.old) ≡ true }
-        ensures { OnOk result ((start : Start CodeScript) (found : Items ℕ) → IsBody code.now start found self.old → IsBody code.now start (answer_to (act_seen (pending_of self.old)) loaded ∷ found) self.new) }
+        ensures ok { OnOk result ((start : Start CodeScript) (found : Items ℕ) → IsBody code.now start found self.old → IsBody code.now start (answer_to (act_seen (pending_of self.old)) loaded ∷ found) self.new) }
+        ensures stays { OnErr result ((parts : CodeParts) (start : Start CodeScript) (found : Items ℕ) → IsBody parts start found self.old → IsBody parts start found self.new) }
+        ensures pending { OnErr result (pending_of self.new ≡ pending_of self.old) }
+        ensures running { OnErr result (is_over self.new ≡ false) }
     {
-        let applied = self.tasks.apply(self.alloc, code, &self.act, loaded);
+        let mut key = mem::replace(&mut self.key, None);
+        let act = self.tasks.follow(
+            self.alloc,
+            code,
+            &self.own.context,
+            &self.act,
+            loaded,
+            &mut key,
+        )?;
         self.own.keep(&self.act);
-        put(&mut self.act, Act::End);
-        applied?;
+        self.act = act;
+        self.key = key;
         self.begun = true;
-        if self.tasks.ended {
-            return Ok(());
-        }
-        let included = !self.tasks.below.is_empty();
-        self.act = self
-            .tasks
-            .top
-            .next(self.alloc, code, &self.own.context, included)?;
         Ok(())
     }
 
@@ -216,11 +227,4 @@ impl Body {
     {
         self.begun
     }
-}
-
-/// Puts an act in the place of one that has happened.
-fn put(place: &mut Act, act: Act)
-    ensures { place.new ≡ act }
-{
-    *place = act;
 }

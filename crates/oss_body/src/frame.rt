@@ -1,32 +1,42 @@
 //! One task of a body: its own, or one that is included.
-ghost use Rattle.std.specs.Prelude.{◌≡◌, ℕ, suc, true, false, map, if◌then◌else◌, IfOk, OnOk, Ok as Gave, None};
-ghost use Rattle.oss_judge.specs.Parts.{reading};
-ghost use Rattle.oss_code.specs.declared.code.CodeParts.{CodeParts};
-ghost use Rattle.oss_meaning.specs.Clauses.{waited_for};
-ghost use Rattle.oss_meaning.specs.Sections.{declared_on};
+ghost use Rattle.std.specs.Prelude.{◌≡◌, suc, true, false, IfOk, OnErr, OnOk, None};
 ghost use Rattle.oss_machine.specs.Asks.{meant_order, script_of};
 ghost use Rattle.oss_machine.specs.Frames.{CodeScript};
-ghost use Rattle.oss_machine.specs.Machines.{asks, machine_start};
-ghost use Rattle.oss_model.specs.Bodies.{Awaited, Folded, Store, Ticked, Waited, WaitedOn, Frame as Meant, after_creation, answered_frame, child_frame, frame_act, frame_after, including_frame, past_silent, settled_frame, with_context, word_of};
-ghost use Rattle.oss_model.specs.Context.{child_context, create_fault, release, right_of, tick_fault, wrote};
-ghost use Rattle.oss_body.specs.Acts.{HasContext, act_seen, passed};
+ghost use Rattle.oss_machine.specs.Machines.{asks, machine_after, machine_start};
+ghost use Rattle.oss_model.specs.Bodies.{Frame as Meant, child_frame, frame_act, frame_after, including_frame, one_more_created, settled_frame};
+ghost use Rattle.oss_model.specs.Context.{child_context, create_fault, made, right_of};
+ghost use Rattle.oss_body.specs.Acts.{HasContext, act_seen, answer_to, passed};
 ghost use Rattle.oss_body.specs.Kept.{kept};
+ghost use Rattle.oss_body.specs.Places.{IsKey};
 
 use crate::act::{Act, Creation};
+use crate::looking::{Ahead, awaits_behind, fill, reach, reach_behind};
 use crate::place::Place;
 use oss_code::{Code, TaskOrder};
 use oss_judge::Context;
-use oss_machine::{Ask, Machine};
-use oss_syntax::{Access, List, Range};
+use oss_machine::Machine;
+use oss_model::Point;
 use std::alloc::{AllocError, Global};
+use std::marker::Model;
 
-/// One task of a body.
+/// One task of a body. Between two calls its machine has looked at nothing that lies ahead.
 #[derive(Drop)]
 pub(crate) struct Frame {
-    pub(crate) machine: Machine,
-    pub(crate) place: Place,
+    machine: Machine,
+    place: Place,
     /// A wait for the newest child stands before the next ask.
-    pub(crate) awaits: bool,
+    awaits: bool,
+}
+
+impl Model for Frame {
+    ghost use Rattle.std.specs.Prelude.{◌≡◌};
+    ghost use Rattle.oss_body.specs.Places.{Framed};
+
+    ghost Value = { Framed };
+
+    ghost view = { λ f. record { machine = f.machine.stands; place = f.place; awaits = f.awaits } };
+
+    ghost invariant = { λ f. f.machine.ahead ≡ f.machine.stands };
 }
 
 impl Frame {
@@ -47,167 +57,127 @@ impl Frame {
         })
     }
 
-    /// The ask of the task is no act, and is passed.
-    fn is_silent(&self) -> bool
-        ensures { (code : CodeParts) (f : Meant CodeScript) → self.now ≡ kept code f → past_silent (asks code) f ≡ (if result then answered_frame 0 f else f) }
+    /// Where the task stands.
+    pub(crate) fn place(&self) -> &Place
+        ensures { result.now ≡ self.now.place }
     {
-        match self.machine.ask() {
-            Ask::Begin => self.place.context().may_create().is_ok(),
-            Ask::Await => !self.awaits,
-            Ask::Tick => false,
-            Ask::Read(_) => false,
-            Ask::Write(_, _) => false,
-            Ask::Fold(_, _, _) => false,
-            Ask::Create(_) => false,
-            Ask::Wait => false,
-            Ask::WaitOn(_) => false,
-            Ask::Release(_) => false,
-            Ask::Print(_) => false,
-            Ask::End => false,
-            Ask::Fault(_) => false,
-        }
-    }
-
-    /// Passes an ask that is no act. Tells whether there was one.
-    fn pass(&mut self, code: &Code) -> Result<bool, AllocError>
-        ensures passed { OnOk result ((f : Meant CodeScript) → self.old ≡ kept code.now f → self.new ≡ kept code.now (past_silent (asks code.now) f)) }
-        ensures stays { result ≡ Gave false → (f : Meant CodeScript) → self.old ≡ kept code.now f → past_silent (asks code.now) f ≡ f }
-    {
-        if !self.is_silent() {
-            return Ok(false);
-        }
-        self.machine.answer(code, 0)?;
-        Ok(true)
-    }
-
-    /// Passes the asks that are no acts, two in a row at most.
-    fn settle(&mut self, code: &Code) -> Result<(), AllocError>
-        ensures { OnOk result ((f : Meant CodeScript) → self.old ≡ kept code.now f → self.new ≡ kept code.now (settled_frame (asks code.now) f)) }
-    {
-        if self.pass(code)? {
-            self.pass(code)?;
-        }
-        Ok(())
+        &self.place
     }
 
     /// Passes what is no act, and tells the act that stands next, or the fault. `own` has the rights with which the body's own task started, and
-    /// `included` says that this is another task.
+    /// `included` says that this is another task. A key that is kept is that of the task. Where memory is wanting the task stays.
     pub(crate) fn next(
         &mut self,
         alloc: Global,
         code: &Code,
         own: &Context,
         included: bool,
+        key: &mut Option<Point>,
     ) -> Result<Act, AllocError>
+        requires key { IsKey key.old self.old.place }
         ensures frame { OnOk result ((f : Meant CodeScript) → self.old ≡ kept code.now f → self.new ≡ kept code.now (settled_frame (asks code.now) f)) }
         ensures act { IfOk result (λ act. (f : Meant CodeScript) → self.old ≡ kept code.now f → act_seen act ≡ frame_act (asks code.now) (right_of own.now) included (settled_frame (asks code.now) f) (settled_frame (asks code.now) f).awaits) }
         ensures passed { IfOk result (λ act. passed act self.new.place.context ≡ true) }
         ensures child { IfOk result (λ act. HasContext self.new.place.context act) }
+        ensures key { OnOk result (IsKey key.new self.new.place) }
+        ensures err { OnErr result (self.new ≡ self.old) }
     {
-        self.settle(code)?;
-        self.act(alloc, own, included)
-    }
-
-    /// The act that stands next.
-    fn act(&self, alloc: Global, own: &Context, included: bool) -> Result<Act, AllocError>
-        ensures act { IfOk result (λ act. (code : CodeParts) (f : Meant CodeScript) → self.now ≡ kept code f → act_seen act ≡ frame_act (asks code) (right_of own.now) included f f.awaits) }
-        ensures passed { IfOk result (λ act. passed act self.now.place.context ≡ true) }
-        ensures child { IfOk result (λ act. HasContext self.now.place.context act) }
-    {
-        if self.awaits {
-            return Ok(Act::Await);
-        }
-        self.place.judged(
+        let created = self.place.context().created_count();
+        let ahead = Ahead {
+            created,
+            awaits: self.awaits,
+        };
+        fill(key, &self.place, created)?;
+        match reach(
             alloc,
+            code,
+            &mut self.machine,
+            &self.place,
             own,
             included,
-            self.machine.ask(),
-            self.machine.line(),
-        )
-    }
-}
-
-/// How a task goes on after an act that leaves it the one that acts.
-impl Frame {
-    /// After an act of which the task keeps the answer alone.
-    pub(crate) fn answer(&mut self, code: &Code, value: u64) -> Result<(), AllocError>
-        ensures { OnOk result ((f : Meant CodeScript) → self.old ≡ kept code.now f → self.new ≡ kept code.now (answered_frame value f)) }
-    {
-        self.machine.answer(code, value)
+            ahead,
+        ) {
+            Ok(draft) => {
+                self.machine.go();
+                Ok(self.place.judged(draft, self.machine.line(), key))
+            }
+            Err(full) => {
+                self.machine.stay();
+                Err(full)
+            }
+        }
     }
 
-    /// After a tick.
-    pub(crate) fn tick(&mut self, code: &Code) -> Result<(), AllocError>
-        requires passed { tick_fault self.old.place.context ≡ None }
-        ensures { OnOk result ((f : Meant CodeScript) → self.old ≡ kept code.now f → self.new ≡ kept code.now (frame_after Ticked 0 f)) }
-    {
-        self.machine.answer(code, 0)?;
-        self.place.tick();
-        Ok(())
-    }
-
-    /// After a store in a cell, or a fold into it.
-    pub(crate) fn wrote(&mut self, code: &Code, cell: u32) -> Result<(), AllocError>
-        ensures { OnOk result ((f : Meant CodeScript) → self.old ≡ kept code.now f → self.new ≡ kept code.now (answered_frame 0 (with_context (wrote cell f.context) f))) }
-    {
-        self.place.wrote(cell)?;
-        self.machine.answer(code, 0)
-    }
-
-    /// After the creation of a task that is not included.
-    pub(crate) fn create(&mut self, code: &Code, creation: &Creation) -> Result<(), AllocError>
-        requires passed { create_fault self.old.place.context ≡ None }
-        ensures { OnOk result ((f : Meant CodeScript) → self.old ≡ kept code.now f → creation.now.context ≡ child_context f.context creation.now.order.accesses creation.now.order.last → self.new ≡ kept code.now (after_creation (meant_order creation.now.order) f)) }
-    {
-        self.place.give(&creation.context, creation.order.when)?;
-        self.machine.answer(code, 0)?;
-        self.awaits = !creation.order.when;
-        Ok(())
-    }
-
-    /// After the creation of a task that is included.
-    pub(crate) fn include(&mut self, code: &Code, creation: &Creation) -> Result<(), AllocError>
-        requires passed { create_fault self.old.place.context ≡ None }
-        ensures { OnOk result ((f : Meant CodeScript) → self.old ≡ kept code.now f → creation.now.context ≡ child_context f.context creation.now.order.accesses creation.now.order.last → self.new ≡ kept code.now (including_frame (meant_order creation.now.order) f)) }
-    {
-        self.place.give(&creation.context, false)?;
-        self.machine.answer(code, 0)
-    }
-
-    /// After the wait for the newest task.
-    pub(crate) fn end_await(&mut self)
-        ensures { (code : CodeParts) (f : Meant CodeScript) → self.old ≡ kept code f → self.new ≡ kept code (frame_after Awaited 0 f) }
-    {
-        self.awaits = false;
-    }
-
-    /// After a wait for all tasks.
-    pub(crate) fn end_wait(&mut self, code: &Code) -> Result<(), AllocError>
-        ensures { OnOk result ((f : Meant CodeScript) → self.old ≡ kept code.now f → self.new ≡ kept code.now (frame_after Waited 0 f)) }
-    {
-        self.machine.answer(code, 0)?;
-        self.place.wait();
-        Ok(())
-    }
-
-    /// After a wait for cells.
-    pub(crate) fn end_wait_on(
+    /// The act has happened, which leaves the task the one that acts, and a load found this value: the task goes on, and this tells the act that stands
+    /// next, as `next` does. Where memory is wanting the task stays.
+    #[tactic(auto, using(crate::proofs::BehindLemmas::behind_created, crate::proofs::BehindLemmas::draft_behind))]
+    pub(crate) fn follow(
         &mut self,
+        alloc: Global,
         code: &Code,
-        ranges: &List<Range>,
-    ) -> Result<(), AllocError>
-        ensures { OnOk result ((f : Meant CodeScript) → self.old ≡ kept code.now f → self.new ≡ kept code.now (frame_after (WaitedOn (declared_on waited_for ranges.now)) 0 f)) }
+        own: &Context,
+        included: bool,
+        act: &Act,
+        loaded: u64,
+        key: &mut Option<Point>,
+    ) -> Result<Act, AllocError>
+        requires passed { passed act.now self.old.place.context ≡ true }
+        requires key { IsKey key.old self.old.place }
+        ensures frame { OnOk result ((f : Meant CodeScript) → self.old ≡ kept code.now f → HasContext f.context act.now → self.new ≡ kept code.now (settled_frame (asks code.now) (frame_after (act_seen act.now) (answer_to (act_seen act.now) loaded) f))) }
+        ensures act { IfOk result (λ next. (f : Meant CodeScript) → self.old ≡ kept code.now f → HasContext f.context act.now → act_seen next ≡ frame_act (asks code.now) (right_of own.now) included (settled_frame (asks code.now) (frame_after (act_seen act.now) (answer_to (act_seen act.now) loaded) f)) (settled_frame (asks code.now) (frame_after (act_seen act.now) (answer_to (act_seen act.now) loaded) f)).awaits) }
+        ensures passed { IfOk result (λ next. passed next self.new.place.context ≡ true) }
+        ensures child { IfOk result (λ next. HasContext self.new.place.context next) }
+        ensures key { OnOk result (IsKey key.new self.new.place) }
+        ensures err { OnErr result (self.new ≡ self.old) }
     {
-        self.place.wait_on(ranges)?;
-        self.machine.answer(code, 0)
+        let created = self.place.created_behind(act);
+        if created != self.place.context().created_count() {
+            *key = None;
+        }
+        fill(key, &self.place, created)?;
+        let ahead = Ahead {
+            created,
+            awaits: awaits_behind(act, self.awaits),
+        };
+        match reach_behind(
+            alloc,
+            code,
+            &mut self.machine,
+            &mut self.place,
+            own,
+            included,
+            act,
+            loaded,
+            ahead,
+        ) {
+            Ok(draft) => {
+                self.machine.go();
+                self.awaits = ahead.awaits;
+                Ok(self.place.judged(draft, self.machine.line(), key))
+            }
+            Err(full) => {
+                self.machine.stay();
+                Err(full)
+            }
+        }
     }
 
-    /// After a release.
-    pub(crate) fn release(&mut self, code: &Code, clauses: &List<Access>) -> Result<(), AllocError>
-        ensures { OnOk result ((f : Meant CodeScript) → self.old ≡ kept code.now f → self.new ≡ kept code.now (answered_frame 0 (with_context (release clauses.now f.context) f))) }
+    /// The creation of a task has happened that is included: the task goes on to what it asks behind it. Where memory is wanting it stays.
+    pub(crate) fn include(&mut self, code: &Code, creation: &Creation) -> Result<(), AllocError>
+        requires { create_fault self.old.place.context ≡ None }
+        ensures ok { OnOk result ((f : Meant CodeScript) → self.old ≡ kept code.now f → creation.now.context ≡ child_context f.context creation.now.order.accesses creation.now.order.last → self.new ≡ kept code.now (including_frame (meant_order creation.now.order) f)) }
+        ensures err { OnErr result (self.new ≡ self.old) }
     {
-        self.place.release(clauses)?;
-        self.machine.answer(code, 0)
+        match look_at_included(&mut self.machine, &mut self.place, code, creation) {
+            Ok(()) => {
+                self.machine.go();
+                Ok(())
+            }
+            Err(full) => {
+                self.machine.stay();
+                Err(full)
+            }
+        }
     }
 
     /// The task that a creation makes, at its start.
@@ -225,4 +195,21 @@ impl Frame {
         let context = creation.context.copy()?;
         Frame::new(alloc, code, &creation.order, Place::new(context, path))
     }
+}
+
+/// Looks at how the machine goes on behind the creation of an included task, which then happens at the place. It lends nothing.
+fn look_at_included(
+    machine: &mut Machine,
+    place: &mut Place,
+    code: &Code,
+    creation: &Creation,
+) -> Result<(), AllocError>
+    requires { create_fault place.old.context ≡ None }
+    ensures stays { machine.new.stands ≡ machine.old.stands }
+    ensures ahead { OnOk result (machine.new.ahead ≡ machine_after code.now 0 machine.old.ahead) }
+    ensures ok { OnOk result (place.new ≡ record place.old { context = made (right_of creation.now.context) (one_more_created place.old.context) }) }
+    ensures err { OnErr result (place.new ≡ place.old) }
+{
+    machine.look(code, 0)?;
+    place.give(&creation.context, false)
 }

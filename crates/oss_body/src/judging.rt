@@ -1,214 +1,126 @@
-//! What the judge makes of what a task asks for.
-ghost use Rattle.std.specs.Prelude.{◌≡◌, ◌||◌, ℕ, Bool, true, false, IfErr, IfOk, OnOk, None};
+//! What the judge makes of the draft of an act. It takes no memory.
+ghost use Rattle.std.specs.Prelude.{◌≡◌, ◌||◌, ℕ, Bool, true, false, None, Some};
 ghost use Rattle.std.specs.Result.{result_err};
-ghost use Rattle.oss_judge.specs.Refusal.{IsRefusal};
-ghost use Rattle.oss_meaning.specs.Clauses.{waited_for};
-ghost use Rattle.oss_meaning.specs.Sections.{declared_on};
-ghost use Rattle.oss_machine.specs.Asks.{meant_ask, meant_order};
+ghost use Rattle.oss_judge.specs.Given.{IsGiven};
 ghost use Rattle.oss_machine.specs.Frames.{CodeScript};
-ghost use Rattle.oss_model.specs.Bodies.{Frame as Meant, Begin, Create, Fold, Print, WaitOn, Release, Fault, act_of_ask, judged_act, key_of};
-ghost use Rattle.oss_model.specs.Context.{child_context, create_fault, creation_fault, right_of};
-ghost use Rattle.oss_model.specs.Rights.{NoRight};
-ghost use Rattle.oss_syntax.specs.declared.fault.FaultKind.TheVariants as fault;
+ghost use Rattle.oss_model.specs.Bodies.{Fault, Frame as Meant, judged_act, key_of};
+ghost use Rattle.oss_model.specs.Context.{creation_fault};
 ghost use Rattle.oss_body.specs.Acts.{HasContext, act_seen, passed};
-ghost use Rattle.oss_body.specs.Places.{place_of};
+ghost use Rattle.oss_body.specs.Drafts.{IsDraft, draft_fault, drafted, plain_fault};
+ghost use Rattle.oss_body.specs.Places.{IsKey, key_at, place_of};
 
-use crate::act::{Act, Creation};
-use crate::copies::{copy_items, copy_order};
+use crate::act::Act;
+use crate::draft::Draft;
 use crate::place::Place;
 use oss_code::TaskOrder;
-use oss_judge::{Context, JudgeRefused};
-use oss_machine::Ask;
-use oss_model::FaultKind;
-use oss_syntax::{Access, Boxed, Bytes, List, Op, Range};
-use std::alloc::{AllocError, Global};
+use oss_judge::Given;
+use oss_model::{FaultKind, Point};
+use std::mem;
 
 impl Place {
-    /// A fault of the task.
-    fn fault(&self, kind: FaultKind, line: u32) -> Result<Act, AllocError>
-        ensures act { IfOk result (λ act. (f : Meant CodeScript) → self.now ≡ place_of f → act_seen act ≡ Fault kind line (key_of f)) }
-        ensures passed { IfOk result (λ act. passed act self.now.context ≡ true) }
-        ensures child { IfOk result (λ act. HasContext self.now.context act) }
+    /// The act that a draft is, or the fault that the judge finds in its place. A fault takes the key, which is that at which the task acts.
+    pub(crate) fn judged(&self, draft: Draft, line: u32, key: &mut Option<Point>) -> Act
+        requires right { IsDraft self.now.context draft }
+        requires key { key.old ≡ Some (key_at self.now) }
+        ensures act { (f : Meant CodeScript) → self.now ≡ place_of f → act_seen result ≡ judged_act f line (draft_fault f.context draft) (drafted draft) }
+        ensures passed { passed result self.now.context ≡ true }
+        ensures child { HasContext self.now.context result }
+        ensures key { IsKey key.new self.now }
     {
-        let key = self.key()?;
-        Ok(Act::Fault { kind, line, key })
+        match draft {
+            Draft::Plain(act) => {
+                let found = self.plain_fault(&act);
+                self.unless_fault(found, act, line, key)
+            },
+            Draft::Creation {
+                given,
+                creation,
+                included,
+            } => {
+                let found = self.creation_fault(&given, &creation.get().order);
+                self.unless_fault(found, Act::Create { creation, included }, line, key)
+            }
+            Draft::Release {
+                given,
+                clauses,
+                included,
+            } => {
+                let found = self.context.may_release_these(&given, &clauses);
+                self.unless_fault(found, Act::Release { clauses, included }, line, key)
+            }
+            Draft::Begun => match self.context.may_create() {
+                Ok(()) => self.fault(FaultKind::TooManyTasks, line, key),
+                Err(kind) => self.fault(kind, line, key),
+            },
+            Draft::Faulty(kind) => self.fault(kind, line, key),
+        }
     }
 
-    /// The act, or the fault that the judge finds in its place.
+    /// The act, or the fault that the judge has found in its place.
     fn unless_fault(
         &self,
         found: Result<(), FaultKind>,
         act: Act,
         line: u32,
-    ) -> Result<Act, AllocError>
+        key: &mut Option<Point>,
+    ) -> Act
         requires passed { result_err found ≡ None → passed act self.now.context ≡ true }
         requires child { HasContext self.now.context act }
-        ensures act { IfOk result (λ judged. (f : Meant CodeScript) → self.now ≡ place_of f → act_seen judged ≡ judged_act f line (result_err found) (act_seen act)) }
-        ensures passed { IfOk result (λ judged. passed judged self.now.context ≡ true) }
-        ensures child { IfOk result (λ judged. HasContext self.now.context judged) }
+        requires key { key.old ≡ Some (key_at self.now) }
+        ensures act { (f : Meant CodeScript) → self.now ≡ place_of f → act_seen result ≡ judged_act f line (result_err found) (act_seen act) }
+        ensures passed { passed result self.now.context ≡ true }
+        ensures child { HasContext self.now.context result }
+        ensures key { IsKey key.new self.now }
     {
         match found {
-            Ok(()) => Ok(act),
-            Err(kind) => self.fault(kind, line),
+            Ok(()) => act,
+            Err(kind) => self.fault(kind, line, key),
         }
     }
 
-    /// The act that an ask of the task is, which no other ask passes. `own` has the rights with which the body's own task started, and `included`
-    /// says that another task acts.
-    pub(crate) fn judged(
-        &self,
-        alloc: Global,
-        own: &Context,
-        included: bool,
-        ask: &Ask,
-        line: u32,
-    ) -> Result<Act, AllocError>
-        ensures act { IfOk result (λ act. (f : Meant CodeScript) → self.now ≡ place_of f → act_seen act ≡ act_of_ask (right_of own.now) included f (meant_ask ask.now) line) }
-        ensures passed { IfOk result (λ act. passed act self.now.context ≡ true) }
-        ensures child { IfOk result (λ act. HasContext self.now.context act) }
+    /// A fault of the task. It takes the key.
+    #[tactic(auto, using(crate::proofs::DraftLemmas::key_seen))]
+    fn fault(&self, kind: FaultKind, line: u32, key: &mut Option<Point>) -> Act
+        requires key { key.old ≡ Some (key_at self.now) }
+        ensures act { (f : Meant CodeScript) → self.now ≡ place_of f → act_seen result ≡ Fault kind line (key_of f) }
+        ensures passed { passed result self.now.context ≡ true }
+        ensures child { HasContext self.now.context result }
+        ensures key { key.new ≡ None }
     {
-        match ask {
-            Ask::Begin => self.begins(line),
-            Ask::Tick => self.unless_fault(self.context.may_tick(), Act::Tick, line),
-            Ask::Read(cell) => {
-                self.unless_fault(self.context.may_read(*cell), Act::Load(*cell), line)
-            }
-            Ask::Write(cell, value) => self.unless_fault(
-                self.context.may_write(*cell),
-                Act::Store(*cell, *value),
-                line,
-            ),
-            Ask::Fold(cell, op, value) => self.folds(own, *cell, *op, *value, line),
-            Ask::Create(order) => self.creates(alloc, order.get(), line),
-            Ask::Await => self.fault(FaultKind::TooManyTasks, line),
-            Ask::Wait => Ok(Act::Wait),
-            Ask::WaitOn(ranges) => self.waits_on(alloc, ranges, line),
-            Ask::Release(clauses) => self.releases(alloc, clauses, included, line),
-            Ask::Print(text) => self.prints(alloc, text),
-            Ask::End => Ok(Act::End),
-            Ask::Fault(kind) => self.fault(*kind, line),
+        match mem::replace(key, None) {
+            Some(key) => Act::Fault { kind, line, key },
+            None => unreachable!(),
         }
     }
 
-    /// The fault of a beginning that was not passed.
-    fn begins(&self, line: u32) -> Result<Act, AllocError>
-        ensures act { IfOk result (λ act. (f : Meant CodeScript) → self.now ≡ place_of f → act_seen act ≡ act_of_ask (λ c. NoRight) false f Begin line) }
-        ensures passed { IfOk result (λ act. passed act self.now.context ≡ true) }
-        ensures child { IfOk result (λ act. HasContext self.now.context act) }
+    /// What the judge finds in the place of an act that is neither a creation nor a release.
+    fn plain_fault(&self, act: &Act) -> Result<(), FaultKind>
+        ensures { result_err result ≡ plain_fault self.now.context act.now }
+    {
+        match act {
+            Act::Tick => self.context.may_tick(),
+            Act::Load(cell) => self.context.may_read(*cell),
+            Act::Store(cell, _) => self.context.may_write(*cell),
+            Act::Fold { cell, op, .. } => self.context.may_fold(*cell, *op),
+            Act::WaitOn(ranges) => self.context.may_wait_on(ranges),
+            Act::Create { .. } => Ok(()),
+            Act::Await => Ok(()),
+            Act::Wait => Ok(()),
+            Act::Release { .. } => Ok(()),
+            Act::Print { .. } => Ok(()),
+            Act::End => Ok(()),
+            Act::Fault { .. } => Ok(()),
+        }
+    }
+
+    /// The fault of a creation whose clauses give these rights. The number of tasks is tested before its clauses.
+    fn creation_fault(&self, given: &Given, order: &TaskOrder) -> Result<(), FaultKind>
+        requires { IsGiven (self.now.context.final || order.now.last) order.now.accesses given.now }
+        ensures { result_err result ≡ creation_fault self.now.context order.now.accesses (self.now.context.final || order.now.last) }
     {
         match self.context.may_create() {
-            Ok(()) => self.fault(FaultKind::TooManyTasks, line),
-            Err(kind) => self.fault(kind, line),
-        }
-    }
-
-    /// A fold. It goes to the slot where the body's own task started with the right of a reduction.
-    fn folds(
-        &self,
-        own: &Context,
-        cell: u32,
-        op: Op,
-        value: u64,
-        line: u32,
-    ) -> Result<Act, AllocError>
-        ensures act { IfOk result (λ act. (f : Meant CodeScript) → self.now ≡ place_of f → act_seen act ≡ act_of_ask (right_of own.now) false f (Fold cell op value) line) }
-        ensures passed { IfOk result (λ act. passed act self.now.context ≡ true) }
-        ensures child { IfOk result (λ act. HasContext self.now.context act) }
-    {
-        let slot = own.fold_op(cell).is_some();
-        self.unless_fault(
-            self.context.may_fold(cell, op),
-            Act::Fold {
-                cell,
-                op,
-                value,
-                slot,
-            },
-            line,
-        )
-    }
-
-    /// A print, with its key.
-    fn prints(&self, alloc: Global, text: &Bytes) -> Result<Act, AllocError>
-        ensures act { IfOk result (λ act. (f : Meant CodeScript) → self.now ≡ place_of f → act_seen act ≡ act_of_ask (λ c. NoRight) false f (Print text.now) 0) }
-        ensures passed { IfOk result (λ act. passed act self.now.context ≡ true) }
-        ensures child { IfOk result (λ act. HasContext self.now.context act) }
-    {
-        let text = Bytes::from_slice(alloc, text.as_slice())?;
-        let key = self.key()?;
-        Ok(Act::Print { key, text })
-    }
-
-    /// A creation, with the context of the new task. The number of tasks is tested before its clauses.
-    fn creates(&self, alloc: Global, order: &TaskOrder, line: u32) -> Result<Act, AllocError>
-        ensures act { IfOk result (λ act. (f : Meant CodeScript) → self.now ≡ place_of f → act_seen act ≡ act_of_ask (λ c. NoRight) false f (Create (meant_order order.now)) line) }
-        ensures passed { IfOk result (λ act. passed act self.now.context ≡ true) }
-        ensures child { IfOk result (λ act. HasContext self.now.context act) }
-    {
-        match self.child(order) {
-            Ok(context) => {
-                let order = copy_order(alloc, order)?;
-                let creation = Boxed::new(alloc, Creation { order, context })?;
-                Ok(Act::Create {
-                    creation,
-                    included: self.context.is_final(),
-                })
-            }
-            Err(JudgeRefused::Fault(kind)) => self.fault(kind, line),
-            Err(JudgeRefused::Memory(full)) => Err(full),
-        }
-    }
-
-    /// The context in which a new task starts, or the fault of its creation.
-    fn child(&self, order: &TaskOrder) -> Result<Context, JudgeRefused>
-        ensures ok { IfOk result (λ child. child ≡ child_context self.now.context order.now.accesses order.now.last) }
-        ensures counts { OnOk result (create_fault self.now.context ≡ None) }
-        ensures allowed { OnOk result (creation_fault self.now.context order.now.accesses (self.now.context.final || order.now.last) ≡ None) }
-        ensures refused { IfErr result (IsRefusal (creation_fault self.now.context order.now.accesses (self.now.context.final || order.now.last))) }
-    {
-        match self.context.may_create() {
-            Ok(()) => match self.context.child(&order.accesses, order.last) {
-                Ok(child) => Ok(child),
-                Err(refused) => Err(refused),
-            },
-            Err(kind) => Err(JudgeRefused::Fault(kind)),
-        }
-    }
-
-    /// A wait for cells.
-    fn waits_on(&self, alloc: Global, ranges: &List<Range>, line: u32) -> Result<Act, AllocError>
-        ensures act { IfOk result (λ act. (f : Meant CodeScript) → self.now ≡ place_of f → act_seen act ≡ act_of_ask (λ c. NoRight) false f (WaitOn (declared_on waited_for ranges.now)) line) }
-        ensures passed { IfOk result (λ act. passed act self.now.context ≡ true) }
-        ensures child { IfOk result (λ act. HasContext self.now.context act) }
-    {
-        match self.context.may_wait_on(ranges) {
-            Ok(()) => {
-                let ranges = copy_items(alloc, ranges.as_slice())?;
-                Ok(Act::WaitOn(ranges))
-            }
-            Err(kind) => self.fault(kind, line),
-        }
-    }
-
-    /// A release.
-    fn releases(
-        &self,
-        alloc: Global,
-        clauses: &List<Access>,
-        included: bool,
-        line: u32,
-    ) -> Result<Act, AllocError>
-        ensures act { IfOk result (λ act. (f : Meant CodeScript) → self.now ≡ place_of f → act_seen act ≡ act_of_ask (λ c. NoRight) included f (Release clauses.now) line) }
-        ensures passed { IfOk result (λ act. passed act self.now.context ≡ true) }
-        ensures child { IfOk result (λ act. HasContext self.now.context act) }
-    {
-        match self.context.may_release(clauses) {
-            Ok(()) => {
-                let clauses = copy_items(alloc, clauses.as_slice())?;
-                Ok(Act::Release { clauses, included })
-            }
-            Err(JudgeRefused::Fault(kind)) => self.fault(kind, line),
-            Err(JudgeRefused::Memory(full)) => Err(full),
+            Ok(()) => self.context.may_give_these(given, &order.accesses),
+            Err(kind) => Err(kind),
         }
     }
 }

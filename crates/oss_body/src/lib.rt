@@ -2,10 +2,14 @@
 #![tactic(auto)]
 
 mod act;
+mod below;
 mod body;
 mod copies;
+mod draft;
+mod drafting;
 mod frame;
 mod judging;
+mod looking;
 mod mains;
 pub mod memory;
 mod own;

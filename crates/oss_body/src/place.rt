@@ -1,12 +1,13 @@
 //! A task as the judge knows it, and what its acts change there.
-ghost use Rattle.std.specs.Prelude.{◌≡◌, ◌+◌, ◌<◌, ◌≤◌, suc, length, map, None, Some, IfErr, IfOk, OnErr, OnOk};
+ghost use Rattle.std.specs.Prelude.{◌≡◌, ◌+◌, ◌<◌, ◌≤◌, ◌++◌, ◌∷◌, [], true, suc, length, map, None, IfOk, OnErr, OnOk};
 ghost use Rattle.oss_judge.specs.Parts.{reading};
-ghost use Rattle.oss_machine.specs.Frames.{CodeScript};
-ghost use Rattle.oss_model.specs.Bodies.{Frame as Meant, key_of, lent_when, one_more_created};
-ghost use Rattle.oss_model.specs.Context.{create_fault, made, release, right_of, tick_fault, waited, waited_on, wrote};
-ghost use Rattle.oss_model.specs.Order.{written};
-ghost use Rattle.oss_body.specs.Places.{place_of};
+ghost use Rattle.oss_model.specs.Bodies.{lent_when, one_more_created};
+ghost use Rattle.oss_model.specs.Context.{Context as Meaning, create_fault, made, release, right_of, tick_fault, waited, waited_on, wrote};
+ghost use Rattle.oss_body.specs.Acts.{is_none, passed};
+ghost use Rattle.oss_body.specs.Behind.{behind_creation, context_behind, created_by};
+ghost use Rattle.oss_body.specs.Places.{key_at};
 
+use crate::act::{Act, Creation};
 use oss_judge::Context;
 use oss_model::Point;
 use oss_syntax::{Access, List, Range};
@@ -56,12 +57,51 @@ impl Place {
         &self.path
     }
 
-    /// The key at which the task acts, which is also the point of the next task that it creates.
-    pub(crate) fn key(&self) -> Result<Point, AllocError>
-        ensures key { IfOk result (λ key. (f : Meant CodeScript) → self.now ≡ place_of f → key ≡ written (key_of f)) }
+    /// The key at which the task acts once it has created so many, which is also the point of the next task that it creates then.
+    pub(crate) fn key_behind(&self, created: u32) -> Result<Point, AllocError>
+        requires { created ≤ 65535 }
+        ensures key { IfOk result (λ key. key ≡ self.now.path ++ created ∷ []) }
         ensures numbers { IfOk result (λ key. length key ≡ suc (suc self.now.context.depth)) }
     {
-        self.path.child(self.context.created_count() as u16)
+        self.path.child(created as u16)
+    }
+
+    /// The key at which the task acts now.
+    pub(crate) fn key(&self) -> Result<Point, AllocError>
+        ensures key { IfOk result (λ key. key ≡ key_at self.now) }
+        ensures numbers { IfOk result (λ key. length key ≡ suc (suc self.now.context.depth)) }
+    {
+        self.key_behind(self.context.created_count())
+    }
+
+    /// How many tasks the task has created once this act has happened.
+    pub(crate) fn created_behind(&self, act: &Act) -> u32
+        requires { passed act.now self.now.context ≡ true }
+        ensures few { result ≤ 65535 }
+        ensures created { result ≡ created_by act.now self.now.context.created }
+    {
+        let created = self.context.created_count();
+        match act {
+            Act::Create { .. } => created + 1,
+            Act::Tick => created,
+            Act::Load(_) => created,
+            Act::Store(_, _) => created,
+            Act::Fold { .. } => created,
+            Act::Await => created,
+            Act::Wait => created,
+            Act::WaitOn(_) => created,
+            Act::Release { .. } => created,
+            Act::Print { .. } => created,
+            Act::End => created,
+            Act::Fault { .. } => created,
+        }
+    }
+
+    /// Whether the task may begin a creation once it has created so many.
+    pub(crate) fn may_begin(&self, created: u32) -> bool
+        ensures { (x : Meaning) → x.depth ≡ self.now.context.depth → x.created ≡ created → result ≡ is_none (create_fault x) }
+    {
+        self.context.depth() < 64 && created < 65_535
     }
 
     /// Notes one more tick, which is no fault. It takes no memory.
@@ -87,13 +127,14 @@ impl Place {
     /// has is lent to it.
     pub(crate) fn give(&mut self, child: &Context, lends: bool) -> Result<(), AllocError>
         requires { create_fault self.old.context ≡ None }
-        ensures { OnOk result (self.new ≡ record self.old { context = made (right_of child.now) (lent_when lends (right_of child.now) (one_more_created self.old.context)) }) }
+        ensures ok { OnOk result (self.new ≡ record self.old { context = made (right_of child.now) (lent_when lends (right_of child.now) (one_more_created self.old.context)) }) }
+        ensures err { OnErr result (self.new ≡ self.old) }
     {
-        self.context.created();
         if lends {
-            self.context.lend_to(child)?;
+            self.context.noted_and_lent(child)
+        } else {
+            self.context.noted(child)
         }
-        self.context.made_by(child)
     }
 
     /// Notes a release.
@@ -117,5 +158,42 @@ impl Place {
         ensures err { OnErr result (self.new ≡ self.old) }
     {
         self.context.took_back(named)
+    }
+
+    /// An act has happened that leaves the task the one that acts. Where memory is wanting the place stays.
+    pub(crate) fn apply(&mut self, act: &Act) -> Result<(), AllocError>
+        requires { passed act.now self.old.context ≡ true }
+        ensures ok { OnOk result (self.new ≡ record self.old { context = context_behind act.now self.old.context }) }
+        ensures err { OnErr result (self.new ≡ self.old) }
+    {
+        match act {
+            Act::Tick => {
+                self.tick();
+                Ok(())
+            }
+            Act::Load(_) => Ok(()),
+            Act::Store(cell, _) => self.wrote(*cell),
+            Act::Fold { cell, .. } => self.wrote(*cell),
+            Act::Create { creation, .. } => self.create(creation.get()),
+            Act::Await => Ok(()),
+            Act::Wait => {
+                self.wait();
+                Ok(())
+            }
+            Act::WaitOn(ranges) => self.wait_on(ranges),
+            Act::Release { clauses, .. } => self.release(clauses),
+            Act::Print { .. } => Ok(()),
+            Act::End => Ok(()),
+            Act::Fault { .. } => Ok(()),
+        }
+    }
+
+    /// The creation of a task has happened that is not included.
+    fn create(&mut self, creation: &Creation) -> Result<(), AllocError>
+        requires { create_fault self.old.context ≡ None }
+        ensures ok { OnOk result (self.new ≡ record self.old { context = behind_creation creation.now self.old.context }) }
+        ensures err { OnErr result (self.new ≡ self.old) }
+    {
+        self.give(&creation.context, creation.order.when)
     }
 }

@@ -1,104 +1,188 @@
 //! The tasks of a body.
-ghost use Rattle.std.specs.Prelude.{◌≡◌, ◌&&◌, ℕ, suc, nat_eq, true, false, None, OnOk};
-ghost use Rattle.oss_code.specs.declared.code.CodeParts.{CodeParts};
+ghost use Rattle.std.specs.Prelude.{◌≡◌, ◌<◌, true, false, suc, length, IfOk, OnErr, OnOk, None};
 ghost use Rattle.oss_machine.specs.Asks.{meant_order};
 ghost use Rattle.oss_machine.specs.Frames.{CodeScript};
-ghost use Rattle.oss_model.specs.Bodies.{Stack, Created, Ended, stack_after, top_frame};
-ghost use Rattle.oss_model.specs.Context.{child_context, create_fault};
+ghost use Rattle.oss_model.specs.Bodies.{Stack, Ended, stack_after, top_frame};
+ghost use Rattle.oss_model.specs.Context.{child_context, create_fault, right_of};
 ghost use Rattle.oss_body.specs.Acts.{HasContext, act_seen, answer_to, goes_on, passed};
+ghost use Rattle.oss_body.specs.Places.{IsKey};
 
 use crate::act::{Act, Creation};
+use crate::below::Below;
 use crate::frame::Frame;
 use crate::place::Place;
 use oss_code::Code;
-use oss_syntax::List;
+use oss_judge::Context;
+use oss_model::Point;
 use std::alloc::{AllocError, Global};
-use std::mem;
 
 /// The tasks of a body: the one that acts, and below it those that include it, the body's own first.
 #[derive(Drop)]
 pub(crate) struct Tasks {
     pub(crate) top: Frame,
-    pub(crate) below: List<Frame>,
+    pub(crate) below: Below,
     /// The body's own task has ended.
     pub(crate) ended: bool,
 }
 
 impl Tasks {
-    ghost use Rattle.oss_body.specs.Stacks.{including, kept_stack, own_place};
+    ghost use Rattle.oss_body.specs.Stacks.{IsFollowed, including, is_nil, kept_stack, own_place, stays_on};
 
-    /// The act has happened, and a load found this value.
-    pub(crate) fn apply(
+    /// The act has happened, and a load found this value: the tasks go on, and this tells the act that stands next, unless the body's own task has
+    /// ended. `own` has the rights with which that one started. A key that is kept is that of the task that acts. Where memory is wanting the
+    /// tasks stay.
+    pub(crate) fn follow(
         &mut self,
         alloc: Global,
         code: &Code,
+        own: &Context,
         act: &Act,
         loaded: u64,
-    ) -> Result<(), AllocError>
+        key: &mut Option<Point>,
+    ) -> Result<Act, AllocError>
         requires running { self.old.ended ≡ false }
         requires goes { goes_on act.now ≡ true }
         requires passed { passed act.now self.old.top.place.context ≡ true }
-        ensures { OnOk result ((s : Stack CodeScript) → self.old ≡ kept_stack code.now s → HasContext (top_frame s.base s.inner).context act.now → self.new ≡ kept_stack code.now (stack_after (act_seen act.now) (answer_to (act_seen act.now) loaded) s.base s.inner)) }
+        requires key { IsKey key.old self.old.top.place }
+        ensures followed { IfOk result (λ next. (s : Stack CodeScript) → self.old ≡ kept_stack code.now s → HasContext (top_frame s.base s.inner).context act.now → IsFollowed code.now (right_of own.now) (stack_after (act_seen act.now) (answer_to (act_seen act.now) loaded) s.base s.inner) self.new next) }
+        ensures passed { IfOk result (λ next. passed next self.new.top.place.context ≡ true) }
+        ensures child { IfOk result (λ next. HasContext self.new.top.place.context next) }
+        ensures key { OnOk result (IsKey key.new self.new.top.place) }
+        ensures err { OnErr result (self.new ≡ self.old) }
     {
         match act {
-            Act::Tick => self.top.tick(code)?,
-            Act::Load(_) => self.top.answer(code, loaded)?,
-            Act::Store(cell, _) => self.top.wrote(code, *cell)?,
-            Act::Fold { cell, .. } => self.top.wrote(code, *cell)?,
             Act::Create { creation, included } => {
-                self.create(alloc, code, creation.get(), *included)?
+                if *included || 0 < self.below.len() {
+                    self.include(alloc, code, own, creation.get(), key)
+                } else {
+                    self.go_on(alloc, code, own, act, loaded, key)
+                }
             }
-            Act::Await => self.top.end_await(),
-            Act::Wait => self.top.end_wait(code)?,
-            Act::WaitOn(ranges) => self.top.end_wait_on(code, ranges)?,
-            Act::Release { clauses, .. } => self.top.release(code, clauses)?,
-            Act::Print { .. } => self.top.answer(code, 0)?,
-            Act::End => self.end(),
+            Act::End => self.end(alloc, code, own, key),
+            Act::Tick => self.go_on(alloc, code, own, act, loaded, key),
+            Act::Load(_) => self.go_on(alloc, code, own, act, loaded, key),
+            Act::Store(_, _) => self.go_on(alloc, code, own, act, loaded, key),
+            Act::Fold { .. } => self.go_on(alloc, code, own, act, loaded, key),
+            Act::Await => self.go_on(alloc, code, own, act, loaded, key),
+            Act::Wait => self.go_on(alloc, code, own, act, loaded, key),
+            Act::WaitOn(_) => self.go_on(alloc, code, own, act, loaded, key),
+            Act::Release { .. } => self.go_on(alloc, code, own, act, loaded, key),
+            Act::Print { .. } => self.go_on(alloc, code, own, act, loaded, key),
             Act::Fault { .. } => unreachable!(),
         }
-        Ok(())
     }
 
-    /// A creation has happened. A task that is included acts next.
-    fn create(
+    /// An act has happened that leaves the task that acts the one that does.
+    #[tactic(auto, using(crate::proofs::FollowLemmas::followed_on))]
+    fn go_on(
         &mut self,
         alloc: Global,
         code: &Code,
+        own: &Context,
+        act: &Act,
+        loaded: u64,
+        key: &mut Option<Point>,
+    ) -> Result<Act, AllocError>
+        requires running { self.old.ended ≡ false }
+        requires stays { stays_on (act_seen act.now) (is_nil self.old.below) ≡ true }
+        requires passed { passed act.now self.old.top.place.context ≡ true }
+        requires key { IsKey key.old self.old.top.place }
+        ensures followed { IfOk result (λ next. (s : Stack CodeScript) → self.old ≡ kept_stack code.now s → HasContext (top_frame s.base s.inner).context act.now → IsFollowed code.now (right_of own.now) (stack_after (act_seen act.now) (answer_to (act_seen act.now) loaded) s.base s.inner) self.new next) }
+        ensures passed { IfOk result (λ next. passed next self.new.top.place.context ≡ true) }
+        ensures child { IfOk result (λ next. HasContext self.new.top.place.context next) }
+        ensures key { OnOk result (IsKey key.new self.new.top.place) }
+        ensures err { OnErr result (self.new ≡ self.old) }
+    {
+        let included = 0 < self.below.len();
+        self.top
+            .follow(alloc, code, own, included, act, loaded, key)
+    }
+
+    /// The creation of an included task has happened, which acts next.
+    fn include(
+        &mut self,
+        alloc: Global,
+        code: &Code,
+        own: &Context,
         creation: &Creation,
-        included: bool,
-    ) -> Result<(), AllocError>
+        key: &mut Option<Point>,
+    ) -> Result<Act, AllocError>
         requires running { self.old.ended ≡ false }
         requires passed { create_fault self.old.top.place.context ≡ None }
         requires depth { creation.now.context.depth ≡ suc self.old.top.place.context.depth }
-        ensures { OnOk result ((s : Stack CodeScript) → self.old ≡ kept_stack code.now s → creation.now.context ≡ child_context (top_frame s.base s.inner).context creation.now.order.accesses creation.now.order.last → self.new ≡ kept_stack code.now (stack_after (Created (meant_order creation.now.order) included) 0 s.base s.inner)) }
+        ensures followed { IfOk result (λ next. (s : Stack CodeScript) → self.old ≡ kept_stack code.now s → creation.now.context ≡ child_context (top_frame s.base s.inner).context creation.now.order.accesses creation.now.order.last → IsFollowed code.now (right_of own.now) (including (meant_order creation.now.order) s) self.new next) }
+        ensures passed { IfOk result (λ next. passed next self.new.top.place.context ≡ true) }
+        ensures child { IfOk result (λ next. HasContext self.new.top.place.context next) }
+        ensures key { OnOk result (IsKey key.new self.new.top.place) }
+        ensures err { OnErr result (self.new ≡ self.old) }
     {
-        if !included && self.below.is_empty() {
-            return self.top.create(code, creation);
+        let mut child = self.top.child(alloc, code, creation)?;
+        *key = None;
+        let act = child.next(alloc, code, own, true, key)?;
+        self.below.push(child)?;
+        match self.top.include(code, creation) {
+            Ok(()) => {
+                self.below.exchange(&mut self.top);
+                Ok(act)
+            }
+            Err(full) => {
+                let _child = self.below.pop();
+                Err(full)
+            }
         }
-        self.include(alloc, code, creation)
     }
 
-    /// The creation of an included task has happened.
-    fn include(&mut self, alloc: Global, code: &Code, creation: &Creation) -> Result<(), AllocError>
+    /// The end of the task that acts has happened. The one that has included it acts next, if there is one.
+    fn end(
+        &mut self,
+        alloc: Global,
+        code: &Code,
+        own: &Context,
+        key: &mut Option<Point>,
+    ) -> Result<Act, AllocError>
         requires running { self.old.ended ≡ false }
-        requires passed { create_fault self.old.top.place.context ≡ None }
-        requires depth { creation.now.context.depth ≡ suc self.old.top.place.context.depth }
-        ensures { OnOk result ((s : Stack CodeScript) → self.old ≡ kept_stack code.now s → creation.now.context ≡ child_context (top_frame s.base s.inner).context creation.now.order.accesses creation.now.order.last → self.new ≡ kept_stack code.now (including (meant_order creation.now.order) s)) }
+        requires key { IsKey key.old self.old.top.place }
+        ensures followed { IfOk result (λ next. (s : Stack CodeScript) → self.old ≡ kept_stack code.now s → IsFollowed code.now (right_of own.now) (stack_after Ended 0 s.base s.inner) self.new next) }
+        ensures passed { IfOk result (λ next. passed next self.new.top.place.context ≡ true) }
+        ensures child { IfOk result (λ next. HasContext self.new.top.place.context next) }
+        ensures key { OnOk result (IsKey key.new self.new.top.place) }
+        ensures err { OnErr result (self.new ≡ self.old) }
     {
-        let child = self.top.child(alloc, code, creation)?;
-        self.top.include(code, creation)?;
-        let top = mem::replace(&mut self.top, child);
-        self.below.push(top)
+        if self.below.len() == 0 {
+            self.ended = true;
+            return Ok(Act::End);
+        }
+        self.go_back(alloc, code, own, key)
     }
 
-    /// The end of the task that acts has happened.
-    fn end(&mut self)
-        requires { self.old.ended ≡ false }
-        ensures { (code : CodeParts) (s : Stack CodeScript) → self.old ≡ kept_stack code s → self.new ≡ kept_stack code (stack_after Ended 0 s.base s.inner) }
+    /// The end of an included task has happened.
+    fn go_back(
+        &mut self,
+        alloc: Global,
+        code: &Code,
+        own: &Context,
+        key: &mut Option<Point>,
+    ) -> Result<Act, AllocError>
+        requires running { self.old.ended ≡ false }
+        requires some { 0 < length self.old.below }
+        ensures followed { IfOk result (λ next. (s : Stack CodeScript) → self.old ≡ kept_stack code.now s → IsFollowed code.now (right_of own.now) (stack_after Ended 0 s.base s.inner) self.new next) }
+        ensures passed { IfOk result (λ next. passed next self.new.top.place.context ≡ true) }
+        ensures child { IfOk result (λ next. HasContext self.new.top.place.context next) }
+        ensures key { OnOk result (IsKey key.new self.new.top.place) }
+        ensures err { OnErr result (self.new ≡ self.old) }
     {
-        match self.below.pop() {
-            Some(top) => self.top = top,
-            None => self.ended = true,
+        let included = 1 < self.below.len();
+        self.below.exchange(&mut self.top);
+        *key = None;
+        match self.top.next(alloc, code, own, included, key) {
+            Ok(act) => {
+                let _ended = self.below.pop();
+                Ok(act)
+            }
+            Err(full) => {
+                self.below.exchange(&mut self.top);
+                Err(full)
+            }
         }
     }
 
@@ -106,9 +190,9 @@ impl Tasks {
     pub(crate) fn own_place(&self) -> &Place
         ensures { result.now ≡ own_place self.now }
     {
-        match self.below.get(0) {
-            Some(own) => &own.place,
-            None => &self.top.place,
+        match self.below.own() {
+            Some(own) => own.place(),
+            None => self.top.place(),
         }
     }
 }

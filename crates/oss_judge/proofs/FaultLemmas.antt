@@ -1,6 +1,5 @@
 -- The faults of clauses, by functions that tell the same rights.
-use Rattle.std.specs.Prelude.{OnOk}
-use Rattle.std.proofs.Common.{Result, Ok, Err, ◌≡◌, ℕ, refl, ap, ◌∙◌, Bool, false, if◌then◌else◌, List, Some, None}
+use Rattle.std.proofs.Common.{◌≡◌, ℕ, refl, ap, ◌∙◌, Bool, false, if◌then◌else◌, List, Some, None}
 use Rattle.oss_syntax.specs.declared.access.Access.{Access}
 use Rattle.oss_syntax.specs.declared.fault.FaultKind.TheVariants as fault
 use Rattle.oss_model.specs.Rights.{Right, any_cell, is_released, holds_uncovered, is_mixed, right_from}
@@ -40,8 +39,3 @@ release_is x clauses own given same like = cover_same own (right_of x) given (ri
 -- the fault of a wait for cells
 pub wait_is : (x : Context) (named : List Access) (own : ℕ → Right) → ((c : ℕ) → own c ≡ right_of x c) → wait_fault own named ≡ wait_on_fault x named
 wait_is x named own same = wait_same own (right_of x) named same
-
--- what holds, holds where a call is `Ok`
-pub on_ok : {T E P : Type 0} (r : Result T E) → P → OnOk r P
-on_ok (Ok x) p = p
-on_ok (Err e) p = tt

@@ -107,6 +107,15 @@ module _ (cells : ℕ) (rights : List (Piece Right)) (lent : List (Piece Lending
       entry_is (right_at rights c) (right_of before c) (lent_at lent c) (lent_of before c) (mark_at now c) (f c (mark_of before c))
       (sym (seen_right cells rights lent marks n r l m c)) (sym (seen_lent cells rights lent marks n r l m c)) (h c low ∙ ap (f c) (sym (seen_mark cells rights lent marks n r l m c))))
 
+-- a change of what is lent and of the marks together, as a creation makes it
+pub both_changed : (cells : ℕ) (rights : List (Piece Right)) (lent : List (Piece Lending)) (marks : List (Piece Mark)) (n : Counts) → EndsBefore cells rights → EndsBefore cells lent → EndsBefore cells marks
+    → (given : ℕ → model.Right) (lending : List (Piece Lending)) (marked : List (Piece Mark)) → EndsBefore cells lending
+    → ((c : ℕ) → c < cells → lent_at lending c ≡ lend_cell (given c) (lent_at lent c)) → ((c : ℕ) → c < cells → mark_at marked c ≡ made_mark (given c) (mark_at marks c))
+    → seen cells rights lending marked n ≡ made given (lend given (seen cells rights lent marks n))
+both_changed cells rights lent marks n r l m given lending marked past lends marks_it =
+    marks_changed cells rights lending marks n r past m marked (λ c mark. made_mark (given c) mark) marks_it
+    ∙ ap (made given) (lent_changed cells rights lent marks n r l m lending (λ c lent. lend_cell (given c) lent) lends)
+
 -- a creation lends and marks by the rights alone, however they are told
 pub lend_same : (f g : ℕ → model.Right) (x : Context) → ((c : ℕ) → f c ≡ g c) → lend f x ≡ lend g x
 lend_same f g x h = ap (λ es. record x { entries = es })

@@ -1,4 +1,5 @@
 pub mod Changed
+pub mod Given
 pub mod Joined
 pub mod Parts
 pub mod Refusal

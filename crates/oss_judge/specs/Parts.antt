@@ -37,10 +37,6 @@ cover_fault own given clauses =
     else if any_cell (λ c. holds_uncovered (own c) (given c)) clauses then Some fault.NotCovered
     else None
 
--- The fault of clauses that give these rights, where two of them cannot be joined or all can.
-abbrev pub given_fault : Bool → (ℕ → Right) → (ℕ → Right) → List Access → Option FaultKind
-given_fault mixed own given clauses = if mixed then Some fault.MixedAccess else cover_fault own given clauses
-
 -- The fault of a wait for the children's accesses to these cells.
 abbrev pub wait_fault : (ℕ → Right) → List Access → Option FaultKind
 wait_fault own named =

@@ -31,13 +31,40 @@ pub(crate) fn change_all<T: Copy + Eq>(
     ensures err { OnErr result (map.new.pieces ≡ map.old.pieces) }
 {
     map.reserve_all(changes.len())?;
+    change_reserved(map, changes);
+    Ok(())
+}
+
+/// Makes changes of two maps. After want of memory both are as they were.
+pub(crate) fn change_both<S: Copy + Eq, T: Copy + Eq>(
+    first: &mut RangeMap<S>,
+    second: &mut RangeMap<T>,
+    first_changes: &[Change<S>],
+    second_changes: &[Change<T>],
+) -> Result<(), AllocError>
+    ensures first { OnOk result ((cell : ℕ) → value_at first.new.pieces cell ≡ overlaid first_changes.now cell (value_at first.old.pieces cell)) }
+    ensures second { OnOk result ((cell : ℕ) → value_at second.new.pieces cell ≡ overlaid second_changes.now cell (value_at second.old.pieces cell)) }
+    ensures first_stays { OnErr result (first.new.pieces ≡ first.old.pieces) }
+    ensures second_stays { OnErr result (second.new.pieces ≡ second.old.pieces) }
+{
+    // The room for the first comes before the second is changed, so that nothing can fail any more once that is.
+    first.reserve_all(first_changes.len())?;
+    change_all(second, second_changes)?;
+    change_reserved(first, first_changes);
+    Ok(())
+}
+
+/// Makes the changes in their order, in room that was reserved for them.
+fn change_reserved<T: Copy + Eq>(map: &mut RangeMap<T>, changes: &[Change<T>])
+    requires { 3 * length changes.now ≤ map.old.spares }
+    ensures { (cell : ℕ) → value_at map.new.pieces cell ≡ overlaid changes.now cell (value_at map.old.pieces cell) }
+{
     for change in changes {
         match one_change(map, *change) {
             Ok(()) => {}
-            Err(full) => return Err(full),
+            Err(_) => unreachable!(),
         }
     }
-    Ok(())
 }
 
 /// Makes one change.

@@ -1,21 +1,24 @@
-ghost use Rattle.std.specs.Prelude.{◌≡◌, ℕ, ◌+◌, ◌<◌, ◌≤◌, ◌||◌, false, true, if◌then◌else◌, [], length, map, Some, None, IfErr, IfOk, OnErr, OnOk};
+ghost use Rattle.std.specs.Prelude.{◌≡◌, ℕ, Bool, ◌+◌, ◌<◌, ◌≤◌, ◌||◌, false, true, if◌then◌else◌, [], length, map, Some, None, IfErr, IfOk, OnErr, OnOk};
 ghost use Rattle.std.specs.Result.{result_err};
-ghost use Rattle.oss_model.specs.Rights.{Folds, Holds, Reads, Writes, is_released, mark_from, right_from, touch_fault};
+ghost use Rattle.oss_model.specs.Rights.{Folds, Holds, Reads, Writes, first_mark, is_fresh, is_released, mark_from, right_from, touch_fault};
 ghost use Rattle.oss_model.specs.Context.{child_context, clause_fault, create_fault, lend, lent_of, made, main_context, mark_of, release, release_fault, right_of, tick_fault, wait_on_fault, waited, waited_on, wrote};
+ghost use Rattle.oss_model.specs.Bodies.{one_more_created};
+ghost use Rattle.oss_judge.specs.Given.{IsGiven};
 ghost use Rattle.oss_judge.specs.Joined.{IsRising, held_mark, held_right};
-ghost use Rattle.oss_judge.specs.Parts.{fold_part, given_fault, reading};
+ghost use Rattle.oss_judge.specs.Parts.{cover_fault, fold_part, reading};
 ghost use Rattle.oss_judge.specs.Refusal.{IsRefusal};
 ghost use Rattle.oss_judge.specs.Seen.{lending_seen, mark_at, mark_seen, right_at, right_seen};
 ghost use Rattle.oss_judge.specs.View.{EndsBefore, start_context};
 ghost use Rattle.oss_syntax.specs.declared.access.Mode.TheVariants as Mode;
 
-use crate::changes::{change_all, endings, lendings, takings, writings};
+use crate::changes::{change_all, change_both, endings, lendings, takings, writings};
 use crate::checks::{check_covered, check_waited_on};
-use crate::given::{join_all, mark_all, rights_of};
+use crate::given::mark_all;
+use crate::given_rights::Given;
 use crate::joined::accesses_of;
 use crate::lending::{self, Lending};
 use crate::mark::{self, Mark};
-use crate::refused::JudgeRefused;
+use crate::refused::{JudgeRefused, refused_by};
 use crate::right::{self, Right};
 use crate::touches;
 use oss_model::FaultKind;
@@ -208,8 +211,28 @@ impl Context {
         ensures allowed { OnOk result (clause_fault self.now clauses.now (self.now.final || last) ≡ None) }
         ensures refused { IfErr result (IsRefusal (clause_fault self.now clauses.now (self.now.final || last))) }
     {
-        let mut rights = RangeMap::new(self.alloc);
-        self.give(&mut rights, clauses, last)
+        let given = Given::of(self.alloc, clauses, self.is_child_final(last))?;
+        refused_by(self.may_give_these(&given, clauses))
+    }
+
+    /// The fault of a creation with these clauses, after its beginning, where it is known what they give to the new task:
+    /// `MixedAccess` where two of them cannot be joined, else `Released` where the task has released one of the cells, and else
+    /// `NotCovered` where its right to one of them does not cover what the clauses give. It takes no memory.
+    pub fn may_give_these(&self, given: &Given, clauses: &List<Access>) -> Result<(), FaultKind>
+        ensures { (final : Bool) → IsGiven final clauses.now given.now → result_err result ≡ clause_fault self.now clauses.now final }
+    {
+        if given.is_mixed {
+            return Err(FaultKind::MixedAccess);
+        }
+        self.check_given(&given.rights, clauses)
+    }
+
+    /// The fault of the cells that clauses name, where they give these rights. That two of the clauses cannot be joined is not
+    /// asked.
+    fn check_given(&self, given: &RangeMap<Right>, clauses: &List<Access>) -> Result<(), FaultKind>
+        ensures { result_err result ≡ cover_fault (right_of self.now) (right_at given.now.pieces) clauses.now }
+    {
+        check_covered(&self.rights, given, clauses.as_slice())
     }
 
     /// The context of a new task with these clauses. It is final where its creator is, or where it is the last that is not
@@ -220,11 +243,49 @@ impl Context {
         ensures allowed { OnOk result (clause_fault self.now clauses.now (self.now.final || last) ≡ None) }
         ensures refused { IfErr result (IsRefusal (clause_fault self.now clauses.now (self.now.final || last))) }
     {
+        let given = Given::of(self.alloc, clauses, self.is_child_final(last))?;
+        self.child_given(&given, clauses, last)
+    }
+
+    /// The context of a new task with these clauses, if it has no fault, where it is known what they give.
+    fn child_given(
+        &self,
+        given: &Given,
+        clauses: &List<Access>,
+        last: bool,
+    ) -> Result<Context, JudgeRefused>
+        requires depth { self.now.depth < 64 }
+        requires given { IsGiven (self.now.final || last) clauses.now given.now }
+        ensures ok { IfOk result (λ child. child ≡ child_context self.now clauses.now last) }
+        ensures allowed { OnOk result (clause_fault self.now clauses.now (self.now.final || last) ≡ None) }
+        ensures refused { IfErr result (IsRefusal (clause_fault self.now clauses.now (self.now.final || last))) }
+    {
+        match self.may_give_these(given, clauses) {
+            Ok(()) => match self.start(given, clauses, last) {
+                Ok(child) => Ok(child),
+                Err(full) => Err(JudgeRefused::Memory(full)),
+            },
+            Err(kind) => Err(JudgeRefused::Fault(kind)),
+        }
+    }
+
+    /// The context in which a new task with these clauses starts, where it is known what they give to it, whether or not they
+    /// may be given. It is final where its creator is, or where it is the last that is not included. Where memory is wanting
+    /// nothing has happened.
+    pub fn start(
+        &self,
+        given: &Given,
+        clauses: &List<Access>,
+        last: bool,
+    ) -> Result<Context, AllocError>
+        requires { self.now.depth < 64 }
+        ensures { IfOk result (λ child. IsGiven (self.now.final || last) clauses.now given.now → child ≡ child_context self.now clauses.now last) }
+    {
         let mut rights = RangeMap::new(self.alloc);
         let mut marks = RangeMap::new(self.alloc);
-        match self.fill(&mut rights, &mut marks, clauses, last) {
+        match self.fill(&mut rights, &mut marks, &given.rights, clauses) {
             Ok(()) => Ok(self.started(rights, marks, self.is_child_final(last))),
-            Err(refused) => Err(refused),
+            Err(full) => Err(full),
         }
     }
 
@@ -235,60 +296,23 @@ impl Context {
         self.is_final || last
     }
 
-    /// Puts the rights that these clauses give to a new task into an empty map, and tells whether they may be given.
-    fn give(
-        &self,
-        rights: &mut RangeMap<Right>,
-        clauses: &List<Access>,
-        last: bool,
-    ) -> Result<(), JudgeRefused>
-        requires { rights.old.pieces ≡ [] }
-        ensures rights { OnOk result ((c : ℕ) → right_at rights.new.pieces c ≡ right_from (self.now.final || last) clauses.now c) }
-        ensures allowed { OnOk result (clause_fault self.now clauses.now (self.now.final || last) ≡ None) }
-        ensures refused { IfErr result (IsRefusal (clause_fault self.now clauses.now (self.now.final || last))) }
-    {
-        let is_mixed = join_all(rights, clauses.as_slice(), self.is_child_final(last))?;
-        self.check_given(rights, clauses, is_mixed)
-    }
-
-    /// The fault where clauses give these rights.
-    fn check_given(
-        &self,
-        given: &RangeMap<Right>,
-        clauses: &List<Access>,
-        is_mixed: bool,
-    ) -> Result<(), JudgeRefused>
-        ensures allowed { OnOk result (given_fault is_mixed (right_of self.now) (right_at given.now.pieces) clauses.now ≡ None) }
-        ensures refused { IfErr result (IsRefusal (given_fault is_mixed (right_of self.now) (right_at given.now.pieces) clauses.now)) }
-    {
-        if is_mixed {
-            return Err(JudgeRefused::Fault(FaultKind::MixedAccess));
-        }
-        match check_covered(&self.rights, given, clauses.as_slice()) {
-            Ok(()) => Ok(()),
-            Err(kind) => Err(JudgeRefused::Fault(kind)),
-        }
-    }
-
-    /// Puts the rights and the marks with which a new task starts into empty maps, and tells whether it may start.
+    /// Puts the rights and the marks with which a new task starts in the place of others. The given rights are those of its
+    /// clauses.
     fn fill(
         &self,
         rights: &mut RangeMap<Right>,
         marks: &mut RangeMap<Mark>,
+        given: &RangeMap<Right>,
         clauses: &List<Access>,
-        last: bool,
-    ) -> Result<(), JudgeRefused>
-        requires rights { rights.old.pieces ≡ [] }
-        requires marks { marks.old.pieces ≡ [] }
-        ensures rights { OnOk result ((c : ℕ) → c < length self.now.entries → right_at rights.new.pieces c ≡ right_from (self.now.final || last) clauses.now c) }
-        ensures marks { OnOk result ((c : ℕ) → c < length self.now.entries → mark_at marks.new.pieces c ≡ mark_from (self.now.final || last) clauses.now c) }
+    ) -> Result<(), AllocError>
+        requires { marks.old.pieces ≡ [] }
+        ensures rights { OnOk result ((c : ℕ) → c < length self.now.entries → right_at rights.new.pieces c ≡ right_at given.now.pieces c) }
+        ensures marks { OnOk result ((c : ℕ) → c < length self.now.entries → mark_at marks.new.pieces c ≡ first_mark (right_at given.now.pieces c) (is_fresh clauses.now c)) }
         ensures rights_end { OnOk result (EndsBefore (length self.now.entries) rights.new.pieces) }
         ensures marks_end { OnOk result (EndsBefore (length self.now.entries) marks.new.pieces) }
-        ensures allowed { OnOk result (clause_fault self.now clauses.now (self.now.final || last) ≡ None) }
-        ensures refused { IfErr result (IsRefusal (clause_fault self.now clauses.now (self.now.final || last))) }
     {
-        self.give(rights, clauses, last)?;
-        mark_all(marks, rights, clauses.as_slice())?;
+        copy_to(given, rights)?;
+        mark_all(marks, given, clauses.as_slice())?;
         rights.truncate(self.cells)?;
         marks.truncate(self.cells)?;
         Ok(())
@@ -323,13 +347,53 @@ impl Context {
         self.created += 1;
     }
 
+    /// Notes a creation of a task to which nothing is lent, as one that is included: one more is created, and what the child has a
+    /// right to write counts as written. Where memory is wanting the context stays.
+    pub fn noted(&mut self, child: &Context) -> Result<(), AllocError>
+        requires { self.old.created < 65535 }
+        ensures ok { OnOk result (self.new ≡ made (right_of child.now) (one_more_created self.old)) }
+        ensures err { OnErr result (self.new ≡ self.old) }
+    {
+        self.made_by(child)?;
+        self.created();
+        Ok(())
+    }
+
+    /// Notes a creation, and lends the child the cells to which it has a right: one more is created, and what the child has a right
+    /// to write counts as written. Where memory is wanting the context stays.
+    pub fn noted_and_lent(&mut self, child: &Context) -> Result<(), AllocError>
+        requires { self.old.created < 65535 }
+        ensures ok { OnOk result (self.new ≡ made (right_of child.now) (lend (right_of child.now) (one_more_created self.old))) }
+        ensures err { OnErr result (self.new ≡ self.old) }
+    {
+        self.lend_and_mark(&child.rights)?;
+        self.created();
+        Ok(())
+    }
+
+    /// Lends cells by these rights to them, and marks those as written that the rights give to write.
+    fn lend_and_mark(&mut self, given: &RangeMap<Right>) -> Result<(), AllocError>
+        ensures ok { OnOk result (self.new ≡ made (right_at given.now.pieces) (lend (right_at given.now.pieces) self.old)) }
+        ensures err { OnErr result (self.new ≡ self.old) }
+    {
+        let lent = lendings(self.alloc, &self.lent, given, self.cells)?;
+        let written = writings(self.alloc, &self.marks, given, self.cells)?;
+        change_both(
+            &mut self.lent,
+            &mut self.marks,
+            lent.as_slice(),
+            written.as_slice(),
+        )?;
+        Ok(())
+    }
+
     /// Lends the cells of a child's accesses to it. Where memory is wanting the context stays.
     pub fn lend(&mut self, accesses: &List<Access>) -> Result<(), AllocError>
         ensures ok { OnOk result (self.new ≡ lend (right_from false accesses.now) self.old) }
         ensures err { OnErr result (self.new ≡ self.old) }
     {
-        let given = rights_of(self.alloc, accesses.as_slice(), false)?;
-        self.lend_rights(&given)
+        let given = Given::of(self.alloc, accesses, false)?;
+        self.lend_rights(&given.rights)
     }
 
     /// Lends the cells of a child to it, with the right that it has to each. Where memory is wanting the context stays.
@@ -356,8 +420,8 @@ impl Context {
         ensures ok { OnOk result (self.new ≡ made (right_from false accesses.now) self.old) }
         ensures err { OnErr result (self.new ≡ self.old) }
     {
-        let given = rights_of(self.alloc, accesses.as_slice(), false)?;
-        self.mark_rights(&given)
+        let given = Given::of(self.alloc, accesses, false)?;
+        self.mark_rights(&given.rights)
     }
 
     /// Marks the cells as written that a child has a right to write. Where memory is wanting the context stays.
@@ -384,8 +448,17 @@ impl Context {
         ensures allowed { OnOk result (release_fault self.now clauses.now ≡ None) }
         ensures refused { IfErr result (IsRefusal (release_fault self.now clauses.now)) }
     {
-        let given = rights_of(self.alloc, clauses.as_slice(), false)?;
-        self.check_given(&given, clauses, false)
+        let given = Given::of(self.alloc, clauses, false)?;
+        refused_by(self.may_release_these(&given, clauses))
+    }
+
+    /// The fault of a release of the cells of these clauses, where it is known what they give to a task that is not final:
+    /// `Released` where the task has released one of the cells, and else `NotCovered` where its right to one of them does not
+    /// cover what the clauses give. It takes no memory.
+    pub fn may_release_these(&self, given: &Given, clauses: &List<Access>) -> Result<(), FaultKind>
+        ensures { IsGiven false clauses.now given.now → result_err result ≡ release_fault self.now clauses.now }
+    {
+        self.check_given(&given.rights, clauses)
     }
 
     /// Ends the right to the cells of these clauses, of which it was tested that they may be released. Where memory is wanting

@@ -9,27 +9,13 @@ use crate::mark::Mark;
 use crate::right::{Right, told};
 use oss_ranges::RangeMap;
 use oss_syntax::{Access, Mode, Range};
-use std::alloc::{AllocError, Global};
+use std::alloc::AllocError;
 
 /// A program has no cell from here on.
 const CELLS: u32 = 1_048_576;
 
-/// The rights that clauses give, by a map of their own. A weak access counts as strong where the task is final.
-pub(crate) fn rights_of(
-    alloc: Global,
-    clauses: &[Access],
-    is_final: bool,
-) -> Result<RangeMap<Right>, AllocError>
-    ensures { IfOk result (λ rights. (c : ℕ) → right_at rights.pieces c ≡ right_from is_final clauses.now c) }
-{
-    let mut rights = RangeMap::new(alloc);
-    match join_all(&mut rights, clauses, is_final) {
-        Ok(_) => Ok(rights),
-        Err(full) => Err(full),
-    }
-}
-
-/// Puts the rights that clauses give into an empty map, and says whether two of the clauses cannot be joined.
+/// Puts the rights that clauses give into an empty map, and says whether two of the clauses cannot be joined. A weak access counts
+/// as strong where the task is final.
 pub(crate) fn join_all(
     rights: &mut RangeMap<Right>,
     clauses: &[Access],

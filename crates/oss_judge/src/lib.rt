@@ -5,6 +5,7 @@ mod changes;
 mod checks;
 mod context;
 mod given;
+mod given_rights;
 mod joined;
 mod lending;
 mod mark;
@@ -16,4 +17,5 @@ mod tests;
 mod touches;
 
 pub use context::Context;
+pub use given_rights::Given;
 pub use refused::JudgeRefused;

@@ -1,4 +1,6 @@
-ghost use Rattle.std.specs.Prelude.{◌≡◌};
+ghost use Rattle.std.specs.Prelude.{◌≡◌, IfErr, None, OnOk};
+ghost use Rattle.std.specs.Result.{result_err};
+ghost use Rattle.oss_judge.specs.Refusal.{IsRefusal};
 ghost use Rattle.oss_judge.specs.declared.refused.JudgeRefused.TheVariants.{Fault, Memory};
 
 use oss_model::FaultKind;
@@ -29,5 +31,16 @@ impl From<FaultKind> for JudgeRefused {
 
     fn from(kind: FaultKind) -> JudgeRefused {
         JudgeRefused::Fault(kind)
+    }
+}
+
+/// An answer that takes no memory, as one of a call that does.
+pub(crate) fn refused_by(answer: Result<(), FaultKind>) -> Result<(), JudgeRefused>
+    ensures allowed { OnOk result (result_err answer ≡ None) }
+    ensures refused { IfErr result (IsRefusal (result_err answer)) }
+{
+    match answer {
+        Ok(()) => Ok(()),
+        Err(kind) => Err(JudgeRefused::Fault(kind)),
     }
 }

@@ -3,15 +3,17 @@
 
 ghost use Rattle.std.specs.Prelude.{◌<◌, ◌≤◌};
 
-use crate::{Context, JudgeRefused};
+use crate::{Context, Given, JudgeRefused};
 use oss_model::FaultKind;
 use oss_syntax::{Access, List, Mode, Op, Range};
 use std::alloc::Global;
 use std::process::Abort;
 
+mod beforehand;
 mod creations;
 mod limits;
 mod marks;
+mod notes;
 mod releases;
 mod touches;
 mod waits;

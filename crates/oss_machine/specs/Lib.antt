@@ -4,6 +4,7 @@ pub mod Frames
 pub mod Laws
 pub mod Machines
 pub mod Outcomes
+pub mod Reaches
 pub mod Runs
 pub mod Slides
 pub mod Steps

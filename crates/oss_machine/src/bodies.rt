@@ -25,3 +25,14 @@ pub(crate) struct Run {
     /// How many functions are open.
     pub open_count: usize,
 }
+
+/// What the run of a machine is for.
+#[derive(Clone, Copy, Debug)]
+pub(crate) enum Reach {
+    /// Nothing: the body stands as it stood, and has not looked ahead.
+    Unused,
+    /// The body has gone on to where the run lies, which has not taken the place of what stood.
+    Moved,
+    /// The body stands as it stood, and has looked ahead to where the run lies.
+    Ahead,
+}

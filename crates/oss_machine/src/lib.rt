@@ -18,6 +18,7 @@ mod machine;
 mod moving;
 mod outcome;
 mod print;
+mod reaching;
 mod resuming;
 mod running;
 mod sections;

@@ -1,5 +1,6 @@
-//! How what has moved since the last ask takes the place of what stood.
+//! How what has moved takes the place of what stood.
 ghost use Rattle.std.specs.Prelude.{◌≡◌, ◌∷◌, [], ◌++◌, ◌+◌, ◌<◌, ◌≤◌, OnErr, OnOk, length, slice_index_or, take, vec_capacity};
+ghost use Rattle.std.specs.List.{remove};
 ghost use Rattle.oss_machine.specs.Activations.{Base, base_in, before, frame_on, no_base};
 ghost use Rattle.oss_machine.specs.Runs.{IsCounted, IsRun, base_at, below_live, config_in, config_of, stacked};
 
@@ -48,10 +49,11 @@ fn gather(
     Ok(())
 }
 
-/// An activation takes the place of that which it continues. Where memory is wanting the latter stays.
+/// An activation takes the place of that which it continues. Where memory is wanting both stay.
 fn replace(base: &mut Activation, moved: &mut Activation) -> Result<(), AllocError>
     ensures ok { OnOk result (frame_on no_base base.new ≡ frame_on (base_in base.old.gathered) moved.old) }
     ensures err { OnErr result ((frame_on no_base base.new ≡ frame_on no_base base.old) × (base_in base.new.gathered ≡ base_in base.old.gathered)) }
+    ensures moved { OnErr result (moved.new ≡ moved.old) }
 {
     gather(
         &mut base.gathered,
@@ -76,8 +78,8 @@ fn replace(base: &mut Activation, moved: &mut Activation) -> Result<(), AllocErr
     Ok(())
 }
 
-/// An activation takes the place of a caller that stood. Where memory is wanting the callers stay.
-#[tactic(auto, using(crate::proofs::CommitLemmas::stacked_set, crate::proofs::CommitLemmas::stacked_same))]
+/// An activation takes the place of a caller that stood. Where memory is wanting the callers stay, and the activation.
+#[tactic(auto, using(crate::proofs::CommitLemmas::stacked_set, crate::proofs::CommitLemmas::stacked_same, crate::proofs::CommitLemmas::stacked_below, crate::proofs::CommitLemmas::set_base))]
 fn replace_caller(
     callers: &mut Vec<Activation>,
     at: usize,
@@ -86,6 +88,9 @@ fn replace_caller(
     requires { at < length callers.old.items }
     ensures ok { OnOk result ((d : Activation) → stacked no_base (take (at + 1) callers.new.items) [] ≡ frame_on (base_in (slice_index_or callers.old.items at d).gathered) moved.old ∷ stacked no_base (take at callers.old.items) []) }
     ensures err { OnErr result (stacked no_base callers.new.items [] ≡ stacked no_base callers.old.items []) }
+    ensures below { OnErr result (stacked no_base (take at callers.new.items) [] ≡ stacked no_base (take at callers.old.items) []) }
+    ensures base { OnErr result ((d : Activation) → base_in (slice_index_or callers.new.items at d).gathered ≡ base_in (slice_index_or callers.old.items at d).gathered) }
+    ensures moved { OnErr result (moved.new ≡ moved.old) }
     ensures len { length callers.new.items ≡ length callers.old.items }
     ensures capacity { vec_capacity callers.new ≡ vec_capacity callers.old }
 {
@@ -94,13 +99,17 @@ fn replace_caller(
 }
 
 /// The lowest function that has moved takes the place of that which it continues, and those above are gone. Where memory is wanting the body
-/// stays.
+/// stays, and what has moved.
 #[tactic(auto, using(crate::proofs::CommitLemmas::popped_frame, crate::proofs::CommitLemmas::popped_rest))]
 fn settle_lowest(still: &mut Still, live: usize, moved: &mut Activation) -> Result<(), AllocError>
     requires { live ≤ length still.old.callers.items }
     ensures frame { OnOk result ((config_of still.new).frame ≡ frame_on (base_at still.old live) moved.old) }
     ensures callers { OnOk result ((config_of still.new).callers ≡ below_live still.old live) }
     ensures err { OnErr result (config_of still.new ≡ config_of still.old) }
+    ensures below { OnErr result (below_live still.new live ≡ below_live still.old live) }
+    ensures base { OnErr result (base_at still.new live ≡ base_at still.old live) }
+    ensures moved { OnErr result (moved.new ≡ moved.old) }
+    ensures stays { OnErr result (length still.new.callers.items ≡ length still.old.callers.items) }
     ensures len { OnOk result (length still.new.callers.items ≡ live) }
     ensures capacity { vec_capacity still.new.callers ≡ vec_capacity still.old.callers }
 {
@@ -129,11 +138,13 @@ fn raise(alloc: Global, still: &mut Still, run: &mut Run)
     let _raised = still.callers.append(&mut run.waiting);
 }
 
-/// What has moved takes the place of what stood. Where memory is wanting the body stays.
+/// What has moved takes the place of what stood. Where memory is wanting the body stays, and what has moved.
 pub(crate) fn commit(alloc: Global, still: &mut Still, run: &mut Run) -> Result<(), AllocError>
     requires { IsRun still.old run.old }
     ensures ok { OnOk result (config_of still.new ≡ config_in still.old run.old) }
     ensures err { OnErr result (config_of still.new ≡ config_of still.old) }
+    ensures moved { OnErr result (config_in still.new run.new ≡ config_in still.old run.old) }
+    ensures run { OnErr result (IsRun still.new run.new) }
 {
     if run.waiting.is_empty() {
         return commit_alone(still, run);
@@ -142,29 +153,58 @@ pub(crate) fn commit(alloc: Global, still: &mut Still, run: &mut Run) -> Result<
 }
 
 /// The same where no function that has moved waits.
-#[tactic(auto, using(crate::proofs::CommitLemmas::config_is))]
+#[tactic(auto, using(crate::proofs::CommitLemmas::config_is, crate::proofs::CommitLemmas::kept_config, crate::proofs::CommitLemmas::kept_run))]
 fn commit_alone(still: &mut Still, run: &mut Run) -> Result<(), AllocError>
     requires run { IsRun still.old run.old }
     requires alone { run.old.waiting.items ≡ [] }
     ensures ok { OnOk result (config_of still.new ≡ config_in still.old run.old) }
     ensures err { OnErr result (config_of still.new ≡ config_of still.old) }
+    ensures moved { OnErr result (config_in still.new run.new ≡ config_in still.old run.old) }
+    ensures run { OnErr result (IsRun still.new run.new) }
 {
     settle_lowest(still, run.live, &mut run.work)?;
     Ok(())
 }
 
+/// The lowest of the functions that wait takes the place of that which it continues, and those above that are gone. Where memory is wanting
+/// the body stays, and what has moved.
+fn settle_first(
+    still: &mut Still,
+    live: usize,
+    waiting: &mut Vec<Activation>,
+) -> Result<(), AllocError>
+    requires live { live ≤ length still.old.callers.items }
+    requires some { 0 < length waiting.old.items }
+    ensures frame { OnOk result ((d : Activation) → (config_of still.new).frame ≡ frame_on (base_at still.old live) (slice_index_or waiting.old.items 0 d)) }
+    ensures callers { OnOk result ((config_of still.new).callers ≡ below_live still.old live) }
+    ensures rest { OnOk result (waiting.new.items ≡ remove waiting.old.items 0) }
+    ensures err { OnErr result (config_of still.new ≡ config_of still.old) }
+    ensures below { OnErr result (below_live still.new live ≡ below_live still.old live) }
+    ensures base { OnErr result (base_at still.new live ≡ base_at still.old live) }
+    ensures moved { OnErr result (waiting.new.items ≡ waiting.old.items) }
+    ensures stays { OnErr result (length still.new.callers.items ≡ length still.old.callers.items) }
+    ensures len { OnOk result (length still.new.callers.items ≡ live) }
+    ensures capacity { vec_capacity still.new.callers ≡ vec_capacity still.old.callers }
+{
+    let lowest = &mut waiting[0];
+    settle_lowest(still, live, lowest)?;
+    let _settled = waiting.remove(0);
+    Ok(())
+}
+
 /// The same where one does.
-#[tactic(auto, using(crate::proofs::CommitLemmas::config_is, crate::proofs::CommitLemmas::removed_first))]
+#[tactic(auto, using(crate::proofs::CommitLemmas::config_is, crate::proofs::CommitLemmas::removed_first, crate::proofs::CommitLemmas::kept_config, crate::proofs::CommitLemmas::kept_run))]
 fn commit_waiting(alloc: Global, still: &mut Still, run: &mut Run) -> Result<(), AllocError>
     requires run { IsRun still.old run.old }
     requires some { 0 < length run.old.waiting.items }
     ensures ok { OnOk result (config_of still.new ≡ config_in still.old run.old) }
     ensures err { OnErr result (config_of still.new ≡ config_of still.old) }
+    ensures moved { OnErr result (config_in still.new run.new ≡ config_in still.old run.old) }
+    ensures run { OnErr result (IsRun still.new run.new) }
 {
     let count = run.waiting.len();
     still.callers.reserve(count)?;
-    let mut lowest = run.waiting.remove(0);
-    settle_lowest(still, run.live, &mut lowest)?;
+    settle_first(still, run.live, &mut run.waiting)?;
     raise(alloc, still, run);
     Ok(())
 }

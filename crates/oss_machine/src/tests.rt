@@ -171,8 +171,47 @@ fn assert_body_asks(
                 left = rest;
             }
         }
+        answer(rt, &mut machine, code, found);
+    }
+}
+
+/// Answers, and once more where memory was wanting: then the machine stood.
+fn answer(rt: &(impl Abort + AllocGlobal), machine: &mut Machine, code: &Code, found: u64) {
+    if machine.answer(code, found).is_err() {
         machine.answer(code, found).expect(rt, "memory");
     }
+}
+
+/// Looks so many asks ahead of where the machine stands, if no memory is wanting; otherwise it forgets what it looked at.
+fn looks(machine: &mut Machine, code: &Code, asks: usize) -> bool {
+    machine.stay();
+    for _ in 0..asks {
+        if machine.look(code, 0).is_err() {
+            return false;
+        }
+    }
+    true
+}
+
+/// The same, and once more where memory was wanting: then the machine stood, and had not looked ahead.
+fn look(rt: &(impl Abort + AllocGlobal), machine: &mut Machine, code: &Code, asks: usize) {
+    if !looks(machine, code, asks) {
+        assert_eq!(rt; machine.line(), machine.line_ahead());
+        assert!(rt; looks(machine, code, asks));
+    }
+}
+
+/// The machine stands at this ask, and has looked ahead to this one.
+fn assert_poised(
+    rt: &(impl Abort + AllocGlobal),
+    machine: &Machine,
+    here: &(Seen, u32),
+    ahead: &(Seen, u32),
+) {
+    assert!(rt; is(machine.ask(), &here.0));
+    assert_eq!(rt; machine.line(), here.1);
+    assert!(rt; is(machine.ask_ahead(), &ahead.0));
+    assert_eq!(rt; machine.line_ahead(), ahead.1);
 }
 
 /// `x = a[i] + 1;` with an `int` x.
@@ -572,4 +611,127 @@ fn waits_and_a_release(rt: HostRuntime) {
         (Seen::End, 8),
     ];
     assert_asks(&rt, &code, &[], &wanted);
+}
+
+/// `printf("%ld\n", f(5));` with a function `f` that gives `g(g(x))`, and a `g` that gives `x + 1` behind a tick: so from one ask to the next
+/// functions come to stand upon others, and values are given to callers that stood.
+fn calls_that_stand(rt: &(impl Abort + AllocGlobal)) -> Code {
+    let pieces = vec![in rt.alloc(); Piece::Signed, Piece::Plain(10)].expect(rt, "memory");
+    let instrs = [
+        Instr::Push(5),
+        Instr::Call {
+            function: 0,
+            arguments: 1,
+        },
+        Instr::Print {
+            pieces: List::from_vec(pieces),
+            arguments: 1,
+        },
+        Instr::Nothing,
+        Instr::Return,
+        Instr::Local(0),
+        Instr::Call {
+            function: 1,
+            arguments: 1,
+        },
+        Instr::Call {
+            function: 1,
+            arguments: 1,
+        },
+        Instr::Return,
+        Instr::Tick,
+        Instr::Local(0),
+        Instr::Push(1),
+        Instr::Apply(SUM),
+        Instr::Return,
+    ];
+    code(
+        rt,
+        instrs,
+        &[0, 1, 1, 0, 1, 0, 1, 1, 1, 0, 0, 1, 2, 1],
+        &[5, 9],
+    )
+}
+
+/// What it asks.
+const ASKS_OF_CALLS: [(Seen, u32); 9] = [
+    (Seen::Tick, 2),
+    (Seen::Tick, 7),
+    (Seen::Tick, 10),
+    (Seen::Tick, 8),
+    (Seen::Tick, 10),
+    (Seen::Print(b"7\n"), 3),
+    (Seen::End, 5),
+    (Seen::End, 5),
+    (Seen::End, 5),
+];
+
+/// A machine of `main`.
+fn machine_of_main(rt: &(impl Abort + AllocGlobal), code: &Code) -> Machine {
+    let order = TaskOrder {
+        entry: 0,
+        copies: List::new(rt.alloc()),
+        accesses: List::new(rt.alloc()),
+        when: true,
+        last: false,
+        wait: false,
+        priority: 0,
+    };
+    Machine::new(rt.alloc(), code, &order).expect(rt, "memory")
+}
+
+/// Functions that wait, alone.
+#[test]
+fn answers_among_calls(rt: HostRuntime) {
+    let code = calls_that_stand(&rt);
+    assert_asks(&rt, &code, &[], &ASKS_OF_CALLS);
+}
+
+/// One that looks twice and stays asks behind its answer what it asks without a look; so does one that answers without staying first.
+#[test]
+fn looks_that_are_forgotten(rt: HostRuntime) {
+    let code = calls_that_stand(&rt);
+    let mut machine = machine_of_main(&rt, &code);
+    let asks = ASKS_OF_CALLS;
+    for at in 0..7usize {
+        let (here, next, after) = (asks[at], asks[at + 1], asks[at + 2]);
+        assert_poised(&rt, &machine, &here, &here);
+        look(&rt, &mut machine, &code, 1);
+        assert_poised(&rt, &machine, &here, &next);
+        look(&rt, &mut machine, &code, 2);
+        assert_poised(&rt, &machine, &here, &after);
+        if at % 2 == 0 {
+            machine.stay();
+            assert_poised(&rt, &machine, &here, &here);
+        }
+        answer(&rt, &mut machine, &code, 0);
+    }
+}
+
+/// One that goes on to where it has looked stands there, as behind an answer; without a look it stays.
+#[test]
+fn looks_that_are_gone_on_to(rt: HostRuntime) {
+    let code = calls_that_stand(&rt);
+    let mut machine = machine_of_main(&rt, &code);
+    let asks = ASKS_OF_CALLS;
+    for at in 0..7usize {
+        let (here, next) = (asks[at], asks[at + 1]);
+        assert_poised(&rt, &machine, &here, &here);
+        if at % 3 == 0 {
+            machine.go();
+            assert_poised(&rt, &machine, &here, &here);
+        }
+        look(&rt, &mut machine, &code, 1);
+        assert_poised(&rt, &machine, &here, &next);
+        machine.go();
+    }
+    let mut farther = machine_of_main(&rt, &code);
+    for at in 1..6usize {
+        look(&rt, &mut farther, &code, at);
+        assert_poised(&rt, &farther, &asks[0], &asks[at]);
+    }
+    farther.go();
+    assert_poised(&rt, &farther, &asks[5], &asks[5]);
+    farther.stay();
+    assert_poised(&rt, &farther, &asks[5], &asks[5]);
 }

@@ -1,16 +1,27 @@
-use Rattle.std.proofs.Common.{ap, ◌∙◌, List}
+use Rattle.std.proofs.Common.{sym, ap, subst}
 use Rattle.oss_machine.specs.Asks.{meant_order}
-use Rattle.oss_model.specs.Bodies.{top_frame}
-use Rattle.oss_body.specs.declared.frame.Frame.{Frame}
+use Rattle.oss_model.specs.Bodies.{child_frame, top_frame}
+use Rattle.oss_model.specs.Context.{right_of}
 use Rattle.oss_body.specs.declared.tasks.Tasks.{Tasks}
-use Rattle.oss_body.proofs.Results.{on_ok_then}
-use Rattle.oss_body.proofs.StackLemmas.{included_one, tasks_of}
+use Rattle.oss_body.specs.Stacks.{IsFollowed, including}
+use Rattle.oss_body.proofs.FollowLemmas.{followed_included, popped}
+use Rattle.oss_body.proofs.StackLemmas.{tasks_of}
 use Rattle.oss_body.proofs.tasks.Tasks.include.Goals as goal
 
-pub returns : goal.returns
-returns c = on_ok_then c.push.result (λ below s e h.
+pub returns-in-Ok-clause-followed : goal.returns-in-Ok-clause-followed
+returns-in-Ok-clause-followed c = λ s e h.
+    let code = c.args.code.now in
+    let old = c.args.self.now in
+    let o = meant_order c.args.creation.now.order in
     let f = top_frame s.base s.inner in
-    let top = ap (λ (x : Tasks). x.top) e in
-    ap (λ (l : List Frame). tasks_of c.replace-top.new.dest l c.args.self.now.ended) below
-    ∙ included_one c.args.code.now (meant_order c.args.creation.now.order) s c.args.self.now c.replace-top.new.dest c.replace-top.result e c.requires.running
-    (c.replace-top.ensures.after ∙ c.in_ok-child.ensures f top h) (c.replace-top.ensures.value ∙ c.in_ok-include.ensures f top h)) c.push.ensures.ok
+    let top = ap (λ (t : Tasks). t.top) e in
+    let child = c.in_ok-child.ensures f top h in
+    let exchanged = c.exchange.ensures old.below c.next.new.self c.in_ok-push.ensures.ok in
+    subst (λ (t : Tasks). IsFollowed code (right_of c.args.own.now) (including o s) t c.in_ok-act.act) (λ i. tasks_of (sym exchanged.1 i) (sym exchanged.0 i) old.ended)
+    (followed_included code (right_of c.args.own.now) o s old c.next.new.self c.include.new.self c.in_ok-act.act e c.requires.running (c.in_ok-act.ensures.frame (child_frame f o) child) (c.in-Ok.ensures.ok f top h)
+    (c.in_ok-act.ensures.act (child_frame f o) child))
+
+pub returns-in-Err-clause-err : goal.returns-in-Err-clause-err
+returns-in-Err-clause-err c =
+    let below = popped c.pop-child.result c.push.new.self c.pop-child.new.self c.args.self.now.below c.next.new.self c.pop-child.ensures c.in_ok-push.ensures.ok in
+    λ i. tasks_of (c.in-Err.ensures.err i) (below i) c.args.self.now.ended
