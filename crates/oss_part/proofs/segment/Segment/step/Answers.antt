@@ -33,7 +33,7 @@ returns-clause-part c = λ start found first acts is.
       prints = c.in_ok-add_print.ensures.prints;
       keyed = c.in_ok-add_print.ensures.keyed;
       adds = c.in_ok-add_child.ensures;
-      next = c.in_ok-advance.ensures;
+      next = c.in_ok-advance.ensures.ok;
     }))
 
 -- and there is less left to do
@@ -43,4 +43,4 @@ returns-clause-less c = λ start found is went.
     let go : c.may_go.result ≡ true = search rules in
     let stays : stops_before (act_seen (pending_of old.body)) old.count old.ticks c.args.quota ≡ false =
     ap (λ (a : Act). stops_before (act_seen a) old.count old.ticks c.args.quota) (sym c.pending-act.ensures.kept) ∙ c.may_go.ensures.stops ∙ ap not go in
-    falls c.args.code.now start found c.in_ok-found.found old.count old.ticks c.args.quota old.body c.advance.new.self is (sym c.ended.ensures.kept ∙ c.if-ended.false) stays c.in_ok-advance.ensures
+    falls c.args.code.now start found c.in_ok-found.found old.count old.ticks c.args.quota old.body c.advance.new.self is (sym c.ended.ensures.kept ∙ c.if-ended.false) stays c.in_ok-advance.ensures.ok

@@ -9,7 +9,7 @@ pub returns : goal.returns
 returns c = λ start found is.
     record {
       creator = c.replace-creator.result;
-      is_creator = subst (λ k. IsBody c.args.code.now start (answer_to (act_seen (pending_of c.args.self.now.current)) 0 ∷ found) k) (sym c.replace-creator.ensures.value) (c.in_ok-advance.ensures start found is);
+      is_creator = subst (λ k. IsBody c.args.code.now start (answer_to (act_seen (pending_of c.args.self.now.current)) 0 ∷ found) k) (sym c.replace-creator.ensures.value) (c.in_ok-advance.ensures.ok start found is);
       is_child = λ o e. subst (λ k. IsBody c.args.code.now (child_start (stack_from (asks c.args.code.now) start found).base o) [] k) (sym c.replace-creator.ensures.after) (c.in_ok-child.ensures start found o is e);
       above = c.in_ok-push.ensures.ok;
       cells = refl;

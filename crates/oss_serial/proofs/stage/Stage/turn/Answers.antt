@@ -8,7 +8,7 @@ pub returns-then-ended : goal.returns-then-ended
 returns-then-ended c = λ main first setting st.
     gone_up c.args.code.now main first c.args.self.now _ c.go_up.new.self c.pending.result.now st (c.pending.ensures.act c.args.code.now st.current.start st.current.found st.is_current) c.go_up.result
     c.in_ok-loaded.ensures.cells c.in_ok-loaded.ensures.output c.in-Goes.loaded c.advance.new.self (sym c.in-Goes.is ∙ c.in_ok-loaded.ensures.turn)
-    (shown_after c.args.code.now st.current c.pending.result.now (pending_of c.args.self.now.current) c.in-Goes.loaded c.advance.new.self c.pending.ensures.kept (c.in_ok-advance-in-Goes.ensures st.current.start st.current.found st.is_current))
+    (shown_after c.args.code.now st.current c.pending.result.now (pending_of c.args.self.now.current) c.in-Goes.loaded c.advance.new.self c.pending.ensures.kept (c.in_ok-advance-in-Goes.ensures.ok st.current.start st.current.found st.is_current))
     refl refl (sym c.ended.ensures.kept ∙ c.if-ended.true) c.go_up.ensures
 
 -- the body goes on
@@ -16,7 +16,7 @@ pub returns-else-ended : goal.returns-else-ended
 returns-else-ended c = λ main first setting st.
     turn_on c.args.code.now main first c.args.self.now _ c.pending.result.now st (c.pending.ensures.act c.args.code.now st.current.start st.current.found st.is_current)
     c.in_ok-loaded.ensures.cells c.in_ok-loaded.ensures.output c.in-Goes.loaded c.advance.new.self (sym c.in-Goes.is ∙ c.in_ok-loaded.ensures.turn)
-    (shown_after c.args.code.now st.current c.pending.result.now (pending_of c.args.self.now.current) c.in-Goes.loaded c.advance.new.self c.pending.ensures.kept (c.in_ok-advance-in-Goes.ensures st.current.start st.current.found st.is_current))
+    (shown_after c.args.code.now st.current c.pending.result.now (pending_of c.args.self.now.current) c.in-Goes.loaded c.advance.new.self c.pending.ensures.kept (c.in_ok-advance-in-Goes.ensures.ok st.current.start st.current.found st.is_current))
     refl refl refl (sym c.ended.ensures.kept ∙ c.if-ended.false)
 
 -- the body creates a task
