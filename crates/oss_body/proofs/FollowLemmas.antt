@@ -117,14 +117,6 @@ snoc_same (z ∷ zs) (w ∷ ws) x y e =
     let k = snoc_same zs ws x y more in
     ((λ j. first j ∷ k.0 j), k.1)
 
--- the end of the body's own task
-pub followed_end : (code : CodeParts) (slots : ℕ → Right) (s : Stack CodeScript) (old : Tasks) (next : Act) → old ≡ kept_stack code s → is_nil old.below ≡ true → IsFollowed code slots (stack_after Ended 0 s.base s.inner) (tasks_of old.top old.below true) next
-followed_end code slots s old next e none = go s.inner (ap (λ (x : Tasks). x.top) e) (ap (λ (x : Tasks). x.below) e)
-  where
-    go : (inner : List (Meant CodeScript)) → old.top ≡ kept code (top_frame s.base inner) → old.below ≡ rest_of code s.base inner → IsFollowed code slots (stack_after Ended 0 s.base inner) (tasks_of old.top old.below true) next
-    go [] top below = record { over = λ o. (λ j. tasks_of (top j) (below j) true); on = λ o. cc; act = λ o. cc }
-    go (f ∷ fs) top below = let n = nil_rest code s.base (f ∷ fs) in let k = ap is_nil below in cc
-
 -- the end of an included task: the one that has included it acts next
 pub followed_back : (code : CodeParts) (slots : ℕ → Right) (s : Stack CodeScript) (old : Tasks) (top : Framed) (rest : List Framed) (newest : Framed) (next : Act) (included : Bool) → old ≡ kept_stack code s → old.ended ≡ false
     → old.below ≡ rest ++ newest ∷ [] → included ≡ not (is_nil rest)

@@ -5,6 +5,5 @@ mod FollowLemmas
 mod FrameLemmas
 pub mod LeftLemmas
 mod Results
-mod SilentLemmas
 mod SlotLemmas
 mod StackLemmas

@@ -1,9 +1,9 @@
 -- What is kept of the tasks of a body.
-use Rattle.std.proofs.Common.{◌≡◌, refl, sym, ap, ◌∙◌, List, [], ◌∷◌, ◌++◌, length, arith, Bool, true, false}
+use Rattle.std.proofs.Common.{◌≡◌, refl, ap, List, [], ◌∷◌, ◌++◌, length, arith, Bool, true, false}
 use Rattle.std.proofs.lemmas.List.{length-append}
 use Rattle.oss_code.specs.declared.code.CodeParts.{CodeParts}
 use Rattle.oss_machine.specs.Frames.{CodeScript}
-use Rattle.oss_model.specs.Bodies.{Order, Created, Frame as Meant, Stack, after_creation, child_frame, including_frame, stack_after, top_frame}
+use Rattle.oss_model.specs.Bodies.{Order, Created, Frame as Meant, Stack, stack_after, top_frame}
 use Rattle.oss_body.specs.Places.{Framed as Frame}
 use Rattle.oss_body.specs.declared.tasks.Tasks.{Tasks}
 use Rattle.oss_body.specs.Kept.{kept}
@@ -27,25 +27,6 @@ own_place_is code s = by_inner s.inner
     by_inner : (inner : List (Meant CodeScript)) → first_place (kept code (top_frame s.base inner)) (rest_of code s.base inner) ≡ place_of s.base
     by_inner [] = refl
     by_inner (f ∷ fs) = ap (first_place (kept code f)) (all_first code s.base fs).1
-
--- the body's own task, where no other is there, has created another
-pub created_alone : (code : CodeParts) (o : Order CodeScript) (s : Stack CodeScript) (x : Tasks) (top : Frame) → x ≡ kept_stack code s → x.below ≡ [] → x.ended ≡ false → top ≡ kept code (after_creation o (top_frame s.base s.inner))
-    → ◌≡◌ {A = Tasks} record { top = top; below = x.below; ended = x.ended } (kept_stack code (stack_after (Created o false) 0 s.base s.inner))
-created_alone code o s x top e alone running h = by_inner s.inner (sym (ap (λ (y : Tasks). y.below) e) ∙ alone) h
-  where
-    by_inner : (inner : List (Meant CodeScript)) → rest_of code s.base inner ≡ [] → top ≡ kept code (after_creation o (top_frame s.base inner)) → ◌≡◌ {A = Tasks} record { top = top; below = x.below; ended = x.ended } (kept_stack code (stack_after (Created o false) 0 s.base inner))
-    by_inner [] none k = rw k (rw alone (rw running refl))
-    by_inner (f ∷ fs) none k = absurd (some_task code s.base fs none)
-
--- the task that acts has included another
-pub included_one : (code : CodeParts) (o : Order CodeScript) (s : Stack CodeScript) (x : Tasks) (child top : Frame) → x ≡ kept_stack code s → x.ended ≡ false → child ≡ kept code (child_frame (top_frame s.base s.inner) o)
-    → top ≡ kept code (including_frame o (top_frame s.base s.inner)) → ◌≡◌ {A = Tasks} record { top = child; below = x.below ++ (top ∷ []); ended = x.ended } (kept_stack code (including o s))
-included_one code o s x child top e running h k = by_inner s.inner (ap (λ (y : Tasks). y.below) e) h k
-  where
-    by_inner : (inner : List (Meant CodeScript)) → x.below ≡ rest_of code s.base inner → child ≡ kept code (child_frame (top_frame s.base inner) o) → top ≡ kept code (including_frame o (top_frame s.base inner))
-        → ◌≡◌ {A = Tasks} record { top = child; below = x.below ++ (top ∷ []); ended = x.ended } (kept_stack code (including o (record { base = s.base; inner = inner; ended = s.ended })))
-    by_inner [] below g j = rw below (rw g (rw j (rw running refl)))
-    by_inner (f ∷ fs) below g j = rw below (rw g (rw j (rw running refl)))
 
 abbrev pub tasks_of : Frame → List Frame → Bool → Tasks
 tasks_of top below ended = record { top = top; below = below; ended = ended }
