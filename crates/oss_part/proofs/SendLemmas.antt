@@ -35,6 +35,7 @@ use Rattle.oss_code.proofs.code.Code.TheSendSync as code
 use Rattle.oss_body.specs.contracts.act.Creation as creation
 use Rattle.oss_body.specs.contracts.act.Act as act
 use Rattle.oss_body.specs.contracts.place.Place as place
+use Rattle.oss_body.specs.contracts.below.Below as below
 use Rattle.oss_body.specs.contracts.frame.Frame as frame
 use Rattle.oss_body.specs.contracts.own.Own as own
 use Rattle.oss_body.specs.contracts.tasks.Tasks as tasks
@@ -79,11 +80,11 @@ act_field = enum_send (enum.shape act.the_type) (
 place_send : IsSend place.the_row
 place_send = search (sendable, crosses, context_send, point.the_send) depth 40
 
-frame_field : IsSend (frame.the_field).row
-frame_field = struct_send (struct.shape frame.the_type) (machine.the_send, (place_send, (search sendable, tt)))
-
 frame_send : IsSend frame.the_row
-frame_send = recorded_send _ _ (frame.the_type).to (frame.the_type).to_one frame_field
+frame_send = search (sendable, crosses, machine.the_send, place_send) depth 40
+
+below_send : IsSend below.the_row
+below_send = search (sendable, crosses, frame_send) depth 40
 
 slots_send : IsSend slots.the_row
 slots_send = search (sendable, crosses, map_send, home.the_send) depth 40
@@ -92,10 +93,10 @@ own_field : IsSend (own.the_field).row
 own_field = struct_send (struct.shape own.the_type) (context_send, (search sendable, (search sendable, (slots_send, tt))))
 
 tasks_field : IsSend (tasks.the_field).row
-tasks_field = struct_send (struct.shape tasks.the_type) (frame_field, (list.the_send _ frame_send, (search sendable, tt)))
+tasks_field = struct_send (struct.shape tasks.the_type) (frame_send, (below_send, (search sendable, tt)))
 
 pub body_field : IsSend (body.the_field).row
-body_field = struct_send (struct.shape body.the_type) (heap.the_field_send, (own_field, (search sendable, (tasks_field, (act_field, tt)))))
+body_field = struct_send (struct.shape body.the_type) (heap.the_field_send, (own_field, (search sendable, (tasks_field, (act_field, (search (sendable, crosses, point.the_send) depth 40, tt))))))
 
 pub body_send : IsSend body.the_row
 body_send = recorded_send _ _ (body.the_type).to (body.the_type).to_one body_field
