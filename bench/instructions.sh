@@ -1,0 +1,25 @@
+#!/bin/sh
+# Counts the instructions of runs by waves of the built program, or of PROGRAM where one is handed over, over regions, and prints a table: millions of instructions, those for twice the tasks, and their ratio. The
+# programs are those of regions.sh. A count is the same whatever runs beside, where a clock is not, and takes minutes.
+# It wants `valgrind`.
+# usage: instructions.sh [PROGRAM]
+# shellcheck source=bench/built.sh
+. "$(dirname -- "$0")/built.sh"
+
+dependency_sources
+cuts_source 2000 >cuts_1.c
+cuts_source 4000 >cuts_2.c
+
+# counted WORD..: the instructions of a call of the program
+counted() { valgrind --tool=callgrind --callgrind-out-file=/dev/null "$program" "$@" 2>&1 >/dev/null | sed -n 's/.*Collected : \([0-9]*\).*/\1/p'; }
+
+# compared WHAT FIRST SECOND: a row with these counts and their ratio
+compared() { awk -v what="$1" -v a="$2" -v b="$3" 'BEGIN { printf "%s | %.0f | %.0f | %.2f\n", what, a / 1e6, b / 1e6, b / a }'; }
+
+# row WHAT NAME: NAME_1.c, and NAME_2.c, with twice the tasks
+row() { compared "$1" "$(counted run "$2_1.c")" "$(counted run "$2_2.c")"; }
+
+echo 'what | millions of instructions | for twice the tasks | ratio'
+dependency_rows
+row '2,000 tasks on one cell of an array each, behind 2,000 on the whole of it that are done' cuts
+compared 'soak 7 1000' "$(counted soak 7 1000)" "$(counted soak 7 2000)"
