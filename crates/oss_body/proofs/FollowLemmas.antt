@@ -1,5 +1,5 @@
 -- The tasks of a body behind an act, and the act that stands next.
-use Rattle.std.proofs.Common.{◌≡◌, ℕ, zero, suc, ◌<◌, refl, sym, ap, ◌∙◌, subst, List, [], ◌∷◌, ◌++◌, length, arith, Bool, true, false, nat_lt, Option, Some, None}
+use Rattle.std.proofs.Common.{◌≡◌, ℕ, suc, ◌<◌, refl, sym, ap, ◌∙◌, subst, List, [], ◌∷◌, ◌++◌, length, arith, Bool, true, false, nat_lt, Option, Some, None}
 use Rattle.std.specs.Prelude.{not, MatchOption}
 use Rattle.std.proofs.lemmas.Bool.{lt-ltb}
 use Rattle.std.proofs.lemmas.List.{length-append}
@@ -9,11 +9,13 @@ use Rattle.oss_machine.specs.Machines.{asks}
 use Rattle.oss_model.specs.Bodies.{Act as MeantAct, Awaited, Created, Ended, Fault, Folded, Frame as Meant, Load, Order, Over, Printed, Releases, Stack, Store, Ticked, Waited, WaitedOn, act_of, child_frame, frame_act, frame_after, including_frame, settled_frame, stack_after, top_frame}
 use Rattle.oss_model.specs.Rights.{Right}
 use Rattle.oss_body.specs.declared.act.Act.{Act}
+use Rattle.oss_body.specs.declared.act.Act.TheVariants as acts
+use Rattle.oss_body.specs.declared.act.Creation.{Creation}
 use Rattle.oss_body.specs.declared.tasks.Tasks.{Tasks}
 use Rattle.oss_body.specs.Acts.{act_seen}
 use Rattle.oss_body.specs.Kept.{kept}
 use Rattle.oss_body.specs.Places.{Framed}
-use Rattle.oss_body.specs.Stacks.{IsFollowed, all_of, including, including_parts, is_nil, kept_stack, rest_of, stays_on}
+use Rattle.oss_body.specs.Stacks.{IsFollowed, all_of, including, including_parts, includes_in, is_nil, kept_stack, rest_of, stays_on}
 use Rattle.oss_body.proofs.StackLemmas.{some_task, tasks_of}
 
 -- a body whose task that acts is this one
@@ -173,11 +175,8 @@ pub others_are : (xs rest : List Framed) (last : Framed) (count : ℕ) → xs �
 others_are xs [] last count e n = ap (nat_lt 1) (n ∙ ap length e)
 others_are xs (y ∷ ys) last count e n = let m = length-append ys (last ∷ []) in let k : count ≡ suc (length (ys ++ last ∷ [])) = n ∙ ap length e in lt-ltb 1 count (omega (arith, k, m))
 
--- what is not so
-pub not_both : (b : Bool) → b ≡ true → b ≡ false → ⊥
-not_both true h k = cc
-not_both false h k = cc
-
-pub never_more : (n : ℕ) → n ≡ 0 → nat_lt 0 n ≡ true → ⊥
-never_more zero e h = cc
-never_more (suc n) e h = cc
+-- a task whose creation is included, and not for its own sake, is not alone
+pub never_alone : (creation : Creation) (included : Bool) (below : List Framed) → includes_in (acts.Create creation included) (is_nil below) ≡ true → included ≡ false → below ≡ [] → ⊥
+never_alone creation true below h i n = cc
+never_alone creation false [] h i n = cc
+never_alone creation false (x ∷ xs) h i n = cc

@@ -5,6 +5,8 @@ use Rattle.std.specs.Prelude.{◌≡◌, ◌||◌, Bool, length, map, Option, So
 use Rattle.oss_judge.specs.Given.{IsGiven}
 use Rattle.oss_judge.specs.Parts.{reading}
 use Rattle.oss_machine.specs.Asks.{meant_order}
+use Rattle.oss_machine.specs.declared.ask.Ask.{Ask}
+use Rattle.oss_machine.specs.declared.ask.Ask.TheVariants as asks
 use Rattle.oss_machine.specs.Frames.{CodeScript}
 use Rattle.oss_model.specs.Bodies.{Act as Meant}
 use Rattle.oss_model.specs.Context.{Context, child_context, create_fault, creation_fault, lent_of, mark_of, or_else, release_fault, right_of, tick_fault, wait_on_fault}
@@ -16,6 +18,14 @@ use Rattle.oss_body.specs.declared.act.Act.TheVariants as acts
 use Rattle.oss_body.specs.declared.draft.Draft.{Draft}
 use Rattle.oss_body.specs.declared.draft.Draft.TheVariants as drafts
 use Rattle.oss_body.specs.Acts.{act_seen}
+
+-- What the draft of an ask has in it takes memory: that of a creation, and that of a print, but not that of a read.
+abbrev pub needs_memory : Ask → Bool
+needs_memory (asks.Create order) = Bool.true
+needs_memory (asks.WaitOn ranges) = Bool.true
+needs_memory (asks.Release clauses) = Bool.true
+needs_memory (asks.Print text) = Bool.true
+needs_memory _ = Bool.false
 
 -- The fault of an act that is neither a creation nor a release: of a tick without fuel, OutOfFuel.
 abbrev pub plain_fault : Context → Act → Option FaultKind

@@ -1,12 +1,13 @@
 -- What is kept of all tasks of a body.
 -- Read against: a final task that runs an included one is kept as the included one, and below it the final one.
-use Rattle.std.specs.Prelude.{◌≡◌, ◌&&◌, ℕ, Bool, true, false, not, List, [], ◌∷◌, ◌++◌}
+use Rattle.std.specs.Prelude.{◌≡◌, ◌&&◌, ◌||◌, ℕ, Bool, true, false, not, List, [], ◌∷◌, ◌++◌}
 use Rattle.oss_model.specs.Bodies.{Act as MeantAct, Created, Ended, Order, Frame as Meant, Stack, act_of, child_frame, including_frame, settled_stack, top_frame}
 use Rattle.oss_model.specs.Rights.{Right}
 use Rattle.oss_code.specs.declared.code.CodeParts.{CodeParts}
 use Rattle.oss_machine.specs.Frames.{CodeScript}
 use Rattle.oss_machine.specs.Machines.{asks}
 use Rattle.oss_body.specs.declared.act.Act.{Act}
+use Rattle.oss_body.specs.declared.act.Act.TheVariants as acts
 use Rattle.oss_body.specs.Acts.{act_seen}
 use Rattle.oss_body.specs.Places.{Framed as Frame}
 use Rattle.oss_body.specs.declared.tasks.Tasks.{Tasks}
@@ -54,6 +55,11 @@ abbrev pub stays_on : MeantAct CodeScript → Bool → Bool
 stays_on (Created order included) alone = not included && alone
 stays_on Ended alone = false
 stays_on _ alone = true
+
+-- The act is a creation, and the new task is included: by a task that is final, or that is included itself.
+abbrev pub includes_in : Act → Bool → Bool
+includes_in (acts.Create creation included) alone = included || not alone
+includes_in _ alone = false
 
 -- The tasks behind an act, and the act that stands next, where the body stands so behind the first: before the next act asks are passed that are none.
 -- Of a body that has ended there is no next act.

@@ -1,5 +1,5 @@
 //! The tasks of a body below the one that acts.
-ghost use Rattle.std.specs.Prelude.{◌≡◌, ◌∷◌, ◌++◌, ◌<◌, ◌↔◌, [], ℕ, List, IsTrue, MatchOption, OnErr, OnOk, length, slice_get, option_copied};
+ghost use Rattle.std.specs.Prelude.{◌≡◌, ◌∷◌, ◌++◌, [], List, MatchOption, OnErr, OnOk, length, slice_get, option_copied};
 ghost use Rattle.oss_body.specs.Places.{Framed};
 
 use crate::frame::Frame;

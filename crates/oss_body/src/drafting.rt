@@ -1,5 +1,5 @@
 //! How the act is made that an ask of a task is, before it is known whether the judge lets it pass.
-ghost use Rattle.std.specs.Prelude.{◌≡◌, ◌≤◌, ℕ, false, IfOk};
+ghost use Rattle.std.specs.Prelude.{◌≡◌, ◌≤◌, ℕ, Bool, false, IfOk};
 ghost use Rattle.oss_machine.specs.Asks.{meant_ask, meant_order};
 ghost use Rattle.oss_meaning.specs.Clauses.{waited_for};
 ghost use Rattle.oss_meaning.specs.Sections.{declared_on};
@@ -8,7 +8,7 @@ ghost use Rattle.oss_model.specs.Bodies.{Frame as Meant, Create, Print, Release,
 ghost use Rattle.oss_model.specs.Context.{right_of};
 ghost use Rattle.oss_model.specs.Order.{written};
 ghost use Rattle.oss_model.specs.Rights.{NoRight};
-ghost use Rattle.oss_body.specs.Drafts.{Alike, IsDraft, draft_fault, drafted};
+ghost use Rattle.oss_body.specs.Drafts.{Alike, IsDraft, draft_fault, drafted, needs_memory};
 
 use crate::act::{Act, Creation};
 use crate::copies::{copy_items, copy_order};
@@ -38,24 +38,11 @@ impl Place {
         ensures right { IfOk result (λ draft. IsDraft self.now.context draft) }
     {
         match ask {
-            Ask::Begin => Ok(Draft::Begun),
-            Ask::Tick => Ok(Draft::Plain(Act::Tick)),
-            Ask::Read(cell) => Ok(Draft::Plain(Act::Load(*cell))),
-            Ask::Write(cell, value) => Ok(Draft::Plain(Act::Store(*cell, *value))),
-            Ask::Fold(cell, op, value) => Ok(Draft::Plain(Act::Fold {
-                cell: *cell,
-                op: *op,
-                value: *value,
-                slot: own.fold_op(*cell).is_some(),
-            })),
             Ask::Create(order) => self.creation(alloc, order.get()),
-            Ask::Await => Ok(Draft::Faulty(FaultKind::TooManyTasks)),
-            Ask::Wait => Ok(Draft::Plain(Act::Wait)),
             Ask::WaitOn(ranges) => wait_on(alloc, ranges),
             Ask::Release(clauses) => release(alloc, clauses, included),
             Ask::Print(text) => self.print(alloc, text, created),
-            Ask::End => Ok(Draft::Plain(Act::End)),
-            Ask::Fault(kind) => Ok(Draft::Faulty(*kind)),
+            _ => Ok(draft_at_once(own, ask)),
         }
     }
 
@@ -88,6 +75,31 @@ impl Place {
         let text = Bytes::from_slice(alloc, text.as_slice())?;
         let key = self.key_behind(created)?;
         Ok(Draft::Plain(Act::Print { key, text }))
+    }
+}
+
+/// The draft of an ask for which no memory is needed.
+fn draft_at_once(own: &Context, ask: &Ask) -> Draft
+    requires small { needs_memory ask.now ≡ false }
+    ensures means { (included : Bool) (f : Meant CodeScript) (line : ℕ) → act_of_ask (right_of own.now) included f (meant_ask ask.now) line ≡ judged_act f line (draft_fault f.context result) (drafted result) }
+    ensures right { (x : _) → IsDraft x result }
+{
+    match ask {
+        Ask::Begin => Draft::Begun,
+        Ask::Tick => Draft::Plain(Act::Tick),
+        Ask::Read(cell) => Draft::Plain(Act::Load(*cell)),
+        Ask::Write(cell, value) => Draft::Plain(Act::Store(*cell, *value)),
+        Ask::Fold(cell, op, value) => Draft::Plain(Act::Fold {
+            cell: *cell,
+            op: *op,
+            value: *value,
+            slot: own.fold_op(*cell).is_some(),
+        }),
+        Ask::Await => Draft::Faulty(FaultKind::TooManyTasks),
+        Ask::Wait => Draft::Plain(Act::Wait),
+        Ask::End => Draft::Plain(Act::End),
+        Ask::Fault(kind) => Draft::Faulty(*kind),
+        _ => unreachable!(),
     }
 }
 

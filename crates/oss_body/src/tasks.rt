@@ -4,8 +4,10 @@ ghost use Rattle.oss_machine.specs.Asks.{meant_order};
 ghost use Rattle.oss_machine.specs.Frames.{CodeScript};
 ghost use Rattle.oss_model.specs.Bodies.{Stack, Ended, stack_after, top_frame};
 ghost use Rattle.oss_model.specs.Context.{child_context, create_fault, right_of};
-ghost use Rattle.oss_body.specs.Acts.{HasContext, act_seen, answer_to, goes_on, passed};
+ghost use Rattle.oss_body.specs.Acts.{HasContext, act_seen, answer_to, passed};
 ghost use Rattle.oss_body.specs.Places.{IsKey};
+ghost use Rattle.oss_body.specs.Stacks.{includes_in, stays_on};
+ghost use Rattle.oss_body.specs.declared.act.Act.TheVariants as acts;
 
 use crate::act::{Act, Creation};
 use crate::below::Below;
@@ -25,8 +27,38 @@ pub(crate) struct Tasks {
     pub(crate) ended: bool,
 }
 
+/// Which task acts behind an act.
+#[derive(Clone, Copy)]
+enum Way {
+    /// The one that did.
+    On,
+    /// The one that has included it, if there is one.
+    Back,
+    /// The one that it has included.
+    Into,
+}
+
+/// Which task acts behind an act of a task that is alone in its body or not.
+fn way_behind(act: &Act, alone: bool) -> Way
+    ensures on { result ≡ Way.On → stays_on (act_seen act.now) alone ≡ true }
+    ensures back { result ≡ Way.Back → act.now ≡ acts.End }
+    ensures goes_into { result ≡ Way.Into → includes_in act.now alone ≡ true }
+{
+    match act {
+        Act::Create { included, .. } => {
+            if *included || !alone {
+                Way::Into
+            } else {
+                Way::On
+            }
+        }
+        Act::End => Way::Back,
+        _ => Way::On,
+    }
+}
+
 impl Tasks {
-    ghost use Rattle.oss_body.specs.Stacks.{IsFollowed, including, is_nil, kept_stack, own_place, stays_on};
+    ghost use Rattle.oss_body.specs.Stacks.{IsFollowed, including, is_nil, kept_stack, own_place};
 
     /// The act has happened, and a load found this value: the tasks go on, and this tells the act that stands next, unless the body's own task has
     /// ended. `own` has the rights with which that one started. A key that is kept is that of the task that acts. Where memory is wanting the
@@ -41,7 +73,6 @@ impl Tasks {
         key: &mut Option<Point>,
     ) -> Result<Act, AllocError>
         requires running { self.old.ended ≡ false }
-        requires goes { goes_on act.now ≡ true }
         requires passed { passed act.now self.old.top.place.context ≡ true }
         requires key { IsKey key.old self.old.top.place }
         ensures followed { IfOk result (λ next. (s : Stack CodeScript) → self.old ≡ kept_stack code.now s → HasContext (top_frame s.base s.inner).context act.now → IsFollowed code.now (right_of own.now) (stack_after (act_seen act.now) (answer_to (act_seen act.now) loaded) s.base s.inner) self.new next) }
@@ -50,25 +81,34 @@ impl Tasks {
         ensures key { OnOk result (IsKey key.new self.new.top.place) }
         ensures err { OnErr result (self.new ≡ self.old) }
     {
+        match way_behind(act, self.below.len() == 0) {
+            Way::On => self.go_on(alloc, code, own, act, loaded, key),
+            Way::Back => self.end(alloc, code, own, key),
+            Way::Into => self.follow_into(alloc, code, own, act, key),
+        }
+    }
+
+    /// The creation of an included task has happened: that one acts next.
+    fn follow_into(
+        &mut self,
+        alloc: Global,
+        code: &Code,
+        own: &Context,
+        act: &Act,
+        key: &mut Option<Point>,
+    ) -> Result<Act, AllocError>
+        requires running { self.old.ended ≡ false }
+        requires goes_into { includes_in act.now (is_nil self.old.below) ≡ true }
+        requires passed { passed act.now self.old.top.place.context ≡ true }
+        ensures followed { IfOk result (λ next. (s : Stack CodeScript) → self.old ≡ kept_stack code.now s → HasContext (top_frame s.base s.inner).context act.now → IsFollowed code.now (right_of own.now) (stack_after (act_seen act.now) 0 s.base s.inner) self.new next) }
+        ensures passed { IfOk result (λ next. passed next self.new.top.place.context ≡ true) }
+        ensures child { IfOk result (λ next. HasContext self.new.top.place.context next) }
+        ensures key { OnOk result (IsKey key.new self.new.top.place) }
+        ensures err { OnErr result (self.new ≡ self.old) }
+    {
         match act {
-            Act::Create { creation, included } => {
-                if *included || 0 < self.below.len() {
-                    self.include(alloc, code, own, creation.get(), key)
-                } else {
-                    self.go_on(alloc, code, own, act, loaded, key)
-                }
-            }
-            Act::End => self.end(alloc, code, own, key),
-            Act::Tick => self.go_on(alloc, code, own, act, loaded, key),
-            Act::Load(_) => self.go_on(alloc, code, own, act, loaded, key),
-            Act::Store(_, _) => self.go_on(alloc, code, own, act, loaded, key),
-            Act::Fold { .. } => self.go_on(alloc, code, own, act, loaded, key),
-            Act::Await => self.go_on(alloc, code, own, act, loaded, key),
-            Act::Wait => self.go_on(alloc, code, own, act, loaded, key),
-            Act::WaitOn(_) => self.go_on(alloc, code, own, act, loaded, key),
-            Act::Release { .. } => self.go_on(alloc, code, own, act, loaded, key),
-            Act::Print { .. } => self.go_on(alloc, code, own, act, loaded, key),
-            Act::Fault { .. } => unreachable!(),
+            Act::Create { creation, .. } => self.include(alloc, code, own, creation.get(), key),
+            _ => unreachable!(),
         }
     }
 
