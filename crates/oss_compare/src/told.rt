@@ -220,6 +220,13 @@ impl<D: Deps> Told<D> {
         (self.opens.len(), self.gives.len(), self.joins)
     }
 
+    /// Whether a task is nested at most so deep: main at most 0, its children at most 1. It is not where the task was not opened.
+    pub fn is_nested_within(&self, task: u64, levels: u64) -> bool
+        ensures { IsTrue result → IsShallow self.now.opens.items task levels }
+    {
+        is_shallow(self.opens.as_slice(), task, levels)
+    }
+
     /// Whether the task is known, by what was told, to meet the condition of `open`. It may meet it where this is not known: an access is
     /// looked for in one access of the creator, never in several beside each other.
     pub fn may_open(&self, task: u64, parent: u64, access: Access) -> bool

@@ -15,8 +15,11 @@ use std::process::Abort;
 /// How many runs there are.
 const RUNS: u64 = 200;
 
-/// How many tasks a run may have.
-const TASKS: u64 = 60;
+/// How many tasks a run has, main among them.
+const TASKS: u64 = 61;
+
+/// The first task that need not be nested in the one before it: a run has a task that is nested four deep.
+const LOOSE: u64 = 5;
 
 /// How many cells the accesses of a run have.
 const CELLS: u64 = 16;
@@ -54,10 +57,12 @@ impl Dice {
     }
 
     fn mode(&mut self) -> Mode {
-        match self.below(5) {
+        match self.below(7) {
             0 => Mode::Read,
             1 => Mode::Fold(Op::Add),
-            2 => Mode::Fold(Op::Xor),
+            2 => Mode::Fold(Op::And),
+            3 => Mode::Fold(Op::Or),
+            4 => Mode::Fold(Op::Xor),
             _ => Mode::Write,
         }
     }
@@ -134,6 +139,22 @@ fn compare_all<A: Deps, B: Deps>(
     }
 }
 
+/// Reserves an access in both, which need not be opened.
+fn reserve<A: Deps, B: Deps>(
+    rt: &impl Abort,
+    one: &mut Told<A>,
+    other: &mut Told<B>,
+    access: Access,
+)
+    requires one { IsTold (A.seen one.old.system) one.old.opens.items one.old.gives.items }
+    requires other { IsTold (B.seen other.old.system) other.old.opens.items other.old.gives.items }
+    ensures one { IsTold (A.seen one.new.system) one.new.opens.items one.new.gives.items }
+    ensures other { IsTold (B.seen other.new.system) other.new.opens.items other.new.gives.items }
+{
+    tests::reserve(rt, one, access);
+    tests::reserve(rt, other, access);
+}
+
 /// Tells both of a task, if it may be opened.
 fn open<A: Deps, B: Deps>(
     rt: &impl Abort,
@@ -171,7 +192,7 @@ fn give<A: Deps, B: Deps>(
     assert_eq!(rt; given, also, "give: {task} {range:?}");
 }
 
-/// Opens the task, below main or below an earlier one, with the first access that may be: several are tried.
+/// Opens the task, below main or below an earlier one, with the first access that may be: several are tried, the last of them below main.
 fn open_somewhere<A: Deps, B: Deps>(
     rt: &impl Abort,
     one: &mut Told<A>,
@@ -192,6 +213,7 @@ fn open_somewhere<A: Deps, B: Deps>(
         };
         open(rt, one, other, task, parent, dice.access());
     }
+    open(rt, one, other, task, 0, dice.access());
 }
 
 /// Gives up some ranges: several are tried.
@@ -208,7 +230,7 @@ fn give_some<A: Deps, B: Deps>(
     ensures one { IsTold (A.seen one.new.system) one.new.opens.items one.new.gives.items }
     ensures other { IsTold (B.seen other.new.system) other.new.opens.items other.new.gives.items }
 {
-    'tries: for _ in 0..4 {
+    'tries: for _ in 0..6 {
         give(rt, one, other, dice.below(task), dice.range());
     }
 }
@@ -239,7 +261,12 @@ fn play<A: Deps, B: Deps>(rt: &impl Abort, one: &mut Told<A>, other: &mut Told<B
     ensures one { IsTold (A.seen one.new.system) one.new.opens.items one.new.gives.items }
     ensures other { IsTold (B.seen other.new.system) other.new.opens.items other.new.gives.items }
 {
-    'tasks: for task in 1..TASKS {
+    let access = dice.access();
+    'nested: for task in 1..LOOSE {
+        open(rt, one, other, task, task - 1, access);
+    }
+    'tasks: for task in LOOSE..TASKS {
+        reserve(rt, one, other, dice.access());
         open_somewhere(rt, one, other, task, dice);
         compare_some(rt, one, other, task + 1, dice);
         give_some(rt, one, other, task, dice);
@@ -257,9 +284,10 @@ fn run_beside<D: Deps>(rt: &(impl Abort + AllocGlobal), system: D, dice: &mut Di
     play(rt, &mut one, &mut other, dice);
     let (opened, given, joins) = one.counts();
     assert!(rt;
-        opened > 30 && given > 8 && joins > 0,
+        opened == 60 && given > 8 && joins > 0,
         "{opened} {given} {joins}"
     );
+    assert!(rt; !one.is_nested_within(LOOSE - 1, 3), "depth");
     drop(one);
     other
 }
