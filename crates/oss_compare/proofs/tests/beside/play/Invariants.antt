@@ -7,3 +7,9 @@ invariant-tasks g l = record {
   one : IsTold (g.A.Deps.seen l.one.system) l.one.opens.items l.one.gives.items;
   other : IsTold (g.B.Deps.seen l.other.system) l.other.opens.items l.other.gives.items;
 }
+
+abbrev pub invariant-nested : goal.invariant-nested
+invariant-nested g l = record {
+  one : IsTold (g.A.Deps.seen l.one.system) l.one.opens.items l.one.gives.items;
+  other : IsTold (g.B.Deps.seen l.other.system) l.other.opens.items l.other.gives.items;
+}
