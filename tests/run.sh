@@ -313,24 +313,6 @@ for workers in 1 64; do
   expect "a generated program of 2,000 tasks, $workers workers" 0 soak.out ../nothing soak 7 2000 --workers="$workers"
 done
 
-# So many accesses that the words need a second net, of twice the entries.
-cat >doubled.c <<'PROGRAM'
-long a[2];
-int main() {
-  for (long c = 0; c < 2; c++) {
-#pragma oss task inout(a[c])
-    for (long i = 0; i < 40000; i++) {
-#pragma oss task inout(a[c])
-      a[c] = a[c] + i;
-    }
-  }
-#pragma oss taskwait
-  printf("%ld %ld\n", a[0], a[1]);
-}
-PROGRAM
-echo '799980000 799980000' >doubled.out
-expect "80,000 tasks over words" 0 doubled.out ../nothing run doubled.c --deps=words
-
 # The creation of a task is a tick of its creator, and so is a print.
 for count in 999998 999999; do
   awk -v count="$count" 'BEGIN {
