@@ -1,6 +1,6 @@
 #!/bin/sh
-# Counts the instructions of runs by waves of the built program, or of PROGRAM where one is handed over, over regions, and prints a table: millions of instructions, those for twice the tasks, and their ratio. The
-# programs are those of regions.sh. A count is the same whatever runs beside, where a clock is not, and takes minutes.
+# Counts the instructions of runs by waves of the built program, or of PROGRAM where one is handed over, over regions, and then of sequential runs, and prints a table: millions of instructions, those for twice the tasks, and their ratio. The
+# programs are those of regions.sh and of programs.sh. A count is the same whatever runs beside, where a clock is not, and takes minutes.
 # It wants `valgrind`.
 # usage: instructions.sh [PROGRAM]
 # shellcheck source=bench/built.sh
@@ -16,6 +16,12 @@ counted() { valgrind --tool=callgrind --callgrind-out-file=/dev/null "$program" 
 # compared WHAT FIRST SECOND: a row with these counts and their ratio
 compared() { awk -v what="$1" -v a="$2" -v b="$3" 'BEGIN { printf "%s | %.0f | %.0f | %.2f\n", what, a / 1e6, b / 1e6, b / a }'; }
 
+# sequential NAME: the instructions of the sequential run of NAME.c
+sequential() { counted run --mode=serial --fuel=1000000000 "$1.c"; }
+
+# sequentially WHAT NAME: the sequential runs of NAME_1.c, and of NAME_2.c, with twice the work
+sequentially() { compared "$1" "$(sequential "$2_1")" "$(sequential "$2_2")"; }
+
 # row WHAT NAME: NAME_1.c, and NAME_2.c, with twice the tasks
 row() { compared "$1" "$(counted run "$2_1.c")" "$(counted run "$2_2.c")"; }
 
@@ -23,3 +29,5 @@ echo 'what | millions of instructions | for twice the tasks | ratio'
 dependency_rows
 row '2,000 tasks on one cell of an array each, behind 2,000 on the whole of it that are done' cuts
 compared 'soak 7 1000' "$(counted soak 7 1000)" "$(counted soak 7 2000)"
+growth_sources
+growth_rows sequentially

@@ -94,20 +94,7 @@ def main():
 main()
 PROGRAM
 
-for times in 1 2; do
-  cat >"ticks_$times.c" <<PROGRAM
-int main() { long s = 0, i = 0; while (i < $((times * 300000))) { s = s + i * 3; i = i + 1; } printf("%ld\\n", s); }
-PROGRAM
-  tasks_source x $((times * 30000)) 'inout(x)' 'x = x + i;' >"tasks_$times.c"
-  cat >"nested_$times.c" <<PROGRAM
-long x;
-#pragma oss task inout(*p)
-void down(long *p, long n) { *p = *p + 1; if (n > 0) down(p, n - 1); }
-int main() { for (long i = 0; i < $((times * 500)); i++) { down(&x, 50); } }
-PROGRAM
-  filled_source $((times * 200000)) >"cells_$times.c"
-  tasks_source "a[$((times * 60000))]" $((times * 30000)) 'out(a[2 * i])' 'a[2 * i] = i;' >"lent_$times.c"
-done
+growth_sources
 
 echo 'program | nest6 | CPython | ratio'
 beside 'array loops, 300,000 turns' arrays
@@ -115,8 +102,4 @@ beside 'nested calls, 75,025 leaves' calls
 beside 'a reduction in ten tasks, 300,000 folds' reduction
 beside 'four creators of 25,000 tasks each' creators
 echo 'growth | once | twice | ratio'
-growth 'ticks: 300,000 turns of a loop' ticks
-growth 'tasks of one creator: 30,000' tasks
-growth 'nested tasks: 500 chains of 51' nested
-growth 'cells of an array: 200,000 written' cells
-growth 'lent ranges: 30,000 single cells apart' lent
+growth_rows growth

@@ -142,3 +142,30 @@ dependency_rows() {
   row '4,096 tasks on 64 cells each at random' ranges
   row '1,000 weak tasks with 20 children each' weak
 }
+
+# growth_sources: the programs by which the growth of sequential runs is told, as files: each once, and once with twice the work
+growth_sources() {
+  for times in 1 2; do
+    cat >"ticks_$times.c" <<PROGRAM
+int main() { long s = 0, i = 0; while (i < $((times * 300000))) { s = s + i * 3; i = i + 1; } printf("%ld\\n", s); }
+PROGRAM
+    tasks_source x $((times * 30000)) 'inout(x)' 'x = x + i;' >"tasks_$times.c"
+    cat >"nested_$times.c" <<PROGRAM
+long x;
+#pragma oss task inout(*p)
+void down(long *p, long n) { *p = *p + 1; if (n > 0) down(p, n - 1); }
+int main() { for (long i = 0; i < $((times * 500)); i++) { down(&x, 50); } }
+PROGRAM
+    filled_source $((times * 200000)) >"cells_$times.c"
+    tasks_source "a[$((times * 60000))]" $((times * 30000)) 'out(a[2 * i])' 'a[2 * i] = i;' >"lent_$times.c"
+  done
+}
+
+# growth_rows ROW: a row for each of these, by `ROW WHAT NAME`
+growth_rows() {
+  "$1" 'ticks: 300,000 turns of a loop' ticks
+  "$1" 'tasks of one creator: 30,000' tasks
+  "$1" 'nested tasks: 500 chains of 51' nested
+  "$1" 'cells of an array: 200,000 written' cells
+  "$1" 'lent ranges: 30,000 single cells apart' lent
+}
