@@ -48,7 +48,7 @@ fn code(rt: &(impl Abort + AllocGlobal)) -> Code {
         globals: List::from_vec(Vec::from_slice(rt.alloc(), &globals).expect(rt, "memory")),
         functions: numbers(rt, &[]),
     };
-    Code::build(parts).expect(rt, "a code")
+    Code::build(rt.alloc(), parts).expect(rt, "a code")
 }
 
 #[test]

@@ -2,7 +2,7 @@
 use Rattle.std.proofs.Common.{◌≡◌, ℕ, refl, sym, ap, ◌∙◌, subst, length, Bool, true, false}
 use Rattle.oss_code.specs.declared.code.CodeParts.{CodeParts}
 use Rattle.oss_machine.specs.Frames.{CodeScript}
-use Rattle.oss_machine.specs.Machines.{Standing, machine_at}
+use Rattle.oss_machine.specs.Machines.{Standing, machine_after, machine_at}
 use Rattle.oss_model.proofs.ContextLemmas.{length-table_from}
 use Rattle.oss_model.specs.Bodies.{Frame as Meant, frame_after, lent_when, one_more_created}
 use Rattle.oss_model.specs.Context.{Context, Entry, made, right_of, with_entries}
@@ -12,7 +12,7 @@ use Rattle.oss_body.specs.declared.act.Act.{Act}
 use Rattle.oss_body.specs.declared.act.Act.TheVariants as acts
 use Rattle.oss_body.specs.declared.draft.Draft.{Draft}
 use Rattle.oss_body.specs.Acts.{HasContext, act_seen, answer_to}
-use Rattle.oss_body.specs.Behind.{IsAhead, answered_standing, awaits_by, context_behind, created_by}
+use Rattle.oss_body.specs.Behind.{IsAhead, IsLight, answered_standing, awaits_by, context_behind, created_by}
 use Rattle.oss_body.specs.Drafts.{Alike, IsDraft}
 use Rattle.oss_body.specs.Kept.{kept}
 use Rattle.oss_body.specs.Places.{Framed, Placed, place_of}
@@ -111,7 +111,7 @@ awaits_after (acts.Print key text) v f = refl
 awaits_after acts.End v f = refl
 awaits_after (acts.Fault kind line key) v f = refl
 
-machine_behind : (code : CodeParts) (a : Act) (loaded : ℕ) (f : Meant CodeScript)
+pub machine_behind : (code : CodeParts) (a : Act) (loaded : ℕ) (f : Meant CodeScript)
     → answered_standing code (act_seen a) (answer_to (act_seen a) loaded) (machine_at code f.script f.answers)
     ≡ machine_at code (frame_after (act_seen a) (answer_to (act_seen a) loaded) f).script (frame_after (act_seen a) (answer_to (act_seen a) loaded) f).answers
 machine_behind code acts.Tick loaded f = refl
@@ -158,3 +158,32 @@ same_ahead code f m p waits ahead count same e counted = record {
   created = ap (λ (y : Framed). y.place.context.created) (sym e) ∙ sym counted;
   awaits = ap (λ (y : Framed). y.awaits) (sym e);
 }
+
+-- behind a tick or a light touch the machine has one answer more, and nothing is awaited that was not
+pub light_answered : (code : CodeParts) (a : Act) (x : Context) (v : ℕ) (m : Standing) → IsLight a x → machine_after code v m ≡ answered_standing code (act_seen a) v m
+light_answered code acts.Tick x v m h = refl
+light_answered code (acts.Load c) x v m h = refl
+light_answered code (acts.Store c w) x v m h = refl
+light_answered code (acts.Fold c op w slot) x v m h = absurd h
+light_answered code (acts.Create creation included) x v m h = absurd h
+light_answered code acts.Await x v m h = absurd h
+light_answered code acts.Wait x v m h = absurd h
+light_answered code (acts.WaitOn ranges) x v m h = absurd h
+light_answered code (acts.Release clauses included) x v m h = absurd h
+light_answered code (acts.Print key text) x v m h = absurd h
+light_answered code acts.End x v m h = absurd h
+light_answered code (acts.Fault kind line key) x v m h = absurd h
+
+pub light_awaits : (a : Act) (x : Context) (w : Bool) → IsLight a x → w ≡ awaits_by a w
+light_awaits acts.Tick x w h = refl
+light_awaits (acts.Load c) x w h = refl
+light_awaits (acts.Store c u) x w h = refl
+light_awaits (acts.Fold c op u slot) x w h = absurd h
+light_awaits (acts.Create creation included) x w h = absurd h
+light_awaits acts.Await x w h = absurd h
+light_awaits acts.Wait x w h = absurd h
+light_awaits (acts.WaitOn ranges) x w h = absurd h
+light_awaits (acts.Release clauses included) x w h = absurd h
+light_awaits (acts.Print key text) x w h = absurd h
+light_awaits acts.End x w h = absurd h
+light_awaits (acts.Fault kind line key) x w h = absurd h

@@ -30,6 +30,13 @@ context_behind (acts.WaitOn ranges) x = waited_on (map reading ranges) x
 context_behind (acts.Release clauses included) x = release clauses x
 context_behind _ x = x
 
+-- The act is a tick, or a touch that is no fold and changes nothing in this context.
+abbrev pub IsLight : Act → Context → Type 0
+IsLight acts.Tick x = Unit {0}
+IsLight (acts.Load c) x = Unit {0}
+IsLight (acts.Store c v) x = wrote c x ≡ x
+IsLight _ x = ⊥
+
 -- How many tasks are created behind an act, where so many were before it.
 abbrev pub created_by : Act → ℕ → ℕ
 created_by (acts.Create creation included) n = n + 1

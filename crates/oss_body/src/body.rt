@@ -33,7 +33,6 @@ use std::mem;
 /// machines of its tasks, and the slots of its own task.
 ///
 /// Contracts say what holds for each start and each list of answers of which this is the body (`IsBody`).
-#[derive(Drop)]
 pub struct Body {
     alloc: Global,
     own: Own,
@@ -44,6 +43,24 @@ pub struct Body {
     key: Option<Point>,
     ghost judged: { passed act tasks.top.place.context ≡ true },
     ghost keyed: { IsKey key tasks.top.place },
+}
+
+// By hand, so that who lets one go calls this, and does not take it apart at each exit.
+impl Drop for Body {
+    fn drop(self) {
+        let Body {
+            alloc: _,
+            own,
+            begun: _,
+            tasks,
+            act,
+            key,
+        } = self;
+        drop(own);
+        drop(tasks);
+        drop(act);
+        drop(key);
+    }
 }
 
 impl Body {

@@ -1,5 +1,6 @@
 //! One task of a body: its own, or one that is included.
-ghost use Rattle.std.specs.Prelude.{◌≡◌, suc, true, false, IfOk, OnErr, OnOk, None};
+ghost use Rattle.std.specs.Prelude.{◌≡◌, ℕ, Bool, suc, true, false, IfOk, OnErr, OnOk, None, Some};
+ghost use Rattle.oss_model.specs.Rights.{Right};
 ghost use Rattle.oss_machine.specs.Asks.{meant_order, script_of};
 ghost use Rattle.oss_machine.specs.Frames.{CodeScript};
 ghost use Rattle.oss_machine.specs.Machines.{asks, machine_after, machine_start};
@@ -20,12 +21,24 @@ use std::alloc::{AllocError, Global};
 use std::marker::Model;
 
 /// One task of a body. Between two calls its machine has looked at nothing that lies ahead.
-#[derive(Drop)]
 pub(crate) struct Frame {
     machine: Machine,
     place: Place,
     /// A wait for the newest child stands before the next ask.
     awaits: bool,
+}
+
+// By hand, so that who lets one go calls this, and does not take it apart at each exit.
+impl Drop for Frame {
+    fn drop(self) {
+        let Frame {
+            machine,
+            place,
+            awaits: _,
+        } = self;
+        drop(machine);
+        drop(place);
+    }
 }
 
 impl Model for Frame {
@@ -108,10 +121,65 @@ impl Frame {
         }
     }
 
+    /// The same where nothing wants memory: the act is a tick or a touch, and so is the next one, or that is a fault. Otherwise nothing changes.
+    fn follow_at_once(
+        &mut self,
+        code: &Code,
+        act: &Act,
+        loaded: u64,
+        key: &mut Option<Point>,
+    ) -> Option<Act>
+        requires passed { passed act.now self.old.place.context ≡ true }
+        requires key { IsKey key.old self.old.place }
+        ensures frame { (next : Act) → result ≡ Some next → (f : Meant CodeScript) → self.old ≡ kept code.now f → HasContext f.context act.now → self.new ≡ kept code.now (settled_frame (asks code.now) (frame_after (act_seen act.now) (answer_to (act_seen act.now) loaded) f)) }
+        ensures act { (next : Act) → result ≡ Some next → (slots : ℕ → Right) (included : Bool) (f : Meant CodeScript) → self.old ≡ kept code.now f → HasContext f.context act.now → act_seen next ≡ frame_act (asks code.now) slots included (settled_frame (asks code.now) (frame_after (act_seen act.now) (answer_to (act_seen act.now) loaded) f)) (settled_frame (asks code.now) (frame_after (act_seen act.now) (answer_to (act_seen act.now) loaded) f)).awaits }
+        ensures passed { (next : Act) → result ≡ Some next → passed next self.new.place.context ≡ true }
+        ensures child { (next : Act) → result ≡ Some next → HasContext self.new.place.context next }
+        ensures key { (next : Act) → result ≡ Some next → IsKey key.new self.new.place }
+        ensures stays { result ≡ None → self.new ≡ self.old }
+        ensures same { result ≡ None → key.new ≡ key.old }
+    {
+        if self.awaits || key.is_none() || !self.place.is_light(act) {
+            return None;
+        }
+        if !self.machine.answer_at_once(code, found_by(act, loaded)) {
+            return None;
+        }
+        self.place.pass(act);
+        Some(self.place
+            .judged_at_once(self.machine.ask(), self.machine.line(), key))
+    }
+
     /// The act has happened, which leaves the task the one that acts, and a load found this value: the task goes on, and this tells the act that stands
     /// next, as `next` does. Where memory is wanting the task stays.
-    #[tactic(auto, using(crate::proofs::BehindLemmas::behind_created, crate::proofs::BehindLemmas::draft_behind))]
     pub(crate) fn follow(
+        &mut self,
+        alloc: Global,
+        code: &Code,
+        own: &Context,
+        included: bool,
+        act: &Act,
+        loaded: u64,
+        key: &mut Option<Point>,
+    ) -> Result<Act, AllocError>
+        requires passed { passed act.now self.old.place.context ≡ true }
+        requires key { IsKey key.old self.old.place }
+        ensures frame { OnOk result ((f : Meant CodeScript) → self.old ≡ kept code.now f → HasContext f.context act.now → self.new ≡ kept code.now (settled_frame (asks code.now) (frame_after (act_seen act.now) (answer_to (act_seen act.now) loaded) f))) }
+        ensures act { IfOk result (λ next. (f : Meant CodeScript) → self.old ≡ kept code.now f → HasContext f.context act.now → act_seen next ≡ frame_act (asks code.now) (right_of own.now) included (settled_frame (asks code.now) (frame_after (act_seen act.now) (answer_to (act_seen act.now) loaded) f)) (settled_frame (asks code.now) (frame_after (act_seen act.now) (answer_to (act_seen act.now) loaded) f)).awaits) }
+        ensures passed { IfOk result (λ next. passed next self.new.place.context ≡ true) }
+        ensures child { IfOk result (λ next. HasContext self.new.place.context next) }
+        ensures key { OnOk result (IsKey key.new self.new.place) }
+        ensures err { OnErr result (self.new ≡ self.old) }
+    {
+        match self.follow_at_once(code, act, loaded, key) {
+            Some(next) => Ok(next),
+            None => self.follow_by_draft(alloc, code, own, included, act, loaded, key),
+        }
+    }
+
+    /// The same by a draft of the next act. Where memory is wanting the task stays.
+    #[tactic(auto, using(crate::proofs::BehindLemmas::behind_created, crate::proofs::BehindLemmas::draft_behind))]
+    fn follow_by_draft(
         &mut self,
         alloc: Global,
         code: &Code,
@@ -194,6 +262,17 @@ impl Frame {
         let path = self.place.key()?;
         let context = creation.context.copy()?;
         Frame::new(alloc, code, &creation.order, Place::new(context, path))
+    }
+}
+
+/// The answer to an act where a load finds this value.
+#[inline(always)]
+fn found_by(act: &Act, loaded: u64) -> u64
+    ensures { result ≡ answer_to (act_seen act.now) loaded }
+{
+    match act {
+        Act::Load(_) => loaded,
+        _ => 0,
     }
 }
 

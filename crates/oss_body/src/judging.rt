@@ -2,8 +2,11 @@
 ghost use Rattle.std.specs.Prelude.{◌≡◌, ◌||◌, ℕ, Bool, true, false, None, Some};
 ghost use Rattle.std.specs.Result.{result_err};
 ghost use Rattle.oss_judge.specs.Given.{IsGiven};
+ghost use Rattle.oss_machine.specs.Asks.{meant_ask};
 ghost use Rattle.oss_machine.specs.Frames.{CodeScript};
-ghost use Rattle.oss_model.specs.Bodies.{Fault, Frame as Meant, judged_act, key_of};
+ghost use Rattle.oss_machine.specs.Hastes.{is_quick_ask};
+ghost use Rattle.oss_model.specs.Bodies.{Fault, Frame as Meant, act_of_ask, judged_act, key_of};
+ghost use Rattle.oss_model.specs.Rights.{Right};
 ghost use Rattle.oss_model.specs.Context.{creation_fault};
 ghost use Rattle.oss_body.specs.Acts.{HasContext, act_seen, passed};
 ghost use Rattle.oss_body.specs.Drafts.{IsDraft, draft_fault, drafted, plain_fault};
@@ -14,6 +17,7 @@ use crate::draft::Draft;
 use crate::place::Place;
 use oss_code::TaskOrder;
 use oss_judge::Given;
+use oss_machine::Ask;
 use oss_model::{FaultKind, Point};
 use std::mem;
 
@@ -75,6 +79,31 @@ impl Place {
         match found {
             Ok(()) => act,
             Err(kind) => self.fault(kind, line, key),
+        }
+    }
+
+    /// The act that a tick or a touch is, or the fault in its place. A fault takes the key, which is that at which the task acts.
+    #[inline(always)]
+    pub(crate) fn judged_at_once(&self, ask: &Ask, line: u32, key: &mut Option<Point>) -> Act
+        requires quick { is_quick_ask (meant_ask ask.now) ≡ true }
+        requires key { key.old ≡ Some (key_at self.now) }
+        ensures act { (slots : ℕ → Right) (included : Bool) (f : Meant CodeScript) → self.now ≡ place_of f → act_seen result ≡ act_of_ask slots included f (meant_ask ask.now) line }
+        ensures passed { passed result self.now.context ≡ true }
+        ensures child { HasContext self.now.context result }
+        ensures key { IsKey key.new self.now }
+    {
+        match ask {
+            Ask::Tick => self.unless_fault(self.context.may_tick(), Act::Tick, line, key),
+            Ask::Read(cell) => {
+                self.unless_fault(self.context.may_read(*cell), Act::Load(*cell), line, key)
+            }
+            Ask::Write(cell, value) => {
+                let found = self.context.may_write(*cell);
+                self.unless_fault(found, Act::Store(*cell, *value), line, key)
+            }
+            Ask::Fault(kind) => self.fault(*kind, line, key),
+            Ask::End => Act::End,
+            _ => unreachable!(),
         }
     }
 

@@ -18,12 +18,25 @@ use oss_syntax::{Access, Mode, Op};
 use std::alloc::{AllocError, Global};
 
 /// How a body started, and the slots of its task.
-#[derive(Drop)]
 pub(crate) struct Own {
     pub(crate) context: Context,
     pub(crate) wait: bool,
     pub(crate) priority: i64,
     pub(crate) slots: Slots,
+}
+
+// By hand, so that who lets one go calls this, and does not take it apart at each exit.
+impl Drop for Own {
+    fn drop(self) {
+        let Own {
+            context,
+            wait: _,
+            priority: _,
+            slots,
+        } = self;
+        drop(context);
+        drop(slots);
+    }
 }
 
 impl Own {

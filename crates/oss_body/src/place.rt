@@ -4,7 +4,7 @@ ghost use Rattle.oss_judge.specs.Parts.{reading};
 ghost use Rattle.oss_model.specs.Bodies.{lent_when, one_more_created};
 ghost use Rattle.oss_model.specs.Context.{Context as Meaning, create_fault, made, release, right_of, tick_fault, waited, waited_on, wrote};
 ghost use Rattle.oss_body.specs.Acts.{is_none, passed};
-ghost use Rattle.oss_body.specs.Behind.{behind_creation, context_behind, created_by};
+ghost use Rattle.oss_body.specs.Behind.{IsLight, behind_creation, context_behind, created_by};
 ghost use Rattle.oss_body.specs.Places.{key_at};
 
 use crate::act::{Act, Creation};
@@ -16,10 +16,18 @@ use std::marker::Model;
 
 /// A task that runs in a body: its context, and its point. The point has one number more than there are tasks above it, which are 64
 /// at most.
-#[derive(Drop)]
 pub(crate) struct Place {
     pub(crate) context: Context,
     pub(crate) path: Point,
+}
+
+// By hand, so that who lets one go calls this, and does not take it apart at each exit.
+impl Drop for Place {
+    fn drop(self) {
+        let Place { context, path } = self;
+        drop(context);
+        drop(path);
+    }
 }
 
 impl Model for Place {
@@ -158,6 +166,34 @@ impl Place {
         ensures err { OnErr result (self.new ≡ self.old) }
     {
         self.context.took_back(named)
+    }
+
+    /// Whether an act is a tick, or a touch that is no fold and changes nothing here.
+    #[inline(always)]
+    pub(crate) fn is_light(&self, act: &Act) -> bool
+        ensures { result ≡ true → IsLight act.now self.now.context }
+    {
+        match act {
+            Act::Tick => true,
+            Act::Load(_) => true,
+            Act::Store(cell, _) => self.context.is_written(*cell),
+            _ => false,
+        }
+    }
+
+    /// Such an act has happened. It takes no memory.
+    #[inline(always)]
+    pub(crate) fn pass(&mut self, act: &Act)
+        requires light { IsLight act.now self.old.context }
+        requires passed { passed act.now self.old.context ≡ true }
+        ensures { self.new ≡ record self.old { context = context_behind act.now self.old.context } }
+    {
+        match act {
+            Act::Tick => self.tick(),
+            Act::Load(_) => {}
+            Act::Store(_, _) => {}
+            _ => unreachable!(),
+        }
     }
 
     /// An act has happened that leaves the task the one that acts. Where memory is wanting the place stays.

@@ -19,12 +19,24 @@ use oss_model::Point;
 use std::alloc::{AllocError, Global};
 
 /// The tasks of a body: the one that acts, and below it those that include it, the body's own first.
-#[derive(Drop)]
 pub(crate) struct Tasks {
     pub(crate) top: Frame,
     pub(crate) below: Below,
     /// The body's own task has ended.
     pub(crate) ended: bool,
+}
+
+// By hand, so that who lets one go calls this, and does not take it apart at each exit.
+impl Drop for Tasks {
+    fn drop(self) {
+        let Tasks {
+            top,
+            below,
+            ended: _,
+        } = self;
+        drop(top);
+        drop(below);
+    }
 }
 
 /// Which task acts behind an act.

@@ -1,3 +1,4 @@
 pub mod Globals
+pub mod Rooms
 pub mod Shapes
 pub mod Soundness

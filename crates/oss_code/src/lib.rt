@@ -5,6 +5,7 @@ mod code;
 mod global;
 mod instr;
 mod order;
+mod rooms;
 mod sound;
 #[cfg(test)]
 mod tests;
@@ -14,5 +15,6 @@ pub use code::{Code, CodeParts};
 pub use global::GlobalPlace;
 pub use instr::{Direction, Indices, Instr, Operator, PartForm, SectionBase, SectionForm};
 pub use order::TaskOrder;
+pub use rooms::room_at;
 pub use oss_meaning::{Declared, Value};
 pub use ways::{Entry, Way, Ways};

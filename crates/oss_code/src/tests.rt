@@ -28,7 +28,7 @@ fn built<const N: usize>(
         range: Range { lo: 1, hi: 3 },
         columns: None,
     };
-    Code::build(CodeParts {
+    Code::build(rt.alloc(), CodeParts {
         instrs: List::from_vec(Vec::from_array(rt.alloc(), instrs).expect(rt, "memory")),
         lines: numbers(rt, lines),
         depths: numbers(rt, depths),

@@ -147,6 +147,20 @@ impl Context {
         (right::told(right).is_released(), end)
     }
 
+    /// Whether a cell is written already, or is none, so that marking it as written changes nothing. It takes no memory.
+    #[inline(always)]
+    pub fn is_written(&self, cell: u32) -> bool
+        ensures { result ≡ true → wrote cell self.now ≡ self.now }
+    {
+        if cell >= self.cells {
+            return true;
+        }
+        match self.marks.get(cell) {
+            Some(_) => false,
+            None => true,
+        }
+    }
+
     /// Marks a cell as written. A cell that is written already takes no memory. Where memory is wanting the context stays.
     pub fn wrote(&mut self, cell: u32) -> Result<(), AllocError>
         ensures ok { OnOk result (self.new ≡ wrote cell self.old) }

@@ -34,9 +34,16 @@ fn jump_by(jump: Jump, passed: u32) -> Instr
 }
 
 /// Instructions in their order: contracts see their list.
-#[derive(Drop)]
 pub struct Listing {
     code: Vec<Lined>,
+}
+
+// By hand, so that who lets one go calls this, and does not take it apart at each exit.
+impl Drop for Listing {
+    fn drop(self) {
+        let Listing { code } = self;
+        drop(code);
+    }
 }
 
 impl Model for Listing {

@@ -13,13 +13,28 @@ use std::alloc::{AllocError, Global};
 use std::marker::Model;
 
 /// The globals and functions of a program, which are found by name at once: contracts see its items.
-#[derive(Drop)]
 pub struct Names<'p> {
     alloc: Global,
     items: &'p [Item],
     table: NameTable<'p>,
     found: Vec<Found>,
     functions: Vec<&'p Function>,
+}
+
+// By hand, so that who lets one go calls this, and does not take it apart at each exit.
+impl<'p> Drop for Names<'p> {
+    fn drop(self) {
+        let Names {
+            alloc: _,
+            items: _,
+            table,
+            found,
+            functions,
+        } = self;
+        drop(table);
+        drop(found);
+        drop(functions);
+    }
 }
 
 impl<'p> Model for Names<'p> {

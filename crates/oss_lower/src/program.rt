@@ -37,7 +37,7 @@ fn lower_program(alloc: Global, program: &Program) -> Result<Code, AllocError>
     ensures sound { IfOk result (λ code. IsSound code) }
 {
     codes_are_sound();
-    match Code::build(parts(alloc, program)?) {
+    match Code::build(alloc, parts(alloc, program)?) {
         Some(code) => Ok(code),
         None => unreachable!(),
     }

@@ -3,6 +3,7 @@ pub mod AskLemmas
 pub mod CommitLemmas
 pub mod EffectLemmas
 pub mod GlobalLemmas
+pub mod HasteLemmas
 pub mod LiveTheorem
 pub mod Measures
 pub mod RangeLemmas

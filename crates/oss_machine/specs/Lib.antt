@@ -1,6 +1,7 @@
 pub mod Activations
 pub mod Asks
 pub mod Frames
+pub mod Hastes
 pub mod Laws
 pub mod Machines
 pub mod Outcomes

@@ -11,6 +11,8 @@ mod bodies;
 mod cells;
 mod directives;
 mod first;
+mod haste;
+mod hasten;
 mod jumps;
 mod laws;
 mod locals;

@@ -84,7 +84,7 @@ fn code<const N: usize>(
         globals: List::from_vec(Vec::from_slice(rt.alloc(), &globals).expect(rt, "memory")),
         functions: numbers(rt, functions),
     };
-    Code::build(parts).expect(rt, "a code")
+    Code::build(rt.alloc(), parts).expect(rt, "a code")
 }
 
 /// There is one range, of these cells.

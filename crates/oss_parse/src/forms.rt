@@ -228,8 +228,13 @@ pub fn declaration_statement(alloc: Global, tokens: &mut Cursor<'_>) -> Result<S
     ensures { ReadsAs (read_mapped former (read_both (read_declaration read_expression) (read_one (symbol_at (codes ";")))) tokens.old) result tokens.new }
 {
     let statement = declaration(alloc, tokens)?;
-    tokens.symbol(b";")?;
-    Ok(statement)
+    match tokens.symbol(b";") {
+        Ok(_) => Ok(statement),
+        Err(unread) => {
+            drop(statement);
+            Err(unread)
+        }
+    }
 }
 
 /// simple ";"
@@ -238,8 +243,13 @@ pub fn simple_statement(alloc: Global, tokens: &mut Cursor<'_>) -> Result<Stmt, 
     ensures { ReadsAs (read_simple_statement read_expression tokens.old) result tokens.new }
 {
     let statement = simple(alloc, tokens)?;
-    tokens.symbol(b";")?;
-    Ok(statement)
+    match tokens.symbol(b";") {
+        Ok(_) => Ok(statement),
+        Err(unread) => {
+            drop(statement);
+            Err(unread)
+        }
+    }
 }
 
 /// "return" [ expr ] ";"

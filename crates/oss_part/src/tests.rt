@@ -29,7 +29,7 @@ fn code(rt: &(impl Abort + AllocGlobal), instrs: Vec<Instr>, depths: &[u32]) -> 
         globals: List::from_vec(Vec::from_slice(rt.alloc(), &globals).expect(rt, "memory")),
         functions: numbers(rt, &[]),
     };
-    Code::build(parts).expect(rt, "a code")
+    Code::build(rt.alloc(), parts).expect(rt, "a code")
 }
 
 /// The body of main at its start, with fuel for so many ticks.

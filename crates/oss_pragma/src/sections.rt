@@ -5,7 +5,7 @@ ghost use Rattle.oss_grammar.specs.Pragmas.{form_of_inner};
 ghost use Rattle.oss_grammar.specs.Reading.{read_both, read_mapped, read_one};
 ghost use Rattle.oss_pragma.specs.ExpressionReading.{read_brackets, read_expression, latter, read_index, read_more, read_next};
 ghost use Rattle.oss_pragma.specs.PragmaReading.{read_based, read_bounds, read_bracketed_sections, read_closed_turns, read_columns, read_dimension, read_indices, read_inner, read_inner_from, read_length, read_many, read_part, read_pointed, read_section, read_sections, read_shape, read_span, read_turns, read_upper};
-ghost use Rattle.oss_pragma.specs.TokenValues.{symbol_at};
+ghost use Rattle.oss_pragma.specs.TokenValues.{name_at, symbol_at};
 ghost use Rattle.oss_pragma.specs.Told.{ReadsAs};
 
 use crate::cursor::{Cursor, Named, Unread};
@@ -25,14 +25,27 @@ fn upper(alloc: Global, tokens: &mut Cursor<'_>) -> Result<Option<Expr>, Unread>
     Ok(Some(last))
 }
 
+/// ":" [ expr ]
+#[tactic(auto, unfolding(crate::specs::PragmaReading::read_span))]
+fn span_end(alloc: Global, tokens: &mut Cursor<'_>) -> Result<Option<Expr>, Unread>
+    ensures { ReadsAs (read_mapped latter (read_both (read_one (symbol_at (codes ":"))) (read_upper read_expression)) tokens.old) result tokens.new }
+{
+    tokens.symbol(b":")?;
+    upper(alloc, tokens)
+}
+
 /// ":" [ expr ], behind a lower end
 #[tactic(auto, unfolding(crate::specs::PragmaReading::read_span))]
 fn span(alloc: Global, first: Option<Expr>, tokens: &mut Cursor<'_>) -> Result<Inner, Unread>
     ensures { ReadsAs (read_span read_expression first tokens.old) result tokens.new }
 {
-    tokens.symbol(b":")?;
-    let last = upper(alloc, tokens)?;
-    Ok(Inner::Span(first, last))
+    match span_end(alloc, tokens) {
+        Ok(last) => Ok(Inner::Span(first, last)),
+        Err(unread) => {
+            drop(first);
+            Err(unread)
+        }
+    }
 }
 
 /// ";" expr, behind a first place
@@ -40,9 +53,13 @@ fn span(alloc: Global, first: Option<Expr>, tokens: &mut Cursor<'_>) -> Result<I
 fn length(alloc: Global, first: Expr, tokens: &mut Cursor<'_>) -> Result<Inner, Unread>
     ensures { ReadsAs (read_length read_expression first tokens.old) result tokens.new }
 {
-    tokens.symbol(b";")?;
-    let count = expression(alloc, tokens)?;
-    Ok(Inner::Length(first, count))
+    match turn_count(alloc, tokens) {
+        Ok(count) => Ok(Inner::Length(first, count)),
+        Err(unread) => {
+            drop(first);
+            Err(unread)
+        }
+    }
 }
 
 /// What stands behind the first expression between the brackets.
@@ -86,6 +103,14 @@ fn pointed(alloc: Global, tokens: &mut Cursor<'_>) -> Result<Section, Unread>
     })
 }
 
+/// "]" name
+fn shaped(alloc: Global, tokens: &mut Cursor<'_>) -> Result<Named, Unread>
+    ensures { ReadsAs (read_mapped latter (read_both (read_one (symbol_at (codes "]"))) (read_one name_at)) tokens.old) result tokens.new }
+{
+    tokens.symbol(b"]")?;
+    tokens.name(alloc)
+}
+
 /// "[" expr "]" name
 #[tactic(auto, unfolding(crate::specs::PragmaReading::read_shape))]
 fn shape(alloc: Global, tokens: &mut Cursor<'_>) -> Result<Section, Unread>
@@ -93,14 +118,18 @@ fn shape(alloc: Global, tokens: &mut Cursor<'_>) -> Result<Section, Unread>
 {
     let line = tokens.symbol(b"[")?;
     let count = expression(alloc, tokens)?;
-    tokens.symbol(b"]")?;
-    let base = tokens.name(alloc)?;
-    Ok(Section {
-        form: Form::Shape(count),
-        line,
-        base_line: base.line,
-        base: base.name,
-    })
+    match shaped(alloc, tokens) {
+        Ok(base) => Ok(Section {
+            form: Form::Shape(count),
+            line,
+            base_line: base.line,
+            base: base.name,
+        }),
+        Err(unread) => {
+            drop(count);
+            Err(unread)
+        }
+    }
 }
 
 /// "[" inner "]"
@@ -110,8 +139,13 @@ fn dimension(alloc: Global, tokens: &mut Cursor<'_>) -> Result<Inner, Unread>
 {
     tokens.symbol(b"[")?;
     let inner = inner(alloc, tokens)?;
-    tokens.symbol(b"]")?;
-    Ok(inner)
+    match tokens.symbol(b"]") {
+        Ok(_) => Ok(inner),
+        Err(unread) => {
+            drop(inner);
+            Err(unread)
+        }
+    }
 }
 
 /// The form of a section with one such part.
@@ -133,8 +167,13 @@ fn columns(alloc: Global, rows: Inner, tokens: &mut Cursor<'_>) -> Result<Form, 
     if !tokens.begins_with_symbol(b"[") {
         return Ok(form_of_one(rows));
     }
-    let columns = dimension(alloc, tokens)?;
-    Ok(Form::Grid(rows, columns))
+    match dimension(alloc, tokens) {
+        Ok(columns) => Ok(Form::Grid(rows, columns)),
+        Err(unread) => {
+            drop(rows);
+            Err(unread)
+        }
+    }
 }
 
 /// "[" inner "]" [ "[" inner "]" ], behind a base
@@ -176,8 +215,13 @@ fn index(alloc: Global, tokens: &mut Cursor<'_>) -> Result<Expr, Unread>
 {
     tokens.symbol(b"[")?;
     let at = expression(alloc, tokens)?;
-    tokens.symbol(b"]")?;
-    Ok(at)
+    match tokens.symbol(b"]") {
+        Ok(_) => Ok(at),
+        Err(unread) => {
+            drop(at);
+            Err(unread)
+        }
+    }
 }
 
 /// "[" expr "]" [ "[" expr "]" ]
@@ -189,8 +233,13 @@ fn indices(alloc: Global, tokens: &mut Cursor<'_>) -> Result<(Expr, Option<Expr>
     if !tokens.begins_with_symbol(b"[") {
         return Ok((first, None));
     }
-    let second = index(alloc, tokens)?;
-    Ok((first, Some(second)))
+    match index(alloc, tokens) {
+        Ok(second) => Ok((first, Some(second))),
+        Err(unread) => {
+            drop(first);
+            Err(unread)
+        }
+    }
 }
 
 /// ";" expr
@@ -208,8 +257,13 @@ fn bounds(alloc: Global, tokens: &mut Cursor<'_>) -> Result<(Expr, Expr), Unread
 {
     tokens.symbol(b"=")?;
     let first = expression(alloc, tokens)?;
-    let count = turn_count(alloc, tokens)?;
-    Ok((first, count))
+    match turn_count(alloc, tokens) {
+        Ok(count) => Ok((first, count)),
+        Err(unread) => {
+            drop(first);
+            Err(unread)
+        }
+    }
 }
 
 /// name "=" expr ";" expr
@@ -237,8 +291,13 @@ fn closed_turns(alloc: Global, tokens: &mut Cursor<'_>) -> Result<Turns, Unread>
 {
     tokens.symbol(b",")?;
     let turns = turns(alloc, tokens)?;
-    tokens.symbol(b"}")?;
-    Ok(turns)
+    match tokens.symbol(b"}") {
+        Ok(_) => Ok(turns),
+        Err(unread) => {
+            drop(turns);
+            Err(unread)
+        }
+    }
 }
 
 /// indices "," turns "}"
@@ -246,8 +305,13 @@ fn places(alloc: Global, tokens: &mut Cursor<'_>) -> Result<((Expr, Option<Expr>
     ensures { ReadsAs (read_both (read_indices read_expression) (read_closed_turns read_expression) tokens.old) result tokens.new }
 {
     let indices = indices(alloc, tokens)?;
-    let turns = closed_turns(alloc, tokens)?;
-    Ok((indices, turns))
+    match closed_turns(alloc, tokens) {
+        Ok(turns) => Ok((indices, turns)),
+        Err(unread) => {
+            drop(indices);
+            Err(unread)
+        }
+    }
 }
 
 /// "{" name indices "," turns "}"
@@ -327,8 +391,13 @@ pub fn bracketed_sections(alloc: Global, tokens: &mut Cursor<'_>) -> Result<List
 {
     tokens.symbol(b"(")?;
     let sections = sections(alloc, tokens)?;
-    tokens.symbol(b")")?;
-    Ok(sections)
+    match tokens.symbol(b")") {
+        Ok(_) => Ok(sections),
+        Err(unread) => {
+            drop(sections);
+            Err(unread)
+        }
+    }
 }
 
 /// "(" expr ")"
@@ -338,6 +407,11 @@ pub fn brackets(alloc: Global, tokens: &mut Cursor<'_>) -> Result<Expr, Unread>
 {
     tokens.symbol(b"(")?;
     let inner = expression(alloc, tokens)?;
-    tokens.symbol(b")")?;
-    Ok(inner)
+    match tokens.symbol(b")") {
+        Ok(_) => Ok(inner),
+        Err(unread) => {
+            drop(inner);
+            Err(unread)
+        }
+    }
 }
