@@ -6,8 +6,6 @@ mod cells;
 mod lines;
 mod run;
 mod runs;
-#[cfg(test)]
-mod tests;
 mod unused;
 mod watch;
 

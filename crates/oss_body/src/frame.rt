@@ -146,8 +146,10 @@ impl Frame {
             return None;
         }
         self.place.pass(act);
-        Some(self.place
-            .judged_at_once(self.machine.ask(), self.machine.line(), key))
+        Some(
+            self.place
+                .judged_at_once(self.machine.ask(), self.machine.line(), key),
+        )
     }
 
     /// The act has happened, which leaves the task the one that acts, and a load found this value: the task goes on, and this tells the act that stands

@@ -15,7 +15,7 @@ use crate::waiting::{act_waits_act, act_waits_cell, cell_waits_act, cell_waits_c
 use oss_span::Link;
 
 /// The last event of a link.
-#[derive(Clone, Copy, Debug)]
+#[derive(Clone, Copy)]
 pub enum Last {
     /// The act with this number.
     Act(u64),

@@ -1,7 +1,7 @@
 //! What is looked for among the notes of a run.
 
 /// A kind of acts.
-#[derive(Clone, Copy, Debug)]
+#[derive(Clone, Copy)]
 pub enum Sought {
     /// Ticks.
     Tick,

@@ -5,7 +5,7 @@ ghost use Rattle.std.specs.Option.{ForSome};
 use oss_syntax::Range;
 
 /// Where a global lies.
-#[derive(Clone, Copy, Debug)]
+#[derive(Clone, Copy)]
 pub struct GlobalPlace {
     /// Its cells.
     pub range: Range,

@@ -8,7 +8,7 @@ use std::mem::size_of;
 /// instruction where nothing else is said. A jump tells how many instructions it passes. All jumps go forward but two: `Again`,
 /// which asks for a tick first, and `NextTurn`, of which a multidependency makes a bounded number. `takes`, `leaves`, `leads` and
 /// `enters` tell of each instruction what they say. An instruction takes at most 64 bytes.
-#[derive(Debug, Drop)]
+#[derive(Drop)]
 pub enum Instr {
     /// Leaves this number.
     Push(u64),
@@ -105,7 +105,7 @@ pub enum Instr {
 const _: () = prove!(size_of::<Instr>() <= 64);
 
 /// Which way a pointer moves (C11 6.5.6p8).
-#[derive(Clone, Copy, Debug, PartialEq, Eq)]
+#[derive(Clone, Copy)]
 pub enum Direction {
     /// By so many elements on.
     Forth,
@@ -114,7 +114,7 @@ pub enum Direction {
 }
 
 /// A binary operator on two numbers, and which of them are unsigned (C11 6.3.1.8).
-#[derive(Clone, Copy, Debug, PartialEq, Eq)]
+#[derive(Clone, Copy)]
 pub struct Operator {
     /// What is done with the numbers.
     pub op: BinOp,
@@ -125,7 +125,7 @@ pub struct Operator {
 }
 
 /// What a section is over.
-#[derive(Clone, Copy, Debug, PartialEq, Eq)]
+#[derive(Clone, Copy)]
 pub enum SectionBase {
     /// The global with this number.
     Global(u32),
@@ -136,7 +136,7 @@ pub enum SectionBase {
 }
 
 /// How a section names cells of its base (OmpSs-2, array sections), its numbers being on the stack.
-#[derive(Clone, Copy, Debug, PartialEq, Eq)]
+#[derive(Clone, Copy)]
 pub enum SectionForm {
     /// All of a global.
     Whole,
@@ -151,7 +151,7 @@ pub enum SectionForm {
 }
 
 /// How a section names a part of one dimension.
-#[derive(Clone, Copy, Debug, PartialEq, Eq)]
+#[derive(Clone, Copy)]
 pub enum PartForm {
     /// `[e]`, with one number.
     Element,
@@ -167,7 +167,7 @@ pub enum PartForm {
 }
 
 /// How many indices each turn of a multidependency has.
-#[derive(Clone, Copy, Debug, PartialEq, Eq)]
+#[derive(Clone, Copy)]
 pub enum Indices {
     /// That of an element of an array of one dimension, or of a row of one of two.
     One,

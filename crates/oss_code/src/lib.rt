@@ -7,14 +7,12 @@ mod instr;
 mod order;
 mod rooms;
 mod sound;
-#[cfg(test)]
-mod tests;
 mod ways;
 
 pub use code::{Code, CodeParts};
 pub use global::GlobalPlace;
 pub use instr::{Direction, Indices, Instr, Operator, PartForm, SectionBase, SectionForm};
 pub use order::TaskOrder;
-pub use rooms::room_at;
 pub use oss_meaning::{Declared, Value};
+pub use rooms::room_at;
 pub use ways::{Entry, Way, Ways};

@@ -3,7 +3,7 @@ use oss_meaning::Value;
 use oss_syntax::{Access, List};
 
 /// What a new task is to run, and what the clauses of its creation gave (OmpSs-2, the task directive).
-#[derive(Debug, Drop)]
+#[derive(Drop)]
 pub struct TaskOrder {
     /// The instruction with which its body begins. That of `main` is 0.
     pub entry: u32,

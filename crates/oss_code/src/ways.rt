@@ -5,7 +5,7 @@ ghost use Rattle.oss_code.specs.Shapes.{takes, leaves, leads, enters, operands_o
 use crate::instr::{Indices, Instr, PartForm, SectionForm};
 
 /// A way from an instruction to another of the same function.
-#[derive(Clone, Copy, Debug, PartialEq, Eq)]
+#[derive(Clone, Copy)]
 pub enum Way {
     /// To the next instruction, but so many further on.
     Ahead(u32),
@@ -14,7 +14,7 @@ pub enum Way {
 }
 
 /// The ways from an instruction.
-#[derive(Clone, Copy, Debug, PartialEq, Eq)]
+#[derive(Clone, Copy)]
 pub enum Ways {
     /// It leads nowhere in the same function.
     End,
@@ -25,7 +25,7 @@ pub enum Ways {
 }
 
 /// What an instruction enters beside the ways that it leads: there a stack of values begins anew.
-#[derive(Clone, Copy, Debug, PartialEq, Eq)]
+#[derive(Clone, Copy)]
 pub enum Entry {
     /// Nothing.
     Nothing,

@@ -15,7 +15,7 @@ use oss_sched::number_within;
 use thiserror::Error;
 
 /// A schedule and the program that it is replayed on, by the names of their files.
-#[derive(Clone, Copy, Debug)]
+#[derive(Clone, Copy)]
 pub struct Replay<'w> {
     /// The file with the program.
     pub file: &'w str,
@@ -26,7 +26,7 @@ pub struct Replay<'w> {
 }
 
 /// What the words ask for. It borrows the names of files from them.
-#[derive(Clone, Copy, Debug)]
+#[derive(Clone, Copy)]
 pub enum Command<'w> {
     /// To run the program in a file, with these options.
     Run(&'w str, Options),
@@ -45,7 +45,7 @@ pub enum Command<'w> {
 }
 
 /// Why words are refused.
-#[derive(Clone, Copy, Debug, PartialEq, Eq, Error)]
+#[derive(Clone, Copy, Debug, Error)]
 pub enum WordsRefused {
     /// They are no command with its operands and options.
     #[error("the words are no command with its operands and options")]

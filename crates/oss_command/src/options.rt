@@ -10,7 +10,7 @@ use crate::values::{Stands, value_of};
 use oss_sched::number_within;
 
 /// How a program is run.
-#[derive(Clone, Copy, Debug, PartialEq, Eq)]
+#[derive(Clone, Copy)]
 pub enum RunMode {
     /// One task after the other, each where it is created.
     Serial,
@@ -19,7 +19,7 @@ pub enum RunMode {
 }
 
 /// How it is told what tasks wait for.
-#[derive(Clone, Copy, Debug, PartialEq, Eq)]
+#[derive(Clone, Copy)]
 pub enum DepsKind {
     /// By ranges of cells that have the same accesses, whose flags messages move.
     Regions,
@@ -30,7 +30,7 @@ pub enum DepsKind {
 }
 
 /// The options of a run. What the words do not say has its default.
-#[derive(Clone, Copy, Debug, PartialEq, Eq)]
+#[derive(Clone, Copy)]
 pub struct Options {
     /// `--mode=`; waves where nothing is said.
     pub mode: RunMode,

@@ -5,7 +5,7 @@ ghost use Rattle.std.specs.Prelude.{◌≤◌};
 use crate::options::Options;
 
 /// The program that is generated from a number on, and how it is run.
-#[derive(Clone, Copy, Debug)]
+#[derive(Clone, Copy)]
 pub struct Soak {
     /// The number from which it is generated; only its last 8 bits count.
     pub number: u64,

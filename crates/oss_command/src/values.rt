@@ -6,7 +6,7 @@ ghost use Rattle.oss_command.specs.Commands.{behind as behind_in, standing, valu
 ghost use Rattle.oss_command.specs.Values.{stands};
 
 /// How an option stands among words.
-#[derive(Clone, Copy, Debug)]
+#[derive(Clone, Copy)]
 pub enum Stands<'w> {
     /// It does not.
     Absent,

@@ -3,7 +3,7 @@ use oss_ranges::RangeMap;
 use oss_syntax::Op;
 
 /// How a task gives up a cell.
-#[derive(Clone, Copy, Debug, PartialEq, Eq)]
+#[derive(Clone, Copy, PartialEq, Eq)]
 pub enum Owed {
     /// By a let.
     Let,

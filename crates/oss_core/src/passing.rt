@@ -19,7 +19,7 @@ use std::alloc::AllocError;
 const CELLS: u32 = 1_048_576;
 
 /// Neighbouring cells of one task that a pass has given up one after the other in one way: by lets, or by joins of their slots.
-#[derive(Clone, Copy, Debug)]
+#[derive(Clone, Copy)]
 pub struct Passed {
     pub task: TaskNo,
     pub range: Range,

@@ -7,7 +7,7 @@ use oss_syntax::Mode;
 use std::alloc::{AllocError, Global};
 
 /// The accesses to a stretch of cells that no cut divides, in the order in which their tasks were opened. The first is main's.
-#[derive(Debug, Drop)]
+#[derive(Drop)]
 pub(crate) struct Column {
     pub(crate) lo: u32,
     pub(crate) hi: u32,

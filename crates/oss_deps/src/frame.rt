@@ -5,7 +5,7 @@ use oss_syntax::Mode;
 
 /// What stands fast of an access to a stretch of cells, and its links in the list of such accesses: where that of the creator
 /// stands, the newest one of a child, and the next one of a sibling.
-#[derive(Clone, Copy, Debug)]
+#[derive(Clone, Copy)]
 pub(crate) struct Frame {
     /// The number of tasks that were opened up to this one.
     pub(crate) number: usize,
@@ -17,7 +17,7 @@ pub(crate) struct Frame {
 }
 
 /// How far an access has come: whether its task has given up the cells, and the first one of a child that is not done.
-#[derive(Clone, Copy, Debug)]
+#[derive(Clone, Copy)]
 pub(crate) struct Mark {
     pub(crate) given: bool,
     pub(crate) first: Option<usize>,

@@ -1,7 +1,7 @@
 use oss_syntax::{Access, List};
 
 /// That a task was opened: its number, that of its creator, and its accesses. Main is number 0, and is never opened.
-#[derive(Debug, Drop)]
+#[derive(Drop)]
 pub struct Open {
     pub task: u64,
     pub parent: u64,

@@ -5,7 +5,7 @@ ghost use Rattle.oss_deps.specs.Wants.{is_fold_of, is_read, may_pass, want_above
 use oss_syntax::{Mode, Op};
 
 /// What an access waits for: a write, a read, or the join of a reduction.
-#[derive(Clone, Copy, Debug)]
+#[derive(Clone, Copy)]
 pub(crate) enum Want {
     ToWrite,
     ToRead,

@@ -4,7 +4,5 @@
 mod numbers;
 mod program;
 mod tasks;
-#[cfg(test)]
-mod tests;
 
 pub use program::generated;

@@ -7,7 +7,7 @@ use std::alloc::{AllocError, Global};
 
 /// A part of the string of `printf`: a byte that is written as it stands, or the place of an argument that is written
 /// as a signed or as an unsigned number.
-#[derive(Clone, Copy, Debug, PartialEq, Eq)]
+#[derive(Clone, Copy)]
 pub enum Piece {
     Plain(u8),
     Signed,

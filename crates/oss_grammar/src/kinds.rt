@@ -1,7 +1,7 @@
 use oss_syntax::{Kind, NumKind};
 
 /// The kind of an expression's value.
-#[derive(Clone, Copy, Debug, PartialEq, Eq)]
+#[derive(Clone, Copy)]
 pub enum ValueKind {
     /// A number that operators read as signed.
     Signed,
@@ -18,7 +18,7 @@ pub enum ValueKind {
 }
 
 /// Which kinds of values are allowed at a place.
-#[derive(Clone, Copy, Debug, PartialEq, Eq)]
+#[derive(Clone, Copy)]
 pub enum Wanted {
     /// A number, signed or not.
     Number,
@@ -35,7 +35,7 @@ pub enum Wanted {
 }
 
 /// What an expression designates.
-#[derive(Clone, Copy, Debug, PartialEq, Eq)]
+#[derive(Clone, Copy)]
 pub enum Object {
     /// A value alone, which can be neither a target nor the operand of `&`.
     ValueOnly,
@@ -46,7 +46,7 @@ pub enum Object {
 }
 
 /// What a name stands for at a place of the text.
-#[derive(Clone, Copy, Debug, PartialEq, Eq)]
+#[derive(Clone, Copy)]
 pub enum Named {
     /// The name is not in scope.
     Missing,
@@ -62,7 +62,7 @@ pub enum Named {
 }
 
 /// The nearest loop around a statement inside the same task body or function.
-#[derive(Clone, Copy, Debug, PartialEq, Eq)]
+#[derive(Clone, Copy)]
 pub enum Nearest {
     NoLoop,
     /// A `while` or a `for`, which `break` and `continue` may leave.
@@ -72,7 +72,7 @@ pub enum Nearest {
 }
 
 /// What stands around a statement.
-#[derive(Clone, Copy, Debug)]
+#[derive(Clone, Copy)]
 pub struct Around {
     /// How many locals were in scope where the innermost scope began: those from here on are declared in it.
     pub start: usize,

@@ -1,5 +1,5 @@
 /// Where on its line the rest of a text begins, which decides what a `#` and a newline mean there.
-#[derive(Clone, Copy, Debug, PartialEq, Eq)]
+#[derive(Clone, Copy)]
 pub enum LinePart {
     /// Only blanks and comments stand before it.
     Beginning,

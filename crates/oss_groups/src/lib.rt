@@ -3,8 +3,6 @@
 
 mod group;
 mod groups;
-#[cfg(test)]
-mod tests;
 mod work;
 
 pub use groups::in_groups;

@@ -11,7 +11,7 @@ use std::collections::VecDeque;
 use std::marker::Model;
 
 /// A name and its bytes.
-#[derive(Debug, Drop)]
+#[derive(Drop)]
 struct KeptFile {
     name: String,
     bytes: Vec<u8>,
@@ -48,7 +48,7 @@ impl KeptFile {
 }
 
 /// Files in memory, and calls that are to fail. A contract sees it as a `ShelfView`.
-#[derive(Debug, Drop)]
+#[derive(Drop)]
 pub struct MemoryShelf {
     alloc: Global,
     files: VecDeque<KeptFile>,

@@ -11,7 +11,7 @@ use std::marker::Model;
 
 /// The bytes written, in memory that is taken when it is made, and calls that are to fail. A contract sees it as a
 /// `SinkView`.
-#[derive(Debug, Drop)]
+#[derive(Drop)]
 pub struct MemorySink {
     bytes: Vec<u8>,
     room: usize,

@@ -12,8 +12,6 @@ mod mark;
 mod modes;
 mod refused;
 mod right;
-#[cfg(test)]
-mod tests;
 mod touches;
 
 pub use context::Context;

@@ -9,7 +9,7 @@ use oss_syntax::{Kind, NumKind, Refused, RefusedKind};
 
 /// What the checker keeps of an expression: the line of its first token, the first rule that is broken at that token and
 /// the first one behind it, its kind, and what it designates.
-#[derive(Clone, Copy, Debug)]
+#[derive(Clone, Copy)]
 pub struct Finding {
     pub line: u32,
     pub at_first: Option<Refused>,

@@ -4,7 +4,7 @@ use oss_grammar::LinePart;
 use oss_syntax::{Refusal, Refused, RefusedKind, TokenKind};
 
 /// A token, and the text behind it.
-#[derive(Debug, Drop)]
+#[derive(Drop)]
 pub struct Taken<'a> {
     /// The token at the front of the text.
     pub what: TokenKind,
@@ -14,7 +14,7 @@ pub struct Taken<'a> {
 
 /// What stands at the front of a text: a token, or nothing that is one, with the place on its line and the number of
 /// lines on where the rest begins.
-#[derive(Debug, Drop)]
+#[derive(Drop)]
 pub struct Step<'a> {
     /// The token, or `None` where what stands there gives none.
     pub what: Option<TokenKind>,

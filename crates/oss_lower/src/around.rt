@@ -2,7 +2,7 @@
 use oss_syntax::Kind;
 
 /// What stands around a statement.
-#[derive(Clone, Copy, Debug)]
+#[derive(Clone, Copy)]
 pub struct Around {
     /// The type of what the function gives.
     pub result: Kind,

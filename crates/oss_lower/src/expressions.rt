@@ -21,7 +21,7 @@ use oss_syntax::{BinOp, Expr, ExprKind, Function, NumKind, UnOp};
 use std::alloc::AllocError;
 
 /// What stands under an index.
-#[derive(Clone, Copy, Debug)]
+#[derive(Clone, Copy)]
 pub enum Under {
     /// The array of two dimensions with this number, of numbers of this type.
     Grid(u32, NumKind),

@@ -1,7 +1,7 @@
 use oss_code::Instr;
 
 /// An instruction at its place in a code.
-#[derive(Debug, Drop)]
+#[derive(Drop)]
 pub struct Lined {
     pub what: Instr,
     /// The line of the statement to which it belongs, counted from 1.
@@ -11,7 +11,7 @@ pub struct Lined {
 }
 
 /// How far some instructions of a loop's body, or of the body of a function or of a task, begin behind the pieces to which jumps lead.
-#[derive(Clone, Copy, Debug, PartialEq, Eq)]
+#[derive(Clone, Copy)]
 pub struct Pads {
     /// So many instructions behind the piece of `break`.
     pub stop: u32,

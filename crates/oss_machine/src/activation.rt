@@ -2,7 +2,7 @@ use oss_meaning::Value;
 use oss_syntax::{Access, Range};
 
 /// A function that is open, or the creation of a task at the call of a task function.
-#[derive(Debug, Drop)]
+#[derive(Drop)]
 pub(crate) struct Activation {
     /// Its next instruction.
     pub at: usize,
@@ -25,7 +25,7 @@ pub(crate) struct Activation {
 }
 
 /// The values of clauses.
-#[derive(Clone, Copy, Debug)]
+#[derive(Clone, Copy)]
 pub(crate) struct ClauseValues {
     pub when: bool,
     pub last: bool,
@@ -34,14 +34,14 @@ pub(crate) struct ClauseValues {
 }
 
 /// A multidependency: how many turns are left, the one under way with them, and where the first one began.
-#[derive(Clone, Copy, Debug)]
+#[derive(Clone, Copy)]
 pub(crate) struct Turns {
     pub left: u64,
     pub start: usize,
 }
 
 /// Accesses that clauses declare, and the ranges of the turns of a multidependency.
-#[derive(Debug, Drop)]
+#[derive(Drop)]
 pub(crate) struct Gathered {
     pub accesses: Vec<Access>,
     pub ranges: Vec<Range>,

@@ -2,7 +2,7 @@ use oss_code::TaskOrder;
 use oss_syntax::{Access, Boxed, Bytes, FaultKind, List, Op, Range};
 
 /// What a body asks for before it goes on. The answer to a load is the number that was found; every other answer is 0.
-#[derive(Debug, Drop)]
+#[derive(Drop)]
 pub enum Ask {
     /// The tests with which a creation begins, before its clauses are evaluated. It is no act.
     Begin,
@@ -33,7 +33,7 @@ pub enum Ask {
 }
 
 /// An ask, and the line to which a fault of it belongs.
-#[derive(Debug, Drop)]
+#[derive(Drop)]
 pub(crate) struct AskedAt {
     pub ask: Ask,
     pub line: u32,

@@ -6,14 +6,14 @@ use crate::activation::Activation;
 pub(crate) const TOO_MANY: usize = 257;
 
 /// A body as it stands: the function that runs, and those that wait for what they called, the newest last.
-#[derive(Debug, Drop)]
+#[derive(Drop)]
 pub(crate) struct Still {
     pub callers: Vec<Activation>,
     pub top: Activation,
 }
 
 /// What has moved since.
-#[derive(Debug, Drop)]
+#[derive(Drop)]
 pub(crate) struct Run {
     /// How many callers wait as they stood. The function that continues the next of those that stood, or the one on top, lies in `waiting`
     /// if others wait there, and is the one that runs if none does.
@@ -27,7 +27,7 @@ pub(crate) struct Run {
 }
 
 /// What the run of a machine is for.
-#[derive(Clone, Copy, Debug)]
+#[derive(Clone, Copy)]
 pub(crate) enum Reach {
     /// Nothing: the body stands as it stood, and has not looked ahead.
     Unused,

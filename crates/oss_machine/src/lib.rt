@@ -27,8 +27,6 @@ mod sections;
 mod settling;
 mod stack;
 mod stepping;
-#[cfg(test)]
-mod tests;
 mod turns;
 
 pub use ask::Ask;

@@ -1,7 +1,7 @@
 use oss_syntax::FaultKind;
 
 /// What an instruction came to.
-#[derive(Clone, Copy, Debug)]
+#[derive(Clone, Copy)]
 pub(crate) enum Outcome {
     /// The function has gone on.
     On,
@@ -18,7 +18,7 @@ pub(crate) enum Outcome {
 }
 
 /// How a function goes on with an answer.
-#[derive(Clone, Copy, Debug)]
+#[derive(Clone, Copy)]
 pub(crate) enum Taken {
     /// It has gone on, or it stays.
     Went,

@@ -1,7 +1,7 @@
 use oss_syntax::Mode;
 
 /// What a dependency clause declares of the cells of its sections (OmpSs-2, dependency clauses).
-#[derive(Clone, Copy, Debug, PartialEq, Eq)]
+#[derive(Clone, Copy)]
 pub struct Declared {
     pub mode: Mode,
     /// The task itself touches the cells; else only its descendants do.

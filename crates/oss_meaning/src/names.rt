@@ -3,7 +3,7 @@ use oss_syntax::{Kind, NumKind};
 
 /// What a name stands for at a place of the text (C11 6.2.1): a local by its place among the locals in scope, counted from 0, a
 /// global by its number in text order and a function by its number in text order.
-#[derive(Clone, Copy, Debug, PartialEq, Eq)]
+#[derive(Clone, Copy)]
 pub enum Found {
     /// A local of this type.
     Variable(u32, Kind),
@@ -20,7 +20,7 @@ pub enum Found {
 }
 
 /// What an expression designates (C11 6.3.2.1).
-#[derive(Clone, Copy, Debug, PartialEq, Eq)]
+#[derive(Clone, Copy)]
 pub enum Target {
     /// A value alone.
     Nothing,
@@ -35,7 +35,7 @@ pub enum Target {
 }
 
 /// What the text tells of an expression before any run: the kind of its value, and what it designates.
-#[derive(Clone, Copy, Debug, PartialEq, Eq)]
+#[derive(Clone, Copy)]
 pub struct Typed {
     pub kind: ValueKind,
     pub target: Target,

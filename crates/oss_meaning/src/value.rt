@@ -1,5 +1,5 @@
 /// A value of an expression, a local or a parameter.
-#[derive(Clone, Copy, Debug, PartialEq, Eq)]
+#[derive(Clone, Copy, PartialEq, Eq)]
 pub enum Value {
     /// A number of 64 bits. What reads it tells whether it is signed.
     Num(u64),

@@ -1,7 +1,7 @@
 use oss_syntax::{Bytes, Cells, FaultKind};
 
 /// The answer of a run.
-#[derive(Debug, Drop)]
+#[derive(Drop)]
 pub enum Answer {
     /// It ended, with this output and these cells.
     Done(Bytes, Cells),

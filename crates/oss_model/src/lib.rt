@@ -7,8 +7,6 @@ pub mod laws;
 mod moving;
 mod point;
 mod task_no;
-#[cfg(test)]
-mod tests;
 
 pub use answer::Answer;
 pub use cell::range_of;

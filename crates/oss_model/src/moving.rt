@@ -1,7 +1,7 @@
 use crate::task_no::TaskNo;
 
 /// A move of the machine of tasks.
-#[derive(Clone, Copy, Debug, PartialEq, Eq)]
+#[derive(Clone, Copy, Debug)]
 pub enum Move {
     /// The next act of the body of a task.
     Step(TaskNo),

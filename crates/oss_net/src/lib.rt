@@ -15,8 +15,6 @@ mod seat;
 mod seats;
 mod sight;
 mod steps;
-#[cfg(test)]
-mod tests;
 
 pub use net::WordNet;
 pub use seat::WordSeat;

@@ -7,8 +7,6 @@ mod making;
 mod ready;
 mod run;
 mod segment;
-#[cfg(test)]
-mod tests;
 
 pub use ready::Ready;
 pub use run::segment_of;

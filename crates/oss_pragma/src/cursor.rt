@@ -14,7 +14,7 @@ use std::alloc::{AllocError, Global};
 use std::marker::Model;
 
 /// Why nothing was read.
-#[derive(Debug, Drop)]
+#[derive(Drop)]
 pub enum Unread {
     /// At a token that fits nowhere, or at the end of the tokens.
     Syntax,
@@ -33,7 +33,7 @@ impl From<AllocError> for Unread {
 }
 
 /// A name, and its line.
-#[derive(Debug, Drop)]
+#[derive(Drop)]
 pub struct Named {
     pub name: Name,
     pub line: u32,

@@ -13,7 +13,7 @@ use oss_syntax::{BinOp, Bytes, Expr, ExprKind, Mode, Name, Op, Token, TokenKind,
 use std::alloc::Global;
 
 /// The clauses that a task or a task loop has once at most.
-#[derive(Clone, Copy, Debug)]
+#[derive(Clone, Copy)]
 pub enum Once {
     If,
     Final,
@@ -24,7 +24,7 @@ pub enum Once {
 }
 
 /// Which pragma has clauses that are read.
-#[derive(Clone, Copy, Debug)]
+#[derive(Clone, Copy)]
 pub enum TaskKind {
     /// A task, of which no clause is a grainsize.
     Task,

@@ -5,8 +5,6 @@
 mod map;
 mod piece;
 mod pieces;
-#[cfg(test)]
-mod tests;
 mod tree;
 
 pub use map::RangeMap;

@@ -2,7 +2,7 @@ ghost use Rattle.std.specs.Prelude.{◌≡◌};
 ghost use Rattle.oss_ranges.specs.Cells.{told_by};
 
 /// The cells from `lo` up to `hi`, `hi` excluded, which all have this value.
-#[derive(Clone, Copy, Debug)]
+#[derive(Clone, Copy)]
 pub struct Piece<T> {
     pub lo: u32,
     pub hi: u32,

@@ -1,7 +1,7 @@
 use oss_model::Answer;
 
 /// What comes of a schedule that is replayed.
-#[derive(Debug, Drop)]
+#[derive(Drop)]
 pub enum Replayed {
     /// All its moves were made, and no move is left: the answer of the run.
     Answered(Answer),

@@ -4,7 +4,5 @@
 mod copying;
 pub mod laws;
 mod remainder;
-#[cfg(test)]
-mod tests;
 
 pub use remainder::{Remainder, has_spent, remainder_of};

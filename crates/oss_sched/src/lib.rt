@@ -8,8 +8,6 @@ mod moves;
 mod numbers;
 mod reader;
 mod refused;
-#[cfg(test)]
-mod tests;
 mod told;
 mod writer;
 

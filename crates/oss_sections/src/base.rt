@@ -2,7 +2,7 @@ ghost use Rattle.std.specs.Prelude.{◌+◌, ◌<◌, ◌≤◌};
 ghost use Rattle.std.specs.Option.{ForSome};
 
 /// The base of a section: a global, and the element of it from which the section counts.
-#[derive(Clone, Copy, Debug)]
+#[derive(Clone, Copy)]
 pub struct Base {
     /// The first cell of the global.
     pub start: u32,
@@ -18,7 +18,7 @@ pub struct Base {
 }
 
 /// What a section names of one dimension, its expressions evaluated. Its numbers have 64 bits and are read as signed.
-#[derive(Clone, Copy, Debug)]
+#[derive(Clone, Copy)]
 pub enum Part {
     /// So many elements, from one on.
     Elements {
@@ -34,7 +34,7 @@ pub enum Part {
 }
 
 /// What a section names of its base.
-#[derive(Clone, Copy, Debug)]
+#[derive(Clone, Copy)]
 pub enum Extent {
     /// All cells of the global.
     Whole,

@@ -9,8 +9,6 @@ mod refused;
 mod rows;
 mod section;
 mod stretch;
-#[cfg(test)]
-mod tests;
 
 pub use adding::{add_cell, add_range};
 pub use base::{Base, Extent, Part};

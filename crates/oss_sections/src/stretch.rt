@@ -6,14 +6,14 @@ ghost use Rattle.oss_sections.specs.Stretches.{IsWithin, meant_stretch};
 use crate::base::Part;
 
 /// Where a part of a dimension begins and how many elements it has, exactly: `3:1` begins at 3 and has -1 elements.
-#[derive(Clone, Copy, Debug)]
+#[derive(Clone, Copy)]
 pub struct Stretch {
     pub from: i64,
     pub size: i128,
 }
 
 /// A stretch of which each element is one of its dimension.
-#[derive(Clone, Copy, Debug)]
+#[derive(Clone, Copy)]
 pub struct Inside {
     /// The number of its first element, counted from 0.
     pub first: u32,

@@ -14,7 +14,7 @@ use oss_syntax::List;
 use std::alloc::{AllocError, Global};
 
 /// What a sequential run gives.
-#[derive(Debug, Drop)]
+#[derive(Drop)]
 pub struct Ran {
     /// The output and the cells at its end, or the fault that stopped it with the output before it.
     pub answer: Answer,

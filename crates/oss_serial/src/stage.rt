@@ -28,7 +28,7 @@ pub struct Stage {
 }
 
 /// What a turn came to.
-#[derive(Clone, Copy, Debug)]
+#[derive(Clone, Copy)]
 pub enum Turned {
     /// The run goes on.
     On,

@@ -11,7 +11,7 @@ use oss_model::FaultKind;
 use std::alloc::AllocError;
 
 /// What comes of a body by its next act.
-#[derive(Clone, Copy, Debug)]
+#[derive(Clone, Copy)]
 pub enum Turn {
     /// It goes on; a load found this number.
     Goes(u64),

@@ -4,7 +4,7 @@ ghost use Rattle.oss_slots.specs.Slots.{place_of};
 use oss_syntax::Op;
 
 /// Where the values of a range of slots stand: side by side, that of the cell `lo` at `first`.
-#[derive(Clone, Copy, Debug, PartialEq, Eq)]
+#[derive(Clone, Copy, PartialEq, Eq)]
 pub struct Home {
     pub op: Op,
     pub lo: u32,

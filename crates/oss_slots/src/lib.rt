@@ -5,8 +5,6 @@
 mod home;
 mod operators;
 mod table;
-#[cfg(test)]
-mod tests;
 
 pub use home::Home;
 pub use operators::combined;

@@ -14,7 +14,7 @@ use oss_syntax::List;
 use std::alloc::{AllocError, Global};
 
 /// How a run comes to its end.
-#[derive(Clone, Copy, Debug)]
+#[derive(Clone, Copy)]
 enum End {
     /// Main has ended.
     Done,

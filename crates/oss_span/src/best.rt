@@ -4,14 +4,14 @@ ghost use Rattle.std.specs.Prelude.{◌≡◌};
 ghost use Rattle.oss_span.specs.Bests.{better, better_mark, no_best, no_mark};
 
 /// A longest chain: its ticks, and the node that is its end. Where the node is that of a cell that is given up, the cell is told beside it.
-#[derive(Clone, Copy, Debug, PartialEq, Eq)]
+#[derive(Clone, Copy, PartialEq, Eq)]
 pub struct Mark {
     pub ticks: u64,
     pub end: Option<usize>,
 }
 
 /// A longest chain with the cell of its end, which says nothing where the end is an act.
-#[derive(Clone, Copy, Debug)]
+#[derive(Clone, Copy)]
 pub struct Best {
     pub mark: Mark,
     pub cell: u32,

@@ -9,7 +9,7 @@ use oss_syntax::{Mode, Op};
 /// What is kept of a cell: how the task declares it; of what its ended children and those below them gave up of it the longest
 /// chains, of all, of those below no read, and of those before the run of one reduction that stands last; whether the task has released
 /// it, and the chain to that; and the longest chains of what stands in the way of a write, a read and a join by the task.
-#[derive(Clone, Copy, Debug, PartialEq, Eq)]
+#[derive(Clone, Copy, PartialEq, Eq)]
 pub struct Marks {
     pub mode: Mode,
     pub strong: bool,

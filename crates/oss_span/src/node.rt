@@ -3,7 +3,7 @@
 use crate::best::Best;
 
 /// What a task does to a cell that it gives up.
-#[derive(Clone, Copy, Debug)]
+#[derive(Clone, Copy)]
 pub enum Verb {
     /// It gives the cell up.
     Let,
@@ -12,7 +12,7 @@ pub enum Verb {
 }
 
 /// A part of a chain: acts of a task, or a cell that it gives up. Tasks are told by their numbers, in the order of their creations.
-#[derive(Clone, Copy, Debug)]
+#[derive(Clone, Copy)]
 pub enum Node {
     /// So many acts that follow each other, up to the one before `end`, behind the chain that ends here.
     Acts {

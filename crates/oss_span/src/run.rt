@@ -10,7 +10,7 @@ use std::alloc::AllocError;
 
 /// A longest chain to the last act of a task, or, where it has done none, to its creation: how many acts the task has done, its ticks, how many acts at
 /// its end are the last ones of the task, and the chain before these.
-#[derive(Clone, Copy, Debug)]
+#[derive(Clone, Copy)]
 pub struct Run {
     pub acts: u64,
     pub ticks: u64,

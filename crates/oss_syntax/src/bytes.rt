@@ -5,7 +5,7 @@ use std::alloc::{AllocError, Global};
 use std::marker::Model;
 
 /// Bytes of a text, in order.
-#[derive(Debug, Drop)]
+#[derive(Drop)]
 pub struct Bytes {
     bytes: Vec<u8>,
 }
@@ -68,7 +68,7 @@ impl Bytes {
 }
 
 /// The bytes of a name (C11 6.4.2).
-#[derive(Debug, Drop)]
+#[derive(Drop)]
 pub struct Name {
     bytes: Vec<u8>,
 }
@@ -99,7 +99,7 @@ impl Name {
 }
 
 /// The memory of a program: numbers of 64 bits, one a cell, from cell 0.
-#[derive(Debug, Drop)]
+#[derive(Drop)]
 pub struct Cells {
     cells: Vec<u64>,
 }

@@ -5,7 +5,7 @@ use std::alloc::AllocError;
 use thiserror::Error;
 
 /// Why a program text is refused.
-#[derive(Clone, Copy, Debug, PartialEq, Eq)]
+#[derive(Clone, Copy, Debug)]
 pub enum RefusedKind {
     /// A byte, string, comment or number is no token.
     Lexical,
@@ -33,7 +33,7 @@ pub enum RefusedKind {
 
 /// Where and why a text is refused: the line is counted from 1; `token` is the number of tokens before the offending
 /// one for a refusal of the grammar, and 0 for every other.
-#[derive(Clone, Copy, Debug, PartialEq, Eq)]
+#[derive(Clone, Copy, Debug)]
 pub struct Refused {
     /// Why it is refused.
     pub kind: RefusedKind,

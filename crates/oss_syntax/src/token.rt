@@ -1,7 +1,7 @@
 use crate::{Bytes, Name};
 
 /// What a token is.
-#[derive(Debug, Drop)]
+#[derive(Drop)]
 pub enum TokenKind {
     /// An identifier that is no keyword (C11 6.4.2).
     Name(Name),
@@ -23,7 +23,7 @@ pub enum TokenKind {
 }
 
 /// A token, and the line on which it begins, counted from 1.
-#[derive(Debug, Drop)]
+#[derive(Drop)]
 pub struct Token {
     /// Which token it is, with what it stands for.
     pub what: TokenKind,

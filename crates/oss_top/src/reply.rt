@@ -31,7 +31,7 @@ use std::thread::Threads;
 const MOST_BYTES: usize = 1_048_576;
 
 /// A status, and the texts for the output and the error output.
-#[derive(Debug, Drop)]
+#[derive(Drop)]
 pub struct Reply {
     pub status: Status,
     pub out: Bytes,

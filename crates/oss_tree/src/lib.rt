@@ -6,8 +6,6 @@ mod marks;
 mod output;
 mod paths;
 mod task;
-#[cfg(test)]
-mod tests;
 mod tree;
 
 pub use oss_model::{Point, TaskNo};

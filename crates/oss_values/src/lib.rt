@@ -5,8 +5,6 @@ mod binary;
 mod keeping;
 mod number;
 mod pointer;
-#[cfg(test)]
-mod tests;
 mod unary;
 
 pub use binary::apply;

@@ -7,8 +7,6 @@ mod passing;
 mod rounds;
 mod run;
 mod team;
-#[cfg(test)]
-mod tests;
 mod waving;
 
 pub use run::{WaveRun, waves};

@@ -7,8 +7,6 @@ pub mod laws;
 mod line;
 mod marks;
 mod queue;
-#[cfg(test)]
-mod tests;
 
 pub use hang::Hang;
 pub use line::Line;

@@ -8,7 +8,7 @@ use crate::hang::Hang;
 use oss_syntax::{Mode, Op};
 
 /// The flags of an access to a cell. Each is set once, and is never taken back.
-#[derive(Clone, Copy, Debug)]
+#[derive(Clone, Copy)]
 pub struct Marks {
     /// Nothing earlier stands in the way of a read.
     pub reads: bool,

@@ -1,7 +1,7 @@
 use oss_words::{After, EntryInfo};
 
 /// The access of a task to one cell, as it stands in a net. It never changes.
-#[derive(Clone, Copy, Debug)]
+#[derive(Clone, Copy)]
 pub struct Entry {
     /// The number of the task.
     pub task: u64,
@@ -14,7 +14,7 @@ pub struct Entry {
 }
 
 /// What has become of an entry.
-#[derive(Clone, Copy, Debug)]
+#[derive(Clone, Copy)]
 pub struct Mark {
     /// The last child's entry, 0 where there is none.
     pub last: u32,
@@ -23,7 +23,7 @@ pub struct Mark {
 }
 
 /// The entries of a task, in the order of their cells.
-#[derive(Clone, Copy, Debug)]
+#[derive(Clone, Copy)]
 pub struct Job {
     /// The number of the task.
     pub task: u64,

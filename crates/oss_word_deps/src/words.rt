@@ -147,7 +147,7 @@ fn mark_given(book: &mut Book, entry: u32)
 }
 
 /// Whether words are kept, where a task needs more entries than are left.
-#[derive(Clone, Copy, Debug)]
+#[derive(Clone, Copy)]
 pub(crate) enum Kept {
     Yes,
     No,

@@ -1,7 +1,7 @@
 use oss_syntax::Mode;
 
 /// The state word of an entry, taken apart: its flags, and its two links with what they say of the entries that they lead to.
-#[derive(Clone, Copy, Debug)]
+#[derive(Clone, Copy)]
 pub struct EntryState {
     /// Nothing earlier stands in the way of a read.
     pub reads: bool,
@@ -36,7 +36,7 @@ pub struct EntryState {
 }
 
 /// What the info word of an entry says. It is written once, before the entry is linked.
-#[derive(Clone, Copy, Debug)]
+#[derive(Clone, Copy)]
 pub struct EntryInfo {
     /// How the task accesses the cell.
     pub mode: Mode,
@@ -51,7 +51,7 @@ pub struct EntryInfo {
 }
 
 /// Where an entry is linked.
-#[derive(Clone, Copy, Debug)]
+#[derive(Clone, Copy)]
 pub enum After {
     /// As the first child of this entry.
     FirstOf(u32),

@@ -17,7 +17,7 @@ use std::alloc::Global;
 use std::process::Abort;
 
 /// Numbers in no order, the same each time.
-#[derive(Clone, Copy, Debug)]
+#[derive(Clone, Copy)]
 pub struct Dice {
     state: u64,
 }

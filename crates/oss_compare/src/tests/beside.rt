@@ -25,7 +25,7 @@ const LOOSE: u64 = 5;
 const CELLS: u64 = 16;
 
 /// Numbers in no order, the same each time.
-#[derive(Clone, Copy, Debug)]
+#[derive(Clone, Copy)]
 struct Dice {
     state: u64,
 }

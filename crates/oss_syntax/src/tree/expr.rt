@@ -1,7 +1,7 @@
 use crate::{Boxed, List, Name};
 
 /// A prefix operator (C11 6.5.3).
-#[derive(Clone, Copy, Debug, PartialEq, Eq)]
+#[derive(Clone, Copy)]
 pub enum UnOp {
     Minus,
     Plus,
@@ -12,7 +12,7 @@ pub enum UnOp {
 }
 
 /// A binary operator (C11 6.5.5 to 6.5.14).
-#[derive(Clone, Copy, Debug, PartialEq, Eq)]
+#[derive(Clone, Copy, PartialEq, Eq)]
 pub enum BinOp {
     OrElse,
     AndAlso,
@@ -36,7 +36,7 @@ pub enum BinOp {
 
 /// An expression (C11 6.5).
 #[cycle(expr)]
-#[derive(Debug, Drop)]
+#[derive(Drop)]
 pub struct Expr {
     pub what: ExprKind,
     pub line: u32,
@@ -44,7 +44,7 @@ pub struct Expr {
 
 /// What an expression is.
 #[cycle(expr)]
-#[derive(Debug, Drop)]
+#[derive(Drop)]
 pub enum ExprKind {
     /// A number of 64 bits, and whether it is unsigned.
     Number(u64, bool),

@@ -1,7 +1,7 @@
 use crate::{Bytes, Expr, List, Local, Mode, Name};
 
 /// The cells that a dependency clause names (OmpSs-2, array sections).
-#[derive(Debug, Drop)]
+#[derive(Drop)]
 pub struct Section {
     /// The name of the array, the scalar or the pointer.
     pub base: Name,
@@ -13,7 +13,7 @@ pub struct Section {
 }
 
 /// How a section names its cells, `p` being its base.
-#[derive(Debug, Drop)]
+#[derive(Drop)]
 pub enum Form {
     /// `p`: a scalar, or a whole array.
     Whole,
@@ -34,7 +34,7 @@ pub enum Form {
 }
 
 /// The turns of a multidependency: `k = l; n` is `n` turns, in the first of which `k` is `l`.
-#[derive(Debug, Drop)]
+#[derive(Drop)]
 pub struct Turns {
     /// The variable, a signed number, with its first value.
     pub variable: Local,
@@ -42,7 +42,7 @@ pub struct Turns {
 }
 
 /// What a section names of one dimension of an array of two.
-#[derive(Debug, Drop)]
+#[derive(Drop)]
 pub enum Inner {
     /// `[e]`: one row or column.
     Element(Expr),
@@ -53,7 +53,7 @@ pub enum Inner {
 }
 
 /// A clause of a task, of a task loop or of a release.
-#[derive(Debug, Drop)]
+#[derive(Drop)]
 pub enum Clause {
     /// The mode, whether it is strong, whether its word is `out` or `weakout`, and the sections.
     Depend(Mode, bool, bool, List<Section>),
@@ -67,14 +67,14 @@ pub enum Clause {
 }
 
 /// The pragma of a task.
-#[derive(Debug, Drop)]
+#[derive(Drop)]
 pub struct TaskMark {
     pub clauses: List<Clause>,
     pub line: u32,
 }
 
 /// A pragma line.
-#[derive(Debug, Drop)]
+#[derive(Drop)]
 pub enum Directive {
     Task(TaskMark),
     TaskLoop(TaskMark),

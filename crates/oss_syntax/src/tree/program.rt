@@ -1,7 +1,7 @@
 use crate::{Expr, List, Name, Stmt, TaskMark};
 
 /// The types of numbers: `int` has 32 bits, `long` and `unsigned long` have 64.
-#[derive(Clone, Copy, Debug, PartialEq, Eq)]
+#[derive(Clone, Copy)]
 pub enum NumKind {
     Int,
     Long,
@@ -9,7 +9,7 @@ pub enum NumKind {
 }
 
 /// The types of values: a number, a pointer to numbers, or nothing, for `void`.
-#[derive(Clone, Copy, Debug, PartialEq, Eq)]
+#[derive(Clone, Copy)]
 pub enum Kind {
     Num(NumKind),
     Pointer(NumKind),
@@ -17,13 +17,13 @@ pub enum Kind {
 }
 
 /// A program text: its globals and functions, in text order.
-#[derive(Debug, Drop)]
+#[derive(Drop)]
 pub struct Program {
     pub items: List<Item>,
 }
 
 /// A global or a function.
-#[derive(Debug, Drop)]
+#[derive(Drop)]
 pub enum Item {
     Global(GlobalDef),
     Function(Function),
@@ -32,7 +32,7 @@ pub enum Item {
 /// A global: `cells` is how many cells an array has in all, which stays at its greatest value once it is there, and `None` for a
 /// scalar; `columns` is how many cells each row of an array of two dimensions has, and `None` for any other global. `first` is the
 /// number in each of its cells at the start, a `-` before it applied modulo 2^64.
-#[derive(Debug, Drop)]
+#[derive(Drop)]
 pub struct GlobalDef {
     pub name: Name,
     pub kind: NumKind,
@@ -43,7 +43,7 @@ pub struct GlobalDef {
 }
 
 /// A function: with a mark, each call of it creates a task.
-#[derive(Debug, Drop)]
+#[derive(Drop)]
 pub struct Function {
     pub name: Name,
     pub result: Kind,
@@ -54,7 +54,7 @@ pub struct Function {
 }
 
 /// A local variable or a parameter, with its initial value where it has one.
-#[derive(Debug, Drop)]
+#[derive(Drop)]
 pub struct Local {
     pub name: Name,
     pub kind: Kind,

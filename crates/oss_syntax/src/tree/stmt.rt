@@ -1,7 +1,7 @@
 use crate::{BinOp, Boxed, Bytes, Clause, Expr, List, Local, Name, Section, TaskMark};
 
 /// The head of a task loop (OmpSs-2, the taskloop directive): `for (long i = l; i < u; i++)` behind its pragma.
-#[derive(Debug, Drop)]
+#[derive(Drop)]
 pub struct LoopHead {
     pub mark: TaskMark,
     /// The variable, a signed number, with its first value.
@@ -16,7 +16,7 @@ pub struct LoopHead {
 }
 
 /// A name where it is repeated, with its line.
-#[derive(Debug, Drop)]
+#[derive(Drop)]
 pub struct NameUse {
     pub name: Name,
     pub line: u32,
@@ -24,7 +24,7 @@ pub struct NameUse {
 
 /// A statement (C11 6.8).
 #[cycle(stmt)]
-#[derive(Debug, Drop)]
+#[derive(Drop)]
 pub struct Stmt {
     pub what: StmtKind,
     pub line: u32,
@@ -32,7 +32,7 @@ pub struct Stmt {
 
 /// What a statement is.
 #[cycle(stmt)]
-#[derive(Debug, Drop)]
+#[derive(Drop)]
 pub enum StmtKind {
     Block(List<Stmt>),
     Empty,

@@ -21,7 +21,7 @@ const RUNS: u64 = 33;
 const MOST_MOVES: u32 = 1000;
 
 /// How a run is to end: by the end of main, or by a fault of this kind on this line.
-#[derive(Clone, Copy, Debug)]
+#[derive(Clone, Copy)]
 enum Ending {
     Done,
     Fault(FaultKind, u32),
@@ -181,11 +181,11 @@ fn drawn_answer(
 fn assert_agrees(rt: &(impl Abort + AllocGlobal), text: &str, fuel: u32, ending: Ending) {
     let code = code_of(rt, text);
     let wanted = serial_answer(rt, &code, fuel);
-    assert!(rt; is_ending(&wanted, ending), "{wanted:?} of {text}");
+    assert!(rt; is_ending(&wanted, ending), "{text}");
     let mut draws = Draws::new(1);
     for _ in 0..RUNS {
         let answer = drawn_answer(rt, &code, fuel, &mut draws);
-        assert!(rt; is_same(&answer, &wanted), "{answer:?} of {text}");
+        assert!(rt; is_same(&answer, &wanted), "{text}");
     }
 }
 

@@ -168,7 +168,7 @@ fn assert_waves(rt: &(impl Abort + AllocGlobal), text: &str, wanted: &str, cells
     let mut run = new_run(rt);
     make_rounds(rt, &mut core, &code, &mut watch, &mut run);
     let answer = core.answer().expect(rt, "memory");
-    assert!(rt; is_done(&answer, cells), "{answer:?} of {text}");
+    assert!(rt; is_done(&answer, cells), "{text}");
     let Run { waves, widest, .. } = run;
     let record = WaveRecord {
         waves,

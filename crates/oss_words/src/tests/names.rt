@@ -5,7 +5,7 @@ use std::alloc::Global;
 use std::process::Abort;
 
 /// Who names the link and the give of an entry: any seat, its owner, its parent's owner.
-#[derive(Clone, Copy, Debug)]
+#[derive(Clone, Copy)]
 struct Named {
     link: bool,
     own_link: bool,

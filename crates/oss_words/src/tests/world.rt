@@ -28,7 +28,7 @@ pub const HEADED: u64 = 128;
 pub const LEFT: u64 = 256;
 
 /// Where an entry hangs.
-#[derive(Clone, Copy, Debug, PartialEq, Eq)]
+#[derive(Clone, Copy, PartialEq, Eq)]
 pub enum Place {
     Apart,
     Top,
@@ -37,7 +37,7 @@ pub enum Place {
 }
 
 /// The two words of an entry, and what the links mean of it.
-#[derive(Clone, Copy, Debug)]
+#[derive(Clone, Copy)]
 pub struct Entry {
     pub state: u64,
     pub info: u64,
@@ -54,7 +54,7 @@ pub struct Entry {
 }
 
 /// A message that a seat holds.
-#[derive(Clone, Copy, Debug)]
+#[derive(Clone, Copy)]
 pub struct Held {
     pub seat: u32,
     pub entry: u32,
@@ -62,7 +62,7 @@ pub struct Held {
 }
 
 /// What else a seat's view has.
-#[derive(Clone, Copy, Debug)]
+#[derive(Clone, Copy)]
 pub struct Seat {
     pub half: Option<u32>,
     pub delivered: u32,
@@ -72,7 +72,7 @@ pub struct Seat {
 }
 
 /// A link that a view names.
-#[derive(Clone, Copy, Debug)]
+#[derive(Clone, Copy)]
 pub struct Link {
     pub seat: u32,
     pub entry: u32,
@@ -80,14 +80,14 @@ pub struct Link {
 }
 
 /// A give that a view names.
-#[derive(Clone, Copy, Debug)]
+#[derive(Clone, Copy)]
 pub struct Give {
     pub seat: u32,
     pub entry: u32,
 }
 
 /// A word that a seat has read.
-#[derive(Clone, Copy, Debug)]
+#[derive(Clone, Copy)]
 pub struct Seen {
     pub seat: u32,
     pub entry: u32,

@@ -51,7 +51,7 @@ fn first_value<'a>(rt: &impl Abort, local: Option<&'a Local>, wanted: &[u8]) -> 
     let local = local.expect(rt, "a local");
     assert_eq!(rt; local.line, 1);
     assert!(rt; local.name.as_slice() == wanted);
-    assert!(rt; local.kind == Kind::Num(NumKind::Long));
+    assert!(rt; matches!(local.kind, Kind::Num(NumKind::Long)));
     local.first.as_ref().expect(rt, "an initial value")
 }
 

@@ -18,11 +18,11 @@ stays cell c marks h = by (c == cell) refl where
 pub returns-then-cell-self : goal.returns-then-cell-self
 returns-then-cell-self c = λ _.
     let same : c.args.self.now ≡ wrote c.args.cell c.args.self.now = rw (← c.self.view_is) (marks_changed c.self.inside.cells c.self.inside.rights.pieces c.self.inside.lent.pieces c.self.inside.marks.pieces (record { ticks = c.self.inside.ticks; fuel = c.self.inside.fuel; created = c.self.inside.created; depth = c.self.inside.depth; final = c.self.inside.is_final }) c.self.invariant.2 c.self.invariant.3 c.self.invariant.4 c.self.inside.marks.pieces (λ cell mark. if cell == c.args.cell then Written else mark)
-        (λ cell low. stays c.args.cell cell c.self.inside.marks.pieces (λ e. absurd (let high = c.if-cell-self.true in omega arith)))) in
+    (λ cell low. stays c.args.cell cell c.self.inside.marks.pieces (λ e. absurd (let high = c.if-cell-self.true in omega arith)))) in
     sym same
 
 pub returns-in-None : goal.returns-in-None
 returns-in-None c = λ _.
     let same : c.args.self.now ≡ wrote c.args.cell c.args.self.now = rw (← c.self.view_is) (marks_changed c.self.inside.cells c.self.inside.rights.pieces c.self.inside.lent.pieces c.self.inside.marks.pieces (record { ticks = c.self.inside.ticks; fuel = c.self.inside.fuel; created = c.self.inside.created; depth = c.self.inside.depth; final = c.self.inside.is_final }) c.self.invariant.2 c.self.invariant.3 c.self.invariant.4 c.self.inside.marks.pieces (λ cell mark. if cell == c.args.cell then Written else mark)
-        (λ cell low. stays c.args.cell cell c.self.inside.marks.pieces (λ e. ap mark_told (ap (value_at c.self.inside.marks.pieces) (sym e) ∙ sym c.get.ensures ∙ c.in-None.is)))) in
+    (λ cell low. stays c.args.cell cell c.self.inside.marks.pieces (λ e. ap mark_told (ap (value_at c.self.inside.marks.pieces) (sym e) ∙ sym c.get.ensures ∙ c.in-None.is)))) in
     sym same

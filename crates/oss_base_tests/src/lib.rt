@@ -1,0 +1,31 @@
+//! Tests of the crates below, in a crate of their own: a crate with tests is proved once more with them.
+#![tactic(auto)]
+
+#[cfg(test)]
+mod code_tests;
+#[cfg(test)]
+mod gen_tests;
+#[cfg(test)]
+mod groups_tests;
+#[cfg(test)]
+mod judge_tests;
+#[cfg(test)]
+mod model_tests;
+#[cfg(test)]
+mod net_tests;
+#[cfg(test)]
+mod ranges_tests;
+#[cfg(test)]
+mod retired_tests;
+#[cfg(test)]
+mod sched_tests;
+#[cfg(test)]
+mod sections_tests;
+#[cfg(test)]
+mod slots_tests;
+#[cfg(test)]
+mod tree_tests;
+#[cfg(test)]
+mod values_tests;
+#[cfg(test)]
+mod wires_tests;

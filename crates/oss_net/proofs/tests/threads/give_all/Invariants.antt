@@ -1,5 +1,0 @@
-use Rattle.oss_net.specs.Rows.{Parted}
-use Rattle.oss_net.proofs.tests.threads.give_all.Given as goal
-
-abbrev pub invariant-loop-entry : goal.invariant-loop-entry
-invariant-loop-entry l = Parted l.net.table l.seat l.entry l.end
