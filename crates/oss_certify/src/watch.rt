@@ -11,7 +11,6 @@ use oss_syntax::List;
 use std::alloc::{AllocError, Global};
 
 /// What is kept beside a stage of the run.
-#[derive(Drop)]
 pub struct Watch {
     /// Where memory is taken from.
     pub alloc: Global,
@@ -21,6 +20,20 @@ pub struct Watch {
     pub acts: u64,
     /// How many acts each of the tasks above it has done, with the creation that it waits for, the oldest first.
     pub above: List<u64>,
+}
+
+// By hand, so that who lets one go calls this, and does not take it apart at each exit.
+impl Drop for Watch {
+    fn drop(self) {
+        let Watch {
+            alloc: _,
+            recorded,
+            acts: _,
+            above,
+        } = self;
+        drop(recorded);
+        drop(above);
+    }
 }
 
 /// What is noted of an act, if anything is.

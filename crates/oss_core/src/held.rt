@@ -12,8 +12,19 @@ pub enum Owed {
 }
 
 /// What a core keeps of a task: its body, and how each cell that it has not given up is to be given up. Main has none to give up.
-#[derive(Drop)]
 pub struct Held {
     pub body: Body,
     pub owed: RangeMap<Owed>,
+}
+
+// By hand, so that who lets one go calls this, and does not take it apart at each exit.
+impl Drop for Held {
+    fn drop(self) {
+        let Held {
+            body,
+            owed,
+        } = self;
+        drop(body);
+        drop(owed);
+    }
 }

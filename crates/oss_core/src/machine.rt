@@ -24,13 +24,29 @@ use std::alloc::{AllocError, Global};
 
 /// The machine of tasks over a dependency system: their bodies, where they stand, what they have printed, which cells they are still to give up, and the
 /// memory. It makes the moves of the definitions, one at a time, in whatever order they are asked for.
-#[derive(Drop)]
 pub struct Core<D: Deps> {
     pub(crate) alloc: Global,
     pub(crate) tasks: Vec<Held>,
     pub(crate) tree: Tree,
     pub(crate) deps: D,
     pub(crate) cells: Vec<u64>,
+}
+
+// By hand, so that who lets one go calls this, and does not take it apart at each exit.
+impl<D: Deps> Drop for Core<D> {
+    fn drop(self) {
+        let Core {
+            alloc: _,
+            tasks,
+            tree,
+            deps,
+            cells,
+        } = self;
+        drop(tasks);
+        drop(tree);
+        drop(deps);
+        drop(cells);
+    }
 }
 
 /// Whether an act creates a task of the machine.
@@ -171,5 +187,22 @@ impl<D: Deps> Core<D> {
             Ok(()) => Ok(()),
             Err(full) => Err(ApplyFault::Memory(full)),
         }
+    }
+
+    /// The dependency system, as the moves have left it; all else is let go.
+    pub fn into_deps(self) -> D
+        ensures { result ≡ self.deps }
+    {
+        let Core {
+            alloc: _,
+            tasks,
+            tree,
+            deps,
+            cells,
+        } = self;
+        drop(tasks);
+        drop(tree);
+        drop(cells);
+        deps
     }
 }

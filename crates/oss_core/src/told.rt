@@ -39,12 +39,4 @@ impl<D: Deps> Core<D> {
     {
         self.cells.as_slice()
     }
-
-    /// The dependency system, as the moves have left it; all else is let go.
-    pub fn into_deps(self) -> D
-        ensures { result ≡ self.deps }
-    {
-        let Core { deps, .. } = self;
-        deps
-    }
 }

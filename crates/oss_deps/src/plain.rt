@@ -22,7 +22,6 @@ use std::alloc::{AllocError, Global};
 use std::marker::Model;
 
 /// The lists themselves, one for each stretch of cells that no cut divides.
-#[derive(Drop)]
 pub struct PlainDeps {
     pub(crate) alloc: Global,
     pub(crate) opens: Vec<Open>,
@@ -30,6 +29,24 @@ pub struct PlainDeps {
     pub(crate) columns: Vec<Column>,
     pub(crate) ended: bool,
     pub(crate) reserved: Option<List<Access>>,
+}
+
+// By hand, so that who lets one go calls this, and does not take it apart at each exit.
+impl Drop for PlainDeps {
+    fn drop(self) {
+        let PlainDeps {
+            alloc: _,
+            opens,
+            map,
+            columns,
+            ended: _,
+            reserved,
+        } = self;
+        drop(opens);
+        drop(map);
+        drop(columns);
+        drop(reserved);
+    }
 }
 
 impl Model for PlainDeps {

@@ -14,7 +14,6 @@ use oss_wires::Line;
 use std::alloc::{AllocError, Global};
 
 /// Cells that no cut divides: all have the same accesses, which are kept once.
-#[derive(Drop)]
 pub struct Fragment {
     /// The first of its cells.
     pub lo: u32,
@@ -26,6 +25,21 @@ pub struct Fragment {
     pub tasks: Vec<usize>,
     /// The accesses, in the same order.
     pub line: Line,
+}
+
+// By hand, so that who lets one go calls this, and does not take it apart at each exit.
+impl Drop for Fragment {
+    fn drop(self) {
+        let Fragment {
+            lo: _,
+            hi: _,
+            asked: _,
+            tasks,
+            line,
+        } = self;
+        drop(tasks);
+        drop(line);
+    }
 }
 
 impl Fragment {

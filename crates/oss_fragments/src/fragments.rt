@@ -24,12 +24,25 @@ use std::marker::Model;
 /// more, so many cuts behind many finished accesses stay cheap. What a call costs is told by the fragments that it comes to, and not by their cells; a
 /// cut costs the accesses of the fragment that it divides. An access takes 84 bytes in each of its fragments, and up to twice that where tables
 /// have grown. All flags that are due stand between two calls. Also after want of memory, each cell's accesses tell the same of the opened tasks as before.
-#[derive(Drop)]
 pub struct Fragments {
     alloc: Global,
     map: RangeMap<usize>,
     fragments: Vec<Fragment>,
     ended: bool,
+}
+
+// By hand, so that who lets one go calls this, and does not take it apart at each exit.
+impl Drop for Fragments {
+    fn drop(self) {
+        let Fragments {
+            alloc: _,
+            map,
+            fragments,
+            ended: _,
+        } = self;
+        drop(map);
+        drop(fragments);
+    }
 }
 
 impl Model for Fragments {

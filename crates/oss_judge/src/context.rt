@@ -30,7 +30,6 @@ use std::marker::Model;
 /// What the judge knows of one task: its right to each cell of the program, what it has lent, which cells it has yet to write,
 /// and how far it has used up its limits. It keeps ranges of cells, so its size is that of the task's clauses and of what the
 /// task has done with their parts.
-#[derive(Drop)]
 pub struct Context {
     alloc: Global,
     cells: u32,
@@ -42,6 +41,27 @@ pub struct Context {
     created: u32,
     depth: u32,
     is_final: bool,
+}
+
+// By hand, so that who lets one go calls this, and does not take it apart at each exit.
+impl Drop for Context {
+    fn drop(self) {
+        let Context {
+            alloc: _,
+            cells: _,
+            rights,
+            lent,
+            marks,
+            ticks: _,
+            fuel: _,
+            created: _,
+            depth: _,
+            is_final: _,
+        } = self;
+        drop(rights);
+        drop(lent);
+        drop(marks);
+    }
 }
 
 impl Model for Context {

@@ -10,10 +10,20 @@ use std::alloc::{AllocError, Global};
 
 /// The rights that clauses give, and whether two of the clauses cannot be joined. To work them out takes memory; what is judged by
 /// them then takes none.
-#[derive(Drop)]
 pub struct Given {
     pub(crate) rights: RangeMap<Right>,
     pub(crate) is_mixed: bool,
+}
+
+// By hand, so that who lets one go calls this, and does not take it apart at each exit.
+impl Drop for Given {
+    fn drop(self) {
+        let Given {
+            rights,
+            is_mixed: _,
+        } = self;
+        drop(rights);
+    }
 }
 
 impl Given {

@@ -6,14 +6,24 @@ use crate::activation::Activation;
 pub(crate) const TOO_MANY: usize = 257;
 
 /// A body as it stands: the function that runs, and those that wait for what they called, the newest last.
-#[derive(Drop)]
 pub(crate) struct Still {
     pub callers: Vec<Activation>,
     pub top: Activation,
 }
 
+// By hand, so that who lets one go calls this, and does not take it apart at each exit.
+impl Drop for Still {
+    fn drop(self) {
+        let Still {
+            callers,
+            top,
+        } = self;
+        drop(callers);
+        drop(top);
+    }
+}
+
 /// What has moved since.
-#[derive(Drop)]
 pub(crate) struct Run {
     /// How many callers wait as they stood. The function that continues the next of those that stood, or the one on top, lies in `waiting`
     /// if others wait there, and is the one that runs if none does.
@@ -24,6 +34,20 @@ pub(crate) struct Run {
     pub work: Activation,
     /// How many functions are open.
     pub open_count: usize,
+}
+
+// By hand, so that who lets one go calls this, and does not take it apart at each exit.
+impl Drop for Run {
+    fn drop(self) {
+        let Run {
+            live: _,
+            waiting,
+            work,
+            open_count: _,
+        } = self;
+        drop(waiting);
+        drop(work);
+    }
 }
 
 /// What the run of a machine is for.

@@ -17,11 +17,23 @@ const CELLS: u32 = 1_048_576;
 
 /// A finite map from cells to values. Cells that stand side by side and have one value are kept as one piece, so that a call
 /// costs what its pieces cost, however many cells they have.
-#[derive(Drop)]
 pub struct RangeMap<T: Copy + Eq> {
     alloc: Global,
     tree: Tree<T>,
     spares: Vec<Box<Node<T>>>,
+}
+
+// By hand, so that who lets one go calls this, and does not take it apart at each exit.
+impl<T: Copy + Eq> Drop for RangeMap<T> {
+    fn drop(self) {
+        let RangeMap {
+            alloc: _,
+            tree,
+            spares,
+        } = self;
+        drop(tree);
+        drop(spares);
+    }
 }
 
 impl<T: Copy + Eq> Model for RangeMap<T> {

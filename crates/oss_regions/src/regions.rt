@@ -23,12 +23,26 @@ use std::marker::Model;
 
 /// The accesses to each cell in lists that cells share which no cut divides, with flags that messages move along the lists: what may
 /// go on is told by the flags of an access alone, however many accesses stand before it, or by there being none any more.
-#[derive(Drop)]
 pub struct Regions {
     pub(crate) alloc: Global,
     pub(crate) opens: Vec<Open>,
     pub(crate) cells: Fragments,
     pub(crate) reserved: Option<List<Access>>,
+}
+
+// By hand, so that who lets one go calls this, and does not take it apart at each exit.
+impl Drop for Regions {
+    fn drop(self) {
+        let Regions {
+            alloc: _,
+            opens,
+            cells,
+            reserved,
+        } = self;
+        drop(opens);
+        drop(cells);
+        drop(reserved);
+    }
 }
 
 impl Model for Regions {

@@ -18,7 +18,6 @@ pub const CELLS: u32 = 1_048_576;
 
 /// What is kept of a task: its number, in the order of creations; whether it has the clause `wait`; the longest chain to its last act; those to what all
 /// ended tasks below it have left, and to what its newest child and those below that have left; and its cells.
-#[derive(Drop)]
 pub struct Frame {
     pub task: usize,
     pub wait: bool,
@@ -26,6 +25,24 @@ pub struct Frame {
     pub left: Best,
     pub newest: Best,
     pub table: RangeMap<Marks>,
+}
+
+// By hand, so that who lets one go calls this, and does not take it apart at each exit.
+impl Drop for Frame {
+    fn drop(self) {
+        let Frame {
+            task: _,
+            wait: _,
+            run,
+            left,
+            newest,
+            table,
+        } = self;
+        drop(run);
+        drop(left);
+        drop(newest);
+        drop(table);
+    }
 }
 
 /// The act is a tick.

@@ -22,7 +22,6 @@ use std::mem;
 
 /// The nodes of all chains that are kept, the points of the tasks in the order of their creations, what is kept of the task that runs and of those above
 /// it, the oldest first, and the ticks so far.
-#[derive(Drop)]
 pub struct Pass {
     pub alloc: Global,
     pub nodes: List<Node>,
@@ -30,6 +29,24 @@ pub struct Pass {
     pub frame: Frame,
     pub above: List<Frame>,
     pub work: u64,
+}
+
+// By hand, so that who lets one go calls this, and does not take it apart at each exit.
+impl Drop for Pass {
+    fn drop(self) {
+        let Pass {
+            alloc: _,
+            nodes,
+            points,
+            frame,
+            above,
+            work: _,
+        } = self;
+        drop(nodes);
+        drop(points);
+        drop(frame);
+        drop(above);
+    }
 }
 
 /// Before the first act of main.

@@ -7,7 +7,6 @@ use std::alloc::{AllocError, Global};
 
 /// The tasks of a machine that are to be asked whether they may do something; and of the others, which wait, for which task each does. A waiting task watches one task that stands in its way,
 /// and is asked again only once that task, or one below it, has ended or given something up.
-#[derive(Drop)]
 pub struct Watch {
     pub(crate) alloc: Global,
     /// The tasks that are awake, in point order.
@@ -16,6 +15,21 @@ pub struct Watch {
     pub(crate) asleep: Vec<bool>,
     /// Of each task, by its number, which tasks watch it.
     pub(crate) watchers: Vec<Vec<TaskNo>>,
+}
+
+// By hand, so that who lets one go calls this, and does not take it apart at each exit.
+impl Drop for Watch {
+    fn drop(self) {
+        let Watch {
+            alloc: _,
+            awake,
+            asleep,
+            watchers,
+        } = self;
+        drop(awake);
+        drop(asleep);
+        drop(watchers);
+    }
 }
 
 impl Watch {

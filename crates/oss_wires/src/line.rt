@@ -17,13 +17,29 @@ use std::marker::Model;
 /// behind the other, in the order of creation. They go by numbers in the order of their openings; 0 is main's. Flags move along
 /// the lists: a call of `open` or `give` posts them, and `settle` delivers what is posted. To open, give up and settle a chain of
 /// accesses one by one costs as much as there are accesses: no call walks over all of them.
-#[derive(Drop)]
 pub struct Line {
     hangs: Vec<Hang>,
     stand: Vec<Marks>,
     posted: Vec<Marks>,
     behind: Vec<usize>,
     head: usize,
+}
+
+// By hand, so that who lets one go calls this, and does not take it apart at each exit.
+impl Drop for Line {
+    fn drop(self) {
+        let Line {
+            hangs,
+            stand,
+            posted,
+            behind,
+            head: _,
+        } = self;
+        drop(hangs);
+        drop(stand);
+        drop(posted);
+        drop(behind);
+    }
 }
 
 impl Model for Line {

@@ -13,11 +13,23 @@ use std::alloc::{AllocError, Global};
 use std::marker::Model;
 
 /// A net of access words, and the one seat at it, which holds no message between two calls.
-#[derive(Drop)]
 pub(crate) struct OwnNet {
     net: WordNet,
     seat: WordSeat,
     size: u32,
+}
+
+// By hand, so that who lets one go calls this, and does not take it apart at each exit.
+impl Drop for OwnNet {
+    fn drop(self) {
+        let OwnNet {
+            net,
+            seat,
+            size: _,
+        } = self;
+        drop(net);
+        drop(seat);
+    }
 }
 
 impl Model for OwnNet {

@@ -18,11 +18,23 @@ const FIRST: u32 = 65_536;
 /// A dependency system that reads its answers off a net of access words, with one entry for each task and cell. Beside the net it keeps plain lists of what
 /// it was told. Where a task needs more entries than are left, it makes a net of twice the size, as often as needed, and links and gives up there what the old one
 /// has; and where the most entries are too few, it gives the net up and answers from the lists.
-#[derive(Drop)]
 pub struct WordDeps {
     most: u32,
     kept: PlainDeps,
     words: Option<Words>,
+}
+
+// By hand, so that who lets one go calls this, and does not take it apart at each exit.
+impl Drop for WordDeps {
+    fn drop(self) {
+        let WordDeps {
+            most: _,
+            kept,
+            words,
+        } = self;
+        drop(kept);
+        drop(words);
+    }
 }
 
 impl Model for WordDeps {

@@ -28,11 +28,23 @@ use std::alloc::{AllocError, Global};
 use std::marker::Model;
 
 /// A book, and a net in which all that it has is linked and given up.
-#[derive(Drop)]
 pub(crate) struct Words {
     alloc: Global,
     net: OwnNet,
     book: Book,
+}
+
+// By hand, so that who lets one go calls this, and does not take it apart at each exit.
+impl Drop for Words {
+    fn drop(self) {
+        let Words {
+            alloc: _,
+            net,
+            book,
+        } = self;
+        drop(net);
+        drop(book);
+    }
 }
 
 impl Model for Words {
