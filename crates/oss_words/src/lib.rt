@@ -6,8 +6,6 @@ mod entry;
 pub mod laws;
 mod message;
 mod sending;
-#[cfg(test)]
-mod tests;
 pub mod word_laws;
 mod words;
 
