@@ -14,10 +14,7 @@ pub struct Record {
 // By hand, so that who lets one go calls this, and does not take it apart at each exit.
 impl Drop for Record {
     fn drop(self) {
-        let Record {
-            notes,
-            made,
-        } = self;
+        let Record { notes, made } = self;
         drop(notes);
         drop(made);
     }

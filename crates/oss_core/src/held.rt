@@ -20,10 +20,7 @@ pub struct Held {
 // By hand, so that who lets one go calls this, and does not take it apart at each exit.
 impl Drop for Held {
     fn drop(self) {
-        let Held {
-            body,
-            owed,
-        } = self;
+        let Held { body, owed } = self;
         drop(body);
         drop(owed);
     }

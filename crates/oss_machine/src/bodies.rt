@@ -14,10 +14,7 @@ pub(crate) struct Still {
 // By hand, so that who lets one go calls this, and does not take it apart at each exit.
 impl Drop for Still {
     fn drop(self) {
-        let Still {
-            callers,
-            top,
-        } = self;
+        let Still { callers, top } = self;
         drop(callers);
         drop(top);
     }

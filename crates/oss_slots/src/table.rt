@@ -19,10 +19,7 @@ pub struct Slots {
 // By hand, so that who lets one go calls this, and does not take it apart at each exit.
 impl Drop for Slots {
     fn drop(self) {
-        let Slots {
-            homes,
-            values,
-        } = self;
+        let Slots { homes, values } = self;
         drop(homes);
         drop(values);
     }

@@ -22,11 +22,7 @@ pub(crate) struct OwnNet {
 // By hand, so that who lets one go calls this, and does not take it apart at each exit.
 impl Drop for OwnNet {
     fn drop(self) {
-        let OwnNet {
-            net,
-            seat,
-            size: _,
-        } = self;
+        let OwnNet { net, seat, size: _ } = self;
         drop(net);
         drop(seat);
     }
