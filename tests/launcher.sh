@@ -1,6 +1,6 @@
 #!/bin/sh
 # Tests the script nest6 of the top: a copy of it, over crates that are empty, with a command `rt` that proves nothing. That one
-# writes lines as `rt run` does, and leaves a program. The last line counts; the status is 0 only where nothing failed.
+# writes lines as `rt ci` does, and leaves a program. The last line counts; the status is 0 only where nothing failed.
 top=$(CDPATH='' cd -- "$(dirname -- "$0")/.." && pwd) || exit 1
 work=$(mktemp -d) || exit 1
 work=$(CDPATH='' cd -P -- "$work" && pwd) || exit 1
@@ -36,40 +36,69 @@ low: thiserror
 side:
 END
 
+# What the proofs cost; that of nest6 is not told.
+mkdir "$copy/docs"
+cat >"$copy/docs/GATE.md" <<'END'
+## What it costs
+
+| crate | proof | with its tests | wrong bodies |
+|---|---|---|---|
+| `low` | ~60 | – | 1000 |
+| `middle` | 140 | – | – |
+| `side` | 20 | – | – |
+| `nest6` | – | – | – |
+
+## Something else
+
+| `low` | 1000 |
+END
+echo 'Handles allowed: none.' >"$copy/HANDLES"
+
 # What it does is in the file `does`: `prove`; `fail at once`; `fail in CRATE`; `stay in CRATE`, for ever; `wait in CRATE`, for
-# the file `go`; `half`, to leave half a program and stay. What it has finished it passes over, as rt does.
+# the file `go`; `half`, to leave half a program and stay. What it has finished it keeps beside the copy in which it is called, as rt does.
 mkdir "$work/fake" "$work/tools" "$work/calls"
 cat >"$work/fake/rt" <<'END'
 #!/bin/sh
-cd "$(dirname -- "$0")/../copy/crates/nest6" || exit 1
-work=../../..
+work=$(dirname -- "$0")/..
 echo "$*" >"$work/calls/$$"
 echo "$$" >"$work/process"
+pwd >"$work/place"
+cat crates.txt >"$work/lines"
 does=$(cat "$work/does")
 [ "$does" != 'fail at once' ] || exit 1
-echo 'only=0 proved=0'
+failed=
 for crate in side low middle nest6; do
-  mkdir -p "../$crate/out"
-  [ -f "../$crate/out/finished" ] && continue
-  echo "rt: chose --jobs 2 for $crate" >&2
+  mkdir -p "crates/$crate/out"
+  [ ! -f "$work/kept/$crate" ] || {
+    echo "rt: $crate is kept: an earlier run on this machine proved the same files over the same libraries" >&2
+    continue
+  }
+  [ -z "$failed" ] || {
+    echo "rt: $crate NOT PROVED: its library $failed failed" >&2
+    continue
+  }
   echo "fn $crate::it: proved"
   case $does in
     "fail in $crate")
       echo "fn $crate::it: not proved"
-      exit 1
+      echo "rt: $crate NOT PROVED" >&2
+      failed=$crate
+      continue
       ;;
     "stay in $crate") exec sleep 60 ;;
     "wait in $crate") until [ -f "$work/go" ]; do sleep 0.1; done ;;
   esac
-  : >"../$crate/out/finished"
+  echo "rt: $crate proved" >&2
+  mkdir -p "$work/kept"
+  : >"$work/kept/$crate"
 done
+[ -z "$failed" ] || exit 1
 if [ "$does" = half ]; then
-  echo '#!/bin/sh' >out/nest6
-  chmod +x out/nest6
+  echo '#!/bin/sh' >crates/nest6/out/nest6
   exec sleep 60
 fi
-cp "$work/program" out/nest6
-chmod +x out/nest6
+cp "$work/program" crates/nest6/out/nest6
+chmod +x crates/nest6/out/nest6
 END
 chmod +x "$work/fake/rt"
 cat >"$work/program" <<'END'
@@ -86,8 +115,11 @@ cat >"$work/fake/sleep" <<END
 exec "$(command -v sleep)" "\$@"
 END
 chmod +x "$work/fake/sleep"
-# all that the script calls, but rt and flock
-for tool in sh awk basename cat chmod cp cut dirname find grep head mkdir mv readlink rm sed sleep tail touch wc; do
+# The machine has two processors.
+printf '#!/bin/sh\necho 2\n' >"$work/fake/nproc"
+chmod +x "$work/fake/nproc"
+# all that the script calls, but rt, flock and nproc
+for tool in sh awk basename cat chmod cp date dirname find grep head mkdir mktemp mv readlink rm sed sleep tail touch wc; do
   ln -s "$(command -v "$tool")" "$work/tools/$tool"
 done
 PATH=$work/fake:$PATH
@@ -98,7 +130,7 @@ begins='nest6: proving and building the program; from nothing that takes'
 
 # fresh DOES: nothing is built, and this is what rt does
 fresh() {
-  rm -rf "$copy"/crates/*/out "$work/calls" "$work/go" "$work/process"
+  rm -rf "$copy"/crates/*/out "$work/kept" "$work/calls" "$work/go" "$work/process"
   mkdir "$work/calls"
   echo "$1" >"$work/does"
 }
@@ -149,29 +181,29 @@ says_not() { ! says "$@"; }
 # is_gone PROCESS: whether it has ended
 is_gone() { ! kill -s 0 "$1" 2>/dev/null; }
 
-# tells NAME CRATE..: whether the error output has a line of each of these crates, and no other such line
-tells() {
-  file=$work/$1.err
-  shift
-  [ "$(sed -n 's/^nest6: proving \([a-z0-9]*\), crate .*/\1/p' "$file" | tr '\n' ' ')" = "$*${*:+ }" ]
-}
+# proved CRATE..: whether these crates were proved in the last build, and no other
+proved() { [ "$(sed -n 's/^rt: \([a-z0-9]*\) proved$/\1/p' "$out/build.log" | tr '\n' ' ')" = "$*${*:+ }" ]; }
+
+# cleared: whether the copy in which rt was called is gone
+cleared() { [ -s "$work/place" ] && [ ! -e "$(cat "$work/place")" ] && [ ! -e "$out/copy" ]; }
 
 # called TIMES: whether rt was called so often
 called() { [ "$(find "$work/calls" -type f | wc -l)" -eq "$1" ]; }
 
-# The first call: each crate is told in the order of rt, with its place and with how many are left.
+# The first call: it tells how much is proved, of all the crates below the program.
 fresh prove
 call first
 check "the first call ends as the program does" ended 7 first
 check "the first call says how long it takes" says first "$begins $(sed -n "s/^measured='\(.*\)'\$/\1/p" "$copy/nest6")"
-check "the first call tells of each crate" tells first side low middle nest6
-check "the first crate and how many are left" says first 'nest6: proving side, crate 1 of 4 (3 left)'
-check "the last crate and how many are left" says first 'nest6: proving nest6, crate 4 of 4 (0 left)'
+check "the first call proves each crate" proved side low middle nest6
+check "the first call tells that all is proved" says first 'nest6: 100 % is proved, 4 of 4 crates'
+check "rt is given the lines of the crates below the program" grep -q -x -e 'nest6: side middle thiserror' "$work/lines"
+check "the copy is gone after a build" cleared
 check "the first call says that the program is built" says first 'nest6: the program is built'
 for document in README.md docs/COMMANDS.md docs/GATE.md; do
   check "the same time in $document" grep -q -F -e "$(sed -n "s/^measured='\(.*\)'\$/\1/p" "$copy/nest6")" "$top/$document"
 done
-check "the program is built by a run on the stored example" grep -q -x -e 'run -- run data/flow.c' "$work/calls"/*
+check "the program is built by the gate" grep -q -x -e 'ci' "$work/calls"/*
 check "the log has what rt has written" grep -q -x -e 'fn low::it: proved' "$out/build.log"
 
 # A program that is up to date: rt is not called, and need not be there.
@@ -181,12 +213,12 @@ check "a second call says nothing" cmp -s "$work/second.err" "$work/wanted_quiet
 check "a second call calls no rt" called 1
 
 # A source has changed.
-rm "$copy/crates/low/out/finished"
+rm "$work/kept/low"
 touch "$copy/crates/low/src/lib.rt"
 call changed
 check "a call behind a change ends as the program does" ended 7 changed
-check "a call behind a change tells of the crates that rt takes" tells changed low
-check "the place of a crate where others are up to date" says changed 'nest6: proving low, crate 2 of 4 (2 left)'
+check "a call behind a change proves that crate" proved low
+check "what is kept counts as proved" says changed 'nest6: 100 % is proved, 4 of 4 crates'
 rm "$copy/crates/low/src/lib.rt"
 call removed
 check "a call behind the removal of a source builds" called 3
@@ -213,7 +245,8 @@ fresh 'fail in middle'
 call failure
 check "a failed build has the status 70" stopped 70 failure
 check "a failed build names the crate and the log" says failure "nest6: the build failed in middle; its log is $out/build.log"
-check "a failed build tells of the crates up to there" tells failure side low middle
+check "a failed build tells of the crates up to there" says failure 'nest6: 32 % is proved, 2 of 4 crates; about '
+check "the copy is gone after a failed build" cleared
 check "a failed build leaves no stamp" test ! -e "$out/built-from" -a ! -e "$out/built-from.new"
 check "the log of a failed build" grep -q -x -e 'fn middle::it: not proved' "$out/build.log"
 echo 'fail at once' >"$work/does"
@@ -222,14 +255,23 @@ check "a build that fails before a crate is begun" says early "nest6: the build 
 echo prove >"$work/does"
 call mended
 check "a mended build ends as the program does" ended 7 mended
-check "a mended build goes on behind what is proved" tells mended middle nest6
+check "a mended build goes on behind what is proved" proved middle nest6
 echo 'fail in low' >"$work/does"
-rm "$copy/crates/low/out/finished"
+rm "$work/kept/low"
 touch "$copy/crates/low/src/lib.rt"
 call worse
 check "a failed build does not call the program of before" stopped 70 worse
 call worse
 check "a build fails again" stopped 70 worse
+
+# The folder of what is built cannot be written: a file is in its place.
+fresh prove
+: >"$out"
+call barred
+check "a folder that cannot be written has the status 70" stopped 70 barred
+check "a folder that cannot be written is told" says barred "nest6: the folder $out cannot be written, and the program is built there"
+check "a folder that cannot be written is not told as a failed build" says_not barred 'the build failed'
+rm "$out"
 
 # There is no rt.
 fresh prove
@@ -240,31 +282,34 @@ check "no rt is told" says absent 'nest6: the command rt of the Rattle toolchain
 # A build that a signal cuts off: rt is ended too, and the next call goes on.
 fresh 'stay in middle'
 begin cut
-until_said cut 'proving middle'
+until_said cut '32 % is proved'
 cut TERM
 check "a build that is cut off ends by the signal" stopped 143 cut
-check "a build that is cut off says so" says cut 'nest6: interrupted; the next call goes on behind the crates that are proved'
+check "a build that is cut off says so" says cut 'nest6: interrupted; the next call goes on after the crates that are proved'
+check "the copy is gone after a build that is cut off" cleared
 check "a build that is cut off leaves no stamp" test ! -e "$out/built-from" -a ! -e "$out/built-from.new"
 check "a build that is cut off ends its rt" is_gone "$(cat "$work/process")"
 echo prove >"$work/does"
 call resumed
 check "the call behind that ends as the program does" ended 7 resumed
-check "the call behind that goes on" tells resumed middle nest6
+check "the call behind that goes on" proved middle nest6
 
 # The program is gone, and a build is cut off while it writes a new one: the next call builds.
 rm "$out/nest6"
 echo half >"$work/does"
 begin cut
-until [ -x "$out/nest6" ] || is_gone "$begun"; do sleep 0.1; done
+until_said cut '100 % is proved'
 cut TERM
+check "a program that was written by half is not taken" test ! -e "$out/nest6"
 echo prove >"$work/does"
 call whole
 check "a program that was written by half is built again" ended 7 whole
 
-# Two calls at once: the second waits for the first, and builds nothing.
+# Two calls at once: the second waits for the first, and builds nothing. The first tells how far it is: 20 of 250 seconds, and 230 on two processors.
 fresh 'wait in low'
 begin one
-until_said one 'proving low'
+until_said one '1 of 4 crates'
+check "a build tells how much is proved, and about how long the rest takes" says one 'nest6: 8 % is proved, 1 of 4 crates; about 2 minutes left'
 one=$begun
 begin two
 until_said two 'another call is building the program'
@@ -282,7 +327,7 @@ check "the second of two calls builds nothing" called 1
 # The first call is killed. Its rt goes on, so the next call waits for that, and then takes what it has proved.
 fresh 'wait in low'
 begin killed
-until_said killed 'proving low'
+until_said killed '1 of 4 crates'
 cut KILL
 begin next
 until_said next 'another call is building the program'
@@ -291,12 +336,13 @@ wait "$begun"
 got=$?
 check "the call behind a killed one" ended 7 next
 check "the call behind a killed one waits for the rt that is left" says next 'waiting for it'
-check "the call behind a killed one takes what was proved" tells next
+check "the call behind a killed one takes what was proved" proved
+check "the copies of both are gone" cleared
 
 # Nothing is left of the killed call and of its rt: no one waits.
 fresh 'stay in low'
 begin killed
-until_said killed 'proving low'
+until_said killed '1 of 4 crates'
 cut KILL
 kill -s KILL "$(cat "$work/process")"
 # (so that each of its processes has ended)
