@@ -71,10 +71,7 @@ pub struct Locals<'p> {
 // By hand, so that who lets one go calls this, and does not take it apart at each exit.
 impl<'p> Drop for Locals<'p> {
     fn drop(self) {
-        let Locals {
-            locals,
-            names,
-        } = self;
+        let Locals { locals, names } = self;
         drop(locals);
         drop(names);
     }

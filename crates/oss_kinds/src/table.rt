@@ -15,10 +15,7 @@ pub struct NameTable<'p> {
 // By hand, so that who lets one go calls this, and does not take it apart at each exit.
 impl<'p> Drop for NameTable<'p> {
     fn drop(self) {
-        let NameTable {
-            names,
-            places,
-        } = self;
+        let NameTable { names, places } = self;
         drop(names);
         drop(places);
     }
