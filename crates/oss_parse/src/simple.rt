@@ -200,10 +200,7 @@ fn stepped(target: Expr, tokens: &mut Cursor<'_>) -> Result<Stmt, Unread>
 }
 
 /// assign expr
-fn assigned_value(
-    alloc: Global,
-    tokens: &mut Cursor<'_>,
-) -> Result<(Option<BinOp>, Expr), Unread>
+fn assigned_value(alloc: Global, tokens: &mut Cursor<'_>) -> Result<(Option<BinOp>, Expr), Unread>
     ensures { ReadsAs (read_both (read_one assignment_at) read_expression tokens.old) result tokens.new }
 {
     let operator = assignment(tokens)?;
