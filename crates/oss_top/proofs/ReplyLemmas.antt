@@ -35,7 +35,7 @@ use Rattle.oss_top.specs.OneReply.{IsOfOneReply, IsReplied, IsRepliedOnce}
 use Rattle.oss_top.specs.ProgramTexts.{Accepts, Refuses}
 use Rattle.oss_top.specs.ProgramTexts.Refuses.{by_grammar, by_rules}
 use Rattle.oss_top.proofs.ReplayLemmas.{replay_once}
-use Rattle.oss_top.proofs.SomeReply.{file_reply}
+use Rattle.oss_top.proofs.SomeReply.{file_reply, files_reply}
 use Rattle.oss_top.specs.Replays.{IsFilesReply, IsReplayReply, IsScheduleReply, IsTextsReply}
 use Rattle.oss_top.specs.Replays.IsScheduleReply.{replayed, wrong_line}
 use Rattle.oss_top.specs.Replays.IsTextsReply.{accepted as texts_accepted, refused_text as texts_refused}
@@ -183,7 +183,7 @@ file_alike : (text : List ℕ) (c : Command) (reply other : Reply) → IsFileRep
 file_alike text c = file_once text (parsed_once text) status_of c (program_alike c)
 
 pub replied_once : (text schedule : List ℕ) → IsRepliedOnce text schedule
-replied_once text schedule = record { one = files_once text schedule (parsed_once text) }
+replied_once text schedule = record { some = λ fuel. files_reply fuel text schedule; one = files_once text schedule (parsed_once text) }
 
 command_alike : (c : Command) (texts : Texts) (reply other : Reply) → IsCommandReply c texts reply → IsCommandReply c texts other → status_of reply ≡ status_of other
 command_alike (run file options) texts reply other x y = file_alike texts.file (run file options) reply other x y
