@@ -63,10 +63,18 @@ impl<'p> Visible<'p> {
 
 /// The locals in scope: contracts see their list, the last one declared at the end. Where they may be many they have a table
 /// of their names.
-#[derive(Drop)]
 pub struct Locals<'p> {
     locals: Vec<Visible<'p>>,
     names: Option<NameTable<'p>>,
+}
+
+// By hand, so that who lets one go calls this, and does not take it apart at each exit.
+impl<'p> Drop for Locals<'p> {
+    fn drop(self) {
+        let Locals { locals, names } = self;
+        drop(locals);
+        drop(names);
+    }
 }
 
 impl<'p> Model for Locals<'p> {

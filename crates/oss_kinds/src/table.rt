@@ -7,10 +7,18 @@ use std::alloc::{AllocError, Global};
 use std::marker::Model;
 
 /// Names, each with its first place among them: contracts see their list, in which a name may stand more than once.
-#[derive(Drop)]
 pub struct NameTable<'p> {
     names: Vec<&'p [u8]>,
     places: IndexMap<&'p [u8], usize>,
+}
+
+// By hand, so that who lets one go calls this, and does not take it apart at each exit.
+impl<'p> Drop for NameTable<'p> {
+    fn drop(self) {
+        let NameTable { names, places } = self;
+        drop(names);
+        drop(places);
+    }
 }
 
 impl<'p> Model for NameTable<'p> {

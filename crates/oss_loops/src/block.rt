@@ -140,8 +140,14 @@ fn fill_locals(
     ensures { OnOk result (locals.new ≡ locals.old ++ block_locals line bounds) }
 {
     let Bounds { first, end, grain } = bounds;
-    add_begin(alloc, line, first, locals)?;
-    fill_last_locals(alloc, line, end, grain, locals)
+    match add_begin(alloc, line, first, locals) {
+        Ok(()) => fill_last_locals(alloc, line, end, grain, locals),
+        Err(full) => {
+            drop(end);
+            drop(grain);
+            Err(full)
+        }
+    }
 }
 
 /// Adds the local that tells where the next task begins.
@@ -153,8 +159,13 @@ fn add_begin(
 ) -> Result<(), AllocError>
     ensures { OnOk result (locals.new ≡ locals.old ++ long_at line begin_name first ∷ []) }
 {
-    let name = name_of_begin(alloc)?;
-    add_local(line, name, first, locals)
+    match name_of_begin(alloc) {
+        Ok(name) => add_local(line, name, first, locals),
+        Err(full) => {
+            drop(first);
+            Err(full)
+        }
+    }
 }
 
 /// Adds the locals that tell where the loop ends and how many turns a task makes.
@@ -167,16 +178,26 @@ fn fill_last_locals(
 ) -> Result<(), AllocError>
     ensures { OnOk result (locals.new ≡ locals.old ++ last_locals line end grain) }
 {
-    add_end(alloc, line, end, locals)?;
-    add_grain(alloc, line, grain, locals)
+    match add_end(alloc, line, end, locals) {
+        Ok(()) => add_grain(alloc, line, grain, locals),
+        Err(full) => {
+            drop(grain);
+            Err(full)
+        }
+    }
 }
 
 /// Adds the local that tells where the loop ends.
 fn add_end(alloc: Global, line: u32, end: Expr, locals: &mut List<Local>) -> Result<(), AllocError>
     ensures { OnOk result (locals.new ≡ locals.old ++ long_at line end_name end ∷ []) }
 {
-    let name = name_of_end(alloc)?;
-    add_local(line, name, end, locals)
+    match name_of_end(alloc) {
+        Ok(name) => add_local(line, name, end, locals),
+        Err(full) => {
+            drop(end);
+            Err(full)
+        }
+    }
 }
 
 /// Adds the local that tells how many turns a task makes.
@@ -188,16 +209,21 @@ fn add_grain(
 ) -> Result<(), AllocError>
     ensures { OnOk result (locals.new ≡ locals.old ++ long_at line grain_name grain ∷ []) }
 {
-    let name = name_of_grain(alloc)?;
-    add_local(line, name, grain, locals)
+    match name_of_grain(alloc) {
+        Ok(name) => add_local(line, name, grain, locals),
+        Err(full) => {
+            drop(grain);
+            Err(full)
+        }
+    }
 }
 
 /// Adds that a task makes one turn where fewer are told.
 fn add_raised_grain(alloc: Global, line: u32, inside: &mut List<Stmt>) -> Result<(), AllocError>
     ensures { OnOk result (inside.new ≡ inside.old ++ grain_raised line ∷ []) }
 {
-    let test = no_turn(alloc, line)?;
     let branch = one_turn(alloc, line)?;
+    let test = no_turn(alloc, line)?;
     inside.push(Stmt {
         what: StmtKind::If(test, branch, None),
         line,

@@ -46,7 +46,25 @@ pub fn joined(
 ) -> Result<Expr, AllocError>
     ensures { IfOk result (λ joined. joined ≡ joined_at line operator left right) }
 {
-    let left = Boxed::new(alloc, left)?;
+    match Boxed::new(alloc, left) {
+        Ok(left) => joined_behind(alloc, line, operator, left, right),
+        Err(full) => {
+            drop(right);
+            Err(full)
+        }
+    }
+}
+
+/// The same with the one on the left in its box.
+fn joined_behind(
+    alloc: Global,
+    line: u32,
+    operator: BinOp,
+    left: Boxed<Expr>,
+    right: Expr,
+) -> Result<Expr, AllocError>
+    ensures { IfOk result (λ joined. joined ≡ joined_at line operator left right) }
+{
     let right = Boxed::new(alloc, right)?;
     Ok(Expr {
         what: ExprKind::Binary(operator, left, right),

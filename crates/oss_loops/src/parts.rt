@@ -2,7 +2,7 @@
 ghost use Rattle.std.specs.Prelude.{◌≡◌, [], ◌∷◌, ◌++◌, Some, IfOk};
 ghost use Rattle.oss_grammar.specs.Scopes.{or_else};
 ghost use Rattle.oss_grammar.specs.TaskLoops.{task_clauses};
-ghost use Rattle.oss_loops.specs.LoopParts.{loop_bounds, task_parts, turns_among, turns_in};
+ghost use Rattle.oss_loops.specs.LoopParts.{loop_bounds, or_number, task_parts, turns_among, turns_in};
 
 use crate::expressions::given_or;
 use oss_syntax::{Clause, Expr, List, Local, LoopHead, Name, TaskMark};
@@ -62,18 +62,40 @@ pub fn taken_apart(alloc: Global, line: u32, head: LoopHead) -> Result<LoopParts
     } = head;
     drop(tested);
     drop(stepped);
+    let TaskMark {
+        clauses,
+        line: mark_line,
+    } = mark;
+    match sorted(alloc, clauses) {
+        Ok(sorted) => Ok(joined_parts(line, variable, end, sorted, mark_line, for_line)),
+        Err(full) => {
+            drop(variable);
+            drop(end);
+            Err(full)
+        }
+    }
+}
+
+/// The parts of a head whose clauses are sorted.
+fn joined_parts(
+    line: u32,
+    variable: Local,
+    end: Expr,
+    sorted: SortedClauses,
+    mark_line: u32,
+    for_line: u32,
+) -> LoopParts
+    ensures bounds { result.bounds ≡ (record { first = or_number line 0 variable.first; end = end; grain = or_number line 1 sorted.grain }) }
+    ensures task { result.task ≡ (record { variable = variable.name; clauses = sorted.others; mark_line = mark_line; for_line = for_line }) }
+{
     let Local {
         name,
         kind: _,
         first,
         line: _,
     } = variable;
-    let TaskMark {
-        clauses,
-        line: mark_line,
-    } = mark;
-    let SortedClauses { grain, others } = sorted(alloc, clauses)?;
-    Ok(LoopParts {
+    let SortedClauses { grain, others } = sorted;
+    LoopParts {
         bounds: Bounds {
             first: given_or(line, 0, first),
             end,
@@ -85,7 +107,7 @@ pub fn taken_apart(alloc: Global, line: u32, head: LoopHead) -> Result<LoopParts
             mark_line,
             for_line,
         },
-    })
+    }
 }
 
 /// The grainsize apart from the other clauses.
@@ -115,8 +137,13 @@ fn with_clause(found: SortedClauses, clause: Clause) -> Result<SortedClauses, Al
             others,
         }),
         other => {
-            others.push(other)?;
-            Ok(SortedClauses { grain, others })
+            match others.push(other) {
+                Ok(()) => Ok(SortedClauses { grain, others }),
+                Err(full) => {
+                    drop(grain);
+                    Err(full)
+                }
+            }
         }
     }
 }
@@ -126,7 +153,10 @@ fn first_of(told: Option<Expr>, turns: Expr) -> Option<Expr>
     ensures { result ≡ or_else told (Some turns) }
 {
     match told {
-        Some(told) => Some(told),
+        Some(told) => {
+            drop(turns);
+            Some(told)
+        }
         None => Some(turns),
     }
 }

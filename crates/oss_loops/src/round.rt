@@ -121,9 +121,9 @@ fn turning(alloc: Global, line: u32, variable: &[u8]) -> Result<(Expr, Boxed<Stm
     ensures test { IfOk result (λ parts. parts.0 ≡ joined_at line op.Less (name_at line variable.now) (name_at line stop_name)) }
     ensures step { IfOk result (λ parts. parts.1 ≡ stmt_at line (stmts.Assign (name_at line variable.now) (Some op.Add) (number_at line 1))) }
 {
+    let step = step(alloc, line, variable)?;
     let tested = Name::from_slice(alloc, variable)?;
     let test = joined_names(alloc, line, BinOp::Less, tested, name_of_stop(alloc)?)?;
-    let step = step(alloc, line, variable)?;
     Ok((test, step))
 }
 
@@ -179,8 +179,8 @@ fn fill_locals_of_round(
 fn add_moved_stop(alloc: Global, line: u32, inside: &mut List<Stmt>) -> Result<(), AllocError>
     ensures { OnOk result (inside.new ≡ inside.old ++ stop_moved line ∷ []) }
 {
-    let test = more_left(alloc, line)?;
     let branch = moved(alloc, line)?;
+    let test = more_left(alloc, line)?;
     inside.push(Stmt {
         what: StmtKind::If(test, branch, None),
         line,

@@ -114,8 +114,16 @@ fn branches(
 ) -> Result<Stmt, AllocError>
     ensures { IfOk result (λ done. done ≡ stmt_at line (stmts.If test (written_out then) (option_map written_out other))) }
 {
-    let (then, other) = both(alloc, then, other)?;
-    Ok(at(line, StmtKind::If(test, then, other)))
+    match both(alloc, then, other) {
+        Ok(done) => {
+            let (then, other) = done;
+            Ok(at(line, StmtKind::If(test, then, other)))
+        }
+        Err(full) => {
+            drop(test);
+            Err(full)
+        }
+    }
 }
 
 /// Both branches of an `if`.
@@ -137,8 +145,13 @@ fn both(
 fn while_loop(alloc: Global, line: u32, test: Expr, body: Boxed<Stmt>) -> Result<Stmt, AllocError>
     ensures { IfOk result (λ done. done ≡ stmt_at line (stmts.While test (written_out body))) }
 {
-    let body = within(alloc, body)?;
-    Ok(at(line, StmtKind::While(test, body)))
+    match within(alloc, body) {
+        Ok(body) => Ok(at(line, StmtKind::While(test, body))),
+        Err(full) => {
+            drop(test);
+            Err(full)
+        }
+    }
 }
 
 #[cycle(statements)]
@@ -150,8 +163,16 @@ fn for_loop(
 ) -> Result<Stmt, AllocError>
     ensures { IfOk result (λ done. done ≡ stmt_at line (stmts.For (option_map written_out parts.start) test (option_map written_out parts.step) (written_out parts.body))) }
 {
-    let ForParts { start, step, body } = for_parts(alloc, parts)?;
-    Ok(at(line, StmtKind::For(start, test, step, body)))
+    match for_parts(alloc, parts) {
+        Ok(done) => {
+            let ForParts { start, step, body } = done;
+            Ok(at(line, StmtKind::For(start, test, step, body)))
+        }
+        Err(full) => {
+            drop(test);
+            Err(full)
+        }
+    }
 }
 
 /// The statements of a `for`.
@@ -184,6 +205,11 @@ fn task_loop(
 ) -> Result<Stmt, AllocError>
     ensures { IfOk result (λ done. done ≡ written line head (written_out body)) }
 {
-    let body = within(alloc, body)?;
-    written(alloc, line, head, body)
+    match within(alloc, body) {
+        Ok(body) => written(alloc, line, head, body),
+        Err(full) => {
+            drop(head);
+            Err(full)
+        }
+    }
 }

@@ -1,7 +1,8 @@
 //! The globals and functions of a program.
-ghost use Rattle.std.specs.Prelude.{◌≡◌, IfOk, map, slice_get};
+ghost use Rattle.std.specs.Prelude.{◌≡◌, ◌++◌, IfOk, OnOk, map, slice_get};
 ghost use Rattle.std.specs.Option.{option_copied};
-ghost use Rattle.oss_lower.specs.Tables.{found_at};
+ghost use Rattle.oss_grammar.specs.Scopes.{item_name};
+ghost use Rattle.oss_lower.specs.Tables.{found_at, founds_from};
 ghost use Rattle.oss_meaning.specs.Names.{found, functions_of, global_found, item_found};
 
 use crate::numbers::deeper;
@@ -61,23 +62,7 @@ impl<'p> Names<'p> {
         let mut table = NameTable::new(alloc);
         let mut found = Vec::new(alloc);
         let mut functions = Vec::new(alloc);
-        let mut globals = 0u32;
-        let mut count = 0u32;
-        for item in items {
-            match item {
-                Item::Global(global) => {
-                    table.add(global.name.as_slice())?;
-                    found.push(found_global(globals, global))?;
-                    globals = deeper(globals, 1)?;
-                }
-                Item::Function(function) => {
-                    table.add(function.name.as_slice())?;
-                    found.push(Found::Function(count))?;
-                    functions.push(function)?;
-                    count = deeper(count, 1)?;
-                }
-            }
-        }
+        add_all(items, &mut table, &mut found, &mut functions)?;
         Ok(Names {
             alloc,
             items,
@@ -123,6 +108,37 @@ impl<'p> Names<'p> {
     {
         self.functions.get(number as usize).copied()
     }
+}
+
+/// Adds the globals and functions of a program to tables that have none yet.
+fn add_all<'p>(
+    items: &'p [Item],
+    table: &mut NameTable<'p>,
+    found: &mut Vec<Found>,
+    functions: &mut Vec<&'p Function>,
+) -> Result<(), AllocError>
+    ensures named { OnOk result (table.new ≡ table.old ++ map item_name items.now) }
+    ensures found { OnOk result (found.new.items ≡ found.old.items ++ founds_from 0 0 items.now) }
+    ensures numbered { OnOk result (map (λ f. f.now) functions.new.items ≡ map (λ f. f.now) functions.old.items ++ functions_of items.now) }
+{
+    let mut globals = 0u32;
+    let mut count = 0u32;
+    for item in items {
+        match item {
+            Item::Global(global) => {
+                table.add(global.name.as_slice())?;
+                found.push(found_global(globals, global))?;
+                globals = deeper(globals, 1)?;
+            }
+            Item::Function(function) => {
+                table.add(function.name.as_slice())?;
+                found.push(Found::Function(count))?;
+                functions.push(function)?;
+                count = deeper(count, 1)?;
+            }
+        }
+    }
+    Ok(())
 }
 
 /// What stands at a place, if there is one.

@@ -1,5 +1,5 @@
 //! The code of a program.
-ghost use Rattle.std.specs.Prelude.{◌≡◌, ◌≤◌, IfOk, length, map};
+ghost use Rattle.std.specs.Prelude.{◌≡◌, ◌++◌, ◌≤◌, IfOk, OnOk, length, map};
 ghost use Rattle.oss_meaning.specs.Meaning.{main_number};
 ghost use Rattle.oss_meaning.specs.Names.{functions_of};
 ghost use Rattle.oss_lower.specs.Lowered.{IsLowered, bodies_from, body_place, entries_from, first_entry, program_code};
@@ -123,15 +123,30 @@ fn taken_apart(alloc: Global, code: Vec<Lined>) -> Result<Columns, AllocError>
     let mut instrs = Vec::with_capacity(alloc, code.len())?;
     let mut lines = Vec::with_capacity(alloc, code.len())?;
     let mut depths = Vec::with_capacity(alloc, code.len())?;
+    add_all(code, &mut instrs, &mut lines, &mut depths)?;
+    Ok(Columns {
+        instrs,
+        lines,
+        depths,
+    })
+}
+
+/// Adds the instructions of a listing, their lines and their depths.
+fn add_all(
+    code: Vec<Lined>,
+    instrs: &mut Vec<Instr>,
+    lines: &mut Vec<u32>,
+    depths: &mut Vec<u32>,
+) -> Result<(), AllocError>
+    ensures instrs { OnOk result (instrs.new.items ≡ instrs.old.items ++ map (λ l. l.what) code.items) }
+    ensures lines { OnOk result (lines.new.items ≡ lines.old.items ++ map (λ l. l.line) code.items) }
+    ensures depths { OnOk result (depths.new.items ≡ depths.old.items ++ map (λ l. l.depth) code.items) }
+{
     for one in code {
         let Lined { what, line, depth } = one;
         instrs.push(what)?;
         lines.push(line)?;
         depths.push(depth)?;
     }
-    Ok(Columns {
-        instrs,
-        lines,
-        depths,
-    })
+    Ok(())
 }

@@ -93,7 +93,7 @@ module _ (n : ℕ) (a : Known) (e w : ℕ) (i : EntryInfo) (may : MayHang a e i 
     gives = refl;
     delivered = refl;
     told = among_first refl;
-    sends = (let s = may.stands in let d = again s.1 s.2 in (s.1, s.2, record { found = x; messages = λ k. sent i.parent (state_at x) (state_at (x + child_mask e (d k).mode i.mode)) (d k) }));
+    sends = (let s = may.stands in let d = again s.1 s.2 in (s.1, s.2, record { found = x; step = (λ k. record { entry = i.parent; found = x; more = child_mask e (d k).mode i.mode }); messages = λ k. sent i.parent (state_at x) (state_at (x + child_mask e (d k).mode i.mode)) (d k) }));
   }
 
 -- the same, behind a sibling
@@ -138,7 +138,7 @@ module _ (n : ℕ) (a : Known) (e w o : ℕ) (i : EntryInfo) (may : MayHang a e 
     gives = refl;
     delivered = refl;
     told = among_first refl;
-    sends = (let s = may.stands in let d = again s.0 s.1 in (s.0, s.1, record { found = x; messages = λ k. sent o (state_at x) (state_at (x + next_mask e (d k).mode i.mode)) (d k) }));
+    sends = (let s = may.stands in let d = again s.0 s.1 in (s.0, s.1, record { found = x; step = (λ k. record { entry = o; found = x; more = next_mask e (d k).mode i.mode }); messages = λ k. sent o (state_at x) (state_at (x + next_mask e (d k).mode i.mode)) (d k) }));
   }
 
 -- behind a link nothing is left half done

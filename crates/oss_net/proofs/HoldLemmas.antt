@@ -66,13 +66,13 @@ one_more held messages at d k w inside ready =
     sums h (y ∷ xs) x = let a = sums h xs x in omega (arith, a)
 
 pub learns_one : (k : Known) (e w : ℕ) → Learns k (informed e w k)
-learns_one k e w = record { view = refl; entries = refl; filling = refl; told = λ t a. among_later a }
+learns_one k e w = record { added = refl; view = refl; entries = refl; filling = refl; told = λ t a. among_later a }
 
 pub learns_none : (k : Known) → Learns k k
-learns_none k = record { view = refl; entries = refl; filling = refl; told = λ t a. a }
+learns_none k = record { added = refl; view = refl; entries = refl; filling = refl; told = λ t a. a }
 
 pub learns_more : (a b c : Known) → Learns a b → Learns b c → Learns a c
-learns_more a b c f g = record { view = g.view ∙ f.view; entries = g.entries ∙ f.entries; filling = g.filling ∙ f.filling; told = λ t m. g.told t (f.told t m) }
+learns_more a b c f g = record { added = g.added ∙ f.added; view = g.view ∙ f.view; entries = g.entries ∙ f.entries; filling = g.filling ∙ f.filling; told = λ t m. g.told t (f.told t m) }
 
 -- what is bounded stays so
 pub still_bounded : (a b : Known) → Learns a b → Bounded a → Bounded b

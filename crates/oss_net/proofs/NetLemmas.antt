@@ -1,20 +1,21 @@
 -- The calls of a net over what holds of a seat between two calls.
-use Rattle.std.proofs.Common.{◌≡◌, ◌≢◌, ◌⊎◌, inl, inr, sym, subst, refl, ◌∙◌, ap, ℕ, zero, suc, ◌<◌, ◌≤◌, ◌+◌, arith, Bool, true, false, not, ◌==◌, List, [], ◌∷◌, map, length}
+use Rattle.std.proofs.Common.{◌≡◌, ◌≢◌, ◌⊎◌, inl, inr, sym, subst, refl, ◌∙◌, ap, ℕ, zero, suc, ◌<◌, ◌≤◌, ◌+◌, ◌*◌, arith, Bool, true, false, not, ◌==◌, List, [], ◌∷◌, map, length}
 use Rattle.std.specs.Prelude.{MatchBool}
 use Rattle.std.proofs.lemmas.Bool.Decides.{eqb_tells}
 use Rattle.oss_words.proofs.CauseLemmas.{clash}
 use Rattle.oss_words.specs.declared.message.Message.{Message}
 use Rattle.oss_words.specs.declared.entry.EntryInfo.{EntryInfo}
 use Rattle.oss_words.specs.declared.entry.After.{After}
+use Rattle.oss_words.specs.declared.entry.After.TheVariants.{FirstOf, FirstOfMain, Sibling}
 use Rattle.oss_words.specs.Bits.{info_at}
 use Rattle.oss_words.specs.Sums.{total}
 use Rattle.oss_words.specs.SeatSteps.{numbers}
 use Rattle.oss_words.specs.Views.{Among, among_first, among_later, View, Seen}
 use Rattle.oss_words.proofs.SeatLemmas.{among_append, among_left}
 use Rattle.oss_net.specs.declared.held.Held.{Held}
-use Rattle.oss_net.specs.Calls.{Carries, Hung, Released, Delivered, LinkSends, GiveSends, with_none, with_last}
+use Rattle.oss_net.specs.Calls.{Carries, Completed, Hung, Released, Delivered, LinkSends, with_none, with_last}
 use Rattle.oss_net.specs.Known.{Known, Told, first_known}
-use Rattle.oss_net.specs.Moves.{drew, missed, keeping, handed, joined}
+use Rattle.oss_net.specs.Moves.{drew, missed, keeping, handed, joined, next_mask, child_mask}
 use Rattle.oss_net.specs.Standing.{Idle, Ready, Settled, Learns, message_of}
 use Rattle.oss_net.proofs.HoldLemmas.{ones, still_bounded}
 use Rattle.oss_net.proofs.SeatLemmas.{left_is}
@@ -100,6 +101,15 @@ carried a b d c l = record {
   seen = λ s h. subst (λ (z : List Seen). Among s z) (sym (ap (λ (v : View). v.seen) l.view)) (c.seen s h);
 }
 
+-- reads behind a step leave what it completed, and the word that it found
+completed_learns : (b d : Known) (e : ℕ) (i : EntryInfo) (x : ℕ) → Completed b e i x → Learns b d → Completed d e i x
+completed_learns b d e i x c l = record { found = c.found; step = l.added ∙ c.step; messages = ap (λ (v : View). v.held) l.view ∙ c.messages }
+
+link_learns : (a b d : Known) (e : ℕ) (i : EntryInfo) (p : After) → LinkSends a b e i p → Learns b d → LinkSends a d e i p
+link_learns a b d e i FirstOfMain s l = ap (λ (v : View). v.held) l.view ∙ s
+link_learns a b d e i (FirstOf p) s l = (s.0, s.1, completed_learns b d p s.0 (child_mask e s.0.mode i.mode) s.2 l)
+link_learns a b d e i (Sibling o) s l = (s.0, s.1, completed_learns b d o s.0 (next_mask e s.0.mode i.mode) s.2 l)
+
 pub hung_learns : (a b d : Known) (e : ℕ) (i : EntryInfo) (p : After) → Hung a b e i p → Learns b d → Hung a d e i p
 hung_learns a b d e i p h l = record {
   carries = carried a b d h.carries l;
@@ -107,7 +117,7 @@ hung_learns a b d e i p h l = record {
   gives = ap (λ (v : View). v.gives) l.view ∙ h.gives;
   delivered = ap (λ (v : View). v.delivered) l.view ∙ h.delivered;
   told = l.told (record { entry = e; info = i }) h.told;
-  sends = subst (λ (z : List Message). LinkSends a e i p z) (sym (ap (λ (v : View). v.held) l.view)) h.sends;
+  sends = link_learns a b d e i p h.sends l;
 }
 
 pub released_learns : (a b d : Known) (e : ℕ) → Released a b e → Learns b d → Released a d e
@@ -116,14 +126,11 @@ released_learns a b d e h l = record {
   links = ap (λ (v : View). v.links) l.view ∙ h.links;
   gives = ap (λ (v : View). v.gives) l.view ∙ h.gives;
   delivered = ap (λ (v : View). v.delivered) l.view ∙ h.delivered;
-  sends = subst (λ (z : List Message). GiveSends a d e z) (sym (ap (λ (v : View). v.held) l.view)) (sends_learns h.sends);
+  sends = elim h.sends [
+    | with_none i t none x ↦ with_none i (l.told (record { entry = e; info = i }) t) none (completed_learns b d e i 24 x l)
+    | with_last j i t kin none x ↦ with_last j i (l.told (record { entry = j; info = i }) t) kin none (completed_learns b d j i (64 + 65536 * e) x l)
+  ];
 }
-  where
-    sends_learns : GiveSends a b e b.view.held → GiveSends a d e b.view.held
-    sends_learns s = elim s [
-      | with_none i t none x ↦ with_none i (l.told (record { entry = e; info = i }) t) none x
-      | with_last j i t kin none x ↦ with_last j i (l.told (record { entry = j; info = i }) t) kin none x
-    ]
 
 pub delivered_learns : (a b d : Known) → Delivered a b → Learns b d → Delivered a d
 delivered_learns a b d h l = record {
@@ -135,6 +142,7 @@ delivered_learns a b d h l = record {
   info = h.info;
   told = h.told;
   found = h.found;
+  step = l.added ∙ h.step;
   held = h.held;
   first = h.first;
   sends = ap (λ (v : View). v.held) l.view ∙ h.sends;

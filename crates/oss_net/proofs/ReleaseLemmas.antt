@@ -83,7 +83,7 @@ module _ (n : ℕ) (a b : Known) (e : ℕ) (idle : Idle n a) (may : MayRelease a
       links = w.links;
       gives = ap (λ (z : List ℕ). e ∷ z) w.gives;
       delivered = w.delivered;
-      sends = with_none i told none record { found = x; messages = refl };
+      sends = with_none i told none record { found = x; step = refl; messages = refl };
     }
 
     pub whole_idle : Bounded c → Idle n c
@@ -100,7 +100,7 @@ module _ (n : ℕ) (a b : Known) (e : ℕ) (idle : Idle n a) (may : MayRelease a
       links = w.links;
       gives = ap (λ (z : List ℕ). e ∷ z) w.gives;
       delivered = w.delivered;
-      sends = with_last l i told kin none record { found = y; messages = ap (λ (z : List Message). z ++ sent l (state_at y) (state_at (y + (64 + 65536 * e))) i) (w.held ∙ may.empty) };
+      sends = with_last l i told kin none record { found = y; step = refl; messages = ap (λ (z : List Message). z ++ sent l (state_at y) (state_at (y + (64 + 65536 * e))) i) (w.held ∙ may.empty) };
     }
 
     pub above_idle : Bounded c → Idle n c

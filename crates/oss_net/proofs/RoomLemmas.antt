@@ -104,6 +104,7 @@ module _ (held : List Held) (k : Known) (ready : Ready held [] k) (bound : Bound
     info = info_at x.info;
     told = first_told;
     found = n;
+    step = refl;
     held = first_held;
     first = all_before;
     sends = refl;

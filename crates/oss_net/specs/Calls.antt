@@ -60,16 +60,18 @@ pub record Carries (a b : Known) : Type 0 where
   pub told : (t : Told) → Among t a.told → Among t b.told
   pub seen : (s : Seen) → Among s a.view.seen → Among s b.view.seen
 
--- What a step on the state word of the entry e, whose info is i, completed, when it found n and added x.
-pub record Completed (held : List Message) (e : ℕ) (i : EntryInfo) (x : ℕ) : Type 0 where
+-- What a step on the state word of the entry e, whose info is i, completed by adding x: the seat, which knows k behind it, holds that and nothing else. It is worked out from the word
+-- that this very step found, as the seat keeps it: no step of the call behind it has added to a state word.
+pub record Completed (k : Known) (e : ℕ) (i : EntryInfo) (x : ℕ) : Type 0 where
   pub found : ℕ
-  pub messages : held ≡ sent e (state_at found) (state_at (found + x)) i
+  pub step : k.added ≡ record { entry = e; found = found; more = x }
+  pub messages : k.view.held ≡ sent e (state_at found) (state_at (found + x)) i
 
--- What a link leaves held: nothing where it begins a list of main; else what the step on the parent or on the sibling completed.
-abbrev pub LinkSends : Known → ℕ → EntryInfo → After → List Message → Type 0
-LinkSends k e i FirstOfMain held = held ≡ []
-LinkSends k e i (FirstOf p) held = (j : EntryInfo) × Among (record { entry = p; info = j }) k.told × Completed held p j (child_mask e j.mode i.mode)
-LinkSends k e i (Sibling o) held = (j : EntryInfo) × Among (record { entry = o; info = j }) k.told × Completed held o j (next_mask e j.mode i.mode)
+-- What a link leaves held: nothing where it begins a list of main; else what the step on the parent or on the sibling completed. The seat knew k, and behind the link it knows b.
+abbrev pub LinkSends : Known → Known → ℕ → EntryInfo → After → Type 0
+LinkSends k b e i FirstOfMain = b.view.held ≡ []
+LinkSends k b e i (FirstOf p) = (j : EntryInfo) × Among (record { entry = p; info = j }) k.told × Completed b p j (child_mask e j.mode i.mode)
+LinkSends k b e i (Sibling o) = (j : EntryInfo) × Among (record { entry = o; info = j }) k.told × Completed b o j (next_mask e j.mode i.mode)
 
 -- Behind a link.
 pub record Hung (a b : Known) (e : ℕ) (i : EntryInfo) (p : After) : Type 0 where
@@ -78,13 +80,13 @@ pub record Hung (a b : Known) (e : ℕ) (i : EntryInfo) (p : After) : Type 0 whe
   pub gives : b.view.gives ≡ a.view.gives
   pub delivered : b.view.delivered ≡ a.view.delivered
   pub told : Among (record { entry = e; info = i }) b.told
-  pub sends : LinkSends a e i p b.view.held
+  pub sends : LinkSends a b e i p
 
 -- What a give leaves held: with no child, what its step completed; else what the link of the last child to the entry did. The seat knew k, and
 -- behind the give, by which it is told of the entry or of the child, it knows b.
-pub data GiveSends (k b : Known) (e : ℕ) (held : List Message) : Type 0 where
-  with_none : (i : EntryInfo) → Among (record { entry = e; info = i }) b.told → ((j : ℕ) → Among (record { entry = j; place = first e }) k.view.links → ⊥) → Completed held e i 24 → GiveSends k b e held
-  with_last : (l : ℕ) (i : EntryInfo) → Among (record { entry = l; info = i }) b.told → Kin k.view.links e l → ((j : ℕ) → Among (record { entry = j; place = after l }) k.view.links → ⊥) → Completed held l i (64 + 65536 * e) → GiveSends k b e held
+pub data GiveSends (k b : Known) (e : ℕ) : Type 0 where
+  with_none : (i : EntryInfo) → Among (record { entry = e; info = i }) b.told → ((j : ℕ) → Among (record { entry = j; place = first e }) k.view.links → ⊥) → Completed b e i 24 → GiveSends k b e
+  with_last : (l : ℕ) (i : EntryInfo) → Among (record { entry = l; info = i }) b.told → Kin k.view.links e l → ((j : ℕ) → Among (record { entry = j; place = after l }) k.view.links → ⊥) → Completed b l i (64 + 65536 * e) → GiveSends k b e
 
 -- Behind a give.
 pub record Released (a b : Known) (e : ℕ) : Type 0 where
@@ -92,7 +94,7 @@ pub record Released (a b : Known) (e : ℕ) : Type 0 where
   pub links : b.view.links ≡ a.view.links
   pub gives : b.view.gives ≡ e ∷ a.view.gives
   pub delivered : b.view.delivered ≡ a.view.delivered
-  pub sends : GiveSends a b e b.view.held
+  pub sends : GiveSends a b e
 
 -- The order of delivery: the entry of the first message is deeper than that of the second, or as deep and its flag no greater.
 pub data Before (k : Known) (m b : Message) : Type 0 where
@@ -108,6 +110,8 @@ pub record Delivered (a b : Known) : Type 0 where
   pub info : EntryInfo
   pub told : Among (record { entry = message.entry; info = info }) a.told
   pub found : ℕ
+  -- the word that its step found, as the seat keeps it
+  pub step : b.added ≡ record { entry = message.entry; found = found; more = weight message.flag }
   pub held : Has message a.view.held
   pub first : (m : Message) → Has m (without message a.view.held) → Before a message m
   pub sends : b.view.held ≡ without message a.view.held ++ sent message.entry (state_at found) (state_at (found + weight message.flag)) info

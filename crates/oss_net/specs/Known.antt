@@ -2,7 +2,8 @@
 -- last step touched.
 -- Read against: a net of 8 entries whose first seat drew 1 and 2 and linked 1 as the first of a list of main. The view owns 0, 1 and 2 and
 -- has the link of 1; told has 1 with its info; nothing is being filled. While 2 is linked behind 1, told has 1 once more, filling has 2
--- with the words that were written, and behind the link filling is empty and told has 2.
+-- with the words that were written, and behind the link filling is empty and told has 2; added says that 131136 was added to the state word of 1,
+-- which was 39.
 use Rattle.std.specs.Prelude.{◌≡◌, ◌≢◌, ◌<◌, ℕ, Bool, true, false, List, []}
 use Rattle.oss_words.specs.declared.entry.EntryState.{EntryState}
 use Rattle.oss_words.specs.declared.entry.EntryInfo.{EntryInfo}
@@ -21,6 +22,12 @@ pub record Filling : Type 0 where
   pub state : EntryState
   pub info : EntryInfo
 
+-- A step by which something was added to the state word of an entry: what stood there in that step, and what was added.
+pub record Added : Type 0 where
+  pub entry : ℕ
+  pub found : ℕ
+  pub more : ℕ
+
 pub record Known : Type 0 where
   -- how many entries the net has
   pub entries : ℕ
@@ -31,14 +38,20 @@ pub record Known : Type 0 where
   -- the number of the word that its last step touched, and what stood there then
   pub word : ℕ
   pub found : ℕ
+  -- its last step that added to a state word; reads leave it as it is
+  pub added : Added
 
 -- What a seat was told of an entry is one info, however often it was told.
 abbrev pub OneInfo : Known → Type 0
 OneInfo k = (e : ℕ) (i j : EntryInfo) → Among (record { entry = e; info = i }) k.told → Among (record { entry = e; info = j }) k.told → i ≡ j
 
+-- No step has added anything.
+abbrev pub none_added : Added
+none_added = record { entry = 0; found = 0; more = 0 }
+
 -- What the seat knows with which a net of n entries is made.
 abbrev pub first_known : ℕ → Known
-first_known n = record { entries = n; view = first_view; told = []; filling = []; word = 0; found = 0 }
+first_known n = record { entries = n; view = first_view; told = []; filling = []; word = 0; found = 0; added = none_added }
 
 -- The second entry is a child of the first, as the links tell that a seat has made.
 pub data Kin (links : List Hung) (p : ℕ) : ℕ → Type 0 where

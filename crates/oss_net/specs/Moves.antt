@@ -13,7 +13,7 @@ use Rattle.oss_words.specs.Causes.{sent, is_fold}
 use Rattle.oss_words.specs.Net.{Place, top}
 use Rattle.oss_words.specs.SeatSteps.{numbers}
 use Rattle.oss_words.specs.Steps.{no_flags}
-use Rattle.oss_net.specs.Known.{Known}
+use Rattle.oss_net.specs.Known.{Known, none_added}
 
 -- The state word of an entry with nothing before it and no other flag.
 abbrev pub clear_alone : EntryState
@@ -58,7 +58,7 @@ began e n i k = record (hung e i top k) { word = 1 + 2 * e; found = n }
 abbrev pub linked_at : ℕ → EntryInfo → Place → ℕ → EntryInfo → ℕ → ℕ → Known → Known
 linked_at e i p o j x n k =
     let h = hung e i p k in
-    record h { view = record h.view { held = sent o (state_at n) (state_at (n + x)) j }; word = 1 + 2 * o; found = n }
+    record h { view = record h.view { held = sent o (state_at n) (state_at (n + x)) j }; word = 1 + 2 * o; found = n; added = record { entry = o; found = n; more = x } }
 
 -- The second mode is the reduction that the first is.
 abbrev pub same_fold : Mode → Mode → Bool
@@ -73,15 +73,15 @@ child_mask e a b = 128 + 2048 * num (is_fold b) + 4096 * num (same_fold a b) + 1
 
 -- An entry with no child was given up.
 abbrev pub gave_up : ℕ → EntryInfo → ℕ → Known → Known
-gave_up e i n k = record k { view = record k.view { gives = e ∷ k.view.gives; held = sent e (state_at n) (state_at (n + 24)) i }; word = 1 + 2 * e; found = n }
+gave_up e i n k = record k { view = record k.view { gives = e ∷ k.view.gives; held = sent e (state_at n) (state_at (n + 24)) i }; word = 1 + 2 * e; found = n; added = record { entry = e; found = n; more = 24 } }
 
 -- One with children was given up, and its last child is not linked to it yet.
 abbrev pub half_gave : ℕ → ℕ → Known → Known
-half_gave e n k = record k { view = record k.view { gives = e ∷ k.view.gives; half = e ∷ [] }; word = 1 + 2 * e; found = n }
+half_gave e n k = record k { view = record k.view { gives = e ∷ k.view.gives; half = e ∷ [] }; word = 1 + 2 * e; found = n; added = record { entry = e; found = n; more = 8 } }
 
 -- Its last child, whose info is i, was linked to it.
 abbrev pub rose : ℕ → ℕ → EntryInfo → ℕ → Known → Known
-rose e l i n k = record k { view = record k.view { half = []; held = k.view.held ++ sent l (state_at n) (state_at (n + (64 + 65536 * e))) i }; word = 1 + 2 * l; found = n }
+rose e l i n k = record k { view = record k.view { half = []; held = k.view.held ++ sent l (state_at n) (state_at (n + (64 + 65536 * e))) i }; word = 1 + 2 * l; found = n; added = record { entry = l; found = n; more = 64 + 65536 * e } }
 
 -- What is left of a list without a message, once.
 abbrev pub without : Message → List Message → List Message
@@ -91,7 +91,7 @@ without m (x ∷ xs) = cond ((x.entry == m.entry) && (x.flag == m.flag)) xs (x �
 -- A held message was taken and its flag set, by adding x to the state word of its entry, whose info is i; what that completes is held.
 abbrev pub passed : Message → EntryInfo → ℕ → ℕ → Known → Known
 passed m i x n k =
-    record k { view = record k.view { held = without m k.view.held ++ sent m.entry (state_at n) (state_at (n + x)) i; delivered = 1 + k.view.delivered }; word = 1 + 2 * m.entry; found = n }
+    record k { view = record k.view { held = without m k.view.held ++ sent m.entry (state_at n) (state_at (n + x)) i; delivered = 1 + k.view.delivered }; word = 1 + 2 * m.entry; found = n; added = record { entry = m.entry; found = n; more = x } }
 
 -- The number is in the list.
 abbrev pub is_in : ℕ → List ℕ → Bool
@@ -115,6 +115,7 @@ handed hand k = record {
   filling = [];
   word = k.word;
   found = k.found;
+  added = k.added;
 }
 
 -- A seat took in what another knew, and what is left of the other.
@@ -139,4 +140,5 @@ spent = record {
   filling = [];
   word = 0;
   found = 0;
+  added = none_added;
 }

@@ -30,6 +30,7 @@ message_of h = record { entry = h.entry; flag = h.flag }
 
 -- The seat has read info words, and knows nothing else that is new.
 pub record Learns (a b : Known) : Type 0 where
+  pub added : b.added ≡ a.added
   pub view : b.view ≡ a.view
   pub entries : b.entries ≡ a.entries
   pub filling : b.filling ≡ a.filling

@@ -33,8 +33,8 @@ use Rattle.oss_grammar.specs.Statements.IsForFirst.{other_first}
 use Rattle.oss_grammar.specs.Statements.IsMaybeSimple.{no_simple}
 use Rattle.oss_grammar.specs.Statements.IsMaybeWhole.{no_expression}
 use Rattle.oss_grammar.specs.Statements.IsPrinted.{nothing_printed}
-use Rattle.oss_pragma.specs.TokenValues.{symbol_at, keyword_at, start_in, name_at, named_in}
-use Rattle.oss_pragma.proofs.TokenLemmas.{on_symbol, on_keyword, has_symbol, has_keyword}
+use Rattle.oss_expressions.specs.TokenValues.{symbol_at, keyword_at, start_in, name_at, named_in}
+use Rattle.oss_expressions.proofs.TokenLemmas.{on_symbol, on_keyword, has_symbol, has_keyword}
 use Rattle.oss_parse.specs.SimpleReading.{begins_simple, begins_kind, star, step_at, stepped_in, single_kind_at}
 use Rattle.oss_parse.specs.StatementReading.{begins_statement, begins_keyword_statement, begins_item}
 

@@ -10,8 +10,8 @@ use Rattle.oss_grammar.specs.OneToken.{is_keyword}
 use Rattle.oss_grammar.specs.Reading.{Stop, Reader, begins, has, go_on, read_one, read_then, read_nothing, read_mapped, read_both, read_either}
 use Rattle.oss_grammar.specs.Reading.Stop.{Syntax, Deep}
 use Rattle.oss_grammar.proofs.Parts.{Taken, Stopped, Sunk, IsRead, Sinks, ok_is, taken, still_fails}
-use Rattle.oss_pragma.specs.ExpressionReading.{latter}
-use Rattle.oss_pragma.specs.TokenValues.{keyword_at}
+use Rattle.oss_expressions.specs.ExpressionReading.{latter}
+use Rattle.oss_expressions.specs.TokenValues.{keyword_at}
 use Rattle.oss_parse.specs.StatementReading.{if_of, if_else_of, read_branches}
 use Rattle.oss_parse.proofs.EndingLemmas.{Ending}
 

@@ -12,7 +12,7 @@ use Rattle.oss_grammar.proofs.Parts.{IsRead, Sinks, Exact, Begun, ok_is, taken, 
 use Rattle.oss_grammar.proofs.PartLemmas.{Then, ThenDeep, exact_then, exact_mapped, EitherDeep, exact_either}
 use Rattle.oss_grammar.proofs.PartLemmas.ThenDeep.{in_first, in_second}
 use Rattle.oss_grammar.proofs.PartLemmas.EitherDeep.{one_deep, other_deep}
-use Rattle.oss_pragma.proofs.TokenLemmas.{begins_never, exact_closed}
+use Rattle.oss_expressions.proofs.TokenLemmas.{begins_never, exact_closed}
 
 pub record Ending {A : Type 0} (goes : Token → Bool) (f : List Token → Result (A × List Token) Stop) (U C : List Token → A → Type 0) (B : List Token → Token → Type 0) : Type 0 where
   pub whole : Exact f U B goes

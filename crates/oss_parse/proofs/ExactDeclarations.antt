@@ -31,16 +31,16 @@ use Rattle.oss_grammar.proofs.PartLemmas.ThenDeep.{in_first, in_second}
 use Rattle.oss_grammar.proofs.PartLemmas.EitherDeep.{one_deep, other_deep}
 use Rattle.oss_grammar.proofs.PairLemmas.{some_text, exact_next, begun_next}
 use Rattle.oss_grammar.proofs.StepLemmas.{fewer_go}
+use Rattle.oss_expressions.specs.ExpressionReading.{read_list}
+use Rattle.oss_expressions.specs.TokenValues.{symbol_at, keyword_at, name_at, begins_expression}
+use Rattle.oss_expressions.specs.declared.cursor.Named.{Named}
+use Rattle.oss_expressions.proofs.ExactPairs.{Headed, HeadedDeep, exact_headed, begun_headed, BracketedDeep, Behind, read_behind, exact_behind, begun_behind, exact_or}
+use Rattle.oss_expressions.proofs.ListLemmas.{comma, Listed, ListedDeep, exact_list, begun_list}
+use Rattle.oss_expressions.proofs.ListLemmas.Listed.{last_part, next_part}
+use Rattle.oss_expressions.proofs.ListLemmas.ListedDeep.{deep_first, deep_later}
+use Rattle.oss_expressions.proofs.PrimaryLemmas.{name_is, name_value, name_one}
+use Rattle.oss_expressions.proofs.TokenLemmas.{begins_never, symbol_token, symbol_value, goes_on, on_symbol, on_keyword, not_symbol, has_symbol}
 use Rattle.oss_parse.specs.SimpleReading.{single_kind_at, ulong_of, read_num_kind, begins_kind, star, pointer_to, number_of, read_declared, local_of, read_local, declared_at, read_declaration}
-use Rattle.oss_pragma.specs.ExpressionReading.{read_list}
-use Rattle.oss_pragma.specs.TokenValues.{symbol_at, keyword_at, name_at, begins_expression}
-use Rattle.oss_pragma.specs.declared.cursor.Named.{Named}
-use Rattle.oss_pragma.proofs.ExactPairs.{Headed, HeadedDeep, exact_headed, begun_headed, BracketedDeep, Behind, read_behind, exact_behind, begun_behind, exact_or}
-use Rattle.oss_pragma.proofs.ListLemmas.{comma, Listed, ListedDeep, exact_list, begun_list}
-use Rattle.oss_pragma.proofs.ListLemmas.Listed.{last_part, next_part}
-use Rattle.oss_pragma.proofs.ListLemmas.ListedDeep.{deep_first, deep_later}
-use Rattle.oss_pragma.proofs.PrimaryLemmas.{name_is, name_value, name_one}
-use Rattle.oss_pragma.proofs.TokenLemmas.{begins_never, symbol_token, symbol_value, goes_on, on_symbol, on_keyword, not_symbol, has_symbol}
 
 -- what has the line of a keyword is that keyword, and it has its line
 record KeywordIs (k : List ℕ) (t : Token) (line : ℕ) : Type 0 where

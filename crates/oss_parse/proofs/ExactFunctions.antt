@@ -39,18 +39,18 @@ use Rattle.oss_grammar.proofs.Parts.{Exact, Begun, exact_as}
 use Rattle.oss_grammar.proofs.PartLemmas.{Nowhere, nowhere, exact_one, begun_one, exact_mapped, begun_mapped, Then, ThenDeep, exact_then, begun_then, EitherDeep, begun_either}
 use Rattle.oss_grammar.proofs.PartLemmas.EitherDeep.{one_deep, other_deep}
 use Rattle.oss_grammar.proofs.PairLemmas.{begun_both, some_text}
-use Rattle.oss_pragma.specs.ExpressionReading.{former, read_list}
+use Rattle.oss_expressions.specs.ExpressionReading.{former, read_list}
+use Rattle.oss_expressions.specs.TokenValues.{symbol_at, keyword_at, word_at, start_in, start_at, end_in, end_at, begins_expression}
+use Rattle.oss_expressions.specs.declared.cursor.Named.{Named}
+use Rattle.oss_expressions.proofs.ExactPairs.{BothDeep, exact_both, Headed, HeadedDeep, exact_headed, begun_headed, Trailed, exact_trailed, Enclosed, read_bracketed, Bracketed, BracketedDeep, exact_bracketed, bracketed_viable, Behind, exact_behind, begun_behind, exact_or}
+use Rattle.oss_expressions.proofs.ListLemmas.{comma, Listed, ListedDeep, exact_list, begun_list}
+use Rattle.oss_expressions.proofs.ListLemmas.Listed.{last_part, next_part}
+use Rattle.oss_expressions.proofs.ListLemmas.ListedDeep.{deep_first, deep_later}
+use Rattle.oss_expressions.proofs.TokenLemmas.{begins_never, closing, goes_on, on_symbol, on_keyword, not_symbol, has_symbol, symbol_token, symbol_value, one_symbol}
 use Rattle.oss_pragma.specs.PragmaReading.{task_of}
-use Rattle.oss_pragma.specs.TokenValues.{symbol_at, keyword_at, word_at, start_in, start_at, end_in, end_at, begins_expression}
-use Rattle.oss_pragma.specs.declared.cursor.Named.{Named}
-use Rattle.oss_pragma.proofs.ExactPairs.{BothDeep, exact_both, Headed, HeadedDeep, exact_headed, begun_headed, Trailed, exact_trailed, Enclosed, read_bracketed, Bracketed, BracketedDeep, exact_bracketed, bracketed_viable, Behind, exact_behind, begun_behind, exact_or}
 use Rattle.oss_pragma.proofs.ExactPragmas.{IsTaskClauses, OpensClauses, exact_task}
 use Rattle.oss_pragma.proofs.ExactPragmas.OpensClauses.{behind_clauses}
-use Rattle.oss_pragma.proofs.ListLemmas.{comma, Listed, ListedDeep, exact_list, begun_list}
-use Rattle.oss_pragma.proofs.ListLemmas.Listed.{last_part, next_part}
-use Rattle.oss_pragma.proofs.ListLemmas.ListedDeep.{deep_first, deep_later}
 use Rattle.oss_pragma.proofs.OnceLemmas.{once_none}
-use Rattle.oss_pragma.proofs.TokenLemmas.{begins_never, closing, goes_on, on_symbol, on_keyword, not_symbol, has_symbol, symbol_token, symbol_value, one_symbol}
 use Rattle.oss_parse.specs.ProgramReading.{parameter_of, read_parameter, read_parameters, function_of, just, read_function_from, read_result, mark_in, read_mark}
 use Rattle.oss_parse.specs.SimpleReading.{begins_kind}
 use Rattle.oss_parse.proofs.ExactKinds.{keyword_told, keyword_value, NumKinded, exact_num_kind, begun_num_kind, Declared, exact_declared, begun_declared}

@@ -24,14 +24,14 @@ use Rattle.oss_grammar.proofs.PartLemmas.{Nowhere, nowhere, exact_one, begun_one
 use Rattle.oss_grammar.proofs.PartLemmas.EitherDeep.{one_deep, other_deep}
 use Rattle.oss_grammar.proofs.PairLemmas.{some_text}
 use Rattle.oss_grammar.proofs.StepLemmas.{none_goes, fewer_go}
-use Rattle.oss_pragma.specs.ExpressionReading.{and_then, read_more}
-use Rattle.oss_pragma.specs.TokenValues.{symbol_at, name_at}
-use Rattle.oss_pragma.specs.declared.cursor.Named.{Named}
-use Rattle.oss_pragma.proofs.ExactPairs.{Trailed, exact_trailed, Bracketed, BracketedDeep, exact_bracketed, begun_bracketed, read_behind, Behind, exact_behind, begun_behind, exact_or}
+use Rattle.oss_expressions.specs.ExpressionReading.{and_then, read_more}
+use Rattle.oss_expressions.specs.TokenValues.{symbol_at, name_at}
+use Rattle.oss_expressions.specs.declared.cursor.Named.{Named}
+use Rattle.oss_expressions.proofs.ExactPairs.{Trailed, exact_trailed, Bracketed, BracketedDeep, exact_bracketed, begun_bracketed, read_behind, Behind, exact_behind, begun_behind, exact_or}
+use Rattle.oss_expressions.proofs.ListLemmas.{comma}
+use Rattle.oss_expressions.proofs.TokenLemmas.{begins_never, exact_closed, opening, on_symbol, not_symbol, has_symbol, symbol_token, symbol_value}
 use Rattle.oss_pragma.proofs.ExactRows.{Rows, RowsEnd, RowsDeep, exact_rows}
 use Rattle.oss_pragma.proofs.ExactRows.Rows.{no_row, next_row}
-use Rattle.oss_pragma.proofs.ListLemmas.{comma}
-use Rattle.oss_pragma.proofs.TokenLemmas.{begins_never, exact_closed, opening, on_symbol, not_symbol, has_symbol, symbol_token, symbol_value}
 use Rattle.oss_parse.specs.ProgramReading.{value_in, value_at, read_first_value, scalar_of, array_of, grid_of, read_size, read_array_from, read_global_from, read_global, globals_of, read_globals_from}
 use Rattle.oss_parse.proofs.ExactKinds.{NameToken, exact_name, begun_name}
 

@@ -18,11 +18,11 @@ use Rattle.oss_grammar.proofs.Parts.{Exact, Begun, exact_as}
 use Rattle.oss_grammar.proofs.PartLemmas.{Nowhere, nowhere, exact_one, begun_one, exact_mapped, begun_mapped, EitherDeep, begun_either}
 use Rattle.oss_grammar.proofs.PartLemmas.EitherDeep.{one_deep, other_deep}
 use Rattle.oss_grammar.proofs.PairLemmas.{some_text}
-use Rattle.oss_pragma.specs.TokenValues.{symbol_at, keyword_at, name_at}
-use Rattle.oss_pragma.specs.declared.cursor.Named.{Named}
-use Rattle.oss_pragma.proofs.ExactPairs.{Headed, HeadedDeep, exact_headed, begun_headed, exact_or}
-use Rattle.oss_pragma.proofs.PrimaryLemmas.{name_is, name_value}
-use Rattle.oss_pragma.proofs.TokenLemmas.{on_keyword, not_symbol, symbol_token, symbol_value}
+use Rattle.oss_expressions.specs.TokenValues.{symbol_at, keyword_at, name_at}
+use Rattle.oss_expressions.specs.declared.cursor.Named.{Named}
+use Rattle.oss_expressions.proofs.ExactPairs.{Headed, HeadedDeep, exact_headed, begun_headed, exact_or}
+use Rattle.oss_expressions.proofs.PrimaryLemmas.{name_is, name_value}
+use Rattle.oss_expressions.proofs.TokenLemmas.{on_keyword, not_symbol, symbol_token, symbol_value}
 use Rattle.oss_parse.specs.SimpleReading.{star, single_kind_at, ulong_of, read_num_kind, begins_kind, pointer_to, number_of, read_declared}
 
 -- the line of a keyword is had of that keyword

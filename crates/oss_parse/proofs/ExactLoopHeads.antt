@@ -26,12 +26,12 @@ use Rattle.oss_grammar.proofs.Parts.{Exact, Begun, exact_as}
 use Rattle.oss_grammar.proofs.PartLemmas.{Nowhere, nowhere, exact_one, exact_mapped, begun_mapped, ThenDeep}
 use Rattle.oss_grammar.proofs.PartLemmas.ThenDeep.{in_first, in_second}
 use Rattle.oss_grammar.proofs.PairLemmas as pairs
-use Rattle.oss_pragma.specs.ExpressionReading.{former, latter}
-use Rattle.oss_pragma.specs.TokenValues.{symbol_at, keyword_at, name_at, begins_expression}
-use Rattle.oss_pragma.specs.declared.cursor.Named.{Named}
-use Rattle.oss_pragma.proofs.ExactPairs.{Headed, HeadedDeep, exact_headed, begun_headed, Trailed, exact_trailed, BracketedDeep, Behind, exact_behind, begun_behind}
-use Rattle.oss_pragma.proofs.PrimaryLemmas.{name_is, name_value, name_one}
-use Rattle.oss_pragma.proofs.TokenLemmas.{goes_on, symbol_token, symbol_value, keyword_token, keyword_value, keyword_line}
+use Rattle.oss_expressions.specs.ExpressionReading.{former, latter}
+use Rattle.oss_expressions.specs.TokenValues.{symbol_at, keyword_at, name_at, begins_expression}
+use Rattle.oss_expressions.specs.declared.cursor.Named.{Named}
+use Rattle.oss_expressions.proofs.ExactPairs.{Headed, HeadedDeep, exact_headed, begun_headed, Trailed, exact_trailed, BracketedDeep, Behind, exact_behind, begun_behind}
+use Rattle.oss_expressions.proofs.PrimaryLemmas.{name_is, name_value, name_one}
+use Rattle.oss_expressions.proofs.TokenLemmas.{goes_on, symbol_token, symbol_value, keyword_token, keyword_value, keyword_line}
 use Rattle.oss_parse.specs.StatementReading.{use_of, loop_head_of, read_name_use, read_loop_step, read_loop_last, read_loop_test, read_loop_tested, read_loop_bounds, read_loop_variable, read_loop_head}
 use Rattle.oss_parse.proofs.ExactSimple.{semicolon_ends}
 use Rattle.oss_parse.proofs.FormLemmas.{some_keyword, some_mark, viable_both, viable_headed, viable_trailed}

@@ -40,12 +40,12 @@ use Rattle.oss_grammar.proofs.PairLemmas.{some_text}
 use Rattle.oss_grammar.proofs.StepLemmas.{Steps, StepsDeep, exact_steps}
 use Rattle.oss_grammar.proofs.StepLemmas.Steps.{over, once_more}
 use Rattle.oss_grammar.proofs.StepLemmas.StepsDeep.{in_this, in_later}
-use Rattle.oss_pragma.specs.ExpressionReading.{read_expression}
-use Rattle.oss_pragma.specs.TokenValues.{symbol_at, keyword_at, start_in, start_at, name_at, begins_expression}
-use Rattle.oss_pragma.specs.declared.cursor.Named.{Named}
-use Rattle.oss_pragma.proofs.ExactExpressions.{exact_expression, begun_expression}
-use Rattle.oss_pragma.proofs.ExactPairs.{exact_or}
-use Rattle.oss_pragma.proofs.TokenLemmas.{begins_never, opening, goes_on}
+use Rattle.oss_expressions.specs.ExpressionReading.{read_expression}
+use Rattle.oss_expressions.specs.TokenValues.{symbol_at, keyword_at, start_in, start_at, name_at, begins_expression}
+use Rattle.oss_expressions.specs.declared.cursor.Named.{Named}
+use Rattle.oss_expressions.proofs.ExactExpressions.{exact_expression, begun_expression}
+use Rattle.oss_expressions.proofs.ExactPairs.{exact_or}
+use Rattle.oss_expressions.proofs.TokenLemmas.{begins_never, opening, goes_on}
 use Rattle.oss_parse.specs.ProgramReading.{read_function_from, read_result, read_typed_from, read_typed, read_void, read_marked, read_program_item, begins_program_item, read_program_items, program_of}
 use Rattle.oss_parse.specs.SimpleReading.{begins_kind}
 use Rattle.oss_parse.proofs.ExactFunctions.{kind_no_void, exact_void_word, exact_result, begun_result, Marked, exact_mark, begun_mark, FunctionTail, FunctionDeep, exact_function_from, begun_function_from}

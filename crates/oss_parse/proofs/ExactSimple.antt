@@ -30,14 +30,14 @@ use Rattle.oss_grammar.proofs.PartLemmas.ThenDeep.{in_first, in_second}
 use Rattle.oss_grammar.proofs.PartLemmas.EitherDeep.{one_deep, other_deep}
 use Rattle.oss_grammar.proofs.PairLemmas.{some_text, exact_next, begun_next}
 use Rattle.oss_grammar.proofs.StepLemmas.{none_goes, fewer_go}
+use Rattle.oss_expressions.specs.ExpressionReading.{named_expression, indexed}
+use Rattle.oss_expressions.specs.TokenValues.{symbol_at, name_at, begins_expression}
+use Rattle.oss_expressions.specs.declared.cursor.Named.{Named}
+use Rattle.oss_expressions.proofs.ExactPairs.{Headed, HeadedDeep, exact_headed, begun_headed, Bracketed, BracketedDeep, exact_bracketed, begun_bracketed, Behind, exact_behind, begun_behind, exact_or, symbol_line}
+use Rattle.oss_expressions.proofs.PrimaryLemmas.{Closed, ClosedDeep, exact_arguments, begun_arguments, name_is, name_one}
+use Rattle.oss_expressions.proofs.PrimaryLemmas.ClosedDeep.{first_argument, later_argument}
+use Rattle.oss_expressions.proofs.TokenLemmas.{begins_never, exact_closed, exact_symbol, symbol_token, symbol_one, goes_on, on_symbol, not_symbol, has_symbol}
 use Rattle.oss_parse.specs.SimpleReading.{assignment_at, stepped_in, step_at, star, deref_at, assigned_to, stepped_by, step_before, call_statement, read_element, read_target_again, read_target_from, read_pointed_at, read_starred, read_target, read_assigned, read_step_first, read_called, read_simple_from, read_simple, begins_simple}
-use Rattle.oss_pragma.specs.ExpressionReading.{named_expression, indexed}
-use Rattle.oss_pragma.specs.TokenValues.{symbol_at, name_at, begins_expression}
-use Rattle.oss_pragma.specs.declared.cursor.Named.{Named}
-use Rattle.oss_pragma.proofs.ExactPairs.{Headed, HeadedDeep, exact_headed, begun_headed, Bracketed, BracketedDeep, exact_bracketed, begun_bracketed, Behind, exact_behind, begun_behind, exact_or, symbol_line}
-use Rattle.oss_pragma.proofs.PrimaryLemmas.{Closed, ClosedDeep, exact_arguments, begun_arguments, name_is, name_one}
-use Rattle.oss_pragma.proofs.PrimaryLemmas.ClosedDeep.{first_argument, later_argument}
-use Rattle.oss_pragma.proofs.TokenLemmas.{begins_never, exact_closed, exact_symbol, symbol_token, symbol_one, goes_on, on_symbol, not_symbol, has_symbol}
 
 -- the brackets that open an index, and a call
 abbrev index_opening : Token → Bool

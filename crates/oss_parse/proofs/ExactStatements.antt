@@ -28,12 +28,12 @@ use Rattle.oss_grammar.proofs.PartLemmas.{Nowhere, EitherDeep, begun_one, exact_
 use Rattle.oss_grammar.proofs.PartLemmas.EitherDeep.{one_deep, other_deep}
 use Rattle.oss_grammar.proofs.PairLemmas as pairs
 use Rattle.oss_grammar.proofs.StepLemmas.{none_goes}
-use Rattle.oss_pragma.specs.ExpressionReading.{former, and_then}
-use Rattle.oss_pragma.specs.TokenValues.{symbol_at, keyword_at, start_at, begins_expression}
-use Rattle.oss_pragma.proofs.ExactPairs.{Trailed, exact_trailed}
+use Rattle.oss_expressions.specs.ExpressionReading.{former, and_then}
+use Rattle.oss_expressions.specs.TokenValues.{symbol_at, keyword_at, start_at, begins_expression}
+use Rattle.oss_expressions.proofs.ExactPairs.{Trailed, exact_trailed}
+use Rattle.oss_expressions.proofs.TokenLemmas.{goes_on, on_symbol, has_symbol, symbol_token, symbol_value, not_keyword, exact_closed, exact_symbol}
 use Rattle.oss_pragma.proofs.ExactRows.{Rows, RowsEnd, RowsDeep, exact_rows}
 use Rattle.oss_pragma.proofs.ExactRows.Rows.{no_row, next_row}
-use Rattle.oss_pragma.proofs.TokenLemmas.{goes_on, on_symbol, has_symbol, symbol_token, symbol_value, not_keyword, exact_closed, exact_symbol}
 use Rattle.oss_parse.specs.SimpleReading.{begins_kind, single_kind_at}
 use Rattle.oss_parse.specs.StatementReading.{read_statement, read_item, read_items_by, read_inner_statement, read_inner_item, read_items, begins_statement, begins_item}
 use Rattle.oss_parse.proofs.BeginningLemmas.{statement_begins, begins_so, item_begins, item_begins_so}

@@ -13,7 +13,7 @@ use Rattle.oss_grammar.specs.Refusals.{Reaches, IsWithin, kind_of, is_in_pragma}
 use Rattle.oss_grammar.specs.StatementLimits.{IsProgramExcess}
 use Rattle.oss_grammar.proofs.AnswerLemmas.{ok_answer, reaches_stop, within_stopped, within_deep, stop_none}
 use Rattle.oss_grammar.proofs.Parts.{Exact, taken, stopped, sunk}
-use Rattle.oss_pragma.proofs.ExactExpressions.{exact_expression, begun_expression}
+use Rattle.oss_expressions.proofs.ExactExpressions.{exact_expression, begun_expression}
 use Rattle.oss_pragma.proofs.ExactPragmas.{exact_pragma, begun_pragma}
 use Rattle.oss_parse.specs.ProgramReading.{read_program, read_text, whole_told, begins_program_item}
 use Rattle.oss_parse.proofs.ExactPrograms.{exact_limited_program}

@@ -19,12 +19,12 @@ use Rattle.oss_grammar.proofs.Parts.{IsRead, Sinks, Exact, Begun, exact_before, 
 use Rattle.oss_grammar.proofs.PartLemmas.{Nowhere, nowhere, Nothing, exact_one, exact_nothing, exact_mapped, begun_mapped, ThenDeep, EitherDeep, exact_either}
 use Rattle.oss_grammar.proofs.PairLemmas as pairs
 use Rattle.oss_grammar.proofs.StepLemmas.{none_goes, fewer_go}
-use Rattle.oss_pragma.specs.ExpressionReading.{former, latter, middle}
-use Rattle.oss_pragma.specs.TokenValues.{symbol_at, keyword_at, begins_expression}
-use Rattle.oss_pragma.proofs.ExactPairs.{Headed, HeadedDeep, exact_headed, begun_headed, Trailed, exact_trailed, Bracketed, BracketedDeep, exact_bracketed, bracketed_viable, Behind, exact_behind}
-use Rattle.oss_pragma.proofs.ListLemmas.{comma, Follow, FollowDeep, exact_follow}
-use Rattle.oss_pragma.proofs.ListLemmas.Follow.{none}
-use Rattle.oss_pragma.proofs.TokenLemmas.{goes_on, on_symbol, has_symbol}
+use Rattle.oss_expressions.specs.ExpressionReading.{former, latter, middle}
+use Rattle.oss_expressions.specs.TokenValues.{symbol_at, keyword_at, begins_expression}
+use Rattle.oss_expressions.proofs.ExactPairs.{Headed, HeadedDeep, exact_headed, begun_headed, Trailed, exact_trailed, Bracketed, BracketedDeep, exact_bracketed, bracketed_viable, Behind, exact_behind}
+use Rattle.oss_expressions.proofs.ListLemmas.{comma, Follow, FollowDeep, exact_follow}
+use Rattle.oss_expressions.proofs.ListLemmas.Follow.{none}
+use Rattle.oss_expressions.proofs.TokenLemmas.{goes_on, on_symbol, has_symbol}
 use Rattle.oss_parse.specs.SimpleReading.{read_simple, begins_simple, read_declaration, begins_kind}
 use Rattle.oss_parse.specs.declared.forms.ForParts.{ForParts}
 use Rattle.oss_parse.specs.StatementReading.{read_maybe_expression, read_maybe_simple, read_for_first, for_parts, read_for_parts, read_for_head, read_head, read_printed, read_lined}

@@ -22,7 +22,7 @@ use Rattle.oss_grammar.proofs.AnswerLemmas.{one_value}
 use Rattle.oss_grammar.proofs.RefusalLemmas.{same_refused}
 use Rattle.oss_grammar.proofs.TextLemmas.{no_refusal, text_refused_once}
 use Rattle.oss_lex.proofs.OneReading.{read_once}
-use Rattle.oss_pragma.proofs.ExactExpressions.{exact_whole, begun_whole_at, deep_long}
+use Rattle.oss_expressions.proofs.ExactExpressions.{exact_whole, begun_whole_at, deep_long}
 use Rattle.oss_pragma.proofs.ExactPragmas.{exact_pragma, begun_pragma}
 use Rattle.oss_parse.proofs.ExactPrograms.{ProgramExcess, exact_program}
 use Rattle.oss_parse.proofs.ExactPrograms.ItemExcess.{mark_excess, body_excess}

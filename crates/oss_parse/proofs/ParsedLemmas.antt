@@ -15,7 +15,7 @@ use Rattle.oss_grammar.specs.Programs.{IsProgram}
 use Rattle.oss_grammar.specs.Reading.{Stop}
 use Rattle.oss_grammar.specs.Reading.Stop.{Syntax, Deep}
 use Rattle.oss_grammar.specs.Refusals.{kind_of, is_in_pragma}
-use Rattle.oss_pragma.specs.ToldAt.{count_before, tokens_before}
+use Rattle.oss_expressions.specs.ToldAt.{count_before, tokens_before}
 use Rattle.oss_parse.specs.Parsed.{IsParsed, TokensTell, told_of, refused_at}
 use Rattle.oss_parse.specs.ProgramReading.{read_text}
 use Rattle.oss_parse.proofs.ExactTexts.{WholeText, whole_text, token_refused, end_refused, deep_refused, no_deep_end, stop_front}

@@ -10,12 +10,12 @@ use Rattle.oss_syntax.specs.declared.tree.program.Local.{Local}
 use Rattle.oss_syntax.specs.declared.tree.program.NumKind.{NumKind}
 use Rattle.oss_grammar.specs.Reading.{Reader, Stop, has, go_on, read_one, read_then, read_mapped, read_steps}
 use Rattle.oss_grammar.specs.Values.{negated}
-use Rattle.oss_pragma.specs.TokenValues.{symbol_at, keyword_at, start_at, name_at}
-use Rattle.oss_pragma.specs.ExpressionReading.{latter, former, middle, and_then, read_next, read_more, read_expression}
+use Rattle.oss_expressions.specs.TokenValues.{symbol_at, keyword_at, start_at, name_at}
+use Rattle.oss_expressions.specs.ExpressionReading.{latter, former, middle, and_then, read_next, read_more, read_expression}
+use Rattle.oss_expressions.specs.declared.cursor.Named.{Named}
+use Rattle.oss_expressions.proofs.StepLoops.{Takes, Keeps, keeps, takes_one, keeps_nothing, takes_mapped, keeps_mapped, takes_then, takes_both, takes_either, keeps_either, Repeats, repeats}
+use Rattle.oss_expressions.proofs.ExpressionLoops.{takes_list, keeps_more, repeats_more}
 use Rattle.oss_pragma.specs.PragmaReading.{read_task}
-use Rattle.oss_pragma.specs.declared.cursor.Named.{Named}
-use Rattle.oss_pragma.proofs.StepLoops.{Takes, Keeps, keeps, takes_one, keeps_nothing, takes_mapped, keeps_mapped, takes_then, takes_both, takes_either, keeps_either, Repeats, repeats}
-use Rattle.oss_pragma.proofs.ExpressionLoops.{takes_list, keeps_more, repeats_more}
 use Rattle.oss_parse.specs.Inner.{read_body}
 use Rattle.oss_parse.specs.SimpleReading.{read_declared}
 use Rattle.oss_parse.specs.ProgramReading.{value_at, read_first_value, scalar_of, array_of, grid_of, read_size, read_array_from, read_global_from, read_global, globals_of, read_globals_from, parameter_of, read_parameter, read_parameters, function_of, just, read_function_from, read_typed_from, read_typed, read_result, read_void, mark_in, read_mark, read_marked, read_program_item, begins_program_item, read_program_items, program_of, read_program}

@@ -7,12 +7,12 @@ use Rattle.oss_syntax.specs.declared.tree.program.Local.{Local}
 use Rattle.oss_syntax.specs.declared.tree.program.NumKind.{NumKind}
 use Rattle.oss_grammar.specs.Levels.{is_operator}
 use Rattle.oss_grammar.specs.Reading.{Reader, Stop, has, go_on, read_one, read_then, read_nothing, read_mapped, read_both, read_either}
-use Rattle.oss_pragma.specs.TokenValues.{symbol_at, keyword_at, name_at}
-use Rattle.oss_pragma.specs.ExpressionReading.{latter, former, middle, and_then, named_expression, indexed, read_next, read_list, read_arguments, read_expression}
-use Rattle.oss_pragma.specs.declared.cursor.Named.{Named}
-use Rattle.oss_pragma.proofs.StepLoops.{Takes, Keeps, keeps, takes_one, keeps_nothing, takes_mapped, keeps_mapped, takes_then, takes_both, takes_either, keeps_either, Repeats}
-use Rattle.oss_pragma.proofs.ExpressionLoops.{takes_whole, takes_list, repeats_more}
-use Rattle.oss_pragma.proofs.SightLemmas.{takes_counted}
+use Rattle.oss_expressions.specs.TokenValues.{symbol_at, keyword_at, name_at}
+use Rattle.oss_expressions.specs.ExpressionReading.{latter, former, middle, and_then, named_expression, indexed, read_next, read_list, read_arguments, read_expression}
+use Rattle.oss_expressions.specs.declared.cursor.Named.{Named}
+use Rattle.oss_expressions.proofs.StepLoops.{Takes, Keeps, keeps, takes_one, keeps_nothing, takes_mapped, keeps_mapped, takes_then, takes_both, takes_either, keeps_either, Repeats}
+use Rattle.oss_expressions.proofs.ExpressionLoops.{takes_whole, takes_list, repeats_more}
+use Rattle.oss_expressions.proofs.SightLemmas.{takes_counted}
 use Rattle.oss_parse.specs.SimpleReading.{star, assignment_at, step_at, deref_at, assigned_to, stepped_by, step_before, call_statement, read_element, read_target_again, read_target_from, read_pointed_at, read_starred, read_target, read_assigned, read_step_first, read_called, read_simple_from, read_simple, pointer_to, number_of, read_declared, local_of, read_local, single_kind_at, ulong_of, read_num_kind, declared_at, read_declaration}
 
 -- two readers, neither of which gives tokens back

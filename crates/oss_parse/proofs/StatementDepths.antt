@@ -26,11 +26,11 @@ use Rattle.oss_grammar.proofs.Parts.{Exact, Begun}
 use Rattle.oss_grammar.proofs.PartLemmas.{Nowhere, nowhere, Nothing, ThenDeep, EitherDeep}
 use Rattle.oss_grammar.proofs.PartLemmas.ThenDeep.{in_first, in_second}
 use Rattle.oss_grammar.proofs.PartLemmas.EitherDeep.{one_deep, other_deep}
-use Rattle.oss_pragma.specs.TokenValues.{symbol_at, start_at, begins_expression}
-use Rattle.oss_pragma.proofs.ExactPairs.{HeadedDeep}
-use Rattle.oss_pragma.proofs.TokenLemmas.{goes_on, has_keyword, symbol_token, symbol_value, keyword_token, keyword_value}
-use Rattle.oss_pragma.proofs.ListLemmas.{FollowDeep}
-use Rattle.oss_pragma.proofs.ListLemmas.FollowDeep.{here, there}
+use Rattle.oss_expressions.specs.TokenValues.{symbol_at, start_at, begins_expression}
+use Rattle.oss_expressions.proofs.ExactPairs.{HeadedDeep}
+use Rattle.oss_expressions.proofs.TokenLemmas.{goes_on, has_keyword, symbol_token, symbol_value, keyword_token, keyword_value}
+use Rattle.oss_expressions.proofs.ListLemmas.{FollowDeep}
+use Rattle.oss_expressions.proofs.ListLemmas.FollowDeep.{here, there}
 use Rattle.oss_parse.specs.declared.forms.ForParts.{ForParts}
 use Rattle.oss_parse.specs.StatementReading.{text_in, text_at, read_statement, begins_statement}
 use Rattle.oss_parse.proofs.BranchLemmas.{otherwise}

@@ -24,14 +24,14 @@ use Rattle.oss_grammar.specs.Statements.IsItems.{no_item}
 use Rattle.oss_grammar.proofs.Parts.{Exact, Begun}
 use Rattle.oss_grammar.proofs.PartLemmas.{Nowhere, Nothing, exact_one, begun_one, exact_nothing, exact_mapped, begun_mapped, Then, ThenDeep, begun_then, EitherDeep, begun_either}
 use Rattle.oss_grammar.proofs.PairLemmas as pairs
-use Rattle.oss_pragma.specs.TokenValues.{symbol_at, keyword_at, start_at, begins_expression}
-use Rattle.oss_pragma.proofs.ExactPairs.{Headed, HeadedDeep, exact_headed, begun_headed, Trailed, exact_trailed, Enclosed, exact_enclosed, begun_enclosed, BracketedDeep, Behind, exact_behind}
-use Rattle.oss_pragma.proofs.TokenLemmas.{goes_on, on_symbol, has_symbol, not_symbol, not_keyword, begins_never}
+use Rattle.oss_expressions.specs.TokenValues.{symbol_at, keyword_at, start_at, begins_expression}
+use Rattle.oss_expressions.proofs.ExactPairs.{Headed, HeadedDeep, exact_headed, begun_headed, Trailed, exact_trailed, Enclosed, exact_enclosed, begun_enclosed, BracketedDeep, Behind, exact_behind}
+use Rattle.oss_expressions.proofs.TokenLemmas.{goes_on, on_symbol, has_symbol, not_symbol, not_keyword, begins_never}
+use Rattle.oss_expressions.specs.ExpressionReading.{former, latter}
 use Rattle.oss_parse.specs.SimpleReading.{read_simple, begins_simple}
 use Rattle.oss_parse.specs.declared.forms.ForParts.{ForParts}
 use Rattle.oss_parse.specs.StatementReading.{text_in, text_at, block_of, empty_at, if_of, if_else_of, while_of, for_of, return_of, break_at, continue_at, print_of, task_of, task_loop_of, read_block, read_empty, read_simple_statement, read_if, read_branches, read_while, read_for, read_return, read_break, read_continue, read_print, read_task_loop_statement, read_directed, read_lined, read_pragma_statement, read_keyword_statement, read_statement, read_printed, begins_keyword_statement, begins_statement}
 use Rattle.oss_parse.specs.StatementReading as reading
-use Rattle.oss_pragma.specs.ExpressionReading.{former, latter}
 use Rattle.oss_parse.proofs.BranchLemmas.{otherwise, Branches, ClosedBranches, BranchesDeep, ending_branches}
 use Rattle.oss_parse.proofs.BranchLemmas.Branches.{one_branch, two_branches}
 use Rattle.oss_parse.proofs.EndingLemmas.{Ending, ending_closed, ending_mapped, ending_then, ending_either}

@@ -9,12 +9,12 @@ use Rattle.oss_syntax.specs.declared.tree.stmt.Stmt.{Stmt}
 use Rattle.oss_grammar.specs.Reading.{Reader, begins, has, read_one, read_nothing, read_mapped, read_both, read_either}
 use Rattle.oss_grammar.specs.SimpleStatements.{first_line}
 use Rattle.oss_grammar.proofs.Parts.{Taken, IsRead, Exact}
-use Rattle.oss_pragma.specs.TokenValues.{symbol_at, keyword_at, name_at, word_at, start_at, begins_expression}
-use Rattle.oss_pragma.specs.ExpressionReading.{latter, former, and_then, read_expression}
+use Rattle.oss_expressions.specs.TokenValues.{symbol_at, keyword_at, name_at, word_at, start_at, begins_expression}
+use Rattle.oss_expressions.specs.ExpressionReading.{latter, former, and_then, read_expression}
+use Rattle.oss_expressions.proofs.StepLoops.{Takes, Keeps, keeps, takes_one, keeps_nothing, takes_mapped, keeps_mapped, takes_then, takes_both, takes_either, keeps_either, keeps_steps, too_deep, Repeats, repeats}
+use Rattle.oss_expressions.proofs.ExpressionLoops.{keeps_more}
+use Rattle.oss_expressions.proofs.ExactExpressions.{exact_expression, begun_expression}
 use Rattle.oss_pragma.specs.PragmaReading.{read_task, read_task_loop, read_taskwait, read_release, read_pragma}
-use Rattle.oss_pragma.proofs.StepLoops.{Takes, Keeps, keeps, takes_one, keeps_nothing, takes_mapped, keeps_mapped, takes_then, takes_both, takes_either, keeps_either, keeps_steps, too_deep, Repeats, repeats}
-use Rattle.oss_pragma.proofs.ExpressionLoops.{keeps_more}
-use Rattle.oss_pragma.proofs.ExactExpressions.{exact_expression, begun_expression}
 use Rattle.oss_pragma.proofs.ExactPragmas.{exact_task, exact_task_loop, exact_taskwait, exact_release}
 use Rattle.oss_parse.specs.Inner.{read_within, read_part, read_parts}
 use Rattle.oss_parse.specs.SimpleReading.{begins_simple, begins_kind}

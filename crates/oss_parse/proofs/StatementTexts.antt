@@ -32,11 +32,11 @@ use Rattle.oss_grammar.specs.Expressions.IsArgumentList.{last_argument, next_arg
 use Rattle.oss_grammar.specs.OneToken.{IsSymbol, IsKeyword, IsOpen, IsClose}
 use Rattle.oss_grammar.proofs.Parts.{Exact, Begun}
 use Rattle.oss_grammar.proofs.PartLemmas.{Nothing}
-use Rattle.oss_pragma.specs.TokenValues.{symbol_at, start_at, begins_expression}
-use Rattle.oss_pragma.proofs.ExactPairs.{symbol_line}
-use Rattle.oss_pragma.proofs.TokenLemmas.{goes_on, has_keyword, symbol_token, symbol_value, keyword_token, keyword_value, keyword_line}
-use Rattle.oss_pragma.proofs.ListLemmas.{Follow}
-use Rattle.oss_pragma.proofs.ListLemmas.Follow.{none, some}
+use Rattle.oss_expressions.specs.TokenValues.{symbol_at, start_at, begins_expression}
+use Rattle.oss_expressions.proofs.ExactPairs.{symbol_line}
+use Rattle.oss_expressions.proofs.TokenLemmas.{goes_on, has_keyword, symbol_token, symbol_value, keyword_token, keyword_value, keyword_line}
+use Rattle.oss_expressions.proofs.ListLemmas.{Follow}
+use Rattle.oss_expressions.proofs.ListLemmas.Follow.{none, some}
 use Rattle.oss_parse.specs.declared.forms.ForParts.{ForParts}
 use Rattle.oss_parse.specs.StatementReading.{text_in, text_at, if_of, if_else_of, break_at, continue_at, begins_statement}
 use Rattle.oss_parse.proofs.BranchLemmas.{otherwise, Branches}

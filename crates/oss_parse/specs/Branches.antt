@@ -4,8 +4,8 @@ use Rattle.std.specs.Prelude.{ℕ, codes}
 use Rattle.oss_syntax.specs.declared.tree.expr.Expr.{Expr}
 use Rattle.oss_syntax.specs.declared.tree.stmt.Stmt.{Stmt}
 use Rattle.oss_grammar.specs.Reading.{Reader, has, read_one, read_nothing, read_mapped, read_both, read_either}
-use Rattle.oss_pragma.specs.ExpressionReading.{latter}
-use Rattle.oss_pragma.specs.TokenValues.{keyword_at}
+use Rattle.oss_expressions.specs.ExpressionReading.{latter}
+use Rattle.oss_expressions.specs.TokenValues.{keyword_at}
 use Rattle.oss_parse.specs.StatementReading.{if_of, if_else_of}
 
 -- "else" stmt

@@ -3,7 +3,7 @@
 use Rattle.std.specs.Prelude.{ℕ, List}
 use Rattle.oss_syntax.specs.declared.tree.stmt.Stmt.{Stmt}
 use Rattle.oss_grammar.specs.Reading.{Reader, read_mapped, read_steps}
-use Rattle.oss_pragma.specs.ExpressionReading.{and_then, read_expression}
+use Rattle.oss_expressions.specs.ExpressionReading.{and_then, read_expression}
 use Rattle.oss_pragma.specs.PragmaReading.{read_pragma}
 use Rattle.oss_parse.specs.StatementReading.{begins_item, read_inner_statement, read_inner_item, read_items}
 

@@ -1,4 +1,5 @@
 pub mod Branches
+pub mod ForRests
 pub mod Inner
 pub mod Parsed
 pub mod ProgramReading

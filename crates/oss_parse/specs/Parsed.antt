@@ -9,9 +9,9 @@ use Rattle.oss_syntax.specs.declared.refusal.Refused.{Refused}
 use Rattle.oss_grammar.specs.Reading.{Stop}
 use Rattle.oss_grammar.specs.Reading.Stop.{Syntax, Deep}
 use Rattle.oss_grammar.specs.Tokens.{newlines, IsReading}
-use Rattle.oss_pragma.specs.declared.cursor.Unread.{Unread}
-use Rattle.oss_pragma.specs.declared.cursor.Unread.TheVariants as unread
-use Rattle.oss_pragma.specs.ToldAt.{refused_at as refused_within}
+use Rattle.oss_expressions.specs.declared.cursor.Unread.{Unread}
+use Rattle.oss_expressions.specs.declared.cursor.Unread.TheVariants as unread
+use Rattle.oss_expressions.specs.ToldAt.{refused_at as refused_within}
 use Rattle.oss_parse.specs.ProgramReading.{read_text}
 
 -- The line of the end of a text: it is 2 where the text is one line and a newline.

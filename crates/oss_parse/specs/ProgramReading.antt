@@ -21,10 +21,10 @@ use Rattle.oss_grammar.specs.Programs.{cells_of_rows}
 use Rattle.oss_grammar.specs.Reading.{Reader, Stop, has, read_one, read_then, read_nothing, read_mapped, read_both, read_either, read_steps}
 use Rattle.oss_grammar.specs.Reading.Stop.{Syntax}
 use Rattle.oss_grammar.specs.Values.{negated}
-use Rattle.oss_pragma.specs.declared.cursor.Named.{Named}
-use Rattle.oss_pragma.specs.ExpressionReading.{latter, former, middle, read_list, read_more, read_expression}
+use Rattle.oss_expressions.specs.declared.cursor.Named.{Named}
+use Rattle.oss_expressions.specs.ExpressionReading.{latter, former, middle, read_list, read_more, read_expression}
+use Rattle.oss_expressions.specs.TokenValues.{symbol_at, keyword_at, start_at, name_at}
 use Rattle.oss_pragma.specs.PragmaReading.{read_task, read_pragma}
-use Rattle.oss_pragma.specs.TokenValues.{symbol_at, keyword_at, start_at, name_at}
 use Rattle.oss_parse.specs.SimpleReading.{read_num_kind, begins_kind, read_declared, local_of}
 use Rattle.oss_parse.specs.StatementReading.{read_items}
 

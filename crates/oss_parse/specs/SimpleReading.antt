@@ -17,9 +17,9 @@ use Rattle.oss_syntax.specs.declared.tree.stmt.StmtKind.TheVariants as stmts
 use Rattle.oss_grammar.specs.OneToken.{is_keyword}
 use Rattle.oss_grammar.specs.Reading.{Reader, has, read_one, read_then, read_nothing, read_mapped, read_both, read_either}
 use Rattle.oss_grammar.specs.SimpleStatements.{assignment_of, step_of, one_at}
-use Rattle.oss_pragma.specs.declared.cursor.Named.{Named}
-use Rattle.oss_pragma.specs.ExpressionReading.{latter, middle, named_expression, indexed, read_list, read_arguments}
-use Rattle.oss_pragma.specs.TokenValues.{symbol_at, keyword_at, name_at}
+use Rattle.oss_expressions.specs.declared.cursor.Named.{Named}
+use Rattle.oss_expressions.specs.ExpressionReading.{latter, middle, named_expression, indexed, read_list, read_arguments}
+use Rattle.oss_expressions.specs.TokenValues.{symbol_at, keyword_at, name_at}
 
 -- An assignment's operator, and a step with its line.
 abbrev pub assignment_at : Token → Option (Option BinOp)

@@ -16,9 +16,9 @@ use Rattle.oss_syntax.specs.declared.tree.stmt.StmtKind.TheVariants as stmts
 use Rattle.oss_grammar.specs.Pragmas.{counter}
 use Rattle.oss_grammar.specs.Reading.{Reader, has, go_on, read_one, read_then, read_nothing, read_mapped, read_both, read_either, read_steps, read_too_deep}
 use Rattle.oss_grammar.specs.SimpleStatements.{first_line}
-use Rattle.oss_pragma.specs.ExpressionReading.{latter, former, middle, and_then, read_more}
-use Rattle.oss_pragma.specs.TokenValues.{symbol_at, keyword_at, name_at, start_at, begins_expression}
-use Rattle.oss_pragma.specs.declared.cursor.Named.{Named}
+use Rattle.oss_expressions.specs.ExpressionReading.{latter, former, middle, and_then, read_more}
+use Rattle.oss_expressions.specs.TokenValues.{symbol_at, keyword_at, name_at, start_at, begins_expression}
+use Rattle.oss_expressions.specs.declared.cursor.Named.{Named}
 use Rattle.oss_parse.specs.SimpleReading.{read_simple, begins_simple, read_declaration, begins_kind}
 use Rattle.oss_parse.specs.declared.forms.ForParts.{ForParts}
 

@@ -7,7 +7,7 @@ ghost use Rattle.oss_parse.specs.SimpleReading.{begins_kind, begins_simple};
 ghost use Rattle.oss_parse.specs.StatementReading.{begins_item, begins_keyword_statement, begins_statement};
 
 use crate::tokens::{single_kind_of, step_of};
-use oss_pragma::reading::{Cursor, is_name, is_start, keyword_is, symbol_is};
+use oss_expressions::reading::{Cursor, is_name, is_start, keyword_is, symbol_is};
 use oss_syntax::Token;
 
 /// Whether a token begins a simple statement.

@@ -3,13 +3,13 @@
 ghost use Rattle.std.specs.Prelude.{◌≡◌, ◌≤◌, length};
 ghost use Rattle.oss_grammar.specs.Parsing.{IsParse};
 ghost use Rattle.oss_grammar.specs.Tokens.{newlines};
+ghost use Rattle.oss_expressions.specs.Told.{ReadsAs};
 ghost use Rattle.oss_parse.specs.Parsed.{IsParsed, IsToldOf, RefusesAt, placed_at};
 ghost use Rattle.oss_parse.specs.ProgramReading.{read_text};
-ghost use Rattle.oss_pragma.specs.Told.{ReadsAs};
 
 use crate::programs::program;
+use oss_expressions::reading::{Cursor, Unread, refusal};
 use oss_lex::tokens;
-use oss_pragma::reading::{Cursor, Unread, refusal};
 use oss_syntax::{List, Program, Refusal, Refused, Token};
 use std::alloc::Global;
 

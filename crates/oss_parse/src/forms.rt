@@ -2,16 +2,17 @@
 
 ghost use Rattle.std.specs.Prelude.{codes};
 ghost use Rattle.oss_grammar.specs.Reading.{read_both, read_mapped, read_one};
-ghost use Rattle.oss_pragma.specs.ExpressionReading.{former, read_brackets, read_expression};
-ghost use Rattle.oss_pragma.specs.TokenValues.{symbol_at};
-ghost use Rattle.oss_pragma.specs.Told.{ReadsAs};
+ghost use Rattle.oss_expressions.specs.ExpressionReading.{former, read_brackets, read_expression};
+ghost use Rattle.oss_expressions.specs.TokenValues.{symbol_at};
+ghost use Rattle.oss_expressions.specs.Told.{ReadsAs};
+ghost use Rattle.oss_parse.specs.ForRests.{read_for_last, read_for_rest};
 ghost use Rattle.oss_parse.specs.SimpleReading.{read_declaration};
 ghost use Rattle.oss_parse.specs.StatementReading.{read_break, read_continue, read_empty, read_for_first, read_for_head, read_for_parts, read_head, read_loop_bounds, read_loop_head, read_loop_last, read_loop_test, read_loop_tested, read_loop_variable, read_maybe_expression, read_maybe_simple, read_name_use, read_print, read_printed, read_return, read_simple_statement};
 
 use crate::beginnings::{begins_with_kind, begins_with_simple};
 use crate::simple::{declaration, more_values, simple};
 use crate::tokens::{keyword, text};
-use oss_pragma::reading::{Cursor, Named, Unread, brackets, expression};
+use oss_expressions::reading::{Cursor, Named, Unread, brackets, expression};
 use oss_syntax::{
     Boxed, Expr, Kind, List, Local, LoopHead, NameUse, NumKind, Stmt, StmtKind, TaskMark,
 };
@@ -65,18 +66,52 @@ fn for_first(alloc: Global, tokens: &mut Cursor<'_>) -> Result<Option<Boxed<Stmt
     Ok(Some(Boxed::new(alloc, statement)?))
 }
 
+/// ";" [ simple ] ")"
+fn for_last(alloc: Global, tokens: &mut Cursor<'_>) -> Result<Option<Boxed<Stmt>>, Unread>
+    ensures { ReadsAs (read_for_last read_expression tokens.old) result tokens.new }
+{
+    tokens.symbol(b";")?;
+    let last = maybe_simple(alloc, tokens)?;
+    match tokens.symbol(b")") {
+        Ok(_) => Ok(last),
+        Err(unread) => {
+            drop(last);
+            Err(unread)
+        }
+    }
+}
+
+/// ";" [ expr ] ";" [ simple ] ")"
+fn for_rest(
+    alloc: Global,
+    tokens: &mut Cursor<'_>,
+) -> Result<(Option<Expr>, Option<Boxed<Stmt>>), Unread>
+    ensures { ReadsAs (read_for_rest read_expression tokens.old) result tokens.new }
+{
+    tokens.symbol(b";")?;
+    let test = maybe_expression(alloc, tokens)?;
+    match for_last(alloc, tokens) {
+        Ok(last) => Ok((test, last)),
+        Err(unread) => {
+            drop(test);
+            Err(unread)
+        }
+    }
+}
+
 /// [ type ldecl { "," ldecl } | simple ] ";" [ expr ] ";" [ simple ] ")"
 #[tactic(auto, unfolding(crate::specs::StatementReading::read_for_parts))]
 fn for_parts(alloc: Global, tokens: &mut Cursor<'_>) -> Result<ForParts, Unread>
     ensures { ReadsAs (read_for_parts read_expression tokens.old) result tokens.new }
 {
     let first = for_first(alloc, tokens)?;
-    tokens.symbol(b";")?;
-    let test = maybe_expression(alloc, tokens)?;
-    tokens.symbol(b";")?;
-    let last = maybe_simple(alloc, tokens)?;
-    tokens.symbol(b")")?;
-    Ok(ForParts { first, test, last })
+    match for_rest(alloc, tokens) {
+        Ok((test, last)) => Ok(ForParts { first, test, last }),
+        Err(unread) => {
+            drop(first);
+            Err(unread)
+        }
+    }
 }
 
 /// "for" "(" parts ")"
@@ -91,7 +126,7 @@ pub fn for_head(alloc: Global, tokens: &mut Cursor<'_>) -> Result<(u32, ForParts
 }
 
 /// A keyword with its line, and the test in brackets behind it.
-#[tactic(auto, unfolding(crate::specs::StatementReading::read_head, oss_pragma::specs::ExpressionReading::read_brackets))]
+#[tactic(auto, unfolding(crate::specs::StatementReading::read_head, oss_expressions::specs::ExpressionReading::read_brackets))]
 pub fn head(alloc: Global, word: &[u8], tokens: &mut Cursor<'_>) -> Result<(u32, Expr), Unread>
     ensures { ReadsAs (read_head word.now read_expression tokens.old) result tokens.new }
 {
@@ -129,8 +164,13 @@ fn loop_limit(alloc: Global, tokens: &mut Cursor<'_>) -> Result<(Expr, NameUse),
     ensures { ReadsAs (read_both read_expression read_loop_last tokens.old) result tokens.new }
 {
     let end = expression(alloc, tokens)?;
-    let stepped = loop_last(alloc, tokens)?;
-    Ok((end, stepped))
+    match loop_last(alloc, tokens) {
+        Ok(stepped) => Ok((end, stepped)),
+        Err(unread) => {
+            drop(end);
+            Err(unread)
+        }
+    }
 }
 
 /// name "<" expr ";" name "++" ")"
@@ -162,8 +202,13 @@ fn loop_bounds(
 {
     tokens.symbol(b"=")?;
     let first = expression(alloc, tokens)?;
-    let tested = loop_tested(alloc, tokens)?;
-    Ok((first, tested))
+    match loop_tested(alloc, tokens) {
+        Ok(tested) => Ok((first, tested)),
+        Err(unread) => {
+            drop(first);
+            Err(unread)
+        }
+    }
 }
 
 /// "for" "(" "long" name, with the line of the first token
@@ -259,11 +304,16 @@ pub fn return_statement(alloc: Global, tokens: &mut Cursor<'_>) -> Result<Stmt, 
 {
     let line = keyword(b"return", tokens)?;
     let value = maybe_expression(alloc, tokens)?;
-    tokens.symbol(b";")?;
-    Ok(Stmt {
-        what: StmtKind::Return(value),
-        line,
-    })
+    match tokens.symbol(b";") {
+        Ok(_) => Ok(Stmt {
+            what: StmtKind::Return(value),
+            line,
+        }),
+        Err(unread) => {
+            drop(value);
+            Err(unread)
+        }
+    }
 }
 
 /// "break" ";"

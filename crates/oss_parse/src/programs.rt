@@ -4,9 +4,9 @@ ghost use Rattle.std.specs.Prelude.{◌≡◌, ◌++◌, ◌∷◌, [], codes, m
 ghost use Rattle.oss_syntax.specs.declared.tree.program.Item.TheVariants as items;
 ghost use Rattle.oss_grammar.specs.Programs.{cells_of_rows};
 ghost use Rattle.oss_grammar.specs.Reading.{read_both, read_mapped, read_one, read_then};
-ghost use Rattle.oss_pragma.specs.ExpressionReading.{middle, read_expression, read_list, read_more, read_next};
-ghost use Rattle.oss_pragma.specs.TokenValues.{symbol_at};
-ghost use Rattle.oss_pragma.specs.Told.{ReadsAs};
+ghost use Rattle.oss_expressions.specs.ExpressionReading.{middle, read_expression, read_list, read_more, read_next};
+ghost use Rattle.oss_expressions.specs.TokenValues.{symbol_at};
+ghost use Rattle.oss_expressions.specs.Told.{ReadsAs};
 ghost use Rattle.oss_parse.specs.Inner.{read_body};
 ghost use Rattle.oss_parse.specs.ProgramReading.{array_of, function_of, grid_of, just, mark_in, read_array_from, read_first_value, read_function_from, read_function_parts, read_global, read_global_from, read_globals_from, read_mark, read_marked, read_parameter, read_parameters, read_program, read_program_item, read_program_items, read_result, read_size, read_typed, read_typed_from, read_void, scalar_of};
 
@@ -14,7 +14,8 @@ use crate::beginnings::begins_with_program_item;
 use crate::simple::{declared, num_kind};
 use crate::statements::body;
 use crate::tokens::{begins_with_keyword, begins_with_start, keyword, value};
-use oss_pragma::reading::{Cursor, Named, Unread, task_pragma};
+use oss_expressions::reading::{Cursor, Named, Unread};
+use oss_pragma::reading::task_pragma;
 use oss_syntax::{
     Directive, Function, GlobalDef, Item, Kind, List, Local, NumKind, Program, Stmt, TaskMark,
 };

@@ -1,28 +1,34 @@
 //! The reader of simple statements and declarations.
 
 ghost use Rattle.std.specs.Prelude.{◌≡◌, IfOk};
+ghost use Rattle.oss_grammar.specs.Reading.{read_both, read_mapped, read_one};
 ghost use Rattle.oss_grammar.specs.SimpleStatements.{one_at};
-ghost use Rattle.oss_pragma.specs.ExpressionReading.{indexed, named_expression, read_arguments, read_brackets, read_expression, read_index, read_list, read_more, read_next};
-ghost use Rattle.oss_pragma.specs.Told.{ReadsAs};
-ghost use Rattle.oss_parse.specs.SimpleReading.{deref_at, read_assigned, read_called, read_declaration, read_declared, read_element, read_local, read_num_kind, read_pointed_at, read_simple, read_simple_from, read_starred, read_step_first, read_target, read_target_again, read_target_from};
+ghost use Rattle.oss_expressions.specs.ExpressionReading.{indexed, named_expression, read_arguments, read_brackets, read_expression, read_index, read_list, read_more, read_next};
+ghost use Rattle.oss_expressions.specs.Told.{ReadsAs};
+ghost use Rattle.oss_parse.specs.SimpleReading.{assignment_at, deref_at, read_assigned, read_called, read_declaration, read_declared, read_element, read_local, read_num_kind, read_pointed_at, read_simple, read_simple_from, read_starred, read_step_first, read_target, read_target_again, read_target_from, step_at, stepped_by};
 
 use crate::tokens::{
     assignment, begins_with_name, begins_with_single_kind, begins_with_step, keyword, single_kind,
     step,
 };
-use oss_pragma::reading::{Cursor, Named, Unread, brackets, element, expression};
+use oss_expressions::reading::{Cursor, Named, Unread, brackets, element, expression};
 use oss_syntax::{BinOp, Boxed, Expr, ExprKind, Kind, List, Local, NumKind, Stmt, StmtKind, UnOp};
 use std::alloc::{AllocError, Global};
 
 /// "[" expr "]"
-#[tactic(auto, unfolding(oss_pragma::specs::ExpressionReading::read_index))]
+#[tactic(auto, unfolding(oss_expressions::specs::ExpressionReading::read_index))]
 fn index(alloc: Global, tokens: &mut Cursor<'_>) -> Result<Expr, Unread>
     ensures { ReadsAs (read_index read_expression tokens.old) result tokens.new }
 {
     tokens.symbol(b"[")?;
     let inner = expression(alloc, tokens)?;
-    tokens.symbol(b"]")?;
-    Ok(inner)
+    match tokens.symbol(b"]") {
+        Ok(_) => Ok(inner),
+        Err(unread) => {
+            drop(inner);
+            Err(unread)
+        }
+    }
 }
 
 /// "," expr
@@ -62,7 +68,7 @@ fn values(alloc: Global, tokens: &mut Cursor<'_>) -> Result<List<Expr>, Unread>
 }
 
 /// [ expr { "," expr } ] ")"
-#[tactic(auto, unfolding(oss_pragma::specs::ExpressionReading::read_arguments))]
+#[tactic(auto, unfolding(oss_expressions::specs::ExpressionReading::read_arguments))]
 fn arguments(alloc: Global, tokens: &mut Cursor<'_>) -> Result<List<Expr>, Unread>
     ensures { ReadsAs (read_arguments read_expression tokens.old) result tokens.new }
 {
@@ -96,12 +102,17 @@ fn pointee(alloc: Global, line: u32, pointer: Expr) -> Result<Expr, AllocError>
 }
 
 /// "[" expr "]", behind what it is an index of
-#[tactic(auto, unfolding(oss_pragma::specs::ExpressionReading::read_index))]
+#[tactic(auto, unfolding(oss_expressions::specs::ExpressionReading::read_index))]
 fn element_of(alloc: Global, base: Expr, tokens: &mut Cursor<'_>) -> Result<Expr, Unread>
     ensures { ReadsAs (read_element read_expression base tokens.old) result tokens.new }
 {
-    let at = index(alloc, tokens)?;
-    Ok(element(alloc, base, at)?)
+    match index(alloc, tokens) {
+        Ok(at) => Ok(element(alloc, base, at)?),
+        Err(unread) => {
+            drop(base);
+            Err(unread)
+        }
+    }
 }
 
 /// [ "[" expr "]" ], behind an element of an array
@@ -128,7 +139,7 @@ fn target_from(alloc: Global, name: Named, tokens: &mut Cursor<'_>) -> Result<Ex
 }
 
 /// name | "(" expr ")", behind the `*` of a target with this line
-#[tactic(auto, unfolding(crate::specs::SimpleReading::read_pointed_at, oss_pragma::specs::ExpressionReading::read_brackets))]
+#[tactic(auto, unfolding(crate::specs::SimpleReading::read_pointed_at, oss_expressions::specs::ExpressionReading::read_brackets))]
 fn pointed_at(alloc: Global, line: u32, tokens: &mut Cursor<'_>) -> Result<Expr, Unread>
     ensures { ReadsAs (read_pointed_at read_expression line tokens.old) result tokens.new }
 {
@@ -171,25 +182,51 @@ fn one(line: u32) -> Expr
     }
 }
 
+/// "++" | "--", behind a target
+fn stepped(target: Expr, tokens: &mut Cursor<'_>) -> Result<Stmt, Unread>
+    ensures { ReadsAs (read_mapped (stepped_by target) (read_one step_at) tokens.old) result tokens.new }
+{
+    let line = target.line;
+    match step(tokens) {
+        Ok((operator, marked)) => Ok(Stmt {
+            what: StmtKind::Assign(target, Some(operator), one(marked)),
+            line,
+        }),
+        Err(unread) => {
+            drop(target);
+            Err(unread)
+        }
+    }
+}
+
+/// assign expr
+fn assigned_value(alloc: Global, tokens: &mut Cursor<'_>) -> Result<(Option<BinOp>, Expr), Unread>
+    ensures { ReadsAs (read_both (read_one assignment_at) read_expression tokens.old) result tokens.new }
+{
+    let operator = assignment(tokens)?;
+    let value = expression(alloc, tokens)?;
+    Ok((operator, value))
+}
+
 /// assign expr | "++" | "--", behind a target
 #[tactic(auto, unfolding(crate::specs::SimpleReading::read_assigned))]
 fn assigned(alloc: Global, target: Expr, tokens: &mut Cursor<'_>) -> Result<Stmt, Unread>
     ensures { ReadsAs (read_assigned read_expression target tokens.old) result tokens.new }
 {
-    let line = target.line;
     if begins_with_step(tokens) {
-        let (operator, marked) = step(tokens)?;
-        return Ok(Stmt {
-            what: StmtKind::Assign(target, Some(operator), one(marked)),
-            line,
-        });
+        return stepped(target, tokens);
     }
-    let operator = assignment(tokens)?;
-    let value = expression(alloc, tokens)?;
-    Ok(Stmt {
-        what: StmtKind::Assign(target, operator, value),
-        line,
-    })
+    let line = target.line;
+    match assigned_value(alloc, tokens) {
+        Ok((operator, value)) => Ok(Stmt {
+            what: StmtKind::Assign(target, operator, value),
+            line,
+        }),
+        Err(unread) => {
+            drop(target);
+            Err(unread)
+        }
+    }
 }
 
 /// ( "++" | "--" ) lvalue

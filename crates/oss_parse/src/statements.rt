@@ -1,9 +1,9 @@
 //! The reader of statements, and of what stands in a block.
 
 ghost use Rattle.oss_grammar.specs.Reading.{read_mapped};
-ghost use Rattle.oss_pragma.specs.ExpressionReading.{read_expression};
+ghost use Rattle.oss_expressions.specs.ExpressionReading.{read_expression};
+ghost use Rattle.oss_expressions.specs.Told.{ReadsAs};
 ghost use Rattle.oss_pragma.specs.PragmaReading.{read_pragma};
-ghost use Rattle.oss_pragma.specs.Told.{ReadsAs};
 ghost use Rattle.oss_parse.specs.Branches.{read_else, read_maybe_else};
 ghost use Rattle.oss_parse.specs.Inner.{read_body, read_part, read_parts, read_within};
 ghost use Rattle.oss_parse.specs.StatementReading.{read_block, read_branches, read_directed, read_for, read_if, read_item, read_keyword_statement, read_pragma_statement, read_statement, read_task_loop_statement, read_while, task_of};
@@ -16,7 +16,8 @@ use crate::forms::{
     loop_head, print, return_statement, simple_statement,
 };
 use crate::tokens::{begins_with_keyword, first_line, keyword};
-use oss_pragma::reading::{Cursor, Unread, pragma};
+use oss_expressions::reading::{Cursor, Unread};
+use oss_pragma::reading::pragma;
 use oss_syntax::{Boxed, Directive, Expr, List, Stmt, StmtKind, TaskMark};
 use std::alloc::Global;
 
@@ -65,11 +66,17 @@ fn maybe_else(
             line,
         });
     }
-    let other = else_branch(alloc, levels, tokens)?;
-    Ok(Stmt {
-        what: StmtKind::If(test, then, Some(other)),
-        line,
-    })
+    match else_branch(alloc, levels, tokens) {
+        Ok(other) => Ok(Stmt {
+            what: StmtKind::If(test, then, Some(other)),
+            line,
+        }),
+        Err(unread) => {
+            drop(test);
+            drop(then);
+            Err(unread)
+        }
+    }
 }
 
 /// stmt [ "else" stmt ], behind the head of an `if`
@@ -83,8 +90,13 @@ fn branches(
 ) -> Result<Stmt, Unread>
     ensures { ReadsAs (read_branches (read_within levels) head tokens.old) result tokens.new }
 {
-    let then = within(alloc, levels, tokens)?;
-    maybe_else(alloc, levels, head, then, tokens)
+    match within(alloc, levels, tokens) {
+        Ok(then) => maybe_else(alloc, levels, head, then, tokens),
+        Err(unread) => {
+            drop(head);
+            Err(unread)
+        }
+    }
 }
 
 /// "if" "(" expr ")" stmt [ "else" stmt ]
@@ -104,11 +116,16 @@ fn while_statement(alloc: Global, levels: u32, tokens: &mut Cursor<'_>) -> Resul
     ensures { ReadsAs (read_while read_expression (read_within levels) tokens.old) result tokens.new }
 {
     let (line, test) = head(alloc, b"while", tokens)?;
-    let body = within(alloc, levels, tokens)?;
-    Ok(Stmt {
-        what: StmtKind::While(test, body),
-        line,
-    })
+    match within(alloc, levels, tokens) {
+        Ok(body) => Ok(Stmt {
+            what: StmtKind::While(test, body),
+            line,
+        }),
+        Err(unread) => {
+            drop(test);
+            Err(unread)
+        }
+    }
 }
 
 /// "for" "(" parts ")" stmt
@@ -118,12 +135,19 @@ fn for_statement(alloc: Global, levels: u32, tokens: &mut Cursor<'_>) -> Result<
     ensures { ReadsAs (read_for read_expression (read_within levels) tokens.old) result tokens.new }
 {
     let (line, parts) = for_head(alloc, tokens)?;
-    let body = within(alloc, levels, tokens)?;
-    let ForParts { first, test, last } = parts;
-    Ok(Stmt {
-        what: StmtKind::For(first, test, last, body),
-        line,
-    })
+    match within(alloc, levels, tokens) {
+        Ok(body) => {
+            let ForParts { first, test, last } = parts;
+            Ok(Stmt {
+                what: StmtKind::For(first, test, last, body),
+                line,
+            })
+        }
+        Err(unread) => {
+            drop(parts);
+            Err(unread)
+        }
+    }
 }
 
 /// The statement behind the pragma of a task
@@ -157,11 +181,16 @@ fn task_loop_statement(
 {
     let line = mark.line;
     let head = loop_head(alloc, mark, tokens)?;
-    let body = within(alloc, levels, tokens)?;
-    Ok(Stmt {
-        what: StmtKind::TaskLoop(head, body),
-        line,
-    })
+    match within(alloc, levels, tokens) {
+        Ok(body) => Ok(Stmt {
+            what: StmtKind::TaskLoop(head, body),
+            line,
+        }),
+        Err(unread) => {
+            drop(head);
+            Err(unread)
+        }
+    }
 }
 
 /// What follows a pragma with this line: a statement behind the pragma of a task, and a loop behind that of a task loop.

@@ -3,13 +3,13 @@
 ghost use Rattle.std.specs.Prelude.{◌≡◌};
 ghost use Rattle.oss_grammar.specs.Reading.{begins, has, read_one};
 ghost use Rattle.oss_grammar.specs.SimpleStatements.{assignment_of, first_line, step_of};
-ghost use Rattle.oss_pragma.specs.TokenValues.{keyword_at, name_at, start_at};
-ghost use Rattle.oss_pragma.specs.Told.{ReadsAs, Makes};
+ghost use Rattle.oss_expressions.specs.TokenValues.{keyword_at, name_at, start_at};
+ghost use Rattle.oss_expressions.specs.Told.{ReadsAs, Makes};
 ghost use Rattle.oss_parse.specs.ProgramReading.{value_at, value_in};
 ghost use Rattle.oss_parse.specs.SimpleReading.{assignment_at, single_kind_at, step_at};
 ghost use Rattle.oss_parse.specs.StatementReading.{text_at, text_in};
 
-use oss_pragma::reading::{Cursor, Unread, is_name, is_start, keyword_is, symbol_is};
+use oss_expressions::reading::{Cursor, Unread, is_name, is_start, keyword_is, symbol_is};
 use oss_syntax::{BinOp, Bytes, NumKind, Token, TokenKind};
 use std::alloc::Global;
 

@@ -30,15 +30,15 @@ use Rattle.oss_grammar.specs.Reading.{Reader, begins, has, one_of, never, read_o
 use Rattle.oss_grammar.proofs.Parts.{Exact, Begun, exact_as}
 use Rattle.oss_grammar.proofs.PartLemmas.{Nowhere, nowhere, exact_one, begun_one, exact_mapped, begun_mapped, EitherDeep, begun_either}
 use Rattle.oss_grammar.proofs.PartLemmas.EitherDeep.{one_deep, other_deep}
-use Rattle.oss_pragma.specs.ExpressionReading.{latter, read_brackets}
+use Rattle.oss_expressions.specs.ExpressionReading.{latter, read_brackets}
+use Rattle.oss_expressions.specs.TokenValues.{symbol_at, access_at, reduction_at, fold_at, label_in, label_at, stands, is_single_word, single_at, begins_expression}
+use Rattle.oss_expressions.proofs.ExactPairs.{Headed, HeadedDeep, exact_headed, begun_headed, Bracketed, BracketedDeep, read_bracketed, exact_bracketed, bracketed_viable, read_behind, Behind, exact_behind, exact_or, or_apart, Failing, Perhaps, exact_or_perhaps, perhaps_either}
+use Rattle.oss_expressions.proofs.ExactPairs.Perhaps.{exactly, fails_at_once}
+use Rattle.oss_expressions.proofs.TokenLemmas.{goes_on, on_symbol, on_word, on_keyword, has_symbol}
 use Rattle.oss_pragma.specs.PragmaReading.{read_sections, read_bracketed_sections, read_depend, dependency_of, read_folded, read_reduction, reduction_of_parts, read_single, read_label, read_waiting, read_clause}
-use Rattle.oss_pragma.specs.TokenValues.{symbol_at, access_at, reduction_at, fold_at, label_in, label_at, stands, is_single_word, single_at, begins_expression}
-use Rattle.oss_pragma.proofs.ExactPairs.{Headed, HeadedDeep, exact_headed, begun_headed, Bracketed, BracketedDeep, read_bracketed, exact_bracketed, bracketed_viable, read_behind, Behind, exact_behind, exact_or, or_apart, Failing, Perhaps, exact_or_perhaps, perhaps_either}
-use Rattle.oss_pragma.proofs.ExactPairs.Perhaps.{exactly, fails_at_once}
 use Rattle.oss_pragma.proofs.ExactMany.{whole_viable}
 use Rattle.oss_pragma.proofs.ExactSections.{bracket_apart, exact_sections, sections_viable}
 use Rattle.oss_pragma.proofs.OnceLemmas.{IsNew, depend_new, if_new, final_new, wait_new, label_new, priority_new, grain_new, single_told, tells_single, has_single, no_single, count_none, none_counts}
-use Rattle.oss_pragma.proofs.TokenLemmas.{goes_on, on_symbol, on_word, on_keyword, has_symbol}
 
 -- the word of a reduction is one of two
 reduction_word : (a b : Bool) → is_some (if a then Some true else (if b then Some false else None)) ≡ true → (a ≡ true) ⊎ (b ≡ true)

@@ -28,13 +28,13 @@ use Rattle.oss_grammar.proofs.Parts.{Exact, Begun, exact_as, member_begins, deep
 use Rattle.oss_grammar.proofs.PartLemmas.{Nowhere, nowhere, Nothing, exact_nothing, exact_mapped, begun_mapped, Then, ThenDeep, exact_then, EitherDeep, exact_either}
 use Rattle.oss_grammar.proofs.PartLemmas.EitherDeep.{one_deep, other_deep}
 use Rattle.oss_grammar.proofs.StepLemmas.{none_goes}
-use Rattle.oss_pragma.specs.ExpressionReading.{read_index}
+use Rattle.oss_expressions.specs.ExpressionReading.{read_index}
+use Rattle.oss_expressions.specs.TokenValues.{symbol_at, name_at, begins_expression}
+use Rattle.oss_expressions.specs.declared.cursor.Named.{Named}
+use Rattle.oss_expressions.proofs.ExactPairs.{BothDeep, exact_both, Headed, HeadedDeep, exact_headed, begun_headed, Bracketed, BracketedDeep, exact_bracketed, begun_bracketed, bracketed_viable, read_behind, Behind, exact_behind, begun_behind, symbol_line}
+use Rattle.oss_expressions.proofs.PrimaryLemmas.{NameIs, name_is, name_value}
+use Rattle.oss_expressions.proofs.TokenLemmas.{begins_never, exact_closed, symbol_token, symbol_value, goes_on, on_symbol, has_symbol}
 use Rattle.oss_pragma.specs.PragmaReading.{read_indices, read_bounds, read_turns, read_closed_turns, read_many, turns_of, many_section, with_second}
-use Rattle.oss_pragma.specs.TokenValues.{symbol_at, name_at, begins_expression}
-use Rattle.oss_pragma.specs.declared.cursor.Named.{Named}
-use Rattle.oss_pragma.proofs.ExactPairs.{BothDeep, exact_both, Headed, HeadedDeep, exact_headed, begun_headed, Bracketed, BracketedDeep, exact_bracketed, begun_bracketed, bracketed_viable, read_behind, Behind, exact_behind, begun_behind, symbol_line}
-use Rattle.oss_pragma.proofs.PrimaryLemmas.{NameIs, name_is, name_value}
-use Rattle.oss_pragma.proofs.TokenLemmas.{begins_never, exact_closed, symbol_token, symbol_value, goes_on, on_symbol, has_symbol}
 
 -- there is an expression
 zero_is : IsWhole (record { what = kinds.Number 0 false; line = 0 } ∷ []) (record { what = exprs.Number 0 false; line = 0 })

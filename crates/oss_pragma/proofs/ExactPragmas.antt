@@ -28,20 +28,20 @@ use Rattle.oss_grammar.specs.Reading.{Stop, Reader, has, one_of, never, read_one
 use Rattle.oss_grammar.proofs.Parts.{Exact, Begun, exact_as}
 use Rattle.oss_grammar.proofs.PartLemmas.{Nowhere, nowhere, exact_one, begun_one, exact_mapped, begun_mapped, Then, ThenDeep, exact_then, begun_then, EitherDeep, begun_either}
 use Rattle.oss_grammar.proofs.PartLemmas.EitherDeep.{one_deep, other_deep}
-use Rattle.oss_pragma.specs.ExpressionReading.{read_expression, middle, and_then}
+use Rattle.oss_expressions.specs.ExpressionReading.{read_expression, middle, and_then}
+use Rattle.oss_expressions.specs.TokenValues.{symbol_at, word_at, start_at, end_at, access_at, begins_expression}
+use Rattle.oss_expressions.specs.declared.kinds.TaskKind.{TaskKind}
+use Rattle.oss_expressions.specs.declared.kinds.TaskKind.TheVariants as task_kind
+use Rattle.oss_expressions.proofs.ExactPairs.{HeadedDeep, Enclosed, exact_enclosed, begun_enclosed, Bracketed, BracketedDeep, bracketed_viable, Behind, exact_behind, begun_behind, exact_or, or_apart}
+use Rattle.oss_expressions.proofs.ExactExpressions.{exact_expression, begun_expression}
+use Rattle.oss_expressions.proofs.TokenLemmas.{begins_never, goes_on, on_word, not_symbol, has_word}
 use Rattle.oss_pragma.specs.PragmaReading.{read_clause, read_after_comma, goes_on_with_clause, read_clauses, no_grain, counted_with, found_of, read_all_clauses, goes_on_with_depend, read_depend, read_more_depends, read_depends, task_of, read_task, task_loop_of, read_task_loop, read_on, read_taskwait, read_release, read_pragma}
-use Rattle.oss_pragma.specs.TokenValues.{symbol_at, word_at, start_at, end_at, access_at, begins_expression}
-use Rattle.oss_pragma.specs.declared.kinds.TaskKind.{TaskKind}
-use Rattle.oss_pragma.specs.declared.kinds.TaskKind.TheVariants as task_kind
-use Rattle.oss_pragma.proofs.ExactPairs.{HeadedDeep, Enclosed, exact_enclosed, begun_enclosed, Bracketed, BracketedDeep, bracketed_viable, Behind, exact_behind, begun_behind, exact_or, or_apart}
-use Rattle.oss_pragma.proofs.ExactExpressions.{exact_expression, begun_expression}
 use Rattle.oss_pragma.proofs.ExactRows.{Rows, RowsEnd, RowsDeep, exact_rows}
 use Rattle.oss_pragma.proofs.ExactRows.Rows.{no_row, next_row}
 use Rattle.oss_pragma.proofs.ExactSections.{sections_viable}
 use Rattle.oss_pragma.proofs.OnceLemmas.{IsNew, once_with, new_behind, once_none, count_yes, count_no, once_counted, once_found, none_found_of, counted_all, found_counted, none_counted}
 use Rattle.oss_pragma.proofs.ExactClauses.{NewClause, clause_starts, exact_bracketed_sections, exact_depend, begun_depend, exact_clause, begun_clause, depend_viable, clause_viable}
 use Rattle.oss_pragma.proofs.PragmaTokens.{word_told, tells_word, start_what, start_line, tells_start, end_told, tells_end, not_end, ends, on_end}
-use Rattle.oss_pragma.proofs.TokenLemmas.{begins_never, goes_on, on_word, not_symbol, has_word}
 
 -- a part, or a comma and then the part
 module _ {A : Type 0} (starts : Token → Bool) {f : List Token → Result (A × List Token) Stop} {U : List Token → A → Type 0} {D : List Token → Token → Type 0} {goes : Token → Bool} (part : Exact f U D goes) (first : Begun f starts)

@@ -9,7 +9,7 @@ use Rattle.oss_grammar.proofs.PartLemmas.{exact_mapped, begun_mapped}
 use Rattle.oss_grammar.proofs.StepLemmas.{Steps, StepsDeep, exact_steps}
 use Rattle.oss_grammar.proofs.StepLemmas.Steps.{over, once_more}
 use Rattle.oss_grammar.proofs.StepLemmas.StepsDeep.{in_this, in_later}
-use Rattle.oss_pragma.specs.ExpressionReading.{and_then}
+use Rattle.oss_expressions.specs.ExpressionReading.{and_then}
 
 -- any number of parts, each behind those that were found before it
 pub data Rows {A : Type 0} (G : List A → List Token → A → Type 0) : List A → List Token → List A → Type 0 where

@@ -29,16 +29,16 @@ use Rattle.oss_grammar.proofs.Parts.{Exact, Begun, exact_as, exact_before, membe
 use Rattle.oss_grammar.proofs.PartLemmas.{Nowhere, nowhere, exact_one, begun_one, Nothing, exact_nothing, exact_mapped, begun_mapped, Then, ThenDeep, exact_then, begun_then, EitherDeep, exact_either, begun_either}
 use Rattle.oss_grammar.proofs.PartLemmas.EitherDeep.{one_deep, other_deep}
 use Rattle.oss_grammar.proofs.StepLemmas.{none_goes, fewer_go}
+use Rattle.oss_expressions.specs.TokenValues.{symbol_at, name_at, begins_expression}
+use Rattle.oss_expressions.specs.declared.cursor.Named.{Named}
+use Rattle.oss_expressions.proofs.ExactPairs.{BothDeep, exact_both, Headed, HeadedDeep, exact_headed, begun_headed, Bracketed, BracketedDeep, exact_bracketed, begun_bracketed, Behind, exact_behind, begun_behind, exact_or, symbol_line}
+use Rattle.oss_expressions.proofs.ListLemmas.{comma, Listed, ListedDeep, exact_list, begun_list}
+use Rattle.oss_expressions.proofs.ListLemmas.Listed.{last_part, next_part}
+use Rattle.oss_expressions.proofs.ListLemmas.ListedDeep.{deep_first, deep_later}
+use Rattle.oss_expressions.proofs.PrimaryLemmas.{NameIs, name_is, name_value}
+use Rattle.oss_expressions.proofs.TokenLemmas.{begins_never, exact_closed, symbol_token, symbol_value, goes_on, on_symbol, not_symbol, has_symbol}
 use Rattle.oss_pragma.specs.PragmaReading.{read_upper, read_span, read_length, read_inner_from, read_inner, read_pointed, read_shape, read_dimension, read_columns, read_part, read_based, read_many, read_section, read_sections, pointed_section, shape_section, part_section, whole_section}
-use Rattle.oss_pragma.specs.TokenValues.{symbol_at, name_at, begins_expression}
-use Rattle.oss_pragma.specs.declared.cursor.Named.{Named}
 use Rattle.oss_pragma.proofs.ExactMany.{whole_viable, semicolon_apart, closed_apart, closed_before, Many, ManyDeep, exact_many, begun_many, many_into, many_back, many_deeper, many_in_indices, many_in_turns}
-use Rattle.oss_pragma.proofs.ExactPairs.{BothDeep, exact_both, Headed, HeadedDeep, exact_headed, begun_headed, Bracketed, BracketedDeep, exact_bracketed, begun_bracketed, Behind, exact_behind, begun_behind, exact_or, symbol_line}
-use Rattle.oss_pragma.proofs.ListLemmas.{comma, Listed, ListedDeep, exact_list, begun_list}
-use Rattle.oss_pragma.proofs.ListLemmas.Listed.{last_part, next_part}
-use Rattle.oss_pragma.proofs.ListLemmas.ListedDeep.{deep_first, deep_later}
-use Rattle.oss_pragma.proofs.PrimaryLemmas.{NameIs, name_is, name_value}
-use Rattle.oss_pragma.proofs.TokenLemmas.{begins_never, exact_closed, symbol_token, symbol_value, goes_on, on_symbol, not_symbol, has_symbol}
 
 -- no expression goes on with these, nor begins with the others
 colon_apart : (t : Token) → has (symbol_at (codes ":")) t ≡ true → goes_on t ≡ false

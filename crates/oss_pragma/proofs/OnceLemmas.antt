@@ -12,11 +12,11 @@ use Rattle.oss_syntax.specs.declared.tree.pragma.Section.{Section}
 use Rattle.oss_grammar.specs.Pragmas.{Single, is_single, HasEachOnce, HasNoGrain}
 use Rattle.oss_grammar.specs.Pragmas.Single.{once_if, once_final, once_wait, once_label, once_priority, once_grain}
 use Rattle.oss_grammar.specs.Reading.{has}
-use Rattle.oss_pragma.specs.ExpressionReading.{and_then}
+use Rattle.oss_expressions.specs.ExpressionReading.{and_then}
+use Rattle.oss_expressions.specs.TokenValues.{stands, single_at, is_single_word}
+use Rattle.oss_expressions.specs.declared.kinds.TaskKind.{TaskKind}
+use Rattle.oss_expressions.specs.declared.kinds.TaskKind.TheVariants as task_kind
 use Rattle.oss_pragma.specs.PragmaReading.{no_grain, counted_with, found_of}
-use Rattle.oss_pragma.specs.TokenValues.{stands, single_at, is_single_word}
-use Rattle.oss_pragma.specs.declared.kinds.TaskKind.{TaskKind}
-use Rattle.oss_pragma.specs.declared.kinds.TaskKind.TheVariants as task_kind
 
 module _ {A : Type 0} (counts : A → Bool) where
   abbrev tally : List A → ℕ

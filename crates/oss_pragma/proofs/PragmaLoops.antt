@@ -10,14 +10,14 @@ use Rattle.oss_syntax.specs.declared.tree.pragma.Section.{Section}
 use Rattle.oss_grammar.specs.Pragmas.{Single, form_of_inner}
 use Rattle.oss_grammar.specs.Pragmas.Single.{once_if, once_final, once_wait, once_label, once_priority, once_grain}
 use Rattle.oss_grammar.specs.Reading.{Reader, has, read_nothing, read_mapped, read_either}
-use Rattle.oss_pragma.specs.TokenValues.{symbol_at, name_at, access_at, reduction_at, fold_at, label_at, single_at, begins_expression}
+use Rattle.oss_expressions.specs.TokenValues.{symbol_at, name_at, access_at, reduction_at, fold_at, label_at, single_at, begins_expression}
 use Rattle.oss_grammar.specs.Levels.{is_operator}
-use Rattle.oss_pragma.specs.ExpressionReading.{latter, middle, and_then, read_next, read_index, read_expression}
+use Rattle.oss_expressions.specs.ExpressionReading.{latter, middle, and_then, read_next, read_index, read_expression}
+use Rattle.oss_expressions.specs.declared.cursor.Named.{Named}
+use Rattle.oss_expressions.proofs.StepLoops.{Takes, Keeps, keeps, takes_one, keeps_nothing, takes_mapped, takes_then, takes_both, takes_either, keeps_either, Repeats, repeats}
+use Rattle.oss_expressions.proofs.ExpressionLoops.{takes_brackets, takes_whole, takes_next, takes_list, repeats_more}
+use Rattle.oss_expressions.proofs.SightLemmas.{takes_counted}
 use Rattle.oss_pragma.specs.PragmaReading.{read_upper, read_span, read_length, read_inner_from, read_inner, read_dimension, read_columns, whole_section, pointed_section, shape_section, part_section, turns_of, many_section, with_second, read_indices, read_bounds, read_turns, read_closed_turns, read_many, read_pointed, read_shape, read_part, read_based, read_section, read_sections, read_bracketed_sections, dependency_of, read_depend, read_folded, reduction_of_parts, read_reduction, read_single, read_label, read_waiting, read_clause, read_after_comma, goes_on_with_clause, goes_on_with_depend}
-use Rattle.oss_pragma.specs.declared.cursor.Named.{Named}
-use Rattle.oss_pragma.proofs.StepLoops.{Takes, Keeps, keeps, takes_one, keeps_nothing, takes_mapped, takes_then, takes_both, takes_either, keeps_either, Repeats, repeats}
-use Rattle.oss_pragma.proofs.ExpressionLoops.{takes_brackets, takes_whole, takes_next, takes_list, repeats_more}
-use Rattle.oss_pragma.proofs.SightLemmas.{takes_counted}
 
 takes_after_comma : {A : Type 0} {f : Reader A} → Takes f → Takes (read_after_comma f)
 takes_after_comma part = takes_either (has (symbol_at (codes ","))) (takes_next part) part

@@ -5,7 +5,7 @@ use Rattle.oss_syntax.specs.declared.token.TokenKind.{TokenKind}
 use Rattle.oss_syntax.specs.declared.token.TokenKind.TheVariants as kinds
 use Rattle.oss_grammar.specs.OneToken.{is_word, IsWord}
 use Rattle.oss_grammar.specs.Reading.{has}
-use Rattle.oss_pragma.specs.TokenValues.{word_at, start_in, start_at, end_in, end_at}
+use Rattle.oss_expressions.specs.TokenValues.{word_at, start_in, start_at, end_in, end_at}
 
 -- a word tells its line
 line_of : (b : Bool) (line n : ℕ) → (if b then Some line else None) ≡ Some n → b ≡ true

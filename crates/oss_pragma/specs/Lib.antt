@@ -1,8 +1,2 @@
-pub mod ExpressionReading
-pub mod Operands
+pub mod Known
 pub mod PragmaReading
-pub mod Sights
-pub mod Singles
-pub mod TokenValues
-pub mod Told
-pub mod ToldAt

@@ -22,11 +22,11 @@ use Rattle.oss_syntax.specs.declared.tree.pragma.Turns.{Turns}
 use Rattle.oss_grammar.specs.Pragmas.{Single, counter, form_of_inner}
 use Rattle.oss_grammar.specs.Pragmas.Single.{once_if, once_final, once_wait, once_label, once_priority, once_grain}
 use Rattle.oss_grammar.specs.Reading.{Reader, has, read_one, read_then, read_nothing, read_mapped, read_both, read_either, read_steps}
-use Rattle.oss_pragma.specs.TokenValues.{symbol_at, word_at, start_at, end_at, name_at, access_at, reduction_at, fold_at, label_at, single_at, begins_expression}
-use Rattle.oss_pragma.specs.ExpressionReading.{latter, middle, and_then, read_next, read_list, read_brackets, read_index}
-use Rattle.oss_pragma.specs.declared.cursor.Named.{Named}
-use Rattle.oss_pragma.specs.declared.kinds.TaskKind.{TaskKind}
-use Rattle.oss_pragma.specs.declared.kinds.TaskKind.TheVariants as task_kind
+use Rattle.oss_expressions.specs.TokenValues.{symbol_at, word_at, start_at, end_at, name_at, access_at, reduction_at, fold_at, label_at, single_at, begins_expression}
+use Rattle.oss_expressions.specs.ExpressionReading.{latter, middle, and_then, read_next, read_list, read_brackets, read_index}
+use Rattle.oss_expressions.specs.declared.cursor.Named.{Named}
+use Rattle.oss_expressions.specs.declared.kinds.TaskKind.{TaskKind}
+use Rattle.oss_expressions.specs.declared.kinds.TaskKind.TheVariants as task_kind
 
 -- [ expr ] behind `:`
 unfoldable pub read_upper : Reader Expr → Reader (Option Expr)

@@ -4,15 +4,16 @@ ghost use Rattle.std.specs.Prelude.{◌≡◌};
 ghost use Rattle.oss_syntax.specs.declared.tree.pragma.Clause.TheVariants as clauses;
 ghost use Rattle.oss_grammar.specs.Pragmas.Single.{once_final, once_grain, once_if, once_priority};
 ghost use Rattle.oss_grammar.specs.Reading.{begins, read_both, read_mapped, read_one};
-ghost use Rattle.oss_pragma.specs.ExpressionReading.{latter, read_brackets, read_expression};
+ghost use Rattle.oss_expressions.specs.ExpressionReading.{latter, read_brackets, read_expression};
+ghost use Rattle.oss_expressions.specs.Singles.{single_of, single_unless};
+ghost use Rattle.oss_expressions.specs.Told.{ReadsAs};
 ghost use Rattle.oss_pragma.specs.PragmaReading.{begins_single, counted_with, goes_on_with_clause, read_after_comma, read_all_clauses, read_clause, read_depend, read_folded, read_label, read_reduction, read_single, read_waiting};
-ghost use Rattle.oss_pragma.specs.Singles.{single_of, single_unless};
-ghost use Rattle.oss_pragma.specs.Told.{ReadsAs};
 
-use crate::cursor::{Cursor, Unread};
 use crate::found::Found;
-use crate::kinds::{Once, TaskKind, access, reduction, symbol_is};
-use crate::sections::{bracketed_sections, brackets, sections};
+use crate::sections::{bracketed_sections, sections};
+use oss_expressions::reading::{
+    Cursor, Once, TaskKind, Unread, access, brackets, reduction, symbol_is,
+};
 use oss_syntax::{Clause, Expr, List, Mode, Op, Section, Token};
 use std::alloc::Global;
 

@@ -3,11 +3,11 @@
 ghost use Rattle.std.specs.Prelude.{◌≡◌, ◌∷◌, ◌++◌, ◌||◌, [], OnOk};
 ghost use Rattle.oss_grammar.specs.Pragmas.{is_single};
 ghost use Rattle.oss_grammar.specs.Reading.{has};
+ghost use Rattle.oss_expressions.specs.Singles.{single_of};
+ghost use Rattle.oss_expressions.specs.TokenValues.{single_at, stands};
 ghost use Rattle.oss_pragma.specs.PragmaReading.{counted_with, no_grain};
-ghost use Rattle.oss_pragma.specs.Singles.{single_of};
-ghost use Rattle.oss_pragma.specs.TokenValues.{single_at, stands};
 
-use crate::kinds::{Once, TaskKind, once_is};
+use oss_expressions::reading::{Once, TaskKind, once_is};
 use oss_syntax::{Clause, List, Token};
 use std::alloc::{AllocError, Global};
 use std::marker::Model;
@@ -27,7 +27,7 @@ pub struct Found {
 impl Model for Found {
     ghost use Rattle.std.specs.Prelude.{List as Items};
     ghost use Rattle.oss_syntax.specs.declared.tree.pragma.Clause.{Clause};
-    ghost use Rattle.oss_pragma.specs.Singles.{AreKnown};
+    ghost use Rattle.oss_pragma.specs.Known.{AreKnown};
     ghost use Rattle.oss_syntax.specs.contracts.tree.pragma.Clause as clause_type;
     ghost use Rattle.std.specs.Coded.{codes};
 

@@ -2,15 +2,14 @@
 
 ghost use Rattle.std.specs.Prelude.{◌≡◌};
 ghost use Rattle.oss_grammar.specs.Reading.{begins, read_one, read_then};
-ghost use Rattle.oss_pragma.specs.ExpressionReading.{read_expression};
+ghost use Rattle.oss_expressions.specs.ExpressionReading.{read_expression};
+ghost use Rattle.oss_expressions.specs.TokenValues.{start_at};
+ghost use Rattle.oss_expressions.specs.Told.{ReadsAs};
 ghost use Rattle.oss_pragma.specs.PragmaReading.{goes_on_with_depend, read_after_comma, read_depend, read_depends, read_more_depends, read_on, read_pragma, read_release, read_task, read_task_loop, read_taskwait};
-ghost use Rattle.oss_pragma.specs.TokenValues.{start_at};
-ghost use Rattle.oss_pragma.specs.Told.{ReadsAs};
 
 use crate::clauses::{clauses, depend};
-use crate::cursor::{Cursor, Unread};
-use crate::kinds::{TaskKind, access, symbol_is};
 use crate::sections::bracketed_sections;
+use oss_expressions::reading::{Cursor, TaskKind, Unread, access, symbol_is};
 use oss_syntax::{Clause, Directive, List, Section, TaskMark, Token};
 use std::alloc::Global;
 

@@ -3,13 +3,12 @@
 ghost use Rattle.std.specs.Prelude.{◌≡◌, codes};
 ghost use Rattle.oss_grammar.specs.Pragmas.{form_of_inner};
 ghost use Rattle.oss_grammar.specs.Reading.{read_both, read_mapped, read_one};
-ghost use Rattle.oss_pragma.specs.ExpressionReading.{read_brackets, read_expression, latter, read_index, read_more, read_next};
+ghost use Rattle.oss_expressions.specs.ExpressionReading.{read_expression, latter, read_index, read_more, read_next};
+ghost use Rattle.oss_expressions.specs.TokenValues.{name_at, symbol_at};
+ghost use Rattle.oss_expressions.specs.Told.{ReadsAs};
 ghost use Rattle.oss_pragma.specs.PragmaReading.{read_based, read_bounds, read_bracketed_sections, read_closed_turns, read_columns, read_dimension, read_indices, read_inner, read_inner_from, read_length, read_many, read_part, read_pointed, read_section, read_sections, read_shape, read_span, read_turns, read_upper};
-ghost use Rattle.oss_pragma.specs.TokenValues.{name_at, symbol_at};
-ghost use Rattle.oss_pragma.specs.Told.{ReadsAs};
 
-use crate::cursor::{Cursor, Named, Unread};
-use crate::limits::expression;
+use oss_expressions::reading::{Cursor, Named, Unread, expression};
 use oss_syntax::{Expr, Form, Inner, Kind, List, Local, NumKind, Section, Turns};
 use std::alloc::Global;
 
@@ -209,7 +208,7 @@ fn based(alloc: Global, tokens: &mut Cursor<'_>) -> Result<Section, Unread>
 }
 
 /// "[" expr "]"
-#[tactic(auto, unfolding(crate::specs::ExpressionReading::read_index))]
+#[tactic(auto, unfolding(oss_expressions::specs::ExpressionReading::read_index))]
 fn index(alloc: Global, tokens: &mut Cursor<'_>) -> Result<Expr, Unread>
     ensures { ReadsAs (read_index read_expression tokens.old) result tokens.new }
 {
@@ -395,22 +394,6 @@ pub fn bracketed_sections(alloc: Global, tokens: &mut Cursor<'_>) -> Result<List
         Ok(_) => Ok(sections),
         Err(unread) => {
             drop(sections);
-            Err(unread)
-        }
-    }
-}
-
-/// "(" expr ")"
-#[tactic(auto, unfolding(crate::specs::ExpressionReading::read_brackets))]
-pub fn brackets(alloc: Global, tokens: &mut Cursor<'_>) -> Result<Expr, Unread>
-    ensures { ReadsAs (read_brackets read_expression tokens.old) result tokens.new }
-{
-    tokens.symbol(b"(")?;
-    let inner = expression(alloc, tokens)?;
-    match tokens.symbol(b")") {
-        Ok(_) => Ok(inner),
-        Err(unread) => {
-            drop(inner);
             Err(unread)
         }
     }

@@ -2,8 +2,9 @@
 
 ghost use Rattle.std.specs.Prelude.{◌≤◌, length};
 
+use oss_expressions::expression;
 use oss_lex::tokens;
-use oss_pragma::{expression, pragma};
+use oss_pragma::pragma;
 use oss_syntax::{BinOp, Directive, Expr, ExprKind, List, Refusal, Refused, RefusedKind, Token};
 use std::alloc::Global;
 use std::test::Fail;

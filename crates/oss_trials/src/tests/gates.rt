@@ -1,4 +1,4 @@
-//! Gates that tasks pass on their way: two tasks that meet on two threads, and a count of all that pass.
+//! Gates that tasks pass on their way: two tasks that meet on two threads, a count of all that pass, and the numbers of the workers that let them pass.
 
 use oss_io::{Gate, MemoryShelf, MemorySink};
 use oss_top::{Sinks, nest6};
@@ -104,6 +104,18 @@ impl Gate for Counting {
     }
 }
 
+/// A gate that notes the greatest number of a worker that it is told.
+#[derive(Drop)]
+struct Numbering {
+    greatest: AtomicU64,
+}
+
+impl Gate for Numbering {
+    fn pass(&self, worker: u32, _point: &[u16]) {
+        self.greatest.fetch_max(worker as u64, Ordering::SeqCst);
+    }
+}
+
 /// Runs a program with an option, behind a gate: it ends, and this is its output.
 fn assert_run<R: Abort + AllocGlobal + Threads + Sync, G: Gate>(
     rt: &R,
@@ -169,4 +181,21 @@ fn each_of_49_tasks_passes_the_gate_once(rt: HostRuntime) {
     assert_counted(&rt, "--workers=1");
     assert_counted(&rt, "--workers=4");
     assert_counted(&rt, "--workers=64");
+}
+
+/// The greatest number of a worker that the gate is told in a run of the program with 49 tasks, on workers as this option says.
+fn greatest_told<R: Abort + AllocGlobal + Threads + Sync>(rt: &R, option: &str) -> u64 {
+    let gate = Numbering {
+        greatest: AtomicU64::new(0),
+    };
+    assert_run(rt, BLOCKS, option, &gate, "1572352\n");
+    gate.greatest.load(Ordering::SeqCst)
+}
+
+/// Workers are counted from 0, so each number is below how many there are. The 32 tasks on blocks of their own begin in one wave, of which each worker does some, also where no thread can be made for it.
+#[test]
+fn workers_have_the_numbers_below_how_many_there_are(rt: HostRuntime) {
+    for (option, last) in [("--workers=1", 0), ("--workers=2", 1), ("--workers=4", 3)] {
+        assert_eq!(rt; greatest_told(&rt, option), last, "{option}");
+    }
 }

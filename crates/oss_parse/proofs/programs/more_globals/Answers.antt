@@ -1,8 +1,8 @@
 use Rattle.std.proofs.Common.{◌≡◌, ◌∙◌, codes, sym, true, false}
 use Rattle.oss_grammar.specs.Reading.{begins, has}
-use Rattle.oss_pragma.specs.TokenValues.{symbol_at}
-use Rattle.oss_pragma.specs.ExpressionReading.{read_more}
-use Rattle.oss_pragma.proofs.ExpressionLoops.{reads_as_err}
+use Rattle.oss_expressions.specs.TokenValues.{symbol_at}
+use Rattle.oss_expressions.specs.ExpressionReading.{read_more}
+use Rattle.oss_expressions.proofs.ExpressionLoops.{reads_as_err}
 use Rattle.oss_parse.proofs.ProgramLoops.{repeats_globals}
 use Rattle.oss_parse.proofs.programs.more_globals.Goals as goal
 

@@ -1,5 +1,5 @@
 use Rattle.std.proofs.Common.{◌≡◌, length}
-use Rattle.oss_pragma.specs.ExpressionReading.{read_more}
+use Rattle.oss_expressions.specs.ExpressionReading.{read_more}
 use Rattle.oss_parse.specs.ProgramReading.{read_parameter}
 use Rattle.oss_parse.proofs.programs.more_parameters.Given as goal
 

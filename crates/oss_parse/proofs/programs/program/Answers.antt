@@ -1,4 +1,4 @@
-use Rattle.oss_pragma.proofs.ExpressionLoops.{reads_as_err}
+use Rattle.oss_expressions.proofs.ExpressionLoops.{reads_as_err}
 use Rattle.oss_parse.proofs.ProgramLoops.{program_fail, program_ok}
 use Rattle.oss_parse.proofs.programs.program.Goals as goal
 

@@ -1,6 +1,6 @@
 use Rattle.std.proofs.Common.{◌≡◌, ◌∙◌, refl, sym, true, false}
 use Rattle.oss_grammar.specs.Reading.{begins}
-use Rattle.oss_pragma.proofs.ExpressionLoops.{reads_as_err}
+use Rattle.oss_expressions.proofs.ExpressionLoops.{reads_as_err}
 use Rattle.oss_parse.specs.ProgramReading.{begins_program_item, read_program_items}
 use Rattle.oss_parse.proofs.ProgramLoops.{read_items_behind, repeats_items}
 use Rattle.oss_parse.proofs.programs.program_items.Goals as goal

@@ -1,5 +1,5 @@
 use Rattle.std.proofs.Common.{◌≡◌, length}
-use Rattle.oss_pragma.specs.ExpressionReading.{read_expression}
+use Rattle.oss_expressions.specs.ExpressionReading.{read_expression}
 use Rattle.oss_parse.specs.Inner.{read_body}
 use Rattle.oss_parse.specs.ProgramReading.{read_program_items}
 use Rattle.oss_parse.proofs.ProgramLoops.{read_items_behind}

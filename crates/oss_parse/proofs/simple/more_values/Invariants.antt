@@ -1,5 +1,5 @@
 use Rattle.std.proofs.Common.{◌≡◌, length}
-use Rattle.oss_pragma.specs.ExpressionReading.{read_expression, read_more}
+use Rattle.oss_expressions.specs.ExpressionReading.{read_expression, read_more}
 use Rattle.oss_parse.proofs.simple.more_values.Given as goal
 
 -- what is read behind the values so far is what is read of the whole

@@ -1,7 +1,7 @@
 use Rattle.std.proofs.Common.{◌≡◌, ◌<◌, ◌∙◌, arith, subst, sym, true, false, refl}
 use Rattle.oss_grammar.specs.Reading.{begins}
-use Rattle.oss_pragma.specs.Told.{ReadsAs}
-use Rattle.oss_pragma.proofs.ExpressionLoops.{reads_as_err}
+use Rattle.oss_expressions.specs.Told.{ReadsAs}
+use Rattle.oss_expressions.proofs.ExpressionLoops.{reads_as_err}
 use Rattle.oss_parse.specs.Inner.{read_parts_behind}
 use Rattle.oss_parse.specs.StatementReading.{begins_item, read_directed, read_items_by}
 use Rattle.oss_parse.proofs.StatementLoops.{part_some, repeats_parts}

@@ -2,9 +2,9 @@ use Rattle.std.proofs.Common.{◌≡◌, ◌∙◌, sym, ap, true, false, List, 
 use Rattle.oss_syntax.specs.declared.token.Token.{Token}
 use Rattle.oss_syntax.specs.declared.tree.pragma.Clause.{Clause}
 use Rattle.oss_grammar.specs.Reading.{Stop, begins, go_on}
+use Rattle.oss_expressions.specs.declared.kinds.TaskKind.{TaskKind}
+use Rattle.oss_expressions.proofs.ExpressionLoops.{reads_as_err}
 use Rattle.oss_pragma.specs.PragmaReading.{counted_with, found_of, goes_on_with_clause, read_clauses, read_all_clauses}
-use Rattle.oss_pragma.specs.declared.kinds.TaskKind.{TaskKind}
-use Rattle.oss_pragma.proofs.ExpressionLoops.{reads_as_err}
 use Rattle.oss_pragma.proofs.OnceLemmas.{counted_more, found_counted}
 use Rattle.oss_pragma.proofs.PragmaLoops.{repeats_clauses}
 use Rattle.oss_pragma.proofs.clauses.clauses.Goals as goal

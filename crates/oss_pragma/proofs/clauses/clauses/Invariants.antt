@@ -1,5 +1,5 @@
 use Rattle.std.proofs.Common.{◌≡◌, [], length}
-use Rattle.oss_pragma.specs.ExpressionReading.{read_expression}
+use Rattle.oss_expressions.specs.ExpressionReading.{read_expression}
 use Rattle.oss_pragma.specs.PragmaReading.{counted_with, read_clauses}
 use Rattle.oss_pragma.proofs.clauses.clauses.Given as goal
 

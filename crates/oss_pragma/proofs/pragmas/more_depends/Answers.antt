@@ -1,7 +1,7 @@
 use Rattle.std.proofs.Common.{◌≡◌, ◌∙◌, sym, true, false}
 use Rattle.oss_grammar.specs.Reading.{begins}
+use Rattle.oss_expressions.proofs.ExpressionLoops.{reads_as_err}
 use Rattle.oss_pragma.specs.PragmaReading.{goes_on_with_depend, read_more_depends}
-use Rattle.oss_pragma.proofs.ExpressionLoops.{reads_as_err}
 use Rattle.oss_pragma.proofs.PragmaLoops.{repeats_depends}
 use Rattle.oss_pragma.proofs.pragmas.more_depends.Goals as goal
 

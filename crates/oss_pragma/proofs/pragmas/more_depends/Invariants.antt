@@ -1,5 +1,5 @@
 use Rattle.std.proofs.Common.{◌≡◌, length}
-use Rattle.oss_pragma.specs.ExpressionReading.{read_expression}
+use Rattle.oss_expressions.specs.ExpressionReading.{read_expression}
 use Rattle.oss_pragma.specs.PragmaReading.{read_more_depends}
 use Rattle.oss_pragma.proofs.pragmas.more_depends.Given as goal
 

@@ -1,5 +1,5 @@
 use Rattle.std.proofs.Common.{◌≡◌, length}
-use Rattle.oss_pragma.specs.ExpressionReading.{read_expression, read_more}
+use Rattle.oss_expressions.specs.ExpressionReading.{read_expression, read_more}
 use Rattle.oss_pragma.specs.PragmaReading.{read_section}
 use Rattle.oss_pragma.proofs.sections.more_sections.Given as goal
 

@@ -1,0 +1,12 @@
+pub mod ExactAnswers
+pub mod ExactExpressions
+pub mod ExactPairs
+pub mod ExpressionLoops
+pub mod LevelLemmas
+pub mod ListLemmas
+pub mod OperandLemmas
+pub mod PlaceLemmas
+pub mod PrimaryLemmas
+pub mod SightLemmas
+pub mod StepLoops
+pub mod TokenLemmas
