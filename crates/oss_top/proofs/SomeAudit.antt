@@ -3,8 +3,8 @@
 use Rattle.std.proofs.Common.{◌≡◌, ◌≢◌, ℕ, zero, suc, ◌+◌, ◌<◌, ◌≤◌, ◌⊎◌, inl, inr, refl, sym, subst, ap, ◌∙◌, arith, List, [], ◌∷◌, ◌++◌, length, reverse, Bool, true, false}
 use Rattle.std.proofs.lemmas.Bool.Decides.{nat_tests}
 use Rattle.oss_syntax.specs.declared.access.Access.{Access}
+use Rattle.oss_syntax.specs.declared.access.Op.{Op}
 use Rattle.oss_syntax.specs.declared.access.Range.{Range}
-use Rattle.oss_syntax.specs.declared.tree.program.Program.{Program}
 use Rattle.oss_model.specs.Bodies.{Act, Order, Program as Asks, Start, Touches, folded, load, stage_act, store}
 use Rattle.oss_model.specs.Bodies.Act.{Awaited, Created, Ended, Fault, Folded, Load, Over, Printed, Releases, Store, Ticked, Waited, WaitedOn}
 use Rattle.oss_model.specs.Context.{in_clauses}
@@ -15,18 +15,19 @@ use Rattle.oss_model.specs.Rights.{Touch, in_access}
 use Rattle.oss_model.proofs.OrderLemmas.{before_not, before_trans}
 use Rattle.oss_model.proofs.SortLemmas.{reverse_same}
 use Rattle.oss_model.proofs.TreeLemmas.{at_same, path_found}
-use Rattle.oss_meaning.specs.Expressions.{TreeScript}
-use Rattle.oss_meaning.specs.Meaning.{asks_of}
-use Rattle.oss_meaning.specs.Results.{IsOutcomeOf, Outcome, first_cells, main_of}
-use Rattle.oss_meaning.specs.Results.IsOutcome.{ends as outcome_ends, fails as outcome_fails}
 use Rattle.oss_rounds.specs.Passes.{IsEarlierPlace, Place}
 use Rattle.oss_rounds.proofs.DecideLemmas.{Decided, all_tasks, both, by_iff, either, if_not, is_number}
 use Rattle.oss_rounds.proofs.GatherLemmas.{Gathered, Sorted, gather, never_both, places_compared, places_never, places_through}
 use Rattle.oss_rounds.proofs.SumLemmas.{in_cases, in_none, listed}
-use Rattle.oss_audit.specs.Lines.{audit_text}
-use Rattle.oss_audit.specs.Unused.{AreUnused, HasDeclared, HasTouched, IsAhead, IsAudited, IsTold, IsUnused, Rises, Tells, acting}
-use Rattle.oss_audit.specs.Unused.IsAudited.{ends, fails}
+use Rattle.oss_audit.specs.Unused.{AreUnused, HasDeclared, HasTouched, IsAhead, IsTold, IsUnused, Rises, Tells, acting}
 use Rattle.oss_audit.specs.declared.unused.Unused.{Unused}
+use Rattle.oss_syntax.specs.declared.tree.program.Program.{Program}
+use Rattle.oss_meaning.specs.Expressions.{TreeScript}
+use Rattle.oss_meaning.specs.Meaning.{asks_of}
+use Rattle.oss_meaning.specs.Results.{IsOutcomeOf, Outcome, first_cells, main_of}
+use Rattle.oss_meaning.specs.Results.IsOutcome.{ends as outcome_ends, fails as outcome_fails}
+use Rattle.oss_audit.specs.Lines.{audit_text}
+use Rattle.oss_audit.specs.Unused.IsAudited.{ends, fails}
 use Rattle.oss_model.specs.declared.answer.Answer.TheVariants as answers
 use Rattle.oss_top.specs.Audits.{IsAuditReply}
 use Rattle.oss_top.specs.Forms.{told_reply}
@@ -108,6 +109,19 @@ below_ends (a ∷ rest) c e = go (in_access a c) (in_clauses rest c) refl refl e
     go false true f g e k = let l = k g in omega (arith, l)
     go false false f g e k = absurd (cc)
 
+-- and below the greatest number of cells
+below_limit : (clauses : List Access) (c : ℕ) → in_clauses clauses c ≡ true → c < 1048576
+below_limit [] c e = absurd (cc)
+below_limit (a ∷ rest) c e = go (in_access a c) (in_clauses rest c) refl refl e (below_limit rest c)
+  where
+    inside : in_access a c ≡ true → c < 1048576
+    inside f = let w = a.range.within in grind (arith, nat_tests)
+
+    go : (x y : Bool) → in_access a c ≡ x → in_clauses rest c ≡ y → in_clauses (a ∷ rest) c ≡ true → (in_clauses rest c ≡ true → c < 1048576) → c < 1048576
+    go true y f g e k = inside f
+    go false true f g e k = k g
+    go false false f g e k = absurd (cc)
+
 bound_of : {S : Type 0} → Act S → ℕ
 bound_of (Created o included) = ends_of o.clauses
 bound_of _ = 0
@@ -116,32 +130,20 @@ bound_of _ = 0
 TouchOf : {S : Type 0} → Act S → ℕ → Type 0
 TouchOf a c = (touch : Touch) × (slot : Bool) × Touches a c touch slot
 
+touched_by_load : {S : Type 0} (d c : ℕ) (touch : Touch) (slot : Bool) → Touches {S = S} (Load d) c touch slot → d ≡ c
+touched_by_load d c touch slot load = refl
+
+touched_by_store : {S : Type 0} (d v c : ℕ) (touch : Touch) (slot : Bool) → Touches {S = S} (Store d v) c touch slot → d ≡ c
+touched_by_store d v c touch slot store = refl
+
+touched_by_fold : {S : Type 0} (d : ℕ) (op : Op) (v : ℕ) (at : Bool) (c : ℕ) (touch : Touch) (slot : Bool) → Touches {S = S} (Folded d op v at) c touch slot → d ≡ c
+touched_by_fold d op v at c touch slot folded = refl
+
 touches_cell : {S : Type 0} (a : Act S) (c : ℕ) → Decided (TouchOf a c)
 unfolding TouchOf
-touches_cell (Load d) c = by_iff (λ e. subst (λ (b : ℕ). TouchOf (Load d) b) e (Touch.Reads, false, load)) only (is_number d c)
-  where
-    only_here : {touch : Touch} {slot : Bool} → Touches (Load d) c touch slot → d ≡ c
-    only_here load = refl
-
-    only : TouchOf (Load d) c → d ≡ c
-    unfolding TouchOf
-    only h = only_here h.2
-touches_cell (Store d v) c = by_iff (λ e. subst (λ (b : ℕ). TouchOf (Store d v) b) e (Touch.Writes, false, store)) only (is_number d c)
-  where
-    only_here : {touch : Touch} {slot : Bool} → Touches (Store d v) c touch slot → d ≡ c
-    only_here store = refl
-
-    only : TouchOf (Store d v) c → d ≡ c
-    unfolding TouchOf
-    only h = only_here h.2
-touches_cell (Folded d op v slot) c = by_iff (λ e. subst (λ (b : ℕ). TouchOf (Folded d op v slot) b) e (Touch.Folds op, slot, folded)) only (is_number d c)
-  where
-    only_here : {touch : Touch} {at : Bool} → Touches (Folded d op v slot) c touch at → d ≡ c
-    only_here folded = refl
-
-    only : TouchOf (Folded d op v slot) c → d ≡ c
-    unfolding TouchOf
-    only h = only_here h.2
+touches_cell {S = S} (Load d) c = by_iff (λ e. subst (λ (b : ℕ). TouchOf {S = S} (Load d) b) e (Touch.Reads, false, load)) (λ h. touched_by_load d c h.0 h.1 h.2) (is_number d c)
+touches_cell {S = S} (Store d v) c = by_iff (λ e. subst (λ (b : ℕ). TouchOf {S = S} (Store d v) b) e (Touch.Writes, false, store)) (λ h. touched_by_store d v c h.0 h.1 h.2) (is_number d c)
+touches_cell {S = S} (Folded d op v slot) c = by_iff (λ e. subst (λ (b : ℕ). TouchOf {S = S} (Folded d op v slot) b) e (Touch.Folds op, slot, folded)) (λ h. touched_by_fold d op v slot c h.0 h.1 h.2) (is_number d c)
 touches_cell Ticked c = inr (λ h. elim h.2 [ ])
 touches_cell (Created o included) c = inr (λ h. elim h.2 [ ])
 touches_cell Awaited c = inr (λ h. elim h.2 [ ])
@@ -192,15 +194,17 @@ place p c = record { path = p; cell = c }
 record AreRuns (places : List Place) (us : List Unused) : Type 0 where
   pub rises : Rises us
   pub points : (u : Unused) → IsIn u us → (q : List ℕ) × (u.point ≡ written q)
-  pub some : (u : Unused) → IsIn u us → u.range.lo < u.range.hi
   pub only : (q : List ℕ) (c : ℕ) → IsTold us q c → IsIn (place q c) places
   pub all : (q : List ℕ) (c : ℕ) → IsIn (place q c) places → IsTold us q c
 
-one_cell : List ℕ → ℕ → Unused
-one_cell p c = record { point = written p; range = record { lo = c; hi = suc c } }
+one_cell : List ℕ → (c : ℕ) → c < 1048576 → Unused
+one_cell p c small = record { point = written p; range = record { lo = c; hi = suc c; ordered = omega arith; within = omega (arith, small) } }
 
-from_here : List ℕ → ℕ → Unused → Unused
-from_here p c u = record { point = written p; range = record { lo = c; hi = u.range.hi } }
+from_here : List ℕ → (c : ℕ) (u : Unused) → u.range.lo ≡ suc c → Unused
+from_here p c u next = record { point = written p; range = record { lo = c; hi = u.range.hi; ordered = earlier u.range.ordered; within = u.range.within } }
+  where
+    earlier : u.range.lo < u.range.hi → c < u.range.hi
+    earlier l = omega (arith, l, next)
 
 one_written : (p q : List ℕ) → written p ≡ written q → p ≡ q
 one_written p q e = reverse_same p q (tails_one 0 0 (reverse p) (reverse q) e)
@@ -208,12 +212,12 @@ one_written p q e = reverse_same p q (tails_one 0 0 (reverse p) (reverse q) e)
 one_cell_of : (p q : List ℕ) (c d : ℕ) → place p c ≡ place q d → (p ≡ q) × (c ≡ d)
 one_cell_of p q c d e = (ap (λ (a : Place). a.path) e, ap (λ (a : Place). a.cell) e)
 
-module _ (p : List ℕ) (c : ℕ) (places : List Place) (ahead : (b : Place) → IsIn b places → IsEarlierPlace (place p c) b) where
+module _ (p : List ℕ) (c : ℕ) (places : List Place) (ahead : (b : Place) → IsIn b places → IsEarlierPlace (place p c) b) (small : c < 1048576) where
   -- the first cell of a run is a place behind
   first_cell : (us : List Unused) → AreRuns places us → (u : Unused) → IsIn u us → (q : List ℕ) × (u.point ≡ written q) × IsEarlierPlace (place p c) (place q u.range.lo)
   first_cell us r u i =
       let q = r.points u i in
-      let l = r.some u i in
+      let l = u.range.ordered in
       (q.0, q.1, ahead (place q.0 u.range.lo) (r.only q.0 u.range.lo (record { item = u; listed = i; tells = record { point = q.1; from = omega arith; to = l } })))
 
   told_by_first : (u : Unused) (us : List Unused) (q : List ℕ) (d : ℕ) → Tells u q d → IsTold (u ∷ us) q d
@@ -224,33 +228,28 @@ module _ (p : List ℕ) (c : ℕ) (places : List Place) (ahead : (b : Place) →
 
   -- a run of one cell in front, where no run behind it goes on with the next cell of the task
   module _ (us : List Unused) (r : AreRuns places us) (apart : (v : Unused) → IsIn v us → v.point ≡ written p → suc c < v.range.lo) where
-    ahead_of : (v : Unused) → IsIn v us → IsAhead (one_cell p c) v
+    ahead_of : (v : Unused) → IsIn v us → IsAhead (one_cell p c small) v
     unfolding one_cell
     ahead_of v i = let f = first_cell us r v i in go f.0 f.1 f.2
       where
-        go : (q : List ℕ) → v.point ≡ written q → IsEarlierPlace (place p c) (place q v.range.lo) → IsAhead (one_cell p c) v
+        go : (q : List ℕ) → v.point ≡ written q → IsEarlierPlace (place p c) (place q v.range.lo) → IsAhead (one_cell p c small) v
         go q e (inl h) = inl (subst (λ (xs : List ℕ). IsBefore (written p) xs) (sym e) (same h))
         go q e (inr h) = let f : v.point ≡ written p = e ∙ ap written (sym h.0) in inr (sym f, apart v i f)
 
-    alone_in_front : AreRuns (place p c ∷ places) (one_cell p c ∷ us)
+    alone_in_front : AreRuns (place p c ∷ places) (one_cell p c small ∷ us)
     unfolding one_cell
     alone_in_front = record {
       rises = (ahead_of, r.rises);
       points = λ u i. point_of u (in_cases i);
-      some = λ u i. some_of u (in_cases i);
       only = λ q d t. only_of q d t.item (in_cases t.listed) t.tells;
       all = λ q d i. all_of q d (in_cases i);
     }
       where
-        point_of : (u : Unused) → (u ≡ one_cell p c) ⊎ IsIn u us → (q : List ℕ) × (u.point ≡ written q)
+        point_of : (u : Unused) → (u ≡ one_cell p c small) ⊎ IsIn u us → (q : List ℕ) × (u.point ≡ written q)
         point_of u (inl e) = (p, ap (λ (x : Unused). x.point) e)
         point_of u (inr i) = r.points u i
 
-        some_of : (u : Unused) → (u ≡ one_cell p c) ⊎ IsIn u us → u.range.lo < u.range.hi
-        some_of u (inl e) = subst (λ (x : Unused). x.range.lo < x.range.hi) (sym e) (omega arith)
-        some_of u (inr i) = r.some u i
-
-        only_here : (q : List ℕ) (d : ℕ) → Tells (one_cell p c) q d → IsIn (place q d) (place p c ∷ places)
+        only_here : (q : List ℕ) (d : ℕ) → Tells (one_cell p c small) q d → IsIn (place q d) (place p c ∷ places)
         only_here q d t =
             let e = one_written p q t.point in
             let lo = t.from in
@@ -258,49 +257,44 @@ module _ (p : List ℕ) (c : ℕ) (places : List Place) (ahead : (b : Place) →
             let f : c ≡ d = omega (arith, lo, hi) in
             subst (λ (a : Place). IsIn a (place p c ∷ places)) (λ i. record { path = e i; cell = f i }) here
 
-        only_of : (q : List ℕ) (d : ℕ) (u : Unused) → (u ≡ one_cell p c) ⊎ IsIn u us → Tells u q d → IsIn (place q d) (place p c ∷ places)
+        only_of : (q : List ℕ) (d : ℕ) (u : Unused) → (u ≡ one_cell p c small) ⊎ IsIn u us → Tells u q d → IsIn (place q d) (place p c ∷ places)
         only_of q d u (inl e) t = only_here q d (subst (λ (x : Unused). Tells x q d) e t)
         only_of q d u (inr i) t = there (r.only q d (record { item = u; listed = i; tells = t }))
 
-        all_of : (q : List ℕ) (d : ℕ) → (place q d ≡ place p c) ⊎ IsIn (place q d) places → IsTold (one_cell p c ∷ us) q d
+        all_of : (q : List ℕ) (d : ℕ) → (place q d ≡ place p c) ⊎ IsIn (place q d) places → IsTold (one_cell p c small ∷ us) q d
         all_of q d (inl e) =
             let f = one_cell_of q p d c e in
             let g = f.1 in
-            told_by_first (one_cell p c) us q d (record { point = ap written (sym f.0); from = omega (arith, g); to = omega (arith, g) })
-        all_of q d (inr i) = told_behind (one_cell p c) us q d (r.all q d i)
+            told_by_first (one_cell p c small) us q d (record { point = ap written (sym f.0); from = omega (arith, g); to = omega (arith, g) })
+        all_of q d (inr i) = told_behind (one_cell p c small) us q d (r.all q d i)
 
   -- a run that begins one cell earlier
   module _ (u : Unused) (us : List Unused) (r : AreRuns places (u ∷ us)) (point : u.point ≡ written p) (next : u.range.lo ≡ suc c) where
-    ahead_still : (v : Unused) → IsIn v us → IsAhead (from_here p c u) v
+    ahead_still : (v : Unused) → IsIn v us → IsAhead (from_here p c u next) v
     unfolding from_here
     ahead_still v i = go (r.rises.0 v i)
       where
-        go : IsAhead u v → IsAhead (from_here p c u) v
+        go : IsAhead u v → IsAhead (from_here p c u next) v
         go (inl h) = inl (subst (λ (xs : List ℕ). IsBefore xs v.point) point h)
         go (inr h) = inr (sym point ∙ h.0, h.1)
 
-    longer_in_front : AreRuns (place p c ∷ places) (from_here p c u ∷ us)
+    longer_in_front : AreRuns (place p c ∷ places) (from_here p c u next ∷ us)
     unfolding from_here
     longer_in_front = record {
       rises = (ahead_still, r.rises.1);
       points = λ v i. point_of v (in_cases i);
-      some = λ v i. some_of v (in_cases i);
       only = λ q d t. only_of q d t.item (in_cases t.listed) t.tells;
       all = λ q d i. all_of q d (in_cases i);
     }
       where
-        point_of : (v : Unused) → (v ≡ from_here p c u) ⊎ IsIn v us → (q : List ℕ) × (v.point ≡ written q)
+        point_of : (v : Unused) → (v ≡ from_here p c u next) ⊎ IsIn v us → (q : List ℕ) × (v.point ≡ written q)
         point_of v (inl e) = (p, ap (λ (x : Unused). x.point) e)
         point_of v (inr i) = r.points v (there i)
-
-        some_of : (v : Unused) → (v ≡ from_here p c u) ⊎ IsIn v us → v.range.lo < v.range.hi
-        some_of v (inl e) = let l = r.some u here in subst (λ (x : Unused). x.range.lo < x.range.hi) (sym e) (omega (arith, l, next))
-        some_of v (inr i) = r.some v (there i)
 
         which : (d : ℕ) → c ≤ d → (d ≡ c) ⊎ (suc c ≤ d)
         which d l = grind (arith, l)
 
-        only_here : (q : List ℕ) (d : ℕ) → Tells (from_here p c u) q d → (d ≡ c) ⊎ (suc c ≤ d) → IsIn (place q d) (place p c ∷ places)
+        only_here : (q : List ℕ) (d : ℕ) → Tells (from_here p c u next) q d → (d ≡ c) ⊎ (suc c ≤ d) → IsIn (place q d) (place p c ∷ places)
         only_here q d t (inl f) =
             let e = one_written p q t.point in
             subst (λ (a : Place). IsIn a (place p c ∷ places)) (λ i. record { path = e i; cell = sym f i }) here
@@ -308,28 +302,28 @@ module _ (p : List ℕ) (c : ℕ) (places : List Place) (ahead : (b : Place) →
             let hi = t.to in
             there (r.only q d (record { item = u; listed = here; tells = record { point = point ∙ t.point; from = omega (arith, l, next); to = hi } }))
 
-        only_of : (q : List ℕ) (d : ℕ) (v : Unused) → (v ≡ from_here p c u) ⊎ IsIn v us → Tells v q d → IsIn (place q d) (place p c ∷ places)
+        only_of : (q : List ℕ) (d : ℕ) (v : Unused) → (v ≡ from_here p c u next) ⊎ IsIn v us → Tells v q d → IsIn (place q d) (place p c ∷ places)
         only_of q d v (inl e) t = let k = subst (λ (x : Unused). Tells x q d) e t in only_here q d k (which d k.from)
         only_of q d v (inr i) t = there (r.only q d (record { item = v; listed = there i; tells = t }))
 
-        told_still : (q : List ℕ) (d : ℕ) (v : Unused) → (v ≡ u) ⊎ IsIn v us → Tells v q d → IsTold (from_here p c u ∷ us) q d
+        told_still : (q : List ℕ) (d : ℕ) (v : Unused) → (v ≡ u) ⊎ IsIn v us → Tells v q d → IsTold (from_here p c u next ∷ us) q d
         told_still q d v (inl e) t =
             let k = subst (λ (x : Unused). Tells x q d) e t in
             let lo = k.from in
-            told_by_first (from_here p c u) us q d (record { point = sym point ∙ k.point; from = omega (arith, lo, next); to = k.to })
-        told_still q d v (inr i) t = told_behind (from_here p c u) us q d (record { item = v; listed = i; tells = t })
+            told_by_first (from_here p c u next) us q d (record { point = sym point ∙ k.point; from = omega (arith, lo, next); to = k.to })
+        told_still q d v (inr i) t = told_behind (from_here p c u next) us q d (record { item = v; listed = i; tells = t })
 
-        all_of : (q : List ℕ) (d : ℕ) → (place q d ≡ place p c) ⊎ IsIn (place q d) places → IsTold (from_here p c u ∷ us) q d
+        all_of : (q : List ℕ) (d : ℕ) → (place q d ≡ place p c) ⊎ IsIn (place q d) places → IsTold (from_here p c u next ∷ us) q d
         all_of q d (inl e) =
             let f = one_cell_of q p d c e in
             let g = f.1 in
-            let l = r.some u here in
-            told_by_first (from_here p c u) us q d (record { point = ap written (sym f.0); from = omega (arith, g); to = omega (arith, g, l, next) })
+            let l = u.range.ordered in
+            told_by_first (from_here p c u next) us q d (record { point = ap written (sym f.0); from = omega (arith, g); to = omega (arith, g, l, next) })
         all_of q d (inr i) = let t = r.all q d i in told_still q d t.item (in_cases t.listed) t.tells
 
   -- one of the two
   with_place : (us : List Unused) → AreRuns places us → (vs : List Unused) × AreRuns (place p c ∷ places) vs
-  with_place [] r = (one_cell p c ∷ [], alone_in_front [] r (λ v i e. absurd (in_none i)))
+  with_place [] r = (one_cell p c small ∷ [], alone_in_front [] r (λ v i e. absurd (in_none i)))
   with_place (u ∷ us) r = go (both (is_list u.point (written p)) (is_number u.range.lo (suc c)))
     where
       -- a run of the task behind the first one begins later
@@ -361,7 +355,7 @@ module _ (p : List ℕ) (c : ℕ) (places : List Place) (ahead : (b : Place) →
           by_ahead (inl b) = let k = first_cell (u ∷ us) r u here in absurd (by_point k.0 k.1 k.2 b)
           by_ahead (inr h) =
               let k = first_cell (u ∷ us) r u here in
-              let l = r.some u here in
+              let l = u.range.ordered in
               let m = h.1 in
               let n = behind_here k.0 (sym k.1 ∙ h.0 ∙ f) k.2 in
               omega (arith, l, m, n)
@@ -371,12 +365,12 @@ module _ (p : List ℕ) (c : ℕ) (places : List Place) (ahead : (b : Place) →
               behind_here q e (inr h) = h.1
 
       go : Decided ((u.point ≡ written p) × (u.range.lo ≡ suc c)) → (vs : List Unused) × AreRuns (place p c ∷ places) vs
-      go (inl k) = (from_here p c u ∷ us, longer_in_front u us r k.0 k.1)
-      go (inr none) = (one_cell p c ∷ u ∷ us, alone_in_front (u ∷ us) r (λ v i f. later_runs none v (in_cases i) f))
+      go (inl k) = (from_here p c u k.1 ∷ us, longer_in_front u us r k.0 k.1)
+      go (inr none) = (one_cell p c small ∷ u ∷ us, alone_in_front (u ∷ us) r (λ v i f. later_runs none v (in_cases i) f))
 
-runs_of : (places : List Place) → Sorted IsEarlierPlace places_never places → (us : List Unused) × AreRuns places us
-runs_of [] s = ([], record { rises = tt; points = λ u i. absurd (in_none i); some = λ u i. absurd (in_none i); only = λ q c t. absurd (in_none t.listed); all = λ q c i. absurd (in_none i) })
-runs_of (a ∷ places) s = let r = runs_of places s.1 in with_place a.path a.cell places s.0 r.0 r.1
+runs_of : (places : List Place) → Sorted IsEarlierPlace places_never places → ((a : Place) → IsIn a places → a.cell < 1048576) → (us : List Unused) × AreRuns places us
+runs_of [] s f = ([], record { rises = tt; points = λ u i. absurd (in_none i); only = λ q c t. absurd (in_none t.listed); all = λ q c i. absurd (in_none i) })
+runs_of (a ∷ places) s f = let r = runs_of places s.1 (λ b i. f b (there i)) in with_place a.path a.cell places s.0 (f a here) r.0 r.1
 
 -- What a state tells
 
@@ -394,17 +388,14 @@ module _ {S : Type 0} (P : Asks S) where
   some_act b (v ∷ vs) F d = by_iff forth back (either (d vs) (some_act b vs F d))
     where
       forth : F vs ⊎ SomeAct b vs F → SomeAct b (v ∷ vs) F
-      unfolding SomeAct
       forth (inl f) = (v, vs, whole, f)
       forth (inr h) = (h.0, h.1, longer h.2, h.3)
 
       by_suffix : (answer : ℕ) (past : List ℕ) → (answer ∷ past ≡ v ∷ vs) ⊎ IsSuffix (answer ∷ past) vs → F past → F vs ⊎ SomeAct b vs F
-      unfolding SomeAct
       by_suffix answer past (inl e) f = inl (subst F (tails_one answer v past vs e) f)
       by_suffix answer past (inr h) f = inr (answer, past, h, f)
 
       back : SomeAct b (v ∷ vs) F → F vs ⊎ SomeAct b vs F
-      unfolding SomeAct
       back h = by_suffix h.0 h.1 (suffix_cases (h.0 ∷ h.1) vs v h.2) h.3
 
   module _ (s : State S) where
@@ -418,12 +409,10 @@ module _ {S : Type 0} (P : Asks S) where
     some_done F d (u ∷ ts) = by_iff forth (λ h. back h.0 (in_cases h.1) h.2) (either (some_act u.body.start u.body.found (F u.body.start) (d u.body.start)) (some_done F d ts))
       where
         forth : SomeAct u.body.start u.body.found (F u.body.start) ⊎ SomeDone F ts → SomeDone F (u ∷ ts)
-        unfolding SomeDone
         forth (inl h) = (u, here, h)
         forth (inr h) = (h.0, there h.1, h.2)
 
         back : (t : Task S) → (t ≡ u) ⊎ IsIn t ts → SomeAct t.body.start t.body.found (F t.body.start) → SomeAct u.body.start u.body.found (F u.body.start) ⊎ SomeDone F ts
-        unfolding SomeDone
         back t (inl e) h = inl (subst (λ (x : Task S). SomeAct x.body.start x.body.found (F x.body.start)) e h)
         back t (inr i) h = inr (t, i, h)
 
@@ -434,7 +423,7 @@ module _ {S : Type 0} (P : Asks S) where
     done_of : (F : Start S → List ℕ → Type 0) (e : Event S) → Happened s e → F e.start e.past → SomeDone F (all_tasks P s)
     unfolding SomeDone SomeAct
     done_of F e h f =
-        (h.task, (listed s).all e.start.path h.task h.at_, e.answer, e.past, h.found, subst (λ (b : Start S). F b e.past) (sym h.start) f)
+        (h.task, (listed s).all e.start.path h.task h.at_, (e.answer, e.past, h.found, subst (λ (b : Start S). F b e.past) (sym h.start) f))
 
     TouchedBy : List ℕ → ℕ → Start S → List ℕ → Type 0
     TouchedBy q c b past = TouchOf (stage_act P b past) c × IsSuffix q (acting P b past).path
@@ -514,13 +503,13 @@ module _ {S : Type 0} (P : Asks S) where
 
     -- the unused cells, as runs
     pub some_unused : (us : List Unused) × AreUnused P s us
-    some_unused = (r.0, record { rises = r.1.rises; points = r.1.points; some = r.1.some; only = λ q c t. g.only (place q c) (r.1.only q c t); all = λ q c u. r.1.all q c (listed_place q c u (g.all (place q c) (declared_place q c u.declared))) })
+    some_unused = (r.0, record { rises = r.1.rises; points = r.1.points; some = λ u i. u.range.ordered; only = λ q c t. g.only (place q c) (r.1.only q c t); all = λ q c u. r.1.all q c (listed_place q c u (g.all (place q c) (declared_place q c u.declared))) })
       where
         g : Gathered IsEarlierPlace places_never IsUnusedPlace (λ a b x y. places_compared a b) places_through (λ (a : Place). Unit {0}) (λ (a : Place). IsUnusedPlace a → ⊥) (λ a b. b ≡ a) choose (places_in (all_tasks P s))
         g = gather IsEarlierPlace places_never IsUnusedPlace (λ a b x y. places_compared a b) places_through (λ (a : Place). Unit {0}) (λ (a : Place). IsUnusedPlace a → ⊥) (λ a b. b ≡ a) choose (places_in (all_tasks P s)) (λ a h. tt)
 
         r : (us : List Unused) × AreRuns g.list us
-        r = runs_of g.list g.sorted
+        r = runs_of g.list g.sorted (λ a i. let d = (g.only a i).declared in below_limit d.order.clauses a.cell d.named)
 
         listed_place : (q : List ℕ) (c : ℕ) → IsUnused P s q c → ((b : Place) × IsIn b g.list × (b ≡ place q c)) ⊎ (IsUnusedPlace (place q c) → ⊥) → IsIn (place q c) g.list
         listed_place q c u (inl b) = subst (λ (x : Place). IsIn x g.list) b.2 b.1

@@ -1,11 +1,10 @@
 -- A replay has a reply: each line of a schedule is read or is wrong, and its moves are made one after the other, or one is the first that is not enabled.
 -- Whether a move is enabled, whether one is left and which tasks are complete can be found out.
-use Rattle.std.proofs.Common.{◌≡◌, ℕ, zero, suc, ◌+◌, ◌<◌, ◌⊎◌, inl, inr, refl, sym, subst, ap, ◌∙◌, arith, List, [], ◌∷◌, length, reverse, false, Option, Some, None}
+use Rattle.std.proofs.Common.{◌≡◌, ℕ, zero, suc, ◌+◌, ◌<◌, ◌⊎◌, inl, inr, refl, sym, subst, ap, ◌∙◌, arith, List, [], ◌∷◌, length, reverse, true, false, None}
 use Rattle.std.proofs.lemmas.List.{reverse-reverse}
 use Rattle.oss_syntax.specs.declared.access.Op.{Op}
 use Rattle.oss_syntax.specs.declared.access.Op.TheVariants.{Add, And, Or, Xor}
 use Rattle.oss_syntax.specs.declared.access.Mode.TheVariants.{Fold}
-use Rattle.oss_syntax.specs.declared.tree.program.Program.{Program}
 use Rattle.oss_model.specs.Answers.{IsStopped}
 use Rattle.oss_model.specs.Bodies.{Program as Asks}
 use Rattle.oss_model.specs.Context.{right_of}
@@ -16,9 +15,6 @@ use Rattle.oss_model.specs.Rights.{Holds}
 use Rattle.oss_model.proofs.OrderLemmas.{Compared, after, before, before_trans, compare, equal}
 use Rattle.oss_model.proofs.SortLemmas.{reverse_same}
 use Rattle.oss_model.proofs.TreeLemmas.{at_same, path_found}
-use Rattle.oss_meaning.specs.Expressions.{TreeScript}
-use Rattle.oss_meaning.specs.Meaning.{asks_of}
-use Rattle.oss_meaning.specs.Results.{IsOutcomeOf, Outcome}
 use Rattle.oss_rounds.proofs.DecideLemmas.{Decided, all_tasks, below, both, by_iff, can_join, can_let, can_step, cell_below, for_all, if_not, is_complete, is_there, most_cells, not_there}
 use Rattle.oss_rounds.proofs.GatherLemmas.{Gathered, Sorted, gather, never_both}
 use Rattle.oss_rounds.proofs.SameLemmas.{same_itself}
@@ -36,6 +32,10 @@ use Rattle.oss_sched.specs.declared.told.Told.TheVariants.{Move, Nothing, Wrong}
 use Rattle.oss_sched.proofs.MoveLemmas.{line_tells}
 use Rattle.oss_replay.specs.Replays.{IsEnabled, IsPartOf, IsStuckAt, Leads, Makes, Plays, makes_more, makes_none, parts_in, plays_more, plays_none, point_in, stuck_here, stuck_later}
 use Rattle.oss_replay.proofs.SameLemmas.{makes_one, one_path, part_forth}
+use Rattle.oss_syntax.specs.declared.tree.program.Program.{Program}
+use Rattle.oss_meaning.specs.Expressions.{TreeScript}
+use Rattle.oss_meaning.specs.Meaning.{asks_of}
+use Rattle.oss_meaning.specs.Results.{IsOutcomeOf, Outcome}
 use Rattle.oss_report.specs.Replays.{not_enabled_line, unfinished_line}
 use Rattle.oss_top.specs.Forms.{answer_reply, error_reply}
 use Rattle.oss_top.specs.Replays.{IsReplayReply, beginning}
@@ -148,6 +148,23 @@ module _ {S : Type 0} (P : Asks S) where
     abbrev PartLeads : List ℕ → TextMove → ℕ → Type 0
     PartLeads p move k = ((n : State S) × IsPartOf P p move k s n) ⊎ ((n : State S) → IsPartOf P p move k s n → ⊥)
 
+    -- one of these operators is that of a join that may be made, or none is
+    abbrev JoinFound : List ℕ → Task S → ℕ → List Op → Type 0
+    JoinFound p t c ops = ((op : Op) × CanJoin P s p c op t) ⊎ ((op : Op) → IsIn op ops → CanJoin P s p c op t → ⊥)
+
+    join_found : (p : List ℕ) (t : Task S) → At s p t → (c : ℕ) (ops : List Op) → JoinFound p t c ops
+    join_found p t h c [] = inr (λ op i can. in_none i)
+    join_found p t h c (o ∷ ops) = pick (can_join P s p c o t h) (join_found p t h c ops)
+      where
+        none_of : (CanJoin P s p c o t → ⊥) → ((op : Op) → IsIn op ops → CanJoin P s p c op t → ⊥) → (op : Op) → (op ≡ o) ⊎ IsIn op ops → CanJoin P s p c op t → ⊥
+        none_of first_none rest_none op (inl e) can = first_none (subst (λ (q : Op). CanJoin P s p c q t) e can)
+        none_of first_none rest_none op (inr i) can = rest_none op i can
+
+        pick : Decided (CanJoin P s p c o t) → JoinFound p t c ops → JoinFound p t c (o ∷ ops)
+        pick (inl can) rest = inl (o, can)
+        pick (inr none) (inl found) = inl found
+        pick (inr none) (inr never) = inr (λ op i can. none_of none never op (in_cases i) can)
+
     part_of_task : (p : List ℕ) (t : Task S) → At s p t → (move : TextMove) (k : ℕ) → PartLeads p move k
     part_of_task p t h (Step point count) k = go (can_step P s p t h)
       where
@@ -159,28 +176,9 @@ module _ {S : Type 0} (P : Asks S) where
         go : Decided (CanLet P s p (first + k) t) → PartLeads p (Let point first count) k
         go (inl can) = let n = let_made P s p (first + k) t can in inl (n.0, record { task = t; can = can; let_go = n.1 })
         go (inr none) = inr (λ n i. none (subst (λ (u : Task S). CanLet P s p (first + k) u) (at_same s p i.task t i.can.at_ h) i.can))
-    part_of_task p t h (Join point first count) k = go (by_operator operators)
+    part_of_task p t h (Join point first count) k = go (join_found p t h (first + k) operators)
       where
-        JoinFound : List Op → Type 0
-        JoinFound ops = ((op : Op) × CanJoin P s p (first + k) op t) ⊎ ((op : Op) → IsIn op ops → CanJoin P s p (first + k) op t → ⊥)
-
-        by_operator : (ops : List Op) → JoinFound ops
-        unfolding JoinFound
-        by_operator [] = inr (λ op i can. in_none i)
-        by_operator (o ∷ ops) = pick (can_join P s p (first + k) o t h) (by_operator ops)
-          where
-            none_of : (CanJoin P s p (first + k) o t → ⊥) → ((op : Op) → IsIn op ops → CanJoin P s p (first + k) op t → ⊥) → (op : Op) → (op ≡ o) ⊎ IsIn op ops → CanJoin P s p (first + k) op t → ⊥
-            none_of here_none rest_none op (inl e) can = here_none (subst (λ (q : Op). CanJoin P s p (first + k) q t) e can)
-            none_of here_none rest_none op (inr i) can = rest_none op i can
-
-            pick : Decided (CanJoin P s p (first + k) o t) → JoinFound ops → JoinFound (o ∷ ops)
-            unfolding JoinFound
-            pick (inl can) rest = inl (o, can)
-            pick (inr none) (inl found) = inl found
-            pick (inr none) (inr never) = inr (λ op i can. none_of none never op (in_cases i) can)
-
-        go : JoinFound operators → PartLeads p (Join point first count) k
-        unfolding JoinFound
+        go : JoinFound p t (first + k) operators → PartLeads p (Join point first count) k
         go (inl found) = let n = join_made P s p (first + k) found.0 t found.1 in inl (n.0, record { op = found.0; task = t; can = found.1; joined = n.1 })
         go (inr never) = inr (λ n i. never i.op (is_operator i.op) (subst (λ (u : Task S). CanJoin P s p (first + k) i.op u) (at_same s p i.task t i.can.at_ h) i.can))
 
