@@ -518,17 +518,21 @@ module _ {S : Type 0} (P : Asks S) where
 -- so an audit has a reply
 pub audit_reply : (fuel : ℕ) (p : Program) → (o : Outcome) × IsOutcomeOf p.items fuel o → (reply : Reply) × IsAuditReply fuel p reply
 audit_reply fuel p (o, outcome_ends {z = z} run end over) =
-    let us = some_unused (asks_of p.items) z.state in
-    (told_reply (audit_text us.0) (answers.Done z.printed z.state.cells), record {
-      answer = answers.Done z.printed z.state.cells;
-      text = audit_text us.0;
-      audited = record { unused = us.0; audited = ends run end over us.1; text_is = refl };
-      is_reply = refl;
-    })
-audit_reply fuel p (o, outcome_fails {z = z} {kind = kind} {line = line} run end at) =
-    (told_reply (audit_text []) (answers.Fault kind line z.printed), record {
-      answer = answers.Fault kind line z.printed;
-      text = audit_text [];
-      audited = record { unused = []; audited = fails (outcome_fails run end at) refl; text_is = refl };
-      is_reply = refl;
-    })
+    let us = some_unused (asks_of p.items) z.state in (
+      told_reply (audit_text us.0) (answers.Done z.printed z.state.cells),
+      record {
+        answer = answers.Done z.printed z.state.cells;
+        text = audit_text us.0;
+        audited = record { unused = us.0; audited = ends run end over us.1; text_is = refl };
+        is_reply = refl;
+      },
+    )
+audit_reply fuel p (o, outcome_fails {z = z} {kind = kind} {line = line} run end at) = (
+  told_reply (audit_text []) (answers.Fault kind line z.printed),
+  record {
+    answer = answers.Fault kind line z.printed;
+    text = audit_text [];
+    audited = record { unused = []; audited = fails (outcome_fails run end at) refl; text_is = refl };
+    is_reply = refl;
+  },
+)
