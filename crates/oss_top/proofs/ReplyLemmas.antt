@@ -31,7 +31,7 @@ use Rattle.oss_report.specs.Replays.{schedule_line}
 use Rattle.oss_top.specs.Audits.{IsAuditReply}
 use Rattle.oss_top.specs.Spans.{IsSpanReply}
 use Rattle.oss_top.specs.Forms.{answer_reply, error_reply, soak_reply, told_reply, trace_reply}
-use Rattle.oss_top.specs.OneReply.{IsOfOneReply, IsReplied, IsRepliedOnce}
+use Rattle.oss_top.specs.OneReply.{IsOfOneText, IsReplied, IsRepliedOnce}
 use Rattle.oss_top.specs.ProgramTexts.{Accepts, Refuses}
 use Rattle.oss_top.specs.ProgramTexts.Refuses.{by_grammar, by_rules}
 use Rattle.oss_top.proofs.ReplayLemmas.{replay_once}
@@ -93,7 +93,7 @@ span_alike fuel p reply other x y =
     let (same, _, _) = spans_agree TreeScript (asks_of p.items) (main_of p.items fuel) (first_cells p.items) x.answer y.answer x.told.work y.told.work x.told.span y.told.span x.told.chain y.told.chain x.told.spanned y.told.spanned in
     ap (λ (r : Reply). r.status) x.is_reply ∙ ap (λ (a : Answer). (told_reply x.text a).status) same ∙ told_status y.answer x.text y.text ∙ ap (λ (r : Reply). r.status) (sym y.is_reply)
 
-program_once : (c : Command) → IsOfOneReply c → (p : Program) (reply other : Reply) → IsProgramReply c p reply → IsProgramReply c p other → reply ≡ other
+program_once : (c : Command) → IsOfOneText c → (p : Program) (reply other : Reply) → IsProgramReply c p reply → IsProgramReply c p other → reply ≡ other
 program_once c of p reply other (checked x) (checked y) = x ∙ sym y
 program_once c of p reply other (ran {options} x) (ran y) = run_once options p reply other x y
 program_once c of p reply other (traced {options} x) (traced y) = trace_once options.fuel p reply other x y

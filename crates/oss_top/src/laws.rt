@@ -3,7 +3,7 @@
 ghost use Rattle.oss_top.specs.EveryOrder.{IsRunInEveryOrder};
 ghost use Rattle.oss_top.specs.OneReply.{IsReplied, IsRepliedOnce};
 
-/// A law, with nothing to run: a text has one reply to a check, to a run, to a trace and, as the text that a soak makes, to a soak, and no other. So status, output and error
+/// A law, with nothing to run: a text has one reply to a check, to a run, to a trace, to an audit and, as the text that a soak makes, to a soak, and no other. So status, output and error
 /// output of each of these are settled by the text.
 pub fn a_text_has_one_reply(text: &[u8])
     ensures { IsReplied text.now }
