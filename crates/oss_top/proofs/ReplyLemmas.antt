@@ -22,7 +22,6 @@ use Rattle.oss_rounds.proofs.OneRunLemmas.{one_trace}
 use Rattle.oss_lower.proofs.OutcomeLaws.{outcomes_are_one}
 use Rattle.oss_model.specs.declared.answer.Answer.{Answer}
 use Rattle.oss_model.specs.declared.answer.Answer.TheVariants.{Done, Fault}
-use Rattle.oss_meaning.specs.Results.IsOutcome.{ends as outcome_ends}
 use Rattle.oss_audit.specs.Lines.{audit_text}
 use Rattle.oss_audited.proofs.OneAudit.{audits_are_one}
 use Rattle.oss_spanned.proofs.SpanMoves.{spans_agree}

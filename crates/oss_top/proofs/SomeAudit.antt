@@ -1,20 +1,18 @@
 -- An audit has a reply: whether a task has declared a cell, and whether it has touched it, can be found out of the tasks at the end of a run, and the cells that are
 -- declared and not touched can be put in order and joined to runs.
-use Rattle.std.proofs.Common.{◌≡◌, ◌≢◌, ℕ, zero, suc, ◌+◌, ◌<◌, ◌≤◌, ◌⊎◌, inl, inr, refl, sym, subst, ap, ◌∙◌, arith, List, [], ◌∷◌, ◌++◌, length, reverse, Bool, true, false}
+use Rattle.std.proofs.Common.{◌≡◌, ◌≢◌, ℕ, zero, suc, ◌+◌, ◌<◌, ◌≤◌, ◌⊎◌, inl, inr, refl, sym, subst, ap, ◌∙◌, arith, List, [], ◌∷◌, ◌++◌, reverse, Bool, true, false}
 use Rattle.std.proofs.lemmas.Bool.Decides.{nat_tests}
 use Rattle.oss_syntax.specs.declared.access.Access.{Access}
 use Rattle.oss_syntax.specs.declared.access.Op.{Op}
-use Rattle.oss_syntax.specs.declared.access.Range.{Range}
 use Rattle.oss_model.specs.Bodies.{Act, Order, Program as Asks, Start, Touches, folded, load, stage_act, store}
 use Rattle.oss_model.specs.Bodies.Act.{Awaited, Created, Ended, Fault, Folded, Load, Over, Printed, Releases, Store, Ticked, Waited, WaitedOn}
 use Rattle.oss_model.specs.Context.{in_clauses}
-use Rattle.oss_model.specs.Machine.{Task, State, At}
+use Rattle.oss_model.specs.Machine.{Task, State}
 use Rattle.oss_model.specs.Memory.{Event, Happened}
 use Rattle.oss_model.specs.Order.{IsBefore, IsIn, IsSuffix, here, longer, same, there, whole, written}
 use Rattle.oss_model.specs.Rights.{Touch, in_access}
-use Rattle.oss_model.proofs.OrderLemmas.{before_not, before_trans}
+use Rattle.oss_model.proofs.OrderLemmas.{before_not}
 use Rattle.oss_model.proofs.SortLemmas.{reverse_same}
-use Rattle.oss_model.proofs.TreeLemmas.{at_same, path_found}
 use Rattle.oss_rounds.specs.Passes.{IsEarlierPlace, Place}
 use Rattle.oss_rounds.proofs.DecideLemmas.{Decided, all_tasks, both, by_iff, either, if_not, is_number}
 use Rattle.oss_rounds.proofs.GatherLemmas.{Gathered, Sorted, gather, never_both, places_compared, places_never, places_through}
@@ -22,9 +20,8 @@ use Rattle.oss_rounds.proofs.SumLemmas.{in_cases, in_none, listed}
 use Rattle.oss_audit.specs.Unused.{AreUnused, HasDeclared, HasTouched, IsAhead, IsTold, IsUnused, Rises, Tells, acting}
 use Rattle.oss_audit.specs.declared.unused.Unused.{Unused}
 use Rattle.oss_syntax.specs.declared.tree.program.Program.{Program}
-use Rattle.oss_meaning.specs.Expressions.{TreeScript}
 use Rattle.oss_meaning.specs.Meaning.{asks_of}
-use Rattle.oss_meaning.specs.Results.{IsOutcomeOf, Outcome, first_cells, main_of}
+use Rattle.oss_meaning.specs.Results.{IsOutcomeOf, Outcome}
 use Rattle.oss_meaning.specs.Results.IsOutcome.{ends as outcome_ends, fails as outcome_fails}
 use Rattle.oss_audit.specs.Lines.{audit_text}
 use Rattle.oss_audit.specs.Unused.IsAudited.{ends, fails}

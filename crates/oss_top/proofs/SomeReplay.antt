@@ -7,11 +7,9 @@ use Rattle.oss_syntax.specs.declared.access.Op.TheVariants.{Add, And, Or, Xor}
 use Rattle.oss_syntax.specs.declared.access.Mode.TheVariants.{Fold}
 use Rattle.oss_model.specs.Answers.{IsStopped}
 use Rattle.oss_model.specs.Bodies.{Program as Asks}
-use Rattle.oss_model.specs.Context.{right_of}
 use Rattle.oss_model.specs.Machine.{Task, State, At, find, IsComplete}
 use Rattle.oss_model.specs.Moves.{CanJoin, CanLet, CanStep, a_join, a_let, a_step}
 use Rattle.oss_model.specs.Order.{IsBefore, IsIn, here, there, written}
-use Rattle.oss_model.specs.Rights.{Holds}
 use Rattle.oss_model.proofs.OrderLemmas.{Compared, after, before, before_trans, compare, equal}
 use Rattle.oss_model.proofs.SortLemmas.{reverse_same}
 use Rattle.oss_model.proofs.TreeLemmas.{at_same, path_found}
