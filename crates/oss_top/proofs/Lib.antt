@@ -7,3 +7,5 @@ pub mod ReplayLemmas
 pub mod ReplyLemmas
 pub mod RunLemmas
 pub mod SomeReply
+pub mod SomeReplay
+pub mod SomeAudit

@@ -22,7 +22,6 @@ use Rattle.oss_rounds.proofs.OneRunLemmas.{one_trace}
 use Rattle.oss_lower.proofs.OutcomeLaws.{outcomes_are_one}
 use Rattle.oss_model.specs.declared.answer.Answer.{Answer}
 use Rattle.oss_model.specs.declared.answer.Answer.TheVariants.{Done, Fault}
-use Rattle.oss_meaning.specs.Results.IsOutcome.{ends as outcome_ends}
 use Rattle.oss_audit.specs.Lines.{audit_text}
 use Rattle.oss_audited.proofs.OneAudit.{audits_are_one}
 use Rattle.oss_spanned.proofs.SpanMoves.{spans_agree}
@@ -31,11 +30,11 @@ use Rattle.oss_report.specs.Replays.{schedule_line}
 use Rattle.oss_top.specs.Audits.{IsAuditReply}
 use Rattle.oss_top.specs.Spans.{IsSpanReply}
 use Rattle.oss_top.specs.Forms.{answer_reply, error_reply, soak_reply, told_reply, trace_reply}
-use Rattle.oss_top.specs.OneReply.{IsOfOneReply, IsReplied, IsRepliedOnce}
+use Rattle.oss_top.specs.OneReply.{IsOfOneText, IsReplied, IsRepliedOnce}
 use Rattle.oss_top.specs.ProgramTexts.{Accepts, Refuses}
 use Rattle.oss_top.specs.ProgramTexts.Refuses.{by_grammar, by_rules}
 use Rattle.oss_top.proofs.ReplayLemmas.{replay_once}
-use Rattle.oss_top.proofs.SomeReply.{file_reply}
+use Rattle.oss_top.proofs.SomeReply.{file_reply, files_reply}
 use Rattle.oss_top.specs.Replays.{IsFilesReply, IsReplayReply, IsScheduleReply, IsTextsReply}
 use Rattle.oss_top.specs.Replays.IsScheduleReply.{replayed, wrong_line}
 use Rattle.oss_top.specs.Replays.IsTextsReply.{accepted as texts_accepted, refused_text as texts_refused}
@@ -93,7 +92,7 @@ span_alike fuel p reply other x y =
     let (same, _, _) = spans_agree TreeScript (asks_of p.items) (main_of p.items fuel) (first_cells p.items) x.answer y.answer x.told.work y.told.work x.told.span y.told.span x.told.chain y.told.chain x.told.spanned y.told.spanned in
     ap (λ (r : Reply). r.status) x.is_reply ∙ ap (λ (a : Answer). (told_reply x.text a).status) same ∙ told_status y.answer x.text y.text ∙ ap (λ (r : Reply). r.status) (sym y.is_reply)
 
-program_once : (c : Command) → IsOfOneReply c → (p : Program) (reply other : Reply) → IsProgramReply c p reply → IsProgramReply c p other → reply ≡ other
+program_once : (c : Command) → IsOfOneText c → (p : Program) (reply other : Reply) → IsProgramReply c p reply → IsProgramReply c p other → reply ≡ other
 program_once c of p reply other (checked x) (checked y) = x ∙ sym y
 program_once c of p reply other (ran {options} x) (ran y) = run_once options p reply other x y
 program_once c of p reply other (traced {options} x) (traced y) = trace_once options.fuel p reply other x y
@@ -183,7 +182,7 @@ file_alike : (text : List ℕ) (c : Command) (reply other : Reply) → IsFileRep
 file_alike text c = file_once text (parsed_once text) status_of c (program_alike c)
 
 pub replied_once : (text schedule : List ℕ) → IsRepliedOnce text schedule
-replied_once text schedule = record { one = files_once text schedule (parsed_once text) }
+replied_once text schedule = record { some = λ fuel. files_reply fuel text schedule; one = files_once text schedule (parsed_once text) }
 
 command_alike : (c : Command) (texts : Texts) (reply other : Reply) → IsCommandReply c texts reply → IsCommandReply c texts other → status_of reply ≡ status_of other
 command_alike (run file options) texts reply other x y = file_alike texts.file (run file options) reply other x y

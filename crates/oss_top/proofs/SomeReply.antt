@@ -1,4 +1,5 @@
--- A text has a reply to a check and to a run: its tokens or a first fault, a program or a refusal by the grammar, and its static rules.
+-- A text has a reply to a check and to a run: its tokens or a first fault, a program or a refusal by the grammar, and its static rules. Two texts have one to a replay: lines that are read or
+-- a first wrong one, and what comes of the moves.
 use Rattle.std.proofs.Common.{◌≡◌, ℕ, zero, suc, ◌+◌, ◌≤◌, ◌<◌, nat_lt, Bool, true, false, List, [], ◌∷◌, length, Result, Ok, Err, refl, ap, arith, ◌⊎◌, inl, inr}
 use Rattle.std.proofs.lemmas.Bool.Decides.{nat_tests}
 use Rattle.oss_syntax.specs.declared.token.Token.{Token}
@@ -38,12 +39,20 @@ use Rattle.oss_top.specs.ProgramTexts.{Accepts, Refuses}
 use Rattle.oss_top.specs.ProgramTexts.Refuses.{by_grammar, by_rules}
 use Rattle.oss_top.specs.Forms.{accepted_line, answer_reply, done_reply, error_reply, most_bytes, soak_reply, too_large_line, trace_reply}
 use Rattle.oss_top.specs.Reply.{IsFileReply, IsTextReply, IsProgramReply}
-use Rattle.oss_top.specs.Reply.IsProgramReply.{checked, ran, soaked, traced}
+use Rattle.oss_top.specs.Reply.IsProgramReply.{audited, checked, ran, soaked, traced}
 use Rattle.oss_top.specs.Traces.{IsTraceOf, text_of}
 use Rattle.oss_rounds.specs.Rounds.{Trace}
 use Rattle.oss_top.specs.Reply.IsTextReply.{accepted, refused_text}
 use Rattle.oss_top.specs.Reply.IsFileReply.{too_large, fits}
+use Rattle.oss_top.specs.Replays.{IsFilesReply, IsScheduleReply, IsTextsReply, most_schedule}
+use Rattle.oss_top.specs.Replays.IsScheduleReply.{replayed, wrong_line}
+use Rattle.oss_top.specs.Replays.IsTextsReply.{accepted as texts_accepted, refused_text as texts_refused}
+use Rattle.oss_top.specs.Replays.IsFilesReply.{fit, too_large as files_too_large, too_long}
 use Rattle.oss_top.specs.declared.reply.Reply.{Reply}
+use Rattle.oss_top.proofs.SomeAudit.{audit_reply}
+use Rattle.oss_top.proofs.SomeReplay.{LinesRead, lines_read, replay_reply}
+use Rattle.oss_sched.specs.Schedules.{lines_of}
+use Rattle.oss_report.specs.Replays.{schedule_line}
 use Rattle.oss_top.specs.declared.status.Status.TheVariants as status
 
 -- the tokens of a text from a place on, or the first fault there
@@ -94,7 +103,7 @@ some_trace text p a fuel =
 program_reply : (c : Command) → IsOfOneText c → (text : List ℕ) (p : Program) → Accepts text p → (reply : Reply) × IsProgramReply c (program_written p) reply
 program_reply (check file) of text p a = (done_reply accepted_line, checked refl)
 program_reply (replay file schedule fuel) of text p a = absurd of
-program_reply (audit file fuel) of text p a = absurd of
+program_reply (audit file fuel) of text p a = let (reply, is) = audit_reply fuel (program_written p) (some_outcome text p a fuel) in (reply, audited is)
 program_reply (span file fuel) of text p a = absurd of
 program_reply (run file options) of text p a =
     let (o, is) = some_outcome text p a options.fuel in
@@ -128,3 +137,32 @@ file_reply text c of = on (nat_lt most_bytes (length text)) refl where
   on : (b : Bool) → nat_lt most_bytes (length text) ≡ b → (reply : Reply) × IsFileReply c text reply
   on true e = (error_reply status.TextRefused too_large_line, too_large (grind (arith, nat_tests)) refl)
   on false e = let (reply, is) = text_reply c of text in (reply, fits (grind (arith, nat_tests)) is)
+
+schedule_reply : (text : List ℕ) (p : Program) → Accepts text p → (fuel : ℕ) (schedule : List ℕ) → (reply : Reply) × IsScheduleReply (program_written p) fuel schedule reply
+schedule_reply text p a fuel schedule = from (lines_read (lines_of schedule) 1) where
+  from : LinesRead (lines_of schedule) 1 → (reply : Reply) × IsScheduleReply (program_written p) fuel schedule reply
+  from (inl (moves, is)) = let (reply, replies) = replay_reply (program_written p) fuel (some_outcome text p a fuel) moves in (reply, replayed moves is replies)
+  from (inr (at, is)) = (error_reply status.TextRefused (schedule_line at), wrong_line at is refl)
+
+texts_reply : (fuel : ℕ) (text schedule : List ℕ) → (reply : Reply) × IsTextsReply fuel text schedule reply
+texts_reply fuel text schedule = from (some_parse text) where
+  refused : (r : Refused) → Refuses text r → (reply : Reply) × IsTextsReply fuel text schedule reply
+  refused r w = (error_reply status.TextRefused (refusal_line r.kind r.line), texts_refused r w refl)
+
+  ruled : (p : Program) → IsProgramText text p → (rules : List Refused) → program_rules p ≡ rules → (reply : Reply) × IsTextsReply fuel text schedule reply
+  ruled p w [] e =
+      let accepts : Accepts text p = record { is_text = w; obeys = e } in
+      let (reply, is) = schedule_reply text p accepts fuel schedule in
+      (reply, texts_accepted p accepts is)
+  ruled p w (r ∷ rest) e = refused r (by_rules p w (ap first e))
+
+  from : Parse text → (reply : Reply) × IsTextsReply fuel text schedule reply
+  from (inl (p, w)) = ruled p w (program_rules p) refl
+  from (inr (r, w)) = refused r (by_grammar w)
+
+pub files_reply : (fuel : ℕ) (text schedule : List ℕ) → (reply : Reply) × IsFilesReply fuel text schedule reply
+files_reply fuel text schedule = on (nat_lt most_bytes (length text)) (nat_lt most_schedule (length schedule)) refl refl where
+  on : (b c : Bool) → nat_lt most_bytes (length text) ≡ b → nat_lt most_schedule (length schedule) ≡ c → (reply : Reply) × IsFilesReply fuel text schedule reply
+  on true c e f = (error_reply status.TextRefused too_large_line, files_too_large (grind (arith, nat_tests)) refl)
+  on false true e f = (error_reply status.TextRefused (schedule_line 1), too_long (grind (arith, nat_tests)) (grind (arith, nat_tests)) refl)
+  on false false e f = let (reply, is) = texts_reply fuel text schedule in (reply, fit (grind (arith, nat_tests)) (grind (arith, nat_tests)) is)

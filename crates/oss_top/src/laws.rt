@@ -3,13 +3,13 @@
 ghost use Rattle.oss_top.specs.EveryOrder.{IsRunInEveryOrder};
 ghost use Rattle.oss_top.specs.OneReply.{IsReplied, IsRepliedOnce};
 
-/// A law, with nothing to run: a text has one reply to a check, to a run, to a trace and, as the text that a soak makes, to a soak, and no other. So status, output and error
+/// A law, with nothing to run: a text has one reply to a check, to a run, to a trace, to an audit and, as the text that a soak makes, to a soak, and no other. So status, output and error
 /// output of each of these are settled by the text.
 pub fn a_text_has_one_reply(text: &[u8])
     ensures { IsReplied text.now }
 {}
 
-/// A law, with nothing to run: the texts of a program and of a schedule have one reply to a replay at most. So status, output and error output of a replay
+/// A law, with nothing to run: the texts of a program and of a schedule have one reply to a replay, and no other. So status, output and error output of a replay
 /// are settled by the texts and the fuel.
 pub fn a_replay_has_one_reply(text: &[u8], schedule: &[u8])
     ensures { IsRepliedOnce text.now schedule.now }
