@@ -1,8 +1,8 @@
 #!/bin/sh
 # Tries the wrong bodies of wrong/, which the gate does not try: each is to be refused. A wrong body of crate NAME is a file wrong/NAME/*.edit, written as those of
 # crates/NAME/must-fail/.
-#   tests/wrong.sh NAME..   tries those of these crates, in a copy, by `rt must-fail`, which begins with what `rt check` and `rt lib` keep on this machine
-#   tests/wrong.sh          the same of all crates; over what the gate has kept, if `rt ci` has passed here, by `rt ci NAME..` in the copy
+#   tests/wrong.sh NAME..   tries those of these crates, in a copy, by `rt ci NAME..`: over what the gate has proved on this machine, if it has
+#   tests/wrong.sh          the same of all crates
 #   tests/wrong.sh --fit    proves nothing: whether each wrong body of wrong/ and of must-fail/ fits: each text that it changes stands once in its file
 # What comes of each is kept by rt on this machine, so what has not changed is tried once. The last line counts; the status is 0 only where each was refused, or
 # fits.
@@ -86,10 +86,7 @@ if [ "${1:-}" = --fit ]; then
   exit
 fi
 
-if [ $# -gt 0 ]; then
-  by=must-fail
-else
-  by=ci
+if [ $# = 0 ]; then
   for folder in wrong/*/; do
     set -- "$@" "$(basename -- "$folder")"
   done
@@ -111,7 +108,7 @@ trap 'rm -rf "$work"' EXIT
 trap 'exit 130' INT
 trap 'exit 143' TERM
 copy_to "$work" "$@" || exit 1
-(cd "$work" && rt "$by" "$@") >"$work/said" 2>&1
+(cd "$work" && rt ci "$@") >"$work/said" 2>&1
 status=$?
 grep 'must-fail ' "$work/said" | sed 's/^rt: must-fail //'
 refused=$(grep -c ': refused, as it must be' "$work/said")
