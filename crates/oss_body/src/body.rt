@@ -136,8 +136,8 @@ impl Body {
             &mut key,
         )?;
         self.own.keep(&self.act);
-        self.act = act;
-        self.key = key;
+        drop(mem::replace(&mut self.act, act));
+        drop(mem::replace(&mut self.key, key));
         self.begun = true;
         Ok(())
     }

@@ -177,8 +177,13 @@ pub(crate) fn reach_behind(
 {
     look_behind(machine, code, act, loaded)?;
     let draft = reach(alloc, code, machine, place, own, included, ahead)?;
-    place.apply(act)?;
-    Ok(draft)
+    match place.apply(act) {
+        Ok(()) => Ok(draft),
+        Err(full) => {
+            drop(draft);
+            Err(full)
+        }
+    }
 }
 
 /// Makes the key at which the task will act once it has created so many, where it is not kept yet.

@@ -17,6 +17,7 @@ use oss_code::Code;
 use oss_judge::Context;
 use oss_model::Point;
 use std::alloc::{AllocError, Global};
+use std::mem;
 
 /// The tasks of a body: the one that acts, and below it those that include it, the body's own first.
 pub(crate) struct Tasks {
@@ -169,16 +170,23 @@ impl Tasks {
         ensures err { OnErr result (self.new ≡ self.old) }
     {
         let mut child = self.top.child(alloc, code, creation)?;
-        *key = None;
+        drop(mem::replace(key, None));
         let act = child.next(alloc, code, own, true, key)?;
-        self.below.push(child)?;
-        match self.top.include(code, creation) {
-            Ok(()) => {
-                self.below.exchange(&mut self.top);
-                Ok(act)
-            }
+        match self.below.push(child) {
+            Ok(()) => match self.top.include(code, creation) {
+                Ok(()) => {
+                    self.below.exchange(&mut self.top);
+                    Ok(act)
+                }
+                Err(full) => {
+                    drop(act);
+                    let child = self.below.pop();
+                    drop(child);
+                    Err(full)
+                }
+            },
             Err(full) => {
-                let _child = self.below.pop();
+                drop(act);
                 Err(full)
             }
         }
