@@ -61,14 +61,10 @@ impl Line {
         ensures main { IfOk result (λ l. l.hangs ≡ no_hang ∷ []) }
         ensures rest { IfOk result (λ l. l.head ≡ 0) }
     {
-        let mut hangs = Vec::new(alloc);
-        let mut stand = Vec::new(alloc);
-        let mut posted = Vec::new(alloc);
-        let mut behind: Vec<usize> = Vec::new(alloc);
-        hangs.push(no_hang())?;
-        stand.push(main_marks())?;
-        posted.push(no_marks())?;
-        behind.push(0)?;
+        let hangs = of_one(alloc, no_hang())?;
+        let stand = of_one(alloc, main_marks())?;
+        let posted = of_one(alloc, no_marks())?;
+        let behind: Vec<usize> = of_one(alloc, 0)?;
         Ok(Line {
             hangs,
             stand,
@@ -211,4 +207,13 @@ impl Line {
             head: self.head,
         })
     }
+}
+
+/// A table with one row.
+fn of_one<T: Copy>(alloc: Global, first: T) -> Result<Vec<T>, AllocError>
+    ensures { IfOk result (λ table. table.items ≡ first ∷ []) }
+{
+    let mut table = Vec::new(alloc);
+    table.push(first)?;
+    Ok(table)
 }

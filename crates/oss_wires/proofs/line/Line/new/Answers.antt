@@ -3,4 +3,4 @@ use Rattle.oss_wires.proofs.line.Line.new.Goals as goal
 
 pub invariant_of-result : goal.invariant_of-result
 invariant_of-result c =
-    rw (c.in_ok-push.ensures.items, c.in_ok-push-2.ensures.items, c.in_ok-push-3.ensures.items, c.in_ok-push-4.ensures.items, c.new-hangs.ensures.items, c.new-stand.ensures.items, c.new-posted.ensures.items, c.new-behind.ensures.items, c.no_hang.ensures, c.main_marks.ensures, c.no_marks.ensures) start_tables
+    rw (c.in_ok-hangs.ensures, c.in_ok-stand.ensures, c.in_ok-posted.ensures, c.in_ok-behind.ensures, c.no_hang.ensures, c.main_marks.ensures, c.no_marks.ensures) start_tables
