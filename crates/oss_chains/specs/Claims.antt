@@ -10,10 +10,11 @@ use Rattle.oss_model.specs.Moves.{act_now}
 use Rattle.oss_model.specs.History.{IsMade}
 use Rattle.oss_model.specs.Agreement.{MainStarts}
 use Rattle.oss_model.specs.Sequence.{Running, Sequential, IsAtEnd}
-use Rattle.oss_chains.specs.Chains.{Best, Settled, IsMost}
+use Rattle.oss_chains.specs.Chains.{Settled}
 use Rattle.oss_chains.specs.Named.{WriteNames, ReadNames}
-use Rattle.oss_chains.specs.Happenings.{Happening, WaitsFor, IsHappening}
+use Rattle.oss_chains.specs.Happenings.{Happening, WaitsFor}
 use Rattle.oss_chains.specs.Places.{InOrder}
+use Rattle.oss_chains.specs.Runs.{IsLongestBy}
 
 -- No way back through what waits for what goes on for ever.
 abbrev pub EveryWayBackEnds : Type 0 → Type 0
@@ -23,10 +24,10 @@ EveryWayBackEnds S = (P : Program S) (main : Start S) (s : State S) (e : Happeni
 abbrev pub WhatIsWaitedForStandsBefore : Type 0 → Type 0
 WhatIsWaitedForStandsBefore S = (P : Program S) (main : Start S) (s : State S) (e f : Happening) → IsMade P main s → WaitsFor P s e f → InOrder P s e f
 
--- A run to the end has a longest chain, however ticks are told. (One pass over it finds it.)
+-- A run to the end has a longest chain of events, however ticks are told.
 abbrev pub EveryRunHasASpan : Type 0 → Type 0
 EveryRunHasASpan S = (P : Program S) (main : Start S) (cells : List ℕ) (z : Running S) (end : IsAtEnd P z) (weight : Happening → ℕ)
-    → MainStarts main → Sequential P main cells z → act_now P end.task.body ≡ Over → (b : Best Happening) × IsMost (WaitsFor P z.state) weight (IsHappening P z.state) b
+    → MainStarts main → Sequential P main cells z → act_now P end.task.body ≡ Over → (chain : List Happening) × IsLongestBy P z.state weight chain
 
 -- The first act of a task with this context waits for nothing that is not given up.
 pub record NamesGiven {S : Type 0} (s : State S) (p : List ℕ) (x : Context) : Type 0 where

@@ -5,7 +5,7 @@
 -- one of its acts is told there by the numbers of the children that it had created.
 -- Read against: a task that writes x and one that reads it, where the second one's first act waits for the first
 -- one's giving of x, that for the first one's end, and both first acts for main's creations.
-use Rattle.std.specs.Prelude.{◌≡◌, ℕ, suc, ◌<◌, Bool, true, false, List, [], ◌∷◌, length}
+use Rattle.std.specs.Prelude.{◌≡◌, ℕ, suc, ◌<◌, ◌-◌, ◌^◌, Bool, true, false, List, [], ◌∷◌, length}
 use Rattle.oss_syntax.specs.declared.access.Access.{Access}
 use Rattle.oss_syntax.specs.declared.access.Op.{Op}
 use Rattle.oss_syntax.specs.declared.access.Mode.TheVariants.{Read, Write, Fold}
@@ -97,6 +97,16 @@ abbrev pub IsHappening : {S : Type 0} → Program S → State S → Happening �
 IsHappening P s (Acting p n) = (k : ℕ) × (a : Act _) × Does P s p n k a
 IsHappening P s (Giving [] c) = ⊥
 IsHappening P s (Giving (k ∷ p) c) = HasAccess s c (k ∷ p)
+
+-- An act that numbers of 64 bits can tell, with how many acts there are up to it; or a cell that is given up.
+abbrev pub IsNumbered : Happening → Type 0
+IsNumbered (Acting p n) = n < 2 ^ 64 - 1
+IsNumbered (Giving p c) = Unit {0}
+
+-- It is an event of the program: it happens, and is numbered. An act whose number is 18,446,744,073,709,551,615 or more is none.
+pub record IsEvent {S : Type 0} (P : Program S) (s : State S) (e : Happening) : Type 0 where
+  pub happens : IsHappening P s e
+  pub numbered : IsNumbered e
 
 -- Only an act that is a tick has a tick.
 abbrev pub tick_of : {S : Type 0} → Act S → ℕ

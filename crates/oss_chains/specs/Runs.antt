@@ -8,7 +8,7 @@ use Rattle.oss_model.specs.Moves.{act_now, opening}
 use Rattle.oss_model.specs.Order.{IsIn}
 use Rattle.oss_model.specs.Sequence.{Running, RunsOn}
 use Rattle.oss_chains.specs.Chains.{IsChain, ticks_in}
-use Rattle.oss_chains.specs.Happenings.{Happening, Acting, Giving, IsHappening, WaitsFor, tick_of}
+use Rattle.oss_chains.specs.Happenings.{Happening, Acting, Giving, IsEvent, WaitsFor, tick_of}
 
 -- the answers that were there before the act with this number: an end of the list that is so long, or the whole list
 abbrev pub answers_before : ℕ → List ℕ → List ℕ
@@ -31,10 +31,14 @@ pub data Ticks {S : Type 0} (P : Program S) (main : Start S) (cells : List ℕ) 
 
 -- A chain of events of a run that ended in this state: each waits for the one before it.
 pub record IsEventChain {S : Type 0} (P : Program S) (s : State S) (chain : List Happening) : Type 0 where
-  pub happen : (e : Happening) → IsIn e chain → IsHappening P s e
+  pub happen : (e : Happening) → IsIn e chain → IsEvent P s e
   pub waits : IsChain (WaitsFor P s) chain
 
--- No chain of such events has more ticks than this one.
-pub record IsLongest {S : Type 0} (P : Program S) (s : State S) (chain : List Happening) : Type 0 where
+-- No chain of such events has more ticks than this one, where ticks are told like this.
+pub record IsLongestBy {S : Type 0} (P : Program S) (s : State S) (weight : Happening → ℕ) (chain : List Happening) : Type 0 where
   pub is_chain : IsEventChain P s chain
-  pub most : (other : List Happening) → IsEventChain P s other → ticks_in (ticks_at P s) other ≤ ticks_in (ticks_at P s) chain
+  pub most : (other : List Happening) → IsEventChain P s other → ticks_in weight other ≤ ticks_in weight chain
+
+-- No chain of such events has more ticks than this one.
+abbrev pub IsLongest : {S : Type 0} → Program S → State S → List Happening → Type 0
+IsLongest P s chain = IsLongestBy P s (ticks_at P s) chain
