@@ -1,9 +1,8 @@
 -- What a task that has ended gives up and leaves, and the longest chain of all when main has ended.
-use Rattle.std.proofs.Common.{◌≡◌, ℕ, zero, suc, ◌+◌, ◌-◌, ◌^◌, ◌<◌, ◌≤◌, ◌⊎◌, inl, inr, refl, sym, subst, ap, ◌∙◌, List, [], ◌∷◌, length, arith, Bool, true, false}
-use Rattle.std.specs.Prelude.{if◌then◌else◌}
+use Rattle.std.proofs.Common.{◌≡◌, ℕ, zero, suc, ◌+◌, ◌-◌, ◌^◌, ◌<◌, ◌≤◌, ◌⊎◌, inl, inr, refl, sym, subst, ap, ◌∙◌, List, [], ◌∷◌, length, arith, true, false}
 use Rattle.oss_syntax.specs.declared.access.Op.{Op}
 use Rattle.oss_syntax.specs.declared.access.Mode.TheVariants.{Fold}
-use Rattle.oss_model.specs.Order.{IsSuffix, whole, longer, IsIn}
+use Rattle.oss_model.specs.Order.{IsSuffix, whole, longer}
 use Rattle.oss_model.specs.Rights.{Holds}
 use Rattle.oss_model.specs.Bodies.{Program, Act, Start, stage_act, stage_created}
 use Rattle.oss_model.specs.Machine.{Task, State, At, HasAccess}
@@ -11,14 +10,14 @@ use Rattle.oss_model.specs.History.{IsMade}
 use Rattle.oss_model.specs.Moves.{created_now}
 use Rattle.oss_model.proofs.OrderLemmas.{suffix_length}
 use Rattle.oss_model.proofs.TreeLemmas.{at_same, task_above}
-use Rattle.oss_chains.specs.Chains.{Best, IsTrail, better, capped, more, no_chain, one_more, ticks_in}
+use Rattle.oss_chains.specs.Chains.{Best, IsTrail, better, capped, more, one_more, ticks_in}
 use Rattle.oss_chains.specs.Happenings.{Happening, Acting, Giving, Does, StartsWith, EndsWith, IsLeft, last_act, last_cell, Frees, WaitsFor, follows, IsHappening}
 use Rattle.oss_chains.specs.Tables.{GivenWith, GivenBelow, LeftWith, left_with, LeftBelow, left_below, InJoinWay, JustBefore, act_before, InFreeWay, in_free_way, InEndWay, in_end_way, InKeepWay, end_way, wait_way, join_way, FreedBefore, freed_before}
 use Rattle.oss_chains.specs.Pass.{Kept, IsKept}
-use Rattle.oss_chains.proofs.ChainLemmas.{greatest, most_step, most_each}
+use Rattle.oss_chains.proofs.ChainLemmas.{most_step}
 use Rattle.oss_chains.proofs.WaitLemmas.{ended_at, created_more}
 use Rattle.oss_chains.proofs.TableLemmas.{with_forth, with_back, left_with_forth, left_with_back, free_forth, free_back, keep_forth, keep_back}
-use Rattle.oss_chains.proofs.PassLemmas.{Most, same, either_most, no_most, act_only}
+use Rattle.oss_chains.proofs.PassLemmas.{Most, same, either_most, act_only}
 
 suc_same : (m n : ℕ) → suc m ≡ suc n → m ≡ n
 suc_same m n h = omega (arith, h)
@@ -59,36 +58,9 @@ module _ {S : Type 0} (P : Program S) (main : Start S) (s : State S) (made : IsM
         from : (f : Happening) → InEndWay P s (j ∷ p) f → JustBefore P s (j ∷ p) (suc e) f
         from f (in_end_way {n = n} d) = subst (λ (z : ℕ). JustBefore P s (j ∷ p) (suc e) (Acting (j ∷ p) z)) (one_end (j ∷ p) e n last d) act_before
 
-    pub wait_most : (wait : Bool) → Most P s weight (λ f. (wait ≡ true) × LeftBelow P s (j ∷ p) (created_now P task.body) f) (if wait then t.left else no_chain)
-    wait_most true = same P s weight (LeftBelow P s (j ∷ p) (created_now P task.body)) (λ f. (true ≡ true) × LeftBelow P s (j ∷ p) (created_now P task.body) f) t.left (λ f h. (refl, h)) (λ f h. h.1) kept.left
-    wait_most false = no_most P s weight (λ f. (false ≡ true) × LeftBelow P s (j ∷ p) (created_now P task.body) f) (λ f h. cc (h.0))
-
     -- what stands in the way of its join, if it is one of a strong reduction
     abbrev pub InOwnJoinWay : ℕ → Happening → Type 0
     InOwnJoinWay c f = (op : Op) × StartsWith s (j ∷ p) c (Holds (Fold op) true) × InJoinWay s c op (j ∷ p) f
-
-    -- a cell that it keeps
-    pub cell_most : (c : ℕ) (w : Best Happening) → HasAccess s c (j ∷ p) → t.is_freed c ≡ false → Most P s weight (InOwnJoinWay c) w
-        → Most P s weight (λ f. f ≡ Giving (j ∷ p) c) (one_more weight (Giving (j ∷ p) c) (better t.last (better (if task.body.start.order.wait then t.left else no_chain) w)))
-    cell_most c w a h own =
-        most_step (WaitsFor P s) weight (Giving (j ∷ p) c) _
-        (same P s weight (λ f. InEndWay P s (j ∷ p) f ⊎ ((task.body.start.order.wait ≡ true) × LeftBelow P s (j ∷ p) (created_now P task.body) f) ⊎ InOwnJoinWay c f) (WaitsFor P s (Giving (j ∷ p) c)) _
-        (λ f x. keep_back P s main made j p c task f at_ a none (into f x)) (λ f x. from f (keep_forth P s main made j p c task f at_ none x))
-        (either_most P s weight (InEndWay P s (j ∷ p)) (λ f. ((task.body.start.order.wait ≡ true) × LeftBelow P s (j ∷ p) (created_now P task.body) f) ⊎ InOwnJoinWay c f) t.last _ end_most
-        (either_most P s weight (λ f. (task.body.start.order.wait ≡ true) × LeftBelow P s (j ∷ p) (created_now P task.body) f) (InOwnJoinWay c) _ w (wait_most task.body.start.order.wait) own)))
-      where
-        none : (n : ℕ) → Frees P s (j ∷ p) c n → ⊥
-        none n d = kept.not_freed c h n (within_end (j ∷ p) e n d.created _ last d.does) d
-
-        into : (f : Happening) → InEndWay P s (j ∷ p) f ⊎ ((task.body.start.order.wait ≡ true) × LeftBelow P s (j ∷ p) (created_now P task.body) f) ⊎ InOwnJoinWay c f → InKeepWay P s (j ∷ p) c (created_now P task.body) task.body.start.order.wait f
-        into f (inl x) = end_way x
-        into f (inr (inl x)) = wait_way x.0 x.1
-        into f (inr (inr x)) = join_way x.0 x.1 x.2
-
-        from : (f : Happening) → InKeepWay P s (j ∷ p) c (created_now P task.body) task.body.start.order.wait f → InEndWay P s (j ∷ p) f ⊎ ((task.body.start.order.wait ≡ true) × LeftBelow P s (j ∷ p) (created_now P task.body) f) ⊎ InOwnJoinWay c f
-        from f (end_way x) = inl x
-        from f (wait_way w x) = inr (inl (w, x))
-        from f (join_way op r x) = inr (inr (op, r, x))
 
     -- a cell that it keeps, where this is the longest chain to the end with what the clause wait adds
     pub kept_most : (c : ℕ) (k w : Best Happening) → HasAccess s c (j ∷ p) → t.is_freed c ≡ false → Most P s weight (λ f. InEndWay P s (j ∷ p) f ⊎ ((task.body.start.order.wait ≡ true) × LeftBelow P s (j ∷ p) (created_now P task.body) f)) k → Most P s weight (InOwnJoinWay c) w
@@ -144,32 +116,6 @@ module _ {S : Type 0} (P : Program S) (main : Start S) (s : State S) (made : IsM
         same P s weight (λ f. (f ≡ Giving (j ∷ p) c) ⊎ GivenBelow s c (j ∷ p) (created_now P task.body) f) (GivenWith s c (j ∷ p)) (better v (t.given c))
         (λ f x. with_back P s main made c j p (created_now P task.body) f a x) (λ f x. with_forth P s main made c (j ∷ p) task f at_ x)
         (either_most P s weight (λ f. f ≡ Giving (j ∷ p) c) (GivenBelow s c (j ∷ p) (created_now P task.body)) v (t.given c) q (kept.given c))
-
-    pub left_most : (cells : List ℕ) (value : ℕ → Best Happening) → ((c : ℕ) → IsIn c cells → HasAccess s c (j ∷ p)) → ((c : ℕ) → HasAccess s c (j ∷ p) → IsIn c cells) → ((c : ℕ) → IsIn c cells → Most P s weight (λ f. f ≡ Giving (j ∷ p) c) (value c))
-        → Most P s weight (LeftWith P s (j ∷ p)) (better (better t.last (greatest value cells)) t.left)
-    left_most cells value only all each =
-        same P s weight (λ f. (InEndWay P s (j ∷ p) f ⊎ ((c : ℕ) × IsIn c cells × (f ≡ Giving (j ∷ p) c))) ⊎ LeftBelow P s (j ∷ p) (created_now P task.body) f) (LeftWith P s (j ∷ p)) _ into from
-        (either_most P s weight (λ f. InEndWay P s (j ∷ p) f ⊎ ((c : ℕ) × IsIn c cells × (f ≡ Giving (j ∷ p) c))) (LeftBelow P s (j ∷ p) (created_now P task.body)) _ t.left
-        (either_most P s weight (InEndWay P s (j ∷ p)) (λ f. (c : ℕ) × IsIn c cells × (f ≡ Giving (j ∷ p) c)) t.last (greatest value cells) end_most (most_each (WaitsFor P s) weight (λ c f. f ≡ Giving (j ∷ p) c) value cells each)) kept.left)
-      where
-        leaves : (f : Happening) → InEndWay P s (j ∷ p) f ⊎ ((c : ℕ) × IsIn c cells × (f ≡ Giving (j ∷ p) c)) → IsLeft P s (j ∷ p) f
-        leaves f (inl (in_end_way d)) = last_act d
-        leaves f (inr (c, i, h)) = subst (λ (z : Happening). IsLeft P s (j ∷ p) z) (sym h) (last_cell (only c i))
-
-        into : (f : Happening) → (InEndWay P s (j ∷ p) f ⊎ ((c : ℕ) × IsIn c cells × (f ≡ Giving (j ∷ p) c))) ⊎ LeftBelow P s (j ∷ p) (created_now P task.body) f → LeftWith P s (j ∷ p) f
-        into f (inl x) = left_with_back P s main made (j ∷ p) (created_now P task.body) f (inl (leaves f x))
-        into f (inr x) = left_with_back P s main made (j ∷ p) (created_now P task.body) f (inr x)
-
-        own : (f : Happening) → IsLeft P s (j ∷ p) f → InEndWay P s (j ∷ p) f ⊎ ((c : ℕ) × IsIn c cells × (f ≡ Giving (j ∷ p) c))
-        own f (last_act d) = inl (in_end_way d)
-        own f (last_cell {c = c} a) = inr (c, all c a, refl)
-
-        go : (f : Happening) → IsLeft P s (j ∷ p) f ⊎ LeftBelow P s (j ∷ p) (created_now P task.body) f → (InEndWay P s (j ∷ p) f ⊎ ((c : ℕ) × IsIn c cells × (f ≡ Giving (j ∷ p) c))) ⊎ LeftBelow P s (j ∷ p) (created_now P task.body) f
-        go f (inl x) = inl (own f x)
-        go f (inr x) = inr x
-
-        from : (f : Happening) → LeftWith P s (j ∷ p) f → (InEndWay P s (j ∷ p) f ⊎ ((c : ℕ) × IsIn c cells × (f ≡ Giving (j ∷ p) c))) ⊎ LeftBelow P s (j ∷ p) (created_now P task.body) f
-        from f x = go f (left_with_forth P s main made (j ∷ p) task f at_ x)
 
   -- an act with a number that the task has reached
   act_at : (xs : List ℕ) (n : ℕ) → n < length xs → (v : ℕ) × (past : List ℕ) × IsSuffix (v ∷ past) xs × (length past ≡ n)

@@ -15,4 +15,8 @@ pub mod SpanTheorem
 pub mod CheckLemmas
 pub mod ReadyLemmas
 pub mod CheckJoinLemmas
+pub mod WaitDecides
+pub mod EventLemmas
+pub mod ReverseLemmas
 pub mod LongestLemmas
+pub mod LongestTheorem

@@ -1,25 +1,20 @@
 -- What is kept in the pass stays right: after an act, for a task that is created, and when a child has ended.
 use Rattle.std.proofs.Common.{◌≡◌, ◌≢◌, ℕ, suc, ◌<◌, ◌≤◌, ◌⊎◌, inl, inr, refl, sym, subst, ap, List, [], ◌∷◌, arith, Bool, true, false}
 use Rattle.std.specs.Prelude.{if◌then◌else◌}
-use Rattle.oss_syntax.specs.declared.access.Access.{Access}
 use Rattle.oss_syntax.specs.declared.access.Op.{Op}
-use Rattle.oss_syntax.specs.declared.access.Mode.{Mode}
-use Rattle.oss_syntax.specs.declared.access.Mode.TheVariants.{Read, Write}
-use Rattle.oss_model.specs.Order.{IsSuffix, IsIn}
-use Rattle.oss_model.specs.Rights.{Holds}
-use Rattle.oss_model.specs.Context.{in_clauses}
-use Rattle.oss_model.specs.Bodies.{Order, Program, Act, stage_created}
-use Rattle.oss_model.specs.Bodies.Act.{Created, Awaited, Waited, WaitedOn}
-use Rattle.oss_model.specs.Machine.{Task, State, HasAccess}
+use Rattle.oss_model.specs.Order.{IsSuffix}
+use Rattle.oss_model.specs.Bodies.{Order, Program, stage_created}
+use Rattle.oss_model.specs.Bodies.Act.{Created}
+use Rattle.oss_model.specs.Machine.{Task, State}
 use Rattle.oss_model.proofs.StageLemmas.{created_grows, creation_counts}
 use Rattle.oss_model.proofs.OrderLemmas.{suffix_drop, suffix_linear}
 use Rattle.oss_model.proofs.TreeLemmas.{at_same}
-use Rattle.oss_chains.specs.Chains.{Best, IsMost, better, no_chain, one_more}
-use Rattle.oss_chains.specs.Happenings.{Happening, Acting, Does, StartsWith, Frees, WaitsFor}
-use Rattle.oss_chains.specs.Tables.{GivenBelow, ChangedBelow, LeftWith, LeftBelow, InWriteWay, InReadWay, InActWay, JustBefore, act_before, InTurnWay, turn_way, read_way, write_way, BeforeRun, FreedBefore, freed_before}
+use Rattle.oss_chains.specs.Chains.{Best, IsMost, better, no_chain}
+use Rattle.oss_chains.specs.Happenings.{Happening, Acting, Does, Frees, WaitsFor}
+use Rattle.oss_chains.specs.Tables.{GivenBelow, ChangedBelow, LeftBelow, JustBefore, act_before, read_way, write_way, BeforeRun, FreedBefore, freed_before}
 use Rattle.oss_chains.specs.Pass.{Kept, IsKept, acted}
-use Rattle.oss_chains.proofs.ChainLemmas.{greatest, most_none, most_same, most_either, most_step, most_each}
-use Rattle.oss_chains.proofs.TableLemmas.{none_given, none_changed, none_left, act_back, act_forth}
+use Rattle.oss_chains.proofs.ChainLemmas.{greatest, most_none, most_same, most_either}
+use Rattle.oss_chains.proofs.TableLemmas.{none_given, none_changed, none_left}
 
 pub bools : (b : Bool) → (b ≡ true) ⊎ (b ≡ false)
 bools true = inl refl
@@ -73,73 +68,6 @@ module _ {S : Type 0} (P : Program S) (s : State S) (weight : Happening → ℕ)
     read_way = λ c ne a. absurd (ne refl);
     join_way = λ op c ne a m. absurd (ne refl);
   }
-
-  -- the value of an act
-  pub act_most : (p : List ℕ) (n k : ℕ) (v w : Best Happening) (a : Act S) → Does P s p n k a → Most (InTurnWay P s p n) v → Most (InActWay P s p k a) w → Most (λ f. f ≡ Acting p n) (one_more weight (Acting p n) (better v w))
-  act_most p n k v w a d q r =
-      most_step (WaitsFor P s) weight (Acting p n) (better v w)
-      (same (λ f. InTurnWay P s p n f ⊎ InActWay P s p k a f) (WaitsFor P s (Acting p n)) (better v w) (λ f x. act_back P s p n k a f d x) (λ f x. act_forth P s p n k a f d x)
-      (either_most (InTurnWay P s p n) (InActWay P s p k a) v w q r))
-
-  -- a later act waits for the one before it
-  later_turn : (p : List ℕ) (n : ℕ) (f : Happening) → InTurnWay P s p (suc n) f → JustBefore P s p (suc n) f
-  later_turn p n f (turn_way h) = h
-
-  pub later_most : (p : List ℕ) (n m : ℕ) (t : Kept) → IsKept P s weight p (suc n) m t → Most (InTurnWay P s p (suc n)) t.last
-  later_most p n m t kept = same (JustBefore P s p (suc n)) (InTurnWay P s p (suc n)) t.last (λ f h. turn_way h) (later_turn p n) kept.last
-
-  main_turn : (f : Happening) → InTurnWay P s [] 0 f → JustBefore P s [] 0 f
-  main_turn f (turn_way h) = h
-
-  pub main_most : (m : ℕ) (t : Kept) → IsKept P s weight [] 0 m t → Most (InTurnWay P s [] 0) t.last
-  main_most m t kept = same (JustBefore P s [] 0) (InTurnWay P s [] 0) t.last (λ f h. turn_way h) main_turn kept.last
-
-  -- the cells of the strong accesses of a task with this mode
-  pub record AreStrong (p : List ℕ) (mode : Mode) (cells : List ℕ) : Type 0 where
-    pub only : (c : ℕ) → IsIn c cells → StartsWith s p c (Holds mode true)
-    pub all : (c : ℕ) → StartsWith s p c (Holds mode true) → IsIn c cells
-
-  started : (p : List ℕ) (c : ℕ) (mode : Mode) → StartsWith s p c (Holds mode true) → HasAccess s c p
-  started p c mode h = record { task = h.task; at_ = h.at_; mode = mode; strong = true; right = h.right_is }
-
-  -- a first act waits for more
-  first_forth : (k : ℕ) (p reads writes : List ℕ) → AreStrong (k ∷ p) Read reads → AreStrong (k ∷ p) Write writes → (f : Happening)
-      → JustBefore P s (k ∷ p) 0 f ⊎ ((c : ℕ) × IsIn c reads × InReadWay s c (k ∷ p) f) ⊎ ((c : ℕ) × IsIn c writes × InWriteWay s c (k ∷ p) f) → InTurnWay P s (k ∷ p) 0 f
-  first_forth k p reads writes r w f (inl h) = turn_way h
-  first_forth k p reads writes r w f (inr (inl (c, i, h))) = read_way c (r.only c i) h
-  first_forth k p reads writes r w f (inr (inr (c, i, h))) = write_way c (w.only c i) h
-
-  first_back : (k : ℕ) (p reads writes : List ℕ) → AreStrong (k ∷ p) Read reads → AreStrong (k ∷ p) Write writes → (f : Happening) → InTurnWay P s (k ∷ p) 0 f
-      → JustBefore P s (k ∷ p) 0 f ⊎ ((c : ℕ) × IsIn c reads × InReadWay s c (k ∷ p) f) ⊎ ((c : ℕ) × IsIn c writes × InWriteWay s c (k ∷ p) f)
-  first_back k p reads writes r w f (turn_way h) = inl h
-  first_back k p reads writes r w f (read_way c h x) = inr (inl (c, r.all c h, x))
-  first_back k p reads writes r w f (write_way c h x) = inr (inr (c, w.all c h, x))
-
-  pub first_most : (k : ℕ) (p reads writes : List ℕ) (m : ℕ) (t : Kept) → IsKept P s weight (k ∷ p) 0 m t → AreStrong (k ∷ p) Read reads → AreStrong (k ∷ p) Write writes
-      → Most (InTurnWay P s (k ∷ p) 0) (better t.last (better (greatest t.read_way reads) (greatest t.write_way writes)))
-  first_most k p reads writes m t kept r w =
-      same (λ f. JustBefore P s (k ∷ p) 0 f ⊎ ((c : ℕ) × IsIn c reads × InReadWay s c (k ∷ p) f) ⊎ ((c : ℕ) × IsIn c writes × InWriteWay s c (k ∷ p) f)) (InTurnWay P s (k ∷ p) 0) _
-      (first_forth k p reads writes r w) (first_back k p reads writes r w)
-      (either_most (JustBefore P s (k ∷ p) 0) (λ f. ((c : ℕ) × IsIn c reads × InReadWay s c (k ∷ p) f) ⊎ ((c : ℕ) × IsIn c writes × InWriteWay s c (k ∷ p) f)) t.last _ kept.last
-      (either_most (λ f. (c : ℕ) × IsIn c reads × InReadWay s c (k ∷ p) f) (λ f. (c : ℕ) × IsIn c writes × InWriteWay s c (k ∷ p) f) (greatest t.read_way reads) (greatest t.write_way writes)
-      (most_each (WaitsFor P s) weight (λ c. InReadWay s c (k ∷ p)) t.read_way reads (λ c i. kept.read_way c not_nil (started (k ∷ p) c Read (r.only c i))))
-      (most_each (WaitsFor P s) weight (λ c. InWriteWay s c (k ∷ p)) t.write_way writes (λ c i. kept.write_way c not_nil (started (k ∷ p) c Write (w.only c i))))))
-
-  -- what an act waits for as the act that it is
-  pub waited_most : (p : List ℕ) (n m : ℕ) (t : Kept) → IsKept P s weight p n m t → Most (InActWay P s p m Waited) t.left
-  waited_most p n m t kept = kept.left
-
-  pub awaited_most : (p : List ℕ) (n i : ℕ) (t : Kept) → IsKept P s weight p n (suc i) t → Most (InActWay P s p (suc i) Awaited) t.newest
-  awaited_most p n i t kept = same (LeftWith P s (i ∷ p)) (InActWay P s p (suc i) Awaited) t.newest (λ f h. (i, refl, h)) back (kept.newest i refl)
-    where
-      back : (f : Happening) → InActWay P s p (suc i) Awaited f → LeftWith P s (i ∷ p) f
-      back f (j, e, h) = let q : j ≡ i = omega (arith, e) in subst (λ (z : ℕ). LeftWith P s (z ∷ p) f) q h
-
-  pub waited_on_most : (p : List ℕ) (n m : ℕ) (t : Kept) (named : List Access) (cells : List ℕ) → IsKept P s weight p n m t → ((c : ℕ) → IsIn c cells → in_clauses named c ≡ true) → ((c : ℕ) → in_clauses named c ≡ true → IsIn c cells)
-      → Most (InActWay P s p m (WaitedOn named)) (greatest t.given cells)
-  waited_on_most p n m t named cells kept only all =
-      same (λ f. (c : ℕ) × IsIn c cells × GivenBelow s c p m f) (InActWay P s p m (WaitedOn named)) (greatest t.given cells) (λ f h. (h.0, only h.0 h.1, h.2)) (λ f h. (h.0, all h.0 h.1, h.2))
-      (most_each (WaitsFor P s) weight (λ c. GivenBelow s c p m) t.given cells (λ c i. kept.given c))
 
   pub act_only : (p : List ℕ) (n : ℕ) (f : Happening) → JustBefore P s p (suc n) f → f ≡ Acting p n
   act_only p n f act_before = refl

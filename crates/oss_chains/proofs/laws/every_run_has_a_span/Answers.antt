@@ -1,4 +1,4 @@
-use Rattle.oss_chains.proofs.SpanTheorem as lemmas
+use Rattle.oss_chains.proofs.LongestTheorem as lemmas
 use Rattle.oss_chains.specs.contracts.laws.every_run_has_a_span.{S-type}
 use Rattle.oss_chains.proofs.laws.every_run_has_a_span.Goals as goal
 
