@@ -18,5 +18,6 @@ pub mod CheckJoinLemmas
 pub mod WaitDecides
 pub mod EventLemmas
 pub mod ReverseLemmas
+pub mod CountLemmas
 pub mod LongestLemmas
 pub mod LongestTheorem

@@ -11,6 +11,7 @@ use Rattle.oss_chains.specs.Chains.{Best, IsMost, IsTrail, none, more, ticks_in}
 use Rattle.oss_chains.specs.Happenings.{Happening, Acting, Giving, Does, HasTicks, IsHappening, IsLeft, last_act, last_cell, WaitsFor, follows, begins, reads, writes, waits, awaits, waits_on, released, ends, ends_below, joins, tick_of}
 use Rattle.oss_chains.specs.Runs.{IsEventChain, IsLongest, Ticks, no_ticks, more_ticks, answers_before, ticks_at, ticks_of_act}
 use Rattle.oss_chains.proofs.ReverseLemmas.{in_reverse, no_ticks_in, ticks_reverse, twice}
+use Rattle.oss_chains.proofs.CountLemmas.{AreCounted, event_of}
 use Rattle.oss_chains.proofs.WaitLemmas.{one_before, ended_at, join_ahead, read_ahead, under, write_ahead}
 
 -- the run of ticks is the sequential run
@@ -70,9 +71,9 @@ module _ {S : Type 0} (P : Program S) (s : State S) where
   all_happen e f [] h t (there i) = elim i [ ]
 
   first_happens : (other : List Happening) (f : Happening) (es : List Happening) → IsEventChain P s other → reverse other ≡ f ∷ es → IsHappening P s f
-  first_happens other f es c q = c.happen f (in_reverse other (subst (λ (xs : List Happening). IsIn f xs) (sym q) here))
+  first_happens other f es c q = (c.happen f (in_reverse other (subst (λ (xs : List Happening). IsIn f xs) (sym q) here))).happens
 
-  -- what the pass finds is a longest chain
+  -- what the pass finds is a longest chain, where all acts are counted
   module _ (b : Best Happening) (m : IsMost (WaitsFor P s) (ticks_at P s) (IsHappening P s) b) where
     is_trail : IsTrail (WaitsFor P s) b.chain
     is_trail = go m.reached
@@ -108,8 +109,8 @@ module _ {S : Type 0} (P : Program S) (s : State S) where
             let l = m.most f (first_happens other f es c q) es (subst (λ (ys : List Happening). IsTrail (WaitsFor P s) ys) q c.waits) in
             omega (arith, e, l)
 
-    pub longest : IsLongest P s (reverse b.chain)
-    longest = record {
-      is_chain = record { happen = λ e i. each_happens e (in_reverse b.chain i); waits = subst (λ (xs : List Happening). IsTrail (WaitsFor P s) xs) (sym (twice b.chain)) is_trail };
+    pub longest : AreCounted s → IsLongest P s (reverse b.chain)
+    longest few = record {
+      is_chain = record { happen = λ e i. event_of P s few e (each_happens e (in_reverse b.chain i)); waits = subst (λ (xs : List Happening). IsTrail (WaitsFor P s) xs) (sym (twice b.chain)) is_trail };
       most = λ other c. let l = no_longer other c in let e = span_ticks in omega (arith, l, e);
     }

@@ -89,7 +89,7 @@ use Rattle.oss_machine.specs.Machines.{asks}
 use Rattle.oss_model.specs.Agreement.{Setting}
 use Rattle.oss_model.specs.Bodies.{Body}
 use Rattle.oss_model.specs.Sequence.{Sequential}
-use Rattle.oss_model.proofs.SequenceLemmas.{Turn, down, up, stay, turn, stands}
+use Rattle.oss_model.proofs.SequenceLemmas.{Turn, down, up, stay, turn, stands, opening_at}
 use Rattle.oss_body.specs.declared.body.Body.{Body as KeptBody}
 use Rattle.oss_body.specs.Relation.{IsBody, pending_of}
 use Rattle.oss_serial.specs.declared.stage.Stage.{Stage}
@@ -112,6 +112,7 @@ use Rattle.oss_span.specs.Changes.{join_of, opened, opened_by, unused}
 use Rattle.oss_span.proofs.TurnWays.{held_twice}
 use Rattle.oss_chains.specs.Chains.{ticks_in}
 use Rattle.oss_chains.specs.Runs.{IsLongest, no_ticks}
+use Rattle.oss_chains.proofs.CountLemmas.{AreCounted}
 use Rattle.oss_chains.proofs.EndTheorem.{span_most}
 use Rattle.oss_chains.proofs.LongestLemmas.{longest, span_ticks}
 use Rattle.oss_chains.proofs.PassLemmas.{main_kept, of_main}
@@ -122,7 +123,7 @@ use Rattle.oss_span.specs.declared.link.Link.{Link}
 use Rattle.oss_span.proofs.OpenLemmas.{opened_right}
 use Rattle.oss_span.proofs.SealLemmas.{mark_on, seal_best}
 use Rattle.oss_span.specs.Links.{Unfolds}
-use Rattle.oss_span.proofs.SpanLemmas.{Beside, more_work}
+use Rattle.oss_span.proofs.SpanLemmas.{Beside, counted_next, more_work}
 
 module _ (code : CodeParts) (main : Start CodeScript) (first : List ℕ) (setting : Setting main first) where
   -- main has ended: what is told is a longest chain
@@ -145,6 +146,9 @@ module _ (code : CodeParts) (main : Start CodeScript) (first : List ℕ) (settin
 
     ex : Extends ends.stage.state ends.stage.state
     ex = record { grown = λ q u h. (u, h, refl, whole) }
+
+    all_counted : AreCounted ends.stage.state
+    all_counted = counted_next code main first setting old st pass mid beside acts_on ends.stage ends.runs
 
     way : FrameWay (asks code) ends.stage.state pass.nodes pass.points st.stands.stage.state st.stands.stage.active (created_now (asks code) ends.runs.task.body) pass.frame (reverse pass.above)
     way =
@@ -229,7 +233,7 @@ module _ (code : CodeParts) (main : Start CodeScript) (first : List ℕ) (settin
     pub told_spans : Spans (asks code) main first (answers.Done output cells) mid.work ticks links
     told_spans =
         let d : Spans (asks code) main first (answers.Done ends.stage.printed ends.stage.state.cells) (capped (beside.count + tick_of (act_now (asks code) ends.runs.task.body))) (ticks_in (ticks_at (asks code) ends.stage.state) (reverse best.chain)) links =
-        done (beside.count + tick_of (act_now (asks code) ends.runs.task.body)) (reverse best.chain) (more_ticks beside.ticks ends.runs) ends.end ends.over shown (longest (asks code) ends.stage.state best best_most) in
+        done (beside.count + tick_of (act_now (asks code) ends.runs.task.body)) (reverse best.chain) (more_ticks beside.ticks ends.runs) ends.end ends.over shown (longest (asks code) ends.stage.state best best_most all_counted) in
         let w : capped (beside.count + tick_of (act_now (asks code) ends.runs.task.body)) ≡ mid.work =
         sym (acts_on.rest.2 ∙ (ap (λ (n : ℕ). ticked (is_tick (pending_of old.current)) n) beside.work ∙ (sym (more_work (pending_of old.current) beside.count) ∙ ap (λ (a : Act CodeScript). capped (beside.count + tick_of a)) same_act))) in
         let t : ticks_in (ticks_at (asks code) ends.stage.state) (reverse best.chain) ≡ ticks = span_ticks (asks code) ends.stage.state best best_most ∙ (best_shown.ticks ∙ sym told.ticks_are) in
@@ -314,11 +318,18 @@ module _ (code : CodeParts) (main : Start CodeScript) (first : List ℕ) (settin
     main_way : (s : State CodeScript) → FrameWay (asks code) s pass.nodes pass.points (opening main first) [] 0 pass.frame []
     main_way s = main_frame main_task main_at main_fits main_tops (main_tells s)
 
+    main_counted : AreCounted (opening main first)
+    main_counted p t h =
+        let e = (opening_at main first p t setting.starts.path h).1 in
+        let n : length t.body.found ≡ 0 = ap (λ (u : Task CodeScript). length u.body.found) e in
+        omega (arith, n)
+
     pub beside_first : Beside code main first stage is_first.stage pass
     beside_first = record {
       count = 0;
       ticks = subst (λ (z : Running CodeScript). Ticks (asks code) main first z 0) (sym opening_is) no_ticks;
       work = begun.parts.3;
+      counted = subst (λ (z : Running CodeScript). AreCounted z.state) (sym opening_is) main_counted;
       way = λ s made ex.
           subst (λ (z : Running CodeScript). FrameWay (asks code) s pass.nodes pass.points z.state z.active (created_now (asks code) is_first.stage.current) pass.frame (reverse pass.above)) (sym opening_is)
           (subst (λ (xs : List Frame). FrameWay (asks code) s pass.nodes pass.points (opening main first) [] (created_now (asks code) is_first.stage.current) pass.frame (reverse xs)) (sym begun.parts.2)

@@ -96,6 +96,7 @@ use Rattle.oss_serial.specs.declared.stage.Stage.{Stage}
 use Rattle.oss_serial.specs.Stages.{AreBodies, IsNext, IsStage}
 use Rattle.oss_serial.specs.Turns.{AreWaiting, whole_task}
 use Rattle.oss_chains.specs.Runs.{Ticks, more_ticks}
+use Rattle.oss_chains.proofs.CountLemmas.{AreCounted, counted_on}
 use Rattle.oss_chains.proofs.SpanTheorem.{extends_before}
 use Rattle.oss_span.specs.declared.pass.Pass.{Pass}
 use Rattle.oss_span.specs.Passes.{IsDown, IsFollowed, IsOn, IsUp}
@@ -148,7 +149,23 @@ module _ (code : CodeParts) (main : Start CodeScript) (first : List ℕ) where
     pub count : ℕ
     pub ticks : Ticks (asks code) main first st.stands.stage count
     pub work : pass.work ≡ capped count
+    pub counted : AreCounted st.stands.stage.state
     pub way : (s : State CodeScript) → IsMade (asks code) main s → Extends st.stands.stage.state s → FrameWay (asks code) s pass.nodes pass.points st.stands.stage.state st.stands.stage.active (created_now (asks code) st.current) pass.frame (reverse pass.above)
+
+  -- the act of a turn is counted
+  pub counted_next : Setting main first → (old : Stage) (st : IsStage code main first old) (pass mid : Pass) → Beside old st pass → IsOn (pending_of old.current) pass mid → (y : Running CodeScript) → RunsOn (asks code) st.stands.stage y → AreCounted y.state
+  counted_next setting old st pass mid beside on y r = counted_on (asks code) main st.stands.stage y made r few beside.counted
+    where
+      made : IsMade (asks code) main st.stands.stage.state
+      made = (stands (asks code) main first setting.starts st.stands.stage st.stands.run).made
+
+      few : length r.task.body.found < 2 ^ 64 - 1
+      few =
+          let top = way_top (asks code) st.stands.stage.state pass.nodes pass.points (beside.way st.stands.stage.state made (record { grown = λ q u h. (u, h, refl, whole) })) in
+          let n = ap (λ (t : Task CodeScript). length t.body.found) (at_same st.stands.stage.state st.stands.stage.active r.task top.task r.at_ top.at_) in
+          let a = top.fits.acts in
+          let l = on.acted.counted in
+          omega (arith, n, a, l)
 
   -- one turn
   module _ (setting : Setting main first) (old new : Stage) (st : IsStage code main first old) (go : IsNext code main first old st new) (pass mid next : Pass) (beside : Beside old st pass) (acts_on : IsOn (pending_of old.current) pass mid) (follows : IsFollowed (length old.above) (length new.above) new.current mid next)
@@ -271,5 +288,6 @@ module _ (code : CodeParts) (main : Start CodeScript) (first : List ℕ) where
       count = beside.count + tick_of (act_now (asks code) r.task.body);
       ticks = more_ticks beside.ticks r;
       work = work_same ∙ (acts_on.rest.2 ∙ (ap (λ (n : ℕ). ticked (is_tick (pending_of old.current)) n) beside.work ∙ (sym (more_work (pending_of old.current) beside.count) ∙ ap (λ (a : Act CodeScript). capped (beside.count + tick_of a)) same_act)));
+      counted = counted_next setting old st pass mid beside acts_on go.stage.stands.stage r;
       way = λ s made ex. way_next s made ex;
     }

@@ -1,7 +1,7 @@
 -- What is kept of a task, and what its acts, the creation of a child and the end of a child make of it.
 -- Read against: a task that has done nothing keeps the chain to its creation; a `taskwait` of it looks at what is left below it, and a release of x keeps, for x,
 -- the chain to the release.
-use Rattle.std.specs.Prelude.{◌≡◌, ◌≤◌, ◌<◌, ◌⊎◌, ℕ, suc, Bool, true, false, ◌&&◌, if◌then◌else◌, nat_lt, List, Option, Some, None, slice_get, length}
+use Rattle.std.specs.Prelude.{◌≡◌, ◌≤◌, ◌<◌, ◌⊎◌, ℕ, suc, ◌-◌, ◌^◌, Bool, true, false, ◌&&◌, if◌then◌else◌, nat_lt, List, Option, Some, None, slice_get, length}
 use Rattle.oss_syntax.specs.declared.access.Access.{Access}
 use Rattle.oss_ranges.specs.declared.piece.Piece.{Piece}
 use Rattle.oss_ranges.specs.Cells.{value_at}
@@ -64,11 +64,12 @@ IsDoneBy (acts.Release clauses false) run old new nodes more = IsReleased clause
 IsDoneBy (acts.Create creation true) run old new nodes more = (new ≡ record old { run = run; newest = no_best }) × (more ≡ nodes)
 IsDoneBy _ run old new nodes more = (new ≡ record old { run = run }) × (more ≡ nodes)
 
--- The task does this act.
+-- The task does this act. It had done fewer than 18,446,744,073,709,551,615, so a number of 64 bits still tells how many it has done.
 pub record IsActed (act : CodeAct) (old new : Frame) (nodes more : List Node) : Type 0 where
   pub other : Best
   pub is_other : IsOther old act other
   pub done_ : IsDoneBy act (after_act other (is_tick act) old.run) old new nodes more
+  pub counted : old.run.acts < 2 ^ 64 - 1
 
 -- Creations
 
