@@ -76,7 +76,7 @@ module _ {S : Type 0} (P : Program S) (main : Start S) (cells : List ℕ) (ms : 
         events = x.0;
         unfolds = x.1;
         is_chain = x.2;
-        ticks_are = sym (ticks_are P main z.state ms made ended r so x.1 (in_each (IsHappening P z.state) x.0 x.2.happen)) ∙ is_same (ticks_of r 0 ls) ticks g.1;
+        ticks_are = sym (ticks_are P main z.state ms made ended r so x.1 (in_each (IsHappening P z.state) x.0 (λ e i. (x.2.happen e i).happens))) ∙ is_same (ticks_of r 0 ls) ticks g.1;
       }
 
 module _ {S : Type 0} (P : Program S) (main : Start S) (cells : List ℕ) (ms : MainStarts main) (z : Running S) (run : Sequential P main cells z) (end_ : IsAtEnd P z) (r : Record) (so : IsRecord P z.state r) where
@@ -87,7 +87,7 @@ module _ {S : Type 0} (P : Program S) (main : Start S) (cells : List ℕ) (ms : 
       let m = made P main cells ms c.stage c.run c.end_ c.over r k in
       let e = ended P main cells ms c.stage c.run c.end_ c.over r k in
       and_both (holds_back P main c.stage.state ms m e r k c.unfolds c.is_chain)
-      (same_eq (ticks_of r 0 ls) ticks (ticks_are P main c.stage.state ms m e r k c.unfolds (in_each (IsHappening P c.stage.state) c.events c.is_chain.happen) ∙ c.ticks_are))
+      (same_eq (ticks_of r 0 ls) ticks (ticks_are P main c.stage.state ms m e r k c.unfolds (in_each (IsHappening P c.stage.state) c.events (λ e i. (c.is_chain.happen e i).happens)) ∙ c.ticks_are))
 
 abbrev IsFaulty : {S : Type 0} → Act S → Type 0
 IsFaulty (Fault kind line key) = Unit {0}

@@ -1,5 +1,5 @@
 -- Links hold by the notes of a run just where they stand for a chain of its events.
-use Rattle.std.proofs.Common.{◌≡◌, ◌≤◌, ◌<◌, ◌⊎◌, inl, inr, refl, sym, subst, ap, ◌∙◌, ℕ, zero, suc, ◌+◌, ◌-◌, Bool, true, false, List, [], ◌∷◌, Option, Some, None, arith}
+use Rattle.std.proofs.Common.{◌≡◌, ◌≤◌, ◌<◌, ◌⊎◌, inl, inr, refl, sym, subst, ap, ◌∙◌, ℕ, zero, suc, ◌+◌, ◌-◌, ◌^◌, Bool, true, false, List, [], ◌∷◌, Option, Some, None, arith}
 use Rattle.std.specs.Prelude.{nat_le, not, ◌&&◌, if◌then◌else◌}
 use Rattle.std.proofs.lemmas.Bool.Decides.{nat_tests}
 use Rattle.oss_syntax.specs.declared.access.Access.{Access}
@@ -9,7 +9,7 @@ use Rattle.oss_model.specs.History.{IsMade}
 use Rattle.oss_model.specs.Machine.{At, State, Task}
 use Rattle.oss_model.specs.Order.{written}
 use Rattle.oss_chains.specs.Chains.{none}
-use Rattle.oss_chains.specs.Happenings.{Happening, Acting, Giving, Does, EndsWith, IsHappening, WaitsFor, follows}
+use Rattle.oss_chains.specs.Happenings.{Happening, Acting, Giving, Does, EndsWith, IsEvent, IsHappening, WaitsFor, follows}
 use Rattle.oss_chains.specs.Runs.{IsEventChain}
 use Rattle.oss_chains.proofs.WaitLemmas.{ended_at, one_before}
 use Rattle.oss_span.specs.declared.link.Link.{Link}
@@ -20,7 +20,7 @@ use Rattle.oss_certify.specs.declared.links.Last.TheVariants as lasts
 use Rattle.oss_certify.specs.declared.note.Made.{Made}
 use Rattle.oss_certify.specs.declared.record.Record.{Record}
 use Rattle.oss_certify.specs.declared.sought.Sought.TheVariants as sought
-use Rattle.oss_certify.specs.Holding.{act_waits, cell_waits, goes_on, holds, last_act, last_of, link_waits, point_of}
+use Rattle.oss_certify.specs.Holding.{act_waits, are_numbered, cell_waits, goes_on, holds, last_act, last_of, link_waits, point_of}
 use Rattle.oss_certify.specs.Points.{same_point}
 use Rattle.oss_certify.specs.Queries.{access_in, access_of, has_access, has_done, is_of, is_sought, made_of}
 use Rattle.oss_certify.specs.Records.{IsRecord}
@@ -43,6 +43,12 @@ if_some false x y h = absurd cc
 
 some_if : {A : Type 0} (b : Bool) (x : A) → b ≡ true → (if b then Some x else None) ≡ Some x
 some_if {A = A} b x e = ap (λ (t : Bool). if t then Some x else None) e
+
+at_most : (a b : ℕ) → nat_le a b ≡ true → a ≤ b
+at_most a b h = grind (arith, nat_tests)
+
+at_most_back : (a b : ℕ) → a ≤ b → nat_le a b ≡ true
+at_most_back a b h = grind (arith, nat_tests)
 
 -- the event of the task
 abbrev pub event_of : List ℕ → Last → Happening
@@ -90,13 +96,13 @@ module _ {S : Type 0} (P : Program S) (main : Start S) (s : State S) (ms : MainS
   go_acts p zero n es g = subst (λ (m : ℕ). Goes W (Acting p m) es) (omega arith) g
   go_acts p (suc k) n es g = subst (λ (m : ℕ). Goes W (Acting p m) es) (omega arith) (go_acts p k (suc n) es g.1)
 
-  each_acts : (p : List ℕ) (k n : ℕ) (es : List Happening) → ((m : ℕ) → m < n + k → IsHappening P s (Acting p m)) → Each (IsHappening P s) es → Each (IsHappening P s) (acts_from p n k es)
+  each_acts : (p : List ℕ) (k n : ℕ) (es : List Happening) → ((m : ℕ) → m < n + k → IsEvent P s (Acting p m)) → Each (IsEvent P s) es → Each (IsEvent P s) (acts_from p n k es)
   each_acts p zero n es h g = g
   each_acts p (suc k) n es h g = (h n (omega arith), each_acts p k (suc n) es (λ m l. h m (omega (arith, l))) g)
 
-  acts_each : (p : List ℕ) (k n : ℕ) (es : List Happening) → Each (IsHappening P s) (acts_from p n (suc k) es) → IsHappening P s (Acting p (n + k)) × Each (IsHappening P s) es
-  acts_each p zero n es g = (subst (λ (m : ℕ). IsHappening P s (Acting p m)) (omega arith) g.0, g.1)
-  acts_each p (suc k) n es g = let x = acts_each p k (suc n) es g.1 in (subst (λ (m : ℕ). IsHappening P s (Acting p m)) (omega arith) x.0, x.1)
+  acts_each : (p : List ℕ) (k n : ℕ) (es : List Happening) → Each (IsEvent P s) (acts_from p n (suc k) es) → IsEvent P s (Acting p (n + k)) × Each (IsEvent P s) es
+  acts_each p zero n es g = (subst (λ (m : ℕ). IsEvent P s (Acting p m)) (omega arith) g.0, g.1)
+  acts_each p (suc k) n es g = let x = acts_each p k (suc n) es g.1 in (subst (λ (m : ℕ). IsEvent P s (Acting p m)) (omega arith) x.0, x.1)
 
   all_before : (p : List ℕ) (n : ℕ) → IsHappening P s (Acting p n) → (m : ℕ) → m ≤ n → IsHappening P s (Acting p m)
   all_before p n h m l = earlier p (n - m) m (subst (λ (x : ℕ). Does P s p x h.0 h.1) (omega (arith, l)) h.2)
@@ -157,33 +163,43 @@ module _ {S : Type 0} (P : Program S) (main : Start S) (s : State S) (ms : MainS
     pub events : List Happening
     pub unfolds : Unfolds P s ls events
     pub goes : Goes W e events
-    pub happen : Each (IsHappening P s) events
+    pub happen : Each (IsEvent P s) events
 
   -- a link, and what stands behind its last event
   record LinkTold (l : Link) (ls : List Link) (e : Last) : Type 0 where
     path : List ℕ
     point : point_of l ≡ written path
-    tells : Told ls (event_of path e) → (first : Happening) × (events : List Happening) × Unfolds P s (l ∷ ls) (first ∷ events) × Goes W first events × Each (IsHappening P s) (first ∷ events) × ((q : List ℕ) (last : Last) → link_waits r l (written q) last ≡ true → W first (event_of q last))
+    tells : Told ls (event_of path e) → (first : Happening) × (events : List Happening) × Unfolds P s (l ∷ ls) (first ∷ events) × Goes W first events × Each (IsEvent P s) (first ∷ events) × ((q : List ℕ) (last : Last) → link_waits r l (written q) last ≡ true → W first (event_of q last))
 
   acts_told : (point : List ℕ) (first count : ℕ) (ls : List Link) (e : Last) → last_act r point first count ≡ Some e → LinkTold (links.Acts point first count) ls e
-  acts_told point first zero ls e h = absurd (none_of (and_parts (nat_le 1 0) (has_done r.notes point (first + 0)) (if_some (nat_le 1 0 && has_done r.notes point (first + 0)) (lasts.Act (first + (0 - 1))) e h).0).0)
+  acts_told point first zero ls e h =
+      absurd (none_of (and_parts (nat_le 1 0) (are_numbered first 0 && has_done r.notes point (first + 0)) (if_some (nat_le 1 0 && (are_numbered first 0 && has_done r.notes point (first + 0))) (lasts.Act (first + (0 - 1))) e h).0).0)
     where
       none_of : nat_le 1 0 ≡ true → ⊥
       none_of h = grind (arith, nat_tests)
   acts_told point first (suc k) ls e h =
-      record { path = p.0; point = p.1; tells = λ t. (Acting p.0 first, acts_from p.0 (suc first) k t.events, acts p.1 t.unfolds, acts_go p.0 k first t.events (λ m l. all_before p.0 (first + k) last m l) (subst (λ (x : Last). Goes W (event_of p.0 x) t.events) (sym same) t.goes), (all_before p.0 (first + k) last first (omega arith), each_acts p.0 k (suc first) t.events (λ m l. all_before p.0 (first + k) last m (omega (arith, l))) t.happen), λ q x w. act_forth p.0 first q x (all_before p.0 (first + k) last first (omega arith)) (ap (λ (y : List ℕ). act_waits r y first (written q) x) (sym p.1) ∙ w)) }
+      record { path = p.0; point = p.1; tells = λ t. (Acting p.0 first, acts_from p.0 (suc first) k t.events, acts p.1 t.unfolds, acts_go p.0 k first t.events (λ m l. all_before p.0 (first + k) last m l) (subst (λ (x : Last). Goes W (event_of p.0 x) t.events) (sym same) t.goes), (each first (omega arith), each_acts p.0 k (suc first) t.events (λ m l. each m (omega (arith, l))) t.happen), λ q x w. act_forth p.0 first q x (all_before p.0 (first + k) last first (omega arith)) (ap (λ (y : List ℕ). act_waits r y first (written q) x) (sym p.1) ∙ w)) }
     where
-      g : ((nat_le 1 (suc k) && has_done r.notes point (first + suc k)) ≡ true) × (lasts.Act (first + (suc k - 1)) ≡ e)
-      g = if_some (nat_le 1 (suc k) && has_done r.notes point (first + suc k)) (lasts.Act (first + (suc k - 1))) e h
+      g : ((nat_le 1 (suc k) && (are_numbered first (suc k) && has_done r.notes point (first + suc k))) ≡ true) × (lasts.Act (first + (suc k - 1)) ≡ e)
+      g = if_some (nat_le 1 (suc k) && (are_numbered first (suc k) && has_done r.notes point (first + suc k))) (lasts.Act (first + (suc k - 1))) e h
+
+      f : (are_numbered first (suc k) ≡ true) × (has_done r.notes point (first + suc k) ≡ true)
+      f = and_parts (are_numbered first (suc k)) (has_done r.notes point (first + suc k)) (and_parts (nat_le 1 (suc k)) (are_numbered first (suc k) && has_done r.notes point (first + suc k)) g.0).1
+
+      few : first + suc k ≤ 2 ^ 64 - 1
+      few = at_most (first + suc k) (2 ^ 64 - 1) f.0
 
       d : has_done r.notes point (first + suc k) ≡ true
-      d = (and_parts (nat_le 1 (suc k)) (has_done r.notes point (first + suc k)) g.0).1
+      d = f.1
 
       p : (q : List ℕ) × (point ≡ written q)
       p = done_path point (first + suc k) d
 
       last : IsHappening P s (Acting p.0 (first + k))
       last = act_of_last p.0 first k (ap (λ (x : List ℕ). has_done r.notes x (first + suc k)) (sym p.1) ∙ d)
+
+      each : (m : ℕ) → m ≤ first + k → IsEvent P s (Acting p.0 m)
+      each m l = record { happens = all_before p.0 (first + k) last m l; numbered = omega (arith, l, few) }
 
       same : lasts.Act (first + k) ≡ e
       same = ap (λ (n : ℕ). lasts.Act n) (omega arith) ∙ g.1
@@ -193,7 +209,7 @@ module _ {S : Type 0} (P : Program S) (main : Start S) (s : State S) (ms : MainS
   cell_told point c l ls e q w h same make = record {
     path = x.0 ∷ x.1;
     point = q ∙ x.2;
-    tells = λ t. (Giving (x.0 ∷ x.1) c, t.events, make x.0 x.1 t.events x.2 t.unfolds, subst (λ (y : Last). Goes W (event_of (x.0 ∷ x.1) y) t.events) (sym same) t.goes, (access_forth P main s ms made r so (x.0 ∷ x.1) c (ap (λ (y : List ℕ). has_access r.made y c) (sym x.2) ∙ h), t.happen), λ o last v. cell_forth (x.0 ∷ x.1) c o last (ap (λ (y : List ℕ). cell_waits r y c (written o) last) (sym x.2) ∙ (sym (w o last) ∙ v)));
+    tells = λ t. (Giving (x.0 ∷ x.1) c, t.events, make x.0 x.1 t.events x.2 t.unfolds, subst (λ (y : Last). Goes W (event_of (x.0 ∷ x.1) y) t.events) (sym same) t.goes, (record { happens = access_forth P main s ms made r so (x.0 ∷ x.1) c (ap (λ (y : List ℕ). has_access r.made y c) (sym x.2) ∙ h); numbered = tt }, t.happen), λ o last v. cell_forth (x.0 ∷ x.1) c o last (ap (λ (y : List ℕ). cell_waits r y c (written o) last) (sym x.2) ∙ (sym (w o last) ∙ v)));
   }
     where
       x : (k : ℕ) × (p : List ℕ) × (point ≡ written (k ∷ p))
@@ -226,20 +242,24 @@ module _ {S : Type 0} (P : Program S) (main : Start S) (s : State S) (ms : MainS
       let f = given (last_of r l) (λ e. goes_on r (point_of l) e ls) h in
       let t = link_told l ls f.0 f.1 in
       let x = t.tells (goes_forth t.path f.0 ls (ap (λ (y : List ℕ). goes_on r y f.0 ls) (sym t.point) ∙ f.2)) in
-      (x.0 ∷ x.1, x.2, record { happen = λ e i. each_in (IsHappening P s) (x.0 ∷ x.1) x.4 e i; waits = goes_chain W x.0 x.1 x.3 })
+      (x.0 ∷ x.1, x.2, record { happen = λ e i. each_in (IsEvent P s) (x.0 ∷ x.1) x.4 e i; waits = goes_chain W x.0 x.1 x.3 })
 
   -- and the other way
 
   event_is : (l : Link) (p : List ℕ) (e : Last) (ls : List Link) (q : List ℕ) (last : Last) → point_of l ≡ written p → last_of r l ≡ Some e → link_waits r l (written q) last ≡ true → goes_on r (written p) e ls ≡ true → goes_on r (written q) last (l ∷ ls) ≡ true
   event_is l p e ls q last i f w g = and_both w (Rattle.oss_certify.proofs.ListLemmas.give (last_of r l) (λ x. goes_on r (point_of l) x ls) e f (ap (λ (y : List ℕ). goes_on r y e ls) i ∙ g))
 
-  acts_last : (p point : List ℕ) (first k : ℕ) → point ≡ written p → IsHappening P s (Acting p (first + k)) → last_of r (links.Acts point first (suc k)) ≡ Some (lasts.Act (first + k))
+  acts_last : (p point : List ℕ) (first k : ℕ) → point ≡ written p → IsEvent P s (Acting p (first + k)) → last_of r (links.Acts point first (suc k)) ≡ Some (lasts.Act (first + k))
   acts_last p point first k i h =
-      some_if (nat_le 1 (suc k) && has_done r.notes point (first + suc k)) (lasts.Act (first + (suc k - 1))) (and_both positive (ap (λ (y : List ℕ). has_done r.notes y (first + suc k)) i ∙ last_of_act p first k h))
+      some_if (nat_le 1 (suc k) && (are_numbered first (suc k) && has_done r.notes point (first + suc k))) (lasts.Act (first + (suc k - 1)))
+      (and_both positive (and_both few (ap (λ (y : List ℕ). has_done r.notes y (first + suc k)) i ∙ last_of_act p first k h.happens)))
       ∙ ap (λ (n : ℕ). Some (lasts.Act n)) (omega arith)
     where
       positive : nat_le 1 (suc k) ≡ true
       positive = grind (arith, nat_tests)
+
+      few : are_numbered first (suc k) ≡ true
+      few = at_most_back (first + suc k) (2 ^ 64 - 1) (let l : first + k < 2 ^ 64 - 1 = h.numbered in omega (arith, l))
 
   let_last : (p point : List ℕ) (c : ℕ) → point ≡ written p → (IsJoined s p c → ⊥) → IsHappening P s (Giving p c) → last_of r (links.Let point c) ≡ Some (lasts.Cell c)
   let_last p point c i j h =
@@ -251,7 +271,7 @@ module _ {S : Type 0} (P : Program S) (main : Start S) (s : State S) (ms : MainS
       some_if (has_access r.made point c && is_join r point c) (lasts.Cell c)
       (and_both (ap (λ (y : List ℕ). has_access r.made y c) i ∙ access_happens p c h) (ap (λ (y : List ℕ). is_join r y c) i ∙ is_joined p c h j))
 
-  goes_back : (q : List ℕ) (last : Last) {ls : List Link} {events : List Happening} → Unfolds P s ls events → Goes W (event_of q last) events → Each (IsHappening P s) events → goes_on r (written q) last ls ≡ true
+  goes_back : (q : List ℕ) (last : Last) {ls : List Link} {events : List Happening} → Unfolds P s ls events → Goes W (event_of q last) events → Each (IsEvent P s) events → goes_on r (written q) last ls ≡ true
   goes_back q last nothing g h = refl
   goes_back q last (acts {point = point} {p = p} {first = first} {count = k} {rest = ls} {es = es} i u) g h =
       let x = acts_each p k first es h in
@@ -259,10 +279,10 @@ module _ {S : Type 0} (P : Program S) (main : Start S) (s : State S) (ms : MainS
       (ap (λ (y : List ℕ). act_waits r y first (written q) last) i ∙ act_back p first q last g.0)
       (goes_back p (lasts.Act (first + k)) u (go_acts p k first es g.1) x.1)
   goes_back q last (let_ {point = point} {p = p} {c = c} {rest = ls} i j u) g h =
-      event_is (links.Let point c) p (lasts.Cell c) ls q last i (let_last p point c i j h.0)
+      event_is (links.Let point c) p (lasts.Cell c) ls q last i (let_last p point c i j h.0.happens)
       (ap (λ (y : List ℕ). cell_waits r y c (written q) last) i ∙ cell_back p c q last g.0) (goes_back p (lasts.Cell c) u g.1 h.1)
   goes_back q last (join {point = point} {p = p} {c = c} {rest = ls} i j u) g h =
-      event_is (links.Join point c) p (lasts.Cell c) ls q last i (join_last p point c i j h.0)
+      event_is (links.Join point c) p (lasts.Cell c) ls q last i (join_last p point c i j h.0.happens)
       (ap (λ (y : List ℕ). cell_waits r y c (written q) last) i ∙ cell_back p c q last g.0) (goes_back p (lasts.Cell c) u g.1 h.1)
 
   first_is : (l : Link) (p : List ℕ) (e : Last) (ls : List Link) → point_of l ≡ written p → last_of r l ≡ Some e → goes_on r (written p) e ls ≡ true → holds r (l ∷ ls) ≡ true
@@ -272,12 +292,12 @@ module _ {S : Type 0} (P : Program S) (main : Start S) (s : State S) (ms : MainS
   pub holds_back : {ls : List Link} {events : List Happening} → Unfolds P s ls events → IsEventChain P s events → holds r ls ≡ true
   holds_back nothing c = refl
   holds_back (acts {point = point} {p = p} {first = first} {count = k} {rest = ls} {es = es} i u) c =
-      let x = acts_each p k first es (in_each (IsHappening P s) (acts_from p first (suc k) es) c.happen) in
+      let x = acts_each p k first es (in_each (IsEvent P s) (acts_from p first (suc k) es) c.happen) in
       let g = chain_goes W (Acting p first) (acts_from p (suc first) k es) c.waits in
       first_is (links.Acts point first (suc k)) p (lasts.Act (first + k)) ls i (acts_last p point first k i x.0) (goes_back p (lasts.Act (first + k)) u (go_acts p k first es g) x.1)
   holds_back (let_ {point = point} {p = p} {c = c} {rest = ls} {es = es} i j u) c' =
-      let h = in_each (IsHappening P s) (Giving p c ∷ es) c'.happen in
-      first_is (links.Let point c) p (lasts.Cell c) ls i (let_last p point c i j h.0) (goes_back p (lasts.Cell c) u (chain_goes W (Giving p c) es c'.waits) h.1)
+      let h = in_each (IsEvent P s) (Giving p c ∷ es) c'.happen in
+      first_is (links.Let point c) p (lasts.Cell c) ls i (let_last p point c i j h.0.happens) (goes_back p (lasts.Cell c) u (chain_goes W (Giving p c) es c'.waits) h.1)
   holds_back (join {point = point} {p = p} {c = c} {rest = ls} {es = es} i j u) c' =
-      let h = in_each (IsHappening P s) (Giving p c ∷ es) c'.happen in
-      first_is (links.Join point c) p (lasts.Cell c) ls i (join_last p point c i j h.0) (goes_back p (lasts.Cell c) u (chain_goes W (Giving p c) es c'.waits) h.1)
+      let h = in_each (IsEvent P s) (Giving p c ∷ es) c'.happen in
+      first_is (links.Join point c) p (lasts.Cell c) ls i (join_last p point c i j h.0.happens) (goes_back p (lasts.Cell c) u (chain_goes W (Giving p c) es c'.waits) h.1)

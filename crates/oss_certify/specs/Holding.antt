@@ -1,6 +1,7 @@
 -- Whether links are a chain, by the notes of a run, and how many ticks they have.
--- Read against: with the notes `0.0, act 1, Tick`, `0.0, act 3, End` the one link `acts 0.0 0 4` holds, and has one tick; `acts 0.0 2 3` does not, since there is no act 4; and no link of no acts does.
-use Rattle.std.specs.Prelude.{ℕ, ◌+◌, ◌-◌, Bool, true, false, ◌&&◌, not, nat_eq, nat_le, nat_lt, if◌then◌else◌, List, [], ◌∷◌, Option, Some, None}
+-- Read against: with the notes `0.0, act 1, Tick`, `0.0, act 3, End` the one link `acts 0.0 0 4` holds, and has one tick; `acts 0.0 2 3` does not, since there is no act 4; and no link of no acts does. Nor does
+-- `acts 0.0 18446744073709551615 1`, whatever the notes are: that act would be no event.
+use Rattle.std.specs.Prelude.{ℕ, ◌+◌, ◌-◌, ◌^◌, Bool, true, false, ◌&&◌, not, nat_eq, nat_le, nat_lt, if◌then◌else◌, List, [], ◌∷◌, Option, Some, None}
 use Rattle.oss_chains.specs.Chains.{capped}
 use Rattle.oss_span.specs.declared.link.Link.{Link}
 use Rattle.oss_span.specs.declared.link.Link.TheVariants as links
@@ -18,9 +19,13 @@ point_of (links.Acts p first count) = p
 point_of (links.Let p c) = p
 point_of (links.Join p c) = p
 
--- The last of so many acts from this one on, if the task has done them, and there are some.
+-- The acts so many from this one on are numbered.
+abbrev pub are_numbered : ℕ → ℕ → Bool
+are_numbered first count = nat_le (first + count) (2 ^ 64 - 1)
+
+-- The last of so many acts from this one on, if the task has done them, they are numbered, and there are some.
 abbrev pub last_act : Record → List ℕ → ℕ → ℕ → Option Last
-last_act r p first count = if nat_le 1 count && has_done r.notes p (first + count) then Some (lasts.Act (first + (count - 1))) else None
+last_act r p first count = if nat_le 1 count && (are_numbered first count && has_done r.notes p (first + count)) then Some (lasts.Act (first + (count - 1))) else None
 
 -- The last event of a link, if all its events happened, and there are some.
 abbrev pub last_of : Record → Link → Option Last

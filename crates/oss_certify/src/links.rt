@@ -1,7 +1,7 @@
 //! Whether links are a chain, by the record of a run, and how many ticks they have.
 
 ghost use Rattle.std.specs.Prelude.{◌≡◌, ◌+◌, ◌-◌, ◌≤◌, ◌&&◌, nat_le, nat_lt, suc, if◌then◌else◌, Some, None};
-ghost use Rattle.oss_certify.specs.Holding.{act_waits, cell_waits, goes_on, holds, is_tick_in, is_told, last_act, last_of, link_ticks, link_waits, point_of};
+ghost use Rattle.oss_certify.specs.Holding.{act_waits, are_numbered, cell_waits, goes_on, holds, is_tick_in, is_told, last_act, last_of, link_ticks, link_waits, point_of};
 ghost use Rattle.oss_certify.specs.Holding.{ticks_of, ticks_with};
 ghost use Rattle.oss_certify.specs.Queries.{has_done};
 ghost use Rattle.oss_certify.specs.declared.links.Last.TheVariants as lasts;
@@ -34,11 +34,18 @@ fn point_of(link: &Link) -> &[u16]
     }
 }
 
-/// The last of so many acts from this one on, if the task has done them, and there are some.
+/// Whether so many acts from one on are numbered.
+fn are_numbered(first: u64, count: u64) -> bool
+    ensures { result ≡ are_numbered first count }
+{
+    count <= u64::MAX - first
+}
+
+/// The last of so many acts from this one on, if the task has done them, they are numbered, and there are some.
 fn last_act(r: &Record, p: &[u16], first: u64, count: u64) -> Option<Last>
     ensures { result ≡ last_act r.now p.now first count }
 {
-    if count >= 1 && has_done(r.notes.as_slice(), p, first, count) {
+    if count >= 1 && are_numbered(first, count) && has_done(r.notes.as_slice(), p, first, count) {
         Some(Last::Act(first + (count - 1)))
     } else {
         None
