@@ -15,7 +15,7 @@ use Rattle.oss_alike.proofs.ActLemmas.{bodies_created, creation_forth, now, righ
 use Rattle.oss_alike.proofs.MayLemmas.{access_forth, child_forth, earlier_forth, ended_forth, mode_alike}
 use Rattle.oss_alike.proofs.TurnLemmas.{alike_back, at_forth, bisimulation_back}
 use Rattle.oss_chains.specs.Chains.{IsChain, IsTrail, more, none, one, ticks_in}
-use Rattle.oss_chains.specs.Happenings.{Acting, Does, EndsWith, Frees, Giving, Happening, IsHappening, IsLeft, KeepsCell, StartsWith, WaitsFor, awaits, begins, ends, ends_below, follows, joins, last_act, last_cell, reads, released, tick_of, waits, waits_on, writes}
+use Rattle.oss_chains.specs.Happenings.{Acting, Does, EndsWith, Frees, Giving, Happening, IsEvent, IsHappening, IsLeft, KeepsCell, StartsWith, WaitsFor, awaits, begins, ends, ends_below, follows, joins, last_act, last_cell, reads, released, tick_of, waits, waits_on, writes}
 use Rattle.oss_chains.specs.Named.{IsAtOrBelow, JoinNames, ReadNames, WriteNames, below, itself, join_above_fold, join_above_write, join_here, read_above, read_here, write_above, write_here}
 use Rattle.oss_chains.specs.Runs.{IsEventChain, IsLongest, answers_before, ticks_at, ticks_of_act}
 
@@ -157,6 +157,9 @@ module _ {S T : Type 0} (P : Program S) (Q : Program T) (R : Start S → Start T
   happening_forth (Giving [] c) h = h
   happening_forth (Giving (k ∷ p) c) h = access_forth P Q R is same c (k ∷ p) h
 
+  event_forth : (e : Happening) → IsEvent P s e → IsEvent Q n e
+  event_forth e h = record { happens = happening_forth e h.happens; numbered = h.numbered }
+
   -- the modes of accesses are the same
   modes : (c : ℕ) (p : List ℕ) → mode_in (find s.tasks p) c ≡ mode_in (find n.tasks p) c
   modes c p = mode_alike P Q R is same (find s.tasks p) (find n.tasks p) c (same.tasks p)
@@ -239,7 +242,7 @@ module _ {S T : Type 0} (P : Program S) (Q : Program T) (R : Start S → Start T
   trail_forth (more w h) = more (waits_forth w) (trail_forth h)
 
   pub chain_forth : (es : List Happening) → IsEventChain P s es → IsEventChain Q n es
-  chain_forth es h = record { happen = λ e i. happening_forth P Q R is same e (h.happen e i); waits = trail_forth h.waits }
+  chain_forth es h = record { happen = λ e i. event_forth P Q R is same e (h.happen e i); waits = trail_forth h.waits }
 
   -- Events have as many ticks in both.
   act_ticks : (o : Option (Task S)) (q : Option (Task T)) (i : ℕ) → AreFoundAlike R o q → ticks_of_act P o i ≡ ticks_of_act Q q i
