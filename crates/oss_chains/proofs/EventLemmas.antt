@@ -26,12 +26,12 @@ in_row e (suc n) m l = go (last_number m n l) (λ k. in_row e n m k)
     go (inl k) again = there (again k)
     go (inr q) again = subst (λ (z : ℕ). IsIn (e m) (e z ∷ row e n)) q here
 
-in_left : {A : Type 0} {x : A} (xs ys : List A) → IsIn x xs → IsIn x (xs ++ ys)
+pub in_left : {A : Type 0} {x : A} (xs ys : List A) → IsIn x xs → IsIn x (xs ++ ys)
 in_left [] ys h = absurd (in_none h)
 in_left (y ∷ xs) ys here = here
 in_left (y ∷ xs) ys (there h) = there (in_left xs ys h)
 
-in_right : {A : Type 0} {x : A} (xs ys : List A) → IsIn x ys → IsIn x (xs ++ ys)
+pub in_right : {A : Type 0} {x : A} (xs ys : List A) → IsIn x ys → IsIn x (xs ++ ys)
 in_right [] ys h = h
 in_right (y ∷ xs) ys h = there (in_right xs ys h)
 

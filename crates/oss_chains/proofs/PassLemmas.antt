@@ -11,9 +11,9 @@ use Rattle.oss_model.proofs.OrderLemmas.{suffix_drop, suffix_linear}
 use Rattle.oss_model.proofs.TreeLemmas.{at_same}
 use Rattle.oss_chains.specs.Chains.{Best, IsMost, better, no_chain}
 use Rattle.oss_chains.specs.Happenings.{Happening, Acting, Does, Frees, WaitsFor}
-use Rattle.oss_chains.specs.Tables.{GivenBelow, ChangedBelow, LeftBelow, JustBefore, act_before, read_way, write_way, BeforeRun, FreedBefore, freed_before}
+use Rattle.oss_chains.specs.Tables.{GivenBelow, ChangedBelow, LeftBelow, JustBefore, act_before, BeforeRun, FreedBefore, freed_before}
 use Rattle.oss_chains.specs.Pass.{Kept, IsKept, acted}
-use Rattle.oss_chains.proofs.ChainLemmas.{greatest, most_none, most_same, most_either}
+use Rattle.oss_chains.proofs.ChainLemmas.{most_none, most_same, most_either}
 use Rattle.oss_chains.proofs.TableLemmas.{none_given, none_changed, none_left}
 
 pub bools : (b : Bool) → (b ≡ true) ⊎ (b ≡ false)

@@ -48,11 +48,11 @@ some_below F (suc n) d = by_iff forth (λ h. back h.0 (last_number h.0 n h.1) h.
     back i (inr e) f = inr (subst F e f)
 
 -- whether a list is the end of another
-suffix_cases : (xs ys : List ℕ) (y : ℕ) → IsSuffix xs (y ∷ ys) → (xs ≡ y ∷ ys) ⊎ IsSuffix xs ys
+pub suffix_cases : (xs ys : List ℕ) (y : ℕ) → IsSuffix xs (y ∷ ys) → (xs ≡ y ∷ ys) ⊎ IsSuffix xs ys
 suffix_cases xs ys y whole = inl refl
 suffix_cases xs ys y (longer h) = inr h
 
-suffix_none : (xs : List ℕ) → IsSuffix xs [] → xs ≡ []
+pub suffix_none : (xs : List ℕ) → IsSuffix xs [] → xs ≡ []
 suffix_none xs whole = refl
 
 pub is_suffix : (xs ys : List ℕ) → Decided (IsSuffix xs ys)
@@ -129,6 +129,34 @@ module _ {S : Type 0} (P : Program S) (s : State S) where
 
   starts_mode : {p : List ℕ} {c : ℕ} {m : Mode} {strong : Bool} → StartsWith s p c (Holds m strong) → mode_in (find s.tasks p) c ≡ m
   starts_mode {p = p} {c = c} {m = m} {strong = strong} r = mode_is s c p m (record { task = r.task; at_ = r.at_; strong = strong; right = r.right_is })
+
+  -- and whether with that of some strong reduction
+  one_fold : {p : List ℕ} {c : ℕ} {op other : Op} → StartsWith s p c (Holds (Fold op) true) → StartsWith s p c (Holds (Fold other) true) → op ≡ other
+  one_fold {p = p} {c = c} {op = op} {other = other} x y = fold_op op other (sym (subst (λ (u : Task S). right_of u.body.start.context c ≡ Holds (Fold op) true) (at_same s p x.task y.task x.at_ y.at_) x.right_is) ∙ y.right_is)
+    where
+      fold_op : (a b : Op) → Holds (Fold a) true ≡ Holds (Fold b) true → a ≡ b
+      fold_op a b e = cc
+
+  pub starts_fold : (p : List ℕ) (c : ℕ) → Decided ((op : Op) × StartsWith s p c (Holds (Fold op) true))
+  starts_fold p c = go (is_there P s p)
+    where
+      right_is : (t : Task S) → At s p t → (op : Op) → StartsWith s p c (Holds (Fold op) true) → right_of t.body.start.context c ≡ Holds (Fold op) true
+      right_is t h op x = subst (λ (u : Task S). right_of u.body.start.context c ≡ Holds (Fold op) true) (at_same s p x.task t x.at_ h) x.right_is
+
+      none : (t : Task S) → At s p t → (r : Right) → right_of t.body.start.context c ≡ r → ((op : Op) → r ≢ Holds (Fold op) true) → Decided ((op : Op) × StartsWith s p c (Holds (Fold op) true))
+      none t h r e other = inr (λ x. other x.0 (sym e ∙ right_is t h x.0 x.1))
+
+      told : (t : Task S) → At s p t → (r : Right) → right_of t.body.start.context c ≡ r → Decided ((op : Op) × StartsWith s p c (Holds (Fold op) true))
+      told t h NoRight e = none t h NoRight e (λ op i. cc)
+      told t h Released e = none t h Released e (λ op i. cc)
+      told t h (Holds Read b) e = none t h (Holds Read b) e (λ op i. cc)
+      told t h (Holds Write b) e = none t h (Holds Write b) e (λ op i. cc)
+      told t h (Holds (Fold op) false) e = none t h (Holds (Fold op) false) e (λ q i. cc)
+      told t h (Holds (Fold op) true) e = inl (op, record { task = t; at_ = h; right_is = e })
+
+      go : ((t : Task S) × At s p t) ⊎ (find s.tasks p ≡ None) → Decided ((op : Op) × StartsWith s p c (Holds (Fold op) true))
+      go (inl t) = told t.0 t.1 (right_of t.0.body.start.context c) refl
+      go (inr e) = inr (λ x. not_there P s p x.1.task e x.1.at_)
 
   ends_with : (p : List ℕ) (n : ℕ) → Decided (EndsWith P s p n)
   ends_with p n = go (is_there P s p)
@@ -382,26 +410,11 @@ module _ {S : Type 0} (P : Program S) (main : Start S) (s : State S) (made : IsM
 
   is_in_own_join : (k : ℕ) (p : List ℕ) (c : ℕ) → HasAccess s c (k ∷ p) → (f : Happening) → Decided (OwnJoin (k ∷ p) c f)
   unfolding OwnJoin
-  is_in_own_join k p c a f = go (right_of a.task.body.start.context c) refl
+  is_in_own_join k p c a f = go (starts_fold P s (k ∷ p) c)
     where
-      right_is : (r : Right) → right_of a.task.body.start.context c ≡ r → (op : Op) → StartsWith s (k ∷ p) c (Holds (Fold op) true) → r ≡ Holds (Fold op) true
-      right_is r e op x = sym e ∙ subst (λ (u : Task S). right_of u.body.start.context c ≡ Holds (Fold op) true) (at_same s (k ∷ p) x.task a.task x.at_ a.at_) x.right_is
-
-      no_fold : (r : Right) → right_of a.task.body.start.context c ≡ r → ((op : Op) → r ≢ Holds (Fold op) true) → Decided (OwnJoin (k ∷ p) c f)
-      no_fold r e none = inr (λ h. none h.0 (right_is r e h.0 h.1))
-
-      op_is : (o q : Op) → Holds (Fold o) true ≡ Holds (Fold q) true → q ≡ o
-      op_is o q e = cc
-
-      go : (r : Right) → right_of a.task.body.start.context c ≡ r → Decided (OwnJoin (k ∷ p) c f)
-      go NoRight e = no_fold NoRight e (λ op i. cc)
-      go Released e = no_fold Released e (λ op i. cc)
-      go (Holds Read b) e = no_fold (Holds Read b) e (λ op i. cc)
-      go (Holds Write b) e = no_fold (Holds Write b) e (λ op i. cc)
-      go (Holds (Fold op) false) e = no_fold (Holds (Fold op) false) e (λ q i. cc)
-      go (Holds (Fold op) true) e =
-          let x : StartsWith s (k ∷ p) c (Holds (Fold op) true) = record { task = a.task; at_ = a.at_; right_is = e } in
-          by_iff (λ h. (op, x, h)) (λ h. subst (λ (z : Op). InJoinWay s c z (k ∷ p) f) (op_is op h.0 (right_is (Holds (Fold op) true) e h.0 h.1)) h.2) (is_in_join_way c op k p a (starts_mode P s x) f)
+      go : Decided ((op : Op) × StartsWith s (k ∷ p) c (Holds (Fold op) true)) → Decided (OwnJoin (k ∷ p) c f)
+      go (inl (op, x)) = by_iff (λ h. (op, x, h)) (λ h. subst (λ (z : Op). InJoinWay s c z (k ∷ p) f) (one_fold P s h.1 x) h.2) (is_in_join_way c op k p a (starts_mode P s x) f)
+      go (inr none) = inr (λ h. none (h.0, h.1))
 
   is_in_keep_way : (j : ℕ) (p : List ℕ) (c k : ℕ) (wait : Bool) → HasAccess s c (j ∷ p) → (f : Happening) → Decided (InKeepWay P s (j ∷ p) c k wait f)
   unfolding OwnJoin

@@ -9,3 +9,4 @@ pub mod RunLemmas
 pub mod SomeReply
 pub mod SomeReplay
 pub mod SomeAudit
+pub mod SomeSpan

@@ -24,17 +24,19 @@ use Rattle.oss_model.specs.declared.answer.Answer.{Answer}
 use Rattle.oss_model.specs.declared.answer.Answer.TheVariants.{Done, Fault}
 use Rattle.oss_audit.specs.Lines.{audit_text}
 use Rattle.oss_audited.proofs.OneAudit.{audits_are_one}
+use Rattle.oss_span.specs.Reply.{span_text}
+use Rattle.oss_span.specs.declared.link.Link.{Link}
 use Rattle.oss_spanned.proofs.SpanMoves.{spans_agree}
 use Rattle.oss_sched.proofs.OneReading.{read_once}
 use Rattle.oss_report.specs.Replays.{schedule_line}
 use Rattle.oss_top.specs.Audits.{IsAuditReply}
 use Rattle.oss_top.specs.Spans.{IsSpanReply}
-use Rattle.oss_top.specs.Forms.{answer_reply, error_reply, soak_reply, told_reply, trace_reply}
-use Rattle.oss_top.specs.OneReply.{IsOfOneText, IsReplied, IsRepliedOnce}
+use Rattle.oss_top.specs.Forms.{answer_reply, error_reply, soak_reply, told_reply, too_large_line, trace_reply}
+use Rattle.oss_top.specs.OneReply.{AreSpansAlike, IsOfOneText, IsReplied, IsRepliedOnce, IsSpanned, nothing, numbers}
 use Rattle.oss_top.specs.ProgramTexts.{Accepts, Refuses}
 use Rattle.oss_top.specs.ProgramTexts.Refuses.{by_grammar, by_rules}
 use Rattle.oss_top.proofs.ReplayLemmas.{replay_once}
-use Rattle.oss_top.proofs.SomeReply.{file_reply, files_reply}
+use Rattle.oss_top.proofs.SomeReply.{HasOneText, file_reply, files_reply}
 use Rattle.oss_top.specs.Replays.{IsFilesReply, IsReplayReply, IsScheduleReply, IsTextsReply}
 use Rattle.oss_top.specs.Replays.IsScheduleReply.{replayed, wrong_line}
 use Rattle.oss_top.specs.Replays.IsTextsReply.{accepted as texts_accepted, refused_text as texts_refused}
@@ -82,15 +84,17 @@ audit_once fuel p reply other x y =
     let texts : x.text ≡ y.text = x.audited.text_is ∙ ap audit_text list ∙ sym y.audited.text_is in
     x.is_reply ∙ (λ i. told_reply (texts i) (same i)) ∙ sym y.is_reply
 
--- the status is told by the answer
-told_status : (a : Answer) (text other : List ℕ) → (told_reply text a).status ≡ (told_reply other a).status
-told_status (Done printed cells) text other = refl
-told_status (Fault kind line printed) text other = refl
+-- what two replies to a span tell where their answer is one, and so are their numbers
+told_alike : (a : Answer) (work ticks : ℕ) (chain others : List Link) → AreSpansAlike (told_reply (span_text work ticks chain) a) (told_reply (span_text work ticks others) a)
+told_alike (Done printed cells) work ticks chain others = record { status = refl; out = numbers work ticks chain others refl refl; err = refl }
+told_alike (Fault kind line printed) work ticks chain others = record { status = refl; out = nothing refl refl; err = refl }
 
-span_alike : (fuel : ℕ) (p : Program) (reply other : Reply) → IsSpanReply fuel p reply → IsSpanReply fuel p other → reply.status ≡ other.status
+span_alike : (fuel : ℕ) (p : Program) (reply other : Reply) → IsSpanReply fuel p reply → IsSpanReply fuel p other → AreSpansAlike reply other
 span_alike fuel p reply other x y =
-    let (same, _, _) = spans_agree TreeScript (asks_of p.items) (main_of p.items fuel) (first_cells p.items) x.answer y.answer x.told.work y.told.work x.told.span y.told.span x.told.chain y.told.chain x.told.spanned y.told.spanned in
-    ap (λ (r : Reply). r.status) x.is_reply ∙ ap (λ (a : Answer). (told_reply x.text a).status) same ∙ told_status y.answer x.text y.text ∙ ap (λ (r : Reply). r.status) (sym y.is_reply)
+    let (same, works, spans) = spans_agree TreeScript (asks_of p.items) (main_of p.items fuel) (first_cells p.items) x.answer y.answer x.told.work y.told.work x.told.span y.told.span x.told.chain y.told.chain x.told.spanned y.told.spanned in
+    let first : reply ≡ told_reply (span_text y.told.work y.told.span x.told.chain) y.answer = x.is_reply ∙ (λ i. told_reply (x.told.text_is i) x.answer) ∙ (λ i. told_reply (span_text (works i) (spans i) x.told.chain) (same i)) in
+    let second : other ≡ told_reply (span_text y.told.work y.told.span y.told.chain) y.answer = y.is_reply ∙ (λ i. told_reply (y.told.text_is i) y.answer) in
+    subst (λ (r : Reply). AreSpansAlike r other) (sym first) (subst (λ (r : Reply). AreSpansAlike (told_reply (span_text y.told.work y.told.span x.told.chain) y.answer) r) (sym second) (told_alike y.answer y.told.work y.told.span x.told.chain y.told.chain))
 
 program_once : (c : Command) → IsOfOneText c → (p : Program) (reply other : Reply) → IsProgramReply c p reply → IsProgramReply c p other → reply ≡ other
 program_once c of p reply other (checked x) (checked y) = x ∙ sym y
@@ -109,7 +113,7 @@ program_alike c p reply other (ran {options} x) (ran y) = ap status_of (run_once
 program_alike c p reply other (traced {options} x) (traced y) = ap status_of (trace_once options.fuel p reply other x y)
 program_alike c p reply other (soaked {options} x) (soaked y) = ap status_of (soak_once options p reply other x y)
 program_alike c p reply other (audited {fuel} x) (audited y) = ap status_of (audit_once fuel p reply other x y)
-program_alike c p reply other (spanned {fuel} x) (spanned y) = span_alike fuel p reply other x y
+program_alike c p reply other (spanned {fuel} x) (spanned y) = (span_alike fuel p reply other x y).status
 
 module _ (text : List ℕ) (once : IsParsedOnce text) where
   -- a text that is accepted is not refused
@@ -128,19 +132,20 @@ module _ (text : List ℕ) (once : IsParsedOnce text) where
   refused_once r other (by_rules p v d) (by_rules q w e) =
       one_some r other (refusal_of p) d (subst (λ z. refusal_of z ≡ Some other) (once.one_program q p w v) e)
 
-  -- What two replies to a program have in common, two replies to a text have in common.
-  module _ {A : Type 0} (f : Reply → A) (c : Command) (same : (p : Program) (reply other : Reply) → IsProgramReply c p reply → IsProgramReply c p other → f reply ≡ f other) where
-    text_once : (reply other : Reply) → IsTextReply c text reply → IsTextReply c text other → f reply ≡ f other
+  -- What holds of two replies to a program, and of two that are one refusal, holds of two replies to a text.
+  module _ (R : Reply → Reply → Type 0) (refused : (line : List ℕ) (reply other : Reply) → reply ≡ error_reply status.TextRefused line → other ≡ error_reply status.TextRefused line → R reply other)
+      (c : Command) (same : (p : Program) (reply other : Reply) → IsProgramReply c p reply → IsProgramReply c p other → R reply other) where
+    text_once : (reply other : Reply) → IsTextReply c text reply → IsTextReply c text other → R reply other
     text_once reply other (accepted p a x) (accepted p' b y) =
         same (program_written p) reply other x (subst (λ z. IsProgramReply c (program_written z) other) (once.one_program p' p b.is_text a.is_text) y)
     text_once reply other (accepted p a x) (refused_text r w y) = absurd (no_refusal p r a w)
     text_once reply other (refused_text r w x) (accepted p a y) = absurd (no_refusal p r a w)
-    text_once reply other (refused_text r v x) (refused_text r' w y) = ap f (x ∙ ap told (refused_once r r' v w) ∙ sym y) where
+    text_once reply other (refused_text r v x) (refused_text r' w y) = refused (refusal_line r.kind r.line) reply other x (y ∙ sym (ap told (refused_once r r' v w))) where
       told : Refused → Reply
       told z = error_reply status.TextRefused (refusal_line z.kind z.line)
 
-    file_once : (reply other : Reply) → IsFileReply c text reply → IsFileReply c text other → f reply ≡ f other
-    file_once reply other (too_large m x) (too_large n y) = ap f (x ∙ sym y)
+    file_once : (reply other : Reply) → IsFileReply c text reply → IsFileReply c text other → R reply other
+    file_once reply other (too_large m x) (too_large n y) = refused too_large_line reply other x y
     file_once reply other (too_large m x) (fits n y) = absurd (omega arith)
     file_once reply other (fits m x) (too_large n y) = absurd (omega arith)
     file_once reply other (fits m x) (fits n y) = text_once reply other x y
@@ -174,12 +179,38 @@ module _ (text schedule : List ℕ) (once : IsParsedOnce text) (fuel : ℕ) wher
   files_once reply other (fit few less x) (too_long few2 n y) = absurd (omega (arith, n, less))
   files_once reply other (fit few less x) (fit few2 less2 y) = texts_once reply other x y
 
+-- a command whose reply is one has one text
+one_text : (c : Command) → IsOfOneText c → HasOneText c
+one_text (run file options) of = tt
+one_text (check file) of = tt
+one_text (trace file options) of = tt
+one_text (replay file schedule fuel) of = of
+one_text (audit file fuel) of = tt
+one_text (span file fuel) of = tt
+one_text (soak number size options) of = tt
+
 pub replied : (text : List ℕ) → IsReplied text
-replied text = record { some = file_reply text; one = λ c of. file_once text (parsed_once text) (λ (r : Reply). r) c (program_once c of) }
+replied text = record { some = λ c of. file_reply text c (one_text c of); one = λ c of. file_once text (parsed_once text) (λ (r s : Reply). r ≡ s) (λ line r s x y. x ∙ sym y) c (program_once c of) }
+
+pub spanned_text : (text : List ℕ) → IsSpanned text
+spanned_text text = record {
+  some = λ file fuel. file_reply text (span file fuel) tt;
+  alike = λ file fuel. file_once text (parsed_once text) AreSpansAlike refused (span file fuel) (program_spans file fuel);
+}
+  where
+    refused : (line : List ℕ) (reply other : Reply) → reply ≡ error_reply status.TextRefused line → other ≡ error_reply status.TextRefused line → AreSpansAlike reply other
+    refused line reply other x y = record {
+      status = ap status_of (x ∙ sym y);
+      out = nothing (ap (λ (r : Reply). r.out) x) (ap (λ (r : Reply). r.out) y);
+      err = ap (λ (r : Reply). r.err) (x ∙ sym y);
+    }
+
+    program_spans : (file : List ℕ) (fuel : ℕ) (p : Program) (reply other : Reply) → IsProgramReply (span file fuel) p reply → IsProgramReply (span file fuel) p other → AreSpansAlike reply other
+    program_spans file fuel p reply other (spanned x) (spanned y) = span_alike fuel p reply other x y
 
 -- two replies to a command with one text have one status
 file_alike : (text : List ℕ) (c : Command) (reply other : Reply) → IsFileReply c text reply → IsFileReply c text other → status_of reply ≡ status_of other
-file_alike text c = file_once text (parsed_once text) status_of c (program_alike c)
+file_alike text c = file_once text (parsed_once text) (λ (r s : Reply). status_of r ≡ status_of s) (λ line r s x y. ap status_of (x ∙ sym y)) c (program_alike c)
 
 pub replied_once : (text schedule : List ℕ) → IsRepliedOnce text schedule
 replied_once text schedule = record { some = λ fuel. files_reply fuel text schedule; one = files_once text schedule (parsed_once text) }

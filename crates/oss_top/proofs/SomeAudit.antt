@@ -17,6 +17,8 @@ use Rattle.oss_rounds.specs.Passes.{IsEarlierPlace, Place}
 use Rattle.oss_rounds.proofs.DecideLemmas.{Decided, all_tasks, both, by_iff, either, if_not, is_number}
 use Rattle.oss_rounds.proofs.GatherLemmas.{Gathered, Sorted, gather, never_both, places_compared, places_never, places_through}
 use Rattle.oss_rounds.proofs.SumLemmas.{in_cases, in_none, listed}
+use Rattle.oss_chains.proofs.EventLemmas.{in_left, in_right}
+use Rattle.oss_chains.proofs.WaitDecides.{is_suffix, suffix_cases, suffix_none}
 use Rattle.oss_audit.specs.Unused.{AreUnused, HasDeclared, HasTouched, IsAhead, IsTold, IsUnused, Rises, Tells, acting}
 use Rattle.oss_audit.specs.declared.unused.Unused.{Unused}
 use Rattle.oss_syntax.specs.declared.tree.program.Program.{Program}
@@ -43,21 +45,6 @@ is_list [] (y ∷ ys) = inr (λ e. cc)
 is_list (x ∷ xs) [] = inr (λ e. cc)
 is_list (x ∷ xs) (y ∷ ys) = by_iff (λ k i. k.0 i ∷ k.1 i) (λ e. (heads_one x y xs ys e, tails_one x y xs ys e)) (both (is_number x y) (is_list xs ys))
 
-suffix_cases : (xs ys : List ℕ) (y : ℕ) → IsSuffix xs (y ∷ ys) → (xs ≡ y ∷ ys) ⊎ IsSuffix xs ys
-suffix_cases xs ys y whole = inl refl
-suffix_cases xs ys y (longer h) = inr h
-
-suffix_none : (xs : List ℕ) → IsSuffix xs [] → xs ≡ []
-suffix_none xs whole = refl
-
-is_suffix : (xs ys : List ℕ) → Decided (IsSuffix xs ys)
-is_suffix xs [] = by_iff (λ e. subst (λ (zs : List ℕ). IsSuffix zs []) (sym e) whole) (suffix_none xs) (is_list xs [])
-is_suffix xs (y ∷ ys) = by_iff forth (suffix_cases xs ys y) (either (is_list xs (y ∷ ys)) (is_suffix xs ys))
-  where
-    forth : (xs ≡ y ∷ ys) ⊎ IsSuffix xs ys → IsSuffix xs (y ∷ ys)
-    forth (inl e) = subst (λ (zs : List ℕ). IsSuffix zs (y ∷ ys)) (sym e) whole
-    forth (inr h) = longer h
-
 is_yes : (b : Bool) → Decided (b ≡ true)
 is_yes true = inl refl
 is_yes false = inr (λ e. cc)
@@ -78,15 +65,6 @@ in_row p (suc n) c l = go (which c n l) (λ m. in_row p n c m)
     go : (c ≡ n) ⊎ (c < n) → (c < n → IsIn (record { path = p; cell = c }) (row p n)) → IsIn (record { path = p; cell = c }) (record { path = p; cell = n } ∷ row p n)
     go (inl e) f = subst (λ (m : ℕ). IsIn (record { path = p; cell = c }) (record { path = p; cell = m } ∷ row p n)) e here
     go (inr m) f = there (f m)
-
-in_left : {A : Type 0} {x : A} (xs ys : List A) → IsIn x xs → IsIn x (xs ++ ys)
-in_left [] ys h = absurd (in_none h)
-in_left (y ∷ xs) ys here = here
-in_left (y ∷ xs) ys (there h) = there (in_left xs ys h)
-
-in_right : {A : Type 0} {x : A} (xs ys : List A) → IsIn x ys → IsIn x (xs ++ ys)
-in_right [] ys h = h
-in_right (y ∷ xs) ys h = there (in_right xs ys h)
 
 -- cells of clauses lie below the sum of the ends of their ranges
 ends_of : List Access → ℕ

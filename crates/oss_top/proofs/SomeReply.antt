@@ -1,4 +1,4 @@
--- A text has a reply to a check and to a run: its tokens or a first fault, a program or a refusal by the grammar, and its static rules. Two texts have one to a replay: lines that are read or
+-- A text has a reply to each command with one text: its tokens or a first fault, a program or a refusal by the grammar, and its static rules. Two texts have one to a replay: lines that are read or
 -- a first wrong one, and what comes of the moves.
 use Rattle.std.proofs.Common.{◌≡◌, ℕ, zero, suc, ◌+◌, ◌≤◌, ◌<◌, nat_lt, Bool, true, false, List, [], ◌∷◌, length, Result, Ok, Err, refl, ap, arith, ◌⊎◌, inl, inr}
 use Rattle.std.proofs.lemmas.Bool.Decides.{nat_tests}
@@ -34,12 +34,11 @@ use Rattle.oss_lower.proofs.LiveLemmas.{programs_are_lively}
 use Rattle.oss_lower.proofs.OutcomeLaws.{programs_have_codes}
 use Rattle.oss_lower.proofs.ProgramLemmas.{codes_ask_alike}
 use Rattle.oss_lower.proofs.TextPlaces.{accepted_places, accepted_programs_have_one_outcome, accepted_setting}
-use Rattle.oss_top.specs.OneReply.{IsOfOneText}
 use Rattle.oss_top.specs.ProgramTexts.{Accepts, Refuses}
 use Rattle.oss_top.specs.ProgramTexts.Refuses.{by_grammar, by_rules}
 use Rattle.oss_top.specs.Forms.{accepted_line, answer_reply, done_reply, error_reply, most_bytes, soak_reply, too_large_line, trace_reply}
 use Rattle.oss_top.specs.Reply.{IsFileReply, IsTextReply, IsProgramReply}
-use Rattle.oss_top.specs.Reply.IsProgramReply.{audited, checked, ran, soaked, traced}
+use Rattle.oss_top.specs.Reply.IsProgramReply.{audited, checked, ran, soaked, spanned, traced}
 use Rattle.oss_top.specs.Traces.{IsTraceOf, text_of}
 use Rattle.oss_rounds.specs.Rounds.{Trace}
 use Rattle.oss_top.specs.Reply.IsTextReply.{accepted, refused_text}
@@ -50,6 +49,7 @@ use Rattle.oss_top.specs.Replays.IsTextsReply.{accepted as texts_accepted, refus
 use Rattle.oss_top.specs.Replays.IsFilesReply.{fit, too_large as files_too_large, too_long}
 use Rattle.oss_top.specs.declared.reply.Reply.{Reply}
 use Rattle.oss_top.proofs.SomeAudit.{audit_reply}
+use Rattle.oss_top.proofs.SomeSpan.{span_reply}
 use Rattle.oss_top.proofs.SomeReplay.{LinesRead, lines_read, replay_reply}
 use Rattle.oss_sched.specs.Schedules.{lines_of}
 use Rattle.oss_report.specs.Replays.{schedule_line}
@@ -100,11 +100,24 @@ some_trace text p a fuel =
     let code = programs_have_codes items (accepted_places text p a.is_text a.obeys) in
     has_trace TreeScript (asks_of items) (main_of items fuel) (first_cells items) (accepted_setting text p a.is_text a.obeys fuel) (programs_are_lively items code.0 (codes_ask_alike items code.0 code.1))
 
-program_reply : (c : Command) → IsOfOneText c → (text : List ℕ) (p : Program) → Accepts text p → (reply : Reply) × IsProgramReply c (program_written p) reply
+-- the command has the text of a program alone
+abbrev pub HasOneText : Command → Type 0
+HasOneText (run file options) = Unit {0}
+HasOneText (check file) = Unit {0}
+HasOneText (trace file options) = Unit {0}
+HasOneText (replay file schedule fuel) = ⊥
+HasOneText (audit file fuel) = Unit {0}
+HasOneText (span file fuel) = Unit {0}
+HasOneText (soak number size options) = Unit {0}
+
+program_reply : (c : Command) → HasOneText c → (text : List ℕ) (p : Program) → Accepts text p → (reply : Reply) × IsProgramReply c (program_written p) reply
 program_reply (check file) of text p a = (done_reply accepted_line, checked refl)
 program_reply (replay file schedule fuel) of text p a = absurd of
 program_reply (audit file fuel) of text p a = let (reply, is) = audit_reply fuel (program_written p) (some_outcome text p a fuel) in (reply, audited is)
-program_reply (span file fuel) of text p a = absurd of
+program_reply (span file fuel) of text p a =
+    let (o, is) = some_outcome text p a fuel in
+    let (reply, told) = span_reply fuel (program_written p) (accepted_setting text p a.is_text a.obeys fuel).starts o is in
+    (reply, spanned told)
 program_reply (run file options) of text p a =
     let (o, is) = some_outcome text p a options.fuel in
     (answer_reply options.dump (program_written p) o.answer, ran (record { outcome = o; is_outcome = is; is_reply = refl }))
@@ -116,7 +129,7 @@ program_reply (soak number size options) of text p a =
     let (o, is) = some_outcome text p a options.fuel in
     (soak_reply o.tasks o.answer, soaked (record { outcome = o; is_outcome = is; is_reply = refl }))
 
-text_reply : (c : Command) → IsOfOneText c → (text : List ℕ) → (reply : Reply) × IsTextReply c text reply
+text_reply : (c : Command) → HasOneText c → (text : List ℕ) → (reply : Reply) × IsTextReply c text reply
 text_reply c of text = from (some_parse text) where
   refused : (r : Refused) → Refuses text r → (reply : Reply) × IsTextReply c text reply
   refused r w = (error_reply status.TextRefused (refusal_line r.kind r.line), refused_text r w refl)
@@ -132,7 +145,7 @@ text_reply c of text = from (some_parse text) where
   from (inl (p, w)) = ruled p w (program_rules p) refl
   from (inr (r, w)) = refused r (by_grammar w)
 
-pub file_reply : (text : List ℕ) (c : Command) → IsOfOneText c → (reply : Reply) × IsFileReply c text reply
+pub file_reply : (text : List ℕ) (c : Command) → HasOneText c → (reply : Reply) × IsFileReply c text reply
 file_reply text c of = on (nat_lt most_bytes (length text)) refl where
   on : (b : Bool) → nat_lt most_bytes (length text) ≡ b → (reply : Reply) × IsFileReply c text reply
   on true e = (error_reply status.TextRefused too_large_line, too_large (grind (arith, nat_tests)) refl)

@@ -1,11 +1,13 @@
--- A text has one reply to a check, a run, a trace, a soak and an audit, and two texts have one to a replay: there is one, and two by their definition are equal in status, output and error output. Of a
--- span no law says that there is one, and it may tell any longest chain.
+-- A text has one reply to a check, a run, a trace, a soak and an audit, and two texts have one to a replay: there is one, and two by their definition are equal in status, output and error output. To a
+-- span a text has a reply, too, and two have one status, one error output and the same two numbers; which longest chain is told is free.
 -- Read against: a text is accepted as one program or refused for one reason, since its grammar leaves no choice; and a text that is
 -- too long is refused as that, whatever stands in it; and the sequential run of a program comes to its end, and to one, as its run by waves does. A schedule is one list of moves or has one first
--- wrong line; and its moves lead to one state, or one of them is the first that is not enabled.
-use Rattle.std.specs.Prelude.{◌≡◌, ℕ, List}
+-- wrong line; and its moves lead to one state, or one of them is the first that is not enabled. Of two tasks that wait for nothing and have one tick each, either may stand in the chain of a span.
+use Rattle.std.specs.Prelude.{◌≡◌, ℕ, List, []}
 use Rattle.oss_command.specs.Commands.{Command}
 use Rattle.oss_command.specs.Commands.Command.{audit, run, check, trace, replay, soak, span}
+use Rattle.oss_span.specs.Reply.{span_text}
+use Rattle.oss_span.specs.declared.link.Link.{Link}
 use Rattle.oss_top.specs.Replays.{IsFilesReply}
 use Rattle.oss_top.specs.Reply.{IsFileReply}
 use Rattle.oss_top.specs.declared.reply.Reply.{Reply}
@@ -27,3 +29,19 @@ pub record IsReplied (text : List ℕ) : Type 0 where
 pub record IsRepliedOnce (text schedule : List ℕ) : Type 0 where
   pub some : (fuel : ℕ) → (reply : Reply) × IsFilesReply fuel text schedule reply
   pub one : (fuel : ℕ) (reply other : Reply) → IsFilesReply fuel text schedule reply → IsFilesReply fuel text schedule other → reply ≡ other
+
+-- Two outputs of a span: both are empty, or both tell the same ticks and the same ticks of a longest chain, each with a chain of its own.
+pub data TellOneSpan (out other : List ℕ) : Type 0 where
+  nothing : out ≡ [] → other ≡ [] → TellOneSpan out other
+  numbers : (work ticks : ℕ) (chain links : List Link) → out ≡ span_text work ticks chain → other ≡ span_text work ticks links → TellOneSpan out other
+
+-- Two replies to a span differ in the chain alone.
+pub record AreSpansAlike (reply other : Reply) : Type 0 where
+  pub status : reply.status ≡ other.status
+  pub out : TellOneSpan reply.out other.out
+  pub err : reply.err ≡ other.err
+
+-- A text has a reply to a span, and two are alike.
+pub record IsSpanned (text : List ℕ) : Type 0 where
+  pub some : (file : List ℕ) (fuel : ℕ) → (reply : Reply) × IsFileReply (span file fuel) text reply
+  pub alike : (file : List ℕ) (fuel : ℕ) (reply other : Reply) → IsFileReply (span file fuel) text reply → IsFileReply (span file fuel) text other → AreSpansAlike reply other

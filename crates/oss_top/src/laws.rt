@@ -1,12 +1,17 @@
 //! The laws of the replies of the top call.
 
 ghost use Rattle.oss_top.specs.EveryOrder.{IsRunInEveryOrder};
-ghost use Rattle.oss_top.specs.OneReply.{IsReplied, IsRepliedOnce};
+ghost use Rattle.oss_top.specs.OneReply.{IsReplied, IsRepliedOnce, IsSpanned};
 
 /// A law, with nothing to run: a text has one reply to a check, to a run, to a trace, to an audit and, as the text that a soak makes, to a soak, and no other. So status, output and error
 /// output of each of these are settled by the text.
 pub fn a_text_has_one_reply(text: &[u8])
     ensures { IsReplied text.now }
+{}
+
+/// A law, with nothing to run: a text has a reply to a span, and two have one status, one error output and the same numbers of ticks. Which longest chain is told is free.
+pub fn a_text_has_a_span(text: &[u8])
+    ensures { IsSpanned text.now }
 {}
 
 /// A law, with nothing to run: the texts of a program and of a schedule have one reply to a replay, and no other. So status, output and error output of a replay
