@@ -1,27 +1,28 @@
 //! What the top call replies, before it is written.
 
-ghost use Rattle.std.specs.Prelude.{◌≡◌, ◌≤◌, ◌<◌, ℕ, List as Items, Some, length, map, IfOk};
+ghost use Rattle.std.specs.Prelude.{◌≡◌, ◌≤◌, ◌<◌, None, Some, length, map, IfOk};
 ghost use Rattle.std.specs.String.{string_bytes};
 ghost use Rattle.oss_io.specs.Spans.{shelf_span};
 ghost use Rattle.oss_model.specs.Texts.{refusal_line as line_of_refusal};
-ghost use Rattle.oss_command.specs.Commands.{HasWorkers, file_of, meant};
-ghost use Rattle.oss_command.specs.Commands.Command.{audit, check, run, soak, span, trace};
+ghost use Rattle.oss_command.specs.Commands.{HasWorkers, file_of, meant, schedule_of};
+ghost use Rattle.oss_command.specs.Commands.Command.{soak};
 ghost use Rattle.oss_gen.specs.Generated.{generated_text};
 ghost use Rattle.oss_top.specs.Forms.{accepted_line, done_reply, error_reply, fault_reply};
 ghost use Rattle.oss_top.specs.Reads.{IsReadReply};
-ghost use Rattle.oss_top.specs.Reply.{IsFileReply, IsReply, IsShelfReply, IsTextReply};
+ghost use Rattle.oss_top.specs.Reply.{IsFileReply, IsProgramReply, IsReply, IsShelfReply, IsTextReply};
 
 use crate::audit::reply_to_audit;
 use crate::known::known;
 use crate::replay::reply_to_replay;
-use crate::run::{reply_to_run, reply_to_soak};
+use crate::run::{reply_to_run, reply_to_generated};
 use crate::span::reply_to_span;
 use crate::status::Status;
 use crate::texts;
 use crate::trace::reply_to_trace;
-use oss_command::{Command, Options, Soak, read_words};
+use oss_command::{Command, Soak, read_words};
 use oss_gen::generated;
 use oss_io::{Gate, Shelf, ShelfFault};
+use oss_names::Known;
 use oss_report::refusal_line;
 use oss_syntax::{Bytes, Refusal, Refused, RefusedKind};
 use std::alloc::{AllocError, Global};
@@ -148,18 +149,18 @@ fn reply_to_read<R: Threads + Sync, S: Shelf, G: Gate>(
     ensures { IfOk result (λ reply. IsReadReply (meant command.entry) text.now (shelf_span S.held S.faults S.last shelf.old shelf.new) reply) }
 {
     match command {
-        Command::Run(_, options) => run_text(rt, alloc, options, text, gate),
-        Command::Check(_) => check_text(alloc, text),
-        Command::Trace(_, options) => trace_text(rt, alloc, options, text, gate),
         Command::Replay(asked) => reply_to_replay(alloc, asked, text, shelf),
-        Command::Soak(asked) => soaked(rt, alloc, asked, gate),
-        Command::Audit(_, fuel) => audit_text(alloc, fuel, text),
-        Command::Span(_, fuel) => span_text(alloc, fuel, text),
+        Command::Soak(asked) => reply_to_soak(rt, alloc, asked, gate),
+        Command::Run(_, _) => reply_to_text(rt, alloc, command, text, gate),
+        Command::Check(_) => reply_to_text(rt, alloc, command, text, gate),
+        Command::Trace(_, _) => reply_to_text(rt, alloc, command, text, gate),
+        Command::Audit(_, _) => reply_to_text(rt, alloc, command, text, gate),
+        Command::Span(_, _) => reply_to_text(rt, alloc, command, text, gate),
     }
 }
 
-/// The reply to a soak.
-fn soaked<R: Threads + Sync, G: Gate>(
+/// The reply to a soak: its program is generated.
+fn reply_to_soak<R: Threads + Sync, G: Gate>(
     rt: &R,
     alloc: Global,
     asked: Soak,
@@ -172,93 +173,48 @@ fn soaked<R: Threads + Sync, G: Gate>(
     if text.as_slice().len() > MOST_BYTES {
         return refused(alloc, RefusedKind::TooLarge);
     }
-    soak_text(rt, alloc, asked.options, text.as_slice(), gate)
+    reply_to_text(rt, alloc, Command::Soak(asked), text.as_slice(), gate)
 }
 
-/// The reply of a check to the text of a file.
-fn check_text(alloc: Global, text: &[u8]) -> Result<Reply, AllocError>
-    requires { length text.now ≤ 1048576 }
-    ensures { IfOk result (λ reply. (file : Items ℕ) → IsTextReply (check file) text.now reply) }
-{
-    match known(alloc, text) {
-        Ok(_) => accepted(alloc),
-        Err(refusal) => reply_to_refusal(alloc, refusal),
-    }
-}
-
-/// The reply of a run to the text of a file.
-fn run_text<R: Threads + Sync, G: Gate>(
+/// The reply of a command with one text to this one. Condition: the command has no schedule.
+fn reply_to_text<R: Threads + Sync, G: Gate>(
     rt: &R,
     alloc: Global,
-    options: Options,
+    command: Command<'_>,
     text: &[u8],
     gate: &G,
 ) -> Result<Reply, AllocError>
-    requires workers { 0 < options.workers }
+    requires alone { schedule_of (meant command) ≡ None }
+    requires workers { HasWorkers (meant command) }
     requires few { length text.now ≤ 1048576 }
-    ensures { IfOk result (λ reply. (file : Items ℕ) → IsTextReply (run file options) text.now reply) }
+    ensures { IfOk result (λ reply. IsTextReply (meant command.entry) text.now reply) }
 {
     match known(alloc, text) {
-        Ok(known) => reply_to_run(rt, alloc, &known, options, gate),
+        Ok(known) => reply_to_program(rt, alloc, command, &known, gate),
         Err(refusal) => reply_to_refusal(alloc, refusal),
     }
 }
 
-/// The reply of a trace to the text of a file.
-fn trace_text<R: Threads + Sync, G: Gate>(
+/// What such a command tells of a program that breaks no rule.
+fn reply_to_program<R: Threads + Sync, G: Gate>(
     rt: &R,
     alloc: Global,
-    options: Options,
-    text: &[u8],
+    command: Command<'_>,
+    known: &Known,
     gate: &G,
 ) -> Result<Reply, AllocError>
-    requires workers { 0 < options.workers }
-    requires few { length text.now ≤ 1048576 }
-    ensures { IfOk result (λ reply. (file : Items ℕ) → IsTextReply (trace file options) text.now reply) }
+    requires alone { schedule_of (meant command) ≡ None }
+    requires workers { HasWorkers (meant command) }
+    ensures { IfOk result (λ reply. IsProgramReply (meant command.entry) known.now reply) }
 {
-    match known(alloc, text) {
-        Ok(known) => reply_to_trace(rt, alloc, &known, options, gate),
-        Err(refusal) => reply_to_refusal(alloc, refusal),
-    }
-}
-
-/// The reply of an audit to the text of a file.
-fn audit_text(alloc: Global, fuel: u32, text: &[u8]) -> Result<Reply, AllocError>
-    requires { length text.now ≤ 1048576 }
-    ensures { IfOk result (λ reply. (file : Items ℕ) → IsTextReply (audit file fuel) text.now reply) }
-{
-    match known(alloc, text) {
-        Ok(known) => reply_to_audit(alloc, fuel, &known),
-        Err(refusal) => reply_to_refusal(alloc, refusal),
-    }
-}
-
-/// The reply that tells how parallel the program with this text can be.
-fn span_text(alloc: Global, fuel: u32, text: &[u8]) -> Result<Reply, AllocError>
-    requires { length text.now ≤ 1048576 }
-    ensures { IfOk result (λ reply. (file : Items ℕ) → IsTextReply (span file fuel) text.now reply) }
-{
-    match known(alloc, text) {
-        Ok(known) => reply_to_span(alloc, fuel, &known),
-        Err(refusal) => reply_to_refusal(alloc, refusal),
-    }
-}
-
-/// The reply of a soak to the text that was generated for it.
-fn soak_text<R: Threads + Sync, G: Gate>(
-    rt: &R,
-    alloc: Global,
-    options: Options,
-    text: &[u8],
-    gate: &G,
-) -> Result<Reply, AllocError>
-    requires workers { 0 < options.workers }
-    requires few { length text.now ≤ 1048576 }
-    ensures { IfOk result (λ reply. (number size : ℕ) → IsTextReply (soak number size options) text.now reply) }
-{
-    match known(alloc, text) {
-        Ok(known) => reply_to_soak(rt, alloc, &known, options, gate),
-        Err(refusal) => reply_to_refusal(alloc, refusal),
+    match command {
+        Command::Run(_, options) => reply_to_run(rt, alloc, known, options, gate),
+        Command::Check(_) => accepted(alloc),
+        Command::Trace(_, options) => reply_to_trace(rt, alloc, known, options, gate),
+        Command::Replay(_) => unreachable!(),
+        Command::Soak(asked) => reply_to_generated(rt, alloc, known, asked.options, gate),
+        Command::Audit(_, fuel) => reply_to_audit(alloc, fuel, known),
+        Command::Span(_, fuel) => reply_to_span(alloc, fuel, known),
     }
 }
 

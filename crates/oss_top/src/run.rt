@@ -39,7 +39,7 @@ pub fn reply_to_run<R: Threads + Sync, G: Gate>(
 }
 
 /// Runs a generated program, in the mode that the options say, and counts its tasks.
-pub fn reply_to_soak<R: Threads + Sync, G: Gate>(
+pub fn reply_to_generated<R: Threads + Sync, G: Gate>(
     rt: &R,
     alloc: Global,
     known: &Known,

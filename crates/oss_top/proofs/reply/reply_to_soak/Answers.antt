@@ -4,7 +4,7 @@ use Rattle.oss_gen.specs.Generated.{generated_text}
 use Rattle.oss_top.specs.Reply.{IsFileReply}
 use Rattle.oss_top.specs.Reply.IsFileReply.{fits}
 use Rattle.oss_top.proofs.FormLemmas.{if_ok}
-use Rattle.oss_top.proofs.reply.soaked.Goals as goal
+use Rattle.oss_top.proofs.reply.reply_to_soak.Goals as goal
 
 pub returns : goal.returns
 returns g c =
@@ -12,4 +12,4 @@ returns g c =
     let text = c.as_slice-2.result.now in
     let few : length text ≤ 1048576 = search rules in
     let same : text ≡ generated_text asked.number asked.size = c.as_slice-2.ensures ∙ c.in_ok-text.ensures in
-    if_ok c.soak_text.result (λ reply is. subst (λ (t : List ℕ). IsFileReply (soak asked.number asked.size asked.options) t reply) same (fits few (is asked.number asked.size))) c.soak_text.ensures
+    if_ok c.reply_to_text.result (λ reply is. subst (λ (t : List ℕ). IsFileReply (soak asked.number asked.size asked.options) t reply) same (fits few is)) c.reply_to_text.ensures

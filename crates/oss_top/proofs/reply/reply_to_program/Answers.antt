@@ -1,0 +1,23 @@
+use Rattle.std.proofs.Common.{ap}
+use Rattle.oss_command.specs.Commands.{meant}
+use Rattle.oss_top.specs.Reply.IsProgramReply.{audited, checked, ran, soaked, spanned, traced}
+use Rattle.oss_top.proofs.FormLemmas.{if_ok}
+use Rattle.oss_top.proofs.reply.reply_to_program.Goals as goal
+
+pub returns-in-Run : goal.returns-in-Run
+returns-in-Run g c = if_ok c.reply_to_run.result (λ reply is. rw (ap meant c.in-Run.is) (ran is)) c.reply_to_run.ensures
+
+pub returns-in-Check : goal.returns-in-Check
+returns-in-Check g c = if_ok c.accepted.result (λ reply is. rw (ap meant c.in-Check.is) (checked is)) c.accepted.ensures
+
+pub returns-in-Trace : goal.returns-in-Trace
+returns-in-Trace g c = if_ok c.reply_to_trace.result (λ reply is. rw (ap meant c.in-Trace.is) (traced is)) c.reply_to_trace.ensures
+
+pub returns-in-Soak : goal.returns-in-Soak
+returns-in-Soak g c = if_ok c.reply_to_generated.result (λ reply is. rw (ap meant c.in-Soak.is) (soaked is)) c.reply_to_generated.ensures
+
+pub returns-in-Audit : goal.returns-in-Audit
+returns-in-Audit g c = if_ok c.reply_to_audit.result (λ reply is. rw (ap meant c.in-Audit.is) (audited is)) c.reply_to_audit.ensures
+
+pub returns-in-Span : goal.returns-in-Span
+returns-in-Span g c = if_ok c.reply_to_span.result (λ reply is. rw (ap meant c.in-Span.is) (spanned is)) c.reply_to_span.ensures
