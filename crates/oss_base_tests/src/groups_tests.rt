@@ -1,6 +1,6 @@
 //! Ten jobs on one, three, four and 64 workers; who does which is worked out by hand.
 
-use oss_groups::{Work, in_groups};
+use oss_thread_groups::{Work, in_groups};
 use std::alloc::{AllocError, Global};
 use std::process::Abort;
 use std::test::Fail;

@@ -4,7 +4,7 @@ ghost use Rattle.std.specs.Prelude.{◌≡◌, true};
 ghost use Rattle.oss_model.specs.Rights.{covers};
 
 use oss_syntax::{Mode, Op};
-use oss_wires::Line;
+use oss_access_lists::Line;
 use std::process::Abort;
 use std::test::Fail;
 

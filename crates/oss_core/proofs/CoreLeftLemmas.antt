@@ -15,10 +15,10 @@ use Rattle.oss_model.specs.Potential.{times, one_if, potential}
 use Rattle.oss_model.proofs.MoveLemmas.{which_path}
 use Rattle.oss_model.proofs.SequenceLemmas.{opening_main}
 use Rattle.oss_model.proofs.TreeLemmas.{at_same}
-use Rattle.oss_rounds.specs.AtOnce.{new_from}
-use Rattle.oss_rounds.specs.Rounds.{weighed}
-use Rattle.oss_rounds.specs.Left.{is_held, is_given, is_owed, owed, task_left, left, AreApart, AreTasks, summed}
-use Rattle.oss_rounds.proofs.SumLemmas.{weights_are_summed}
+use Rattle.oss_wave_laws.specs.AtOnce.{new_from}
+use Rattle.oss_wave_laws.specs.Rounds.{weighed}
+use Rattle.oss_wave_laws.specs.Left.{is_held, is_given, is_owed, owed, task_left, left, AreApart, AreTasks, summed}
+use Rattle.oss_wave_laws.proofs.SumLemmas.{weights_are_summed}
 use Rattle.oss_ranges.specs.Cells.{value_at}
 use Rattle.oss_ranges.specs.declared.piece.Piece.{Piece}
 use Rattle.oss_code.specs.declared.code.CodeParts.{CodeParts}

@@ -6,10 +6,10 @@ use Rattle.oss_model.specs.Machine.{State}
 use Rattle.oss_model.specs.Moves.{opening}
 use Rattle.oss_model.specs.Sequence.{Running, opens}
 use Rattle.oss_model.specs.Order.{here}
-use Rattle.oss_rounds.specs.AtOnce.{new_from}
-use Rattle.oss_rounds.specs.Left.{left, owed}
-use Rattle.oss_rounds.proofs.FallLemmas.{turn_acts, turns_behind, visits_behind, round_falls_at}
-use Rattle.oss_rounds.proofs.LeftLemmas.{moves_fall_at}
+use Rattle.oss_wave_laws.specs.AtOnce.{new_from}
+use Rattle.oss_wave_laws.specs.Left.{left, owed}
+use Rattle.oss_wave_laws.proofs.FallLemmas.{turn_acts, turns_behind, visits_behind, round_falls_at}
+use Rattle.oss_wave_laws.proofs.LeftLemmas.{moves_fall_at}
 use Rattle.oss_code.specs.declared.code.CodeParts.{CodeParts}
 use Rattle.oss_machine.specs.Frames.{CodeScript}
 use Rattle.oss_machine.specs.Machines.{asks}

@@ -13,13 +13,13 @@ use Rattle.oss_model.specs.Sequence.Sequential.{opens}
 use Rattle.oss_model.specs.declared.task_no.TaskNo.{TaskNo}
 use Rattle.oss_model.proofs.AgreementTheorem.{every_state_agrees}
 use Rattle.oss_model.proofs.OrderLemmas.{before_not}
-use Rattle.oss_rounds.specs.Alone.{with_part}
-use Rattle.oss_rounds.specs.AtOnce.{IsTaken, is_changed}
-use Rattle.oss_rounds.specs.Parts.{IsPart}
-use Rattle.oss_rounds.specs.Waves as waves
-use Rattle.oss_rounds.specs.Waves.{AreInOrder, IsTurn, IsWave, TakeTurns, Takes, first_stage, no_turns, turn_first, wave_ticks}
-use Rattle.oss_rounds.proofs.WaveLemmas.{Taken, taken}
-use Rattle.oss_rounds.proofs.WaveTheorem.{part_other}
+use Rattle.oss_wave_laws.specs.Alone.{with_part}
+use Rattle.oss_wave_laws.specs.AtOnce.{IsTaken, is_changed}
+use Rattle.oss_wave_laws.specs.Parts.{IsPart}
+use Rattle.oss_wave_laws.specs.Waves as waves
+use Rattle.oss_wave_laws.specs.Waves.{AreInOrder, IsTurn, IsWave, TakeTurns, Takes, first_stage, no_turns, turn_first, wave_ticks}
+use Rattle.oss_wave_laws.proofs.WaveLemmas.{Taken, taken}
+use Rattle.oss_wave_laws.proofs.WaveTheorem.{part_other}
 use Rattle.oss_code.specs.declared.code.CodeParts.{CodeParts}
 use Rattle.oss_machine.specs.Frames.{CodeScript}
 use Rattle.oss_machine.specs.Machines.{asks}
@@ -28,8 +28,8 @@ use Rattle.oss_body.specs.Relation.{IsBody, has_wait, is_over}
 use Rattle.oss_tree.specs.declared.task.Task.{Task as TreeTask}
 use Rattle.oss_tree.specs.Tasks.{HasPoint, grown}
 use Rattle.oss_tree.proofs.ListLemmas.{get_set_same}
-use Rattle.oss_part.specs.declared.segment.Segment.{Segment}
-use Rattle.oss_part.specs.Segments.{IsSegment}
+use Rattle.oss_segment.specs.declared.segment.Segment.{Segment}
+use Rattle.oss_segment.specs.Segments.{IsSegment}
 use Rattle.oss_core.specs.declared.creating.Newborn.{Newborn}
 use Rattle.oss_core.specs.declared.held.Held.{Held}
 use Rattle.oss_core.specs.declared.turns.Turn.{Turn}

@@ -7,16 +7,16 @@ use Rattle.oss_model.specs.Bodies.{Start}
 use Rattle.oss_model.specs.Machine.{State, Task}
 use Rattle.oss_model.specs.Moves.{CanStep}
 use Rattle.oss_model.specs.declared.task_no.TaskNo.{TaskNo}
-use Rattle.oss_rounds.specs.Waves as waves
-use Rattle.oss_rounds.specs.Waves.{AreInOrder, IsWave, no_turns}
-use Rattle.oss_rounds.proofs.WaveTheorem.{wave_begins}
+use Rattle.oss_wave_laws.specs.Waves as waves
+use Rattle.oss_wave_laws.specs.Waves.{AreInOrder, IsWave, no_turns}
+use Rattle.oss_wave_laws.proofs.WaveTheorem.{wave_begins}
 use Rattle.oss_code.specs.declared.code.CodeParts.{CodeParts}
 use Rattle.oss_machine.specs.Frames.{CodeScript}
 use Rattle.oss_machine.specs.Machines.{asks}
 use Rattle.oss_body.specs.declared.body.Body.{Body}
 use Rattle.oss_tree.specs.declared.task.Task.{Task as TreeTask}
 use Rattle.oss_tree.specs.Tasks.{HasPoint, number}
-use Rattle.oss_part.specs.declared.segment.Segment.{Segment}
+use Rattle.oss_segment.specs.declared.segment.Segment.{Segment}
 use Rattle.oss_core.specs.declared.creating.Newborn.{Newborn}
 use Rattle.oss_core.specs.declared.held.Held.{Held}
 use Rattle.oss_core.specs.declared.turns.Turn.{Turn}

@@ -14,12 +14,12 @@ use Rattle.oss_model.specs.declared.task_no.TaskNo.{TaskNo}
 use Rattle.oss_model.proofs.OrderLemmas.{Compared, before_not, compare}
 use Rattle.oss_model.proofs.SortLemmas.{reverse_same}
 use Rattle.oss_model.proofs.TreeLemmas.{at_same}
-use Rattle.oss_rounds.specs.Passes.{ArePlaces, GivenUp, IsEarlierPlace, IsKept, IsPass, IsPlace, Place}
-use Rattle.oss_rounds.specs.Rounds.{Span, goes_on_from, in_front, span_of, spans}
-use Rattle.oss_rounds.proofs.ExistLemmas.{places_are}
-use Rattle.oss_rounds.proofs.FallLemmas.{all_kept}
-use Rattle.oss_rounds.proofs.GatherLemmas.{never_both, places_through}
-use Rattle.oss_rounds.proofs.SumLemmas.{in_none}
+use Rattle.oss_wave_laws.specs.Passes.{ArePlaces, GivenUp, IsEarlierPlace, IsKept, IsPass, IsPlace, Place}
+use Rattle.oss_wave_laws.specs.Rounds.{Span, goes_on_from, in_front, span_of, spans}
+use Rattle.oss_wave_laws.proofs.ExistLemmas.{places_are}
+use Rattle.oss_wave_laws.proofs.FallLemmas.{all_kept}
+use Rattle.oss_wave_laws.proofs.GatherLemmas.{never_both, places_through}
+use Rattle.oss_wave_laws.proofs.SumLemmas.{in_none}
 use Rattle.oss_code.specs.declared.code.CodeParts.{CodeParts}
 use Rattle.oss_machine.specs.Frames.{CodeScript}
 use Rattle.oss_machine.specs.Machines.{asks}

@@ -15,15 +15,15 @@ use Rattle.oss_model.specs.Moves.{CanStep, Stepped, cells_after, found_by, openi
 use Rattle.oss_model.specs.Sequence.{Running}
 use Rattle.oss_model.specs.Sequence.Sequential.{opens}
 use Rattle.oss_model.proofs.StageLemmas.{created_goes_on}
-use Rattle.oss_rounds.specs.Alone.{IsAlonePart, IsInWave, with_found, with_part}
-use Rattle.oss_rounds.specs.AtOnce.{IsTaken}
-use Rattle.oss_rounds.specs.Parts.{IsPart, Stage, act_after, stage_after, ticks_after}
-use Rattle.oss_rounds.specs.Waves.{Takes, first_stage, takes_more, takes_none, wave_ticks}
-use Rattle.oss_rounds.proofs.AtOnceLemmas.{leaves}
-use Rattle.oss_rounds.proofs.PartLemmas.{goes_from}
-use Rattle.oss_rounds.proofs.PartTheorem.{goes_on as part_goes}
-use Rattle.oss_rounds.proofs.WaveLemmas.{taken}
-use Rattle.oss_rounds.proofs.WaveTheorem.{part_own}
+use Rattle.oss_wave_laws.specs.Alone.{IsAlonePart, IsInWave, with_found, with_part}
+use Rattle.oss_wave_laws.specs.AtOnce.{IsTaken}
+use Rattle.oss_wave_laws.specs.Parts.{IsPart, Stage, act_after, stage_after, ticks_after}
+use Rattle.oss_wave_laws.specs.Waves.{Takes, first_stage, takes_more, takes_none, wave_ticks}
+use Rattle.oss_wave_laws.proofs.AtOnceLemmas.{leaves}
+use Rattle.oss_wave_laws.proofs.PartLemmas.{goes_from}
+use Rattle.oss_wave_laws.proofs.PartTheorem.{goes_on as part_goes}
+use Rattle.oss_wave_laws.proofs.WaveLemmas.{taken}
+use Rattle.oss_wave_laws.proofs.WaveTheorem.{part_own}
 use Rattle.oss_code.specs.declared.code.CodeParts.{CodeParts}
 use Rattle.oss_machine.specs.Frames.{CodeScript}
 use Rattle.oss_machine.specs.Machines.{asks}
@@ -36,7 +36,7 @@ use Rattle.oss_tree.specs.declared.output.Print.{Print}
 use Rattle.oss_tree.specs.Tasks.{HasPoint, MayCreate, grown}
 use Rattle.oss_tree.proofs.ListLemmas.{get_set_other, get_set_same, longer_by}
 use Rattle.oss_deps.specs.Seen.{CanOpen, Opens, Seen}
-use Rattle.oss_part.specs.Segments.{IsKeyed, Went, with_print, went_none, went_on, went_new}
+use Rattle.oss_segment.specs.Segments.{IsKeyed, Went, with_print, went_none, went_on, went_new}
 use Rattle.oss_core.specs.declared.creating.Newborn.{Newborn}
 use Rattle.oss_core.specs.declared.held.Held.{Held}
 use Rattle.oss_core.specs.Changes.{Creates, Steps, found_in, noted, prints_after}

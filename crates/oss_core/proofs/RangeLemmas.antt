@@ -14,7 +14,7 @@ use Rattle.oss_machine.specs.Frames.{CodeScript}
 use Rattle.oss_machine.specs.Machines.{asks}
 use Rattle.oss_tree.specs.Tasks.{HasPoint}
 use Rattle.oss_tree.proofs.ListLemmas.{get_set_other, get_set_same}
-use Rattle.oss_rounds.specs.Passes.{Visits, gives, visits_none}
+use Rattle.oss_wave_laws.specs.Passes.{Visits, gives, visits_none}
 use Rattle.oss_core.specs.declared.held.Held.{Held}
 use Rattle.oss_core.specs.declared.held.Owed.{Owed}
 use Rattle.oss_core.specs.declared.held.Owed.TheVariants as owed

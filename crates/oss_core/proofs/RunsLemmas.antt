@@ -7,9 +7,9 @@ use Rattle.oss_model.specs.Order.{IsIn, written}
 use Rattle.oss_model.specs.Bodies.{Start}
 use Rattle.oss_model.specs.Machine.{State, Task}
 use Rattle.oss_model.specs.Moves.{CanJoin}
-use Rattle.oss_rounds.specs.Passes.{GivenUp, IsKept, Place, Visits, merges, visits_none}
-use Rattle.oss_rounds.specs.Rounds.{Span, spans}
-use Rattle.oss_rounds.proofs.SumLemmas.{in_cases, in_none}
+use Rattle.oss_wave_laws.specs.Passes.{GivenUp, IsKept, Place, Visits, merges, visits_none}
+use Rattle.oss_wave_laws.specs.Rounds.{Span, spans}
+use Rattle.oss_wave_laws.proofs.SumLemmas.{in_cases, in_none}
 use Rattle.oss_code.specs.declared.code.CodeParts.{CodeParts}
 use Rattle.oss_machine.specs.Frames.{CodeScript}
 use Rattle.oss_machine.specs.Machines.{asks}

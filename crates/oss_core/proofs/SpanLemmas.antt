@@ -5,8 +5,8 @@ use Rattle.std.proofs.lemmas.Bool.Decides.{nat_tests}
 use Rattle.oss_model.specs.Machine.{same_path}
 use Rattle.oss_model.proofs.Exclusive.{same_self}
 use Rattle.oss_model.proofs.TreeLemmas.{same_path_is}
-use Rattle.oss_rounds.specs.Passes.{GivenUp}
-use Rattle.oss_rounds.specs.Rounds.{Span, alike, goes_on_from, in_front, spans}
+use Rattle.oss_wave_laws.specs.Passes.{GivenUp}
+use Rattle.oss_wave_laws.specs.Rounds.{Span, alike, goes_on_from, in_front, spans}
 
 -- so many cells of a task from one on, given up in one way
 abbrev pub cells_of : List ℕ → ℕ → ℕ → Bool → List GivenUp

@@ -6,7 +6,7 @@ use Rattle.oss_model.specs.Order.{written}
 use Rattle.oss_model.specs.Machine.{same_path}
 use Rattle.oss_model.proofs.Exclusive.{same_self}
 use Rattle.oss_model.proofs.TreeLemmas.{same_path_is}
-use Rattle.oss_rounds.specs.Rounds.{Span, alike}
+use Rattle.oss_wave_laws.specs.Rounds.{Span, alike}
 use Rattle.oss_tree.specs.declared.task.Task.{Task as TreeTask}
 use Rattle.oss_tree.specs.Tasks.{HasPoint, IsTree}
 use Rattle.oss_tree.proofs.TreeLemmas.{one_point}

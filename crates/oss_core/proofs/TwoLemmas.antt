@@ -3,7 +3,7 @@ use Rattle.std.proofs.Common.{◌≡◌, ℕ, zero, suc, ◌<◌, ◌⊎◌, inl
 use Rattle.std.specs.Prelude.{slice_get}
 use Rattle.oss_model.specs.Order.{IsBefore, IsIn, here, there, same, shorter}
 use Rattle.oss_model.specs.declared.task_no.TaskNo.{TaskNo}
-use Rattle.oss_rounds.proofs.SumLemmas.{in_cases, in_none}
+use Rattle.oss_wave_laws.proofs.SumLemmas.{in_cases, in_none}
 use Rattle.oss_tree.specs.declared.task.Task.{Task}
 use Rattle.oss_tree.specs.Tasks.{HasPoint, IsTree, number}
 use Rattle.oss_core.specs.Awake.{HaveGivers}

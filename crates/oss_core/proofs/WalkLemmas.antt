@@ -10,9 +10,9 @@ use Rattle.oss_model.specs.Machine.{Task, State, At, Owes}
 use Rattle.oss_model.specs.Moves.{CanJoin, CanLet, GaveUp, after_giving}
 use Rattle.oss_model.proofs.MoveLemmas.{which_path}
 use Rattle.oss_model.proofs.OrderLemmas.{before_not}
-use Rattle.oss_rounds.specs.Passes.{Place, IsEarlierPlace, IsPlace, AreSorted, ArePlaces, GivenUp, IsKept, Visits, IsPass, visits_none, keeps, gives, merges}
-use Rattle.oss_rounds.proofs.GatherLemmas.{never_both, places_never, places_compared, places_through}
-use Rattle.oss_rounds.proofs.SumLemmas.{in_cases, in_none}
+use Rattle.oss_wave_laws.specs.Passes.{Place, IsEarlierPlace, IsPlace, AreSorted, ArePlaces, GivenUp, IsKept, Visits, IsPass, visits_none, keeps, gives, merges}
+use Rattle.oss_wave_laws.proofs.GatherLemmas.{never_both, places_never, places_compared, places_through}
+use Rattle.oss_wave_laws.proofs.SumLemmas.{in_cases, in_none}
 use Rattle.oss_core.proofs.KeepLemmas.{some_is}
 
 -- the cell of a task as a place

@@ -1,5 +1,5 @@
 -- What is left to do for a core, told of what it keeps alone: a number that falls with each move of the machine, so a loop over a core may have it as
--- its measure. It is what is left to do in the state (`left` in `oss_rounds`) but for main's cells, which main never gives up.
+-- its measure. It is what is left to do in the state (`left` in `oss_wave_laws`) but for main's cells, which main never gives up.
 -- Read against: in a memory of 2 cells a task that owes both, and whose body counts for 3, counts for 3 * 3 + 2; when its last act is done, for 2; and
 -- behind the let of one cell for 1. Main, which owes no cell, counts for 3 times what its body counts for, and for nothing behind its end. Behind a
 -- whole run of such tasks nothing is left; behind one that a fault has stopped something may be.
@@ -9,9 +9,9 @@ use Rattle.oss_model.specs.Machine.{State}
 use Rattle.oss_model.specs.Moves.{Moved}
 use Rattle.oss_model.specs.Answers.{IsStopped}
 use Rattle.oss_model.specs.Potential.{times, one_if}
-use Rattle.oss_rounds.specs.Waves.{Turn, IsWave}
-use Rattle.oss_rounds.specs.Passes.{GivenUp, IsPass}
-use Rattle.oss_rounds.specs.Rounds.{Round, IsRound}
+use Rattle.oss_wave_laws.specs.Waves.{Turn, IsWave}
+use Rattle.oss_wave_laws.specs.Passes.{GivenUp, IsPass}
+use Rattle.oss_wave_laws.specs.Rounds.{Round, IsRound}
 use Rattle.oss_ranges.specs.Cells.{value_at}
 use Rattle.oss_ranges.specs.declared.piece.Piece.{Piece}
 use Rattle.oss_code.specs.declared.code.CodeParts.{CodeParts}

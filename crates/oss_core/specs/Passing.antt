@@ -7,8 +7,8 @@ use Rattle.oss_model.specs.Order.{written}
 use Rattle.oss_model.specs.Bodies.{Start}
 use Rattle.oss_model.specs.Machine.{State}
 use Rattle.oss_model.specs.declared.task_no.TaskNo.{TaskNo}
-use Rattle.oss_rounds.specs.Passes.{GivenUp, IsPass}
-use Rattle.oss_rounds.specs.Rounds.{Span, spans}
+use Rattle.oss_wave_laws.specs.Passes.{GivenUp, IsPass}
+use Rattle.oss_wave_laws.specs.Rounds.{Span, spans}
 use Rattle.oss_ranges.specs.Cells.{Assigns, is_within, value_at}
 use Rattle.oss_code.specs.declared.code.CodeParts.{CodeParts}
 use Rattle.oss_machine.specs.Frames.{CodeScript}

@@ -6,9 +6,9 @@ use Rattle.oss_model.specs.Order.{IsIn, written}
 use Rattle.oss_model.specs.Bodies.{Start}
 use Rattle.oss_model.specs.Machine.{State}
 use Rattle.oss_model.specs.declared.task_no.TaskNo.{TaskNo}
-use Rattle.oss_rounds.specs.Alone.{IsInWave}
-use Rattle.oss_rounds.specs.Waves as waves
-use Rattle.oss_rounds.specs.Waves.{IsTurn, IsWave, TakeTurns}
+use Rattle.oss_wave_laws.specs.Alone.{IsInWave}
+use Rattle.oss_wave_laws.specs.Waves as waves
+use Rattle.oss_wave_laws.specs.Waves.{IsTurn, IsWave, TakeTurns}
 use Rattle.oss_code.specs.declared.code.CodeParts.{CodeParts}
 use Rattle.oss_machine.specs.Frames.{CodeScript}
 use Rattle.oss_machine.specs.Machines.{asks}
@@ -16,8 +16,8 @@ use Rattle.oss_body.specs.declared.body.Body.{Body}
 use Rattle.oss_body.specs.Relation.{IsBody}
 use Rattle.oss_tree.specs.declared.task.Task.{Task as TreeTask}
 use Rattle.oss_tree.specs.Tasks.{HasPoint}
-use Rattle.oss_part.specs.declared.segment.Segment.{Segment}
-use Rattle.oss_part.specs.Segments.{IsKnown, IsSegment}
+use Rattle.oss_segment.specs.declared.segment.Segment.{Segment}
+use Rattle.oss_segment.specs.Segments.{IsKnown, IsSegment}
 use Rattle.oss_core.specs.declared.held.Held.{Held}
 use Rattle.oss_core.specs.declared.turns.Turn.{Turn}
 use Rattle.oss_core.specs.Kept.{IsCore, Kept}

@@ -16,7 +16,7 @@ use oss_body::Body;
 use oss_body::memory::set;
 use oss_deps::Deps;
 use oss_model::TaskNo;
-use oss_part::Segment;
+use oss_segment::Segment;
 use oss_ranges::RangeMap;
 use oss_tree::{Print, Tree};
 use std::alloc::{AllocError, Global};

@@ -8,7 +8,7 @@ ghost use Rattle.oss_model.specs.declared.task_no.TaskNo.{TaskNo as Number};
 ghost use Rattle.oss_code.specs.declared.code.CodeParts.{CodeParts};
 ghost use Rattle.oss_machine.specs.Frames.{CodeScript};
 ghost use Rattle.oss_body.specs.declared.body.Body.{Body as Known};
-ghost use Rattle.oss_part.specs.Segments.{IsKnown};
+ghost use Rattle.oss_segment.specs.Segments.{IsKnown};
 ghost use Rattle.oss_core.specs.Turns.{ArePartsOf, IsBeside, IsFilled};
 
 use crate::machine::Core;
@@ -18,7 +18,7 @@ use oss_body::{Body, main_body};
 use oss_code::Code;
 use oss_deps::Deps;
 use oss_model::TaskNo;
-use oss_part::Segment;
+use oss_segment::Segment;
 use std::alloc::{AllocError, Global};
 
 /// The bodies that are out in a wave, with the tasks that they are of, in point order.

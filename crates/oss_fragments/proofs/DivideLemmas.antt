@@ -9,7 +9,7 @@ use Rattle.oss_ranges.specs.declared.piece.Piece.{Piece}
 use Rattle.oss_ranges.specs.Cells.{Assigns, value_at}
 use Rattle.oss_deps.proofs.Basics.{bools, both, both_of, some_is, some_none, same_at, compared}
 use Rattle.oss_deps.proofs.CloseLemmas.{same_number, get_set_same, get_set_other}
-use Rattle.oss_retired.proofs.TableLemmas.{same_tells}
+use Rattle.oss_retire.proofs.TableLemmas.{same_tells}
 use Rattle.oss_fragments.specs.declared.fragment.Fragment.{Fragment}
 use Rattle.oss_fragments.specs.Here.{AreEntries, here_of}
 use Rattle.oss_fragments.specs.Kept.{here_by, is_asked}

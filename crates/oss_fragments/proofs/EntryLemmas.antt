@@ -5,9 +5,9 @@ use Rattle.std.proofs.lemmas.Option.{slice_get_within}
 use Rattle.std.specs.Prelude.{◌==◌, slice_get}
 use Rattle.oss_syntax.specs.declared.access.Mode.{Mode}
 use Rattle.oss_deps.proofs.Basics.{bools, some_is, same_at}
-use Rattle.oss_wires.specs.declared.hang.Hang.{Hang}
-use Rattle.oss_wires.specs.Steps.{IsHung, IsGift}
-use Rattle.oss_wires.specs.Tables.{gave_in, given_up, hang_at, last_in, new_hang, next_link, opened_in, wires_of, with_last, with_next}
+use Rattle.oss_access_lists.specs.declared.hang.Hang.{Hang}
+use Rattle.oss_access_lists.specs.Steps.{IsHung, IsGift}
+use Rattle.oss_access_lists.specs.Tables.{gave_in, given_up, hang_at, last_in, new_hang, next_link, opened_in, wires_of, with_last, with_next}
 use Rattle.oss_fragments.specs.declared.fragment.Fragment.{Fragment}
 use Rattle.oss_fragments.specs.Here.{Here, AreEntries, IsEntry, here_of}
 use Rattle.oss_fragments.specs.Stretches.{IsFragment, HasRoom}

@@ -2,12 +2,12 @@
 use Rattle.std.proofs.Common.{◌≡◌, ℕ, ◌<◌, sym, ap, subst, ◌∙◌, ◌⊎◌, inl, inr, Bool, true, false, ◌↔◌, List, Some, arith, length}
 use Rattle.std.specs.Prelude.{IsTrue, slice_get}
 use Rattle.oss_deps.proofs.Basics.{bools, clash}
-use Rattle.oss_wires.specs.declared.hang.Hang.{Hang}
-use Rattle.oss_wires.specs.declared.marks.Marks.{Marks}
-use Rattle.oss_wires.specs.Tables.{marks_at}
-use Rattle.oss_retired.specs.Remainder.{AreRising, IsRemainder, is_spent}
-use Rattle.oss_retired.specs.Tables.{TellsTheSame}
-use Rattle.oss_retired.proofs.TableLemmas.{same_tells, tells_both, whole_remainder}
+use Rattle.oss_access_lists.specs.declared.hang.Hang.{Hang}
+use Rattle.oss_access_lists.specs.declared.marks.Marks.{Marks}
+use Rattle.oss_access_lists.specs.Tables.{marks_at}
+use Rattle.oss_retire.specs.Remainder.{AreRising, IsRemainder, is_spent}
+use Rattle.oss_retire.specs.Tables.{TellsTheSame}
+use Rattle.oss_retire.proofs.TableLemmas.{same_tells, tells_both, whole_remainder}
 use Rattle.oss_fragments.specs.declared.fragment.Fragment.{Fragment}
 use Rattle.oss_fragments.specs.Here.{Here, IsLess}
 use Rattle.oss_fragments.specs.Stretches.{IsFragment, HasRoom}

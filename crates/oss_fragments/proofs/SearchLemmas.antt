@@ -3,7 +3,7 @@ use Rattle.std.proofs.Common.{◌≡◌, ℕ, ◌+◌, ◌<◌, ◌≤◌, sym, 
 use Rattle.std.proofs.lemmas.Option.{slice_get_within, slice_get-get_or}
 use Rattle.std.specs.Prelude.{slice_get}
 use Rattle.oss_deps.proofs.Basics.{same_at, compared}
-use Rattle.oss_retired.specs.Remainder.{AreRising}
+use Rattle.oss_retire.specs.Remainder.{AreRising}
 
 -- The smaller numbers end before a place, and the greater ones begin at another.
 pub record IsSought (xs : List ℕ) (n lo hi : ℕ) : Type 0 where

@@ -6,11 +6,11 @@
 use Rattle.std.specs.Prelude.{◌≡◌, ℕ, ◌<◌, false, true, List, [], ◌∷◌, ◌++◌, length, slice_get, Some}
 use Rattle.oss_syntax.specs.declared.access.Mode.{Mode}
 use Rattle.oss_model.specs.Rights.{covers}
-use Rattle.oss_wires.specs.declared.hang.Hang.{Hang}
-use Rattle.oss_wires.specs.Steps.{IsHung, IsGift}
-use Rattle.oss_wires.specs.Tables.{gave_in, hang_at, no_hang, opened_in, wires_of}
-use Rattle.oss_retired.specs.Remainder.{AreRising}
-use Rattle.oss_retired.specs.Tables.{TellsTheSame}
+use Rattle.oss_access_lists.specs.declared.hang.Hang.{Hang}
+use Rattle.oss_access_lists.specs.Steps.{IsHung, IsGift}
+use Rattle.oss_access_lists.specs.Tables.{gave_in, hang_at, no_hang, opened_in, wires_of}
+use Rattle.oss_retire.specs.Remainder.{AreRising}
+use Rattle.oss_retire.specs.Tables.{TellsTheSame}
 use Rattle.oss_fragments.specs.declared.fragment.Fragment.{Fragment}
 
 -- The accesses to one cell.

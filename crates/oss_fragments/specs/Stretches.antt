@@ -6,7 +6,7 @@ use Rattle.oss_syntax.specs.declared.access.Access.{Access}
 use Rattle.oss_model.specs.Order.{IsIn}
 use Rattle.oss_ranges.specs.declared.piece.Piece.{Piece}
 use Rattle.oss_ranges.specs.Cells.{value_at}
-use Rattle.oss_wires.specs.Kept.{HasRoom as LineHasRoom}
+use Rattle.oss_access_lists.specs.Kept.{HasRoom as LineHasRoom}
 use Rattle.oss_fragments.specs.declared.fragment.Fragment.{Fragment}
 use Rattle.oss_fragments.specs.Here.{here_of, AreEntries}
 

@@ -1,16 +1,16 @@
 ghost use Rattle.std.specs.Prelude.{◌≡◌, ◌<◌, ◌++◌, [], ◌∷◌, ℕ, false, true, length, IfNone, IfOk, IfSome, OnErr, OnOk};
 ghost use Rattle.oss_model.specs.Rights.{covers};
-ghost use Rattle.oss_wires.specs.Steps.{IsGift, IsHung};
-ghost use Rattle.oss_wires.specs.Tables.{gave_in, hang_at, opened_in, wires_of};
-ghost use Rattle.oss_retired.specs.Remainder.{IsRemainder};
+ghost use Rattle.oss_access_lists.specs.Steps.{IsGift, IsHung};
+ghost use Rattle.oss_access_lists.specs.Tables.{gave_in, hang_at, opened_in, wires_of};
+ghost use Rattle.oss_retire.specs.Remainder.{IsRemainder};
 ghost use Rattle.oss_fragments.specs.Here.{AreEntries, IsEntry, IsShown, MayHang, bare, here_of};
 ghost use Rattle.oss_fragments.specs.Stretches.{HasRoom, IsFragment};
 ghost use Rattle.oss_fragments.specs.Changes.{HasSameEdges, IsGivenIn, IsOpenedIn, IsRoomier, IsThinner};
 
 use crate::places::place_of;
-use oss_retired::{Remainder, has_spent, remainder_of};
+use oss_retire::{Remainder, has_spent, remainder_of};
 use oss_syntax::Mode;
-use oss_wires::Line;
+use oss_access_lists::Line;
 use std::alloc::{AllocError, Global};
 
 /// Cells that no cut divides: all have the same accesses, which are kept once.

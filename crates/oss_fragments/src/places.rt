@@ -1,5 +1,5 @@
 ghost use Rattle.std.specs.Prelude.{◌≡◌, ℕ, IfNone, IfSome, Some, slice_get};
-ghost use Rattle.oss_retired.specs.Remainder.{AreRising};
+ghost use Rattle.oss_retire.specs.Remainder.{AreRising};
 
 /// Where a number stands among numbers that rise. It costs the logarithm of how many there are.
 pub(crate) fn place_of(numbers: &[usize], number: usize) -> Option<usize>

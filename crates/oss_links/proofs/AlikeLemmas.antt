@@ -2,11 +2,11 @@
 use Rattle.std.proofs.Common.{◌≡◌, ℕ, refl, sym, subst, ap, ◌∙◌, ◌⊎◌, inl, inr, Bool, true, false, List, [], Option, Some, None, eq-eqb, eqb-true}
 use Rattle.std.specs.Prelude.{◌==◌, ◌||◌, if◌then◌else◌}
 use Rattle.oss_deps.specs.declared.opened.Open.{Open}
-use Rattle.oss_wires.specs.Wires.{Wires, IsBelow, head, tail}
-use Rattle.oss_wires.specs.Steps.{IsGift}
-use Rattle.oss_wires.proofs.GiftLemmas.{same_wires}
-use Rattle.oss_wires.proofs.SoundLemmas.{bools}
-use Rattle.oss_wires.proofs.StepLemmas.{same_or}
+use Rattle.oss_access_lists.specs.Wires.{Wires, IsBelow, head, tail}
+use Rattle.oss_access_lists.specs.Steps.{IsGift}
+use Rattle.oss_access_lists.proofs.GiftLemmas.{same_wires}
+use Rattle.oss_access_lists.proofs.SoundLemmas.{bools}
+use Rattle.oss_access_lists.proofs.StepLemmas.{same_or}
 use Rattle.oss_links.specs.Held.{AreAlike, AreEmpty, AreHeld, IsAccessOf, IsAdded, IsUnder, new, old, under_main, under_task, with_task}
 
 -- the first access, and each other one

@@ -10,11 +10,11 @@ use Rattle.oss_deps.specs.Columns.{IsNumber, IsNumberOf}
 use Rattle.oss_deps.specs.Seen.{CanOpen, Seen}
 use Rattle.oss_deps.proofs.Basics.{or_cases, or_left, or_right, some_is}
 use Rattle.oss_deps.proofs.OpenLemmas.{get_in, not_main}
-use Rattle.oss_wires.specs.declared.hang.Hang.{Hang}
-use Rattle.oss_wires.specs.Wires.{loose}
-use Rattle.oss_wires.specs.Steps.{IsGift, IsHung}
-use Rattle.oss_wires.specs.Tables.{hang_at, last_in, new_hang, next_link, no_hang, opened_in, wires_of, with_last, with_next}
-use Rattle.oss_wires.proofs.StepLemmas.{same_or}
+use Rattle.oss_access_lists.specs.declared.hang.Hang.{Hang}
+use Rattle.oss_access_lists.specs.Wires.{loose}
+use Rattle.oss_access_lists.specs.Steps.{IsGift, IsHung}
+use Rattle.oss_access_lists.specs.Tables.{hang_at, last_in, new_hang, next_link, no_hang, opened_in, wires_of, with_last, with_next}
+use Rattle.oss_access_lists.proofs.StepLemmas.{same_or}
 use Rattle.oss_links.specs.Held.{AreHeld, IsAccessOf, IsAccessOrMain, IsNewAccess, with_task}
 use Rattle.oss_links.specs.Numbers.{IsCellHeld, given_by, task_by}
 use Rattle.oss_links.proofs.AlikeLemmas.{empty_holds, held_given, held_renamed, held_told}

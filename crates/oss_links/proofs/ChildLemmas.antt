@@ -4,12 +4,12 @@ use Rattle.std.specs.Prelude.{◌==◌}
 use Rattle.oss_model.specs.Forest.{IsDone}
 use Rattle.oss_deps.specs.declared.opened.Open.{Open}
 use Rattle.oss_deps.specs.Opens.{opened_forest, AreOrdered, AreChildrenDone, HasOpened}
-use Rattle.oss_wires.specs.declared.marks.Marks.{Marks}
-use Rattle.oss_wires.specs.Wires.{Wires, IsBelow, wired}
-use Rattle.oss_wires.specs.Flags.{AreAtRest, AreBelowDone, is_whole}
-use Rattle.oss_wires.proofs.GrowLemmas.{one_list}
-use Rattle.oss_wires.proofs.SoundLemmas.{is_zero}
-use Rattle.oss_wires.proofs.StepLemmas.{last_tells}
+use Rattle.oss_access_lists.specs.declared.marks.Marks.{Marks}
+use Rattle.oss_access_lists.specs.Wires.{Wires, IsBelow, wired}
+use Rattle.oss_access_lists.specs.Flags.{AreAtRest, AreBelowDone, is_whole}
+use Rattle.oss_access_lists.proofs.GrowLemmas.{one_list}
+use Rattle.oss_access_lists.proofs.SoundLemmas.{is_zero}
+use Rattle.oss_access_lists.proofs.StepLemmas.{last_tells}
 use Rattle.oss_links.specs.Held.{AreHeld, IsAccessOrMain, IsUnder, under_main, under_task}
 use Rattle.oss_links.specs.Readings.{is_list_done}
 use Rattle.oss_links.proofs.ReadLemmas.{same_as}

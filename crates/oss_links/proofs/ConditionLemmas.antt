@@ -9,7 +9,7 @@ use Rattle.oss_deps.specs.declared.opened.Open.{Open}
 use Rattle.oss_deps.specs.Opens.{AreChildrenDone, AreCovered, AreOrdered, HasCover, HasOpened, mode_at, mode_in, names, opened_forest}
 use Rattle.oss_deps.specs.Seen.{CanGive, CanOpen, HasHeldCover, Seen}
 use Rattle.oss_deps.proofs.OpenLemmas.{mode_is}
-use Rattle.oss_wires.specs.Wires.{Wires}
+use Rattle.oss_access_lists.specs.Wires.{Wires}
 use Rattle.oss_links.specs.Held.{AreHeld, IsAccessOrMain}
 
 writes_cover : (m n : Mode) → m ≡ Write → covers m n ≡ true

@@ -5,10 +5,10 @@ use Rattle.oss_model.specs.Order.{IsIn, here, there}
 use Rattle.oss_deps.specs.declared.opened.Open.{Open}
 use Rattle.oss_deps.specs.Opens.{names, mode_at, mode_in, HasOpened, Precedes, first as first_of, later as later_of, IsOpened}
 use Rattle.oss_deps.proofs.OpenLemmas.{in_front, in_last, in_added, precedes_in, precedes_in_last}
-use Rattle.oss_wires.specs.Wires.{Wires, IsBelow, IsBefore}
-use Rattle.oss_wires.specs.Steps.{IsHung}
-use Rattle.oss_wires.proofs.GrowLemmas as grow
-use Rattle.oss_wires.proofs.StepLemmas.{same_or}
+use Rattle.oss_access_lists.specs.Wires.{Wires, IsBelow, IsBefore}
+use Rattle.oss_access_lists.specs.Steps.{IsHung}
+use Rattle.oss_access_lists.proofs.GrowLemmas as grow
+use Rattle.oss_access_lists.proofs.StepLemmas.{same_or}
 use Rattle.oss_links.specs.Held.{IsUnder, under_main, under_task, AreHeld, IsAccessOrMain, IsNewAccess, IsAdded, old, new}
 
 -- which precede in a list that goes on by one

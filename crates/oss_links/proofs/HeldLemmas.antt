@@ -6,10 +6,10 @@ use Rattle.oss_deps.specs.declared.opened.Open.{Open}
 use Rattle.oss_deps.specs.Opens.{names, mode_at, mode_in, HasOpened, Precedes, first as first_of, later as later_of, AreOrdered, opened_forest}
 use Rattle.oss_deps.specs.Opens as opens_of
 use Rattle.oss_deps.proofs.OpenLemmas.{one_entry, precedes_in_last, precedes_in}
-use Rattle.oss_wires.specs.Wires.{Wires, IsBelow, IsBefore, wired}
-use Rattle.oss_wires.proofs.GrowLemmas.{one_list}
-use Rattle.oss_wires.proofs.SoundLemmas.{rises}
-use Rattle.oss_wires.proofs.CompleteLemmas.{listed_before}
+use Rattle.oss_access_lists.specs.Wires.{Wires, IsBelow, IsBefore, wired}
+use Rattle.oss_access_lists.proofs.GrowLemmas.{one_list}
+use Rattle.oss_access_lists.proofs.SoundLemmas.{rises}
+use Rattle.oss_access_lists.proofs.CompleteLemmas.{listed_before}
 use Rattle.oss_links.specs.Held.{IsUnder, under_main, under_task, AreHeld}
 
 -- of two members one stands before the other

@@ -10,7 +10,7 @@ use Rattle.oss_deps.specs.declared.opened.Open.{Open}
 use Rattle.oss_deps.specs.Opens.{access_at, is_some_access, names, AreOpens, AreOrdered, Asks, IsMet}
 use Rattle.oss_deps.proofs.Basics.{bools}
 use Rattle.oss_deps.proofs.OpenLemmas.{access_found, not_main, one_entry}
-use Rattle.oss_wires.specs.declared.marks.Marks.{Marks}
+use Rattle.oss_access_lists.specs.declared.marks.Marks.{Marks}
 use Rattle.oss_links.specs.Readings.{AreLet, TellOfEach, TellOfTask, is_let, is_let_go}
 
 named_by : (o : Open) (c : ℕ) (a : Access) → access_at o.accesses c ≡ Some a → names c o ≡ true

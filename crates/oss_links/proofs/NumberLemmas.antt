@@ -6,9 +6,9 @@ use Rattle.oss_deps.specs.declared.opened.Open.{Open}
 use Rattle.oss_deps.specs.Opens.{AreOrdered}
 use Rattle.oss_deps.proofs.Basics.{both, both_of, compared, or_cases, or_left, or_right, some_is}
 use Rattle.oss_deps.proofs.OpenLemmas.{one_place}
-use Rattle.oss_wires.specs.declared.hang.Hang.{Hang}
-use Rattle.oss_wires.specs.Tables.{hang_at}
-use Rattle.oss_wires.proofs.StepLemmas.{same_or}
+use Rattle.oss_access_lists.specs.declared.hang.Hang.{Hang}
+use Rattle.oss_access_lists.specs.Tables.{hang_at}
+use Rattle.oss_access_lists.proofs.StepLemmas.{same_or}
 use Rattle.oss_links.specs.Held.{with_task}
 use Rattle.oss_links.specs.Numbers.{any_below, given_by, is_task, task_by, task_in, task_numbered}
 

@@ -7,10 +7,10 @@ use Rattle.oss_model.specs.Matching.{HaveSameFlags, before}
 use Rattle.oss_model.proofs.MatchingLemmas.{same_flags}
 use Rattle.oss_deps.specs.declared.opened.Open.{Open}
 use Rattle.oss_deps.specs.Opens.{IsEarlier, mode_in, opened_forest, AreOrdered}
-use Rattle.oss_wires.specs.declared.marks.Marks.{Marks}
-use Rattle.oss_wires.specs.Wires.{Wires, IsBefore, wired}
-use Rattle.oss_wires.specs.Flags.{MayRead, MayJoin, MayWrite, Given, Done, Clear, Means}
-use Rattle.oss_wires.proofs.SoundLemmas.{same_folded}
+use Rattle.oss_access_lists.specs.declared.marks.Marks.{Marks}
+use Rattle.oss_access_lists.specs.Wires.{Wires, IsBefore, wired}
+use Rattle.oss_access_lists.specs.Flags.{MayRead, MayJoin, MayWrite, Given, Done, Clear, Means}
+use Rattle.oss_access_lists.proofs.SoundLemmas.{same_folded}
 use Rattle.oss_links.specs.Held.{AreHeld}
 use Rattle.oss_links.specs.Readings.{AreTrue, TellOfTask}
 use Rattle.oss_links.proofs.HeldLemmas.{held_matches}

@@ -3,10 +3,10 @@ use Rattle.std.proofs.Common.{◌≡◌, ℕ, ◌<◌, refl, sym, subst, ◌∙�
 use Rattle.std.specs.Prelude.{◌||◌}
 use Rattle.oss_syntax.specs.declared.access.Mode.{Mode}
 use Rattle.oss_syntax.specs.declared.access.Mode.TheVariants.{Read, Write, Fold}
-use Rattle.oss_wires.specs.declared.marks.Marks.{Marks}
-use Rattle.oss_wires.specs.Wires.{Place, Wires, IsBelow, head, tail, IsBefore, next, later, first, after}
-use Rattle.oss_wires.specs.Flags.{AreAtRest, MayRead, MayWrite, Clear, from_above, from_before, is_over, is_read, is_whole}
-use Rattle.oss_wires.proofs.SoundLemmas.{both_of, is_zero}
+use Rattle.oss_access_lists.specs.declared.marks.Marks.{Marks}
+use Rattle.oss_access_lists.specs.Wires.{Place, Wires, IsBelow, head, tail, IsBefore, next, later, first, after}
+use Rattle.oss_access_lists.specs.Flags.{AreAtRest, MayRead, MayWrite, Clear, from_above, from_before, is_over, is_read, is_whole}
+use Rattle.oss_access_lists.proofs.SoundLemmas.{both_of, is_zero}
 use Rattle.oss_links.specs.Readings.{is_let, is_list_done}
 use Rattle.oss_links.specs.Search.{IsInTheWay, IsStopped, IsUndoneUpTo, itself, passes, upwards}
 use Rattle.oss_links.proofs.ChildLemmas.{zero_test}

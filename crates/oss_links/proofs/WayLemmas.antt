@@ -11,10 +11,10 @@ use Rattle.oss_deps.specs.Met.{IsBarred, IsBefore as StandsBefore, stands_above,
 use Rattle.oss_deps.specs.Hindrances.{HasUndoneChild, Hinders}
 use Rattle.oss_deps.proofs.HindranceLemmas.{read_hinders, write_hinders}
 use Rattle.oss_deps.proofs.OpenLemmas.{mode_is, precedes_in}
-use Rattle.oss_wires.specs.declared.marks.Marks.{Marks}
-use Rattle.oss_wires.specs.Wires.{Wires, wired}
-use Rattle.oss_wires.specs.Flags.{AreAtRest, is_over}
-use Rattle.oss_wires.proofs.CompleteLemmas.{listed_before, over_told}
+use Rattle.oss_access_lists.specs.declared.marks.Marks.{Marks}
+use Rattle.oss_access_lists.specs.Wires.{Wires, wired}
+use Rattle.oss_access_lists.specs.Flags.{AreAtRest, is_over}
+use Rattle.oss_access_lists.proofs.CompleteLemmas.{listed_before, over_told}
 use Rattle.oss_links.specs.Held.{AreHeld, IsAccessOrMain}
 use Rattle.oss_links.specs.Search.{IsAbove, IsInTheWay, IsUndoneUpTo, itself, passes, upwards}
 use Rattle.oss_links.proofs.HeldLemmas.{held_matches, list_of}

@@ -1,6 +1,6 @@
 -- What the lists of a cell tell of the opened tasks, whatever keeps the lists. The access of a task is told by a function from accesses to
 -- tasks; who keeps the numbers of opens beside the table has `task_by` for it.
--- Read against: the tasks of `Held`, opened one after the other, at the moments of `Flags` in oss_wires.
+-- Read against: the tasks of `Held`, opened one after the other, at the moments of `Flags` in oss_access_lists.
 use Rattle.std.specs.Prelude.{◌≡◌, ◌↔◌, ℕ, ◌<◌, ◌≤◌, ◌+◌, ◌==◌, ◌||◌, Bool, true, false, List, [], ◌∷◌, ◌++◌, Option, Some, None, length, slice_get}
 use Rattle.oss_syntax.specs.declared.access.Mode.{Mode}
 use Rattle.oss_syntax.specs.declared.access.Range.{Range}
@@ -11,12 +11,12 @@ use Rattle.oss_deps.specs.Opens.{AreChildrenDone, AreCovered, AreOpens, AreOrder
 use Rattle.oss_deps.specs.Columns.{IsNumber, IsNumberOf}
 use Rattle.oss_deps.specs.Hindrances.{HasUndoneChild, Hinders}
 use Rattle.oss_deps.specs.Seen.{CanGive, CanOpen, Seen}
-use Rattle.oss_wires.specs.declared.marks.Marks.{Marks}
-use Rattle.oss_wires.specs.Wires.{Wires, first, after}
-use Rattle.oss_wires.specs.Flags.{AreAtRest, is_over}
-use Rattle.oss_wires.specs.Steps.{IsGift, IsHung}
-use Rattle.oss_wires.specs.declared.hang.Hang.{Hang}
-use Rattle.oss_wires.specs.Tables.{hang_at, no_hang, opened_in, wires_of}
+use Rattle.oss_access_lists.specs.declared.marks.Marks.{Marks}
+use Rattle.oss_access_lists.specs.Wires.{Wires, first, after}
+use Rattle.oss_access_lists.specs.Flags.{AreAtRest, is_over}
+use Rattle.oss_access_lists.specs.Steps.{IsGift, IsHung}
+use Rattle.oss_access_lists.specs.declared.hang.Hang.{Hang}
+use Rattle.oss_access_lists.specs.Tables.{hang_at, no_hang, opened_in, wires_of}
 use Rattle.oss_links.specs.Numbers.{IsCellHeld, given_by, task_by}
 use Rattle.oss_links.specs.Held.{AreAlike, AreEmpty, AreHeld, IsAccessOf, IsAccessOrMain, IsNewAccess, with_task}
 use Rattle.oss_links.specs.Readings.{AreLet, AreTrue, TellOfEach, TellOfTask, is_let, is_list_done}

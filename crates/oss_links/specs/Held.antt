@@ -1,6 +1,6 @@
 -- That the lists of one cell hold exactly the accesses of the tasks that were opened with it, each in its place.
 -- Read against: task 1 with inout(a), task 2 with in(b), task 3, a child of task 1, with out(a), tasks 4 and 5 with reduction(+: a), and
--- task 6 with in(a). On the cell a these are the accesses 1 to 5 of `Wires` in oss_wires: task 1 has the access 1, task 3 the access 2,
+-- task 6 with in(a). On the cell a these are the accesses 1 to 5 of `Wires` in oss_access_lists: task 1 has the access 1, task 3 the access 2,
 -- and tasks 4, 5 and 6 have 3, 4 and 5. Task 2 has none there. Access 2 hangs in the list of 1, since task 1 created task 3, and the others
 -- hang in main's.
 use Rattle.std.specs.Prelude.{◌≡◌, ℕ, ◌⊎◌, ◌==◌, if◌then◌else◌, Bool, true, false, List, Option, Some}
@@ -8,7 +8,7 @@ use Rattle.oss_syntax.specs.declared.access.Mode.TheVariants.{Write}
 use Rattle.oss_model.specs.Order.{IsIn}
 use Rattle.oss_deps.specs.declared.opened.Open.{Open}
 use Rattle.oss_deps.specs.Opens.{names, mode_at, mode_in, HasOpened, IsOpened, Precedes}
-use Rattle.oss_wires.specs.Wires.{Wires, IsBelow, IsBefore, AreWired, loose}
+use Rattle.oss_access_lists.specs.Wires.{Wires, IsBelow, IsBefore, AreWired, loose}
 
 -- The access v hangs in main's list, if main is the creator, and else in the list of the creator's access.
 pub data IsUnder (entry : ℕ → ℕ → Type 0) (w : Wires) (creator v : ℕ) : Type 0 where

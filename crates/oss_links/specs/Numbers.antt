@@ -5,8 +5,8 @@
 -- leaves the table as it is; one with in(a) is appended as access 6, with the number 7. Task 30 has given up a where the row 2 says so.
 use Rattle.std.specs.Prelude.{◌≡◌, ℕ, zero, suc, ◌≤◌, ◌==◌, ◌&&◌, ◌||◌, Bool, false, List, Option, Some, None, length, option_and_then, slice_get}
 use Rattle.oss_deps.specs.declared.opened.Open.{Open}
-use Rattle.oss_wires.specs.declared.hang.Hang.{Hang}
-use Rattle.oss_wires.specs.Tables.{hang_at, wires_of}
+use Rattle.oss_access_lists.specs.declared.hang.Hang.{Hang}
+use Rattle.oss_access_lists.specs.Tables.{hang_at, wires_of}
 use Rattle.oss_links.specs.Held.{AreHeld, IsAccessOf}
 
 abbrev pub task_in : Option Open → Option ℕ

@@ -1,5 +1,5 @@
 -- What the flags of an access tell of its task.
--- Read against: the tasks of `Held`, with the flags of `Flags` in oss_wires. Before anything is given up, task 1 and its child 3 have their
+-- Read against: the tasks of `Held`, with the flags of `Flags` in oss_access_lists. Before anything is given up, task 1 and its child 3 have their
 -- flags to read and to write, and tasks 4, 5 and 6 have none. So task 1 is met; task 6 is not, since its access to a asks for the flag to
 -- read; and tasks 4 and 5, whose accesses are reductions, ask for none. Main's last access there is that of task 6, which is not whole, so
 -- not all accesses of main's children are done; nor are those of task 1, since that of task 3 is not.
@@ -13,9 +13,9 @@ use Rattle.oss_model.specs.Rights.{in_access}
 use Rattle.oss_model.specs.Forest.{IsDone, IsReadSatisfied, IsWriteSatisfied, IsJoinSatisfied}
 use Rattle.oss_deps.specs.declared.opened.Open.{Open}
 use Rattle.oss_deps.specs.Opens.{IsEarlier, mode_in, names, opened_forest}
-use Rattle.oss_wires.specs.declared.marks.Marks.{Marks}
-use Rattle.oss_wires.specs.Wires.{Wires}
-use Rattle.oss_wires.specs.Flags.{Flag, Means, has, is_whole}
+use Rattle.oss_access_lists.specs.declared.marks.Marks.{Marks}
+use Rattle.oss_access_lists.specs.Wires.{Wires}
+use Rattle.oss_access_lists.specs.Flags.{Flag, Means, has, is_whole}
 
 -- Each flag is among these exactly where what it says of the access is so.
 abbrev pub AreTrue : Wires → ℕ → Marks → Type 0

@@ -7,9 +7,9 @@
 use Rattle.std.specs.Prelude.{◌≡◌, ℕ, ◌⊎◌, ◌||◌, Bool, true, false}
 use Rattle.oss_syntax.specs.declared.access.Mode.{Mode}
 use Rattle.oss_syntax.specs.declared.access.Mode.TheVariants.{Read, Write, Fold}
-use Rattle.oss_wires.specs.declared.marks.Marks.{Marks}
-use Rattle.oss_wires.specs.Wires.{Place, Wires, IsBelow, IsBefore}
-use Rattle.oss_wires.specs.Flags.{is_over, is_read, is_whole}
+use Rattle.oss_access_lists.specs.declared.marks.Marks.{Marks}
+use Rattle.oss_access_lists.specs.Wires.{Place, Wires, IsBelow, IsBefore}
+use Rattle.oss_access_lists.specs.Flags.{is_over, is_read, is_whole}
 use Rattle.oss_links.specs.Readings.{is_let}
 
 -- What waits in this mode may pass an earlier access of the other mode that has these flags.

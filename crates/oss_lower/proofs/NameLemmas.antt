@@ -6,7 +6,7 @@ use Rattle.std.proofs.lemmas.Bool.Decides.{nat_tests}
 use Rattle.oss_syntax.specs.declared.tree.program.Item.{Item}
 use Rattle.oss_syntax.specs.declared.tree.program.Item.TheVariants as items
 use Rattle.oss_grammar.specs.Scopes.{item_name}
-use Rattle.oss_kinds.specs.Tables.{place_among}
+use Rattle.oss_types.specs.Tables.{place_among}
 use Rattle.oss_meaning.specs.declared.names.Found.{Found}
 use Rattle.oss_meaning.specs.declared.names.Found.TheVariants as names
 use Rattle.oss_meaning.specs.Names.{global_found, item_found, item_from}

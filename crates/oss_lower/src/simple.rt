@@ -24,7 +24,7 @@ use crate::site::Site;
 use crate::typed::operator;
 use oss_code::{Declared, Instr};
 use oss_grammar::{Piece, ValueKind, pieces};
-use oss_kinds::{kind_of, kind_of_number};
+use oss_types::{kind_of, kind_of_number};
 use oss_meaning::{Found, Target};
 use oss_syntax::{
     BinOp, Bytes, Clause, Expr, ExprKind, Kind, List, Local, Mode, Name, NumKind, Op, Section,

@@ -14,7 +14,7 @@ use Rattle.oss_grammar.specs.Scopes.{or_else}
 use Rattle.oss_grammar.specs.StaticRules.{Judged, alone, declare_one, first_rules, judged, local_rules, rules_of, rules_of_all, then_judge, with_local}
 use Rattle.oss_grammar.specs.Scopes.{is_local_again}
 use Rattle.oss_names.specs.PartChecks.{IsPartChecked, LeavesInScope, TellsFirst}
-use Rattle.oss_kinds.proofs.Firsts.{first-append}
+use Rattle.oss_types.proofs.Firsts.{first-append}
 use Rattle.oss_names.proofs.Parts.{append-left, not-so}
 
 -- old locals that stand in front of those in the middle stand in front of the new ones

@@ -12,7 +12,7 @@ use Rattle.oss_grammar.specs.ExpressionRules.{value_rules}
 use Rattle.oss_grammar.specs.Scopes.{hidden_local, loop_locals, or_else}
 use Rattle.oss_grammar.specs.SectionRules.{loop_clauses_rules, optional_rules}
 use Rattle.oss_grammar.specs.StaticRules.{head_rules, last_name_rules, name_rules}
-use Rattle.oss_kinds.proofs.Firsts.{first-append}
+use Rattle.oss_types.proofs.Firsts.{first-append}
 use Rattle.oss_names.proofs.EndLemmas.{prefix-many}
 
 -- the locals of a task loop

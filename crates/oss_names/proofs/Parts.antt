@@ -16,7 +16,7 @@ use Rattle.oss_grammar.specs.ExpressionRules.{value_rules}
 use Rattle.oss_grammar.specs.Scopes.{meaning, or_else}
 use Rattle.oss_grammar.specs.SectionRules.{begins_with_base, ends_with_base, form_rules, is_missing, is_wrong_section, loop_clause_rules, loop_clauses_rules, section_rules, sections_in, sections_rules}
 use Rattle.oss_grammar.specs.StaticRules.{numbers_rules}
-use Rattle.oss_kinds.proofs.Firsts.{first-append}
+use Rattle.oss_types.proofs.Firsts.{first-append}
 
 -- what no part of a list breaks
 pub none-right : (a b : Option Refused) → or_else a b ≡ None → b ≡ None

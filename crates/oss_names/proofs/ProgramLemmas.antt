@@ -18,7 +18,7 @@ use Rattle.oss_grammar.specs.Scopes.{is_again, or_else}
 use Rattle.oss_names.specs.PartChecks.{TellsFirst}
 use Rattle.oss_names.specs.Resolved.{IsChecked, bounds_of}
 use Rattle.oss_names.proofs.EndLemmas.{tells-behind}
-use Rattle.oss_kinds.proofs.Firsts.{first-append}
+use Rattle.oss_types.proofs.Firsts.{first-append}
 use Rattle.oss_names.proofs.Parts.{append-right, no-rule, none-left, none-right, not-so}
 
 -- three parts, and what stands behind them

@@ -9,7 +9,7 @@ ghost use Rattle.oss_names.specs.PartChecks.{IsPartChecked};
 
 use crate::sections::{loop_clauses, optional};
 use oss_grammar::Wanted;
-use oss_kinds::{Globals, Locals, before, refused_if, value};
+use oss_types::{Globals, Locals, before, refused_if, value};
 use oss_syntax::{LoopHead, Refusal, Refused, RefusedKind};
 use std::alloc::AllocError;
 
@@ -49,7 +49,7 @@ fn add_locals<'p>(head: &'p LoopHead, locals: &mut Locals<'p>) -> Result<(), All
 }
 
 /// The first rule that the head of a task loop breaks behind its pragma.
-#[tactic(auto, using(oss_kinds::proofs::Firsts::firsts))]
+#[tactic(auto, using(oss_types::proofs::Firsts::firsts))]
 fn refusal_of_head(globals: &Globals<'_>, locals: &Locals<'_>, head: &LoopHead) -> Option<Refused>
     ensures { result ≡ first (where_so (nat_le 251 (length locals.now)) RefusedKind.TooLarge head.now.variable.line ++ (optional_rules globals.now locals.now head.now.variable.first ++ (name_rules head.now.variable.name head.now.tested head.now.stepped ++ (value_rules globals.now locals.now Wanted.Number head.now.end ++ last_name_rules head.now.variable.name head.now.tested head.now.stepped)))) }
 {

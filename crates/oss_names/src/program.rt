@@ -10,7 +10,7 @@ ghost use Rattle.oss_names.specs.Resolved.{IsChecked};
 use crate::sections::{clauses, is_of_ints};
 use crate::statements::{declare, statements};
 use oss_grammar::{Around, Nearest};
-use oss_kinds::{Globals, Locals, before, is_named_main, refused, refused_if};
+use oss_types::{Globals, Locals, before, is_named_main, refused, refused_if};
 use oss_syntax::{Function, GlobalDef, Item, Kind, Program, Refusal, Refused, RefusedKind};
 use std::alloc::{AllocError, Global};
 
@@ -64,7 +64,7 @@ fn note(bounds: &mut Vec<u32>, bound: u32) -> Result<(), AllocError>
 }
 
 /// The first rule that a global breaks behind so many cells.
-#[tactic(auto, using(oss_kinds::proofs::Firsts::firsts))]
+#[tactic(auto, using(oss_types::proofs::Firsts::firsts))]
 fn refusal_of_global(
     globals: &Globals<'_>,
     place: usize,

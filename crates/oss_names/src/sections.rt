@@ -6,7 +6,7 @@ ghost use Rattle.oss_grammar.specs.StaticRules.{wait_rules};
 ghost use Rattle.oss_grammar.specs.SectionRules.{begins_with_base, clause_rules, clauses_rules, ends_with_base, fits_base, form_rules, has_elements, has_ints, inner_rules, is_array, is_fold, is_global, is_grid, is_int, is_missing, is_wrong_section, loop_clause_rules, loop_clauses_rules, many_rules, optional_rules, section_rules, sections_in, sections_rules};
 
 use oss_grammar::{Named, Wanted};
-use oss_kinds::{Globals, Locals, Scope, before, refused_if, value, value_in};
+use oss_types::{Globals, Locals, Scope, before, refused_if, value, value_in};
 use oss_syntax::{
     Clause, Expr, Form, Inner, Kind, List, Mode, NumKind, Refused, RefusedKind, Section, Turns,
 };
@@ -133,7 +133,7 @@ pub fn sections(
 }
 
 /// The first rule that a section breaks behind so many others of its pragma.
-#[tactic(auto, using(oss_kinds::proofs::Firsts::firsts))]
+#[tactic(auto, using(oss_types::proofs::Firsts::firsts))]
 fn section(
     globals: &Globals<'_>,
     locals: &Locals<'_>,
@@ -202,7 +202,7 @@ fn ends(form: &Form) -> bool
 }
 
 /// The first rule that the expressions of a section break.
-#[tactic(auto, using(oss_kinds::proofs::Firsts::firsts))]
+#[tactic(auto, using(oss_types::proofs::Firsts::firsts))]
 fn expressions(globals: &Globals<'_>, locals: &Locals<'_>, form: &Form) -> Option<Refused>
     ensures { result ≡ first (form_rules globals.now locals.now form.now) }
 {
@@ -235,7 +235,7 @@ fn several(
 }
 
 /// The first rule that the turns of a multidependency break, in which its variable is not in scope.
-#[tactic(auto, using(oss_kinds::proofs::Firsts::firsts))]
+#[tactic(auto, using(oss_types::proofs::Firsts::firsts))]
 fn turns_alone(globals: &Globals<'_>, locals: &Locals<'_>, turns: &Turns) -> Option<Refused>
     ensures { result ≡ first (where_so (nat_le 255 (length locals.now)) RefusedKind.TooLarge turns.now.variable.line ++ (optional_rules globals.now locals.now turns.now.variable.first ++ value_rules globals.now locals.now Wanted.Number turns.now.count)) }
 {
@@ -247,7 +247,7 @@ fn turns_alone(globals: &Globals<'_>, locals: &Locals<'_>, turns: &Turns) -> Opt
 }
 
 /// The first rule that the expressions of two dimensions break.
-#[tactic(auto, using(oss_kinds::proofs::Firsts::firsts))]
+#[tactic(auto, using(oss_types::proofs::Firsts::firsts))]
 fn both_dimensions(
     globals: &Globals<'_>,
     locals: &Locals<'_>,
@@ -274,7 +274,7 @@ fn dimension(globals: &Globals<'_>, locals: &Locals<'_>, inner: &Inner) -> Optio
 }
 
 /// The first rule that two numbers break.
-#[tactic(auto, using(oss_kinds::proofs::Firsts::firsts))]
+#[tactic(auto, using(oss_types::proofs::Firsts::firsts))]
 fn both(globals: &Globals<'_>, locals: &Locals<'_>, one: &Expr, other: &Expr) -> Option<Refused>
     ensures { result ≡ first (value_rules globals.now locals.now Wanted.Number one.now ++ value_rules globals.now locals.now Wanted.Number other.now) }
 {
@@ -285,7 +285,7 @@ fn both(globals: &Globals<'_>, locals: &Locals<'_>, one: &Expr, other: &Expr) ->
 }
 
 /// The first rule that two numbers break that may be left out.
-#[tactic(auto, using(oss_kinds::proofs::Firsts::firsts))]
+#[tactic(auto, using(oss_types::proofs::Firsts::firsts))]
 fn both_ends(
     globals: &Globals<'_>,
     locals: &Locals<'_>,

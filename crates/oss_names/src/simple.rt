@@ -4,10 +4,10 @@ ghost use Rattle.oss_grammar.specs.Broken.{first};
 ghost use Rattle.oss_grammar.specs.ExpressionRules.{call_findings, findings};
 ghost use Rattle.oss_grammar.specs.Kinds.{Findings, all_of};
 ghost use Rattle.oss_grammar.specs.StaticRules.{assign_rules, format_rules, is_wrong_return, moved, numbers_rules, or_anything, print_rules, return_rules, returned_rules, stored_in, stored_rules, target_wanted};
-ghost use Rattle.oss_kinds.specs.Seen.{seen};
+ghost use Rattle.oss_types.specs.Seen.{seen};
 
 use oss_grammar::{Around, Object, ValueKind, Wanted, conversions};
-use oss_kinds::{
+use oss_types::{
     Finding, Globals, Locals, Scope, at_place, before, call, expression, first_of, refused,
     refused_if, taken_by, value, wrong,
 };
@@ -34,7 +34,7 @@ pub fn assignment(
 }
 
 /// The first rule that a target and what is stored in it break.
-#[tactic(auto, using(oss_kinds::proofs::Firsts::firsts))]
+#[tactic(auto, using(oss_types::proofs::Firsts::firsts))]
 fn store(wanted: Option<Wanted>, target: Finding, value: Finding) -> Option<Refused>
     ensures { (t : Findings) → (e : Findings) → target ≡ seen t → value ≡ seen e → result ≡ first (stored_rules wanted t e) }
 {
@@ -101,7 +101,7 @@ pub fn call_statement(
 }
 
 /// The first rule that a `printf` breaks.
-#[tactic(auto, using(oss_kinds::proofs::Firsts::firsts))]
+#[tactic(auto, using(oss_types::proofs::Firsts::firsts))]
 pub fn print(
     globals: &Globals<'_>,
     locals: &Locals<'_>,
@@ -140,7 +140,7 @@ fn numbers(globals: &Globals<'_>, locals: &Locals<'_>, values: &[Expr]) -> Optio
 }
 
 /// The first rule that a `return` breaks.
-#[tactic(auto, using(oss_kinds::proofs::Firsts::firsts))]
+#[tactic(auto, using(oss_types::proofs::Firsts::firsts))]
 pub fn return_statement(
     globals: &Globals<'_>,
     locals: &Locals<'_>,

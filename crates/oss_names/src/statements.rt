@@ -13,7 +13,7 @@ use crate::heads::enter;
 use crate::sections::{MOST_LOCALS, clauses, optional, wait};
 use crate::simple::{assignment, call_statement, optional_for, print, return_statement};
 use oss_grammar::{Around, Nearest, Wanted};
-use oss_kinds::{Globals, Locals, before, refused_if, value};
+use oss_types::{Globals, Locals, before, refused_if, value};
 use oss_syntax::{
     Boxed, Expr, Local, LoopHead, Refusal, Refused, RefusedKind, Stmt, StmtKind, TaskMark,
 };
@@ -62,7 +62,7 @@ fn declare_local<'p>(
 }
 
 /// The first rule that a local breaks.
-#[tactic(auto, using(oss_kinds::proofs::Firsts::firsts))]
+#[tactic(auto, using(oss_types::proofs::Firsts::firsts))]
 fn refusal_of_local(
     globals: &Globals<'_>,
     start: usize,

@@ -11,18 +11,18 @@ use Rattle.oss_deps.specs.Columns.{IsNumber, IsNumberOf}
 use Rattle.oss_deps.specs.Hindrances.{HasUndoneChild, Hinders}
 use Rattle.oss_deps.proofs.Basics.{some_is}
 use Rattle.oss_deps.proofs.OpenLemmas.{get_in, not_main}
-use Rattle.oss_wires.specs.declared.hang.Hang.{Hang}
-use Rattle.oss_wires.specs.declared.marks.Marks.{Marks}
-use Rattle.oss_wires.specs.Flags.{AreAtRest}
-use Rattle.oss_wires.specs.Tables.{marks_at, wires_of}
+use Rattle.oss_access_lists.specs.declared.hang.Hang.{Hang}
+use Rattle.oss_access_lists.specs.declared.marks.Marks.{Marks}
+use Rattle.oss_access_lists.specs.Flags.{AreAtRest}
+use Rattle.oss_access_lists.specs.Tables.{marks_at, wires_of}
 use Rattle.oss_links.specs.Held.{IsAccessOf, IsAccessOrMain}
 use Rattle.oss_links.specs.Numbers.{task_by, task_in, task_numbered}
 use Rattle.oss_links.specs.Readings.{TellOfTask, is_let, is_list_done}
 use Rattle.oss_links.proofs.NumberLemmas.{entry_of_task, number_of_task, task_of_entry}
-use Rattle.oss_retired.specs.Claims.{all_marks}
-use Rattle.oss_retired.specs.Tables.{IsCellLeft, given_left}
-use Rattle.oss_retired.proofs.CallLemmas.{left_opened_within}
-use Rattle.oss_retired.proofs.ToldLemmas.{gone_tells, left_childless, left_children, left_hinders, left_hung, left_tells, left_undone, left_way}
+use Rattle.oss_retire.specs.Claims.{all_marks}
+use Rattle.oss_retire.specs.Tables.{IsCellLeft, given_left}
+use Rattle.oss_retire.proofs.CallLemmas.{left_opened_within}
+use Rattle.oss_retire.proofs.ToldLemmas.{gone_tells, left_childless, left_children, left_hinders, left_hung, left_tells, left_undone, left_way}
 use Rattle.oss_regions.specs.Asked.{IsNumberInTheWay, IsNumberUndone, IsSatisfied}
 
 -- The task of an open, by its number.

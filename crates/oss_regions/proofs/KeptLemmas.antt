@@ -14,17 +14,17 @@ use Rattle.oss_deps.specs.Seen.{CanGive, CanOpen, Gives, Opens, Prepares, Reserv
 use Rattle.oss_deps.proofs.Basics.{both, some_is}
 use Rattle.oss_deps.proofs.NewLemmas.{opens_added, opens_none}
 use Rattle.oss_deps.proofs.OpenLemmas.{not_main}
-use Rattle.oss_wires.specs.declared.hang.Hang.{Hang}
-use Rattle.oss_wires.specs.Steps.{IsHung}
-use Rattle.oss_wires.specs.Tables.{given_up, hang_at, opened_in, wires_of}
+use Rattle.oss_access_lists.specs.declared.hang.Hang.{Hang}
+use Rattle.oss_access_lists.specs.Steps.{IsHung}
+use Rattle.oss_access_lists.specs.Tables.{given_up, hang_at, opened_in, wires_of}
 use Rattle.oss_fragments.specs.Here.{Here, IsGivenUp, IsLess, IsOpened, IsShown, MayHang, bare}
 use Rattle.oss_fragments.specs.Kept.{Kept as Cells, here_at, is_cut}
 use Rattle.oss_fragments.specs.Stretches.{AreReady}
 use Rattle.oss_links.specs.Numbers.{task_by}
 use Rattle.oss_links.proofs.NumberLemmas.{task_of_entry}
-use Rattle.oss_retired.specs.Tables.{IsCellLeft, given_left}
-use Rattle.oss_retired.proofs.CallLemmas.{left_aside, left_given, left_grows, left_later, left_lends, left_opened_within, left_shows}
-use Rattle.oss_retired.proofs.TableLemmas.{bare_left}
+use Rattle.oss_retire.specs.Tables.{IsCellLeft, given_left}
+use Rattle.oss_retire.proofs.CallLemmas.{left_aside, left_given, left_grows, left_later, left_lends, left_opened_within, left_shows}
+use Rattle.oss_retire.proofs.TableLemmas.{bare_left}
 use Rattle.oss_regions.specs.Kept.{AreRight, Kept, given_at, seen_of}
 
 no_some : {accesses : List Access} → None ≡ Some accesses → ⊥

@@ -10,16 +10,16 @@ use Rattle.oss_deps.specs.Columns.{IsNumber, IsNumberOf}
 use Rattle.oss_deps.specs.Opens.{AreChildrenDone, Asks, HasOpened, mode_in, opened_forest}
 use Rattle.oss_deps.specs.Hindrances.{HasUndoneChild, Hinders}
 use Rattle.oss_deps.proofs.Basics.{compared}
-use Rattle.oss_wires.specs.Flags.{AreAtRest}
-use Rattle.oss_wires.specs.Tables.{marks_at, wires_of}
+use Rattle.oss_access_lists.specs.Flags.{AreAtRest}
+use Rattle.oss_access_lists.specs.Tables.{marks_at, wires_of}
 use Rattle.oss_fragments.specs.declared.fragment.Fragment.{Fragment}
 use Rattle.oss_fragments.specs.Here.{Here, bare}
 use Rattle.oss_fragments.specs.Kept.{here_at}
 use Rattle.oss_fragments.specs.Visits.{IsPartOf}
 use Rattle.oss_links.specs.Numbers.{task_numbered}
 use Rattle.oss_links.specs.Readings.{TellOfTask, is_let, is_list_done}
-use Rattle.oss_retired.specs.Claims.{all_marks}
-use Rattle.oss_retired.specs.Tables.{IsCellLeft, given_left}
+use Rattle.oss_retire.specs.Claims.{all_marks}
+use Rattle.oss_retire.specs.Tables.{IsCellLeft, given_left}
 use Rattle.oss_regions.specs.Asked.{IsNumberInTheWay, IsNumberUndone, IsSatisfied}
 use Rattle.oss_regions.specs.Kept.{AreRight, AreSatisfiedTo, Kept, given_at}
 use Rattle.oss_regions.proofs.AskLemmas.{all_satisfied, childless_here, children_here, gone_here, hinders_here, joins_here, let_here, satisfied_here, undone_here, undone_named, way_named}

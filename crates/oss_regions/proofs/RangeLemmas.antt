@@ -14,9 +14,9 @@ use Rattle.oss_fragments.specs.Here.{Here, bare}
 use Rattle.oss_fragments.specs.Kept.{here_at}
 use Rattle.oss_links.specs.Numbers.{task_by}
 use Rattle.oss_links.specs.Readings.{TellOfTask}
-use Rattle.oss_retired.specs.Claims.{all_marks}
-use Rattle.oss_retired.specs.Tables.{IsCellLeft, given_left}
-use Rattle.oss_retired.proofs.ToldLemmas.{gone_tells}
+use Rattle.oss_retire.specs.Claims.{all_marks}
+use Rattle.oss_retire.specs.Tables.{IsCellLeft, given_left}
+use Rattle.oss_retire.proofs.ToldLemmas.{gone_tells}
 use Rattle.oss_regions.specs.Asked.{IsSatisfied}
 use Rattle.oss_regions.specs.Kept.{AreRight, AsksOver, IsAccessMet, Kept, given_at}
 

@@ -16,9 +16,9 @@ use Rattle.oss_deps.proofs.Basics.{compared, some_is}
 use Rattle.oss_deps.proofs.OpenLemmas.{get_in, not_main}
 use Rattle.oss_deps.proofs.StretchLemmas.{one_number}
 use Rattle.oss_model.specs.declared.task_no.TaskNo.{TaskNo}
-use Rattle.oss_wires.proofs.StepLemmas.{same_or}
-use Rattle.oss_wires.specs.Flags.{AreAtRest}
-use Rattle.oss_wires.specs.Tables.{marks_at, wires_of}
+use Rattle.oss_access_lists.proofs.StepLemmas.{same_or}
+use Rattle.oss_access_lists.specs.Flags.{AreAtRest}
+use Rattle.oss_access_lists.specs.Tables.{marks_at, wires_of}
 use Rattle.oss_fragments.specs.declared.fragment.Fragment.{Fragment}
 use Rattle.oss_fragments.specs.Here.{IsEntry, bare, here_of}
 use Rattle.oss_fragments.specs.Kept.{here_at}

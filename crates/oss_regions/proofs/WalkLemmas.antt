@@ -2,13 +2,13 @@
 use Rattle.std.proofs.Common.{◌≡◌, ℕ, ◌<◌, refl, sym, subst, ◌∙◌, ◌⊎◌, inl, inr, Bool, true, false, List, length, arith, eq-eqb, eqb-true}
 use Rattle.std.specs.Prelude.{◌==◌}
 use Rattle.oss_syntax.specs.declared.access.Mode.{Mode}
-use Rattle.oss_wires.specs.declared.hang.Hang.{Hang}
-use Rattle.oss_wires.specs.declared.marks.Marks.{Marks}
-use Rattle.oss_wires.specs.Wires.{loose, first, after, IsBelow, head, tail}
-use Rattle.oss_wires.specs.Flags.{AreAtRest, IsListed, is_over}
-use Rattle.oss_wires.specs.Tables.{hang_at, marks_at, place_of, wires_of}
-use Rattle.oss_wires.proofs.SoundLemmas.{below_not_main, same_after}
-use Rattle.oss_wires.proofs.StepLemmas.{same_or}
+use Rattle.oss_access_lists.specs.declared.hang.Hang.{Hang}
+use Rattle.oss_access_lists.specs.declared.marks.Marks.{Marks}
+use Rattle.oss_access_lists.specs.Wires.{loose, first, after, IsBelow, head, tail}
+use Rattle.oss_access_lists.specs.Flags.{AreAtRest, IsListed, is_over}
+use Rattle.oss_access_lists.specs.Tables.{hang_at, marks_at, place_of, wires_of}
+use Rattle.oss_access_lists.proofs.SoundLemmas.{below_not_main, same_after}
+use Rattle.oss_access_lists.proofs.StepLemmas.{same_or}
 use Rattle.oss_links.specs.Search.{IsInTheWay, IsUndoneUpTo, passes}
 use Rattle.oss_links.proofs.SearchLemmas.{child_search_goes_back, search_ends, search_goes_back, search_goes_up}
 use Rattle.oss_regions.specs.Walks.{IsWalking, IsWalkingIn}

@@ -12,7 +12,7 @@ use Rattle.oss_deps.specs.Opens.{AreOpens, Asks, opened_forest}
 use Rattle.oss_deps.specs.Seen.{Seen}
 use Rattle.oss_fragments.specs.Kept.{Kept as Cells, here_at, is_cut}
 use Rattle.oss_fragments.specs.Stretches.{AreReady}
-use Rattle.oss_retired.specs.Tables.{IsCellLeft, given_left}
+use Rattle.oss_retire.specs.Tables.{IsCellLeft, given_left}
 use Rattle.oss_regions.specs.Asked.{IsSatisfied}
 
 -- What contracts see of it.

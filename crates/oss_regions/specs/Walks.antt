@@ -1,13 +1,13 @@
 -- What the walks along the lists of a cell find.
--- Read against: the accesses 1 to 5 of `Wires` in oss_wires, of which 3 is not over, and 4 and 5 are: 3 is found in main's list, though 5 is
+-- Read against: the accesses 1 to 5 of `Wires` in oss_access_lists, of which 3 is not over, and 4 and 5 are: 3 is found in main's list, though 5 is
 -- its last.
 use Rattle.std.specs.Prelude.{◌≡◌, ℕ, ◌<◌, false, List, length}
 use Rattle.oss_syntax.specs.declared.access.Mode.{Mode}
-use Rattle.oss_wires.specs.declared.hang.Hang.{Hang}
-use Rattle.oss_wires.specs.declared.marks.Marks.{Marks}
-use Rattle.oss_wires.specs.Wires.{Wires}
-use Rattle.oss_wires.specs.Flags.{is_over}
-use Rattle.oss_wires.specs.Tables.{marks_at, wires_of}
+use Rattle.oss_access_lists.specs.declared.hang.Hang.{Hang}
+use Rattle.oss_access_lists.specs.declared.marks.Marks.{Marks}
+use Rattle.oss_access_lists.specs.Wires.{Wires}
+use Rattle.oss_access_lists.specs.Flags.{is_over}
+use Rattle.oss_access_lists.specs.Tables.{marks_at, wires_of}
 use Rattle.oss_links.specs.Search.{IsStopped, IsUndoneUpTo}
 
 -- The access u of the list of p is not done: the search for one ends there.

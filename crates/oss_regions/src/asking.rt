@@ -1,11 +1,11 @@
 ghost use Rattle.std.specs.Prelude.{◌≡◌, ◌<◌, length, true, MatchOption};
-ghost use Rattle.oss_wires.specs.Tables.{marks_at, wires_of};
+ghost use Rattle.oss_access_lists.specs.Tables.{marks_at, wires_of};
 ghost use Rattle.oss_links.specs.Readings.{is_let, is_list_done};
 ghost use Rattle.oss_regions.specs.Asked.{IsNumberInTheWay, IsNumberUndone};
 
 use crate::walking::{bar_of, undone_below};
 use oss_syntax::Mode;
-use oss_wires::Line;
+use oss_access_lists::Line;
 
 /// The number of the open whose access stands in the way of another access, which waits in this mode.
 pub(crate) fn number_in_the_way(

@@ -1,6 +1,6 @@
 ghost use Rattle.std.specs.Prelude.{◌≡◌, ◌<◌, ◌⊎◌, ℕ, None, true, IsTrue, MatchOption, Some};
-ghost use Rattle.oss_wires.specs.Flags.{AreAtRest};
-ghost use Rattle.oss_wires.specs.Tables.{marks_at, wires_of};
+ghost use Rattle.oss_access_lists.specs.Flags.{AreAtRest};
+ghost use Rattle.oss_access_lists.specs.Tables.{marks_at, wires_of};
 ghost use Rattle.oss_links.specs.Readings.{is_let, is_list_done};
 ghost use Rattle.oss_fragments.specs.Here.{IsEntry, here_of};
 ghost use Rattle.oss_fragments.specs.Stretches.{IsFragment};

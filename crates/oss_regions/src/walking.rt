@@ -1,12 +1,12 @@
 ghost use Rattle.std.specs.Prelude.{◌≡◌, ◌<◌, length, true, false, IfSome, MatchOption};
-ghost use Rattle.oss_wires.specs.Flags.{is_over, is_read, is_whole};
-ghost use Rattle.oss_wires.specs.Tables.{hang_at, marks_at, wires_of};
+ghost use Rattle.oss_access_lists.specs.Flags.{is_over, is_read, is_whole};
+ghost use Rattle.oss_access_lists.specs.Tables.{hang_at, marks_at, wires_of};
 ghost use Rattle.oss_links.specs.Readings.{is_let, is_list_done};
 ghost use Rattle.oss_links.specs.Search.{IsInTheWay, IsUndoneUpTo, passes};
 ghost use Rattle.oss_regions.specs.Walks.{IsUndoneIn};
 
 use oss_syntax::Mode;
-use oss_wires::{Line, Marks};
+use oss_access_lists::{Line, Marks};
 
 /// The access is given up, and all below it is done.
 fn is_over(flags: Marks) -> bool

@@ -3,10 +3,10 @@
 use Rattle.std.proofs.Common.{◌≡◌, ℕ, zero, suc, ◌+◌, List, [], ◌∷◌, subst}
 use Rattle.oss_model.specs.Bodies.{Program, Start}
 use Rattle.oss_model.specs.Machine.{State}
-use Rattle.oss_alike.specs.Alike.{IsAlike, IsBisimulation, turned}
-use Rattle.oss_alike.proofs.AlikeTheorem.{step_forth, let_forth, join_forth}
-use Rattle.oss_alike.proofs.MayLemmas.{complete_forth}
-use Rattle.oss_alike.proofs.TurnLemmas.{alike_back, at_forth, bisimulation_back}
+use Rattle.oss_same_acts_laws.specs.Alike.{IsAlike, IsBisimulation, turned}
+use Rattle.oss_same_acts_laws.proofs.AlikeTheorem.{step_forth, let_forth, join_forth}
+use Rattle.oss_same_acts_laws.proofs.MayLemmas.{complete_forth}
+use Rattle.oss_same_acts_laws.proofs.TurnLemmas.{alike_back, at_forth, bisimulation_back}
 use Rattle.oss_sched.specs.declared.moves.TextMove.{TextMove}
 use Rattle.oss_sched.specs.declared.moves.TextMove.TheVariants.{Step, Let, Join}
 use Rattle.oss_core.specs.Stops.{IsUnfinished, HasUnfinished}

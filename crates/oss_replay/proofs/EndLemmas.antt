@@ -9,7 +9,7 @@ use Rattle.oss_model.proofs.AgreementTheorem.{every_state_agrees}
 use Rattle.oss_model.proofs.Exclusive.{every_main_is_a_setting}
 use Rattle.oss_model.proofs.ResultTheorem.{every_answer_is_the_result}
 use Rattle.oss_model.proofs.TerminationTheorem.{run_has_result}
-use Rattle.oss_rounds.proofs.SameLemmas.{same_itself, stopped_forth}
+use Rattle.oss_wave_laws.proofs.SameLemmas.{same_itself, stopped_forth}
 use Rattle.oss_code.specs.declared.code.CodeParts.{CodeParts}
 use Rattle.oss_machine.specs.Frames.{CodeScript}
 use Rattle.oss_machine.specs.Machines.{asks}

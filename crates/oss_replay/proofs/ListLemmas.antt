@@ -1,7 +1,7 @@
 -- Lists that have the same elements, none twice, are of one length.
 use Rattle.std.proofs.Common.{◌≡◌, suc, ◌≤◌, ◌⊎◌, inl, inr, refl, sym, subst, ap, arith, List, [], ◌∷◌, length}
 use Rattle.oss_model.specs.Order.{IsIn, here, there}
-use Rattle.oss_rounds.proofs.SumLemmas.{in_cases}
+use Rattle.oss_wave_laws.proofs.SumLemmas.{in_cases}
 use Rattle.oss_core.specs.Stops.{AreApart}
 
 -- a list without one of its elements

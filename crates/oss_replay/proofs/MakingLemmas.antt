@@ -10,8 +10,8 @@ use Rattle.oss_model.specs.Answers.{IsStopped, IsAnswer}
 use Rattle.oss_model.specs.declared.answer.Answer.{Answer}
 use Rattle.oss_model.specs.declared.task_no.TaskNo.{TaskNo}
 use Rattle.oss_model.proofs.RecallLemmas.{right_in_memory}
-use Rattle.oss_rounds.specs.Claims.{IsSame}
-use Rattle.oss_rounds.proofs.SameLemmas.{same_itself}
+use Rattle.oss_wave_laws.specs.Claims.{IsSame}
+use Rattle.oss_wave_laws.proofs.SameLemmas.{same_itself}
 use Rattle.oss_code.specs.declared.code.CodeParts.{CodeParts}
 use Rattle.oss_machine.specs.Frames.{CodeScript}
 use Rattle.oss_machine.specs.Machines.{asks}

@@ -10,8 +10,8 @@ use Rattle.oss_model.specs.Machine.{Task, State, At}
 use Rattle.oss_model.specs.Moves.{act_now, cells_after, found_by, after_answer, Stepped, GaveUp, LetGo, Joined, joined_cells, Moved, steps, lets, joins, Reached, moves}
 use Rattle.oss_model.proofs.SortLemmas.{reverse_same}
 use Rattle.oss_model.proofs.TreeLemmas.{at_same}
-use Rattle.oss_rounds.specs.Claims.{IsSame}
-use Rattle.oss_rounds.proofs.SameLemmas.{same_itself, same_back, at_forth, complete_forth, can_step_forth, can_let_forth, can_join_forth, step_same, let_same, join_same}
+use Rattle.oss_wave_laws.specs.Claims.{IsSame}
+use Rattle.oss_wave_laws.proofs.SameLemmas.{same_itself, same_back, at_forth, complete_forth, can_step_forth, can_let_forth, can_join_forth, step_same, let_same, join_same}
 use Rattle.oss_sched.specs.declared.moves.TextMove.{TextMove}
 use Rattle.oss_sched.specs.declared.moves.TextMove.TheVariants.{Step, Let, Join}
 use Rattle.oss_core.specs.Stops.{IsUnfinished, HasUnfinished}

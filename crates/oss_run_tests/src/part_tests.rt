@@ -1,11 +1,11 @@
 //! Parts of main, worked by hand.
 
-ghost use Rattle.oss_part.specs.Segments.{IsKnown};
+ghost use Rattle.oss_segment.specs.Segments.{IsKnown};
 
 use oss_body::{Body, main_body};
 use oss_code::{Code, CodeParts, GlobalPlace, Instr};
 use oss_grammar::Piece;
-use oss_part::{Segment, segment_of};
+use oss_segment::{Segment, segment_of};
 use oss_syntax::{Cells, List, NumKind, Range};
 use std::process::Abort;
 

@@ -24,17 +24,17 @@ use Rattle.oss_model.proofs.TreeLemmas.{at_same}
 use Rattle.oss_body.specs.declared.act.Act.{Act as CodeAct}
 use Rattle.oss_body.specs.declared.act.Act.TheVariants as acts
 use Rattle.oss_body.specs.Acts.{act_seen}
-use Rattle.oss_chains.specs.Chains.{Best as Longest, better as better_chain, capped, no_chain, one_more}
-use Rattle.oss_chains.specs.Happenings.{Happening, Acting, Giving, Does, Frees, StartsWith, WaitsFor, tick_of}
-use Rattle.oss_chains.specs.Pass.{Kept, IsKept, acted}
-use Rattle.oss_chains.specs.Runs.{ticks_at}
-use Rattle.oss_chains.specs.Tables.{GivenBelow, given_below, GivenWith, given_with, InActWay, InReadWay, InTurnWay, turn_way, read_way, write_way, InWriteWay, JustBefore, LeftBelow, LeftWith}
-use Rattle.oss_chains.proofs.ChainLemmas.{most_step}
-use Rattle.oss_chains.proofs.LongestLemmas.{has_ticks}
-use Rattle.oss_chains.proofs.PassLemmas.{Most, same, either_most, no_most, acted_kept, not_nil}
-use Rattle.oss_chains.proofs.PassTheorem.{above_access}
-use Rattle.oss_chains.proofs.TableLemmas.{act_back, act_forth}
-use Rattle.oss_chains.proofs.ValueLemmas.{is_strong_fold as is_fold_right, other_keeps, released_frees, released_keeps, releases_of}
+use Rattle.oss_chain_laws.specs.Chains.{Best as Longest, better as better_chain, capped, no_chain, one_more}
+use Rattle.oss_chain_laws.specs.Happenings.{Happening, Acting, Giving, Does, Frees, StartsWith, WaitsFor, tick_of}
+use Rattle.oss_chain_laws.specs.Pass.{Kept, IsKept, acted}
+use Rattle.oss_chain_laws.specs.Runs.{ticks_at}
+use Rattle.oss_chain_laws.specs.Tables.{GivenBelow, given_below, GivenWith, given_with, InActWay, InReadWay, InTurnWay, turn_way, read_way, write_way, InWriteWay, JustBefore, LeftBelow, LeftWith}
+use Rattle.oss_chain_laws.proofs.ChainLemmas.{most_step}
+use Rattle.oss_chain_laws.proofs.LongestLemmas.{has_ticks}
+use Rattle.oss_chain_laws.proofs.PassLemmas.{Most, same, either_most, no_most, acted_kept, not_nil}
+use Rattle.oss_chain_laws.proofs.PassTheorem.{above_access}
+use Rattle.oss_chain_laws.proofs.TableLemmas.{act_back, act_forth}
+use Rattle.oss_chain_laws.proofs.ValueLemmas.{is_strong_fold as is_fold_right, other_keeps, released_frees, released_keeps, releases_of}
 use Rattle.oss_span.specs.declared.best.Best.{Best}
 use Rattle.oss_span.specs.declared.best.Mark.{Mark}
 use Rattle.oss_span.specs.declared.frame.Frame.{Frame}
@@ -55,12 +55,12 @@ use Rattle.std.specs.Prelude.{unwrap_or}
 use Rattle.oss_model.specs.Machine.{find, mode_in}
 use Rattle.oss_model.specs.Moves.{created_now}
 use Rattle.oss_model.proofs.TreeLemmas.{mode_is}
-use Rattle.oss_chains.specs.Happenings.{EndsWith}
-use Rattle.oss_chains.specs.Pass.{closed as closed_kept_of, is_fold_of as fold_of_mode, is_read}
-use Rattle.oss_chains.specs.Tables.{FreedBefore, InEndWay}
-use Rattle.oss_chains.proofs.EndTheorem.{all_left, end_most, freed_most, gave_most, kept_most, InOwnJoinWay}
-use Rattle.oss_chains.proofs.PassTheorem.{closed_kept}
-use Rattle.oss_chains.proofs.RunTheorem.{own_most, own_of}
+use Rattle.oss_chain_laws.specs.Happenings.{EndsWith}
+use Rattle.oss_chain_laws.specs.Pass.{closed as closed_kept_of, is_fold_of as fold_of_mode, is_read}
+use Rattle.oss_chain_laws.specs.Tables.{FreedBefore, InEndWay}
+use Rattle.oss_chain_laws.proofs.EndTheorem.{all_left, end_most, freed_most, gave_most, kept_most, InOwnJoinWay}
+use Rattle.oss_chain_laws.proofs.PassTheorem.{closed_kept}
+use Rattle.oss_chain_laws.proofs.RunTheorem.{own_most, own_of}
 use Rattle.oss_span.specs.declared.close.Before.{Before}
 use Rattle.oss_span.specs.declared.node.Verb.{Verb}
 use Rattle.oss_span.specs.declared.node.Verb.TheVariants as verbs
@@ -269,7 +269,7 @@ module _ (P : Program CodeScript) (main : Start CodeScript) (s : State CodeScrip
     lets_tell : Tells P s more points (λ f. (c : ℕ) × HasAccess s c (j ∷ p) × (f ≡ Giving (j ∷ p) c)) close.lets
     lets_tell = go close.cells.one
       where
-        most_of : (f : Happening) → (c : ℕ) × HasAccess s c (j ∷ p) × (f ≡ Giving (j ∷ p) c) → (es : List Happening) → Rattle.oss_chains.specs.Chains.IsTrail (WaitsFor P s) (f ∷ es) → Rattle.oss_chains.specs.Chains.ticks_in (weight P s) (f ∷ es) ≤ close.lets.mark.ticks
+        most_of : (f : Happening) → (c : ℕ) × HasAccess s c (j ∷ p) × (f ≡ Giving (j ∷ p) c) → (es : List Happening) → Rattle.oss_chain_laws.specs.Chains.IsTrail (WaitsFor P s) (f ∷ es) → Rattle.oss_chain_laws.specs.Chains.ticks_in (weight P s) (f ∷ es) ≤ close.lets.mark.ticks
         most_of f (c, a, q) es tr =
             let x = kept_here c a in
             let small = not_past' c (λ l. let z = fits.few c l in let y = x.1 in absurd (cc)) in
@@ -292,8 +292,8 @@ module _ (P : Program CodeScript) (main : Start CodeScript) (s : State CodeScrip
             subst (λ (b : Best). Tells P s more points (λ f. (c : ℕ) × HasAccess s c (j ∷ p) × (f ≡ Giving (j ∷ p) c)) b) (sym q)
             (record { best = value_of x c; most = record { most = λ f g es tr. let l = most_of f g es tr in omega (arith, l, z, y); reached = into (value_most c x h).reached }; shows = sh })
           where
-            into : (((value_of x c).ticks ≡ 0) × ((value_of x c).chain ≡ [])) ⊎ ((f : Happening) × (f ≡ Giving (j ∷ p) c) × (es : List Happening) × ((value_of x c).chain ≡ f ∷ es) × Rattle.oss_chains.specs.Chains.IsTrail (WaitsFor P s) (f ∷ es) × (Rattle.oss_chains.specs.Chains.ticks_in (weight P s) (f ∷ es) ≡ (value_of x c).ticks))
-                → (((value_of x c).ticks ≡ 0) × ((value_of x c).chain ≡ [])) ⊎ ((f : Happening) × ((c : ℕ) × HasAccess s c (j ∷ p) × (f ≡ Giving (j ∷ p) c)) × (es : List Happening) × ((value_of x c).chain ≡ f ∷ es) × Rattle.oss_chains.specs.Chains.IsTrail (WaitsFor P s) (f ∷ es) × (Rattle.oss_chains.specs.Chains.ticks_in (weight P s) (f ∷ es) ≡ (value_of x c).ticks))
+            into : (((value_of x c).ticks ≡ 0) × ((value_of x c).chain ≡ [])) ⊎ ((f : Happening) × (f ≡ Giving (j ∷ p) c) × (es : List Happening) × ((value_of x c).chain ≡ f ∷ es) × Rattle.oss_chain_laws.specs.Chains.IsTrail (WaitsFor P s) (f ∷ es) × (Rattle.oss_chain_laws.specs.Chains.ticks_in (weight P s) (f ∷ es) ≡ (value_of x c).ticks))
+                → (((value_of x c).ticks ≡ 0) × ((value_of x c).chain ≡ [])) ⊎ ((f : Happening) × ((c : ℕ) × HasAccess s c (j ∷ p) × (f ≡ Giving (j ∷ p) c)) × (es : List Happening) × ((value_of x c).chain ≡ f ∷ es) × Rattle.oss_chain_laws.specs.Chains.IsTrail (WaitsFor P s) (f ∷ es) × (Rattle.oss_chain_laws.specs.Chains.ticks_in (weight P s) (f ∷ es) ≡ (value_of x c).ticks))
             into (inl k) = inl k
             into (inr (f, g, es, a, tr, b)) = inr (f, (c, access_here c x h, g), es, a, tr, b)
 

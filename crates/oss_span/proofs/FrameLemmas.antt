@@ -24,17 +24,17 @@ use Rattle.oss_model.proofs.TreeLemmas.{at_same}
 use Rattle.oss_body.specs.declared.act.Act.{Act as CodeAct}
 use Rattle.oss_body.specs.declared.act.Act.TheVariants as acts
 use Rattle.oss_body.specs.Acts.{act_seen}
-use Rattle.oss_chains.specs.Chains.{Best as Longest, better as better_chain, capped, no_chain, one_more}
-use Rattle.oss_chains.specs.Happenings.{Happening, Acting, Giving, Does, Frees, StartsWith, WaitsFor, tick_of}
-use Rattle.oss_chains.specs.Pass.{Kept, IsKept, acted}
-use Rattle.oss_chains.specs.Runs.{ticks_at}
-use Rattle.oss_chains.specs.Tables.{GivenBelow, given_below, GivenWith, given_with, InActWay, InReadWay, InTurnWay, turn_way, read_way, write_way, InWriteWay, JustBefore, LeftBelow, LeftWith}
-use Rattle.oss_chains.proofs.ChainLemmas.{most_step}
-use Rattle.oss_chains.proofs.LongestLemmas.{has_ticks}
-use Rattle.oss_chains.proofs.PassLemmas.{Most, same, either_most, no_most, acted_kept, not_nil}
-use Rattle.oss_chains.proofs.PassTheorem.{above_access}
-use Rattle.oss_chains.proofs.TableLemmas.{act_back, act_forth}
-use Rattle.oss_chains.proofs.ValueLemmas.{is_strong_fold as is_fold_right, other_keeps, released_frees, released_keeps, releases_of}
+use Rattle.oss_chain_laws.specs.Chains.{Best as Longest, better as better_chain, capped, no_chain, one_more}
+use Rattle.oss_chain_laws.specs.Happenings.{Happening, Acting, Giving, Does, Frees, StartsWith, WaitsFor, tick_of}
+use Rattle.oss_chain_laws.specs.Pass.{Kept, IsKept, acted}
+use Rattle.oss_chain_laws.specs.Runs.{ticks_at}
+use Rattle.oss_chain_laws.specs.Tables.{GivenBelow, given_below, GivenWith, given_with, InActWay, InReadWay, InTurnWay, turn_way, read_way, write_way, InWriteWay, JustBefore, LeftBelow, LeftWith}
+use Rattle.oss_chain_laws.proofs.ChainLemmas.{most_step}
+use Rattle.oss_chain_laws.proofs.LongestLemmas.{has_ticks}
+use Rattle.oss_chain_laws.proofs.PassLemmas.{Most, same, either_most, no_most, acted_kept, not_nil}
+use Rattle.oss_chain_laws.proofs.PassTheorem.{above_access}
+use Rattle.oss_chain_laws.proofs.TableLemmas.{act_back, act_forth}
+use Rattle.oss_chain_laws.proofs.ValueLemmas.{is_strong_fold as is_fold_right, other_keeps, released_frees, released_keeps, releases_of}
 use Rattle.oss_span.specs.declared.best.Best.{Best}
 use Rattle.oss_span.specs.declared.best.Mark.{Mark}
 use Rattle.oss_span.specs.declared.frame.Frame.{Frame}
@@ -118,7 +118,7 @@ module _ (P : Program CodeScript) (s : State CodeScript) (nodes : List Node) (po
       → Tells P s nodes points (λ f. (c : ℕ) × Q c f) best
   tells_cells way pieces test Q best most one shown all = go one
     where
-      most_of : (f : Happening) → (c : ℕ) × Q c f → (es : List Happening) → Rattle.oss_chains.specs.Chains.IsTrail (WaitsFor P s) (f ∷ es) → Rattle.oss_chains.specs.Chains.ticks_in (weight P s) (f ∷ es) ≤ best.mark.ticks
+      most_of : (f : Happening) → (c : ℕ) × Q c f → (es : List Happening) → Rattle.oss_chain_laws.specs.Chains.IsTrail (WaitsFor P s) (f ∷ es) → Rattle.oss_chain_laws.specs.Chains.ticks_in (weight P s) (f ∷ es) ≤ best.mark.ticks
       most_of f (c, q) es t =
           let a = all c f q in
           let b = shown c a.0 a.1 a.2 in
@@ -140,8 +140,8 @@ module _ (P : Program CodeScript) (s : State CodeScript) (nodes : List Node) (po
           (record { best = b.0; most = record { most = λ f q es t. let l = most_of f q es t in omega (arith, l, z, y); reached = into c b.0 b.2.reached }; shows = b.1 })
         where
           into : (c : ℕ) (b : Longest Happening)
-              → ((b.ticks ≡ 0) × (b.chain ≡ [])) ⊎ ((f : Happening) × Q c f × (es : List Happening) × (b.chain ≡ f ∷ es) × Rattle.oss_chains.specs.Chains.IsTrail (WaitsFor P s) (f ∷ es) × (Rattle.oss_chains.specs.Chains.ticks_in (weight P s) (f ∷ es) ≡ b.ticks))
-              → ((b.ticks ≡ 0) × (b.chain ≡ [])) ⊎ ((f : Happening) × ((c : ℕ) × Q c f) × (es : List Happening) × (b.chain ≡ f ∷ es) × Rattle.oss_chains.specs.Chains.IsTrail (WaitsFor P s) (f ∷ es) × (Rattle.oss_chains.specs.Chains.ticks_in (weight P s) (f ∷ es) ≡ b.ticks))
+              → ((b.ticks ≡ 0) × (b.chain ≡ [])) ⊎ ((f : Happening) × Q c f × (es : List Happening) × (b.chain ≡ f ∷ es) × Rattle.oss_chain_laws.specs.Chains.IsTrail (WaitsFor P s) (f ∷ es) × (Rattle.oss_chain_laws.specs.Chains.ticks_in (weight P s) (f ∷ es) ≡ b.ticks))
+              → ((b.ticks ≡ 0) × (b.chain ≡ [])) ⊎ ((f : Happening) × ((c : ℕ) × Q c f) × (es : List Happening) × (b.chain ≡ f ∷ es) × Rattle.oss_chain_laws.specs.Chains.IsTrail (WaitsFor P s) (f ∷ es) × (Rattle.oss_chain_laws.specs.Chains.ticks_in (weight P s) (f ∷ es) ≡ b.ticks))
           into c b (inl k) = inl k
           into c b (inr (f, q, es, h, t, k)) = inr (f, (c, q), es, h, t, k)
 

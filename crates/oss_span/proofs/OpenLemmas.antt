@@ -24,17 +24,17 @@ use Rattle.oss_model.proofs.TreeLemmas.{at_same}
 use Rattle.oss_body.specs.declared.act.Act.{Act as CodeAct}
 use Rattle.oss_body.specs.declared.act.Act.TheVariants as acts
 use Rattle.oss_body.specs.Acts.{act_seen}
-use Rattle.oss_chains.specs.Chains.{Best as Longest, better as better_chain, capped, no_chain, one_more}
-use Rattle.oss_chains.specs.Happenings.{Happening, Acting, Giving, Does, Frees, StartsWith, WaitsFor, tick_of}
-use Rattle.oss_chains.specs.Pass.{Kept, IsKept, acted}
-use Rattle.oss_chains.specs.Runs.{ticks_at}
-use Rattle.oss_chains.specs.Tables.{GivenBelow, given_below, GivenWith, given_with, InActWay, InReadWay, InTurnWay, turn_way, read_way, write_way, InWriteWay, JustBefore, LeftBelow, LeftWith}
-use Rattle.oss_chains.proofs.ChainLemmas.{most_step}
-use Rattle.oss_chains.proofs.LongestLemmas.{has_ticks}
-use Rattle.oss_chains.proofs.PassLemmas.{Most, same, either_most, no_most, acted_kept, not_nil}
-use Rattle.oss_chains.proofs.PassTheorem.{above_access}
-use Rattle.oss_chains.proofs.TableLemmas.{act_back, act_forth}
-use Rattle.oss_chains.proofs.ValueLemmas.{is_strong_fold as is_fold_right, other_keeps, released_frees, released_keeps, releases_of}
+use Rattle.oss_chain_laws.specs.Chains.{Best as Longest, better as better_chain, capped, no_chain, one_more}
+use Rattle.oss_chain_laws.specs.Happenings.{Happening, Acting, Giving, Does, Frees, StartsWith, WaitsFor, tick_of}
+use Rattle.oss_chain_laws.specs.Pass.{Kept, IsKept, acted}
+use Rattle.oss_chain_laws.specs.Runs.{ticks_at}
+use Rattle.oss_chain_laws.specs.Tables.{GivenBelow, given_below, GivenWith, given_with, InActWay, InReadWay, InTurnWay, turn_way, read_way, write_way, InWriteWay, JustBefore, LeftBelow, LeftWith}
+use Rattle.oss_chain_laws.proofs.ChainLemmas.{most_step}
+use Rattle.oss_chain_laws.proofs.LongestLemmas.{has_ticks}
+use Rattle.oss_chain_laws.proofs.PassLemmas.{Most, same, either_most, no_most, acted_kept, not_nil}
+use Rattle.oss_chain_laws.proofs.PassTheorem.{above_access}
+use Rattle.oss_chain_laws.proofs.TableLemmas.{act_back, act_forth}
+use Rattle.oss_chain_laws.proofs.ValueLemmas.{is_strong_fold as is_fold_right, other_keeps, released_frees, released_keeps, releases_of}
 use Rattle.oss_span.specs.declared.best.Best.{Best}
 use Rattle.oss_span.specs.declared.best.Mark.{Mark}
 use Rattle.oss_span.specs.declared.frame.Frame.{Frame}
@@ -56,8 +56,8 @@ use Rattle.oss_model.specs.Machine.{find, mode_in}
 use Rattle.oss_model.specs.Rights.{in_access, joined_right, right_from}
 use Rattle.oss_model.proofs.JudgeLemmas.{op_eq_is}
 use Rattle.oss_model.proofs.TreeLemmas.{mode_is}
-use Rattle.oss_chains.specs.Pass.{opened as opened_kept, is_fold_of as fold_of_mode}
-use Rattle.oss_chains.proofs.PassTheorem.{opened_below, opened_top}
+use Rattle.oss_chain_laws.specs.Pass.{opened as opened_kept, is_fold_of as fold_of_mode}
+use Rattle.oss_chain_laws.proofs.PassTheorem.{opened_below, opened_top}
 use Rattle.oss_span.specs.Changes.{changed_at, is_fold_mode, join_of, opened, opened_by, unused}
 use Rattle.oss_span.specs.Frames.{IsOpened}
 use Rattle.oss_span.specs.Tables.{painted}

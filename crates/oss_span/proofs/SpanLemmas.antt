@@ -24,17 +24,17 @@ use Rattle.oss_model.proofs.TreeLemmas.{at_same}
 use Rattle.oss_body.specs.declared.act.Act.{Act as CodeAct}
 use Rattle.oss_body.specs.declared.act.Act.TheVariants as acts
 use Rattle.oss_body.specs.Acts.{act_seen}
-use Rattle.oss_chains.specs.Chains.{Best as Longest, better as better_chain, capped, no_chain, one_more}
-use Rattle.oss_chains.specs.Happenings.{Happening, Acting, Giving, Does, Frees, StartsWith, WaitsFor, tick_of}
-use Rattle.oss_chains.specs.Pass.{Kept, IsKept, acted}
-use Rattle.oss_chains.specs.Runs.{ticks_at}
-use Rattle.oss_chains.specs.Tables.{GivenBelow, given_below, GivenWith, given_with, InActWay, InReadWay, InTurnWay, turn_way, read_way, write_way, InWriteWay, JustBefore, LeftBelow, LeftWith}
-use Rattle.oss_chains.proofs.ChainLemmas.{most_step}
-use Rattle.oss_chains.proofs.LongestLemmas.{has_ticks}
-use Rattle.oss_chains.proofs.PassLemmas.{Most, same, either_most, no_most, acted_kept, not_nil}
-use Rattle.oss_chains.proofs.PassTheorem.{above_access}
-use Rattle.oss_chains.proofs.TableLemmas.{act_back, act_forth}
-use Rattle.oss_chains.proofs.ValueLemmas.{is_strong_fold as is_fold_right, other_keeps, released_frees, released_keeps, releases_of}
+use Rattle.oss_chain_laws.specs.Chains.{Best as Longest, better as better_chain, capped, no_chain, one_more}
+use Rattle.oss_chain_laws.specs.Happenings.{Happening, Acting, Giving, Does, Frees, StartsWith, WaitsFor, tick_of}
+use Rattle.oss_chain_laws.specs.Pass.{Kept, IsKept, acted}
+use Rattle.oss_chain_laws.specs.Runs.{ticks_at}
+use Rattle.oss_chain_laws.specs.Tables.{GivenBelow, given_below, GivenWith, given_with, InActWay, InReadWay, InTurnWay, turn_way, read_way, write_way, InWriteWay, JustBefore, LeftBelow, LeftWith}
+use Rattle.oss_chain_laws.proofs.ChainLemmas.{most_step}
+use Rattle.oss_chain_laws.proofs.LongestLemmas.{has_ticks}
+use Rattle.oss_chain_laws.proofs.PassLemmas.{Most, same, either_most, no_most, acted_kept, not_nil}
+use Rattle.oss_chain_laws.proofs.PassTheorem.{above_access}
+use Rattle.oss_chain_laws.proofs.TableLemmas.{act_back, act_forth}
+use Rattle.oss_chain_laws.proofs.ValueLemmas.{is_strong_fold as is_fold_right, other_keeps, released_frees, released_keeps, releases_of}
 use Rattle.oss_span.specs.declared.best.Best.{Best}
 use Rattle.oss_span.specs.declared.best.Mark.{Mark}
 use Rattle.oss_span.specs.declared.frame.Frame.{Frame}
@@ -57,8 +57,8 @@ use Rattle.oss_model.specs.Bodies.{stack_from}
 use Rattle.oss_model.specs.Sequence.{Running, RunsOn, path_above}
 use Rattle.oss_model.proofs.SequenceLemmas.{Stands}
 use Rattle.oss_model.proofs.StageLemmas.{own_creation, created_next}
-use Rattle.oss_chains.proofs.RunTheorem.{Extends, skips}
-use Rattle.oss_chains.proofs.StageTheorem.{after, created_same, does, found_now, grown, keeps, last_act_of}
+use Rattle.oss_chain_laws.proofs.RunTheorem.{Extends, skips}
+use Rattle.oss_chain_laws.proofs.StageTheorem.{after, created_same, does, found_now, grown, keeps, last_act_of}
 use Rattle.oss_span.specs.Changes.{is_fold_mode}
 use Rattle.oss_span.proofs.FrameLemmas.{FrameFits, FrameTells, IsTop, ShowsCell, held_same, told_right, told_some}
 use Rattle.oss_span.proofs.TableLemmas.{some_is}
@@ -71,9 +71,9 @@ use Rattle.oss_model.specs.Machine.{find, mode_in}
 use Rattle.oss_model.specs.Rights.{right_from}
 use Rattle.oss_model.proofs.StageLemmas.{start_created}
 use Rattle.oss_judge.specs.Joined.{IsRising}
-use Rattle.oss_chains.specs.Happenings.{EndsWith}
-use Rattle.oss_chains.specs.Pass.{opened as opened_kept}
-use Rattle.oss_chains.proofs.PassTheorem.{opened_below, opened_top}
+use Rattle.oss_chain_laws.specs.Happenings.{EndsWith}
+use Rattle.oss_chain_laws.specs.Pass.{opened as opened_kept}
+use Rattle.oss_chain_laws.proofs.PassTheorem.{opened_below, opened_top}
 use Rattle.oss_span.specs.declared.marks.Change.TheVariants.{Close}
 use Rattle.oss_span.specs.Changes.{changed_at, closed}
 use Rattle.oss_span.specs.Frames.{IsClosed, IsOpened}
@@ -95,9 +95,9 @@ use Rattle.oss_body.specs.Relation.{IsBody, pending_of}
 use Rattle.oss_serial.specs.declared.stage.Stage.{Stage}
 use Rattle.oss_serial.specs.Stages.{AreBodies, IsNext, IsStage}
 use Rattle.oss_serial.specs.Turns.{AreWaiting, whole_task}
-use Rattle.oss_chains.specs.Runs.{Ticks, more_ticks}
-use Rattle.oss_chains.proofs.CountLemmas.{AreCounted, counted_on}
-use Rattle.oss_chains.proofs.SpanTheorem.{extends_before}
+use Rattle.oss_chain_laws.specs.Runs.{Ticks, more_ticks}
+use Rattle.oss_chain_laws.proofs.CountLemmas.{AreCounted, counted_on}
+use Rattle.oss_chain_laws.proofs.SpanTheorem.{extends_before}
 use Rattle.oss_span.specs.declared.pass.Pass.{Pass}
 use Rattle.oss_span.specs.Passes.{IsDown, IsFollowed, IsOn, IsUp}
 use Rattle.oss_span.proofs.TurnWays.{WayRest, done_act, way_down, way_rest, way_stays, way_up}

@@ -5,10 +5,10 @@ use Rattle.std.proofs.lemmas.Bool.Decides.{nat_tests}
 use Rattle.oss_model.specs.Bodies.{Program}
 use Rattle.oss_model.specs.Machine.{State}
 use Rattle.oss_model.specs.Order.{written}
-use Rattle.oss_chains.specs.Chains.{Best as Longest, IsMost, better as better_chain, capped, no_chain, one_more, ticks_in}
-use Rattle.oss_chains.specs.Happenings.{Happening, Acting, Giving, WaitsFor}
-use Rattle.oss_chains.specs.Runs.{ticks_at}
-use Rattle.oss_chains.proofs.PassLemmas.{Most, same, either_most, no_most}
+use Rattle.oss_chain_laws.specs.Chains.{Best as Longest, IsMost, better as better_chain, capped, no_chain, one_more, ticks_in}
+use Rattle.oss_chain_laws.specs.Happenings.{Happening, Acting, Giving, WaitsFor}
+use Rattle.oss_chain_laws.specs.Runs.{ticks_at}
+use Rattle.oss_chain_laws.proofs.PassLemmas.{Most, same, either_most, no_most}
 use Rattle.oss_span.specs.declared.best.Best.{Best}
 use Rattle.oss_span.specs.declared.best.Mark.{Mark}
 use Rattle.oss_span.specs.declared.node.Node.{Node}
@@ -123,6 +123,6 @@ module _ {S : Type 0} (P : Program S) (s : State S) where
       cap : (n : ℕ) → capped n ≤ 2 ^ 64 - 1
       cap n = grind arith
 
-      go : ((b.ticks ≡ 0) × (b.chain ≡ [])) ⊎ ((f : Happening) × Q f × (es : List Happening) × (b.chain ≡ f ∷ es) × Rattle.oss_chains.specs.Chains.IsTrail (WaitsFor P s) (f ∷ es) × (ticks_in weight (f ∷ es) ≡ b.ticks)) → b.ticks ≤ 2 ^ 64 - 1
+      go : ((b.ticks ≡ 0) × (b.chain ≡ [])) ⊎ ((f : Happening) × Q f × (es : List Happening) × (b.chain ≡ f ∷ es) × Rattle.oss_chain_laws.specs.Chains.IsTrail (WaitsFor P s) (f ∷ es) × (ticks_in weight (f ∷ es) ≡ b.ticks)) → b.ticks ≤ 2 ^ 64 - 1
       go (inl z) = let e = z.0 in omega (arith, e)
       go (inr (f, q, es, c, t, e)) = let l = cap (weight f + ticks_in weight es) in omega (arith, e, l)

@@ -6,7 +6,7 @@ use Rattle.std.proofs.lemmas.List.{reverse-append}
 use Rattle.oss_model.specs.Bodies.{Program}
 use Rattle.oss_model.specs.Machine.{State}
 use Rattle.oss_model.specs.Order.{written}
-use Rattle.oss_chains.specs.Happenings.{Happening, Acting, Giving}
+use Rattle.oss_chain_laws.specs.Happenings.{Happening, Acting, Giving}
 use Rattle.oss_span.specs.declared.link.Link.{Link}
 use Rattle.oss_span.specs.declared.link.Link.TheVariants as links
 use Rattle.oss_span.specs.declared.node.Node.{Node}

@@ -6,7 +6,7 @@ use Rattle.oss_syntax.specs.declared.access.Mode.{Mode}
 use Rattle.oss_syntax.specs.declared.access.Mode.TheVariants.{Read, Write, Fold}
 use Rattle.oss_syntax.specs.declared.access.Op.{Op}
 use Rattle.oss_model.specs.Rights.{op_eq}
-use Rattle.oss_chains.specs.Pass.{is_fold_of as fold_of}
+use Rattle.oss_chain_laws.specs.Pass.{is_fold_of as fold_of}
 use Rattle.oss_span.specs.declared.best.Mark.{Mark}
 use Rattle.oss_span.specs.declared.marks.Marks.{Marks}
 use Rattle.oss_span.specs.declared.marks.Change.{Change}

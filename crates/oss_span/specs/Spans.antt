@@ -13,9 +13,9 @@ use Rattle.oss_model.specs.Sequence.{IsAtEnd, Running}
 use Rattle.oss_model.specs.declared.answer.Answer.{Answer}
 use Rattle.oss_model.specs.declared.answer.Answer.TheVariants as answers
 use Rattle.oss_body.specs.Mains.{code_main}
-use Rattle.oss_chains.specs.Chains.{capped, ticks_in}
-use Rattle.oss_chains.specs.Happenings.{Happening}
-use Rattle.oss_chains.specs.Runs.{IsLongest, Ticks, ticks_at}
+use Rattle.oss_chain_laws.specs.Chains.{capped, ticks_in}
+use Rattle.oss_chain_laws.specs.Happenings.{Happening}
+use Rattle.oss_chain_laws.specs.Runs.{IsLongest, Ticks, ticks_at}
 use Rattle.oss_span.specs.declared.link.Link.{Link}
 use Rattle.oss_span.specs.declared.link.SpanRun.{SpanRun}
 use Rattle.oss_span.specs.Links.{Unfolds}

@@ -14,9 +14,9 @@ use Rattle.oss_model.proofs.AgreementTheorem.{every_state_agrees}
 use Rattle.oss_model.proofs.AnswerTheorem.{every_stop_is_the_end}
 use Rattle.oss_model.proofs.SequenceLemmas.{stands}
 use Rattle.oss_model.proofs.TreeLemmas.{path_found, same_path_is}
-use Rattle.oss_rounds.specs.Rounds.{IsTrace, Trace}
-use Rattle.oss_rounds.specs.Rounds as rounds
-use Rattle.oss_rounds.proofs.MovesLemmas.{rounds_stop}
+use Rattle.oss_wave_laws.specs.Rounds.{IsTrace, Trace}
+use Rattle.oss_wave_laws.specs.Rounds as rounds
+use Rattle.oss_wave_laws.proofs.MovesLemmas.{rounds_stop}
 use Rattle.oss_meaning.specs.Results.{IsOutcome, Outcome, is_among, tasks_in, weighed}
 use Rattle.oss_meaning.specs.Results.IsOutcome.{ends, fails}
 use Rattle.oss_lower.proofs.OutcomeLemmas.{weighed_alike}

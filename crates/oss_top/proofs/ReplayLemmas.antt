@@ -6,10 +6,10 @@ use Rattle.oss_model.specs.Answers.{IsStopped}
 use Rattle.oss_model.specs.Bodies.{Program as Asks, Start}
 use Rattle.oss_model.specs.Machine.{State}
 use Rattle.oss_model.specs.Moves.{opening}
-use Rattle.oss_alike.specs.Alike.{IsAlike, IsBisimulation, turned}
-use Rattle.oss_alike.proofs.MayLemmas.{stopped_forth as stopped_too}
-use Rattle.oss_alike.proofs.TurnLemmas.{alike_back, bisimulation_back}
-use Rattle.oss_rounds.proofs.SameLemmas.{same_itself, stopped_forth}
+use Rattle.oss_same_acts_laws.specs.Alike.{IsAlike, IsBisimulation, turned}
+use Rattle.oss_same_acts_laws.proofs.MayLemmas.{stopped_forth as stopped_too}
+use Rattle.oss_same_acts_laws.proofs.TurnLemmas.{alike_back, bisimulation_back}
+use Rattle.oss_wave_laws.proofs.SameLemmas.{same_itself, stopped_forth}
 use Rattle.oss_meaning.specs.Expressions.{TreeScript}
 use Rattle.oss_meaning.specs.Meaning.{asks_of}
 use Rattle.oss_meaning.specs.Results.{Outcome, first_cells, main_of}
@@ -33,7 +33,7 @@ use Rattle.oss_top.specs.Replays.{IsReplayReply, beginning}
 use Rattle.oss_top.specs.Replays.IsReplayReply.{ended, stuck, unfinished}
 use Rattle.oss_top.specs.declared.reply.Reply.{Reply}
 use Rattle.oss_top.specs.declared.status.Status.TheVariants as status
-use Rattle.oss_spanned.proofs.CodeMoves.{codes_do_the_same, codes_open_alike, is_moved, outcome_of}
+use Rattle.oss_span_laws.proofs.CodeMoves.{codes_do_the_same, codes_open_alike, is_moved, outcome_of}
 
 module _ (p : Program) (code : CodeParts) (of : IsCodeOf p.items code) (words : AreWords code.first) (fuel : ℕ) (list : List TextMove) where
   abbrev P : Asks TreeScript

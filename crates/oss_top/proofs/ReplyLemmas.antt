@@ -17,16 +17,16 @@ use Rattle.oss_gen.specs.Generated.{generated_text}
 use Rattle.oss_meaning.specs.Expressions.{TreeScript}
 use Rattle.oss_meaning.specs.Meaning.{asks_of}
 use Rattle.oss_meaning.specs.Results.{IsOutcomeOf, Outcome, first_cells, main_of}
-use Rattle.oss_rounds.specs.Rounds.{Trace}
-use Rattle.oss_rounds.proofs.OneRunLemmas.{one_trace}
+use Rattle.oss_wave_laws.specs.Rounds.{Trace}
+use Rattle.oss_wave_laws.proofs.OneRunLemmas.{one_trace}
 use Rattle.oss_lower.proofs.OutcomeLaws.{outcomes_are_one}
 use Rattle.oss_model.specs.declared.answer.Answer.{Answer}
 use Rattle.oss_model.specs.declared.answer.Answer.TheVariants.{Done, Fault}
 use Rattle.oss_audit.specs.Lines.{audit_text}
-use Rattle.oss_audited.proofs.OneAudit.{audits_are_one}
+use Rattle.oss_audit_laws.proofs.OneAudit.{audits_are_one}
 use Rattle.oss_span.specs.Reply.{span_text}
 use Rattle.oss_span.specs.declared.link.Link.{Link}
-use Rattle.oss_spanned.proofs.SpanMoves.{spans_agree}
+use Rattle.oss_span_laws.proofs.SpanMoves.{spans_agree}
 use Rattle.oss_sched.proofs.OneReading.{read_once}
 use Rattle.oss_report.specs.Replays.{schedule_line}
 use Rattle.oss_top.specs.Audits.{IsAuditReply}

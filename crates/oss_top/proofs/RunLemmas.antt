@@ -5,7 +5,7 @@ use Rattle.oss_syntax.specs.declared.tree.program.Program.{Program}
 use Rattle.oss_model.specs.Agreement.{AreWords}
 use Rattle.oss_model.specs.declared.answer.Answer.{Answer}
 use Rattle.oss_model.specs.declared.answer.Answer.TheVariants.{Done, Fault}
-use Rattle.oss_rounds.specs.Rounds.{trace_of}
+use Rattle.oss_wave_laws.specs.Rounds.{trace_of}
 use Rattle.oss_meaning.specs.Meaning.{asks_of}
 use Rattle.oss_meaning.specs.Results.{Outcome, first_cells, main_of}
 use Rattle.oss_code.specs.declared.code.CodeParts.{CodeParts}
@@ -35,7 +35,7 @@ use Rattle.oss_top.specs.Runs.{AreWavesOf, IsDone, IsRanBy, IsRanOf}
 use Rattle.oss_top.specs.Soaks.{IsSoakReply}
 use Rattle.oss_top.specs.Traces.{IsTraceReply, move_of, record_of}
 use Rattle.oss_top.specs.declared.reply.Reply.{Reply}
-use Rattle.oss_spanned.proofs.CodeMoves.{outcome_of}
+use Rattle.oss_span_laws.proofs.CodeMoves.{outcome_of}
 use Rattle.oss_top.proofs.CountLemmas.{as_many_tasks}
 use Rattle.oss_top.proofs.TraceMoves.{traces_of_code}
 

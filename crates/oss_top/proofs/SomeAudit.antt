@@ -13,12 +13,12 @@ use Rattle.oss_model.specs.Order.{IsBefore, IsIn, IsSuffix, here, longer, same, 
 use Rattle.oss_model.specs.Rights.{Touch, in_access}
 use Rattle.oss_model.proofs.OrderLemmas.{before_not}
 use Rattle.oss_model.proofs.SortLemmas.{reverse_same}
-use Rattle.oss_rounds.specs.Passes.{IsEarlierPlace, Place}
-use Rattle.oss_rounds.proofs.DecideLemmas.{Decided, all_tasks, both, by_iff, either, if_not, is_number}
-use Rattle.oss_rounds.proofs.GatherLemmas.{Gathered, Sorted, gather, never_both, places_compared, places_never, places_through}
-use Rattle.oss_rounds.proofs.SumLemmas.{in_cases, in_none, listed}
-use Rattle.oss_chains.proofs.EventLemmas.{in_left, in_right}
-use Rattle.oss_chains.proofs.WaitDecides.{is_suffix, suffix_cases, suffix_none}
+use Rattle.oss_wave_laws.specs.Passes.{IsEarlierPlace, Place}
+use Rattle.oss_wave_laws.proofs.DecideLemmas.{Decided, all_tasks, both, by_iff, either, if_not, is_number}
+use Rattle.oss_wave_laws.proofs.GatherLemmas.{Gathered, Sorted, gather, never_both, places_compared, places_never, places_through}
+use Rattle.oss_wave_laws.proofs.SumLemmas.{in_cases, in_none, listed}
+use Rattle.oss_chain_laws.proofs.EventLemmas.{in_left, in_right}
+use Rattle.oss_chain_laws.proofs.WaitDecides.{is_suffix, suffix_cases, suffix_none}
 use Rattle.oss_audit.specs.Unused.{AreUnused, HasDeclared, HasTouched, IsAhead, IsTold, IsUnused, Rises, Tells, acting}
 use Rattle.oss_audit.specs.declared.unused.Unused.{Unused}
 use Rattle.oss_syntax.specs.declared.tree.program.Program.{Program}

@@ -13,10 +13,10 @@ use Rattle.oss_model.specs.Order.{IsBefore, IsIn, here, there, written}
 use Rattle.oss_model.proofs.OrderLemmas.{Compared, after, before, before_trans, compare, equal}
 use Rattle.oss_model.proofs.SortLemmas.{reverse_same}
 use Rattle.oss_model.proofs.TreeLemmas.{at_same, path_found}
-use Rattle.oss_rounds.proofs.DecideLemmas.{Decided, all_tasks, below, both, by_iff, can_join, can_let, can_step, cell_below, for_all, if_not, is_complete, is_there, most_cells, not_there}
-use Rattle.oss_rounds.proofs.GatherLemmas.{Gathered, Sorted, gather, never_both}
-use Rattle.oss_rounds.proofs.SameLemmas.{same_itself}
-use Rattle.oss_rounds.proofs.SumLemmas.{in_cases, in_none, listed}
+use Rattle.oss_wave_laws.proofs.DecideLemmas.{Decided, all_tasks, below, both, by_iff, can_join, can_let, can_step, cell_below, for_all, if_not, is_complete, is_there, most_cells, not_there}
+use Rattle.oss_wave_laws.proofs.GatherLemmas.{Gathered, Sorted, gather, never_both}
+use Rattle.oss_wave_laws.proofs.SameLemmas.{same_itself}
+use Rattle.oss_wave_laws.proofs.SumLemmas.{in_cases, in_none, listed}
 use Rattle.oss_core.specs.Stops.{AreApart, HasUnfinished, IsUnfinished}
 use Rattle.oss_core.proofs.StopLemmas.{join_made, let_made, step_made}
 use Rattle.oss_sched.specs.Reading.{told_in}

@@ -26,7 +26,7 @@ use Rattle.oss_parse.specs.ProgramReading.{read_text}
 use Rattle.oss_parse.proofs.ParsedLemmas.{parsed}
 use Rattle.oss_command.specs.Commands.{Command}
 use Rattle.oss_command.specs.Commands.Command.{audit, run, check, trace, replay, soak, span}
-use Rattle.oss_rounds.proofs.ExistLemmas.{has_trace}
+use Rattle.oss_wave_laws.proofs.ExistLemmas.{has_trace}
 use Rattle.oss_meaning.specs.Expressions.{TreeScript}
 use Rattle.oss_meaning.specs.Meaning.{asks_of}
 use Rattle.oss_meaning.specs.Results.{IsOutcomeOf, Outcome, first_cells, main_of}
@@ -40,7 +40,7 @@ use Rattle.oss_top.specs.Forms.{accepted_line, answer_reply, done_reply, error_r
 use Rattle.oss_top.specs.Reply.{IsFileReply, IsTextReply, IsProgramReply}
 use Rattle.oss_top.specs.Reply.IsProgramReply.{audited, checked, ran, soaked, spanned, traced}
 use Rattle.oss_top.specs.Traces.{IsTraceOf, text_of}
-use Rattle.oss_rounds.specs.Rounds.{Trace}
+use Rattle.oss_wave_laws.specs.Rounds.{Trace}
 use Rattle.oss_top.specs.Reply.IsTextReply.{accepted, refused_text}
 use Rattle.oss_top.specs.Reply.IsFileReply.{too_large, fits}
 use Rattle.oss_top.specs.Replays.{IsFilesReply, IsScheduleReply, IsTextsReply, most_schedule}

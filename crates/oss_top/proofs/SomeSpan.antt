@@ -7,15 +7,15 @@ use Rattle.oss_model.specs.Machine.{State}
 use Rattle.oss_model.specs.Order.{written}
 use Rattle.oss_model.specs.Sequence.{Running, Sequential, opens, runs_on}
 use Rattle.oss_model.specs.declared.answer.Answer.{Answer}
-use Rattle.oss_rounds.proofs.DecideLemmas.{Decided}
+use Rattle.oss_wave_laws.proofs.DecideLemmas.{Decided}
 use Rattle.oss_meaning.specs.Meaning.{asks_of}
 use Rattle.oss_meaning.specs.Results.{IsOutcome, IsOutcomeOf, Outcome, first_cells, main_of, tasks_in, entries_in}
 use Rattle.oss_meaning.specs.Results.IsOutcome.{ends as outcome_ends, fails as outcome_fails}
-use Rattle.oss_chains.specs.Chains.{capped, ticks_in}
-use Rattle.oss_chains.specs.Happenings.{Happening, Acting, Giving}
-use Rattle.oss_chains.specs.Runs.{Ticks, more_ticks, no_ticks, ticks_at}
-use Rattle.oss_chains.proofs.LongestTheorem.{every_run_has_a_span}
-use Rattle.oss_chains.proofs.WaitDecides.{starts_fold}
+use Rattle.oss_chain_laws.specs.Chains.{capped, ticks_in}
+use Rattle.oss_chain_laws.specs.Happenings.{Happening, Acting, Giving}
+use Rattle.oss_chain_laws.specs.Runs.{Ticks, more_ticks, no_ticks, ticks_at}
+use Rattle.oss_chain_laws.proofs.LongestTheorem.{every_run_has_a_span}
+use Rattle.oss_chain_laws.proofs.WaitDecides.{starts_fold}
 use Rattle.oss_span.specs.Links.{IsJoined, Unfolds, acts, join, let_, nothing}
 use Rattle.oss_span.specs.Reply.{span_text}
 use Rattle.oss_span.specs.Spans.{Spans}

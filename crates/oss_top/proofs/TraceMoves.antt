@@ -1,10 +1,10 @@
 -- A trace of the code of a program is one of the program, so what the machine does by waves tells of the program itself.
 use Rattle.std.proofs.Common.{ℕ, List, subst, sym}
 use Rattle.oss_syntax.specs.declared.tree.program.Item.{Item}
-use Rattle.oss_rounds.specs.Rounds.{IsTrace, Trace}
-use Rattle.oss_alike.specs.Alike.{turned}
-use Rattle.oss_alike.proofs.RoundLemmas.{trace_forth}
-use Rattle.oss_alike.proofs.TurnLemmas.{bisimulation_back}
+use Rattle.oss_wave_laws.specs.Rounds.{IsTrace, Trace}
+use Rattle.oss_same_acts_laws.specs.Alike.{turned}
+use Rattle.oss_same_acts_laws.proofs.RoundLemmas.{trace_forth}
+use Rattle.oss_same_acts_laws.proofs.TurnLemmas.{bisimulation_back}
 use Rattle.oss_meaning.specs.Meaning.{asks_of}
 use Rattle.oss_meaning.specs.Results.{first_cells, main_of}
 use Rattle.oss_code.specs.declared.code.CodeParts.{CodeParts}
@@ -12,7 +12,7 @@ use Rattle.oss_machine.specs.Machines.{asks}
 use Rattle.oss_body.specs.Mains.{code_main}
 use Rattle.oss_lower.specs.Programs.{IsCodeOf}
 use Rattle.oss_lower.proofs.OutcomeLaws.{start_is}
-use Rattle.oss_spanned.proofs.CodeMoves.{codes_do_the_same, is_moved}
+use Rattle.oss_span_laws.proofs.CodeMoves.{codes_do_the_same, is_moved}
 
 module _ (all : List Item) (code : CodeParts) (of : IsCodeOf all code) (fuel : ℕ) (trace : Trace) where
   -- the trace of the code is that of the program

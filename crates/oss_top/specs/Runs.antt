@@ -5,7 +5,7 @@ use Rattle.oss_syntax.specs.declared.tree.program.Item.{Item}
 use Rattle.oss_syntax.specs.declared.tree.program.Program.{Program}
 use Rattle.oss_model.specs.declared.answer.Answer.{Answer}
 use Rattle.oss_model.specs.declared.answer.Answer.TheVariants.{Done, Fault}
-use Rattle.oss_rounds.specs.Rounds.{Trace}
+use Rattle.oss_wave_laws.specs.Rounds.{Trace}
 use Rattle.oss_meaning.specs.Results.{IsOutcomeOf, Outcome}
 use Rattle.oss_serial.specs.declared.run.Ran.{Ran}
 use Rattle.oss_sched.specs.declared.moves.WaveRecord.{WaveRecord}

@@ -3,8 +3,8 @@
 -- `long x; int main() { x = 1 / x; }` has one wave too, in which it ticks and reads x; the trace tells of it, the status is Fault, and the error output has DivideByZero.
 use Rattle.std.specs.Prelude.{◌≡◌, ℕ, List, map}
 use Rattle.oss_syntax.specs.declared.tree.program.Program.{Program}
-use Rattle.oss_rounds.specs.Rounds.{IsTrace, Line, Trace}
-use Rattle.oss_rounds.specs.Rounds.Line.{join_line, let_line, step_line}
+use Rattle.oss_wave_laws.specs.Rounds.{IsTrace, Line, Trace}
+use Rattle.oss_wave_laws.specs.Rounds.Line.{join_line, let_line, step_line}
 use Rattle.oss_meaning.specs.Meaning.{asks_of}
 use Rattle.oss_meaning.specs.Results.{IsOutcomeOf, Outcome, first_cells, main_of}
 use Rattle.oss_sched.specs.Traces.{trace_text}

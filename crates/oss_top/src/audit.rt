@@ -8,7 +8,7 @@ ghost use Rattle.oss_top.specs.Forms.{told_reply};
 use crate::reply::Reply;
 use crate::run::{are_words, reply_to_fault};
 use oss_audit::{AuditRun, audit, audit_lines};
-use oss_audited::audits_alike;
+use oss_audit_laws::audits_alike;
 use oss_lower::lower;
 use oss_model::Answer;
 use oss_names::Known;

@@ -10,7 +10,7 @@ use crate::run::are_words;
 use oss_lower::lower;
 use oss_names::Known;
 use oss_span::{SpanRun, chain_lines, span};
-use oss_spanned::spans_alike;
+use oss_span_laws::spans_alike;
 use oss_syntax::Bytes;
 use std::alloc::{AllocError, Global};
 

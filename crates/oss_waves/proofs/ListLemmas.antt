@@ -2,8 +2,8 @@
 use Rattle.std.proofs.Common.{◌≡◌, ℕ, zero, suc, ◌+◌, ◌<◌, refl, sym, ap, ◌∙◌, subst, arith, List, [], ◌∷◌, ◌++◌, length, take, get_or, append_assoc, Some}
 use Rattle.std.specs.Prelude.{slice_get, map}
 use Rattle.std.proofs.lemmas.Option.{slice_get-get_or}
-use Rattle.oss_groups.specs.Groups.{AreGiven}
-use Rattle.oss_groups.proofs.ListLemmas.{given_more}
+use Rattle.oss_thread_groups.specs.Groups.{AreGiven}
+use Rattle.oss_thread_groups.proofs.ListLemmas.{given_more}
 
 -- what two lists map to
 pub map_both : {A B : Type 0} (f : A → B) (xs ys : List A) → map f (xs ++ ys) ≡ map f xs ++ map f ys

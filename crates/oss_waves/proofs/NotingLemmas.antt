@@ -3,9 +3,9 @@ use Rattle.std.proofs.Common.{◌≡◌, ℕ, zero, suc, ◌-◌, ◌<◌, ◌�
 use Rattle.std.specs.Prelude.{slice_get, map}
 use Rattle.std.proofs.lemmas.Option.{slice_get_within}
 use Rattle.oss_model.specs.Order.{written}
-use Rattle.oss_rounds.specs.Rounds.{Line, Span, line_from, span_line, step_line, turn_line}
-use Rattle.oss_rounds.specs.Waves as waves
-use Rattle.oss_groups.specs.Groups.{AreGiven}
+use Rattle.oss_wave_laws.specs.Rounds.{Line, Span, line_from, span_line, step_line, turn_line}
+use Rattle.oss_wave_laws.specs.Waves as waves
+use Rattle.oss_thread_groups.specs.Groups.{AreGiven}
 use Rattle.oss_tree.specs.declared.task.Task.{Task}
 use Rattle.oss_tree.specs.Tasks.{HasPoint}
 use Rattle.oss_core.specs.declared.passing.Passed.{Passed}

@@ -5,8 +5,8 @@ use Rattle.std.proofs.lemmas.Bool.Decides.{nat_tests}
 use Rattle.std.specs.List.{flat_map}
 use Rattle.std.proofs.lemmas.List.{append-nil}
 use Rattle.oss_model.specs.Machine.{State}
-use Rattle.oss_rounds.specs.Passes.{GivenUp, IsPass, Passes, idles, passes}
-use Rattle.oss_rounds.specs.Rounds.{Line, pass_lines, spans}
+use Rattle.oss_wave_laws.specs.Passes.{GivenUp, IsPass, Passes, idles, passes}
+use Rattle.oss_wave_laws.specs.Rounds.{Line, pass_lines, spans}
 use Rattle.oss_code.specs.declared.code.CodeParts.{CodeParts}
 use Rattle.oss_machine.specs.Frames.{CodeScript}
 use Rattle.oss_machine.specs.Machines.{asks}
@@ -17,8 +17,8 @@ use Rattle.oss_core.specs.Kept.{IsRunning, Kept}
 use Rattle.oss_core.specs.Passing.{HasPassed, HaveGiven, TellsOf}
 use Rattle.oss_core.specs.Leaving.{HaveGivenUp}
 use Rattle.oss_core.proofs.ExactLemmas.{let_told}
-use Rattle.oss_watch.specs.declared.watch.Watch.{Watch}
-use Rattle.oss_watch.specs.Watches.{HasNoLet, IsBehindPass, IsWatch}
+use Rattle.oss_wakeups.specs.declared.watch.Watch.{Watch}
+use Rattle.oss_wakeups.specs.Watches.{HasNoLet, IsBehindPass, IsWatch}
 use Rattle.oss_core.proofs.FallLemmas.{core_passes_fall}
 use Rattle.oss_core.proofs.PassLemmas.{idle_pass, none_told}
 use Rattle.oss_sched.specs.declared.moves.TextMove.{TextMove}

@@ -5,11 +5,11 @@ use Rattle.std.specs.declared.alloc.AllocError.{AllocError}
 use Rattle.std.specs.declared.alloc.Global.{Global}
 use Rattle.oss_code.specs.declared.code.CodeParts.{CodeParts}
 use Rattle.oss_body.specs.declared.body.Body.{Body}
-use Rattle.oss_groups.specs.Groups.{AreGiven}
+use Rattle.oss_thread_groups.specs.Groups.{AreGiven}
 use Rattle.oss_model.specs.Order.{IsIn, here, there}
-use Rattle.oss_part.specs.Segments.{IsKnown}
-use Rattle.oss_part.specs.declared.ready.Ready.{Ready}
-use Rattle.oss_part.specs.declared.segment.Segment.{Segment}
+use Rattle.oss_segment.specs.Segments.{IsKnown}
+use Rattle.oss_segment.specs.declared.ready.Ready.{Ready}
+use Rattle.oss_segment.specs.declared.segment.Segment.{Segment}
 use Rattle.oss_core.specs.Turns.{ArePartsOf, IsPartOf}
 use Rattle.oss_waves.specs.Readies.{IsReady}
 

@@ -8,9 +8,9 @@ use Rattle.oss_model.specs.Bodies.{Start}
 use Rattle.oss_model.specs.Machine.{State, Task}
 use Rattle.oss_model.specs.Moves.{CanStep, SomeMove, a_join, a_let, a_step}
 use Rattle.oss_model.specs.Order.{IsIn, here}
-use Rattle.oss_rounds.specs.Rounds.{Line, Round, Rounds, follows, pass_lines, round_lines, stopped, turn_line, widest}
-use Rattle.oss_rounds.specs.Waves.{IsWave, TakeTurns, Turn, no_turns}
-use Rattle.oss_rounds.proofs.MovesLemmas.{rounds_end}
+use Rattle.oss_wave_laws.specs.Rounds.{Line, Round, Rounds, follows, pass_lines, round_lines, stopped, turn_line, widest}
+use Rattle.oss_wave_laws.specs.Waves.{IsWave, TakeTurns, Turn, no_turns}
+use Rattle.oss_wave_laws.proofs.MovesLemmas.{rounds_end}
 use Rattle.oss_code.specs.declared.code.CodeParts.{CodeParts}
 use Rattle.oss_machine.specs.Frames.{CodeScript}
 use Rattle.oss_machine.specs.Machines.{asks}

@@ -13,8 +13,8 @@ use Rattle.oss_model.specs.Machine.{State, Task}
 use Rattle.oss_model.specs.Moves.{opening}
 use Rattle.oss_model.proofs.SequenceLemmas.{opening_at}
 use Rattle.oss_model.proofs.TerminationTheorem.{run_has_result}
-use Rattle.oss_rounds.specs.Rounds.{Line, Trace}
-use Rattle.oss_rounds.proofs.MovesLemmas.{answer_is_the_result}
+use Rattle.oss_wave_laws.specs.Rounds.{Line, Trace}
+use Rattle.oss_wave_laws.proofs.MovesLemmas.{answer_is_the_result}
 use Rattle.oss_code.specs.declared.code.CodeParts.{CodeParts}
 use Rattle.oss_machine.specs.Frames.{CodeScript}
 use Rattle.oss_machine.specs.Machines.{asks}

@@ -1,16 +1,16 @@
 -- Waves: what is told of them, and the tasks that are left behind them.
 use Rattle.std.proofs.Common.{◌≡◌, ℕ, ◌<◌, refl, ◌∙◌, arith, List, [], ◌∷◌, length, Some}
 use Rattle.std.specs.Prelude.{slice_get}
-use Rattle.oss_rounds.specs.Waves as waves
-use Rattle.oss_rounds.specs.Waves.{IsWave}
+use Rattle.oss_wave_laws.specs.Waves as waves
+use Rattle.oss_wave_laws.specs.Waves.{IsWave}
 use Rattle.oss_code.specs.declared.code.CodeParts.{CodeParts}
 use Rattle.oss_tree.specs.declared.task.Task.{Task}
 use Rattle.oss_core.specs.declared.turns.Turn.{Turn}
 use Rattle.oss_core.specs.Kept.{IsRunning, Kept}
 use Rattle.oss_core.specs.Turns.{AreTold, HasWaved, KeepsTasks}
 use Rattle.oss_core.specs.Leaving.{WasWave}
-use Rattle.oss_watch.specs.declared.watch.Watch.{Watch}
-use Rattle.oss_watch.specs.Watches.{IsBehindWave, IsWatch}
+use Rattle.oss_wakeups.specs.declared.watch.Watch.{Watch}
+use Rattle.oss_wakeups.specs.Watches.{IsBehindWave, IsWatch}
 use Rattle.oss_sched.specs.declared.moves.TextMove.{TextMove}
 use Rattle.oss_waves.specs.Noting.{IsStepOf, Notes}
 use Rattle.oss_waves.specs.Rounding.{HasMadeWave}

@@ -2,7 +2,7 @@
 -- Read against: task 1, with the point 0.0, had a turn of five acts: the move is `step 0.0 5`. It has then given up the cells 0 and 1 by lets, and the slot of
 -- cell 4 was joined: the moves are `let 0.0 0 2` and `join 0.0 4 1`.
 use Rattle.std.specs.Prelude.{◌≡◌, ℕ, ◌-◌, Bool, true, false, List, ◌++◌}
-use Rattle.oss_groups.specs.Groups.{AreGiven}
+use Rattle.oss_thread_groups.specs.Groups.{AreGiven}
 use Rattle.oss_tree.specs.declared.task.Task.{Task}
 use Rattle.oss_tree.specs.Tasks.{HasPoint}
 use Rattle.oss_core.specs.declared.passing.Passed.{Passed}

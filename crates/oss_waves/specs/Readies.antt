@@ -3,7 +3,7 @@
 use Rattle.std.specs.Prelude.{◌≡◌}
 use Rattle.oss_code.specs.declared.code.CodeParts.{CodeParts}
 use Rattle.oss_body.specs.declared.body.Body.{Body}
-use Rattle.oss_part.specs.declared.ready.Ready.{Ready}
+use Rattle.oss_segment.specs.declared.ready.Ready.{Ready}
 
 -- The one has this body, and this code.
 pub record IsReady (code : CodeParts) (body : Body) (one : Ready) : Type 0 where

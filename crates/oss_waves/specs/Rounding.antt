@@ -9,9 +9,9 @@ use Rattle.oss_model.specs.Answers.{IsStopped}
 use Rattle.oss_model.specs.Bodies.{Program, Start}
 use Rattle.oss_model.specs.Machine.{State, Task}
 use Rattle.oss_model.specs.Moves.{CanJoin, CanLet, CanStep}
-use Rattle.oss_rounds.specs.Passes.{GivenUp, IsPass, Passes}
-use Rattle.oss_rounds.specs.Rounds.{IsRound, Round, Rounds, pass_lines, round_lines, turn_line, widest}
-use Rattle.oss_rounds.specs.Waves.{IsWave, Turn}
+use Rattle.oss_wave_laws.specs.Passes.{GivenUp, IsPass, Passes}
+use Rattle.oss_wave_laws.specs.Rounds.{IsRound, Round, Rounds, pass_lines, round_lines, turn_line, widest}
+use Rattle.oss_wave_laws.specs.Waves.{IsWave, Turn}
 use Rattle.oss_code.specs.declared.code.CodeParts.{CodeParts}
 use Rattle.oss_machine.specs.Frames.{CodeScript}
 use Rattle.oss_machine.specs.Machines.{asks}

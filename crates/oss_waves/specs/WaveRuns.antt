@@ -6,7 +6,7 @@ use Rattle.std.specs.Prelude.{◌≡◌, ℕ, List, map}
 use Rattle.oss_model.specs.declared.answer.Answer.{Answer}
 use Rattle.oss_model.specs.Answers.{IsAnswer, IsResult}
 use Rattle.oss_model.specs.Machine.{State}
-use Rattle.oss_rounds.specs.Rounds.{Line, step_line, let_line, join_line, Round, RunsByWaves, Trace, trace_of}
+use Rattle.oss_wave_laws.specs.Rounds.{Line, step_line, let_line, join_line, Round, RunsByWaves, Trace, trace_of}
 use Rattle.oss_code.specs.declared.code.CodeParts.{CodeParts}
 use Rattle.oss_machine.specs.Frames.{CodeScript}
 use Rattle.oss_machine.specs.Machines.{asks}

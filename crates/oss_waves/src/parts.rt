@@ -3,17 +3,17 @@
 ghost use Rattle.std.specs.Prelude.{◌≤◌, length, IfOk};
 ghost use Rattle.oss_body.specs.declared.body.Body.{Body as Kept};
 ghost use Rattle.oss_model.specs.Order.{IsIn};
-ghost use Rattle.oss_part.specs.Segments.{IsKnown};
-ghost use Rattle.oss_groups.specs.Groups.{AreGiven};
+ghost use Rattle.oss_segment.specs.Segments.{IsKnown};
+ghost use Rattle.oss_thread_groups.specs.Groups.{AreGiven};
 ghost use Rattle.oss_core.specs.Turns.{ArePartsOf, IsPartOf};
 ghost use Rattle.oss_waves.specs.Readies.{IsReady};
 
 use crate::team::Team;
 use oss_body::Body;
 use oss_code::Code;
-use oss_groups::{Work, in_groups};
+use oss_thread_groups::{Work, in_groups};
 use oss_io::Gate;
-use oss_part::{Ready, Segment};
+use oss_segment::{Ready, Segment};
 use std::alloc::{AllocError, Global};
 use std::thread::Threads;
 

@@ -3,7 +3,7 @@
 ghost use Rattle.std.specs.Prelude.{IfOk, OnOk};
 ghost use Rattle.oss_core.specs.Cores.{kept_of};
 ghost use Rattle.oss_core.specs.Kept.{IsRunning};
-ghost use Rattle.oss_watch.specs.Watches.{IsWatch};
+ghost use Rattle.oss_wakeups.specs.Watches.{IsWatch};
 ghost use Rattle.oss_waves.specs.Rounding.{HasMadePass, HasMadePasses};
 
 use crate::noting::note_passed;
@@ -12,7 +12,7 @@ use oss_core::Core;
 use oss_deps::Deps;
 use oss_sched::TextMove;
 use oss_syntax::List;
-use oss_watch::Watch;
+use oss_wakeups::Watch;
 use std::alloc::AllocError;
 
 /// Makes a pass, notes what it gives up, and wakes those that waited for it. Says whether it gave anything up. Condition: each task that may give something up is

@@ -3,7 +3,7 @@
 ghost use Rattle.std.specs.Prelude.{◌≤◌, length, IfOk, OnOk};
 ghost use Rattle.oss_core.specs.Cores.{kept_of};
 ghost use Rattle.oss_core.specs.Kept.{IsRunning};
-ghost use Rattle.oss_watch.specs.Watches.{IsWatch};
+ghost use Rattle.oss_wakeups.specs.Watches.{IsWatch};
 ghost use Rattle.oss_waves.specs.Rounding.{HasMadeRounds, IsResting, IsRoundOf};
 
 use crate::passing::pass_all;
@@ -16,7 +16,7 @@ use oss_deps::Deps;
 use oss_io::Gate;
 use oss_sched::TextMove;
 use oss_syntax::List;
-use oss_watch::Watch;
+use oss_wakeups::Watch;
 use std::alloc::{AllocError, Global};
 use std::thread::Threads;
 

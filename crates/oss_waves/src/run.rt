@@ -20,7 +20,7 @@ use oss_deps::Deps;
 use oss_io::Gate;
 use oss_model::Answer;
 use oss_sched::WaveRecord;
-use oss_watch::Watch;
+use oss_wakeups::Watch;
 use std::alloc::{AllocError, Global};
 use std::thread::Threads;
 

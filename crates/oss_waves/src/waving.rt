@@ -6,7 +6,7 @@ ghost use Rattle.oss_core.specs.Kept.{IsRunning};
 ghost use Rattle.oss_core.specs.Awake.{HaveSteppers};
 ghost use Rattle.oss_core.specs.Leaving.{WasWave};
 ghost use Rattle.oss_core.specs.Turns.{HasWaved, KeepsTasks};
-ghost use Rattle.oss_watch.specs.Watches.{IsWatch};
+ghost use Rattle.oss_wakeups.specs.Watches.{IsWatch};
 ghost use Rattle.oss_waves.specs.Rounding.{HasMadeWave};
 
 use crate::noting::note_turns;
@@ -20,7 +20,7 @@ use oss_io::Gate;
 use oss_model::TaskNo;
 use oss_sched::TextMove;
 use oss_syntax::List;
-use oss_watch::Watch;
+use oss_wakeups::Watch;
 use std::alloc::AllocError;
 use std::thread::Threads;
 

@@ -11,8 +11,8 @@ use Rattle.oss_deps.specs.Seen.{CanOpen, Seen}
 use Rattle.oss_deps.proofs.Basics.{some_is}
 use Rattle.oss_deps.proofs.NewLemmas.{rising_once}
 use Rattle.oss_deps.proofs.OpenLemmas.{bounds_in, get_in, named_at, not_main, one_entry}
-use Rattle.oss_wires.specs.Wires.{IsBelow}
-use Rattle.oss_wires.proofs.StepLemmas.{same_or}
+use Rattle.oss_access_lists.specs.Wires.{IsBelow}
+use Rattle.oss_access_lists.proofs.StepLemmas.{same_or}
 use Rattle.oss_links.specs.Held.{AreHeld, IsAccessOf, IsAccessOrMain, with_task}
 use Rattle.oss_links.proofs.ClaimLemmas.{alike_hold, creators_are_held, creators_hold, openings_hold}
 use Rattle.oss_word_deps.specs.declared.entry.Entry.{Entry}
@@ -207,7 +207,7 @@ module _ (s : Seen) (o : Open) (depth first upto : ℕ) (creator : Option Job) (
     within : cell < length l.mains
     within = omega (arith, may.before, access.range.within, may.growing.sound.mains)
 
-    hangs : Rattle.oss_wires.specs.Steps.IsHung (lists_of l cell) (lists_of n cell) p (suc (length l.entries))
+    hangs : Rattle.oss_access_lists.specs.Steps.IsHung (lists_of l cell) (lists_of n cell) p (suc (length l.entries))
     hangs = hung l may.growing.sound x p parent_row refl within w.wired (listed_within s cell l may.growing.sound) lends.0 covered
 
     fits : Fits n.entries (suc (length l.entries)) x

@@ -12,8 +12,8 @@ use Rattle.oss_words.specs.declared.entry.After.TheVariants.{FirstOf, FirstOfMai
 use Rattle.oss_words.specs.declared.entry.EntryInfo.{EntryInfo}
 use Rattle.oss_words.specs.Net.{Place, after, first}
 use Rattle.oss_words.specs.Views.{Among, Hung, among_first, among_later}
-use Rattle.oss_net.specs.Calls.{MayHang, MayRelease, MayStand, place_of}
-use Rattle.oss_net.specs.Known.{Kin, Known, eldest, younger}
+use Rattle.oss_word_net.specs.Calls.{MayHang, MayRelease, MayStand, place_of}
+use Rattle.oss_word_net.specs.Known.{Kin, Known, eldest, younger}
 use Rattle.oss_word_deps.specs.declared.entry.Entry.{Entry}
 use Rattle.oss_word_deps.specs.declared.entry.Mark.{Mark}
 use Rattle.oss_word_deps.specs.Known.{Adds, Frees, HasGiven, HasLinked, IsAlone, IsLinkOf, Keeps}
@@ -79,7 +79,7 @@ module _ (entries : List Entry) (fits : (v : ℕ) (e : Entry) → entry_of entri
 
   -- siblings are of one depth
   depth_same : (v o : ℕ) (e : Entry) → entry_of entries v ≡ Some e → (b : IsBehind entries v e o) → b.sibling.info.depth ≡ e.info.depth
-  depth_same v o e h b = go (Rattle.oss_wires.proofs.StepLemmas.same_or e.info.parent 0)
+  depth_same v o e h b = go (Rattle.oss_access_lists.proofs.StepLemmas.same_or e.info.parent 0)
     where
       f : Fits entries v e
       f = fits v e h

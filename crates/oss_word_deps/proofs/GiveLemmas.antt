@@ -7,13 +7,13 @@ use Rattle.oss_deps.specs.Opens.{AreOpens, HasOpened}
 use Rattle.oss_deps.specs.Seen.{Gives, Seen, in_range}
 use Rattle.oss_deps.proofs.Basics.{both, bools, clash, compared, or_cases, some_is}
 use Rattle.oss_words.specs.Views.{Among, among_first, among_later}
-use Rattle.oss_wires.specs.Steps.{IsGift}
-use Rattle.oss_wires.proofs.StepLemmas.{same_or}
+use Rattle.oss_access_lists.specs.Steps.{IsGift}
+use Rattle.oss_access_lists.proofs.StepLemmas.{same_or}
 use Rattle.oss_links.specs.Held.{AreAlike, AreHeld, IsAccessOf}
 use Rattle.oss_links.proofs.AlikeLemmas.{held_told}
 use Rattle.oss_links.proofs.ClaimLemmas.{alike_hold, gifts_hold}
-use Rattle.oss_net.specs.Known.{Known}
-use Rattle.oss_net.specs.Calls.{MayRelease}
+use Rattle.oss_word_net.specs.Known.{Known}
+use Rattle.oss_word_net.specs.Calls.{MayRelease}
 use Rattle.oss_word_deps.specs.declared.entry.Entry.{Entry}
 use Rattle.oss_word_deps.specs.declared.entry.Job.{Job}
 use Rattle.oss_word_deps.specs.declared.entry.Mark.{Mark}

@@ -5,9 +5,9 @@ use Rattle.oss_syntax.specs.declared.access.Mode.{Mode}
 use Rattle.oss_model.specs.Rights.{covers}
 use Rattle.oss_words.specs.declared.entry.After.{After}
 use Rattle.oss_words.specs.declared.entry.After.TheVariants.{FirstOf, FirstOfMain, Sibling}
-use Rattle.oss_wires.specs.Steps.{IsHung}
-use Rattle.oss_wires.specs.Wires.{AreWired, IsBelow, after, first, loose}
-use Rattle.oss_wires.proofs.StepLemmas.{same_or}
+use Rattle.oss_access_lists.specs.Steps.{IsHung}
+use Rattle.oss_access_lists.specs.Wires.{AreWired, IsBelow, after, first, loose}
+use Rattle.oss_access_lists.proofs.StepLemmas.{same_or}
 use Rattle.oss_links.specs.Held.{AreAlike}
 use Rattle.oss_word_deps.specs.declared.entry.Entry.{Entry}
 use Rattle.oss_word_deps.specs.declared.entry.Mark.{Mark}

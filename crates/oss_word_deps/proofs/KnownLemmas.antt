@@ -3,8 +3,8 @@ use Rattle.std.proofs.Common.{◌≡◌, ℕ, zero, suc, ◌<◌, ◌≤◌, ◌
 use Rattle.oss_deps.proofs.Basics.{compared}
 use Rattle.oss_words.specs.SeatSteps.{numbers}
 use Rattle.oss_words.specs.Views.{Among, among_first, among_later}
-use Rattle.oss_net.specs.Known.{Known, first_known}
-use Rattle.oss_net.specs.Moves.{drew}
+use Rattle.oss_word_net.specs.Known.{Known, first_known}
+use Rattle.oss_word_net.specs.Moves.{drew}
 use Rattle.oss_word_deps.specs.Known.{IsAlone}
 
 -- the numbers that were drawn

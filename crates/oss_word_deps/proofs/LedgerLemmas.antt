@@ -2,7 +2,7 @@
 use Rattle.std.proofs.Common.{◌≡◌, ℕ, zero, suc, ◌<◌, ◌≤◌, ◌⊎◌, inl, inr, refl, sym, ap, subst, ◌∙◌, Bool, true, false, List, [], ◌∷◌, ◌++◌, Option, Some, None, length, arith, eq-eqb, eqb-true}
 use Rattle.std.specs.Prelude.{◌==◌, slice_get, slice_set}
 use Rattle.oss_deps.proofs.Basics.{some_is, some_none}
-use Rattle.oss_wires.proofs.StepLemmas.{same_or}
+use Rattle.oss_access_lists.proofs.StepLemmas.{same_or}
 use Rattle.oss_word_deps.specs.declared.entry.Entry.{Entry}
 use Rattle.oss_word_deps.specs.declared.entry.Mark.{Mark}
 use Rattle.oss_word_deps.specs.Growing.{with_last, with_main}

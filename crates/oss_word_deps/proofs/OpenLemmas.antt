@@ -10,7 +10,7 @@ use Rattle.oss_deps.proofs.OpenLemmas.{in_last, named_at, one_entry}
 use Rattle.oss_words.specs.Views.{Among}
 use Rattle.oss_links.specs.Held.{AreEmpty, AreHeld, IsAccessOf, IsUnder, under_main, under_task}
 use Rattle.oss_links.proofs.ClaimLemmas.{empty_lists_hold}
-use Rattle.oss_net.specs.Known.{Known}
+use Rattle.oss_word_net.specs.Known.{Known}
 use Rattle.oss_word_deps.specs.declared.entry.Entry.{Entry}
 use Rattle.oss_word_deps.specs.declared.entry.Job.{Job}
 use Rattle.oss_word_deps.specs.declared.entry.Mark.{Mark}

@@ -15,14 +15,14 @@ use Rattle.oss_deps.specs.Seen.{Seen}
 use Rattle.oss_deps.proofs.Basics.{both, compared, some_is, some_none}
 use Rattle.oss_deps.proofs.OpenLemmas.{get_in, in_get, named_at, one_entry}
 use Rattle.oss_words.specs.declared.entry.EntryState.{EntryState}
-use Rattle.oss_wires.specs.Flags.{Clear, Done, is_fold}
-use Rattle.oss_wires.specs.Wires.{IsBefore, wired}
-use Rattle.oss_wires.proofs.StepLemmas.{same_or}
+use Rattle.oss_access_lists.specs.Flags.{Clear, Done, is_fold}
+use Rattle.oss_access_lists.specs.Wires.{IsBefore, wired}
+use Rattle.oss_access_lists.proofs.StepLemmas.{same_or}
 use Rattle.oss_links.specs.Held.{IsAccessOf, IsAccessOrMain}
 use Rattle.oss_links.specs.Readings.{TellOfTask}
 use Rattle.oss_links.proofs.ChildLemmas.{children_are}
 use Rattle.oss_links.proofs.ConditionLemmas.{no_child}
-use Rattle.oss_net.specs.Known.{Known, Rests}
+use Rattle.oss_word_net.specs.Known.{Known, Rests}
 use Rattle.oss_word_deps.specs.declared.entry.Entry.{Entry}
 use Rattle.oss_word_deps.specs.declared.entry.Job.{Job}
 use Rattle.oss_word_deps.specs.declared.entry.Mark.{Mark}
@@ -135,7 +135,7 @@ module _ (s : Seen) (l : Ledger) (sound : IsSound l) (booked : IsBooked s l) (c 
   are : Rattle.oss_links.specs.Held.AreHeld s.opens s.given c (lists_of l c) (IsAccessOf (task_of l.entries c))
   are = booked.held c
 
-  all : AreChildrenDone s.opens s.given t c ↔ Rattle.oss_wires.specs.Flags.AreBelowDone (lists_of l c) p
+  all : AreChildrenDone s.opens s.given t c ↔ Rattle.oss_access_lists.specs.Flags.AreBelowDone (lists_of l c) p
   all = children_are s.opens s.given c (lists_of l c) (IsAccessOf (task_of l.entries c)) booked.opens_are.ordered are t p at
 
   pub none_below : last_of l c p ≡ 0 → AreChildrenDone s.opens s.given t c
@@ -154,7 +154,7 @@ module _ (s : Seen) (l : Ledger) (sound : IsSound l) (booked : IsBooked s l) (c 
   pub last_back : (last_of l c p ≡ 0 → ⊥) → AreChildrenDone s.opens s.given t c → IsListDone (lists_of l c) (last_of l c p)
   last_back n d = record {
     last = all.0 d (last_of l c p) (are.wired.listed p (last_of l c p) refl n);
-    before = λ u b. all.0 d u (Rattle.oss_wires.proofs.CompleteLemmas.listed_before (lists_of l c).place p u (last_of l c p) (are.wired.listed p (last_of l c p) refl n) b);
+    before = λ u b. all.0 d u (Rattle.oss_access_lists.proofs.CompleteLemmas.listed_before (lists_of l c).place p u (last_of l c p) (are.wired.listed p (last_of l c p) refl n) b);
   }
 
 -- the job of a task

@@ -4,8 +4,8 @@ use Rattle.oss_model.specs.Rights.{covers}
 use Rattle.oss_deps.proofs.Basics.{options, some_is}
 use Rattle.oss_words.specs.declared.entry.After.{After}
 use Rattle.oss_words.specs.declared.entry.After.TheVariants.{FirstOf, FirstOfMain, Sibling}
-use Rattle.oss_wires.specs.Wires.{AreWired, IsBefore, IsBelow, Place, after, first, head, loose, tail}
-use Rattle.oss_wires.proofs.SoundLemmas.{rises}
+use Rattle.oss_access_lists.specs.Wires.{AreWired, IsBefore, IsBelow, Place, after, first, head, loose, tail}
+use Rattle.oss_access_lists.proofs.SoundLemmas.{rises}
 use Rattle.oss_word_deps.specs.declared.entry.Entry.{Entry}
 use Rattle.oss_word_deps.specs.Growing.{place_behind}
 use Rattle.oss_word_deps.specs.Ledger.{Ledger, entry_of, hangs_at, last_of, lists_of, place_in, row}

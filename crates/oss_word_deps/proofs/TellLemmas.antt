@@ -14,14 +14,14 @@ use Rattle.oss_words.specs.declared.entry.EntryState.{EntryState}
 use Rattle.oss_words.specs.Net.{Child, Earlier, Place, Top, after, apart, first, top}
 use Rattle.oss_words.specs.Net as net_of
 use Rattle.oss_words.specs.Quiet.{Exact, forest_told}
-use Rattle.oss_wires.specs.declared.marks.Marks.{Marks}
-use Rattle.oss_wires.specs.Flags.{Clear, Done, Given, MayJoin, MayRead, MayWrite, is_fold}
-use Rattle.oss_wires.specs.Wires.{IsBefore, IsBelow, Wires, wired}
-use Rattle.oss_wires.specs.Wires as wires_of
+use Rattle.oss_access_lists.specs.declared.marks.Marks.{Marks}
+use Rattle.oss_access_lists.specs.Flags.{Clear, Done, Given, MayJoin, MayRead, MayWrite, is_fold}
+use Rattle.oss_access_lists.specs.Wires.{IsBefore, IsBelow, Wires, wired}
+use Rattle.oss_access_lists.specs.Wires as wires_of
 use Rattle.oss_links.specs.Readings.{AreTrue, TellOfTask}
 use Rattle.oss_links.proofs.ReadLemmas.{flags_tell}
-use Rattle.oss_net.specs.Calls.{place_of}
-use Rattle.oss_net.specs.Known.{Known, Rests}
+use Rattle.oss_word_net.specs.Calls.{place_of}
+use Rattle.oss_word_net.specs.Known.{Known, Rests}
 use Rattle.oss_word_deps.specs.declared.entry.Entry.{Entry}
 use Rattle.oss_word_deps.specs.Booked.{IsBooked}
 use Rattle.oss_word_deps.specs.Known.{Follows}

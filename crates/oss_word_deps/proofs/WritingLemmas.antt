@@ -9,7 +9,7 @@ use Rattle.oss_deps.specs.Seen.{Opens, Seen}
 use Rattle.oss_deps.proofs.Basics.{bools, clash, compared, some_is}
 use Rattle.oss_deps.proofs.NewLemmas.{opens_added}
 use Rattle.oss_deps.proofs.OpenLemmas.{access_found, in_bounds, in_front, in_last, named_at}
-use Rattle.oss_wires.proofs.StepLemmas.{same_or}
+use Rattle.oss_access_lists.proofs.StepLemmas.{same_or}
 use Rattle.oss_links.specs.Held.{AreHeld, IsAccessOf}
 use Rattle.oss_links.proofs.AlikeLemmas.{held_told}
 use Rattle.oss_links.proofs.GrowLemmas.{held_aside}

@@ -4,8 +4,8 @@
 use Rattle.std.specs.Prelude.{◌≡◌, ℕ, ◌<◌, ◌≤◌, true, List, [], ◌∷◌, Some, length}
 use Rattle.oss_words.specs.Net.{Place}
 use Rattle.oss_words.specs.Views.{Among}
-use Rattle.oss_net.specs.Calls.{place_of}
-use Rattle.oss_net.specs.Known.{Known, Told}
+use Rattle.oss_word_net.specs.Calls.{place_of}
+use Rattle.oss_word_net.specs.Known.{Known, Told}
 use Rattle.oss_word_deps.specs.declared.entry.Entry.{Entry}
 use Rattle.oss_word_deps.specs.declared.entry.Mark.{Mark}
 use Rattle.oss_word_deps.specs.Ledger.{Ledger, entry_of, mark_of}

@@ -7,7 +7,7 @@ use Rattle.oss_syntax.specs.declared.access.Mode.{Mode}
 use Rattle.oss_syntax.specs.declared.access.Mode.TheVariants.{Write}
 use Rattle.oss_words.specs.declared.entry.After.{After}
 use Rattle.oss_words.specs.declared.entry.After.TheVariants.{FirstOf, FirstOfMain, Sibling}
-use Rattle.oss_wires.specs.Wires.{Place, Wires, loose, first, after}
+use Rattle.oss_access_lists.specs.Wires.{Place, Wires, loose, first, after}
 use Rattle.oss_word_deps.specs.declared.book.Book.{Book}
 use Rattle.oss_word_deps.specs.declared.entry.Entry.{Entry}
 use Rattle.oss_word_deps.specs.declared.entry.Mark.{Mark}

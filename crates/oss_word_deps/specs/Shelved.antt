@@ -7,7 +7,7 @@ use Rattle.oss_deps.specs.declared.opened.Open.{Open}
 use Rattle.oss_deps.specs.Seen.{CanGive, CanOpen, Seen}
 use Rattle.oss_syntax.specs.declared.access.Range.{Range}
 use Rattle.oss_model.specs.Forest.{IsDone}
-use Rattle.oss_wires.specs.Wires.{IsBefore, Wires, wired}
+use Rattle.oss_access_lists.specs.Wires.{IsBefore, Wires, wired}
 use Rattle.oss_word_deps.specs.declared.entry.Entry.{Entry}
 use Rattle.oss_word_deps.specs.declared.entry.Job.{Job}
 use Rattle.oss_word_deps.specs.declared.entry.Mark.{Mark}

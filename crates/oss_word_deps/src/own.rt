@@ -3,12 +3,12 @@
 ghost use Rattle.std.specs.Prelude.{◌≡◌, ◌≢◌, ◌<◌, ◌≤◌, ◌+◌, ◌-◌, ◌*◌, ℕ, [], ◌∷◌, IfOk, IfSome};
 ghost use Rattle.oss_words.specs.Bits.{state_at};
 ghost use Rattle.oss_words.specs.Views.{Among};
-ghost use Rattle.oss_net.specs.Calls.{MayHang, MayRelease, place_of};
-ghost use Rattle.oss_net.specs.Known.{Rests};
+ghost use Rattle.oss_word_net.specs.Calls.{MayHang, MayRelease, place_of};
+ghost use Rattle.oss_word_net.specs.Known.{Rests};
 ghost use Rattle.oss_word_deps.specs.Known.{Adds, Frees, IsAlone, IsBare, Looks, Settles};
 
 use crate::entry::Entry;
-use oss_net::{WordNet, WordSeat};
+use oss_word_net::{WordNet, WordSeat};
 use std::alloc::{AllocError, Global};
 use std::marker::Model;
 

@@ -1,10 +1,10 @@
 // A row of siblings below a weak access.
 ghost use Rattle.std.specs.Prelude.{◌≡◌, ◌<◌, ◌≤◌, ◌+◌, ◌-◌, ◌*◌, ℕ, [], IfOk};
-ghost use Rattle.oss_net.specs.Known.{first_known};
-ghost use Rattle.oss_net.specs.Moves.{drew};
-ghost use Rattle.oss_net.specs.Rows.{Row, Keeps, ToGive, info_above, info_below};
+ghost use Rattle.oss_word_net.specs.Known.{first_known};
+ghost use Rattle.oss_word_net.specs.Moves.{drew};
+ghost use Rattle.oss_word_net.specs.Rows.{Row, Keeps, ToGive, info_above, info_below};
 
-use oss_net::{WordNet, WordSeat};
+use oss_word_net::{WordNet, WordSeat};
 use oss_syntax::Mode;
 use oss_words::{After, EntryInfo};
 use std::alloc::{AllocError, Global};

@@ -1,10 +1,10 @@
 // Threads that give up the siblings of a row, each with a seat of its own.
 ghost use Rattle.std.specs.Prelude.{◌≡◌, ◌<◌, ◌≤◌, ◌+◌, ◌-◌, ◌*◌, ℕ, [], IfOk};
 ghost use Rattle.std.specs.Thread.{IsSync};
-ghost use Rattle.oss_net.specs.Rows.{ToGive, Spans, Parted, Back};
+ghost use Rattle.oss_word_net.specs.Rows.{ToGive, Spans, Parted, Back};
 
 use crate::net_tests::rows::{open_row, settle};
-use oss_net::{WordNet, WordSeat};
+use oss_word_net::{WordNet, WordSeat};
 use std::alloc::{AllocError, Global};
 use std::process::Abort;
 use std::test::Fail;

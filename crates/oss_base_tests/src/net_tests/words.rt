@@ -2,7 +2,7 @@
 ghost use Rattle.std.specs.Prelude.{◌≡◌};
 
 use crate::net_tests::rows::settle;
-use oss_net::WordNet;
+use oss_word_net::WordNet;
 use oss_syntax::Mode;
 use oss_words::{After, EntryInfo};
 use std::test::Fail;

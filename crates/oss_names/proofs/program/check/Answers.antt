@@ -8,7 +8,7 @@ use Rattle.oss_grammar.specs.Scopes.{or_else}
 use Rattle.oss_names.specs.PartChecks.{TellsFirst}
 use Rattle.oss_names.specs.Resolved.{IsChecked, bounds_of}
 use Rattle.oss_names.proofs.EndLemmas.{tells-before}
-use Rattle.oss_kinds.proofs.Firsts.{first-append, part-whole}
+use Rattle.oss_types.proofs.Firsts.{first-append, part-whole}
 use Rattle.oss_names.proofs.ProgramLemmas.{all-well, bounds-more, checked-err, function-left, global-cells, global-left, main-missing, sizes-function, sizes-global}
 use Rattle.oss_names.proofs.program.check.Goals as goal
 use Rattle.oss_names.proofs.program.check.Goals.{in-Global+in-None+in-Ok-note, in-Function+in_ok-check_function-in-Function}

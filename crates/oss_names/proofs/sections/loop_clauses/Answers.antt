@@ -1,7 +1,7 @@
 use Rattle.std.proofs.Common.{◌≡◌, ◌+◌, ◌∙◌, None, ap, arith, drop, length, sym, take}
 use Rattle.oss_grammar.specs.Broken.{first}
 use Rattle.oss_grammar.specs.SectionRules.{loop_clause_rules, loop_clauses_rules, sections_in}
-use Rattle.oss_kinds.proofs.Firsts.{part-broken, part-whole}
+use Rattle.oss_types.proofs.Firsts.{part-broken, part-whole}
 use Rattle.oss_names.proofs.Parts.{clauses-left}
 use Rattle.oss_names.proofs.sections.loop_clauses.Goals as goal
 

@@ -1,7 +1,7 @@
 use Rattle.std.proofs.Common.{◌≡◌, ◌+◌, ◌∙◌, None, arith, drop, sym}
 use Rattle.oss_grammar.specs.Broken.{first}
 use Rattle.oss_grammar.specs.SectionRules.{section_rules, sections_rules}
-use Rattle.oss_kinds.proofs.Firsts.{part-broken, part-whole}
+use Rattle.oss_types.proofs.Firsts.{part-broken, part-whole}
 use Rattle.oss_names.proofs.Parts.{room, sections-left}
 use Rattle.oss_names.proofs.sections.sections.Goals as goal
 

@@ -2,7 +2,7 @@ use Rattle.std.proofs.Common.{◌≡◌, ◌∙◌, ap}
 use Rattle.oss_grammar.specs.Broken.{first}
 use Rattle.oss_grammar.specs.ExpressionRules.{findings}
 use Rattle.oss_grammar.specs.StaticRules.{stored_rules, target_wanted}
-use Rattle.oss_kinds.specs.Seen.{seen}
+use Rattle.oss_types.specs.Seen.{seen}
 use Rattle.oss_names.proofs.simple.assignment.Goals as goal
 
 pub returns : goal.returns

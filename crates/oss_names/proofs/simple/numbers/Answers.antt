@@ -3,7 +3,7 @@ use Rattle.oss_grammar.specs.declared.kinds.Wanted.TheVariants as wanted
 use Rattle.oss_grammar.specs.Broken.{first}
 use Rattle.oss_grammar.specs.ExpressionRules.{value_rules}
 use Rattle.oss_grammar.specs.StaticRules.{numbers_rules}
-use Rattle.oss_kinds.proofs.Firsts.{part-broken, part-whole}
+use Rattle.oss_types.proofs.Firsts.{part-broken, part-whole}
 use Rattle.oss_names.proofs.Parts.{numbers-left}
 use Rattle.oss_names.proofs.simple.numbers.Goals as goal
 

@@ -2,7 +2,7 @@ use Rattle.std.proofs.lemmas.Grind.{common_steps}
 use Rattle.std.proofs.Common.{◌≡◌, ◌+◌, Ok, Err, List, [], ap, arith, drop, refl, rules}
 use Rattle.oss_syntax.specs.declared.tree.program.Local.{Local}
 use Rattle.oss_grammar.specs.StaticRules.{Judged, declare_all, declare_one, judged, then_judge}
-use Rattle.oss_kinds.proofs.ParameterLemmas.{declared-left}
+use Rattle.oss_types.proofs.ParameterLemmas.{declared-left}
 use Rattle.oss_names.proofs.EndLemmas.{ends-along, ends-stop, ends-then, ends-told, prefix-same}
 use Rattle.oss_names.proofs.statements.declare.Goals as goal
 

@@ -1,6 +1,6 @@
 use Rattle.std.proofs.Common.{◌≡◌, ◌<◌, length, true, false, sym, ap, subst, ◌∙◌}
-use Rattle.oss_wires.specs.declared.hang.Hang.{Hang}
-use Rattle.oss_wires.specs.Tables.{hang_at, marks_at, wires_of}
+use Rattle.oss_access_lists.specs.declared.hang.Hang.{Hang}
+use Rattle.oss_access_lists.specs.Tables.{hang_at, marks_at, wires_of}
 use Rattle.oss_links.specs.Search.{IsInTheWay, passes}
 use Rattle.oss_links.proofs.SearchLemmas.{search_begins}
 use Rattle.oss_regions.specs.Walks.{IsWalking}

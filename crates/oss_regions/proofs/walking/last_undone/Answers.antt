@@ -1,6 +1,6 @@
 use Rattle.std.proofs.Common.{sym, ap, subst, ◌∙◌, arith}
-use Rattle.oss_wires.specs.declared.hang.Hang.{Hang}
-use Rattle.oss_wires.specs.Flags.{is_over}
+use Rattle.oss_access_lists.specs.declared.hang.Hang.{Hang}
+use Rattle.oss_access_lists.specs.Flags.{is_over}
 use Rattle.oss_regions.specs.Walks.{IsWalkingIn}
 use Rattle.oss_regions.proofs.WalkLemmas.{in_not_main, walks_in}
 use Rattle.oss_regions.proofs.walking.last_undone.Goals as goal

@@ -1,5 +1,5 @@
 use Rattle.std.proofs.Common.{rules, ◌≡◌, Ok}
-use Rattle.oss_part.proofs.SegmentLemmas.{known_behind}
+use Rattle.oss_segment.proofs.SegmentLemmas.{known_behind}
 use Rattle.oss_run_tests.proofs.part_tests.part.Goals as goal
 
 pub returns : goal.returns

@@ -2,7 +2,7 @@ use Rattle.std.proofs.Common.{List}
 use Rattle.oss_machine.specs.Frames.{CodeScript}
 use Rattle.oss_model.specs.Bodies.{Program}
 use Rattle.oss_model.specs.Machine.{State}
-use Rattle.oss_chains.specs.Happenings.{Happening}
+use Rattle.oss_chain_laws.specs.Happenings.{Happening}
 use Rattle.oss_span.specs.Shown.{Shows}
 use Rattle.oss_span.proofs.WalkLemmas.{Walked, rank}
 use Rattle.oss_span.proofs.walk.links_of.Given as goal

@@ -1,5 +1,5 @@
 use Rattle.std.proofs.Common.{◌≡◌, List, ◌++◌, take}
-use Rattle.oss_groups.specs.Groups.{AreGiven}
+use Rattle.oss_thread_groups.specs.Groups.{AreGiven}
 use Rattle.oss_sched.specs.declared.moves.TextMove.{TextMove}
 use Rattle.oss_waves.specs.Noting.{IsGivenOf}
 use Rattle.oss_waves.proofs.noting.note_passed.Given as goal

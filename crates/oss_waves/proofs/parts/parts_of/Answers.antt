@@ -1,5 +1,5 @@
 use denote.Param.Send.{sendable}
-use Rattle.oss_part.proofs.SendLemmas.{ready_send, segment_send}
+use Rattle.oss_segment.proofs.SendLemmas.{ready_send, segment_send}
 use Rattle.oss_waves.proofs.ReadyLemmas.{parts_are}
 use Rattle.oss_waves.proofs.parts.parts_of.Goals as goal
 

@@ -1,6 +1,6 @@
 use Rattle.std.proofs.Common.{refl}
 use Rattle.std.specs.Vec.Iter.{into_iter_items, into_iter_len}
-use Rattle.oss_groups.proofs.ListLemmas.{given_more}
+use Rattle.oss_thread_groups.proofs.ListLemmas.{given_more}
 use Rattle.oss_waves.specs.Readies.{IsReady}
 use Rattle.oss_waves.proofs.ReadyLemmas.{first_known, rest_known, one_less}
 use Rattle.oss_waves.proofs.parts.ready.Goals as goal

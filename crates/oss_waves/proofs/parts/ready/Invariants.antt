@@ -2,8 +2,8 @@ use Rattle.std.proofs.Common.{◌≡◌, length}
 use Rattle.std.specs.Vec.Iter.{into_iter_items, into_iter_len}
 use Rattle.oss_body.specs.declared.body.Body.{Body}
 use Rattle.oss_model.specs.Order.{IsIn}
-use Rattle.oss_groups.specs.Groups.{AreGiven}
-use Rattle.oss_part.specs.Segments.{IsKnown}
+use Rattle.oss_thread_groups.specs.Groups.{AreGiven}
+use Rattle.oss_segment.specs.Segments.{IsKnown}
 use Rattle.oss_waves.specs.Readies.{IsReady}
 use Rattle.oss_waves.proofs.parts.ready.Given as goal
 

@@ -1,6 +1,6 @@
 use Rattle.oss_core.specs.Cores.{kept_of}
 use Rattle.oss_core.specs.CoreLeft.{core_left}
-use Rattle.oss_watch.specs.Watches.{IsWatch}
+use Rattle.oss_wakeups.specs.Watches.{IsWatch}
 use Rattle.oss_waves.specs.Rounding.{HavePassesGone}
 use Rattle.oss_waves.proofs.passing.pass_all.Given as goal
 

@@ -4,8 +4,8 @@ use Rattle.oss_core.specs.Cores.{kept_of}
 use Rattle.oss_core.specs.declared.passing.Passed.{Passed}
 use Rattle.oss_model.specs.declared.task_no.TaskNo.{TaskNo}
 use Rattle.oss_core.specs.Awake.{HaveGivers}
-use Rattle.oss_watch.specs.Watches.{IsBehindPass}
-use Rattle.oss_watch.proofs.RoundLemmas.{has_givers}
+use Rattle.oss_wakeups.specs.Watches.{IsBehindPass}
+use Rattle.oss_wakeups.proofs.RoundLemmas.{has_givers}
 use Rattle.oss_waves.specs.Noting.{IsGivenOf, Notes}
 use Rattle.oss_waves.proofs.PassingLemmas.{behind_pass, made_there, none_in, pass_made, passed_running}
 use Rattle.oss_waves.proofs.passing.pass_once.Goals as goal

@@ -3,8 +3,8 @@ use Rattle.oss_model.specs.declared.task_no.TaskNo.{TaskNo}
 use Rattle.oss_core.specs.Awake.{HaveSteppers}
 use Rattle.oss_core.specs.Cores.{kept_of}
 use Rattle.oss_core.specs.declared.turns.Turn.{Turn}
-use Rattle.oss_watch.specs.Watches.{IsBehindWave}
-use Rattle.oss_watch.proofs.RoundLemmas.{has_steppers}
+use Rattle.oss_wakeups.specs.Watches.{IsBehindWave}
+use Rattle.oss_wakeups.proofs.RoundLemmas.{has_steppers}
 use Rattle.oss_waves.specs.Noting.{IsStepOf, Notes}
 use Rattle.oss_waves.proofs.WavingLemmas.{behind_wave, wave_made, waved_running, waved_there}
 use Rattle.oss_waves.proofs.waving.wave_once.Goals as goal

@@ -1,4 +1,4 @@
-use Rattle.oss_net.proofs.RowLemmas.{may_give_above, gave_above}
+use Rattle.oss_word_net.proofs.RowLemmas.{may_give_above, gave_above}
 use Rattle.oss_base_tests.proofs.net_tests.rows.give_upper.Goals as goal
 
 pub give-requires-clause-may : goal.give-requires-clause-may

@@ -1,8 +1,8 @@
 use Rattle.std.proofs.Common.{sym, subst, refl, ◌+◌, arith}
 use Rattle.oss_words.specs.declared.entry.After.TheVariants.{FirstOf}
 use Rattle.oss_words.specs.declared.entry.EntryInfo.{EntryInfo}
-use Rattle.oss_net.specs.Calls.{MayHang, Hung}
-use Rattle.oss_net.proofs.RowLemmas.{may_head, grown_next}
+use Rattle.oss_word_net.specs.Calls.{MayHang, Hung}
+use Rattle.oss_word_net.proofs.RowLemmas.{may_head, grown_next}
 use Rattle.oss_base_tests.proofs.net_tests.rows.link_first.Goals as goal
 
 pub link-requires-clause-may : goal.link-requires-clause-may

@@ -1,8 +1,8 @@
 use Rattle.std.proofs.Common.{sym, subst, refl, ℕ, ◌+◌}
 use Rattle.oss_words.specs.declared.entry.After.TheVariants.{Sibling}
 use Rattle.oss_words.specs.declared.entry.EntryInfo.{EntryInfo}
-use Rattle.oss_net.specs.Calls.{MayHang, Hung}
-use Rattle.oss_net.proofs.RowLemmas.{may_follow, grown_next, spot_next}
+use Rattle.oss_word_net.specs.Calls.{MayHang, Hung}
+use Rattle.oss_word_net.proofs.RowLemmas.{may_follow, grown_next, spot_next}
 use Rattle.oss_base_tests.proofs.net_tests.rows.link_next.Goals as goal
 
 pub link-requires-clause-may : goal.link-requires-clause-may

@@ -1,5 +1,5 @@
 use Rattle.std.proofs.Common.{◌≡◌}
-use Rattle.oss_net.specs.Rows.{Row}
+use Rattle.oss_word_net.specs.Rows.{Row}
 use Rattle.oss_base_tests.proofs.net_tests.rows.link_row.Given as goal
 
 abbrev pub invariant-loop-before : goal.invariant-loop-before

@@ -1,8 +1,8 @@
 use Rattle.std.proofs.Common.{sym, subst}
 use Rattle.oss_words.specs.declared.entry.After.TheVariants.{FirstOfMain}
 use Rattle.oss_words.specs.declared.entry.EntryInfo.{EntryInfo}
-use Rattle.oss_net.specs.Calls.{MayHang, Hung}
-use Rattle.oss_net.proofs.RowLemmas.{may_begin, begun}
+use Rattle.oss_word_net.specs.Calls.{MayHang, Hung}
+use Rattle.oss_word_net.proofs.RowLemmas.{may_begin, begun}
 use Rattle.oss_base_tests.proofs.net_tests.rows.link_upper.Goals as goal
 
 pub link-requires-clause-may : goal.link-requires-clause-may

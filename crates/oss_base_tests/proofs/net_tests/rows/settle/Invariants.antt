@@ -1,5 +1,5 @@
 use Rattle.std.proofs.Common.{◌≡◌, ◌-◌, ◌*◌}
-use Rattle.oss_net.specs.Rows.{Keeps}
+use Rattle.oss_word_net.specs.Rows.{Keeps}
 use Rattle.oss_base_tests.proofs.net_tests.rows.settle.Given as goal
 
 abbrev pub invariant-loop-seat : goal.invariant-loop-seat

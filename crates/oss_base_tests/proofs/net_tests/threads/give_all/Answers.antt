@@ -1,5 +1,5 @@
 use Rattle.std.proofs.Common.{◌∙◌}
-use Rattle.oss_net.proofs.RowLemmas.{gave_next}
+use Rattle.oss_word_net.proofs.RowLemmas.{gave_next}
 use Rattle.oss_base_tests.proofs.net_tests.threads.give_all.Goals as goal
 
 pub loop-entry-preserved : goal.loop-entry-preserved

@@ -1,4 +1,4 @@
-use Rattle.oss_net.specs.Rows.{Parted}
+use Rattle.oss_word_net.specs.Rows.{Parted}
 use Rattle.oss_base_tests.proofs.net_tests.threads.give_all.Given as goal
 
 abbrev pub invariant-loop-entry : goal.invariant-loop-entry

@@ -1,5 +1,5 @@
 use Rattle.std.proofs.Common.{arith}
-use Rattle.oss_net.proofs.RowLemmas.{span_more}
+use Rattle.oss_word_net.proofs.RowLemmas.{span_more}
 use Rattle.oss_base_tests.proofs.net_tests.threads.hand_of.Goals as goal
 
 pub loop-entry-preserved : goal.loop-entry-preserved

@@ -1,6 +1,6 @@
 use Rattle.std.proofs.Common.{subst, sym, ◌∙◌, List, ℕ}
-use Rattle.oss_net.specs.Rows.{Spans}
-use Rattle.oss_net.proofs.RowLemmas.{left_to_give, is_parted}
+use Rattle.oss_word_net.specs.Rows.{Spans}
+use Rattle.oss_word_net.proofs.RowLemmas.{left_to_give, is_parted}
 use Rattle.oss_base_tests.proofs.net_tests.threads.part.Goals as goal
 
 pub returns-clause-left : goal.returns-clause-left

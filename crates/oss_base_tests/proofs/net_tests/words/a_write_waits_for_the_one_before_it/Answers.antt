@@ -1,8 +1,8 @@
 use Rattle.std.proofs.Common.{◌∙◌, ap, ◌+◌, arith}
 use Rattle.oss_words.specs.declared.entry.After.TheVariants.{Sibling}
-use Rattle.oss_net.specs.Known.{Known}
-use Rattle.oss_net.specs.Moves.{drew}
-use Rattle.oss_net.proofs.RowLemmas.{may_hang_first, may_hang_second, may_give_first, may_give_looked}
+use Rattle.oss_word_net.specs.Known.{Known}
+use Rattle.oss_word_net.specs.Moves.{drew}
+use Rattle.oss_word_net.proofs.RowLemmas.{may_hang_first, may_hang_second, may_give_first, may_give_looked}
 use Rattle.oss_base_tests.proofs.net_tests.words.a_write_waits_for_the_one_before_it.Goals as goal
 
 pub link-requires-clause-may : goal.link-requires-clause-may

@@ -1,7 +1,7 @@
 use Rattle.std.proofs.Common.{◌≡◌, ℕ, subst, true, List, Some}
 use Rattle.std.specs.Prelude.{slice_get}
 use Rattle.oss_model.specs.Rights.{covers}
-use Rattle.oss_wires.specs.Tables.{hang_at}
+use Rattle.oss_access_lists.specs.Tables.{hang_at}
 use Rattle.oss_fragments.specs.Here.{here_of, IsEntry}
 use Rattle.oss_fragments.proofs.EntryLemmas.{one_entry, opened_of}
 use Rattle.oss_fragments.proofs.fragment.Fragment.open.Goals as goal

@@ -1,5 +1,5 @@
 use Rattle.std.proofs.Common.{ap, refl, ◌∙◌, arith, length}
-use Rattle.oss_wires.specs.Kept.{Kept}
+use Rattle.oss_access_lists.specs.Kept.{Kept}
 use Rattle.oss_fragments.specs.declared.fragment.Fragment.{Fragment}
 use Rattle.oss_fragments.proofs.LessLemmas.{left_as, none_spent, thinned_of}
 use Rattle.oss_fragments.proofs.fragment.Fragment.thin.Goals as goal

@@ -1,6 +1,6 @@
 use Rattle.std.proofs.Common.{◌≡◌, ap, refl, rules, ◌-◌}
-use Rattle.oss_net.specs.Known.{Known, first_known}
-use Rattle.oss_net.specs.Moves.{drew}
+use Rattle.oss_word_net.specs.Known.{Known, first_known}
+use Rattle.oss_word_net.specs.Moves.{drew}
 use Rattle.oss_word_deps.proofs.KnownLemmas.{alone_now}
 use Rattle.oss_word_deps.proofs.own.OwnNet.new.Goals as goal
 

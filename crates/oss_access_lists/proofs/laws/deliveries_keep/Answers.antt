@@ -1,0 +1,5 @@
+use Rattle.oss_access_lists.proofs.ClaimLemmas as lemmas
+use Rattle.oss_access_lists.proofs.laws.deliveries_keep.Goals as goal
+
+pub returns : goal.returns
+returns c = lemmas.deliveries_keep

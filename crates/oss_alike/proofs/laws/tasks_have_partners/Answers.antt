@@ -1,6 +1,0 @@
-use Rattle.oss_alike.proofs.ClaimLemmas as lemmas
-use Rattle.oss_alike.specs.contracts.laws.tasks_have_partners.{S-type, T-type}
-use Rattle.oss_alike.proofs.laws.tasks_have_partners.Goals as goal
-
-pub returns : goal.returns
-returns g c = lemmas.tasks_have_partners (S-type g.row.S g.row.T) (T-type g.row.S g.row.T)

@@ -1,6 +1,0 @@
-use Rattle.oss_audited.proofs.OneAudit.{audits_are_one}
-use Rattle.oss_audited.specs.contracts.laws.audits_are_one.{S-type}
-use Rattle.oss_audited.proofs.laws.audits_are_one.Goals as goal
-
-pub returns : goal.returns
-returns g c = audits_are_one (S-type g.row.S)

@@ -1,5 +1,0 @@
-use Rattle.oss_compare.specs.Told.{IsTold}
-use Rattle.oss_compare.proofs.tests.obstacles.play.Given as goal
-
-abbrev pub invariant-loop-naming : goal.invariant-loop-naming
-invariant-loop-naming g l = IsTold (g.D.Deps.seen l.told.system) l.told.opens.items l.told.gives.items

@@ -1,5 +1,0 @@
-use Rattle.oss_compare.specs.Told.{IsTold}
-use Rattle.oss_compare.proofs.tests.worked.ask.Given as goal
-
-abbrev pub invariant-loop-task : goal.invariant-loop-task
-invariant-loop-task g l = IsTold (g.D.Deps.seen l.told.system) l.told.opens.items l.told.gives.items

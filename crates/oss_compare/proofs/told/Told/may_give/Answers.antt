@@ -1,4 +1,0 @@
-use Rattle.oss_compare.proofs.told.Told.may_give.Goals as goal
-
-pub returns : goal.returns
-returns g c = rw (← c.as_slice.ensures.value, ← c.as_slice-2.ensures.value) c.may_give.ensures

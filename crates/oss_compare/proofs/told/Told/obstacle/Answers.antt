@@ -1,9 +1,0 @@
-use Rattle.std.proofs.Common.{sym}
-use Rattle.oss_compare.proofs.ToldLemmas.{told_known, told_same}
-use Rattle.oss_compare.proofs.told.Told.obstacle.Goals as goal
-
-pub obstacle-requires : goal.obstacle-requires
-obstacle-requires g c = told_known c.args.self.now.opens.items c.args.self.now.gives.items (g.D.Deps.seen c.args.self.now.system) c.requires c.in-Some.field-0 c.args.task (rw (sym c.as_slice.ensures.value) c.in-Some.ensures.found)
-
-pub returns-in-Some-clause-told : goal.returns-in-Some-clause-told
-returns-in-Some-clause-told g c = told_same c.args.self.now.opens.items c.args.self.now.gives.items (g.D.Deps.seen c.args.self.now.system) (g.D.Deps.seen c.obstacle.new.self) c.obstacle.ensures.same c.requires

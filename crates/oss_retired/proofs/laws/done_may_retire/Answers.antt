@@ -1,5 +1,0 @@
-use Rattle.oss_retired.proofs.DoneLemmas as lemmas
-use Rattle.oss_retired.proofs.laws.done_may_retire.Goals as goal
-
-pub returns : goal.returns
-returns c = λ opens given cell retired ordered is. lemmas.done_may_retire opens given cell ordered retired is

@@ -1,5 +1,0 @@
-use Rattle.oss_retired.proofs.TellLemmas as lemmas
-use Rattle.oss_retired.proofs.laws.left_tell.Goals as goal
-
-pub returns : goal.returns
-returns c = λ opens given cell retired t marks are kept tell. lemmas.left_tell opens given cell retired are t marks kept tell

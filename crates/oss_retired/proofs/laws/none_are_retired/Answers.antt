@@ -1,5 +1,0 @@
-use Rattle.oss_retired.proofs.KeepLemmas as lemmas
-use Rattle.oss_retired.proofs.laws.none_are_retired.Goals as goal
-
-pub returns : goal.returns
-returns c = lemmas.none_are_retired

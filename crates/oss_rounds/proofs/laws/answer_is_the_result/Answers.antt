@@ -1,6 +1,0 @@
-use Rattle.oss_rounds.proofs.MovesLemmas as lemmas
-use Rattle.oss_rounds.specs.contracts.laws.answer_is_the_result.{S-type}
-use Rattle.oss_rounds.proofs.laws.answer_is_the_result.Goals as goal
-
-pub returns : goal.returns
-returns g c = lemmas.answer_is_the_result (S-type g.row.S)

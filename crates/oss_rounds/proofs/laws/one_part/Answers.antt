@@ -1,6 +1,0 @@
-use Rattle.oss_rounds.proofs.PartLemmas as lemmas
-use Rattle.oss_rounds.specs.contracts.laws.one_part.{S-type}
-use Rattle.oss_rounds.proofs.laws.one_part.Goals as goal
-
-pub returns : goal.returns
-returns g c = lemmas.one_part (S-type g.row.S)

@@ -1,6 +1,0 @@
-use Rattle.oss_rounds.proofs.OneRunLemmas as lemmas
-use Rattle.oss_rounds.specs.contracts.laws.one_run_by_waves.{S-type}
-use Rattle.oss_rounds.proofs.laws.one_run_by_waves.Goals as goal
-
-pub returns : goal.returns
-returns g c = lemmas.one_run_by_waves (S-type g.row.S)

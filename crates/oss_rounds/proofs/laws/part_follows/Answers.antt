@@ -1,6 +1,0 @@
-use Rattle.oss_rounds.proofs.PartTheorem as lemmas
-use Rattle.oss_rounds.specs.contracts.laws.part_follows.{S-type}
-use Rattle.oss_rounds.proofs.laws.part_follows.Goals as goal
-
-pub returns : goal.returns
-returns g c = lemmas.part_follows (S-type g.row.S)

@@ -1,6 +1,0 @@
-use Rattle.oss_rounds.proofs.PartTheorem as lemmas
-use Rattle.oss_rounds.specs.contracts.laws.part_goes_on.{S-type}
-use Rattle.oss_rounds.proofs.laws.part_goes_on.Goals as goal
-
-pub returns : goal.returns
-returns g c = lemmas.part_goes_on (S-type g.row.S)

@@ -1,6 +1,0 @@
-use Rattle.oss_rounds.proofs.MovesLemmas as lemmas
-use Rattle.oss_rounds.specs.contracts.laws.pass_moves.{S-type}
-use Rattle.oss_rounds.proofs.laws.pass_moves.Goals as goal
-
-pub returns : goal.returns
-returns g c = lemmas.pass_moves (S-type g.row.S)

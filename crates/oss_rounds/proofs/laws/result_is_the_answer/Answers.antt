@@ -1,6 +1,0 @@
-use Rattle.oss_rounds.proofs.MovesLemmas as lemmas
-use Rattle.oss_rounds.specs.contracts.laws.result_is_the_answer.{S-type}
-use Rattle.oss_rounds.proofs.laws.result_is_the_answer.Goals as goal
-
-pub returns : goal.returns
-returns g c = lemmas.result_is_the_answer (S-type g.row.S)

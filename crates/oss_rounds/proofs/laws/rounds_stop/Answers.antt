@@ -1,6 +1,0 @@
-use Rattle.oss_rounds.proofs.MovesLemmas as lemmas
-use Rattle.oss_rounds.specs.contracts.laws.rounds_stop.{S-type}
-use Rattle.oss_rounds.proofs.laws.rounds_stop.Goals as goal
-
-pub returns : goal.returns
-returns g c = lemmas.rounds_stop (S-type g.row.S)

@@ -1,6 +1,0 @@
-use Rattle.oss_rounds.proofs.MovesLemmas as lemmas
-use Rattle.oss_rounds.specs.contracts.laws.runs_go_on.{S-type}
-use Rattle.oss_rounds.proofs.laws.runs_go_on.Goals as goal
-
-pub returns : goal.returns
-returns g c = lemmas.runs_go_on (S-type g.row.S)

@@ -1,6 +1,0 @@
-use Rattle.oss_rounds.proofs.WaveLemmas as lemmas
-use Rattle.oss_rounds.specs.contracts.laws.turns_stand.{S-type}
-use Rattle.oss_rounds.proofs.laws.turns_stand.Goals as goal
-
-pub returns : goal.returns
-returns g c = lemmas.turns_stand (S-type g.row.S)

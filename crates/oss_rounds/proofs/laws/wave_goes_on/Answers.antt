@@ -1,6 +1,0 @@
-use Rattle.oss_rounds.proofs.WaveTheorem as lemmas
-use Rattle.oss_rounds.specs.contracts.laws.wave_goes_on.{S-type}
-use Rattle.oss_rounds.proofs.laws.wave_goes_on.Goals as goal
-
-pub returns : goal.returns
-returns g c = lemmas.wave_goes_on (S-type g.row.S)

@@ -1,6 +1,0 @@
-use Rattle.oss_rounds.proofs.MovesLemmas as lemmas
-use Rattle.oss_rounds.specs.contracts.laws.wave_moves.{S-type}
-use Rattle.oss_rounds.proofs.laws.wave_moves.Goals as goal
-
-pub returns : goal.returns
-returns g c = lemmas.wave_moves (S-type g.row.S)

@@ -1,0 +1,6 @@
+use Rattle.oss_same_acts_laws.proofs.ClaimLemmas as lemmas
+use Rattle.oss_same_acts_laws.specs.contracts.laws.states_turn.{S-type, T-type}
+use Rattle.oss_same_acts_laws.proofs.laws.states_turn.Goals as goal
+
+pub returns : goal.returns
+returns g c = lemmas.states_turn (S-type g.row.S g.row.T) (T-type g.row.S g.row.T)

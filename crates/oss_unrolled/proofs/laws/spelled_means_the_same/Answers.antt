@@ -1,5 +1,0 @@
-use Rattle.oss_unrolled.proofs.UnrolledClauses.{spelled_means_the_same}
-use Rattle.oss_unrolled.proofs.laws.spelled_means_the_same.Goals as goal
-
-pub returns : goal.returns
-returns c = spelled_means_the_same

@@ -1,5 +1,0 @@
-use Rattle.oss_unrolled.proofs.UnrolledOutcomes.{unrolled_programs_have_one_outcome}
-use Rattle.oss_unrolled.proofs.laws.unrolled_programs_have_one_outcome.Goals as goal
-
-pub returns : goal.returns
-returns c = unrolled_programs_have_one_outcome

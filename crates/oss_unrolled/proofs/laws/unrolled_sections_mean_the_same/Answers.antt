@@ -1,5 +1,0 @@
-use Rattle.oss_unrolled.proofs.UnrolledClauses.{unrolled_sections_mean_the_same}
-use Rattle.oss_unrolled.proofs.laws.unrolled_sections_mean_the_same.Goals as goal
-
-pub returns : goal.returns
-returns c = unrolled_sections_mean_the_same

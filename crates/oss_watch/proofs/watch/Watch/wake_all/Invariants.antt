@@ -1,7 +1,0 @@
-use Rattle.std.proofs.Common.{take}
-use Rattle.oss_watch.specs.Watching.{HasWokenOf}
-use Rattle.oss_watch.proofs.watch.Watch.wake_all.Given as goal
-
--- the tasks so far were woken
-abbrev pub invariant-loop-task : goal.invariant-loop-task
-invariant-loop-task l = HasWokenOf (take l.task-index l.waiting) l.initial.self l.self

@@ -1,0 +1,6 @@
+use Rattle.oss_wave_laws.proofs.MovesLemmas as lemmas
+use Rattle.oss_wave_laws.specs.contracts.laws.round_moves.{S-type}
+use Rattle.oss_wave_laws.proofs.laws.round_moves.Goals as goal
+
+pub returns : goal.returns
+returns g c = lemmas.round_moves (S-type g.row.S)

@@ -1,5 +1,0 @@
-use Rattle.oss_wires.proofs.ClaimLemmas as lemmas
-use Rattle.oss_wires.proofs.laws.due_is_so.Goals as goal
-
-pub returns : goal.returns
-returns c = lemmas.due_is_so

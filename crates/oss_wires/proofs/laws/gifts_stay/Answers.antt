@@ -1,5 +1,0 @@
-use Rattle.oss_wires.proofs.ClaimLemmas as lemmas
-use Rattle.oss_wires.proofs.laws.gifts_stay.Goals as goal
-
-pub returns : goal.returns
-returns c = lemmas.gifts_stay

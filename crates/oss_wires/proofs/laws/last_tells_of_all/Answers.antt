@@ -1,5 +1,0 @@
-use Rattle.oss_wires.proofs.ClaimLemmas as lemmas
-use Rattle.oss_wires.proofs.laws.last_tells_of_all.Goals as goal
-
-pub returns : goal.returns
-returns c = lemmas.last_tells_of_all

@@ -1,5 +1,0 @@
-use Rattle.oss_wires.proofs.ClaimLemmas as lemmas
-use Rattle.oss_wires.proofs.laws.quiet_is_at_rest.Goals as goal
-
-pub returns : goal.returns
-returns c = lemmas.quiet_is_at_rest

@@ -1,0 +1,13 @@
+ghost use Rattle.oss_word_net.specs.Known.{Known};
+ghost use base.Fml.{ftrue};
+
+use std::marker::Model;
+
+/// What a seat knows. It takes no bytes, and no value of it is made: it stands in proofs alone.
+pub struct Sight {
+    pub ghost known: { Known },
+}
+
+impl Model for Sight {
+    ghost also_owns = { λ _. ftrue };
+}
