@@ -4,10 +4,10 @@
 
 mod hang;
 pub mod laws;
-mod line;
+mod access_list;
 mod marks;
 mod queue;
 
 pub use hang::Hang;
-pub use line::Line;
+pub use access_list::AccessList;
 pub use marks::Marks;

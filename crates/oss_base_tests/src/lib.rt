@@ -7,17 +7,17 @@ mod code_tests;
 #[cfg(test)]
 mod gen_tests;
 #[cfg(test)]
-mod groups_tests;
+mod thread_groups_tests;
 #[cfg(test)]
 mod judge_tests;
 #[cfg(test)]
 mod model_tests;
 #[cfg(test)]
-mod net_tests;
+mod word_net_tests;
 #[cfg(test)]
 mod ranges_tests;
 #[cfg(test)]
-mod retired_tests;
+mod retire_tests;
 #[cfg(test)]
 mod sched_tests;
 #[cfg(test)]
@@ -29,4 +29,4 @@ mod tree_tests;
 #[cfg(test)]
 mod values_tests;
 #[cfg(test)]
-mod wires_tests;
+mod access_lists_tests;

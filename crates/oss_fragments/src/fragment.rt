@@ -10,7 +10,7 @@ ghost use Rattle.oss_fragments.specs.Changes.{HasSameEdges, IsGivenIn, IsOpenedI
 use crate::places::place_of;
 use oss_retire::{Remainder, has_spent, remainder_of};
 use oss_syntax::Mode;
-use oss_access_lists::Line;
+use oss_access_lists::AccessList;
 use std::alloc::{AllocError, Global};
 
 /// Cells that no cut divides: all have the same accesses, which are kept once.
@@ -24,7 +24,7 @@ pub struct Fragment {
     /// The number of the task of each access, main's first. They rise.
     pub tasks: Vec<usize>,
     /// The accesses, in the same order.
-    pub line: Line,
+    pub line: AccessList,
 }
 
 // By hand, so that who lets one go calls this, and does not take it apart at each exit.
@@ -53,7 +53,7 @@ impl Fragment {
     {
         let mut tasks = Vec::with_capacity(alloc, 1)?;
         tasks.push_reserved(0);
-        let line = Line::new(alloc)?;
+        let line = AccessList::new(alloc)?;
         Ok(Fragment {
             lo: 0,
             hi,
@@ -186,6 +186,6 @@ impl Fragment {
         ensures room { HasRoom self.old → HasRoom self.new }
     {
         self.line.give(at);
-        Line::settle(&mut self.line);
+        AccessList::settle(&mut self.line);
     }
 }

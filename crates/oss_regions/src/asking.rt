@@ -5,11 +5,11 @@ ghost use Rattle.oss_regions.specs.Asked.{IsNumberInTheWay, IsNumberUndone};
 
 use crate::walking::{bar_of, undone_below};
 use oss_syntax::Mode;
-use oss_access_lists::Line;
+use oss_access_lists::AccessList;
 
 /// The number of the open whose access stands in the way of another access, which waits in this mode.
 pub(crate) fn number_in_the_way(
-    line: &Line,
+    line: &AccessList,
     numbers: &[usize],
     mode: Mode,
     at: usize,
@@ -27,7 +27,7 @@ pub(crate) fn number_in_the_way(
 }
 
 /// The number of the open of a child whose access is not done, of those below an access or below main.
-pub(crate) fn number_undone(line: &Line, numbers: &[usize], above: usize) -> Option<usize>
+pub(crate) fn number_undone(line: &AccessList, numbers: &[usize], above: usize) -> Option<usize>
     requires settled { line.now.head ≡ 0 }
     requires size { length numbers.now ≡ length line.now.hangs }
     ensures { MatchOption result (is_list_done (wires_of line.now.hangs) (marks_at line.now.stand) above ≡ true) (λ n. IsNumberUndone line.now.hangs line.now.stand numbers.now above n) }

@@ -6,7 +6,7 @@ ghost use Rattle.oss_links.specs.Search.{IsInTheWay, IsUndoneUpTo, passes};
 ghost use Rattle.oss_regions.specs.Walks.{IsUndoneIn};
 
 use oss_syntax::Mode;
-use oss_access_lists::{Line, Marks};
+use oss_access_lists::{AccessList, Marks};
 
 /// The access is given up, and all below it is done.
 fn is_over(flags: Marks) -> bool
@@ -56,7 +56,7 @@ fn passes(mode: Mode, earlier: Mode, flags: Marks) -> bool
 }
 
 /// What waits in this mode may pass the access.
-fn passes_at(line: &Line, mode: Mode, at: usize) -> bool
+fn passes_at(line: &AccessList, mode: Mode, at: usize) -> bool
     requires settled { line.now.head ≡ 0 }
     requires main { at ≡ 0 → ⊥ }
     requires within { at < length line.now.hangs }
@@ -67,7 +67,7 @@ fn passes_at(line: &Line, mode: Mode, at: usize) -> bool
 
 /// The access that stands in the way of another one, which waits in this mode. The numbers fall on the way, so each earlier access
 /// is looked at once at most.
-pub(crate) fn bar_of(line: &Line, mode: Mode, at: usize) -> Option<usize>
+pub(crate) fn bar_of(line: &AccessList, mode: Mode, at: usize) -> Option<usize>
     requires settled { line.now.head ≡ 0 }
     requires main { at ≡ 0 → ⊥ }
     requires within { at < length line.now.hangs }
@@ -81,7 +81,7 @@ pub(crate) fn bar_of(line: &Line, mode: Mode, at: usize) -> Option<usize>
 }
 
 /// The same where the flag does not stand.
-fn first_bar(line: &Line, mode: Mode, at: usize) -> usize
+fn first_bar(line: &AccessList, mode: Mode, at: usize) -> usize
     requires settled { line.now.head ≡ 0 }
     requires main { at ≡ 0 → ⊥ }
     requires within { at < length line.now.hangs }
@@ -107,7 +107,7 @@ fn first_bar(line: &Line, mode: Mode, at: usize) -> usize
 
 /// A child's access that is not done, of those below an access or below main: the last one of them. `None` where each is done. It goes
 /// back over the accesses that are over though an earlier one is not done.
-pub(crate) fn undone_below(line: &Line, above: usize) -> Option<usize>
+pub(crate) fn undone_below(line: &AccessList, above: usize) -> Option<usize>
     requires settled { line.now.head ≡ 0 }
     ensures undone { MatchOption result (is_list_done (wires_of line.now.hangs) (marks_at line.now.stand) above ≡ true) (λ u. IsUndoneIn (wires_of line.now.hangs) (marks_at line.now.stand) above u) }
     ensures within { IfSome result (λ u. u < length line.now.hangs) }
@@ -124,7 +124,7 @@ pub(crate) fn undone_below(line: &Line, above: usize) -> Option<usize>
 }
 
 /// The same where not all are done, from the last access on.
-fn last_undone(line: &Line, above: usize, last: usize) -> usize
+fn last_undone(line: &AccessList, above: usize, last: usize) -> usize
     requires settled { line.now.head ≡ 0 }
     requires undone { IsUndoneUpTo (wires_of line.now.hangs) (marks_at line.now.stand) above last }
     requires within { last < length line.now.hangs }

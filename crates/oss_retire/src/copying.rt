@@ -10,13 +10,13 @@ ghost use Rattle.oss_retire.specs.Remainder.{AreRising, IsRemainder, is_spent};
 
 use crate::remainder::Remainder;
 use oss_syntax::Mode;
-use oss_access_lists::{Line, Marks};
+use oss_access_lists::{AccessList, Marks};
 use std::alloc::{AllocError, Global};
 
 /// The accesses that are kept, and where those of the old line have gone.
 #[derive(Drop)]
 pub(crate) struct Copy {
-    pub(crate) line: Line,
+    pub(crate) line: AccessList,
     /// The number of the task of each.
     numbers: Vec<usize>,
     /// Of each access of the old line, its place here; 0 for main, and for one that is left out.
@@ -33,7 +33,7 @@ pub(crate) fn is_spent(flags: Marks) -> bool
 }
 
 /// The accesses of a line that are not spent, none of them given up.
-pub(crate) fn copied(alloc: Global, line: &Line, numbers: &[usize]) -> Result<Copy, AllocError>
+pub(crate) fn copied(alloc: Global, line: &AccessList, numbers: &[usize]) -> Result<Copy, AllocError>
     requires settled { line.now.head ≡ 0 }
     requires size { length numbers.now ≡ length line.now.hangs }
     requires some { 0 < length line.now.hangs }
@@ -53,7 +53,7 @@ impl Copy {
         ensures hangs { IfOk result (λ c. c.line.hangs ≡ no_hang ∷ []) }
         ensures rest { IfOk result (λ c. (c.numbers.items ≡ 0 ∷ []) × (c.places.items ≡ 0 ∷ []) × (c.owners.items ≡ 0 ∷ [])) }
     {
-        let line = Line::new(alloc)?;
+        let line = AccessList::new(alloc)?;
         let mut numbers = Vec::new(alloc);
         let mut places = Vec::new(alloc);
         let mut owners = Vec::new(alloc);
@@ -79,7 +79,7 @@ impl Copy {
     }
 
     /// The access in whose list an access of the old line hangs.
-    fn owner_of(&self, line: &Line, _numbers: &[usize], at: usize) -> usize
+    fn owner_of(&self, line: &AccessList, _numbers: &[usize], at: usize) -> usize
         requires within { (0 < at) × (at < length line.now.hangs) }
         requires copied { AreCopied line.now.hangs line.now.stand _numbers.now at self.now.line.hangs self.now.numbers.items self.now.places.items self.now.owners.items }
         ensures { IsBelow (wires_of line.now.hangs).place result at }
@@ -113,7 +113,7 @@ impl Copy {
     /// Copies an access that is not spent, and tells its place.
     fn keep(
         &mut self,
-        line: &Line,
+        line: &AccessList,
         numbers: &[usize],
         at: usize,
         owner: usize,
@@ -136,7 +136,7 @@ impl Copy {
     }
 
     /// One more access of the old line: it is copied, if it is not spent.
-    fn add(&mut self, line: &Line, numbers: &[usize], at: usize) -> Result<(), AllocError>
+    fn add(&mut self, line: &AccessList, numbers: &[usize], at: usize) -> Result<(), AllocError>
         requires settled { line.now.head ≡ 0 }
         requires size { length numbers.now ≡ length line.now.hangs }
         requires within { (0 < at) × (at < length line.now.hangs) }
@@ -158,7 +158,7 @@ impl Copy {
     }
 
     /// Gives up an access of the old line here, if it was copied.
-    fn give(&mut self, line: &Line, _numbers: &[usize], at: usize)
+    fn give(&mut self, line: &AccessList, _numbers: &[usize], at: usize)
         requires within { (0 < at) × (at < length line.now.hangs) }
         requires gave { (hang_at line.now.hangs at).gave ≡ true }
         requires copied { AreCopied line.now.hangs line.now.stand _numbers.now (length line.now.hangs) self.old.line.hangs self.old.numbers.items self.old.places.items self.old.owners.items }
@@ -173,7 +173,7 @@ impl Copy {
     }
 
     /// Gives up here what is given up in the old line.
-    pub(crate) fn give_all(&mut self, line: &Line, numbers: &[usize])
+    pub(crate) fn give_all(&mut self, line: &AccessList, numbers: &[usize])
         requires some { 0 < length line.now.hangs }
         requires copied { AreCopied line.now.hangs line.now.stand numbers.now (length line.now.hangs) self.old.line.hangs self.old.numbers.items self.old.places.items self.old.owners.items }
         requires holding { AreHolding self.old.line.hangs }
@@ -188,7 +188,7 @@ impl Copy {
     }
 
     /// What is left, once all is given up that was.
-    pub(crate) fn told(self, line: &Line, numbers: &[usize]) -> Remainder
+    pub(crate) fn told(self, line: &AccessList, numbers: &[usize]) -> Remainder
         requires settled { line.now.head ≡ 0 }
         requires size { length numbers.now ≡ length line.now.hangs }
         requires copied { AreCopied line.now.hangs line.now.stand numbers.now (length line.now.hangs) self.line.hangs self.numbers.items self.places.items self.owners.items }

@@ -6,13 +6,13 @@ ghost use Rattle.oss_retire.specs.Remainder.{AreRising, IsRemainder, is_spent};
 ghost use Rattle.oss_retire.specs.Tables.{TellsTheSame};
 
 use crate::copying::{copied, is_spent};
-use oss_access_lists::Line;
+use oss_access_lists::AccessList;
 use std::alloc::{AllocError, Global};
 
 /// The accesses to a cell, with the number of each one's task, main's first.
 #[derive(Drop)]
 pub struct Remainder {
-    pub line: Line,
+    pub line: AccessList,
     pub numbers: Vec<usize>,
 }
 
@@ -20,7 +20,7 @@ pub struct Remainder {
 /// spent too, and what is told of each other access stays so: a released access stands in no list any more (Perez, Beltran, Labarta and Ayguadé, IPDPS 2017). What is left tells
 /// the same of the opened tasks, and numbers that rise still do. Err: memory is wanting. It costs as much as there are accesses. Conditions: the line is settled; each access has
 /// a number, and main's is among them.
-pub fn remainder_of(alloc: Global, line: &Line, numbers: &[usize]) -> Result<Remainder, AllocError>
+pub fn remainder_of(alloc: Global, line: &AccessList, numbers: &[usize]) -> Result<Remainder, AllocError>
     requires settled { line.now.head ≡ 0 }
     requires size { length numbers.now ≡ length line.now.hangs }
     requires some { 0 < length line.now.hangs }
@@ -38,7 +38,7 @@ pub fn remainder_of(alloc: Global, line: &Line, numbers: &[usize]) -> Result<Rem
 }
 
 /// An access of the line, other than main's, is spent. It costs one look at each at most. Condition: the line is settled.
-pub fn has_spent(line: &Line) -> bool
+pub fn has_spent(line: &AccessList) -> bool
     requires settled { line.now.head ≡ 0 }
     ensures { IsTrue result ↔ ((v : ℕ) × (v < length line.now.hangs) × ((v ≡ 0 → ⊥) × (is_spent (marks_at line.now.stand v) ≡ true))) }
 {
