@@ -58,7 +58,7 @@ fn can_be_fuel_word(word: &str) -> bool
 }
 
 /// Whether each of the words may be an operand.
-pub fn are_operands(words: &[String]) -> bool
+pub(crate) fn are_operands(words: &[String]) -> bool
     ensures { result ≡ all_by is_operand (map string_bytes words.now) }
 {
     for word in words {
@@ -70,7 +70,7 @@ pub fn are_operands(words: &[String]) -> bool
 }
 
 /// Whether each of the words may stand behind `run`.
-pub fn are_listed(words: &[String]) -> bool
+pub(crate) fn are_listed(words: &[String]) -> bool
     ensures { result ≡ all_by is_listed (map string_bytes words.now) }
 {
     for word in words {
@@ -82,7 +82,7 @@ pub fn are_listed(words: &[String]) -> bool
 }
 
 /// Whether each of the words may stand behind `replay`, `span` and `audit`.
-pub fn are_fuel_words(words: &[String]) -> bool
+pub(crate) fn are_fuel_words(words: &[String]) -> bool
     ensures { result ≡ all_by is_fuel_word (map string_bytes words.now) }
 {
     for word in words {
@@ -94,7 +94,7 @@ pub fn are_fuel_words(words: &[String]) -> bool
 }
 
 /// Whether each of the words may stand behind `trace`.
-pub fn are_trace_words(words: &[String]) -> bool
+pub(crate) fn are_trace_words(words: &[String]) -> bool
     ensures { result ≡ all_by is_trace_word (map string_bytes words.now) }
 {
     for word in words {
@@ -106,7 +106,7 @@ pub fn are_trace_words(words: &[String]) -> bool
 }
 
 /// Whether each of the words may stand behind `soak`.
-pub fn are_soak_words(words: &[String]) -> bool
+pub(crate) fn are_soak_words(words: &[String]) -> bool
     ensures { result ≡ all_by is_soak_word (map string_bytes words.now) }
 {
     for word in words {
@@ -118,7 +118,7 @@ pub fn are_soak_words(words: &[String]) -> bool
 }
 
 /// The one operand among the words; none where there is none, or more.
-pub fn the_operand(words: &[String]) -> Option<&str>
+pub(crate) fn the_operand(words: &[String]) -> Option<&str>
     ensures { option_map (λ file. file.now) result ≡ the_one (operands_in (map string_bytes words.now)) }
 {
     let mut found: Option<&str> = None;
@@ -134,7 +134,7 @@ pub fn the_operand(words: &[String]) -> Option<&str>
 }
 
 /// The two operands among the words, in their order; none where there are fewer, or more.
-pub fn the_two_operands(words: &[String]) -> Option<(&str, &str)>
+pub(crate) fn the_two_operands(words: &[String]) -> Option<(&str, &str)>
     ensures { option_map (λ two. (two.0.now, two.1.now)) result ≡ the_two (operands_in (map string_bytes words.now)) }
 {
     let mut left = words;

@@ -45,7 +45,7 @@ pub struct Options {
 }
 
 /// The options that the words behind a command say; none where one stands twice or has a value out of form.
-pub fn read_options(words: &[String]) -> Option<Options>
+pub(crate) fn read_options(words: &[String]) -> Option<Options>
     ensures value { result ≡ options_in (map string_bytes words.now) }
     ensures workers { IfSome result (λ options. 0 < options.workers) }
 {
@@ -67,7 +67,7 @@ pub fn read_options(words: &[String]) -> Option<Options>
 }
 
 /// The fuel that the words say, as ticks a task; none where it stands twice or is out of form.
-pub fn read_fuel(words: &[String]) -> Option<u32>
+pub(crate) fn read_fuel(words: &[String]) -> Option<u32>
     ensures { result ≡ fuel_in (map string_bytes words.now) }
 {
     number_of(value_of(b"--fuel=", words), 1, 1_000_000_000, 1_000_000)

@@ -7,7 +7,7 @@ ghost use Rattle.oss_command.specs.Values.{stands};
 
 /// How an option stands among words.
 #[derive(Clone, Copy)]
-pub enum Stands<'w> {
+pub(crate) enum Stands<'w> {
     /// It does not.
     Absent,
     /// Once, with this value.
@@ -17,7 +17,7 @@ pub enum Stands<'w> {
 }
 
 /// What stands behind this front of a word, where it begins so.
-pub fn behind<'w>(front: &[u8], word: &'w [u8]) -> Option<&'w [u8]>
+pub(crate) fn behind<'w>(front: &[u8], word: &'w [u8]) -> Option<&'w [u8]>
     ensures { option_map (λ value. value.now) result ≡ behind_in front.now word.now }
 {
     if front.len() > word.len() {
@@ -28,7 +28,7 @@ pub fn behind<'w>(front: &[u8], word: &'w [u8]) -> Option<&'w [u8]>
 }
 
 /// How the option with this name stands among the words.
-pub fn value_of<'w>(name: &[u8], words: &'w [String]) -> Stands<'w>
+pub(crate) fn value_of<'w>(name: &[u8], words: &'w [String]) -> Stands<'w>
     ensures { stands result ≡ standing (values_of name.now (map string_bytes words.now)) }
 {
     let mut found = Stands::Absent;

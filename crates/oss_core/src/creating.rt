@@ -32,16 +32,16 @@ use std::alloc::{AllocError, Global};
 
 /// A task that is to be added: what is kept of it, and its accesses.
 #[derive(Drop)]
-pub struct Newborn {
-    pub held: Held,
-    pub accesses: List<Access>,
+pub(crate) struct Newborn {
+    pub(crate) held: Held,
+    pub(crate) accesses: List<Access>,
 }
 
 /// What a task has of cells: its accesses, and how each cell of them is to be given up.
 #[derive(Drop)]
-pub struct Share {
-    pub accesses: List<Access>,
-    pub owed: RangeMap<Owed>,
+pub(crate) struct Share {
+    pub(crate) accesses: List<Access>,
+    pub(crate) owed: RangeMap<Owed>,
 }
 
 /// How the cells of an access are given up: those of a strong reduction by joins, and all others by lets.

@@ -16,7 +16,7 @@ use oss_word_deps::WordDeps;
 use std::process::Abort;
 
 /// A new system by words, with so many entries at most.
-pub fn new_words(rt: &(impl Abort + AllocGlobal), most: u32) -> WordDeps
+pub(crate) fn new_words(rt: &(impl Abort + AllocGlobal), most: u32) -> WordDeps
     requires { (0 < most) × (most ≤ 16777216) }
     ensures { IsNew (seen_by result) }
 {
@@ -27,7 +27,7 @@ pub fn new_words(rt: &(impl Abort + AllocGlobal), most: u32) -> WordDeps
 }
 
 /// Reserves an access.
-pub fn reserve<D: Deps>(rt: &impl Abort, told: &mut Told<D>, access: Access)
+pub(crate) fn reserve<D: Deps>(rt: &impl Abort, told: &mut Told<D>, access: Access)
     requires { IsTold (D.seen told.old.system) told.old.opens.items told.old.gives.items }
     ensures { IsTold (D.seen told.new.system) told.new.opens.items told.new.gives.items }
 {
@@ -38,7 +38,7 @@ pub fn reserve<D: Deps>(rt: &impl Abort, told: &mut Told<D>, access: Access)
 }
 
 /// Opens a task, where that is allowed, and tells whether it was opened.
-pub fn open<D: Deps>(
+pub(crate) fn open<D: Deps>(
     rt: &impl Abort,
     told: &mut Told<D>,
     task: u64,
@@ -55,7 +55,7 @@ pub fn open<D: Deps>(
 }
 
 /// Gives up a range, where that is allowed, and tells whether it was given up.
-pub fn give<D: Deps>(rt: &impl Abort, told: &mut Told<D>, task: u64, range: Range) -> bool
+pub(crate) fn give<D: Deps>(rt: &impl Abort, told: &mut Told<D>, task: u64, range: Range) -> bool
     requires { IsTold (D.seen told.old.system) told.old.opens.items told.old.gives.items }
     ensures { IsTold (D.seen told.new.system) told.new.opens.items told.new.gives.items }
 {

@@ -17,7 +17,7 @@ use std::marker::Model;
 /// tokens that are shown and left, and those behind. A call that answers `Ok` has taken what it read, and one that answers an
 /// error has taken nothing.
 #[derive(Drop)]
-pub struct Counted<'t> {
+pub(crate) struct Counted<'t> {
     left: &'t [Token],
     operators: u32,
 }
@@ -32,7 +32,7 @@ impl<'t> Model for Counted<'t> {
 
 impl<'t> Counted<'t> {
     /// The place before the first of these tokens, which are shown as far as this number of operators.
-    pub fn new(tokens: &'t [Token], operators: u32) -> Counted<'t>
+    pub(crate) fn new(tokens: &'t [Token], operators: u32) -> Counted<'t>
         ensures { result ≡ sight_of operators tokens.now }
     {
         Counted {
@@ -42,14 +42,14 @@ impl<'t> Counted<'t> {
     }
 
     /// The tokens that are left, shown or not.
-    pub fn left(&self) -> &'t [Token]
+    pub(crate) fn left(&self) -> &'t [Token]
         ensures { result.now ≡ self.now.seen ++ self.now.behind }
     {
         self.left
     }
 
     /// Whether all tokens that are shown were taken.
-    pub fn is_at_end(&self) -> bool
+    pub(crate) fn is_at_end(&self) -> bool
         ensures { IsTrue result ↔ (self.now.seen ≡ []) }
     {
         self.first().is_none()
@@ -84,7 +84,7 @@ impl<'t> Counted<'t> {
     }
 
     /// Takes this symbol, and answers its line.
-    pub fn symbol(&mut self, symbol: &[u8]) -> Result<u32, Unread>
+    pub(crate) fn symbol(&mut self, symbol: &[u8]) -> Result<u32, Unread>
         ensures value { ReadsAs (read_one (symbol_at symbol.now) self.old.seen) result self.new.seen }
         ensures behind { self.new.behind ≡ self.old.behind }
     {
@@ -99,7 +99,7 @@ impl<'t> Counted<'t> {
     }
 
     /// Takes a name.
-    pub fn name(&mut self, alloc: Global) -> Result<Named, Unread>
+    pub(crate) fn name(&mut self, alloc: Global) -> Result<Named, Unread>
         ensures value { ReadsAs (read_one name_at self.old.seen) result self.new.seen }
         ensures behind { self.new.behind ≡ self.old.behind }
     {
@@ -112,7 +112,7 @@ impl<'t> Counted<'t> {
     }
 
     /// Takes a number.
-    pub fn number(&mut self) -> Result<Expr, Unread>
+    pub(crate) fn number(&mut self) -> Result<Expr, Unread>
         ensures value { ReadsAs (read_one number_at self.old.seen) result self.new.seen }
         ensures behind { self.new.behind ≡ self.old.behind }
     {
@@ -127,7 +127,7 @@ impl<'t> Counted<'t> {
     }
 
     /// Takes a prefix operator, and answers it with its line.
-    pub fn prefix(&mut self) -> Result<(UnOp, u32), Unread>
+    pub(crate) fn prefix(&mut self) -> Result<(UnOp, u32), Unread>
         ensures value { ReadsAs (read_one prefix_at self.old.seen) result self.new.seen }
         ensures behind { self.new.behind ≡ self.old.behind }
     {
@@ -142,7 +142,7 @@ impl<'t> Counted<'t> {
     }
 
     /// Takes a binary operator of this level.
-    pub fn operator(&mut self, level: u32) -> Result<BinOp, Unread>
+    pub(crate) fn operator(&mut self, level: u32) -> Result<BinOp, Unread>
         ensures value { ReadsAs (read_one (operator_at level) self.old.seen) result self.new.seen }
         ensures behind { self.new.behind ≡ self.old.behind }
     {
@@ -157,7 +157,7 @@ impl<'t> Counted<'t> {
     }
 
     /// Whether the next token is this symbol; it stays.
-    pub fn begins_with_symbol(&self, symbol: &[u8]) -> bool
+    pub(crate) fn begins_with_symbol(&self, symbol: &[u8]) -> bool
         ensures { result ≡ begins (has (symbol_at symbol.now)) self.now.seen }
     {
         match self.first() {
@@ -167,7 +167,7 @@ impl<'t> Counted<'t> {
     }
 
     /// Whether the next token is a name; it stays.
-    pub fn begins_with_name(&self) -> bool
+    pub(crate) fn begins_with_name(&self) -> bool
         ensures { result ≡ begins (has name_at) self.now.seen }
     {
         match self.first() {
@@ -177,7 +177,7 @@ impl<'t> Counted<'t> {
     }
 
     /// Whether the next token is a number; it stays.
-    pub fn begins_with_number(&self) -> bool
+    pub(crate) fn begins_with_number(&self) -> bool
         ensures { result ≡ begins (has number_at) self.now.seen }
     {
         match self.first() {
@@ -187,7 +187,7 @@ impl<'t> Counted<'t> {
     }
 
     /// Whether the next token is a prefix operator; it stays.
-    pub fn begins_with_prefix(&self) -> bool
+    pub(crate) fn begins_with_prefix(&self) -> bool
         ensures { result ≡ begins (has prefix_at) self.now.seen }
     {
         match self.first() {
@@ -197,7 +197,7 @@ impl<'t> Counted<'t> {
     }
 
     /// Whether the next token is a binary operator of this level; it stays.
-    pub fn begins_with_operator(&self, level: u32) -> bool
+    pub(crate) fn begins_with_operator(&self, level: u32) -> bool
         ensures { result ≡ begins (has (operator_at level)) self.now.seen }
     {
         match self.first() {
@@ -207,7 +207,7 @@ impl<'t> Counted<'t> {
     }
 
     /// Whether an expression begins here.
-    pub fn begins_with_expression(&self) -> bool
+    pub(crate) fn begins_with_expression(&self) -> bool
         ensures { result ≡ begins begins_expression self.now.seen }
     {
         match self.first() {
@@ -218,7 +218,7 @@ impl<'t> Counted<'t> {
 }
 
 /// Whether a token is an operator, as a prefix or between two operands.
-pub fn counts(token: &Token) -> bool
+pub(crate) fn counts(token: &Token) -> bool
     ensures { result ≡ is_operator token.now }
 {
     prefix(&token.what).is_some() || operator(&token.what).is_some()

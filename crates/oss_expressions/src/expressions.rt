@@ -337,7 +337,7 @@ fn unary(alloc: Global, levels: u32, tokens: &mut Counted<'_>) -> Result<Expr, U
 
 /// A whole expression, with so many levels.
 #[cycle(expression)]
-pub fn whole(alloc: Global, levels: u32, tokens: &mut Counted<'_>) -> Result<Expr, Unread>
+pub(crate) fn whole(alloc: Global, levels: u32, tokens: &mut Counted<'_>) -> Result<Expr, Unread>
     ensures value { ReadsAs (read_whole levels tokens.old.seen) result tokens.new.seen }
     ensures behind { tokens.new.behind ≡ tokens.old.behind }
 {

@@ -52,7 +52,7 @@ pub fn keyword_is(keyword: &[u8], what: &TokenKind) -> bool
 }
 
 /// Whether this is the name with these bytes.
-pub fn word_is(word: &[u8], what: &TokenKind) -> bool
+pub(crate) fn word_is(word: &[u8], what: &TokenKind) -> bool
     ensures { result ≡ is_word word.now what.now }
 {
     match what {
@@ -69,7 +69,7 @@ pub fn is_start(what: &TokenKind) -> bool
 }
 
 /// Whether this is the last token of a pragma.
-pub fn is_end(what: &TokenKind) -> bool
+pub(crate) fn is_end(what: &TokenKind) -> bool
     ensures { result ≡ is_some (end_in what.now 0) }
 {
     matches!(what, TokenKind::PragmaEnd)
@@ -83,7 +83,7 @@ pub fn is_name(what: &TokenKind) -> bool
 }
 
 /// The name that this is, with its line.
-pub fn named(alloc: Global, what: &TokenKind, line: u32) -> Result<Named, Unread>
+pub(crate) fn named(alloc: Global, what: &TokenKind, line: u32) -> Result<Named, Unread>
     ensures { Makes (named_in what.now line) result }
 {
     match what {
@@ -96,7 +96,7 @@ pub fn named(alloc: Global, what: &TokenKind, line: u32) -> Result<Named, Unread
 }
 
 /// The number that this is, as an expression.
-pub fn number(what: &TokenKind, line: u32) -> Option<Expr>
+pub(crate) fn number(what: &TokenKind, line: u32) -> Option<Expr>
     ensures { result ≡ number_in what.now line }
 {
     match what {
@@ -109,14 +109,14 @@ pub fn number(what: &TokenKind, line: u32) -> Option<Expr>
 }
 
 /// Whether this is a number.
-pub fn is_number(what: &TokenKind) -> bool
+pub(crate) fn is_number(what: &TokenKind) -> bool
     ensures { result ≡ is_some (number_in what.now 0) }
 {
     matches!(what, TokenKind::Number(_, _))
 }
 
 /// The bytes of what a label is made of.
-pub fn label(alloc: Global, what: &TokenKind) -> Result<Bytes, Unread>
+pub(crate) fn label(alloc: Global, what: &TokenKind) -> Result<Bytes, Unread>
     ensures { Makes (label_in what.now) result }
 {
     match what {
@@ -128,7 +128,7 @@ pub fn label(alloc: Global, what: &TokenKind) -> Result<Bytes, Unread>
 
 /// The prefix operator that this is.
 #[tactic(auto, unfolding(oss_grammar::specs::Expressions::prefix_of))]
-pub fn prefix(what: &TokenKind) -> Option<UnOp>
+pub(crate) fn prefix(what: &TokenKind) -> Option<UnOp>
     ensures { result ≡ prefix_of what.now }
 {
     if symbol_is(b"-", what) {
@@ -150,7 +150,7 @@ pub fn prefix(what: &TokenKind) -> Option<UnOp>
 
 /// The binary operator that this is, with its level.
 #[tactic(auto, unfolding(oss_grammar::specs::Expressions::operator_of))]
-pub fn operator(what: &TokenKind) -> Option<(u32, BinOp)>
+pub(crate) fn operator(what: &TokenKind) -> Option<(u32, BinOp)>
     ensures { result ≡ operator_of what.now }
 {
     if symbol_is(b"*", what) {
@@ -232,7 +232,7 @@ pub fn reduction(what: &TokenKind) -> Option<bool>
 
 /// The operator of a reduction that this is.
 #[tactic(auto, unfolding(oss_grammar::specs::Pragmas::fold_of))]
-pub fn fold(what: &TokenKind) -> Option<Op>
+pub(crate) fn fold(what: &TokenKind) -> Option<Op>
     ensures { result ≡ fold_of what.now }
 {
     if symbol_is(b"+", what) {
@@ -263,7 +263,7 @@ pub fn once_is(once: Once, what: &TokenKind) -> bool
 }
 
 /// Whether an expression begins with this token.
-pub fn expression_begins(token: &Token) -> bool
+pub(crate) fn expression_begins(token: &Token) -> bool
     ensures { result ≡ begins_expression token.now }
 {
     is_number(&token.what)

@@ -8,7 +8,7 @@ use crate::numbers::{cell_behind, cell_count, first_cell, next_number};
 use std::alloc::{AllocError, Global};
 
 /// Writes so many tasks behind the text, with the numbers behind this one. Want of memory is the one error.
-pub fn write_tasks(
+pub(crate) fn write_tasks(
     alloc: Global,
     size: u32,
     start: u8,

@@ -52,7 +52,7 @@ fn to_line_end(text: &[u8]) -> usize
 
 /// Whether a comment begins at the front of a text.
 #[tactic(auto, unfolding(oss_grammar::specs::Words::opens_comment))]
-pub fn begins_comment(text: &[u8]) -> bool
+pub(crate) fn begins_comment(text: &[u8]) -> bool
     ensures { result ≡ opens_comment text.now }
 {
     byte_at(text, 0) == b'/' && (byte_at(text, 1) == b'*' || byte_at(text, 1) == b'/')
@@ -60,7 +60,7 @@ pub fn begins_comment(text: &[u8]) -> bool
 
 /// How many bytes the blank or comment at the front of a text has, and 0 where there is none that ends.
 #[tactic(auto, unfolding(crate::specs::Reading::gap_len, crate::specs::Reading::gap_len_behind, crate::specs::Reading::lengthened))]
-pub fn blank_len(text: &[u8]) -> usize
+pub(crate) fn blank_len(text: &[u8]) -> usize
     ensures value { result ≡ gap_len text.now }
     ensures within { result ≤ length text.now }
 {
@@ -88,7 +88,7 @@ pub fn blank_len(text: &[u8]) -> usize
 /// How many bytes all blanks and comments at the front of a text have. A bare newline is not counted, and nothing behind
 /// it; one in a comment or behind a backslash is.
 #[tactic(auto, using(crate::proofs::GapRuns::gaps_len_step, crate::proofs::GapRuns::gaps_len_none))]
-pub fn blanks_len(text: &[u8]) -> usize
+pub(crate) fn blanks_len(text: &[u8]) -> usize
     ensures value { result ≡ gaps_len 0 text.now }
     ensures within { result ≤ length text.now }
 {
@@ -106,7 +106,7 @@ pub fn blanks_len(text: &[u8]) -> usize
 }
 
 /// How many newlines stand in a text.
-pub fn newlines_in(text: &[u8]) -> usize
+pub(crate) fn newlines_in(text: &[u8]) -> usize
     ensures value { result ≡ newlines text.now }
     ensures within { result ≤ length text.now }
 {

@@ -3,7 +3,7 @@ ghost use Rattle.oss_grammar.specs.Words.{is_letter, is_digit, is_name_byte};
 
 /// Whether a byte is a letter or `_`.
 #[tactic(auto, unfolding(oss_grammar::specs::Words::is_letter))]
-pub fn begins_name(b: u8) -> bool
+pub(crate) fn begins_name(b: u8) -> bool
     ensures { result ≡ is_letter b }
 {
     (b >= b'a' && b <= b'z') || (b >= b'A' && b <= b'Z') || b == b'_'
@@ -11,7 +11,7 @@ pub fn begins_name(b: u8) -> bool
 
 /// Whether a byte is a digit of base 10.
 #[tactic(auto, unfolding(oss_grammar::specs::Words::is_digit))]
-pub fn begins_number(b: u8) -> bool
+pub(crate) fn begins_number(b: u8) -> bool
     ensures { result ≡ is_digit b }
 {
     b >= b'0' && b <= b'9'
@@ -19,14 +19,14 @@ pub fn begins_number(b: u8) -> bool
 
 /// Whether a byte may stand in a name.
 #[tactic(auto, unfolding(oss_grammar::specs::Words::is_name_byte))]
-pub fn goes_on_name(b: u8) -> bool
+pub(crate) fn goes_on_name(b: u8) -> bool
     ensures { result ≡ is_name_byte b }
 {
     begins_name(b) || begins_number(b)
 }
 
 /// The first byte of a text and what stands behind it.
-pub fn first(text: &[u8]) -> Option<(u8, &[u8])>
+pub(crate) fn first(text: &[u8]) -> Option<(u8, &[u8])>
     ensures { MatchOption result (text.now ≡ []) (λ parts. text.now ≡ parts.0 ∷ parts.1.now) }
 {
     let (b, rest) = text.split_first()?;
@@ -34,7 +34,7 @@ pub fn first(text: &[u8]) -> Option<(u8, &[u8])>
 }
 
 /// The byte at a place of a text, and 0 behind its end.
-pub fn byte_at(text: &[u8], at: usize) -> u8
+pub(crate) fn byte_at(text: &[u8], at: usize) -> u8
     ensures { result ≡ slice_index text.now at }
 {
     text.get(at).copied().unwrap_or(0)

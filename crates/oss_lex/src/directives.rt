@@ -53,7 +53,7 @@ fn read_pragma(text: &[u8], line: u32) -> Result<Step<'_>, Refusal>
 
 /// A line behind the `#` with which it begins.
 #[tactic(auto, unfolding(crate::specs::Reading::hash_at, crate::specs::Reading::hash_behind))]
-pub fn read_directive(text: &[u8], line: u32) -> Result<Step<'_>, Refusal>
+pub(crate) fn read_directive(text: &[u8], line: u32) -> Result<Step<'_>, Refusal>
     requires { line + length text.now < 2 ^ 32 }
     ensures { StepsAs (hash_at text.now) line result }
 {

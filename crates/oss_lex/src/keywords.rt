@@ -4,7 +4,7 @@ ghost use Rattle.oss_grammar.specs.Words.{is_keyword, is_left_out_keyword, is_us
 /// Whether a word is a keyword, one that is left out too: a keyword of C (C11 6.4.1), or `printf`, which is a keyword of
 /// this language and not of C.
 #[tactic(auto, unfolding(oss_grammar::specs::Words::is_keyword))]
-pub fn is_reserved(word: &[u8]) -> bool
+pub(crate) fn is_reserved(word: &[u8]) -> bool
     ensures { result ≡ is_keyword word.now }
 {
     is_used(word) || is_left_out(word)

@@ -10,7 +10,7 @@ use oss_syntax::{Name, Refusal, TokenKind};
 use std::alloc::Global;
 
 /// How many bytes from the front on are letters, digits or `_`.
-pub fn word_len(text: &[u8]) -> usize
+pub(crate) fn word_len(text: &[u8]) -> usize
     ensures value { result ≡ prefix_len is_name_byte text.now }
     ensures within { result ≤ length text.now }
 {
@@ -19,7 +19,7 @@ pub fn word_len(text: &[u8]) -> usize
 
 /// The name or keyword at the front of a text that begins with a letter.
 #[tactic(auto, unfolding(crate::specs::Reading::name_at, crate::specs::Reading::name_answer))]
-pub fn read_name(alloc: Global, text: &[u8], line: u32) -> Result<Taken<'_>, Refusal>
+pub(crate) fn read_name(alloc: Global, text: &[u8], line: u32) -> Result<Taken<'_>, Refusal>
     ensures { AnswersAs (name_at text.now) line result }
 {
     let (word, rest) = text.split_at(word_len(text));

@@ -153,7 +153,7 @@ fn number(word: &[u8]) -> Option<(u64, bool)>
 
 /// The number at the front of a text that begins with a digit.
 #[tactic(auto, unfolding(crate::specs::Reading::number_at, crate::specs::Reading::number_told))]
-pub fn read_number(text: &[u8], line: u32) -> Result<Taken<'_>, Refusal>
+pub(crate) fn read_number(text: &[u8], line: u32) -> Result<Taken<'_>, Refusal>
     ensures { AnswersAs (number_at text.now) line result }
 {
     let (word, rest) = text.split_at(word_len(text));

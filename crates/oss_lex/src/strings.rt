@@ -47,7 +47,7 @@ fn add(bytes: &mut Vec<u8>, b: u8) -> Result<(), AllocError>
 
 /// The string behind an opening quote.
 #[tactic(auto, unfolding(crate::specs::Reading::string_at))]
-pub fn read_string(alloc: Global, text: &[u8], line: u32) -> Result<Taken<'_>, Refusal>
+pub(crate) fn read_string(alloc: Global, text: &[u8], line: u32) -> Result<Taken<'_>, Refusal>
     ensures { AnswersAs (string_at false [] text.now) line result }
 {
     let mut bytes = Vec::new(alloc);

@@ -91,7 +91,7 @@ fn longest_symbol(text: &[u8]) -> usize
 /// The longest symbol at the front of a text, from which the caller has taken the comments that end: where a comment
 /// begins there, whether it ends or not, the answer is a refusal.
 #[tactic(auto, using(crate::proofs::SymbolWords::symbol_len_within), unfolding(crate::specs::Reading::symbol_at, crate::specs::Reading::symbol_told))]
-pub fn read_symbol(alloc: Global, text: &[u8], line: u32) -> Result<Taken<'_>, Refusal>
+pub(crate) fn read_symbol(alloc: Global, text: &[u8], line: u32) -> Result<Taken<'_>, Refusal>
     ensures { AnswersAs (symbol_at text.now) line result }
 {
     if begins_comment(text) {

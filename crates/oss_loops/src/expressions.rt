@@ -7,7 +7,7 @@ use oss_syntax::{BinOp, Boxed, Expr, ExprKind, Kind, List, Local, Name, NumKind,
 use std::alloc::{AllocError, Global};
 
 /// A name, as an expression.
-pub fn named(line: u32, name: Name) -> Expr
+pub(crate) fn named(line: u32, name: Name) -> Expr
     ensures { result ≡ name_at line name }
 {
     Expr {
@@ -17,7 +17,7 @@ pub fn named(line: u32, name: Name) -> Expr
 }
 
 /// A number, as an expression.
-pub fn number(line: u32, value: u64) -> Expr
+pub(crate) fn number(line: u32, value: u64) -> Expr
     ensures { result ≡ number_at line value }
 {
     Expr {
@@ -27,7 +27,7 @@ pub fn number(line: u32, value: u64) -> Expr
 }
 
 /// An expression where there is one, and else a number.
-pub fn given_or(line: u32, value: u64, given: Option<Expr>) -> Expr
+pub(crate) fn given_or(line: u32, value: u64, given: Option<Expr>) -> Expr
     ensures { result ≡ or_number line value given }
 {
     match given {
@@ -37,7 +37,7 @@ pub fn given_or(line: u32, value: u64, given: Option<Expr>) -> Expr
 }
 
 /// Two expressions with an operator between them.
-pub fn joined(
+pub(crate) fn joined(
     alloc: Global,
     line: u32,
     operator: BinOp,
@@ -73,7 +73,7 @@ fn joined_behind(
 }
 
 /// Two names with an operator between them.
-pub fn joined_names(
+pub(crate) fn joined_names(
     alloc: Global,
     line: u32,
     operator: BinOp,
@@ -86,7 +86,7 @@ pub fn joined_names(
 }
 
 /// An assignment to a name.
-pub fn set(line: u32, name: Name, value: Expr) -> Stmt
+pub(crate) fn set(line: u32, name: Name, value: Expr) -> Stmt
     ensures { result ≡ set_at line name value }
 {
     Stmt {
@@ -96,7 +96,7 @@ pub fn set(line: u32, name: Name, value: Expr) -> Stmt
 }
 
 /// Adds a local of the type `long` with its initial value at the end. Where memory is wanting nothing is added.
-pub fn add_local(
+pub(crate) fn add_local(
     line: u32,
     name: Name,
     first: Expr,

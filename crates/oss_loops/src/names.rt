@@ -6,28 +6,28 @@ use oss_syntax::Name;
 use std::alloc::{AllocError, Global};
 
 /// Where the next task begins.
-pub fn name_of_begin(alloc: Global) -> Result<Name, AllocError>
+pub(crate) fn name_of_begin(alloc: Global) -> Result<Name, AllocError>
     ensures { IfOk result (λ name. name ≡ begin_name) }
 {
     Name::from_slice(alloc, b"$c")
 }
 
 /// Where the loop ends.
-pub fn name_of_end(alloc: Global) -> Result<Name, AllocError>
+pub(crate) fn name_of_end(alloc: Global) -> Result<Name, AllocError>
     ensures { IfOk result (λ name. name ≡ end_name) }
 {
     Name::from_slice(alloc, b"$u")
 }
 
 /// How many turns a task makes.
-pub fn name_of_grain(alloc: Global) -> Result<Name, AllocError>
+pub(crate) fn name_of_grain(alloc: Global) -> Result<Name, AllocError>
     ensures { IfOk result (λ name. name ≡ grain_name) }
 {
     Name::from_slice(alloc, b"$g")
 }
 
 /// Where the task of this round ends.
-pub fn name_of_stop(alloc: Global) -> Result<Name, AllocError>
+pub(crate) fn name_of_stop(alloc: Global) -> Result<Name, AllocError>
     ensures { IfOk result (λ name. name ≡ stop_name) }
 {
     Name::from_slice(alloc, b"$e")

@@ -10,32 +10,32 @@ use std::alloc::{AllocError, Global};
 
 /// The initial values of the block's locals.
 #[derive(Drop)]
-pub struct Bounds {
+pub(crate) struct Bounds {
     /// Where the first task begins.
-    pub first: Expr,
+    pub(crate) first: Expr,
     /// Where the loop ends.
-    pub end: Expr,
+    pub(crate) end: Expr,
     /// How many turns a task makes.
-    pub grain: Expr,
+    pub(crate) grain: Expr,
 }
 
 /// What each task is made of, beside its statement.
 #[derive(Drop)]
-pub struct TaskParts {
-    pub variable: Name,
+pub(crate) struct TaskParts {
+    pub(crate) variable: Name,
     /// All but the grainsize.
-    pub clauses: List<Clause>,
+    pub(crate) clauses: List<Clause>,
     /// The line of the pragma.
-    pub mark_line: u32,
+    pub(crate) mark_line: u32,
     /// The line of the word `for`.
-    pub for_line: u32,
+    pub(crate) for_line: u32,
 }
 
 /// The parts of the head of a task loop.
 #[derive(Drop)]
-pub struct LoopParts {
-    pub bounds: Bounds,
-    pub task: TaskParts,
+pub(crate) struct LoopParts {
+    pub(crate) bounds: Bounds,
+    pub(crate) task: TaskParts,
 }
 
 /// Clauses of a task loop, the grainsize apart from the others.
@@ -48,7 +48,7 @@ struct SortedClauses {
 
 /// The parts of a head, which come into a block on this line. Of the three names that of the variable is taken: in a program that
 /// breaks no rule all are one.
-pub fn taken_apart(alloc: Global, line: u32, head: LoopHead) -> Result<LoopParts, AllocError>
+pub(crate) fn taken_apart(alloc: Global, line: u32, head: LoopHead) -> Result<LoopParts, AllocError>
     ensures bounds { IfOk result (λ parts. parts.bounds ≡ loop_bounds line head) }
     ensures task { IfOk result (λ parts. parts.task ≡ task_parts head) }
 {

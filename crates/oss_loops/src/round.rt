@@ -12,7 +12,7 @@ use oss_syntax::{BinOp, Boxed, Expr, List, Local, Name, Stmt, StmtKind, TaskMark
 use std::alloc::{AllocError, Global};
 
 /// The round whose task has these parts and does its turns of this statement.
-pub fn round(
+pub(crate) fn round(
     alloc: Global,
     line: u32,
     task: TaskParts,

@@ -17,7 +17,7 @@ struct ForParts {
 
 /// Statements, each with the task loops in it written out.
 #[cycle(statements)]
-pub fn statements(alloc: Global, list: List<Stmt>) -> Result<List<Stmt>, AllocError>
+pub(crate) fn statements(alloc: Global, list: List<Stmt>) -> Result<List<Stmt>, AllocError>
     ensures { IfOk result (λ done. done ≡ map written_out list) }
 {
     let mut done = List::new(alloc);

@@ -3,11 +3,11 @@ use oss_syntax::Kind;
 
 /// What stands around a statement.
 #[derive(Clone, Copy)]
-pub struct Around {
+pub(crate) struct Around {
     /// The type of what the function gives.
-    pub result: Kind,
+    pub(crate) result: Kind,
     /// The place of the piece to which `break` leads.
-    pub stop: usize,
+    pub(crate) stop: usize,
     /// The place of the piece to which `continue` leads.
-    pub again: usize,
+    pub(crate) again: usize,
 }

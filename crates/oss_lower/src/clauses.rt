@@ -42,7 +42,7 @@ fn clause<'p>(site: &Site<'_, 'p>, out: &mut Listing, one: &'p Clause) -> Result
 }
 
 /// Writes clauses in text order.
-pub fn clauses<'p>(
+pub(crate) fn clauses<'p>(
     site: &Site<'_, 'p>,
     out: &mut Listing,
     clauses: &'p [Clause],
@@ -56,7 +56,7 @@ pub fn clauses<'p>(
 }
 
 /// Writes a creation: its tests, its clauses, and the creation of a task whose body begins so many instructions behind it.
-pub fn created<'p>(
+pub(crate) fn created<'p>(
     site: &Site<'_, 'p>,
     out: &mut Listing,
     passed: u32,

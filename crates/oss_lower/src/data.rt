@@ -11,7 +11,7 @@ use oss_values::keep;
 use std::alloc::{AllocError, Global};
 
 /// The cells at the start: each keeps what its type can of its first value.
-pub fn first_cells(alloc: Global, items: &[Item]) -> Result<Vec<u64>, AllocError>
+pub(crate) fn first_cells(alloc: Global, items: &[Item]) -> Result<Vec<u64>, AllocError>
     ensures { IfOk result (λ cells. cells.items ≡ first_cells items.now) }
 {
     let mut cells = Vec::new(alloc);
@@ -51,7 +51,7 @@ fn count_of(global: &GlobalDef) -> u64
 }
 
 /// Where the globals lie, in text order. Those that have no cells, or rows of none, or more than 1,048,576 in all, have no room.
-pub fn places(alloc: Global, items: &[Item]) -> Result<Vec<GlobalPlace>, AllocError>
+pub(crate) fn places(alloc: Global, items: &[Item]) -> Result<Vec<GlobalPlace>, AllocError>
     ensures { IfOk result (λ places. extents_in places.items ≡ extents_of items.now) }
 {
     let mut places = Vec::new(alloc);

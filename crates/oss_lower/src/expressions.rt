@@ -22,7 +22,7 @@ use std::alloc::AllocError;
 
 /// What stands under an index.
 #[derive(Clone, Copy)]
-pub enum Under {
+pub(crate) enum Under {
     /// The array of two dimensions with this number, of numbers of this type.
     Grid(u32, NumKind),
     /// A row of it.
@@ -33,7 +33,7 @@ pub enum Under {
 
 /// Writes the instructions of the value of an expression, behind so many values, and tells what the text tells of it.
 #[cycle(expressions)]
-pub fn value(
+pub(crate) fn value(
     site: &Site<'_, '_>,
     out: &mut Listing,
     depth: u32,
@@ -67,7 +67,7 @@ pub fn value(
 
 /// Writes the instructions of the place that an expression designates, and tells what it designates.
 #[cycle(expressions)]
-pub fn place(
+pub(crate) fn place(
     site: &Site<'_, '_>,
     out: &mut Listing,
     depth: u32,
@@ -338,7 +338,7 @@ fn or(
 
 /// Writes the instructions of expressions from left to right, each of which leaves its value.
 #[cycle(expressions)]
-pub fn arguments(
+pub(crate) fn arguments(
     site: &Site<'_, '_>,
     out: &mut Listing,
     depth: u32,
@@ -356,7 +356,7 @@ pub fn arguments(
 
 /// Writes the instructions of a call, and tells the kind of its value. What is no function evaluates nothing.
 #[cycle(expressions)]
-pub fn call(
+pub(crate) fn call(
     site: &Site<'_, '_>,
     out: &mut Listing,
     depth: u32,

@@ -88,13 +88,13 @@ fn function<'p>(
 
 /// Where functions begin, and where their bodies do.
 #[derive(Drop)]
-pub struct Beginnings {
-    pub functions: Vec<u32>,
-    pub bodies: Vec<usize>,
+pub(crate) struct Beginnings {
+    pub(crate) functions: Vec<u32>,
+    pub(crate) bodies: Vec<usize>,
 }
 
 /// Writes the functions in text order, and tells where they begin.
-pub fn functions(names: &Names<'_>, out: &mut Listing) -> Result<Beginnings, AllocError>
+pub(crate) fn functions(names: &Names<'_>, out: &mut Listing) -> Result<Beginnings, AllocError>
     ensures entries { IfOk result (λ b. b.functions.items ≡ entries_from names.now (length out.old) (functions_of names.now)) }
     ensures bodies { IfOk result (λ b. b.bodies.items ≡ bodies_from names.now (length out.old) (functions_of names.now)) }
     ensures code { OnOk result (out.new ≡ out.old ++ function_codes names.now (functions_of names.now)) }

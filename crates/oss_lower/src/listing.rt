@@ -13,7 +13,7 @@ use std::marker::Model;
 
 /// A jump whose length is told once what it passes is written.
 #[derive(Clone, Copy)]
-pub enum Jump {
+pub(crate) enum Jump {
     /// It is made always.
     Always,
     /// It is made where a number is 0.
@@ -34,7 +34,7 @@ fn jump_by(jump: Jump, passed: u32) -> Instr
 }
 
 /// Instructions in their order: contracts see their list.
-pub struct Listing {
+pub(crate) struct Listing {
     code: Vec<Lined>,
 }
 
@@ -61,7 +61,7 @@ impl Model for Listing {
 
 impl Listing {
     /// No instructions, which takes no memory.
-    pub fn new(alloc: Global) -> Listing
+    pub(crate) fn new(alloc: Global) -> Listing
         ensures { result ≡ [] }
     {
         Listing {
@@ -70,14 +70,14 @@ impl Listing {
     }
 
     /// How many instructions there are.
-    pub fn len(&self) -> usize
+    pub(crate) fn len(&self) -> usize
         ensures { result ≡ length self.now }
     {
         self.code.len()
     }
 
     /// Writes an instruction on a line, behind so many values.
-    pub fn push(&mut self, what: Instr, line: u32, depth: u32) -> Result<(), AllocError>
+    pub(crate) fn push(&mut self, what: Instr, line: u32, depth: u32) -> Result<(), AllocError>
         ensures { OnOk result (self.new ≡ self.old ++ one line depth what) }
     {
         self.code.push(Lined { what, line, depth })?;
@@ -86,7 +86,7 @@ impl Listing {
 
     /// Lets the jump at a place pass all instructions that are written behind it, and so many more.
     #[tactic(auto, using(crate::proofs::ListingLemmas::put))]
-    pub fn fill(&mut self, at: usize, jump: Jump, more: u32) -> Result<(), AllocError>
+    pub(crate) fn fill(&mut self, at: usize, jump: Jump, more: u32) -> Result<(), AllocError>
         requires { at < length self.old }
         ensures { OnOk result ((before after : List Written) (l : Written) → self.old ≡ before ++ (l ∷ after) → at ≡ length before → self.new ≡ before ++ (one l.line l.depth (jump_by jump (length after + more)) ++ after)) }
     {
@@ -96,7 +96,7 @@ impl Listing {
     }
 
     /// Lets the first instruction, a jump that is made always, pass so many.
-    pub fn lead(&mut self, passed: u32)
+    pub(crate) fn lead(&mut self, passed: u32)
         requires { 0 < length self.old }
         ensures { (l : Written) (rest : List Written) → self.old ≡ l ∷ rest → self.new ≡ one l.line l.depth (jump_by AlwaysMade passed) ++ rest }
     {
@@ -104,14 +104,14 @@ impl Listing {
     }
 
     /// Takes the instructions away behind the first so many.
-    pub fn truncate(&mut self, count: usize)
+    pub(crate) fn truncate(&mut self, count: usize)
         ensures { self.new ≡ take count self.old }
     {
         self.code.truncate(count);
     }
 
     /// The instructions, in their vector.
-    pub fn into_vec(self) -> Vec<Lined>
+    pub(crate) fn into_vec(self) -> Vec<Lined>
         ensures { result.items ≡ self }
     {
         let Listing { code } = self;

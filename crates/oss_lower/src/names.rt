@@ -14,7 +14,7 @@ use std::alloc::{AllocError, Global};
 use std::marker::Model;
 
 /// The globals and functions of a program, which are found by name at once: contracts see its items.
-pub struct Names<'p> {
+pub(crate) struct Names<'p> {
     alloc: Global,
     items: &'p [Item],
     table: NameTable<'p>,
@@ -56,7 +56,7 @@ impl<'p> Model for Names<'p> {
 
 impl<'p> Names<'p> {
     /// The globals and functions of these items. Want of memory is the one error.
-    pub fn of(alloc: Global, items: &'p [Item]) -> Result<Names<'p>, AllocError>
+    pub(crate) fn of(alloc: Global, items: &'p [Item]) -> Result<Names<'p>, AllocError>
         ensures { IfOk result (λ names. names ≡ items.now) }
     {
         let mut table = NameTable::new(alloc);
@@ -73,20 +73,20 @@ impl<'p> Names<'p> {
     }
 
     /// The allocator of its tables.
-    pub fn alloc(&self) -> Global {
+    pub(crate) fn alloc(&self) -> Global {
         self.alloc
     }
 
     /// What the first item of this name is.
     #[tactic(auto, using(crate::proofs::NameLemmas::founds))]
-    pub fn item(&self, name: &[u8]) -> Found
+    pub(crate) fn item(&self, name: &[u8]) -> Found
         ensures { result ≡ item_found self.now name.now }
     {
         found_at(self.found.as_slice(), self.table.place(name))
     }
 
     /// What a name stands for where these locals are in scope: a local hides the globals and functions of its name.
-    pub fn named(&self, scope: &Scope<'_>, name: &[u8]) -> Found
+    pub(crate) fn named(&self, scope: &Scope<'_>, name: &[u8]) -> Found
         ensures { result ≡ found self.now scope.now name.now }
     {
         match scope.find(name) {
@@ -96,14 +96,14 @@ impl<'p> Names<'p> {
     }
 
     /// The functions, in text order.
-    pub fn functions(&self) -> &[&'p Function]
+    pub(crate) fn functions(&self) -> &[&'p Function]
         ensures { map (λ f. f.now) result.now ≡ functions_of self.now }
     {
         self.functions.as_slice()
     }
 
     /// The function with this number.
-    pub fn function(&self, number: u32) -> Option<&'p Function>
+    pub(crate) fn function(&self, number: u32) -> Option<&'p Function>
         ensures { option_copied result ≡ slice_get (functions_of self.now) number }
     {
         self.functions.get(number as usize).copied()

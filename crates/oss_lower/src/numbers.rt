@@ -4,7 +4,7 @@ ghost use Rattle.std.specs.Prelude.{◌≡◌, ◌+◌, IfOk};
 use std::alloc::AllocError;
 
 /// So many more values on the stack.
-pub fn deeper(depth: u32, more: u32) -> Result<u32, AllocError>
+pub(crate) fn deeper(depth: u32, more: u32) -> Result<u32, AllocError>
     ensures { IfOk result (λ sum. sum ≡ depth + more) }
 {
     match depth.checked_add(more) {
@@ -14,7 +14,7 @@ pub fn deeper(depth: u32, more: u32) -> Result<u32, AllocError>
 }
 
 /// A number of 32 bits.
-pub fn narrow(number: usize) -> Result<u32, AllocError>
+pub(crate) fn narrow(number: usize) -> Result<u32, AllocError>
     ensures { IfOk result (λ same. same ≡ number) }
 {
     match u32::try_from(number) {

@@ -9,7 +9,7 @@ use std::marker::Model;
 
 /// The locals in scope, the last one declared at the end: contracts see their list. They are at most 2^32 - 1.
 #[derive(Drop)]
-pub struct Scope<'p> {
+pub(crate) struct Scope<'p> {
     locals: Vec<&'p Local>,
 }
 
@@ -30,7 +30,7 @@ impl<'p> Model for Scope<'p> {
 
 impl<'p> Scope<'p> {
     /// No locals, which takes no memory.
-    pub fn none(alloc: Global) -> Scope<'p>
+    pub(crate) fn none(alloc: Global) -> Scope<'p>
         ensures { result ≡ [] }
     {
         Scope {
@@ -39,14 +39,14 @@ impl<'p> Scope<'p> {
     }
 
     /// How many locals there are.
-    pub fn len(&self) -> u32
+    pub(crate) fn len(&self) -> u32
         ensures { result ≡ length self.now }
     {
         self.locals.len() as u32
     }
 
     /// Declares a local. Where memory is wanting they stay.
-    pub fn declare(&mut self, local: &'p Local) -> Result<(), AllocError>
+    pub(crate) fn declare(&mut self, local: &'p Local) -> Result<(), AllocError>
         ensures { OnOk result (self.new ≡ self.old ++ local.now ∷ []) }
     {
         if self.locals.len() >= 4294967295 {
@@ -57,7 +57,7 @@ impl<'p> Scope<'p> {
     }
 
     /// The same locals, and one more behind them.
-    pub fn with(&self, local: &'p Local) -> Result<Scope<'p>, AllocError>
+    pub(crate) fn with(&self, local: &'p Local) -> Result<Scope<'p>, AllocError>
         ensures { IfOk result (λ scope. scope ≡ self.now ++ local.now ∷ []) }
     {
         let mut scope = Scope {
@@ -69,7 +69,7 @@ impl<'p> Scope<'p> {
 
     /// Leaves a scope: the first so many locals stay.
     #[tactic(auto, using(crate::proofs::ListingLemmas::shorter))]
-    pub fn leave(&mut self, count: u32)
+    pub(crate) fn leave(&mut self, count: u32)
         ensures { self.new ≡ take count self.old }
     {
         self.locals.truncate(count as usize);
@@ -77,7 +77,7 @@ impl<'p> Scope<'p> {
 
     /// The last of the locals that has this name.
     #[tactic(auto, using(crate::proofs::ListingLemmas::none_left))]
-    pub fn find(&self, name: &[u8]) -> Found
+    pub(crate) fn find(&self, name: &[u8]) -> Found
         ensures { result ≡ local_from 0 self.now name.now }
     {
         let mut found = Found::Unknown;

@@ -174,7 +174,7 @@ fn operands(site: &Site<'_, '_>, out: &mut Listing, form: &Form) -> Result<u32, 
 }
 
 /// Writes the value of an expression that may be left out: 0.
-pub fn optional_value(
+pub(crate) fn optional_value(
     site: &Site<'_, '_>,
     out: &mut Listing,
     expr: &Option<Expr>,
@@ -278,7 +278,7 @@ fn section<'p>(
 }
 
 /// Writes sections in text order.
-pub fn sections<'p>(
+pub(crate) fn sections<'p>(
     site: &Site<'_, 'p>,
     out: &mut Listing,
     declared: Declared,

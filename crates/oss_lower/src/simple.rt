@@ -32,7 +32,7 @@ use oss_syntax::{
 use std::alloc::{AllocError, Global};
 
 /// Writes a declaration: locals from left to right, each in scope behind its initial value.
-pub fn declare<'p>(
+pub(crate) fn declare<'p>(
     names: &Names<'p>,
     scope: &mut Scope<'p>,
     out: &mut Listing,
@@ -80,7 +80,7 @@ fn instr_of_none(kind: Kind) -> Instr
 }
 
 /// Writes an assignment, by what its left side designates.
-pub fn assign(
+pub(crate) fn assign(
     site: &Site<'_, '_>,
     out: &mut Listing,
     target: &Expr,
@@ -204,7 +204,7 @@ fn fold_by(op: BinOp) -> Option<Op>
 }
 
 /// Writes a call as a statement, whose value is dropped.
-pub fn call_alone(
+pub(crate) fn call_alone(
     site: &Site<'_, '_>,
     out: &mut Listing,
     name: &Name,
@@ -217,7 +217,7 @@ pub fn call_alone(
 }
 
 /// Writes a `printf`: its arguments, and then the print.
-pub fn print(
+pub(crate) fn print(
     site: &Site<'_, '_>,
     out: &mut Listing,
     format: &Bytes,
@@ -242,7 +242,7 @@ fn pieces_in(alloc: Global, format: &[u8]) -> Result<List<Piece>, AllocError>
 }
 
 /// Writes a `return` with a value, which is given.
-pub fn give(
+pub(crate) fn give(
     site: &Site<'_, '_>,
     out: &mut Listing,
     kind: Kind,
@@ -256,7 +256,7 @@ pub fn give(
 }
 
 /// Writes the end of a body: it gives 0.
-pub fn end(out: &mut Listing, line: u32, kind: Kind) -> Result<(), AllocError>
+pub(crate) fn end(out: &mut Listing, line: u32, kind: Kind) -> Result<(), AllocError>
     ensures { OnOk result (out.new ≡ out.old ++ end_code line kind) }
 {
     out.push(Instr::Push(0), line, 0)?;
@@ -265,7 +265,7 @@ pub fn end(out: &mut Listing, line: u32, kind: Kind) -> Result<(), AllocError>
 }
 
 /// Writes a `taskwait` on the cells of these sections.
-pub fn wait_on<'p>(
+pub(crate) fn wait_on<'p>(
     site: &Site<'_, 'p>,
     out: &mut Listing,
     list: &'p [Section],
@@ -282,7 +282,7 @@ pub fn wait_on<'p>(
 }
 
 /// Writes a `release`: its clauses, and then what they declare is released.
-pub fn release<'p>(
+pub(crate) fn release<'p>(
     site: &Site<'_, 'p>,
     out: &mut Listing,
     list: &'p [Clause],

@@ -4,8 +4,8 @@ use crate::scope::Scope;
 
 /// Where an expression stands: the names that it may use, and the line of its statement.
 #[derive(Clone, Copy)]
-pub struct Site<'s, 'p> {
-    pub names: &'s Names<'p>,
-    pub scope: &'s Scope<'p>,
-    pub line: u32,
+pub(crate) struct Site<'s, 'p> {
+    pub(crate) names: &'s Names<'p>,
+    pub(crate) scope: &'s Scope<'p>,
+    pub(crate) line: u32,
 }

@@ -22,7 +22,7 @@ use std::alloc::AllocError;
 
 /// Writes statements in text order, whose declarations stay in scope behind them.
 #[cycle(statements)]
-pub fn statements<'p>(
+pub(crate) fn statements<'p>(
     names: &Names<'p>,
     scope: &mut Scope<'p>,
     out: &mut Listing,

@@ -11,7 +11,7 @@ use oss_meaning::{Found, Target, Typed};
 use oss_syntax::{BinOp, NumKind};
 
 /// A value of this kind, which designates nothing.
-pub fn typed_value(kind: ValueKind) -> Typed
+pub(crate) fn typed_value(kind: ValueKind) -> Typed
     ensures { result ≡ typed_value kind }
 {
     Typed {
@@ -21,7 +21,7 @@ pub fn typed_value(kind: ValueKind) -> Typed
 }
 
 /// A number, unsigned or not.
-pub fn typed_number(unsigned: bool) -> Typed
+pub(crate) fn typed_number(unsigned: bool) -> Typed
     ensures { result ≡ typed_number unsigned }
 {
     if unsigned {
@@ -32,7 +32,7 @@ pub fn typed_number(unsigned: bool) -> Typed
 }
 
 /// A cell of this type, and the number in it.
-pub fn typed_cell(kind: NumKind) -> Typed
+pub(crate) fn typed_cell(kind: NumKind) -> Typed
     ensures { result ≡ typed_cell kind }
 {
     Typed {
@@ -42,7 +42,7 @@ pub fn typed_cell(kind: NumKind) -> Typed
 }
 
 /// A name that stands for this.
-pub fn typed_name(found: Found) -> Typed
+pub(crate) fn typed_name(found: Found) -> Typed
     ensures { result ≡ typed_name found }
 {
     match found {
@@ -62,7 +62,7 @@ pub fn typed_name(found: Found) -> Typed
 }
 
 /// What stands behind a pointer of this kind.
-pub fn typed_pointed(kind: ValueKind) -> Typed
+pub(crate) fn typed_pointed(kind: ValueKind) -> Typed
     ensures { result ≡ typed_pointed kind }
 {
     let target = match kind {
@@ -76,7 +76,7 @@ pub fn typed_pointed(kind: ValueKind) -> Typed
 }
 
 /// The address of what an expression designates.
-pub fn typed_address(target: Target) -> Typed
+pub(crate) fn typed_address(target: Target) -> Typed
     ensures { result ≡ typed_address target }
 {
     match target {
@@ -86,7 +86,7 @@ pub fn typed_address(target: Target) -> Typed
 }
 
 /// The instruction of a binary operator on operands of these kinds.
-pub fn operator(op: BinOp, left: ValueKind, right: ValueKind) -> Instr
+pub(crate) fn operator(op: BinOp, left: ValueKind, right: ValueKind) -> Instr
     ensures { result ≡ operator_by op left right }
 {
     if is_pointer(left) {

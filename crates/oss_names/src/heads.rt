@@ -17,7 +17,7 @@ use std::alloc::AllocError;
 const NO_ROOM: usize = 251;
 
 /// Checks the pragma and the head of a task loop, and puts its locals in scope.
-pub fn enter<'p>(
+pub(crate) fn enter<'p>(
     globals: &Globals<'_>,
     head: &'p LoopHead,
     locals: &mut Locals<'p>,

@@ -18,7 +18,7 @@ use std::alloc::{AllocError, Global};
 const MOST_CELLS: u64 = 1_048_576;
 
 /// Checks a program, and tells the first cell of each global and the number of all cells; or the first rule that it breaks.
-pub fn check(alloc: Global, program: &Program) -> Result<Vec<u32>, Refusal>
+pub(crate) fn check(alloc: Global, program: &Program) -> Result<Vec<u32>, Refusal>
     ensures { IsChecked program.now result }
 {
     let items = program.items.as_slice();

@@ -15,17 +15,17 @@ use oss_syntax::{
 const MOST_SECTIONS: usize = 64;
 
 /// The most locals of a function that are in scope at one place.
-pub const MOST_LOCALS: usize = 255;
+pub(crate) const MOST_LOCALS: usize = 255;
 
 /// The first rule that the clauses of a pragma break.
-pub fn clauses(globals: &Globals<'_>, locals: &Locals<'_>, clauses: &[Clause]) -> Option<Refused>
+pub(crate) fn clauses(globals: &Globals<'_>, locals: &Locals<'_>, clauses: &[Clause]) -> Option<Refused>
     ensures { result ≡ first (clauses_rules globals.now locals.now 0 clauses.now) }
 {
     loop_clauses(globals, locals, locals.len(), clauses)
 }
 
 /// The first rule that the clauses of a task loop break, whose grainsize knows the first `outer` locals alone.
-pub fn loop_clauses(
+pub(crate) fn loop_clauses(
     globals: &Globals<'_>,
     locals: &Locals<'_>,
     outer: usize,
@@ -110,7 +110,7 @@ fn folds(mode: Mode) -> bool
 
 /// The first rule that sections break behind so many others of their pragma; where they break none, there are at most 64
 /// with them. The sections of a reduction name numbers of 64 bits.
-pub fn sections(
+pub(crate) fn sections(
     globals: &Globals<'_>,
     locals: &Locals<'_>,
     fold: bool,
@@ -301,7 +301,7 @@ fn both_ends(
 }
 
 /// The first rule that a number breaks that may be left out.
-pub fn optional(globals: &Globals<'_>, locals: &Locals<'_>, expr: &Option<Expr>) -> Option<Refused>
+pub(crate) fn optional(globals: &Globals<'_>, locals: &Locals<'_>, expr: &Option<Expr>) -> Option<Refused>
     ensures { result ≡ first (optional_rules globals.now locals.now expr.now) }
 {
     match expr {
@@ -401,7 +401,7 @@ fn names_ints(named: Named) -> bool
 }
 
 /// Whether this is the type `int`.
-pub fn is_of_ints(number: NumKind) -> bool
+pub(crate) fn is_of_ints(number: NumKind) -> bool
     ensures { result ≡ is_int number }
 {
     match number {
@@ -412,7 +412,7 @@ pub fn is_of_ints(number: NumKind) -> bool
 }
 
 /// The first rule that the sections of a wait break.
-pub fn wait(
+pub(crate) fn wait(
     globals: &Globals<'_>,
     locals: &Locals<'_>,
     list: &Option<List<Section>>,

@@ -14,7 +14,7 @@ use oss_types::{
 use oss_syntax::{BinOp, Bytes, Expr, Kind, List, Name, NumKind, Refused, RefusedKind};
 
 /// The first rule that an assignment breaks.
-pub fn assignment(
+pub(crate) fn assignment(
     globals: &Globals<'_>,
     locals: &Locals<'_>,
     op: Option<BinOp>,
@@ -81,7 +81,7 @@ fn wanted_by_pointer(op: Option<BinOp>, number: NumKind) -> Option<Wanted>
 }
 
 /// The first rule that a call as a statement breaks.
-pub fn call_statement(
+pub(crate) fn call_statement(
     globals: &Globals<'_>,
     locals: &Locals<'_>,
     line: u32,
@@ -102,7 +102,7 @@ pub fn call_statement(
 
 /// The first rule that a `printf` breaks.
 #[tactic(auto, using(oss_types::proofs::Firsts::firsts))]
-pub fn print(
+pub(crate) fn print(
     globals: &Globals<'_>,
     locals: &Locals<'_>,
     line: u32,
@@ -141,7 +141,7 @@ fn numbers(globals: &Globals<'_>, locals: &Locals<'_>, values: &[Expr]) -> Optio
 
 /// The first rule that a `return` breaks.
 #[tactic(auto, using(oss_types::proofs::Firsts::firsts))]
-pub fn return_statement(
+pub(crate) fn return_statement(
     globals: &Globals<'_>,
     locals: &Locals<'_>,
     around: Around,
@@ -172,7 +172,7 @@ fn is_wrong_for(kind: Kind, value: &Option<Expr>) -> bool
 }
 
 /// The first rule that a value breaks that a variable of this type takes, where there is one.
-pub fn optional_for(
+pub(crate) fn optional_for(
     globals: &Globals<'_>,
     locals: &Locals<'_>,
     kind: Kind,

@@ -29,7 +29,7 @@ fn told(broken: Option<Refused>) -> Result<(), Refusal>
 }
 
 /// Declares locals one after the other, which stay in scope behind their declaration.
-pub fn declare<'p>(
+pub(crate) fn declare<'p>(
     globals: &Globals<'_>,
     start: usize,
     declared: &'p [Local],
@@ -81,7 +81,7 @@ fn refusal_of_local(
 
 /// Checks statements in order, whose declarations stay in scope behind them.
 #[cycle(statements)]
-pub fn statements<'p>(
+pub(crate) fn statements<'p>(
     globals: &Globals<'_>,
     around: Around,
     list: &'p [Stmt],

@@ -63,7 +63,7 @@ fn program_item_begins(token: &Token) -> bool
 }
 
 /// Whether a simple statement begins here.
-pub fn begins_with_simple(tokens: &Cursor<'_>) -> bool
+pub(crate) fn begins_with_simple(tokens: &Cursor<'_>) -> bool
     ensures { result ≡ begins begins_simple tokens.now }
 {
     match tokens.left().first() {
@@ -73,7 +73,7 @@ pub fn begins_with_simple(tokens: &Cursor<'_>) -> bool
 }
 
 /// Whether the type of numbers begins here.
-pub fn begins_with_kind(tokens: &Cursor<'_>) -> bool
+pub(crate) fn begins_with_kind(tokens: &Cursor<'_>) -> bool
     ensures { result ≡ begins begins_kind tokens.now }
 {
     match tokens.left().first() {
@@ -83,7 +83,7 @@ pub fn begins_with_kind(tokens: &Cursor<'_>) -> bool
 }
 
 /// Whether a statement begins here.
-pub fn begins_with_statement(tokens: &Cursor<'_>) -> bool
+pub(crate) fn begins_with_statement(tokens: &Cursor<'_>) -> bool
     ensures { result ≡ begins begins_statement tokens.now }
 {
     match tokens.left().first() {
@@ -93,7 +93,7 @@ pub fn begins_with_statement(tokens: &Cursor<'_>) -> bool
 }
 
 /// Whether a statement or a declaration begins here.
-pub fn begins_with_item(tokens: &Cursor<'_>) -> bool
+pub(crate) fn begins_with_item(tokens: &Cursor<'_>) -> bool
     ensures { result ≡ begins begins_item tokens.now }
 {
     match tokens.left().first() {
@@ -103,7 +103,7 @@ pub fn begins_with_item(tokens: &Cursor<'_>) -> bool
 }
 
 /// Whether an item of a program begins here.
-pub fn begins_with_program_item(tokens: &Cursor<'_>) -> bool
+pub(crate) fn begins_with_program_item(tokens: &Cursor<'_>) -> bool
     ensures { result ≡ begins begins_program_item tokens.now }
 {
     match tokens.left().first() {

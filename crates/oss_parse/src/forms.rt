@@ -21,13 +21,13 @@ use std::alloc::Global;
 /// The parts between the brackets of a `for`, each of which may be left out. Its statements are boxed as soon as they are read, as
 /// the tree holds them.
 #[derive(Drop)]
-pub struct ForParts {
+pub(crate) struct ForParts {
     /// What is done before the loop.
-    pub first: Option<Boxed<Stmt>>,
+    pub(crate) first: Option<Boxed<Stmt>>,
     /// What is tested before each round.
-    pub test: Option<Expr>,
+    pub(crate) test: Option<Expr>,
     /// What is done behind each round.
-    pub last: Option<Boxed<Stmt>>,
+    pub(crate) last: Option<Boxed<Stmt>>,
 }
 
 /// [ expr ]
@@ -116,7 +116,7 @@ fn for_parts(alloc: Global, tokens: &mut Cursor<'_>) -> Result<ForParts, Unread>
 
 /// "for" "(" parts ")"
 #[tactic(auto, unfolding(crate::specs::StatementReading::read_for_head))]
-pub fn for_head(alloc: Global, tokens: &mut Cursor<'_>) -> Result<(u32, ForParts), Unread>
+pub(crate) fn for_head(alloc: Global, tokens: &mut Cursor<'_>) -> Result<(u32, ForParts), Unread>
     ensures { ReadsAs (read_for_head read_expression tokens.old) result tokens.new }
 {
     let line = keyword(b"for", tokens)?;
@@ -127,7 +127,7 @@ pub fn for_head(alloc: Global, tokens: &mut Cursor<'_>) -> Result<(u32, ForParts
 
 /// A keyword with its line, and the test in brackets behind it.
 #[tactic(auto, unfolding(crate::specs::StatementReading::read_head, oss_expressions::specs::ExpressionReading::read_brackets))]
-pub fn head(alloc: Global, word: &[u8], tokens: &mut Cursor<'_>) -> Result<(u32, Expr), Unread>
+pub(crate) fn head(alloc: Global, word: &[u8], tokens: &mut Cursor<'_>) -> Result<(u32, Expr), Unread>
     ensures { ReadsAs (read_head word.now read_expression tokens.old) result tokens.new }
 {
     let line = keyword(word, tokens)?;
@@ -237,7 +237,7 @@ fn loop_parts(
 
 /// The same, behind the pragma of a task loop.
 #[tactic(auto, unfolding(crate::specs::StatementReading::read_loop_head))]
-pub fn loop_head(alloc: Global, mark: TaskMark, tokens: &mut Cursor<'_>) -> Result<LoopHead, Unread>
+pub(crate) fn loop_head(alloc: Global, mark: TaskMark, tokens: &mut Cursor<'_>) -> Result<LoopHead, Unread>
     ensures { ReadsAs (read_loop_head read_expression mark tokens.old) result tokens.new }
 {
     let ((for_line, variable), (first, (tested, (end, stepped)))) = loop_parts(alloc, tokens)?;
@@ -258,7 +258,7 @@ pub fn loop_head(alloc: Global, mark: TaskMark, tokens: &mut Cursor<'_>) -> Resu
 
 /// ";"
 #[tactic(auto, unfolding(crate::specs::StatementReading::read_empty))]
-pub fn empty(tokens: &mut Cursor<'_>) -> Result<Stmt, Unread>
+pub(crate) fn empty(tokens: &mut Cursor<'_>) -> Result<Stmt, Unread>
     ensures { ReadsAs (read_empty tokens.old) result tokens.new }
 {
     let line = tokens.symbol(b";")?;
@@ -269,7 +269,7 @@ pub fn empty(tokens: &mut Cursor<'_>) -> Result<Stmt, Unread>
 }
 
 /// decl ";"
-pub fn declaration_statement(alloc: Global, tokens: &mut Cursor<'_>) -> Result<Stmt, Unread>
+pub(crate) fn declaration_statement(alloc: Global, tokens: &mut Cursor<'_>) -> Result<Stmt, Unread>
     ensures { ReadsAs (read_mapped former (read_both (read_declaration read_expression) (read_one (symbol_at (codes ";")))) tokens.old) result tokens.new }
 {
     let statement = declaration(alloc, tokens)?;
@@ -284,7 +284,7 @@ pub fn declaration_statement(alloc: Global, tokens: &mut Cursor<'_>) -> Result<S
 
 /// simple ";"
 #[tactic(auto, unfolding(crate::specs::StatementReading::read_simple_statement))]
-pub fn simple_statement(alloc: Global, tokens: &mut Cursor<'_>) -> Result<Stmt, Unread>
+pub(crate) fn simple_statement(alloc: Global, tokens: &mut Cursor<'_>) -> Result<Stmt, Unread>
     ensures { ReadsAs (read_simple_statement read_expression tokens.old) result tokens.new }
 {
     let statement = simple(alloc, tokens)?;
@@ -299,7 +299,7 @@ pub fn simple_statement(alloc: Global, tokens: &mut Cursor<'_>) -> Result<Stmt, 
 
 /// "return" [ expr ] ";"
 #[tactic(auto, unfolding(crate::specs::StatementReading::read_return))]
-pub fn return_statement(alloc: Global, tokens: &mut Cursor<'_>) -> Result<Stmt, Unread>
+pub(crate) fn return_statement(alloc: Global, tokens: &mut Cursor<'_>) -> Result<Stmt, Unread>
     ensures { ReadsAs (read_return read_expression tokens.old) result tokens.new }
 {
     let line = keyword(b"return", tokens)?;
@@ -318,7 +318,7 @@ pub fn return_statement(alloc: Global, tokens: &mut Cursor<'_>) -> Result<Stmt, 
 
 /// "break" ";"
 #[tactic(auto, unfolding(crate::specs::StatementReading::read_break))]
-pub fn break_statement(tokens: &mut Cursor<'_>) -> Result<Stmt, Unread>
+pub(crate) fn break_statement(tokens: &mut Cursor<'_>) -> Result<Stmt, Unread>
     ensures { ReadsAs (read_break tokens.old) result tokens.new }
 {
     let line = keyword(b"break", tokens)?;
@@ -331,7 +331,7 @@ pub fn break_statement(tokens: &mut Cursor<'_>) -> Result<Stmt, Unread>
 
 /// "continue" ";"
 #[tactic(auto, unfolding(crate::specs::StatementReading::read_continue))]
-pub fn continue_statement(tokens: &mut Cursor<'_>) -> Result<Stmt, Unread>
+pub(crate) fn continue_statement(tokens: &mut Cursor<'_>) -> Result<Stmt, Unread>
     ensures { ReadsAs (read_continue tokens.old) result tokens.new }
 {
     let line = keyword(b"continue", tokens)?;
@@ -356,7 +356,7 @@ fn printed(alloc: Global, tokens: &mut Cursor<'_>) -> Result<List<Expr>, Unread>
 
 /// "printf" "(" string { "," expr } ")" ";"
 #[tactic(auto, unfolding(crate::specs::StatementReading::read_print))]
-pub fn print(alloc: Global, tokens: &mut Cursor<'_>) -> Result<Stmt, Unread>
+pub(crate) fn print(alloc: Global, tokens: &mut Cursor<'_>) -> Result<Stmt, Unread>
     ensures { ReadsAs (read_print read_expression tokens.old) result tokens.new }
 {
     let line = keyword(b"printf", tokens)?;

@@ -463,7 +463,7 @@ fn program_items(alloc: Global, tokens: &mut Cursor<'_>) -> Result<List<Item>, U
 }
 
 /// A program, with at most 64 levels of statements.
-pub fn program(alloc: Global, tokens: &mut Cursor<'_>) -> Result<Program, Unread>
+pub(crate) fn program(alloc: Global, tokens: &mut Cursor<'_>) -> Result<Program, Unread>
     ensures { ReadsAs (read_program tokens.old) result tokens.new }
 {
     match program_items(alloc, tokens) {

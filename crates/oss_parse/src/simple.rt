@@ -40,7 +40,7 @@ fn next_value(alloc: Global, tokens: &mut Cursor<'_>) -> Result<Expr, Unread>
 }
 
 /// { "," expr }, behind the expressions that were found
-pub fn more_values(
+pub(crate) fn more_values(
     alloc: Global,
     mut found: List<Expr>,
     tokens: &mut Cursor<'_>,
@@ -269,7 +269,7 @@ fn simple_from(alloc: Global, name: Named, tokens: &mut Cursor<'_>) -> Result<St
 
 /// lvalue assign expr | lvalue ( "++" | "--" ) | ( "++" | "--" ) lvalue | name "(" arguments ")"
 #[tactic(auto, unfolding(crate::specs::SimpleReading::read_simple))]
-pub fn simple(alloc: Global, tokens: &mut Cursor<'_>) -> Result<Stmt, Unread>
+pub(crate) fn simple(alloc: Global, tokens: &mut Cursor<'_>) -> Result<Stmt, Unread>
     ensures { ReadsAs (read_simple read_expression tokens.old) result tokens.new }
 {
     if begins_with_step(tokens) {
@@ -285,7 +285,7 @@ pub fn simple(alloc: Global, tokens: &mut Cursor<'_>) -> Result<Stmt, Unread>
 
 /// "int" | "long" | "unsigned" "long", with its line
 #[tactic(auto, unfolding(crate::specs::SimpleReading::read_num_kind))]
-pub fn num_kind(tokens: &mut Cursor<'_>) -> Result<(NumKind, u32), Unread>
+pub(crate) fn num_kind(tokens: &mut Cursor<'_>) -> Result<(NumKind, u32), Unread>
     ensures { ReadsAs (read_num_kind tokens.old) result tokens.new }
 {
     if begins_with_single_kind(tokens) {
@@ -298,7 +298,7 @@ pub fn num_kind(tokens: &mut Cursor<'_>) -> Result<(NumKind, u32), Unread>
 
 /// [ "*" ] name
 #[tactic(auto, unfolding(crate::specs::SimpleReading::read_declared))]
-pub fn declared(
+pub(crate) fn declared(
     alloc: Global,
     numbers: NumKind,
     tokens: &mut Cursor<'_>,
@@ -377,7 +377,7 @@ fn locals(alloc: Global, numbers: NumKind, tokens: &mut Cursor<'_>) -> Result<Li
 
 /// type ldecl { "," ldecl }
 #[tactic(auto, unfolding(crate::specs::SimpleReading::read_declaration))]
-pub fn declaration(alloc: Global, tokens: &mut Cursor<'_>) -> Result<Stmt, Unread>
+pub(crate) fn declaration(alloc: Global, tokens: &mut Cursor<'_>) -> Result<Stmt, Unread>
     ensures { ReadsAs (read_declaration read_expression tokens.old) result tokens.new }
 {
     let (numbers, line) = num_kind(tokens)?;

@@ -338,7 +338,7 @@ fn parts(alloc: Global, levels: u32, tokens: &mut Cursor<'_>) -> Result<List<Stm
 }
 
 /// { decl ";" | stmt }, with at most 64 levels
-pub fn body(alloc: Global, tokens: &mut Cursor<'_>) -> Result<List<Stmt>, Unread>
+pub(crate) fn body(alloc: Global, tokens: &mut Cursor<'_>) -> Result<List<Stmt>, Unread>
     ensures { ReadsAs (read_body tokens.old) result tokens.new }
 {
     parts(alloc, MOST_LEVELS, tokens)

@@ -35,7 +35,7 @@ fn text_of(alloc: Global, what: &TokenKind) -> Result<Bytes, Unread>
 
 /// The assignment that this is: `=` has no operator, a compound one has its own.
 #[tactic(auto, unfolding(oss_grammar::specs::SimpleStatements::assignment_of))]
-pub fn assignment_of(what: &TokenKind) -> Option<Option<BinOp>>
+pub(crate) fn assignment_of(what: &TokenKind) -> Option<Option<BinOp>>
     ensures { result ≡ assignment_of what.now }
 {
     if symbol_is(b"=", what) {
@@ -67,7 +67,7 @@ pub fn assignment_of(what: &TokenKind) -> Option<Option<BinOp>>
 
 /// The operator of the step that this is.
 #[tactic(auto, unfolding(oss_grammar::specs::SimpleStatements::step_of))]
-pub fn step_of(what: &TokenKind) -> Option<BinOp>
+pub(crate) fn step_of(what: &TokenKind) -> Option<BinOp>
     ensures { result ≡ step_of what.now }
 {
     if symbol_is(b"++", what) {
@@ -80,7 +80,7 @@ pub fn step_of(what: &TokenKind) -> Option<BinOp>
 }
 
 /// The type of one word that a token is, with its line.
-pub fn single_kind_of(token: &Token) -> Option<(NumKind, u32)>
+pub(crate) fn single_kind_of(token: &Token) -> Option<(NumKind, u32)>
     ensures { result ≡ single_kind_at token.now }
 {
     if keyword_is(b"int", &token.what) {
@@ -93,7 +93,7 @@ pub fn single_kind_of(token: &Token) -> Option<(NumKind, u32)>
 }
 
 /// The line of the next token, and 0 at the end.
-pub fn first_line(tokens: &Cursor<'_>) -> u32
+pub(crate) fn first_line(tokens: &Cursor<'_>) -> u32
     ensures { result ≡ first_line tokens.now }
 {
     match tokens.left().first() {
@@ -103,7 +103,7 @@ pub fn first_line(tokens: &Cursor<'_>) -> u32
 }
 
 /// Takes this keyword, and answers its line.
-pub fn keyword(keyword: &[u8], tokens: &mut Cursor<'_>) -> Result<u32, Unread>
+pub(crate) fn keyword(keyword: &[u8], tokens: &mut Cursor<'_>) -> Result<u32, Unread>
     ensures { ReadsAs (read_one (keyword_at keyword.now) tokens.old) result tokens.new }
 {
     let Some((token, rest)) = tokens.left().split_first() else {
@@ -117,7 +117,7 @@ pub fn keyword(keyword: &[u8], tokens: &mut Cursor<'_>) -> Result<u32, Unread>
 }
 
 /// Takes an assignment's operator.
-pub fn assignment(tokens: &mut Cursor<'_>) -> Result<Option<BinOp>, Unread>
+pub(crate) fn assignment(tokens: &mut Cursor<'_>) -> Result<Option<BinOp>, Unread>
     ensures { ReadsAs (read_one assignment_at tokens.old) result tokens.new }
 {
     let Some((token, rest)) = tokens.left().split_first() else {
@@ -131,7 +131,7 @@ pub fn assignment(tokens: &mut Cursor<'_>) -> Result<Option<BinOp>, Unread>
 }
 
 /// Takes a step, and answers its operator and its line.
-pub fn step(tokens: &mut Cursor<'_>) -> Result<(BinOp, u32), Unread>
+pub(crate) fn step(tokens: &mut Cursor<'_>) -> Result<(BinOp, u32), Unread>
     ensures { ReadsAs (read_one step_at tokens.old) result tokens.new }
 {
     let Some((token, rest)) = tokens.left().split_first() else {
@@ -145,7 +145,7 @@ pub fn step(tokens: &mut Cursor<'_>) -> Result<(BinOp, u32), Unread>
 }
 
 /// Takes a type of one word, and answers its line too.
-pub fn single_kind(tokens: &mut Cursor<'_>) -> Result<(NumKind, u32), Unread>
+pub(crate) fn single_kind(tokens: &mut Cursor<'_>) -> Result<(NumKind, u32), Unread>
     ensures { ReadsAs (read_one single_kind_at tokens.old) result tokens.new }
 {
     let Some((token, rest)) = tokens.left().split_first() else {
@@ -159,7 +159,7 @@ pub fn single_kind(tokens: &mut Cursor<'_>) -> Result<(NumKind, u32), Unread>
 }
 
 /// Takes a number, and answers its value.
-pub fn value(tokens: &mut Cursor<'_>) -> Result<u64, Unread>
+pub(crate) fn value(tokens: &mut Cursor<'_>) -> Result<u64, Unread>
     ensures { ReadsAs (read_one value_at tokens.old) result tokens.new }
 {
     let Some((token, rest)) = tokens.left().split_first() else {
@@ -173,7 +173,7 @@ pub fn value(tokens: &mut Cursor<'_>) -> Result<u64, Unread>
 }
 
 /// Takes a string, and answers its bytes.
-pub fn text(alloc: Global, tokens: &mut Cursor<'_>) -> Result<Bytes, Unread>
+pub(crate) fn text(alloc: Global, tokens: &mut Cursor<'_>) -> Result<Bytes, Unread>
     ensures { ReadsAs (read_one text_at tokens.old) result tokens.new }
 {
     let Some((token, rest)) = tokens.left().split_first() else {
@@ -185,7 +185,7 @@ pub fn text(alloc: Global, tokens: &mut Cursor<'_>) -> Result<Bytes, Unread>
 }
 
 /// Whether the next token is this keyword; it stays.
-pub fn begins_with_keyword(keyword: &[u8], tokens: &Cursor<'_>) -> bool
+pub(crate) fn begins_with_keyword(keyword: &[u8], tokens: &Cursor<'_>) -> bool
     ensures { result ≡ begins (has (keyword_at keyword.now)) tokens.now }
 {
     match tokens.left().first() {
@@ -195,7 +195,7 @@ pub fn begins_with_keyword(keyword: &[u8], tokens: &Cursor<'_>) -> bool
 }
 
 /// Whether the next token is a step; it stays.
-pub fn begins_with_step(tokens: &Cursor<'_>) -> bool
+pub(crate) fn begins_with_step(tokens: &Cursor<'_>) -> bool
     ensures { result ≡ begins (has step_at) tokens.now }
 {
     match tokens.left().first() {
@@ -205,7 +205,7 @@ pub fn begins_with_step(tokens: &Cursor<'_>) -> bool
 }
 
 /// Whether the next token is a type of one word; it stays.
-pub fn begins_with_single_kind(tokens: &Cursor<'_>) -> bool
+pub(crate) fn begins_with_single_kind(tokens: &Cursor<'_>) -> bool
     ensures { result ≡ begins (has single_kind_at) tokens.now }
 {
     match tokens.left().first() {
@@ -215,7 +215,7 @@ pub fn begins_with_single_kind(tokens: &Cursor<'_>) -> bool
 }
 
 /// Whether the next token is a name; it stays.
-pub fn begins_with_name(tokens: &Cursor<'_>) -> bool
+pub(crate) fn begins_with_name(tokens: &Cursor<'_>) -> bool
     ensures { result ≡ begins (has name_at) tokens.now }
 {
     match tokens.left().first() {
@@ -225,7 +225,7 @@ pub fn begins_with_name(tokens: &Cursor<'_>) -> bool
 }
 
 /// Whether the next token is the first one of a pragma; it stays.
-pub fn begins_with_start(tokens: &Cursor<'_>) -> bool
+pub(crate) fn begins_with_start(tokens: &Cursor<'_>) -> bool
     ensures { result ≡ begins (has start_at) tokens.now }
 {
     match tokens.left().first() {

@@ -19,7 +19,7 @@ use std::alloc::Global;
 
 /// The word of an access, and its sections.
 #[tactic(auto, unfolding(crate::specs::PragmaReading::read_depend))]
-pub fn depend(alloc: Global, tokens: &mut Cursor<'_>) -> Result<Clause, Unread>
+pub(crate) fn depend(alloc: Global, tokens: &mut Cursor<'_>) -> Result<Clause, Unread>
     ensures { ReadsAs (read_depend read_expression tokens.old) result tokens.new }
 {
     let (mode, strong, fresh) = tokens.access()?;
@@ -233,7 +233,7 @@ fn goes_on(kind: TaskKind, found: &Found, tokens: &Cursor<'_>) -> bool
 }
 
 /// { [ "," ] clause }
-pub fn clauses(
+pub(crate) fn clauses(
     alloc: Global,
     kind: TaskKind,
     tokens: &mut Cursor<'_>,

@@ -14,7 +14,7 @@ use std::marker::Model;
 
 /// Clauses, and which of those stand among them that a task or a task loop has once at most. Contracts see the list of the clauses.
 #[derive(Drop)]
-pub struct Found {
+pub(crate) struct Found {
     clauses: List<Clause>,
     condition: bool,
     last: bool,
@@ -42,7 +42,7 @@ impl Model for Found {
 
 impl Found {
     /// No clause.
-    pub fn new(alloc: Global) -> Found
+    pub(crate) fn new(alloc: Global) -> Found
         ensures { result ≡ [] }
     {
         Found {
@@ -71,7 +71,7 @@ impl Found {
     }
 
     /// Whether such a clause may stand no more: it was found, or it is the grainsize of a task.
-    pub fn bars(&self, kind: TaskKind, once: Once) -> bool
+    pub(crate) fn bars(&self, kind: TaskKind, once: Once) -> bool
         ensures { result ≡ stands (single_of once) (counted_with kind self.now) }
     {
         match kind {
@@ -81,7 +81,7 @@ impl Found {
     }
 
     /// Adds a clause at the end.
-    pub fn push(&mut self, clause: Clause) -> Result<(), AllocError>
+    pub(crate) fn push(&mut self, clause: Clause) -> Result<(), AllocError>
         ensures { OnOk result (self.new ≡ self.old ++ clause ∷ []) }
     {
         let condition = either(self.condition, stands_once(Once::If, &clause));
@@ -101,7 +101,7 @@ impl Found {
     }
 
     /// The clauses in their order.
-    pub fn into_list(self) -> List<Clause>
+    pub(crate) fn into_list(self) -> List<Clause>
         ensures { result ≡ self }
     {
         let Found { clauses, .. } = self;
@@ -109,7 +109,7 @@ impl Found {
     }
 
     /// Whether a token is the word of a clause that stands once at most, and may still stand.
-    pub fn awaits(&self, kind: TaskKind, once: Once, token: &Token) -> bool
+    pub(crate) fn awaits(&self, kind: TaskKind, once: Once, token: &Token) -> bool
         ensures { result ≡ has (single_at (single_of once) (counted_with kind self.now)) token.now }
     {
         !self.bars(kind, once) && once_is(once, &token.what)

@@ -374,7 +374,7 @@ fn more_sections(
 
 /// section { "," section }
 #[tactic(auto, unfolding(crate::specs::PragmaReading::read_sections))]
-pub fn sections(alloc: Global, tokens: &mut Cursor<'_>) -> Result<List<Section>, Unread>
+pub(crate) fn sections(alloc: Global, tokens: &mut Cursor<'_>) -> Result<List<Section>, Unread>
     ensures { ReadsAs (read_sections read_expression tokens.old) result tokens.new }
 {
     let first = section(alloc, tokens)?;
@@ -385,7 +385,7 @@ pub fn sections(alloc: Global, tokens: &mut Cursor<'_>) -> Result<List<Section>,
 
 /// "(" sections ")"
 #[tactic(auto, unfolding(crate::specs::PragmaReading::read_bracketed_sections))]
-pub fn bracketed_sections(alloc: Global, tokens: &mut Cursor<'_>) -> Result<List<Section>, Unread>
+pub(crate) fn bracketed_sections(alloc: Global, tokens: &mut Cursor<'_>) -> Result<List<Section>, Unread>
     ensures { ReadsAs (read_bracketed_sections read_expression tokens.old) result tokens.new }
 {
     tokens.symbol(b"(")?;

@@ -9,7 +9,7 @@ use std::mem;
 /// A balanced tree of pieces that lie one behind the other: contracts see them in their order.
 #[cycle(tree)]
 #[derive(Drop)]
-pub struct Tree<T: Copy> {
+pub(crate) struct Tree<T: Copy> {
     root: Root<T>,
 }
 
@@ -23,7 +23,7 @@ enum Root<T: Copy> {
 /// A node of a tree. One that is in no tree has no piece and no sides.
 #[cycle(tree)]
 #[derive(Drop)]
-pub struct Node<T: Copy> {
+pub(crate) struct Node<T: Copy> {
     left: Tree<T>,
     piece: Option<Piece<T>>,
     height: u32,
@@ -51,7 +51,7 @@ impl<T: Copy> Model for Tree<T> {
 
 impl<T: Copy> Tree<T> {
     /// A tree without pieces.
-    pub fn new() -> Tree<T>
+    pub(crate) fn new() -> Tree<T>
         ensures { result ≡ [] }
     {
         Tree { root: Root::Leaf }
@@ -74,7 +74,7 @@ impl<T: Copy> Tree<T> {
     }
 
     /// The first piece that ends behind a cell.
-    pub fn next(&self, cell: u32) -> Option<Piece<T>>
+    pub(crate) fn next(&self, cell: u32) -> Option<Piece<T>>
         ensures { result ≡ next_of cell self.now }
     {
         match &self.root {
@@ -102,7 +102,7 @@ fn first_of<T: Copy>(first: Option<Piece<T>>, own: Piece<T>) -> Option<Piece<T>>
 
 impl<T: Copy> Node<T> {
     /// A node that is in no tree.
-    pub fn spare() -> Node<T>
+    pub(crate) fn spare() -> Node<T>
         ensures { result.piece ≡ None }
     {
         Node {
@@ -264,7 +264,7 @@ fn joined<T: Copy>(left: Tree<T>, right: Tree<T>) -> Tree<T>
 
 impl<T: Copy> Tree<T> {
     /// The tree with one more piece, in this node.
-    pub fn with(self, piece: Piece<T>, node: Box<Node<T>>) -> Tree<T>
+    pub(crate) fn with(self, piece: Piece<T>, node: Box<Node<T>>) -> Tree<T>
         requires { Rises 0 (inserted piece self) 1048576 }
         ensures { result ≡ inserted piece self }
     {
@@ -300,7 +300,7 @@ impl<T: Copy> Tree<T> {
     }
 
     /// The tree without the first piece that ends behind a cell, and the node that this piece had.
-    pub fn without(self, cell: u32) -> (Option<Box<Node<T>>>, Tree<T>)
+    pub(crate) fn without(self, cell: u32) -> (Option<Box<Node<T>>>, Tree<T>)
         ensures pieces { result.1 ≡ removed cell self }
         ensures node { is_some result.0 ≡ is_some (next_of cell self) }
     {

@@ -6,7 +6,7 @@ ghost use Rattle.oss_model.specs.Texts.{fault_word, refused_word};
 use oss_syntax::{FaultKind, RefusedKind};
 
 /// The word for a kind of fault.
-pub fn word_of_fault(kind: FaultKind) -> &'static [u8]
+pub(crate) fn word_of_fault(kind: FaultKind) -> &'static [u8]
     ensures { result.now ≡ fault_word kind }
 {
     match kind {
@@ -27,7 +27,7 @@ pub fn word_of_fault(kind: FaultKind) -> &'static [u8]
 }
 
 /// The word for a kind of refusal.
-pub fn word_of_refusal(kind: RefusedKind) -> &'static [u8]
+pub(crate) fn word_of_refusal(kind: RefusedKind) -> &'static [u8]
     ensures { result.now ≡ refused_word kind }
 {
     match kind {

@@ -23,7 +23,7 @@ fn behind_first(text: &[u8]) -> &[u8]
 
 /// The word before the first blank of a text, and what stands behind that blank; `None` where there is no blank.
 #[tactic(auto, unfolding(crate::specs::Reading::cut_at))]
-pub fn cut(text: &[u8]) -> Option<(&[u8], &[u8])>
+pub(crate) fn cut(text: &[u8]) -> Option<(&[u8], &[u8])>
     ensures { MatchOption result (cut_at text.now ≡ None) (λ parts. cut_at text.now ≡ Some (parts.0.now, parts.1.now)) }
 {
     let (word, rest) = text.split_at(front_len(b' ', text));
@@ -33,7 +33,7 @@ pub fn cut(text: &[u8]) -> Option<(&[u8], &[u8])>
 
 /// The first line of a text, and the text behind it; `None` where the text is at its end.
 #[tactic(auto, using(crate::proofs::LineLemmas::first_line_is))]
-pub fn first_line(text: &[u8]) -> Option<(&[u8], &[u8])>
+pub(crate) fn first_line(text: &[u8]) -> Option<(&[u8], &[u8])>
     ensures lines { MatchOption result (text.now ≡ []) (λ parts. lines_of text.now ≡ parts.0.now ∷ lines_of parts.1.now) }
     ensures shorter { IfSome result (λ parts. length parts.1.now < length text.now) }
 {

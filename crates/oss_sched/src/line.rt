@@ -16,7 +16,7 @@ const MOST_CELLS: u64 = 1_048_576;
 
 /// What a line tells.
 #[tactic(auto, unfolding(crate::specs::Reading::told_in))]
-pub fn read_line(alloc: Global, line: &[u8]) -> Result<Told, AllocError>
+pub(crate) fn read_line(alloc: Global, line: &[u8]) -> Result<Told, AllocError>
     ensures { IfOk result (λ told. told ≡ told_in line.now) }
 {
     if is_silent(line) {

@@ -2,7 +2,7 @@ use crate::moves::TextMove;
 
 /// What a line tells.
 #[derive(Drop)]
-pub enum Told {
+pub(crate) enum Told {
     /// Nothing: it is empty or a comment.
     Nothing,
     /// A move.
@@ -13,7 +13,7 @@ pub enum Told {
 
 /// The moves that name cells.
 #[derive(Clone, Copy)]
-pub enum CellVerb {
+pub(crate) enum CellVerb {
     /// Giving cells up.
     Let,
     /// Joining slots to cells.

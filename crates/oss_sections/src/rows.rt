@@ -8,7 +8,7 @@ use oss_syntax::{List, Range};
 use std::alloc::Global;
 
 /// The range of so many cells from one on, if it has a cell.
-pub fn one_range(alloc: Global, first: u32, size: u32) -> Result<List<Range>, SectionRefused>
+pub(crate) fn one_range(alloc: Global, first: u32, size: u32) -> Result<List<Range>, SectionRefused>
     requires { first + size ≤ 1048576 }
     ensures { IsTold (Ok (range_with_len first size)) result }
 {
@@ -23,7 +23,7 @@ pub fn one_range(alloc: Global, first: u32, size: u32) -> Result<List<Range>, Se
 }
 
 /// The ranges of `size` cells in each of so many rows, from the cell `first` of the first of them on. Whole rows are one range.
-pub fn ranges_of_rows(
+pub(crate) fn ranges_of_rows(
     alloc: Global,
     columns: u32,
     size: u32,

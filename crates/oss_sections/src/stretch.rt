@@ -7,22 +7,22 @@ use crate::base::Part;
 
 /// Where a part of a dimension begins and how many elements it has, exactly: `3:1` begins at 3 and has -1 elements.
 #[derive(Clone, Copy)]
-pub struct Stretch {
-    pub from: i64,
-    pub size: i128,
+pub(crate) struct Stretch {
+    pub(crate) from: i64,
+    pub(crate) size: i128,
 }
 
 /// A stretch of which each element is one of its dimension.
 #[derive(Clone, Copy)]
-pub struct Inside {
+pub(crate) struct Inside {
     /// The number of its first element, counted from 0.
-    pub first: u32,
+    pub(crate) first: u32,
     /// How many elements it has.
-    pub size: u32,
+    pub(crate) size: u32,
 }
 
 /// The stretch of a part of a dimension of `count` elements, seen from the element `index`.
-pub fn stretch_of_part(count: u32, index: u64, part: Part) -> Stretch
+pub(crate) fn stretch_of_part(count: u32, index: u64, part: Part) -> Stretch
     ensures { meant_stretch result ≡ stretch_of count index (meant_part part) }
 {
     match part {
@@ -75,7 +75,7 @@ fn size_of_span(first: i64, last: i64) -> i128
 }
 
 /// All columns of an array with so many.
-pub fn whole_row(columns: u32) -> Stretch
+pub(crate) fn whole_row(columns: u32) -> Stretch
     ensures { meant_stretch result ≡ all_columns columns }
 {
     Stretch {
@@ -86,14 +86,14 @@ pub fn whole_row(columns: u32) -> Stretch
 
 impl Stretch {
     /// Whether it has less than no element.
-    pub fn is_negative(&self) -> bool
+    pub(crate) fn is_negative(&self) -> bool
         ensures { result ≡ is_negative_size (meant_stretch self.now) }
     {
         self.size < 0
     }
 
     /// Whether it has no element, or less.
-    pub fn is_empty(&self) -> bool
+    pub(crate) fn is_empty(&self) -> bool
         ensures { result ≡ is_empty (meant_stretch self.now) }
     {
         self.size <= 0
@@ -101,7 +101,7 @@ impl Stretch {
 
     /// The stretch in a dimension of `count` elements; `None` where it has an element that is none of these. Condition: it has no
     /// negative length.
-    pub fn within(&self, count: u32) -> Option<Inside>
+    pub(crate) fn within(&self, count: u32) -> Option<Inside>
         requires { is_negative_size (meant_stretch self.now) ≡ false }
         ensures { IsWithin count (meant_stretch self.now) result }
     {

@@ -5,20 +5,20 @@ ghost use Rattle.oss_span.specs.Bests.{better, better_mark, no_best, no_mark};
 
 /// A longest chain: its ticks, and the node that is its end. Where the node is that of a cell that is given up, the cell is told beside it.
 #[derive(Clone, Copy, PartialEq, Eq)]
-pub struct Mark {
-    pub ticks: u64,
-    pub end: Option<usize>,
+pub(crate) struct Mark {
+    pub(crate) ticks: u64,
+    pub(crate) end: Option<usize>,
 }
 
 /// A longest chain with the cell of its end, which says nothing where the end is an act.
 #[derive(Clone, Copy)]
-pub struct Best {
-    pub mark: Mark,
-    pub cell: u32,
+pub(crate) struct Best {
+    pub(crate) mark: Mark,
+    pub(crate) cell: u32,
 }
 
 /// No chain.
-pub fn no_mark() -> Mark
+pub(crate) fn no_mark() -> Mark
     ensures { result ≡ no_mark }
 {
     Mark {
@@ -28,7 +28,7 @@ pub fn no_mark() -> Mark
 }
 
 /// No chain.
-pub fn no_best() -> Best
+pub(crate) fn no_best() -> Best
     ensures { result ≡ no_best }
 {
     Best {
@@ -39,7 +39,7 @@ pub fn no_best() -> Best
 
 impl Mark {
     /// The one with more ticks.
-    pub fn or(self, other: Mark) -> Mark
+    pub(crate) fn or(self, other: Mark) -> Mark
         ensures { result ≡ better_mark self other }
     {
         if self.ticks < other.ticks {
@@ -52,7 +52,7 @@ impl Mark {
 
 impl Best {
     /// The one with more ticks.
-    pub fn or(self, other: Best) -> Best
+    pub(crate) fn or(self, other: Best) -> Best
         ensures { result ≡ better self other }
     {
         if self.mark.ticks < other.mark.ticks {

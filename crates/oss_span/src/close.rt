@@ -15,14 +15,14 @@ use std::alloc::{AllocError, Global};
 
 /// What stands before the giving of a cell: its ticks, the node at its end, and the cell of that, or none where it is the same cell.
 #[derive(Clone, Copy)]
-pub struct Before {
-    pub ticks: u64,
-    pub end: Option<usize>,
-    pub cell: Option<u32>,
+pub(crate) struct Before {
+    pub(crate) ticks: u64,
+    pub(crate) end: Option<usize>,
+    pub(crate) cell: Option<u32>,
 }
 
 /// The frame of a new task with this number and these accesses; after want of memory the run is given up.
-pub fn open_child(
+pub(crate) fn open_child(
     alloc: Global,
     nodes: &mut List<Node>,
     creator: &mut Frame,
@@ -50,7 +50,7 @@ pub fn open_child(
 }
 
 /// A task has ended, and its creator goes on. After want of memory the run is given up.
-pub fn close_child(
+pub(crate) fn close_child(
     nodes: &mut List<Node>,
     creator: &mut Frame,
     child: &Frame,

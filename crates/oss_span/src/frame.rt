@@ -14,17 +14,17 @@ use oss_syntax::{Access, List, Range};
 use std::alloc::AllocError;
 
 /// All cells that a program may have.
-pub const CELLS: u32 = 1_048_576;
+pub(crate) const CELLS: u32 = 1_048_576;
 
 /// What is kept of a task: its number, in the order of creations; whether it has the clause `wait`; the longest chain to its last act; those to what all
 /// ended tasks below it have left, and to what its newest child and those below that have left; and its cells.
-pub struct Frame {
-    pub task: usize,
-    pub wait: bool,
-    pub run: Run,
-    pub left: Best,
-    pub newest: Best,
-    pub table: RangeMap<Marks>,
+pub(crate) struct Frame {
+    pub(crate) task: usize,
+    pub(crate) wait: bool,
+    pub(crate) run: Run,
+    pub(crate) left: Best,
+    pub(crate) newest: Best,
+    pub(crate) table: RangeMap<Marks>,
 }
 
 // By hand, so that who lets one go calls this, and does not take it apart at each exit.
@@ -105,7 +105,7 @@ impl Frame {
     }
 
     /// The task does its next act. After want of memory the run is given up.
-    pub fn act(&mut self, act: &Act, nodes: &mut List<Node>) -> Result<(), AllocError>
+    pub(crate) fn act(&mut self, act: &Act, nodes: &mut List<Node>) -> Result<(), AllocError>
         ensures { OnOk result (IsActed act.now self.old self.new nodes.old nodes.new) }
     {
         let other = self.other(act);

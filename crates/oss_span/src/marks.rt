@@ -10,23 +10,23 @@ use oss_syntax::{Mode, Op};
 /// chains, of all, of those below no read, and of those before the run of one reduction that stands last; whether the task has released
 /// it, and the chain to that; and the longest chains of what stands in the way of a write, a read and a join by the task.
 #[derive(Clone, Copy, PartialEq, Eq)]
-pub struct Marks {
-    pub mode: Mode,
-    pub strong: bool,
-    pub given: Mark,
-    pub changed: Mark,
-    pub run: Option<Op>,
-    pub before: Mark,
-    pub is_freed: bool,
-    pub freed: Mark,
-    pub write_way: Mark,
-    pub read_way: Mark,
-    pub join_way: Mark,
+pub(crate) struct Marks {
+    pub(crate) mode: Mode,
+    pub(crate) strong: bool,
+    pub(crate) given: Mark,
+    pub(crate) changed: Mark,
+    pub(crate) run: Option<Op>,
+    pub(crate) before: Mark,
+    pub(crate) is_freed: bool,
+    pub(crate) freed: Mark,
+    pub(crate) write_way: Mark,
+    pub(crate) read_way: Mark,
+    pub(crate) join_way: Mark,
 }
 
 /// What happens to the cells of a range.
 #[derive(Clone, Copy)]
-pub enum Change {
+pub(crate) enum Change {
     /// The task releases them by an act to which this chain leads.
     Release(Mark),
     /// A child that declared them so has ended; this is the longest chain to what it and those below it gave up.
@@ -35,7 +35,7 @@ pub enum Change {
 
 /// Which longest chain is asked for.
 #[derive(Clone, Copy)]
-pub enum Way {
+pub(crate) enum Way {
     /// That to what children gave up.
     Given,
     /// That to what stands in the way of the first act.
@@ -43,7 +43,7 @@ pub enum Way {
 }
 
 /// What a new task keeps of a cell that it declares so, whose creator keeps this of it.
-pub fn opened_at(creator: Option<Marks>, mode: Mode, strong: bool) -> Marks
+pub(crate) fn opened_at(creator: Option<Marks>, mode: Mode, strong: bool) -> Marks
     ensures { result ≡ opened creator mode strong }
 {
     match creator {
@@ -125,7 +125,7 @@ impl Marks {
     }
 
     /// The cell is one of a reduction of the task itself.
-    pub fn is_strong_fold(self) -> bool
+    pub(crate) fn is_strong_fold(self) -> bool
         ensures { result ≡ is_strong_fold self }
     {
         match self.mode {
@@ -136,7 +136,7 @@ impl Marks {
     }
 
     /// What is kept after a change.
-    pub fn changed(self, change: Change) -> Marks
+    pub(crate) fn changed(self, change: Change) -> Marks
         ensures { result ≡ changed change self }
     {
         match change {
@@ -179,7 +179,7 @@ impl Marks {
     }
 
     /// The longest chain that is asked for: that to what stands in the way of the first act only where the task itself reads or writes.
-    pub fn picked(self, way: Way) -> Mark
+    pub(crate) fn picked(self, way: Way) -> Mark
         ensures { result ≡ picked way self }
     {
         match way {

@@ -4,7 +4,7 @@ use crate::best::Best;
 
 /// What a task does to a cell that it gives up.
 #[derive(Clone, Copy)]
-pub enum Verb {
+pub(crate) enum Verb {
     /// It gives the cell up.
     Let,
     /// It joins its slot to the cell, which it reduces itself.
@@ -13,7 +13,7 @@ pub enum Verb {
 
 /// A part of a chain: acts of a task, or a cell that it gives up. Tasks are told by their numbers, in the order of their creations.
 #[derive(Clone, Copy)]
-pub enum Node {
+pub(crate) enum Node {
     /// So many acts that follow each other, up to the one before `end`, behind the chain that ends here.
     Acts {
         task: usize,

@@ -22,13 +22,13 @@ use std::mem;
 
 /// The nodes of all chains that are kept, the points of the tasks in the order of their creations, what is kept of the task that runs and of those above
 /// it, the oldest first, and the ticks so far.
-pub struct Pass {
-    pub alloc: Global,
-    pub nodes: List<Node>,
-    pub points: List<Point>,
-    pub frame: Frame,
-    pub above: List<Frame>,
-    pub work: u64,
+pub(crate) struct Pass {
+    pub(crate) alloc: Global,
+    pub(crate) nodes: List<Node>,
+    pub(crate) points: List<Point>,
+    pub(crate) frame: Frame,
+    pub(crate) above: List<Frame>,
+    pub(crate) work: u64,
 }
 
 // By hand, so that who lets one go calls this, and does not take it apart at each exit.
@@ -50,7 +50,7 @@ impl Drop for Pass {
 }
 
 /// Before the first act of main.
-pub fn begin_pass(alloc: Global, main: &Body) -> Result<Pass, AllocError>
+pub(crate) fn begin_pass(alloc: Global, main: &Body) -> Result<Pass, AllocError>
     ensures { IfOk result (λ pass. IsBegun main.now pass) }
 {
     let accesses = main.accesses()?;
@@ -82,7 +82,7 @@ pub fn begin_pass(alloc: Global, main: &Body) -> Result<Pass, AllocError>
 
 impl Pass {
     /// The task that runs does its next act. After want of memory the run is given up.
-    pub fn act(&mut self, act: &Act) -> Result<(), AllocError>
+    pub(crate) fn act(&mut self, act: &Act) -> Result<(), AllocError>
         ensures { OnOk result (IsOn act.now self.old self.new) }
     {
         if let Act::Tick = act {
@@ -92,7 +92,7 @@ impl Pass {
     }
 
     /// The act was the creation of the task with this body, which runs now. After want of memory the run is given up.
-    pub fn down(&mut self, body: &Body) -> Result<(), AllocError>
+    pub(crate) fn down(&mut self, body: &Body) -> Result<(), AllocError>
         ensures { OnOk result (IsDown body.now self.old self.new) }
     {
         let accesses = body.accesses()?;
@@ -111,7 +111,7 @@ impl Pass {
     }
 
     /// The act ended the task, and its creator runs now. After want of memory the run is given up.
-    pub fn up(&mut self) -> Result<(), AllocError>
+    pub(crate) fn up(&mut self) -> Result<(), AllocError>
         ensures { OnOk result (IsUp self.old self.new) }
     {
         match self.above.pop() {
@@ -124,7 +124,7 @@ impl Pass {
     }
 
     /// Main has ended: a longest chain of all, and its ticks.
-    pub fn told(&mut self) -> Result<(u64, List<Link>), AllocError>
+    pub(crate) fn told(&mut self) -> Result<(u64, List<Link>), AllocError>
         ensures { IfOk result (λ told. IsTold self.old told.0 told.1) }
     {
         let last = self.frame.run.seal(self.frame.task, &mut self.nodes)?;

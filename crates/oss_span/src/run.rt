@@ -11,17 +11,17 @@ use std::alloc::AllocError;
 /// A longest chain to the last act of a task, or, where it has done none, to its creation: how many acts the task has done, its ticks, how many acts at
 /// its end are the last ones of the task, and the chain before these.
 #[derive(Clone, Copy)]
-pub struct Run {
-    pub acts: u64,
-    pub ticks: u64,
-    pub count: u64,
-    pub before: Best,
+pub(crate) struct Run {
+    pub(crate) acts: u64,
+    pub(crate) ticks: u64,
+    pub(crate) count: u64,
+    pub(crate) before: Best,
 }
 
 impl Run {
     /// The chain to the next act, which is a tick or none: behind the last one, or behind another event that it waits for and to which a longer
     /// chain leads. `None` where the task has done 18,446,744,073,709,551,615 acts.
-    pub fn after(self, other: Best, is_tick: bool) -> Option<Run>
+    pub(crate) fn after(self, other: Best, is_tick: bool) -> Option<Run>
         ensures run { IfSome result (λ run. run ≡ after_act other is_tick self) }
         ensures counted { IfSome result (λ run. self.acts < 2 ^ 64 - 1) }
     {
@@ -44,7 +44,7 @@ impl Run {
     }
 
     /// The chain as a node. After want of memory all is as it was.
-    pub fn seal(&mut self, task: usize, nodes: &mut List<Node>) -> Result<Best, AllocError>
+    pub(crate) fn seal(&mut self, task: usize, nodes: &mut List<Node>) -> Result<Best, AllocError>
         ensures { IfOk result (λ best. IsSealed task self.old self.new nodes.old nodes.new best) }
     {
         if self.count == 0 {

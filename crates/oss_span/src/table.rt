@@ -11,7 +11,7 @@ use oss_syntax::{Access, Range};
 use std::alloc::{AllocError, Global};
 
 /// The change happens to each cell of the range of which something is kept.
-pub fn change_all(
+pub(crate) fn change_all(
     table: &mut RangeMap<Marks>,
     range: Range,
     change: Change,
@@ -51,7 +51,7 @@ fn open_access(
 }
 
 /// What a new task with these accesses keeps, whose creator has this table.
-pub fn open_table(
+pub(crate) fn open_table(
     alloc: Global,
     creator: &RangeMap<Marks>,
     accesses: &[Access],
@@ -66,7 +66,7 @@ pub fn open_table(
 }
 
 /// The cells of these accesses are released, by an act to which this chain leads.
-pub fn release_all(
+pub(crate) fn release_all(
     table: &mut RangeMap<Marks>,
     clauses: &[Access],
     mark: Mark,
@@ -80,7 +80,7 @@ pub fn release_all(
 }
 
 /// The longest of the chains that are kept for the cells of a range.
-pub fn greatest(table: &RangeMap<Marks>, range: Range, way: Way) -> Best
+pub(crate) fn greatest(table: &RangeMap<Marks>, range: Range, way: Way) -> Best
     ensures { IsGreatest way table.now.pieces range.lo range.hi result }
 {
     let mut best = no_best();
@@ -99,7 +99,7 @@ pub fn greatest(table: &RangeMap<Marks>, range: Range, way: Way) -> Best
 }
 
 /// The longest of the chains that are kept for the cells of several ranges.
-pub fn greatest_of(table: &RangeMap<Marks>, ranges: &[Range], way: Way) -> Best
+pub(crate) fn greatest_of(table: &RangeMap<Marks>, ranges: &[Range], way: Way) -> Best
     ensures { IsGreatestOf way table.now.pieces ranges.now result }
 {
     let mut best = no_best();

@@ -18,7 +18,7 @@ struct Step {
 }
 
 /// The chain that ends so, its first event first.
-pub fn links_of(
+pub(crate) fn links_of(
     alloc: Global,
     nodes: &[Node],
     points: &[Point],

@@ -16,7 +16,7 @@ use oss_span::Link;
 
 /// The last event of a link.
 #[derive(Clone, Copy)]
-pub enum Last {
+pub(crate) enum Last {
     /// The act with this number.
     Act(u64),
     /// The giving of this cell.
@@ -186,7 +186,7 @@ fn ticks_of(r: &Record, links: &[Link]) -> u64
 }
 
 /// Whether links are a chain with so many ticks.
-pub fn is_told(r: &Record, links: &[Link], ticks: u64) -> bool
+pub(crate) fn is_told(r: &Record, links: &[Link], ticks: u64) -> bool
     ensures { result ≡ is_told r.now links.now ticks }
 {
     holds(r, links) && ticks_of(r, links) == ticks

@@ -52,7 +52,7 @@ fn is_read(mode: Mode) -> bool
 }
 
 /// Whether there is an access, and it is no read.
-pub fn is_change(access: Option<Access>) -> bool
+pub(crate) fn is_change(access: Option<Access>) -> bool
     ensures { result ≡ is_change access }
 {
     match access {
@@ -62,7 +62,7 @@ pub fn is_change(access: Option<Access>) -> bool
 }
 
 /// Whether there is an access, and it is a reduction by this operator.
-pub fn is_folded(op: Op, access: Option<Access>) -> bool
+pub(crate) fn is_folded(op: Op, access: Option<Access>) -> bool
     ensures { result ≡ is_folded op access }
 {
     match access {
@@ -72,7 +72,7 @@ pub fn is_folded(op: Op, access: Option<Access>) -> bool
 }
 
 /// Whether there is an access, and it is no reduction by this operator.
-pub fn is_unfolded(op: Op, access: Option<Access>) -> bool
+pub(crate) fn is_unfolded(op: Op, access: Option<Access>) -> bool
     ensures { result ≡ is_unfolded op access }
 {
     match access {
@@ -82,7 +82,7 @@ pub fn is_unfolded(op: Op, access: Option<Access>) -> bool
 }
 
 /// Whether there is an access, and it is that of a strong reduction.
-pub fn is_joined_by(access: Option<Access>) -> bool
+pub(crate) fn is_joined_by(access: Option<Access>) -> bool
     ensures { result ≡ is_joined_by access }
 {
     match access {

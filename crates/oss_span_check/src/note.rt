@@ -5,7 +5,7 @@ use oss_syntax::{Access, List, Range};
 
 /// What an act is, as far as it waits for something or something waits for it as more than the act before.
 #[derive(Drop)]
-pub enum What {
+pub(crate) enum What {
     /// A tick.
     Tick,
     /// A wait for all tasks below.
@@ -22,24 +22,24 @@ pub enum What {
 
 /// An act of a run that is noted.
 #[derive(Drop)]
-pub struct Note {
+pub(crate) struct Note {
     /// The point of its task.
-    pub point: Point,
+    pub(crate) point: Point,
     /// How many acts the task did before it.
-    pub number: u64,
+    pub(crate) number: u64,
     /// What it is.
-    pub what: What,
+    pub(crate) what: What,
 }
 
 /// A task that was created, and is not included.
 #[derive(Drop)]
-pub struct Made {
+pub(crate) struct Made {
     /// Its point.
-    pub point: Point,
+    pub(crate) point: Point,
     /// The number of the act of its creator that created it, from 0.
-    pub number: u64,
+    pub(crate) number: u64,
     /// Whether it has the clause `wait`.
-    pub wait: bool,
+    pub(crate) wait: bool,
     /// Its accesses, each cell in one of them at most.
-    pub accesses: List<Access>,
+    pub(crate) accesses: List<Access>,
 }

@@ -4,14 +4,14 @@ ghost use Rattle.std.specs.Prelude.{◌≡◌, ◌<◌, length, if◌then◌else
 ghost use Rattle.oss_span_check.specs.Points.{below, parted};
 
 /// Whether the second is the point of a task below that with the first.
-pub fn is_below(upper: &[u16], lower: &[u16]) -> bool
+pub(crate) fn is_below(upper: &[u16], lower: &[u16]) -> bool
     ensures { result ≡ below upper.now lower.now }
 {
     upper.len() < lower.len() && upper == &lower[..upper.len()]
 }
 
 /// Where two points part, if the second has the smaller number there.
-pub fn part(later: &[u16], earlier: &[u16]) -> Option<usize>
+pub(crate) fn part(later: &[u16], earlier: &[u16]) -> Option<usize>
     ensures place { result ≡ parted 0 later.now earlier.now }
     ensures within { IfSome result (λ at. (at < length later.now) × (at < length earlier.now)) }
 {

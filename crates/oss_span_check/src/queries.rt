@@ -39,21 +39,21 @@ fn is_sought(kind: Sought, what: &What) -> bool
 }
 
 /// Whether a note is of an act of this kind, of the task with this point.
-pub fn is_of(kind: Sought, p: &[u16], note: &Note) -> bool
+pub(crate) fn is_of(kind: Sought, p: &[u16], note: &Note) -> bool
     ensures { result ≡ is_of kind p.now note.now }
 {
     is_sought(kind, &note.what) && note.point.as_slice() == p
 }
 
 /// Whether an act of the task with this point is of this kind.
-pub fn has_some(notes: &[Note], kind: Sought, p: &[u16]) -> bool
+pub(crate) fn has_some(notes: &[Note], kind: Sought, p: &[u16]) -> bool
     ensures { result ≡ has_some notes.now kind p.now }
 {
     notes.iter().any(|x| is_of(kind, p, x))
 }
 
 /// Whether the act with this number is.
-pub fn has_at(notes: &[Note], kind: Sought, p: &[u16], n: u64) -> bool
+pub(crate) fn has_at(notes: &[Note], kind: Sought, p: &[u16], n: u64) -> bool
     ensures { result ≡ has_at notes.now kind p.now n }
 {
     notes.iter().any(|x| is_of(kind, p, x) && x.number == n)
@@ -67,7 +67,7 @@ fn has_behind(notes: &[Note], kind: Sought, p: &[u16], n: u64) -> bool
 }
 
 /// Whether the act with this number is the last one of the task.
-pub fn is_last(notes: &[Note], p: &[u16], n: u64) -> bool
+pub(crate) fn is_last(notes: &[Note], p: &[u16], n: u64) -> bool
     ensures { result ≡ is_last notes.now p.now n }
 {
     has_at(notes, Sought::End, p, n) && !has_behind(notes, Sought::End, p, n)
@@ -82,7 +82,7 @@ fn reaches(number: u64, first: u64, count: u64) -> bool
 }
 
 /// Whether a task has done so many acts from one on. Their numbers fit then.
-pub fn has_done(notes: &[Note], p: &[u16], first: u64, count: u64) -> bool
+pub(crate) fn has_done(notes: &[Note], p: &[u16], first: u64, count: u64) -> bool
     requires { 1 ≤ count }
     ensures done_ { result ≡ has_done notes.now p.now (first + count) }
     ensures fits { result ≡ true → first + count ≤ 18446744073709551616 }

@@ -4,11 +4,11 @@ use crate::note::{Made, Note};
 use oss_syntax::List;
 
 /// What is noted of a run: its acts, and the tasks that were created.
-pub struct Record {
+pub(crate) struct Record {
     /// The acts, in their order.
-    pub notes: List<Note>,
+    pub(crate) notes: List<Note>,
     /// The tasks, in the order of their creations; main is none of them.
-    pub made: List<Made>,
+    pub(crate) made: List<Made>,
 }
 
 // By hand, so that who lets one go calls this, and does not take it apart at each exit.

@@ -2,7 +2,7 @@
 
 /// A kind of acts.
 #[derive(Clone, Copy)]
-pub enum Sought {
+pub(crate) enum Sought {
     /// Ticks.
     Tick,
     /// Waits for all tasks below.

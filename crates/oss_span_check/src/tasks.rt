@@ -9,14 +9,14 @@ use crate::point::is_below;
 use oss_syntax::Access;
 
 /// The task with this point, if it was created.
-pub fn made_of<'a>(made: &'a [Made], p: &[u16]) -> Option<&'a Made>
+pub(crate) fn made_of<'a>(made: &'a [Made], p: &[u16]) -> Option<&'a Made>
     ensures { option_copied result ≡ made_of made.now p.now }
 {
     made.iter().find(|m| m.point.as_slice() == p)
 }
 
 /// The access that names a cell.
-pub fn access_in<'a>(accesses: &'a [Access], cell: u32) -> Option<&'a Access>
+pub(crate) fn access_in<'a>(accesses: &'a [Access], cell: u32) -> Option<&'a Access>
     ensures { option_copied result ≡ access_in accesses.now cell }
 {
     accesses
@@ -25,7 +25,7 @@ pub fn access_in<'a>(accesses: &'a [Access], cell: u32) -> Option<&'a Access>
 }
 
 /// The access of the task with this point to a cell.
-pub fn access_of(made: &[Made], p: &[u16], cell: u32) -> Option<Access>
+pub(crate) fn access_of(made: &[Made], p: &[u16], cell: u32) -> Option<Access>
     ensures { result ≡ access_of made.now p.now cell }
 {
     match made_of(made, p) {
@@ -35,7 +35,7 @@ pub fn access_of(made: &[Made], p: &[u16], cell: u32) -> Option<Access>
 }
 
 /// Whether the task has one.
-pub fn has_access(made: &[Made], p: &[u16], cell: u32) -> bool
+pub(crate) fn has_access(made: &[Made], p: &[u16], cell: u32) -> bool
     ensures { result ≡ has_access made.now p.now cell }
 {
     match access_of(made, p, cell) {
@@ -45,7 +45,7 @@ pub fn has_access(made: &[Made], p: &[u16], cell: u32) -> bool
 }
 
 /// Whether an act of its creator with a smaller number created the task.
-pub fn was_made_before(made: &[Made], p: &[u16], n: u64) -> bool
+pub(crate) fn was_made_before(made: &[Made], p: &[u16], n: u64) -> bool
     ensures { result ≡ was_made_before made.now p.now n }
 {
     match made_of(made, p) {
@@ -55,7 +55,7 @@ pub fn was_made_before(made: &[Made], p: &[u16], n: u64) -> bool
 }
 
 /// Whether the task has the clause `wait`.
-pub fn has_wait(made: &[Made], p: &[u16]) -> bool
+pub(crate) fn has_wait(made: &[Made], p: &[u16]) -> bool
     ensures { result ≡ has_wait made.now p.now }
 {
     match made_of(made, p) {
@@ -65,7 +65,7 @@ pub fn has_wait(made: &[Made], p: &[u16]) -> bool
 }
 
 /// Whether the second is the point of a child of the task with the first.
-pub fn is_child(p: &[u16], q: &[u16]) -> bool
+pub(crate) fn is_child(p: &[u16], q: &[u16]) -> bool
     ensures { result ≡ is_child p.now q.now }
 {
     is_below(p, q) && q.len() - p.len() == 1

@@ -205,7 +205,7 @@ fn joins_behind(r: &Record, p: &[u16], q: &[u16], cell: u32) -> bool
 }
 
 /// Whether a cell is one of a strong reduction of the task: its slot is joined.
-pub fn is_join(r: &Record, p: &[u16], cell: u32) -> bool
+pub(crate) fn is_join(r: &Record, p: &[u16], cell: u32) -> bool
     ensures { result ≡ is_join r.now p.now cell }
 {
     is_joined_by(access_of(r.made.as_slice(), p, cell))
@@ -257,7 +257,7 @@ fn follows(p: &[u16], n: u64, q: &[u16], m: u64) -> bool
 }
 
 /// Whether an act waits for an act.
-pub fn act_waits_act(r: &Record, p: &[u16], n: u64, q: &[u16], m: u64) -> bool
+pub(crate) fn act_waits_act(r: &Record, p: &[u16], n: u64, q: &[u16], m: u64) -> bool
     ensures { result ≡ act_waits_act r.now p.now n q.now m }
 {
     follows(p, n, q, m)
@@ -266,7 +266,7 @@ pub fn act_waits_act(r: &Record, p: &[u16], n: u64, q: &[u16], m: u64) -> bool
 }
 
 /// Whether an act waits for a cell that is given up.
-pub fn act_waits_cell(r: &Record, p: &[u16], n: u64, q: &[u16], cell: u32) -> bool
+pub(crate) fn act_waits_cell(r: &Record, p: &[u16], n: u64, q: &[u16], cell: u32) -> bool
     ensures { result ≡ act_waits_cell r.now p.now n q.now cell }
 {
     has_access(r.made.as_slice(), q, cell)
@@ -275,7 +275,7 @@ pub fn act_waits_cell(r: &Record, p: &[u16], n: u64, q: &[u16], cell: u32) -> bo
 }
 
 /// Whether a cell that is given up waits for an act.
-pub fn cell_waits_act(r: &Record, p: &[u16], cell: u32, q: &[u16], m: u64) -> bool
+pub(crate) fn cell_waits_act(r: &Record, p: &[u16], cell: u32, q: &[u16], m: u64) -> bool
     ensures { result ≡ cell_waits_act r.now p.now cell q.now m }
 {
     has_access(r.made.as_slice(), p, cell)
@@ -285,7 +285,7 @@ pub fn cell_waits_act(r: &Record, p: &[u16], cell: u32, q: &[u16], m: u64) -> bo
 }
 
 /// Whether a cell that is given up waits for one.
-pub fn cell_waits_cell(r: &Record, p: &[u16], cell: u32, q: &[u16], other: u32) -> bool
+pub(crate) fn cell_waits_cell(r: &Record, p: &[u16], cell: u32, q: &[u16], other: u32) -> bool
     ensures { result ≡ cell_waits_cell r.now p.now cell q.now other }
 {
     has_access(r.made.as_slice(), p, cell)

@@ -11,15 +11,15 @@ use oss_syntax::List;
 use std::alloc::{AllocError, Global};
 
 /// What is kept beside a stage of the run.
-pub struct Watch {
+pub(crate) struct Watch {
     /// Where memory is taken from.
-    pub alloc: Global,
+    pub(crate) alloc: Global,
     /// The record so far.
-    pub recorded: Record,
+    pub(crate) recorded: Record,
     /// How many acts the task that runs has done.
-    pub acts: u64,
+    pub(crate) acts: u64,
     /// How many acts each of the tasks above it has done, with the creation that it waits for, the oldest first.
-    pub above: List<u64>,
+    pub(crate) above: List<u64>,
 }
 
 // By hand, so that who lets one go calls this, and does not take it apart at each exit.
@@ -86,7 +86,7 @@ fn add_note(
 
 impl Watch {
     /// Before the first act of main.
-    pub fn new(alloc: Global) -> Watch
+    pub(crate) fn new(alloc: Global) -> Watch
         ensures notes { result.recorded.notes ≡ [] }
         ensures made { result.recorded.made ≡ [] }
         ensures acts { result.acts ≡ 0 }
@@ -104,7 +104,7 @@ impl Watch {
     }
 
     /// The act of a body that stands next is noted. After want of memory the run is given up.
-    pub fn note(&mut self, act: &Act, body: &Body) -> Result<(), AllocError>
+    pub(crate) fn note(&mut self, act: &Act, body: &Body) -> Result<(), AllocError>
         ensures { OnOk result (IsOn act.now body.now self.old self.new) }
     {
         let what = what_of(self.alloc, act)?;
@@ -148,7 +148,7 @@ impl Watch {
 
     /// The act is done; there were so many tasks above the one that ran, and are so many above the one with this body, which runs now. After want of
     /// memory the run is given up.
-    pub fn follow(&mut self, depth: usize, now: usize, body: &Body) -> Result<(), AllocError>
+    pub(crate) fn follow(&mut self, depth: usize, now: usize, body: &Body) -> Result<(), AllocError>
         ensures { OnOk result (IsFollowed depth now body.now self.old self.new) }
     {
         if depth < now {

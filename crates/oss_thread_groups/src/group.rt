@@ -9,14 +9,14 @@ use std::alloc::{AllocError, Global};
 
 /// Neighbouring jobs, and the worker that they are run as.
 #[derive(Drop)]
-pub struct Group<J: Drop> {
-    pub worker: u32,
-    pub jobs: Vec<J>,
+pub(crate) struct Group<J: Drop> {
+    pub(crate) worker: u32,
+    pub(crate) jobs: Vec<J>,
 }
 
 /// The jobs in at most so many groups of neighbours, whose workers are counted from 0. Each group but the last has as many jobs as there are for
 /// each worker, rounded up. Where there are no jobs, the one group is empty. Want of memory is the one error.
-pub fn into_groups<J: Drop>(
+pub(crate) fn into_groups<J: Drop>(
     alloc: Global,
     jobs: Vec<J>,
     workers: u32,
@@ -43,7 +43,7 @@ pub fn into_groups<J: Drop>(
 }
 
 /// Does the jobs of a group in their order, as its worker. Want of memory is the one error.
-pub fn run_group<J: Drop, X: Drop, W: Work<J, X>>(
+pub(crate) fn run_group<J: Drop, X: Drop, W: Work<J, X>>(
     alloc: Global,
     work: &W,
     group: Group<J>,

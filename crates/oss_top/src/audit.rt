@@ -16,7 +16,7 @@ use oss_syntax::Bytes;
 use std::alloc::{AllocError, Global};
 
 /// Runs a program that breaks no rule, and tells which cells its tasks name and never touch.
-pub fn reply_to_audit(alloc: Global, fuel: u32, known: &Known) -> Result<Reply, AllocError>
+pub(crate) fn reply_to_audit(alloc: Global, fuel: u32, known: &Known) -> Result<Reply, AllocError>
     ensures { IfOk result (λ reply. IsAuditReply fuel known.now reply) }
 {
     let run = audited(alloc, fuel, known)?;
@@ -35,7 +35,7 @@ fn audited(alloc: Global, fuel: u32, known: &Known) -> Result<AuditRun, AllocErr
 }
 
 /// The reply that tells this text of a program that has this answer.
-pub fn reply_to_told(alloc: Global, text: Bytes, answer: &Answer) -> Result<Reply, AllocError>
+pub(crate) fn reply_to_told(alloc: Global, text: Bytes, answer: &Answer) -> Result<Reply, AllocError>
     ensures { IfOk result (λ reply. reply ≡ told_reply text answer.now) }
 {
     match answer {

@@ -9,7 +9,7 @@ use oss_syntax::Refusal;
 use std::alloc::Global;
 
 /// Reads the text of a program and checks its static rules. `Refused` comes exactly where the text is refused.
-pub fn known(alloc: Global, text: &[u8]) -> Result<Known, Refusal>
+pub(crate) fn known(alloc: Global, text: &[u8]) -> Result<Known, Refusal>
     requires { length text.now ≤ 1048576 }
     ensures { IsKnown text.now result }
 {

@@ -10,7 +10,7 @@ pub fn a_text_has_one_reply(text: &[u8])
 {}
 
 /// A law, with nothing to run: a text has a reply to a span, and two have one status, one error output and the same numbers of ticks. Which longest chain is told is free.
-pub fn a_text_has_a_span(text: &[u8])
+pub(crate) fn a_text_has_a_span(text: &[u8])
     ensures { IsSpanned text.now }
 {}
 

@@ -26,7 +26,7 @@ use std::alloc::{AllocError, Global};
 const MOST_BYTES: usize = 16_777_216;
 
 /// Reads the schedule that is to be replayed on the program with this text, and replays it.
-pub fn reply_to_replay<S: Shelf>(
+pub(crate) fn reply_to_replay<S: Shelf>(
     alloc: Global,
     asked: Replay<'_>,
     text: &[u8],

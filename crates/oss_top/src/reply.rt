@@ -33,15 +33,15 @@ const MOST_BYTES: usize = 1_048_576;
 
 /// A status, and the texts for the output and the error output.
 #[derive(Drop)]
-pub struct Reply {
-    pub status: Status,
-    pub out: Bytes,
-    pub err: Bytes,
+pub(crate) struct Reply {
+    pub(crate) status: Status,
+    pub(crate) out: Bytes,
+    pub(crate) err: Bytes,
 }
 
 impl Reply {
     /// A reply that has a line for the error output alone.
-    pub fn error(alloc: Global, status: Status, line: Bytes) -> Reply
+    pub(crate) fn error(alloc: Global, status: Status, line: Bytes) -> Reply
         ensures { result ≡ error_reply status line }
     {
         Reply {
@@ -52,7 +52,7 @@ impl Reply {
     }
 
     /// The reply to a command that is done.
-    pub fn done(alloc: Global, text: Bytes) -> Reply
+    pub(crate) fn done(alloc: Global, text: Bytes) -> Reply
         ensures { result ≡ done_reply text }
     {
         Reply {
@@ -63,7 +63,7 @@ impl Reply {
     }
 
     /// The reply to a command that came to a fault, with this output and the line of the fault.
-    pub fn fault(text: Bytes, line: Bytes) -> Reply
+    pub(crate) fn fault(text: Bytes, line: Bytes) -> Reply
         ensures { result ≡ fault_reply text line }
     {
         Reply {
@@ -75,7 +75,7 @@ impl Reply {
 }
 
 /// Works out the reply to words, from a shelf. Want of memory is the one error.
-pub fn reply_to<R: Threads + Sync, S: Shelf, G: Gate>(
+pub(crate) fn reply_to<R: Threads + Sync, S: Shelf, G: Gate>(
     rt: &R,
     alloc: Global,
     words: &[String],
@@ -226,7 +226,7 @@ fn accepted(alloc: Global) -> Result<Reply, AllocError>
 }
 
 /// The reply to a text that is no program.
-pub fn reply_to_refusal(alloc: Global, refusal: Refusal) -> Result<Reply, AllocError>
+pub(crate) fn reply_to_refusal(alloc: Global, refusal: Refusal) -> Result<Reply, AllocError>
     ensures { IfOk result (λ reply. (r : Refused) × (refusal ≡ Refusal.Refused r) × (reply ≡ error_reply Status.TextRefused (line_of_refusal r.kind r.line))) }
 {
     match refusal {

@@ -24,7 +24,7 @@ use std::alloc::{AllocError, Global};
 use std::thread::Threads;
 
 /// Runs a program that breaks no rule, in the mode that the options say.
-pub fn reply_to_run<R: Threads + Sync, G: Gate>(
+pub(crate) fn reply_to_run<R: Threads + Sync, G: Gate>(
     rt: &R,
     alloc: Global,
     known: &Known,
@@ -39,7 +39,7 @@ pub fn reply_to_run<R: Threads + Sync, G: Gate>(
 }
 
 /// Runs a generated program, in the mode that the options say, and counts its tasks.
-pub fn reply_to_generated<R: Threads + Sync, G: Gate>(
+pub(crate) fn reply_to_generated<R: Threads + Sync, G: Gate>(
     rt: &R,
     alloc: Global,
     known: &Known,
@@ -98,12 +98,12 @@ fn counted_waves<R: Threads + Sync, G: Gate>(
 }
 
 /// A fact alone: a number of 64 bits is one.
-pub fn are_words(cells: &[u64])
+pub(crate) fn are_words(cells: &[u64])
     ensures { AreWords cells.now }
 {}
 
 /// The reply to a run that has this answer.
-pub fn reply_to_answer(
+pub(crate) fn reply_to_answer(
     alloc: Global,
     program: &Program,
     dump: bool,
@@ -135,7 +135,7 @@ fn reply_to_counted(alloc: Global, ran: Ran) -> Result<Reply, AllocError>
 }
 
 /// The reply to a fault on this line, with this output.
-pub fn reply_to_fault(
+pub(crate) fn reply_to_fault(
     alloc: Global,
     kind: FaultKind,
     line: u32,

@@ -15,7 +15,7 @@ use oss_syntax::Bytes;
 use std::alloc::{AllocError, Global};
 
 /// Runs a program that breaks no rule, and tells its ticks, those of a longest chain, and such a chain.
-pub fn reply_to_span(alloc: Global, fuel: u32, known: &Known) -> Result<Reply, AllocError>
+pub(crate) fn reply_to_span(alloc: Global, fuel: u32, known: &Known) -> Result<Reply, AllocError>
     ensures { IfOk result (λ reply. IsSpanReply fuel known.now reply) }
 {
     let run = spanned(alloc, fuel, known)?;

@@ -8,7 +8,7 @@ use oss_syntax::Bytes;
 use std::alloc::{AllocError, Global};
 
 /// The usage line.
-pub fn usage(alloc: Global) -> Result<Bytes, AllocError>
+pub(crate) fn usage(alloc: Global) -> Result<Bytes, AllocError>
     ensures { IfOk result (λ line. line ≡ usage_line) }
 {
     Bytes::from_slice(
@@ -18,7 +18,7 @@ pub fn usage(alloc: Global) -> Result<Bytes, AllocError>
 }
 
 /// `cannot read FILE`
-pub fn unread(alloc: Global, file: &str) -> Result<Bytes, AllocError>
+pub(crate) fn unread(alloc: Global, file: &str) -> Result<Bytes, AllocError>
     ensures { IfOk result (λ line. line ≡ unread_line file.now) }
 {
     let mut line = Vec::from_slice(alloc, b"cannot read ")?;
@@ -28,14 +28,14 @@ pub fn unread(alloc: Global, file: &str) -> Result<Bytes, AllocError>
 }
 
 /// `ok`
-pub fn accepted(alloc: Global) -> Result<Bytes, AllocError>
+pub(crate) fn accepted(alloc: Global) -> Result<Bytes, AllocError>
     ensures { IfOk result (λ line. line ≡ accepted_line) }
 {
     Bytes::from_slice(alloc, b"ok\n")
 }
 
 /// `tasks T`, and the output behind it.
-pub fn counted(alloc: Global, tasks: u64, output: &Bytes) -> Result<Bytes, AllocError>
+pub(crate) fn counted(alloc: Global, tasks: u64, output: &Bytes) -> Result<Bytes, AllocError>
     ensures { IfOk result (λ text. text ≡ tasks_line tasks ++ output.now) }
 {
     let line = format!(in alloc; "tasks {tasks}\n")?;

@@ -17,7 +17,7 @@ use std::alloc::{AllocError, Global};
 use std::thread::Threads;
 
 /// Runs a program that breaks no rule by waves, and tells what each wave did.
-pub fn reply_to_trace<R: Threads + Sync, G: Gate>(
+pub(crate) fn reply_to_trace<R: Threads + Sync, G: Gate>(
     rt: &R,
     alloc: Global,
     known: &Known,

@@ -22,15 +22,15 @@ const MOST_ENTRIES: u32 = 16_777_216;
 
 /// What a run by waves gives of a program.
 #[derive(Drop)]
-pub struct Waved {
+pub(crate) struct Waved {
     /// The output and the cells at its end, or the fault that stopped it with the output before it.
-    pub answer: Answer,
+    pub(crate) answer: Answer,
     /// What was done in each wave.
-    pub waves: WaveRecord,
+    pub(crate) waves: WaveRecord,
 }
 
 /// The run by waves of a program, by its code.
-pub fn wave_run<R: Threads + Sync, G: Gate>(
+pub(crate) fn wave_run<R: Threads + Sync, G: Gate>(
     rt: &R,
     alloc: Global,
     known: &Known,

@@ -182,7 +182,7 @@ pub fn at_place(wanted: Wanted, found: Finding) -> Finding
 }
 
 /// A number.
-pub fn number(unsigned: bool, line: u32) -> Finding
+pub(crate) fn number(unsigned: bool, line: u32) -> Finding
     ensures { result ≡ seen (number_findings unsigned line) }
 {
     let kind = if unsigned {

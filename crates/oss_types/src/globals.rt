@@ -109,7 +109,7 @@ fn named_global(global: &GlobalDef) -> Named
 }
 
 /// The name of a global or function.
-pub fn name_of(item: &Item) -> &Name
+pub(crate) fn name_of(item: &Item) -> &Name
     ensures { result.now ≡ item_name item.now }
 {
     match item {

@@ -11,7 +11,7 @@ use oss_grammar::{Named, Object, ValueKind, Wanted};
 use oss_syntax::{BinOp, Refused, RefusedKind, UnOp};
 
 /// A name that stands for this.
-pub fn name(named: Named, line: u32) -> Finding
+pub(crate) fn name(named: Named, line: u32) -> Finding
     ensures { result ≡ seen (name_findings named line) }
 {
     Finding {
@@ -78,7 +78,7 @@ fn object_of_element(kind: ValueKind) -> Object
 
 /// `base[index]`
 #[tactic(auto, using(crate::proofs::Firsts::firsts))]
-pub fn index(line: u32, base: Finding, index: Finding) -> Finding
+pub(crate) fn index(line: u32, base: Finding, index: Finding) -> Finding
     ensures { (a : Findings) → (e : Findings) → base ≡ seen a → index ≡ seen e → result ≡ seen (index_findings line a e) }
 {
     let base = at_place(Wanted::Indexed, base);
@@ -94,7 +94,7 @@ pub fn index(line: u32, base: Finding, index: Finding) -> Finding
 
 /// A prefix operator and its operand.
 #[tactic(auto, using(crate::proofs::Firsts::firsts))]
-pub fn unary(line: u32, op: UnOp, operand: Finding) -> Finding
+pub(crate) fn unary(line: u32, op: UnOp, operand: Finding) -> Finding
     ensures { (e : Findings) → operand ≡ seen e → result ≡ seen (unary_findings line op e) }
 {
     match op {
@@ -174,7 +174,7 @@ fn may_have_address(kind: ValueKind, object: Object) -> bool
 
 /// A binary operator and its operands.
 #[tactic(auto, using(crate::proofs::Firsts::firsts))]
-pub fn binary(line: u32, op: BinOp, left: Finding, right: Finding) -> Finding
+pub(crate) fn binary(line: u32, op: BinOp, left: Finding, right: Finding) -> Finding
     ensures { (a : Findings) → (b : Findings) → left ≡ seen a → right ≡ seen b → result ≡ seen (binary_findings line op a b) }
 {
     let left = at_place(wanted_on_the_left(op), left);

@@ -1,7 +1,7 @@
 use crate::entry::{Entry, Job, Mark};
 
 /// The accesses of all tasks that were opened, cell by cell: the entry 1 is the first.
-pub struct Book {
+pub(crate) struct Book {
     pub(crate) entries: Vec<Entry>,
     /// What has become of each entry.
     pub(crate) marks: Vec<Mark>,

@@ -2,35 +2,35 @@ use oss_words::{After, EntryInfo};
 
 /// The access of a task to one cell, as it stands in a net. It never changes.
 #[derive(Clone, Copy)]
-pub struct Entry {
+pub(crate) struct Entry {
     /// The number of the task.
-    pub task: u64,
+    pub(crate) task: u64,
     /// The cell, below 1,048,576.
-    pub cell: u32,
+    pub(crate) cell: u32,
     /// What the info word of the entry says.
-    pub info: EntryInfo,
+    pub(crate) info: EntryInfo,
     /// Where the entry is linked.
-    pub after: After,
+    pub(crate) after: After,
 }
 
 /// What has become of an entry.
 #[derive(Clone, Copy)]
-pub struct Mark {
+pub(crate) struct Mark {
     /// The last child's entry, 0 where there is none.
-    pub last: u32,
+    pub(crate) last: u32,
     /// The task has given up the cell.
-    pub given: bool,
+    pub(crate) given: bool,
 }
 
 /// The entries of a task, in the order of their cells.
 #[derive(Clone, Copy)]
-pub struct Job {
+pub(crate) struct Job {
     /// The number of the task.
-    pub task: u64,
+    pub(crate) task: u64,
     /// How deep the task is nested: 1 for a child of main, at most 64.
-    pub depth: u8,
+    pub(crate) depth: u8,
     /// Its first entry.
-    pub first: u32,
+    pub(crate) first: u32,
     /// The entry behind its last.
-    pub end: u32,
+    pub(crate) end: u32,
 }

@@ -11,13 +11,13 @@ pub(crate) const ROOM: usize = 1_024;
 
 /// A message that waits for its delivery.
 #[derive(Clone, Copy, Drop)]
-pub struct Held {
+pub(crate) struct Held {
     /// The entry on which the flag is set.
-    pub entry: u32,
+    pub(crate) entry: u32,
     /// The flag's place in the order of delivery, 1 to 5.
-    pub flag: u8,
+    pub(crate) flag: u8,
     /// The info word of the entry.
-    pub info: u64,
+    pub(crate) info: u64,
 }
 
 /// What comes first has the highest rank: the deepest entry, and of one depth the least flag.

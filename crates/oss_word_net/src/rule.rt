@@ -5,7 +5,7 @@ use crate::sight::Sight;
 use atomic_table::TableRule;
 
 /// What holds of a table of access words between any two steps. The key is the number of entries.
-pub struct NetRule;
+pub(crate) struct NetRule;
 
 impl TableRule<u8, Sight, u32> for NetRule {
     ghost holds = { λ n s. Stands n s.words s.views };

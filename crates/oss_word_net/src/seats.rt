@@ -30,7 +30,7 @@ pub(crate) fn open_table(
 }
 
 /// The entries that a split hands over, which a call of `split_by` picks.
-pub trait Handing {
+pub(crate) trait Handing {
     ghost hand: { List ℕ };
 }
 

@@ -4,8 +4,8 @@ ghost use base.Fml.{ftrue};
 use std::marker::Model;
 
 /// What a seat knows. It takes no bytes, and no value of it is made: it stands in proofs alone.
-pub struct Sight {
-    pub ghost known: { Known },
+pub(crate) struct Sight {
+    pub(crate) ghost known: { Known },
 }
 
 impl Model for Sight {

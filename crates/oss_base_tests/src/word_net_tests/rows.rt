@@ -11,7 +11,7 @@ use std::alloc::{AllocError, Global};
 use std::process::Abort;
 
 /// Delivers until the seat holds nothing.
-pub fn settle(net: &WordNet, seat: &mut WordSeat)
+pub(crate) fn settle(net: &WordNet, seat: &mut WordSeat)
     requires net { seat.old.net ≡ net.now.table }
     ensures same { (seat.new.net ≡ seat.old.net) × (seat.new.id ≡ seat.old.id) }
     ensures keeps { Keeps seat.old.known seat.new.known }
@@ -114,7 +114,7 @@ fn give_upper(net: &WordNet, seat: &mut WordSeat, top: u32, _siblings: u32)
 }
 
 /// A net with a weak access that is given up, and so many siblings below it that are not: the net, its seat and the weak access.
-pub fn open_row(
+pub(crate) fn open_row(
     rt: &impl Abort,
     alloc: Global,
     siblings: u32,

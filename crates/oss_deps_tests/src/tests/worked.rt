@@ -15,11 +15,11 @@ use std::alloc::Global;
 use std::process::Abort;
 
 /// How many tasks there may be.
-pub const TASKS: usize = 6;
+pub(crate) const TASKS: usize = 6;
 
 /// What a system is told.
 #[derive(Clone, Copy, Debug)]
-pub enum Event {
+pub(crate) enum Event {
     Reserve(Access),
     /// A task, and its creator.
     Open(u64, u64, Access),
@@ -91,14 +91,14 @@ fn access(lo: u32, hi: u32, mode: Mode, strong: bool) -> Access
     }
 }
 
-pub fn reads(lo: u32, hi: u32) -> Access
+pub(crate) fn reads(lo: u32, hi: u32) -> Access
     requires ordered { lo < hi }
     requires within { hi < 1048576 }
 {
     access(lo, hi, Mode::Read, true)
 }
 
-pub fn writes(lo: u32, hi: u32) -> Access
+pub(crate) fn writes(lo: u32, hi: u32) -> Access
     requires ordered { lo < hi }
     requires within { hi < 1048576 }
 {
@@ -106,7 +106,7 @@ pub fn writes(lo: u32, hi: u32) -> Access
 }
 
 /// A weak access that writes.
-pub fn weakly(lo: u32, hi: u32) -> Access
+pub(crate) fn weakly(lo: u32, hi: u32) -> Access
     requires ordered { lo < hi }
     requires within { hi < 1048576 }
 {
@@ -313,7 +313,7 @@ fn ask<D: Deps>(rt: &impl Abort, told: &mut Told<D>, asked: Range, moment: &Mome
 }
 
 /// Tells a system of an event, which is allowed.
-pub fn tell<D: Deps>(rt: &impl Abort, told: &mut Told<D>, event: Event)
+pub(crate) fn tell<D: Deps>(rt: &impl Abort, told: &mut Told<D>, event: Event)
     requires { IsTold (D.seen told.old.system) told.old.opens.items told.old.gives.items }
     ensures { IsTold (D.seen told.new.system) told.new.opens.items told.new.gives.items }
 {

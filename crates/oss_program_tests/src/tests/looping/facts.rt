@@ -140,7 +140,7 @@ fn assert_turns(rt: &impl Abort, turns: &Stmt) {
 }
 
 /// The block but for the statement of its turns.
-pub fn assert_rounds(rt: &impl Abort, block: &Stmt) {
+pub(crate) fn assert_rounds(rt: &impl Abort, block: &Stmt) {
     assert_eq!(rt; block.line, 1);
     assert_eq!(rt; count(rt, block), 3);
     assert_bounds(rt, statement(rt, block, 0));
@@ -170,7 +170,7 @@ fn assert_square(rt: &impl Abort, one: &Stmt) {
 }
 
 /// The block.
-pub fn assert_block_of_squares(rt: &impl Abort, block: &Stmt) {
+pub(crate) fn assert_block_of_squares(rt: &impl Abort, block: &Stmt) {
     assert_rounds(rt, block);
     assert_square(rt, body(rt, turns(rt, block)));
 }

@@ -12,7 +12,7 @@ use oss_syntax::{
 use std::alloc::Global;
 use std::process::Abort;
 
-pub fn boxed<T: Drop>(rt: &impl Abort, alloc: Global, value: T) -> Boxed<T> {
+pub(crate) fn boxed<T: Drop>(rt: &impl Abort, alloc: Global, value: T) -> Boxed<T> {
     Boxed::new(alloc, value).expect(rt, "memory for a box")
 }
 
@@ -59,7 +59,7 @@ fn product(rt: &impl Abort, alloc: Global) -> Expr {
 }
 
 /// `a[i] = i * i;`
-pub fn square(rt: &impl Abort, alloc: Global) -> Stmt {
+pub(crate) fn square(rt: &impl Abort, alloc: Global) -> Stmt {
     let target = element(rt, alloc);
     let value = product(rt, alloc);
     Stmt {
@@ -106,7 +106,7 @@ fn variable(rt: &impl Abort, alloc: Global) -> Local {
 }
 
 /// The pragma, and `for (long i = 0; i < 8; i++)`.
-pub fn head(rt: &impl Abort, alloc: Global) -> LoopHead {
+pub(crate) fn head(rt: &impl Abort, alloc: Global) -> LoopHead {
     LoopHead {
         mark: mark(rt, alloc),
         variable: variable(rt, alloc),
@@ -161,7 +161,7 @@ fn main(rt: &impl Abort, alloc: Global) -> Function {
 }
 
 /// `long a[8];` and the function.
-pub fn program(rt: &impl Abort, alloc: Global) -> Program {
+pub(crate) fn program(rt: &impl Abort, alloc: Global) -> Program {
     let array = Item::Global(GlobalDef {
         name: name(rt, alloc, b"a"),
         kind: NumKind::Long,

@@ -12,17 +12,17 @@ fn block<'a>(rt: &impl Abort, one: &'a Stmt) -> &'a List<Stmt> {
 }
 
 /// How many statements a block has.
-pub fn count(rt: &impl Abort, one: &Stmt) -> usize {
+pub(crate) fn count(rt: &impl Abort, one: &Stmt) -> usize {
     block(rt, one).len()
 }
 
 /// The statement at a place in a block.
-pub fn statement<'a>(rt: &impl Abort, one: &'a Stmt, at: usize) -> &'a Stmt {
+pub(crate) fn statement<'a>(rt: &impl Abort, one: &'a Stmt, at: usize) -> &'a Stmt {
     block(rt, one).get(at).expect(rt, "a statement")
 }
 
 /// The locals of a declaration.
-pub fn locals<'a>(rt: &impl Abort, one: &'a Stmt) -> &'a List<Local> {
+pub(crate) fn locals<'a>(rt: &impl Abort, one: &'a Stmt) -> &'a List<Local> {
     match &one.what {
         StmtKind::Declare(list) => list,
         _ => panic!(rt; "no declaration"),
@@ -30,7 +30,7 @@ pub fn locals<'a>(rt: &impl Abort, one: &'a Stmt) -> &'a List<Local> {
 }
 
 /// The statement of a loop or of a task.
-pub fn body<'a>(rt: &impl Abort, one: &'a Stmt) -> &'a Stmt {
+pub(crate) fn body<'a>(rt: &impl Abort, one: &'a Stmt) -> &'a Stmt {
     match &one.what {
         StmtKind::While(_, body) => body.get(),
         StmtKind::For(_, _, _, body) => body.get(),
@@ -40,7 +40,7 @@ pub fn body<'a>(rt: &impl Abort, one: &'a Stmt) -> &'a Stmt {
 }
 
 /// The test of a loop or of an `if`.
-pub fn test<'a>(rt: &impl Abort, one: &'a Stmt) -> &'a Expr {
+pub(crate) fn test<'a>(rt: &impl Abort, one: &'a Stmt) -> &'a Expr {
     match &one.what {
         StmtKind::While(test, _) => test,
         StmtKind::If(test, _, _) => test,
@@ -50,7 +50,7 @@ pub fn test<'a>(rt: &impl Abort, one: &'a Stmt) -> &'a Expr {
 }
 
 /// The step of a `for` without a first part.
-pub fn step<'a>(rt: &impl Abort, one: &'a Stmt) -> &'a Stmt {
+pub(crate) fn step<'a>(rt: &impl Abort, one: &'a Stmt) -> &'a Stmt {
     match &one.what {
         StmtKind::For(start, _, step, _) => {
             assert!(rt; start.is_none());
@@ -61,7 +61,7 @@ pub fn step<'a>(rt: &impl Abort, one: &'a Stmt) -> &'a Stmt {
 }
 
 /// The branch of an `if` without an `else`.
-pub fn branch<'a>(rt: &impl Abort, one: &'a Stmt) -> &'a Stmt {
+pub(crate) fn branch<'a>(rt: &impl Abort, one: &'a Stmt) -> &'a Stmt {
     match &one.what {
         StmtKind::If(_, branch, other) => {
             assert!(rt; other.is_none());
@@ -72,7 +72,7 @@ pub fn branch<'a>(rt: &impl Abort, one: &'a Stmt) -> &'a Stmt {
 }
 
 /// The branch behind an `else`.
-pub fn other_branch<'a>(rt: &impl Abort, one: &'a Stmt) -> &'a Stmt {
+pub(crate) fn other_branch<'a>(rt: &impl Abort, one: &'a Stmt) -> &'a Stmt {
     match &one.what {
         StmtKind::If(_, _, other) => other.as_ref().expect(rt, "an else").get(),
         _ => panic!(rt; "no if"),
@@ -80,7 +80,7 @@ pub fn other_branch<'a>(rt: &impl Abort, one: &'a Stmt) -> &'a Stmt {
 }
 
 /// The target and the right side of an assignment with this operator.
-pub fn assigned<'a>(rt: &impl Abort, one: &'a Stmt, wanted: Option<BinOp>) -> (&'a Expr, &'a Expr) {
+pub(crate) fn assigned<'a>(rt: &impl Abort, one: &'a Stmt, wanted: Option<BinOp>) -> (&'a Expr, &'a Expr) {
     match &one.what {
         StmtKind::Assign(target, operator, value) => {
             assert!(rt; *operator == wanted);
@@ -91,7 +91,7 @@ pub fn assigned<'a>(rt: &impl Abort, one: &'a Stmt, wanted: Option<BinOp>) -> (&
 }
 
 /// Both sides of an operator.
-pub fn operands<'a>(rt: &impl Abort, e: &'a Expr, wanted: BinOp) -> (&'a Expr, &'a Expr) {
+pub(crate) fn operands<'a>(rt: &impl Abort, e: &'a Expr, wanted: BinOp) -> (&'a Expr, &'a Expr) {
     match &e.what {
         ExprKind::Binary(operator, left, right) => {
             assert!(rt; *operator == wanted);
@@ -102,17 +102,17 @@ pub fn operands<'a>(rt: &impl Abort, e: &'a Expr, wanted: BinOp) -> (&'a Expr, &
 }
 
 /// The one task of a loop that is written out.
-pub fn task<'a>(rt: &impl Abort, written: &'a Stmt) -> &'a Stmt {
+pub(crate) fn task<'a>(rt: &impl Abort, written: &'a Stmt) -> &'a Stmt {
     statement(rt, body(rt, statement(rt, written, 2)), 2)
 }
 
 /// The turns of a task of a loop that is written out.
-pub fn turns<'a>(rt: &impl Abort, written: &'a Stmt) -> &'a Stmt {
+pub(crate) fn turns<'a>(rt: &impl Abort, written: &'a Stmt) -> &'a Stmt {
     body(rt, task(rt, written))
 }
 
 /// The function at a place in a program.
-pub fn function<'a>(rt: &impl Abort, program: &'a Program, at: usize) -> &'a Function {
+pub(crate) fn function<'a>(rt: &impl Abort, program: &'a Program, at: usize) -> &'a Function {
     match program.items.get(at).expect(rt, "an item") {
         Item::Function(function) => function,
         Item::Global(_) => panic!(rt; "no function"),

@@ -119,7 +119,7 @@ fn main(rt: &impl Abort, alloc: Global, line: u32, body: List<Stmt>) -> Item {
 }
 
 /// `int main() { }`
-pub fn nothing(rt: &impl Abort, alloc: Global) -> Program {
+pub(crate) fn nothing(rt: &impl Abort, alloc: Global) -> Program {
     Program {
         items: list(rt, alloc, [main(rt, alloc, 1, List::new(alloc))]),
     }
@@ -153,7 +153,7 @@ fn reader(rt: &impl Abort, alloc: Global) -> Stmt {
 ///   printf("%ld\n", y);
 /// }
 /// ```
-pub fn flow(rt: &impl Abort, alloc: Global) -> Program {
+pub(crate) fn flow(rt: &impl Abort, alloc: Global) -> Program {
     let wait = Stmt {
         what: StmtKind::TaskWait(None),
         line: 7,
@@ -218,7 +218,7 @@ fn turns(rt: &impl Abort, alloc: Global) -> Stmt {
 ///   printf("%lu\n", s);
 /// }
 /// ```
-pub fn wrap(rt: &impl Abort, alloc: Global) -> Program {
+pub(crate) fn wrap(rt: &impl Abort, alloc: Global) -> Program {
     let clause = depend(rt, alloc, 7, Mode::Read, false, b"s");
     let shown = print(rt, alloc, 8, b"%lu\n", b"s");
     let shows = task(rt, alloc, 7, list(rt, alloc, [clause]), shown);
