@@ -2,12 +2,12 @@
 //! done, is told by six flags at the access itself, and nobody looks through the lists.
 #![tactic(auto)]
 
+mod access_list;
 mod hang;
 pub mod laws;
-mod access_list;
 mod marks;
 mod queue;
 
-pub use hang::Hang;
 pub use access_list::AccessList;
+pub use hang::Hang;
 pub use marks::Marks;

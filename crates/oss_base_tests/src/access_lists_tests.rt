@@ -3,8 +3,8 @@
 ghost use Rattle.std.specs.Prelude.{◌≡◌, true};
 ghost use Rattle.oss_model.specs.Rights.{covers};
 
-use oss_syntax::{Mode, Op};
 use oss_access_lists::AccessList;
+use oss_syntax::{Mode, Op};
 use std::process::Abort;
 use std::test::Fail;
 
@@ -26,7 +26,12 @@ fn covers_all(mode: Mode, child: Mode) -> bool
 }
 
 /// Hangs an access below one that covers all.
-fn hang_below(rt: &impl Abort, line: &mut AccessList, above: usize, mode: Mode) -> Result<(), Fail> {
+fn hang_below(
+    rt: &impl Abort,
+    line: &mut AccessList,
+    above: usize,
+    mode: Mode,
+) -> Result<(), Fail> {
     assert!(rt; above < line.count());
     let creator = line.hang(above);
     assert!(rt; !creator.gave);

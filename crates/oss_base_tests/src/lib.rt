@@ -3,17 +3,15 @@
 #![tactic(auto)]
 
 #[cfg(test)]
+mod access_lists_tests;
+#[cfg(test)]
 mod code_tests;
 #[cfg(test)]
 mod gen_tests;
 #[cfg(test)]
-mod thread_groups_tests;
-#[cfg(test)]
 mod judge_tests;
 #[cfg(test)]
 mod model_tests;
-#[cfg(test)]
-mod word_net_tests;
 #[cfg(test)]
 mod ranges_tests;
 #[cfg(test)]
@@ -25,8 +23,10 @@ mod sections_tests;
 #[cfg(test)]
 mod slots_tests;
 #[cfg(test)]
+mod thread_groups_tests;
+#[cfg(test)]
 mod tree_tests;
 #[cfg(test)]
 mod values_tests;
 #[cfg(test)]
-mod access_lists_tests;
+mod word_net_tests;

@@ -3,9 +3,9 @@
 ghost use Rattle.std.specs.Prelude.{◌≡◌, true};
 ghost use Rattle.oss_model.specs.Rights.{covers};
 
+use oss_access_lists::AccessList;
 use oss_retire::{has_spent, remainder_of};
 use oss_syntax::{Mode, Op};
-use oss_access_lists::AccessList;
 use std::alloc::Global;
 use std::process::Abort;
 use std::test::Fail;

@@ -8,9 +8,9 @@ ghost use Rattle.oss_fragments.specs.Stretches.{HasRoom, IsFragment};
 ghost use Rattle.oss_fragments.specs.Changes.{HasSameEdges, IsGivenIn, IsOpenedIn, IsRoomier, IsThinner};
 
 use crate::places::place_of;
+use oss_access_lists::AccessList;
 use oss_retire::{Remainder, has_spent, remainder_of};
 use oss_syntax::Mode;
-use oss_access_lists::AccessList;
 use std::alloc::{AllocError, Global};
 
 /// Cells that no cut divides: all have the same accesses, which are kept once.

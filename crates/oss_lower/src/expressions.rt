@@ -15,9 +15,9 @@ use crate::typed::{
 };
 use oss_code::{Direction, Instr};
 use oss_grammar::ValueKind;
-use oss_types::{kind_of, kind_of_binary};
 use oss_meaning::{Found, Target, Typed};
 use oss_syntax::{BinOp, Expr, ExprKind, Function, NumKind, UnOp};
+use oss_types::{kind_of, kind_of_binary};
 use std::alloc::AllocError;
 
 /// What stands under an index.

@@ -7,9 +7,9 @@ ghost use Rattle.oss_meaning.specs.Names.{found, functions_of, global_found, ite
 
 use crate::numbers::deeper;
 use crate::scope::Scope;
-use oss_types::NameTable;
 use oss_meaning::Found;
 use oss_syntax::{Function, GlobalDef, Item};
+use oss_types::NameTable;
 use std::alloc::{AllocError, Global};
 use std::marker::Model;
 

@@ -24,11 +24,11 @@ use crate::site::Site;
 use crate::typed::operator;
 use oss_code::{Declared, Instr};
 use oss_grammar::{Piece, ValueKind, pieces};
-use oss_types::{kind_of, kind_of_number};
 use oss_meaning::{Found, Target};
 use oss_syntax::{
     BinOp, Bytes, Clause, Expr, ExprKind, Kind, List, Local, Mode, Name, NumKind, Op, Section,
 };
+use oss_types::{kind_of, kind_of_number};
 use std::alloc::{AllocError, Global};
 
 /// Writes a declaration: locals from left to right, each in scope behind its initial value.

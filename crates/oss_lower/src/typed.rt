@@ -6,9 +6,9 @@ ghost use Rattle.oss_lower.specs.ExpressionCode.{direction_of, operator_by};
 
 use oss_code::{Direction, Instr, Operator};
 use oss_grammar::ValueKind;
-use oss_types::{kind_of, kind_of_element, kind_of_number};
 use oss_meaning::{Found, Target, Typed};
 use oss_syntax::{BinOp, NumKind};
+use oss_types::{kind_of, kind_of_element, kind_of_number};
 
 /// A value of this kind, which designates nothing.
 pub(crate) fn typed_value(kind: ValueKind) -> Typed

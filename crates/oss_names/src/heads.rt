@@ -9,8 +9,8 @@ ghost use Rattle.oss_names.specs.PartChecks.{IsPartChecked};
 
 use crate::sections::{loop_clauses, optional};
 use oss_grammar::Wanted;
-use oss_types::{Globals, Locals, before, refused_if, value};
 use oss_syntax::{LoopHead, Refusal, Refused, RefusedKind};
+use oss_types::{Globals, Locals, before, refused_if, value};
 use std::alloc::AllocError;
 
 /// With so many locals in scope a task loop has no room for its five.

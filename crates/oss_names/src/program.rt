@@ -10,8 +10,8 @@ ghost use Rattle.oss_names.specs.Resolved.{IsChecked};
 use crate::sections::{clauses, is_of_ints};
 use crate::statements::{declare, statements};
 use oss_grammar::{Around, Nearest};
-use oss_types::{Globals, Locals, before, is_named_main, refused, refused_if};
 use oss_syntax::{Function, GlobalDef, Item, Kind, Program, Refusal, Refused, RefusedKind};
+use oss_types::{Globals, Locals, before, is_named_main, refused, refused_if};
 use std::alloc::{AllocError, Global};
 
 /// The most cells of a program.

@@ -6,10 +6,10 @@ ghost use Rattle.oss_grammar.specs.StaticRules.{wait_rules};
 ghost use Rattle.oss_grammar.specs.SectionRules.{begins_with_base, clause_rules, clauses_rules, ends_with_base, fits_base, form_rules, has_elements, has_ints, inner_rules, is_array, is_fold, is_global, is_grid, is_int, is_missing, is_wrong_section, loop_clause_rules, loop_clauses_rules, many_rules, optional_rules, section_rules, sections_in, sections_rules};
 
 use oss_grammar::{Named, Wanted};
-use oss_types::{Globals, Locals, Scope, before, refused_if, value, value_in};
 use oss_syntax::{
     Clause, Expr, Form, Inner, Kind, List, Mode, NumKind, Refused, RefusedKind, Section, Turns,
 };
+use oss_types::{Globals, Locals, Scope, before, refused_if, value, value_in};
 
 /// The most sections of a pragma.
 const MOST_SECTIONS: usize = 64;
@@ -18,7 +18,11 @@ const MOST_SECTIONS: usize = 64;
 pub(crate) const MOST_LOCALS: usize = 255;
 
 /// The first rule that the clauses of a pragma break.
-pub(crate) fn clauses(globals: &Globals<'_>, locals: &Locals<'_>, clauses: &[Clause]) -> Option<Refused>
+pub(crate) fn clauses(
+    globals: &Globals<'_>,
+    locals: &Locals<'_>,
+    clauses: &[Clause],
+) -> Option<Refused>
     ensures { result ≡ first (clauses_rules globals.now locals.now 0 clauses.now) }
 {
     loop_clauses(globals, locals, locals.len(), clauses)
@@ -301,7 +305,11 @@ fn both_ends(
 }
 
 /// The first rule that a number breaks that may be left out.
-pub(crate) fn optional(globals: &Globals<'_>, locals: &Locals<'_>, expr: &Option<Expr>) -> Option<Refused>
+pub(crate) fn optional(
+    globals: &Globals<'_>,
+    locals: &Locals<'_>,
+    expr: &Option<Expr>,
+) -> Option<Refused>
     ensures { result ≡ first (optional_rules globals.now locals.now expr.now) }
 {
     match expr {

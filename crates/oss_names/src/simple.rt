@@ -7,11 +7,11 @@ ghost use Rattle.oss_grammar.specs.StaticRules.{assign_rules, format_rules, is_w
 ghost use Rattle.oss_types.specs.Seen.{seen};
 
 use oss_grammar::{Around, Object, ValueKind, Wanted, conversions};
+use oss_syntax::{BinOp, Bytes, Expr, Kind, List, Name, NumKind, Refused, RefusedKind};
 use oss_types::{
     Finding, Globals, Locals, Scope, at_place, before, call, expression, first_of, refused,
     refused_if, taken_by, value, wrong,
 };
-use oss_syntax::{BinOp, Bytes, Expr, Kind, List, Name, NumKind, Refused, RefusedKind};
 
 /// The first rule that an assignment breaks.
 pub(crate) fn assignment(

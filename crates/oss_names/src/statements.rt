@@ -13,10 +13,10 @@ use crate::heads::enter;
 use crate::sections::{MOST_LOCALS, clauses, optional, wait};
 use crate::simple::{assignment, call_statement, optional_for, print, return_statement};
 use oss_grammar::{Around, Nearest, Wanted};
-use oss_types::{Globals, Locals, before, refused_if, value};
 use oss_syntax::{
     Boxed, Expr, Local, LoopHead, Refusal, Refused, RefusedKind, Stmt, StmtKind, TaskMark,
 };
+use oss_types::{Globals, Locals, before, refused_if, value};
 
 /// Ends a part of a text whose first broken rule this is.
 fn told(broken: Option<Refused>) -> Result<(), Refusal>

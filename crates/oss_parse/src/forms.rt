@@ -127,7 +127,11 @@ pub(crate) fn for_head(alloc: Global, tokens: &mut Cursor<'_>) -> Result<(u32, F
 
 /// A keyword with its line, and the test in brackets behind it.
 #[tactic(auto, unfolding(crate::specs::StatementReading::read_head, oss_expressions::specs::ExpressionReading::read_brackets))]
-pub(crate) fn head(alloc: Global, word: &[u8], tokens: &mut Cursor<'_>) -> Result<(u32, Expr), Unread>
+pub(crate) fn head(
+    alloc: Global,
+    word: &[u8],
+    tokens: &mut Cursor<'_>,
+) -> Result<(u32, Expr), Unread>
     ensures { ReadsAs (read_head word.now read_expression tokens.old) result tokens.new }
 {
     let line = keyword(word, tokens)?;
@@ -237,7 +241,11 @@ fn loop_parts(
 
 /// The same, behind the pragma of a task loop.
 #[tactic(auto, unfolding(crate::specs::StatementReading::read_loop_head))]
-pub(crate) fn loop_head(alloc: Global, mark: TaskMark, tokens: &mut Cursor<'_>) -> Result<LoopHead, Unread>
+pub(crate) fn loop_head(
+    alloc: Global,
+    mark: TaskMark,
+    tokens: &mut Cursor<'_>,
+) -> Result<LoopHead, Unread>
     ensures { ReadsAs (read_loop_head read_expression mark tokens.old) result tokens.new }
 {
     let ((for_line, variable), (first, (tested, (end, stepped)))) = loop_parts(alloc, tokens)?;

@@ -385,7 +385,10 @@ pub(crate) fn sections(alloc: Global, tokens: &mut Cursor<'_>) -> Result<List<Se
 
 /// "(" sections ")"
 #[tactic(auto, unfolding(crate::specs::PragmaReading::read_bracketed_sections))]
-pub(crate) fn bracketed_sections(alloc: Global, tokens: &mut Cursor<'_>) -> Result<List<Section>, Unread>
+pub(crate) fn bracketed_sections(
+    alloc: Global,
+    tokens: &mut Cursor<'_>,
+) -> Result<List<Section>, Unread>
     ensures { ReadsAs (read_bracketed_sections read_expression tokens.old) result tokens.new }
 {
     tokens.symbol(b"(")?;

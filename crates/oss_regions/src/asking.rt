@@ -4,8 +4,8 @@ ghost use Rattle.oss_links.specs.Readings.{is_let, is_list_done};
 ghost use Rattle.oss_regions.specs.Asked.{IsNumberInTheWay, IsNumberUndone};
 
 use crate::walking::{bar_of, undone_below};
-use oss_syntax::Mode;
 use oss_access_lists::AccessList;
+use oss_syntax::Mode;
 
 /// The number of the open whose access stands in the way of another access, which waits in this mode.
 pub(crate) fn number_in_the_way(

@@ -5,8 +5,8 @@ ghost use Rattle.oss_links.specs.Readings.{is_let, is_list_done};
 ghost use Rattle.oss_links.specs.Search.{IsInTheWay, IsUndoneUpTo, passes};
 ghost use Rattle.oss_regions.specs.Walks.{IsUndoneIn};
 
-use oss_syntax::Mode;
 use oss_access_lists::{AccessList, Marks};
+use oss_syntax::Mode;
 
 /// The access is given up, and all below it is done.
 fn is_over(flags: Marks) -> bool

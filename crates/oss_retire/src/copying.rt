@@ -9,8 +9,8 @@ ghost use Rattle.oss_retire.specs.Copies.{AreCopied, AreGivenUp, AreHolding, at_
 ghost use Rattle.oss_retire.specs.Remainder.{AreRising, IsRemainder, is_spent};
 
 use crate::remainder::Remainder;
-use oss_syntax::Mode;
 use oss_access_lists::{AccessList, Marks};
+use oss_syntax::Mode;
 use std::alloc::{AllocError, Global};
 
 /// The accesses that are kept, and where those of the old line have gone.
@@ -33,7 +33,11 @@ pub(crate) fn is_spent(flags: Marks) -> bool
 }
 
 /// The accesses of a line that are not spent, none of them given up.
-pub(crate) fn copied(alloc: Global, line: &AccessList, numbers: &[usize]) -> Result<Copy, AllocError>
+pub(crate) fn copied(
+    alloc: Global,
+    line: &AccessList,
+    numbers: &[usize],
+) -> Result<Copy, AllocError>
     requires settled { line.now.head ≡ 0 }
     requires size { length numbers.now ≡ length line.now.hangs }
     requires some { 0 < length line.now.hangs }

@@ -20,7 +20,11 @@ pub struct Remainder {
 /// spent too, and what is told of each other access stays so: a released access stands in no list any more (Perez, Beltran, Labarta and Ayguadé, IPDPS 2017). What is left tells
 /// the same of the opened tasks, and numbers that rise still do. Err: memory is wanting. It costs as much as there are accesses. Conditions: the line is settled; each access has
 /// a number, and main's is among them.
-pub fn remainder_of(alloc: Global, line: &AccessList, numbers: &[usize]) -> Result<Remainder, AllocError>
+pub fn remainder_of(
+    alloc: Global,
+    line: &AccessList,
+    numbers: &[usize],
+) -> Result<Remainder, AllocError>
     requires settled { line.now.head ≡ 0 }
     requires size { length numbers.now ≡ length line.now.hangs }
     requires some { 0 < length line.now.hangs }

@@ -22,7 +22,11 @@ pub(crate) enum Turn {
 }
 
 /// The act happens: memory and output change. A fold goes straight to memory, since no other task runs beside this one.
-pub(crate) fn happen(act: &Act, cells: &mut Vec<u64>, output: &mut Vec<u8>) -> Result<Turn, AllocError>
+pub(crate) fn happen(
+    act: &Act,
+    cells: &mut Vec<u64>,
+    output: &mut Vec<u8>,
+) -> Result<Turn, AllocError>
     ensures cells { OnOk result (cells.new.items ≡ direct_cells (act_seen act.now) cells.old.items) }
     ensures output { OnOk result (output.new.items ≡ printed_after (act_seen act.now) output.old.items) }
     ensures turn { IfOk result (λ turn. turn ≡ turn_of act.now cells.old.items) }

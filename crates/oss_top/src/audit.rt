@@ -35,7 +35,11 @@ fn audited(alloc: Global, fuel: u32, known: &Known) -> Result<AuditRun, AllocErr
 }
 
 /// The reply that tells this text of a program that has this answer.
-pub(crate) fn reply_to_told(alloc: Global, text: Bytes, answer: &Answer) -> Result<Reply, AllocError>
+pub(crate) fn reply_to_told(
+    alloc: Global,
+    text: Bytes,
+    answer: &Answer,
+) -> Result<Reply, AllocError>
     ensures { IfOk result (λ reply. reply ≡ told_reply text answer.now) }
 {
     match answer {

@@ -14,7 +14,7 @@ ghost use Rattle.oss_top.specs.Reply.{IsFileReply, IsProgramReply, IsReply, IsSh
 use crate::audit::reply_to_audit;
 use crate::known::known;
 use crate::replay::reply_to_replay;
-use crate::run::{reply_to_run, reply_to_generated};
+use crate::run::{reply_to_generated, reply_to_run};
 use crate::span::reply_to_span;
 use crate::status::Status;
 use crate::texts;

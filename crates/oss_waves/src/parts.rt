@@ -11,9 +11,9 @@ ghost use Rattle.oss_waves.specs.Readies.{IsReady};
 use crate::team::Team;
 use oss_body::Body;
 use oss_code::Code;
-use oss_thread_groups::{Work, in_groups};
 use oss_io::Gate;
 use oss_segment::{Ready, Segment};
+use oss_thread_groups::{Work, in_groups};
 use std::alloc::{AllocError, Global};
 use std::thread::Threads;
 

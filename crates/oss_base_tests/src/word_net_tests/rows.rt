@@ -4,8 +4,8 @@ ghost use Rattle.oss_word_net.specs.Known.{first_known};
 ghost use Rattle.oss_word_net.specs.Moves.{drew};
 ghost use Rattle.oss_word_net.specs.Rows.{Row, Keeps, ToGive, info_above, info_below};
 
-use oss_word_net::{WordNet, WordSeat};
 use oss_syntax::Mode;
+use oss_word_net::{WordNet, WordSeat};
 use oss_words::{After, EntryInfo};
 use std::alloc::{AllocError, Global};
 use std::process::Abort;

@@ -2,8 +2,8 @@
 ghost use Rattle.std.specs.Prelude.{◌≡◌};
 
 use crate::word_net_tests::rows::settle;
-use oss_word_net::WordNet;
 use oss_syntax::Mode;
+use oss_word_net::WordNet;
 use oss_words::{After, EntryInfo};
 use std::test::Fail;
 

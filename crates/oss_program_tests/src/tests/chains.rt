@@ -5,9 +5,9 @@ ghost use Rattle.std.specs.Prelude.{◌≤◌, length};
 
 use crate::tests::programs;
 use crate::tests::reading::code_of;
-use oss_span_check::check_chain;
 use oss_code::Code;
 use oss_span::{Link, SpanRun, span};
+use oss_span_check::check_chain;
 use oss_syntax::List;
 use std::process::Abort;
 

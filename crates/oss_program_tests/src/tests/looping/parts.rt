@@ -80,7 +80,11 @@ pub(crate) fn other_branch<'a>(rt: &impl Abort, one: &'a Stmt) -> &'a Stmt {
 }
 
 /// The target and the right side of an assignment with this operator.
-pub(crate) fn assigned<'a>(rt: &impl Abort, one: &'a Stmt, wanted: Option<BinOp>) -> (&'a Expr, &'a Expr) {
+pub(crate) fn assigned<'a>(
+    rt: &impl Abort,
+    one: &'a Stmt,
+    wanted: Option<BinOp>,
+) -> (&'a Expr, &'a Expr) {
     match &one.what {
         StmtKind::Assign(target, operator, value) => {
             assert!(rt; *operator == wanted);
