@@ -1,3 +1,5 @@
+//! All tables of a line of accesses behind one invariant. The work on the tables is in `queue`, which takes them one by one.
+
 ghost use Rattle.std.specs.Prelude.{ℕ, ◌≡◌, ◌<◌, ◌==◌, [], ◌∷◌, length, false, true, IfOk, IsOk, OnOk, OnErr};
 ghost use Rattle.oss_access_lists.specs.Kept.{HasRoom};
 ghost use Rattle.oss_access_lists.specs.Wires.{AreWired};
@@ -18,10 +20,15 @@ use std::marker::Model;
 /// the lists: a call of `open` or `give` posts them, and `settle` delivers what is posted. To open, give up and settle a chain of
 /// accesses one by one costs as much as there are accesses: no call walks over all of them.
 pub struct AccessList {
+    /// The links, the mode and the gift of each access, by its number.
     hangs: Vec<Hang>,
+    /// The flags that stand, in the same order.
     stand: Vec<Marks>,
+    /// The flags that wait for their delivery.
     posted: Vec<Marks>,
+    /// The next access at which flags wait, for each at which some do.
     behind: Vec<usize>,
+    /// The first access at which flags wait, 0 where there is none.
     head: usize,
 }
 

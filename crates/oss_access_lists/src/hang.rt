@@ -1,3 +1,5 @@
+//! The links of an access. They are numbers and no pointers, so a line is copied table by table.
+
 use oss_syntax::Mode;
 
 /// How an access to a cell hangs among the others, by their numbers. A number is 0 where there is no such access; the one above is 0

@@ -1,3 +1,5 @@
+//! The flags of an access, and which of them go on to its next sibling and to its first child.
+
 ghost use Rattle.oss_model.specs.Rights.{op_eq};
 ghost use Rattle.std.specs.Prelude.{◌≡◌, ◌<◌, ◌≤◌, length};
 ghost use Rattle.std.proofs.Math.ListN.{set};
@@ -123,6 +125,7 @@ pub(crate) fn is_none(a: Marks) -> bool
     !(a.reads || a.joins || a.writes || a.given || a.done || a.clear)
 }
 
+/// The operators are one.
 fn same_op(a: Op, b: Op) -> bool
     ensures { result ≡ op_eq a b }
 {
@@ -154,6 +157,7 @@ fn same_op(a: Op, b: Op) -> bool
     }
 }
 
+/// The access is a read.
 fn is_read(m: Mode) -> bool
     ensures { result ≡ Rattle.oss_access_lists.specs.Flags.is_read m }
 {
@@ -164,6 +168,7 @@ fn is_read(m: Mode) -> bool
     }
 }
 
+/// The access is a reduction, by whatever operator.
 fn is_fold(m: Mode) -> bool
     ensures { result ≡ Rattle.oss_access_lists.specs.Flags.is_fold m }
 {
@@ -174,6 +179,7 @@ fn is_fold(m: Mode) -> bool
     }
 }
 
+/// Both are reductions by one operator. Their folds commute, so the join of the later one need not wait for the earlier one.
 fn same_fold(m: Mode, n: Mode) -> bool
     ensures { result ≡ Rattle.oss_access_lists.specs.Flags.same_fold m n }
 {

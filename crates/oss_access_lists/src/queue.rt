@@ -1,3 +1,5 @@
+//! Openings and gifts post flags, and a loop delivers them. Who waits is a chain through a table, so a post takes no memory.
+
 ghost use Rattle.std.specs.Prelude.{◌≡◌, ◌<◌, ◌++◌, [], ◌∷◌, length, vec_capacity, false, true, IfOk, IsOk, OnOk, OnErr};
 ghost use Rattle.oss_model.specs.Rights.{covers};
 ghost use Rattle.oss_access_lists.specs.Steps.{IsGift, IsHung};

@@ -60,14 +60,17 @@ fn out(lo: u32, hi: u32) -> Access
     }
 }
 
+/// These accesses, as a creation takes them.
 fn list(rt: &impl Abort, alloc: Global, accesses: &[Access]) -> List<Access> {
     List::from_vec(accesses.to_vec(alloc).expect(rt, "memory for clauses"))
 }
 
+/// These ranges, as a wait for some cells takes them.
 fn ranges(rt: &impl Abort, alloc: Global, named: &[Range]) -> List<Range> {
     List::from_vec(named.to_vec(alloc).expect(rt, "memory for ranges"))
 }
 
+/// Main over so many cells.
 fn main_of(rt: &impl Abort, alloc: Global, cells: u32) -> Context
     requires { cells ≤ 1048576 }
 {
@@ -102,28 +105,34 @@ fn task_of(rt: &impl Abort, alloc: Global, cells: u32, clauses: &[Access]) -> Co
 /// The faults of a read, of a write and of a fold by `+` of a cell.
 type Faults = [Option<FaultKind>; 3];
 
+/// Each touch is allowed.
 const FREE: Faults = [None, None, None];
 
+/// The task never had a right to the cell.
 const NO_RIGHT: Faults = [
     Some(FaultKind::NoRight),
     Some(FaultKind::NoRight),
     Some(FaultKind::NoRight),
 ];
 
+/// The task has given the cell up.
 const RELEASED: Faults = [
     Some(FaultKind::Released),
     Some(FaultKind::Released),
     Some(FaultKind::Released),
 ];
 
+/// The cell is lent to a child that may write it.
 const LENT: Faults = [
     Some(FaultKind::Lent),
     Some(FaultKind::Lent),
     Some(FaultKind::Lent),
 ];
 
+/// The cell is lent to children that only read it.
 const LENT_FOR_READING: Faults = [None, Some(FaultKind::Lent), Some(FaultKind::Lent)];
 
+/// The cell has no value yet, so only a write is allowed.
 const UNWRITTEN: Faults = [Some(FaultKind::Unwritten), None, Some(FaultKind::Unwritten)];
 
 /// The touches of the first cells have these faults.

@@ -19,6 +19,7 @@ struct Random {
 }
 
 impl Random {
+    /// The next number, below this bound.
     fn below(&mut self, bound: u32) -> u32
         requires { 0 < bound }
         ensures { result < bound }
@@ -30,6 +31,7 @@ impl Random {
         ((self.state >> 33) % bound as u64) as u32
     }
 
+    /// The next range, of one cell or more.
     fn range(&mut self) -> Range {
         let lo = self.below(CELLS);
         let hi = lo + 1 + self.below(CELLS - lo);
@@ -45,6 +47,7 @@ struct Twins {
 }
 
 impl Twins {
+    /// No cell has a value.
     fn new(alloc: Global) -> Result<Twins, AllocError> {
         let mut cells = Vec::new(alloc);
         for _ in 0..CELLS {
@@ -59,6 +62,7 @@ impl Twins {
         })
     }
 
+    /// Changes both alike. Want of memory is the one error.
     fn set(&mut self, range: Range, value: Option<u8>) -> Result<(), AllocError> {
         match value {
             Some(value) => self.map.assign(range, value)?,

@@ -49,6 +49,7 @@ fn span(lower: Option<u64>, upper: Option<u64>) -> Part {
     Part::Span { lower, upper }
 }
 
+/// The ranges are these, as pairs of their ends.
 fn are(ranges: &List<Range>, wanted: &[(u32, u32)]) -> bool {
     if ranges.len() != wanted.len() {
         return false;
@@ -61,6 +62,7 @@ fn are(ranges: &List<Range>, wanted: &[(u32, u32)]) -> bool {
     true
 }
 
+/// The section names these ranges.
 fn names(alloc: Global, base: Base, extent: Extent, wanted: &[(u32, u32)]) -> bool {
     match section_ranges(alloc, &base, &extent) {
         Ok(ranges) => are(&ranges, wanted),
@@ -68,6 +70,7 @@ fn names(alloc: Global, base: Base, extent: Extent, wanted: &[(u32, u32)]) -> bo
     }
 }
 
+/// The section reaches past its base, and is refused for that.
 fn is_out_of_range(alloc: Global, base: Base, extent: Extent) -> bool {
     match section_ranges(alloc, &base, &extent) {
         Err(SectionRefused::Fault(kind)) => kind == FaultKind::OutOfRange,
@@ -75,10 +78,12 @@ fn is_out_of_range(alloc: Global, base: Base, extent: Extent) -> bool {
     }
 }
 
+/// A section of the array of rows names these ranges.
 fn assert_rows(rt: &impl Abort, alloc: Global, extent: Extent, wanted: &[(u32, u32)]) {
     assert!(rt; names(alloc, array_of_rows(), extent, wanted));
 }
 
+/// A part of a base names these ranges.
 fn assert_elements(rt: &impl Abort, alloc: Global, base: Base, part: Part, wanted: &[(u32, u32)]) {
     assert!(rt; names(alloc, base, Extent::Part(part), wanted));
 }

@@ -28,22 +28,26 @@ fn family(alloc: Global) -> Result<Tree, AllocError> {
     Ok(tree)
 }
 
+/// The body of a task ends, if there is the task: the contract asks for one of the tree.
 fn end(tree: &mut Tree, task: u64) {
     if task < tree.count() {
         tree.ended(TaskNo(task));
     }
 }
 
+/// A task gives up all its cells, if there is the task.
 fn give(tree: &mut Tree, task: u64) {
     if task < tree.count() {
         tree.gave_all(TaskNo(task));
     }
 }
 
+/// There is the task, and it is complete.
 fn is_complete(tree: &Tree, task: u64) -> bool {
     task < tree.count() && tree.complete(TaskNo(task))
 }
 
+/// The first child that is not complete, if there is the task.
 fn unfinished_child(tree: &Tree, task: u64) -> Option<TaskNo> {
     if task < tree.count() {
         tree.unfinished_child(TaskNo(task))

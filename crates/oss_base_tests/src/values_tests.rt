@@ -7,15 +7,19 @@ use oss_values::{apply, convert, is_zero, keep, number_in, prefix, shift, truth_
 /// Which operands are unsigned.
 const SIGNED: (bool, bool) = (false, false);
 
+/// The left operand alone.
 const LEFT_UNSIGNED: (bool, bool) = (true, false);
 
+/// The right operand alone.
 const RIGHT_UNSIGNED: (bool, bool) = (false, true);
 
+/// Both operands.
 const UNSIGNED: (bool, bool) = (true, true);
 
 /// The least number and the greatest one, read as signed.
 const LEAST: u64 = 9_223_372_036_854_775_808;
 
+/// The greatest number, read as signed.
 const GREATEST: u64 = 9_223_372_036_854_775_807;
 
 /// The number that is -1, read as signed.
@@ -291,6 +295,7 @@ const FAULTS: [(BinOp, (bool, bool), u64, u64, Result<u64, FaultKind>); 10] = [
     (BinOp::Right, UNSIGNED, LEAST, 63, Ok(1)),
 ];
 
+/// What the operator makes of two numbers.
 fn applied(
     operator: BinOp,
     unsigned: (bool, bool),

@@ -49,7 +49,9 @@ fn is_still<D: Deps>(tasks: &[Held], tree: &Tree, deps: &mut D) -> bool
 #[derive(Drop)]
 struct FaultSeen<'a> {
     kind: FaultKind,
+    /// The line of the source.
     line: u32,
+    /// The point of the act whose place the fault takes: the fault that is told is the one with the least key.
     key: &'a Point,
 }
 

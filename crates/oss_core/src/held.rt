@@ -1,3 +1,5 @@
+//! What a core keeps of each task beside the tree and the dependency system: its body, and the cells that it still owes.
+
 use oss_body::Body;
 use oss_ranges::RangeMap;
 use oss_syntax::Op;
@@ -14,6 +16,7 @@ pub enum Owed {
 /// What a core keeps of a task: its body, and how each cell that it has not given up is to be given up. Main has none to give up.
 pub struct Held {
     pub body: Body,
+    /// By cells. A cell that is given up has no value here.
     pub owed: RangeMap<Owed>,
 }
 

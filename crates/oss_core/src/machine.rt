@@ -26,9 +26,13 @@ use std::alloc::{AllocError, Global};
 /// memory. It makes the moves of the definitions, one at a time, in whatever order they are asked for.
 pub struct Core<D: Deps> {
     pub(crate) alloc: Global,
+    /// What is kept of each task, by its number.
     pub(crate) tasks: Vec<Held>,
+    /// Where the tasks stand, and what they have printed.
     pub(crate) tree: Tree,
+    /// What may go on, as far as cells go.
     pub(crate) deps: D,
+    /// The memory: one number of 64 bits for each cell.
     pub(crate) cells: Vec<u64>,
 }
 

@@ -23,6 +23,7 @@ const CELLS: u32 = 1_048_576;
 pub struct Passed {
     pub task: TaskNo,
     pub range: Range,
+    /// By joins, and else by lets.
     pub joined: bool,
 }
 

@@ -24,7 +24,9 @@ use std::alloc::{AllocError, Global};
 /// The bodies that are out in a wave, with the tasks that they are of, in point order.
 #[derive(Drop)]
 pub struct Lent {
+    /// The tasks.
     pub steppers: Vec<TaskNo>,
+    /// The body of each, in the same order.
     pub bodies: Vec<Body>,
 }
 

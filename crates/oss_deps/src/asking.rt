@@ -1,3 +1,5 @@
+//! The questions to the plain lists. Each goes from stretch to stretch over a range, and ends at the first obstacle.
+
 ghost use Rattle.std.specs.Prelude.{◌≡◌, ◌↔◌, ◌≤◌, ◌<◌, ◌+◌, ℕ, IsTrue, MatchOption, None};
 ghost use Rattle.oss_syntax.specs.declared.access.Op.{Op as Operator};
 ghost use Rattle.oss_syntax.specs.declared.access.Mode.TheVariants.{Fold};

@@ -1,3 +1,5 @@
+//! How a gift makes accesses done, from level to level upwards. Each access notes its first child that is not done, so nobody counts children.
+
 ghost use Rattle.std.specs.Prelude.{◌≡◌, ◌||◌, ◌==◌, ℕ, length, slice_get, None, Some, true};
 ghost use Rattle.oss_deps.specs.declared.frame.Frame.{Frame as Link};
 ghost use Rattle.oss_deps.specs.Kept.{given_by};

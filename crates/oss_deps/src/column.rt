@@ -1,3 +1,5 @@
+//! The list of accesses that the cells of a stretch share. It is made for all cells at first, and by copies where a cut divides it.
+
 ghost use Rattle.std.specs.Prelude.{◌≡◌, ◌∷◌, [], false, true, IfOk, OnOk, OnErr};
 ghost use Rattle.oss_deps.specs.Columns.{HasRoom, root};
 ghost use Rattle.oss_deps.specs.Places.{unmarked};
@@ -9,11 +11,15 @@ use std::alloc::{AllocError, Global};
 /// The accesses to a stretch of cells that no cut divides, in the order in which their tasks were opened. The first is main's.
 #[derive(Drop)]
 pub(crate) struct Column {
+    /// The first of its cells.
     pub(crate) lo: u32,
+    /// The first cell behind them.
     pub(crate) hi: u32,
     /// The first cell is a cut that was asked for.
     pub(crate) asked: bool,
+    /// Each access, by its place.
     pub(crate) frames: Vec<Frame>,
+    /// How far each access has come, in the same order.
     pub(crate) marks: Vec<Mark>,
 }
 

@@ -1,3 +1,5 @@
+//! Cuts that were asked for: a range that is given up may end only there. A stretch may begin at a cell that is no cut, where memory was reserved.
+
 ghost use Rattle.std.specs.Prelude.{◌≡◌, ◌≤◌, ◌||◌, ◌==◌, [], ℕ};
 ghost use Rattle.oss_syntax.specs.declared.access.Access.{Access as Meant};
 ghost use Rattle.oss_model.specs.Order.{IsIn};

@@ -1,3 +1,5 @@
+//! What each dependency system does, as one contract: the task machine is written once over it, and one system can stand in for another.
+
 ghost use Rattle.std.specs.Prelude.{◌≡◌, ◌≤◌, ◌<◌, ◌↔◌, ℕ, IsOk, IsTrue, MatchOption, OnErr, OnOk, Some};
 ghost use Rattle.oss_syntax.specs.declared.access.Op.{Op as Operator};
 ghost use Rattle.oss_syntax.specs.declared.access.Mode.TheVariants.{Fold};

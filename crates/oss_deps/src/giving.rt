@@ -1,3 +1,5 @@
+//! Gifts: a task gives up the cells of a range, stretch by stretch. This takes no memory.
+
 ghost use Rattle.std.specs.Prelude.{◌≡◌, ◌≤◌, ◌<◌, ◌||◌, ◌&&◌, ◌==◌, ℕ, List, None, Option, Some, slice_get};
 ghost use Rattle.oss_syntax.specs.declared.access.Access.{Access as Meant};
 ghost use Rattle.oss_deps.specs.declared.frame.Frame.{Frame as Link};

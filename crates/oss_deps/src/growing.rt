@@ -1,3 +1,5 @@
+//! How one access is added to a stretch that has room for it, and what changes in the links and marks of the others.
+
 ghost use Rattle.std.specs.Prelude.{◌≡◌, ◌<◌, ℕ, None, Some, false, length, slice_get, slice_index_or};
 ghost use Rattle.oss_deps.specs.declared.frame.Frame.{Frame as Link};
 ghost use Rattle.oss_deps.specs.declared.frame.Mark.{Mark as Flag};

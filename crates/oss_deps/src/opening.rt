@@ -1,3 +1,5 @@
+//! How the accesses of a new task are added to all stretches of their cells. Room was made before, so this cannot fail.
+
 ghost use Rattle.std.specs.Prelude.{◌≡◌, ◌≤◌, ◌<◌, ◌||◌, ◌&&◌, ◌==◌, [], ℕ, Bool, false, take};
 ghost use Rattle.oss_syntax.specs.declared.access.Access.{Access as Meant};
 ghost use Rattle.oss_model.specs.Order.{IsIn};

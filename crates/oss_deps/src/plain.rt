@@ -1,3 +1,5 @@
+//! The plain lists: a dependency system that keeps links and marks alone, and finds each answer by a walk over the lists.
+
 ghost use Rattle.std.specs.Prelude.{◌≡◌, ◌≤◌, ◌<◌, ℕ, IsOk, List as Accesses, MatchOption, OnErr, OnOk, Some};
 ghost use Rattle.oss_syntax.specs.declared.access.Access.{Access as Meant};
 ghost use Rattle.oss_deps.specs.Seen.{CanOpen, IsNew, IsSame, Opens, Reserves};
@@ -24,10 +26,15 @@ use std::marker::Model;
 /// The lists themselves, one for each stretch of cells that no cut divides.
 pub struct PlainDeps {
     pub(crate) alloc: Global,
+    /// The opened tasks, in the order of their openings. A task is known by its place here, counted from 1.
     pub(crate) opens: Vec<Open>,
+    /// The place of the stretch of each cell.
     pub(crate) map: RangeMap<usize>,
+    /// The stretches, in the order in which they were made; none before the first opening or preparation.
     pub(crate) columns: Vec<Column>,
+    /// The end of all cells is a cut that was asked for. No stretch begins there, so none can keep it.
     pub(crate) ended: bool,
+    /// The accesses for which room was made, if the next opening has these.
     pub(crate) reserved: Option<List<Access>>,
 }
 

@@ -1,3 +1,5 @@
+//! How stretches are made and divided. The new part gets a copy of all accesses, so no answer changes at any cell.
+
 ghost use Rattle.std.specs.Prelude.{◌≡◌, ◌<◌, [], Some, OnErr, OnOk, slice_get};
 ghost use Rattle.oss_ranges.specs.Cells.{value_at};
 ghost use Rattle.oss_deps.specs.declared.column.Column.{Column as Stretch};

@@ -1,3 +1,5 @@
+//! The walk from an access back over earlier siblings and up the levels, to the nearest access that stands in its way.
+
 ghost use Rattle.std.specs.Prelude.{◌≡◌, ◌↔◌, ◌<◌, length, IsTrue, MatchOption, None};
 ghost use Rattle.oss_deps.specs.Places.{AreLinked, AreMarked, AreModesCovered, IsFirstOf, IsWithin, first_at, place_forest};
 ghost use Rattle.oss_deps.specs.Wants.{Fits, IsBar, IsBarBeside, IsBarOf, IsLevelClear, IsSatisfied};

@@ -1,3 +1,5 @@
+//! What an access waits for, and which earlier accesses it may pass. One level up it may wait for something else.
+
 ghost use Rattle.std.specs.Prelude.{◌≡◌};
 ghost use Rattle.oss_model.specs.Rights.{op_eq};
 ghost use Rattle.oss_deps.specs.Wants.{is_fold_of, is_read, may_pass, want_above};
@@ -7,11 +9,15 @@ use oss_syntax::{Mode, Op};
 /// What an access waits for: a write, a read, or the join of a reduction.
 #[derive(Clone, Copy)]
 pub(crate) enum Want {
+    /// A write: all earlier accesses are to be done.
     ToWrite,
+    /// A read: earlier reads may go on beside it.
     ToRead,
+    /// The join of a reduction by this operator: earlier reductions by it may go on beside it.
     ToJoin(Op),
 }
 
+/// The operators are one.
 fn is_same_op(left: Op, right: Op) -> bool
     ensures { result ≡ op_eq left right }
 {
@@ -34,6 +40,7 @@ fn is_fold_of(op: Op, mode: Mode) -> bool
     }
 }
 
+/// The access is a read.
 fn is_read(mode: Mode) -> bool
     ensures { result ≡ is_read mode }
 {

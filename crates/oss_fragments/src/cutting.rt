@@ -1,3 +1,5 @@
+//! Cuts that were asked for: the ends of accesses and of prepared ranges. A range that is given up may end only there.
+
 ghost use Rattle.std.specs.Prelude.{◌≡◌, ◌≤◌, ◌||◌, ◌==◌, [], ℕ};
 ghost use Rattle.oss_syntax.specs.declared.access.Access.{Access as Meant};
 ghost use Rattle.oss_model.specs.Order.{IsIn};

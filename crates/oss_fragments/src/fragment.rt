@@ -1,3 +1,5 @@
+//! One fragment: the line of accesses that its cells share, and the number of the task of each access.
+
 ghost use Rattle.std.specs.Prelude.{◌≡◌, ◌<◌, ◌++◌, [], ◌∷◌, ℕ, false, true, length, IfNone, IfOk, IfSome, OnErr, OnOk};
 ghost use Rattle.oss_model.specs.Rights.{covers};
 ghost use Rattle.oss_access_lists.specs.Steps.{IsGift, IsHung};

@@ -1,3 +1,5 @@
+//! All cells of a program, as a map from cells to fragments. Fragments are only divided, and never joined again.
+
 ghost use Rattle.std.specs.Prelude.{◌≡◌, ◌≤◌, ◌<◌, ◌||◌, ℕ, List as Items, IfNone, IfSome, MatchBool, MatchOption, OnErr, OnOk, false, true};
 ghost use Rattle.oss_syntax.specs.declared.access.Access.{Access as Meant};
 ghost use Rattle.oss_deps.specs.Opens.{IsRising, access_at};
@@ -26,8 +28,11 @@ use std::marker::Model;
 /// have grown. All flags that are due stand between two calls. Also after want of memory, each cell's accesses tell the same of the opened tasks as before.
 pub struct Fragments {
     alloc: Global,
+    /// The place of the fragment of each cell.
     map: RangeMap<usize>,
+    /// The fragments, in the order in which they were made; none before the first opening or preparation.
     fragments: Vec<Fragment>,
+    /// The end of all cells is a cut that was asked for. No fragment begins there, so none can keep it.
     ended: bool,
 }
 

@@ -1,3 +1,5 @@
+//! Gifts: a task gives up the cells of a range, fragment by fragment.
+
 ghost use Rattle.std.specs.Prelude.{◌≡◌, ◌≤◌, ◌<◌, [], ℕ};
 ghost use Rattle.oss_fragments.specs.Here.{IsShown};
 ghost use Rattle.oss_fragments.specs.Kept.{here_by};

@@ -1,3 +1,5 @@
+//! How a task is opened in all fragments of its accesses. Room was made before, so this cannot fail.
+
 ghost use Rattle.std.specs.Prelude.{◌≡◌, ◌≤◌, ◌<◌, [], ℕ, IfSome, MatchOption};
 ghost use Rattle.oss_deps.specs.Opens.{IsRising, access_at};
 ghost use Rattle.oss_fragments.specs.Here.{IsOpened, MayHang};

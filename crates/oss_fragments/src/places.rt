@@ -1,3 +1,5 @@
+//! A search by halving in numbers that rise.
+
 ghost use Rattle.std.specs.Prelude.{◌≡◌, ℕ, IfNone, IfSome, Some, slice_get};
 ghost use Rattle.oss_retire.specs.Remainder.{AreRising};
 

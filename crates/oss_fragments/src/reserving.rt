@@ -1,3 +1,5 @@
+//! Room for an opening is made beforehand: fragments are divided at the ends of the accesses, and each gets room for one more access.
+
 ghost use Rattle.std.specs.Prelude.{◌≡◌, ◌≤◌, ◌<◌, [], ℕ, Some, OnOk};
 ghost use Rattle.oss_syntax.specs.declared.access.Access.{Access as Meant};
 ghost use Rattle.oss_ranges.specs.Cells.{value_at};

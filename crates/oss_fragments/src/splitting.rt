@@ -1,3 +1,5 @@
+//! How fragments are made and divided. Spent accesses are left out first, so what is copied does not grow with what is over.
+
 ghost use Rattle.std.specs.Prelude.{◌≡◌, ◌<◌, [], length, Some, OnErr, OnOk, slice_get};
 ghost use Rattle.oss_ranges.specs.Cells.{value_at};
 ghost use Rattle.oss_fragments.specs.declared.fragment.Fragment.{Fragment as Part};

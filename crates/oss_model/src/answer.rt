@@ -1,3 +1,5 @@
+//! What a user sees of a run: its output, and the cells at its end or the fault that ended it.
+
 use oss_syntax::{Bytes, Cells, FaultKind};
 
 /// The answer of a run.

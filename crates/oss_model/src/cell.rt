@@ -1,3 +1,5 @@
+//! One cell as a range, for the calls that take ranges alone.
+
 ghost use Rattle.std.specs.Prelude.{◌≡◌, ◌<◌};
 ghost use Rattle.oss_model.specs.Cells.{cell_range};
 

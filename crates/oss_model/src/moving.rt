@@ -1,3 +1,5 @@
+//! The moves of the task machine. A schedule is a list of them.
+
 use crate::task_no::TaskNo;
 
 /// A move of the machine of tasks.

@@ -1,3 +1,5 @@
+//! The range map: pieces in a balanced tree, and spare nodes that are taken before a change, so that it is made as a whole or not at all.
+
 ghost use Rattle.std.specs.Prelude.{◌≡◌, ◌≤◌, ◌<◌, ◌+◌, ◌*◌, ◌^◌, ◌⊎◌, [], ◌∷◌, ℕ, true, Some, None, is_some, IfOk, IsOk, OnOk, OnErr, length};
 ghost use Rattle.oss_ranges.specs.Cells.{Assigns, Cuts, CutsAround, EdgesFrom, IsEdge, IsMerged, Restricts, Rises, SameMap, cut_at, inserted, is_before, joined_at, next_of, outside, removed, union_of, value_at};
 
@@ -19,7 +21,9 @@ const CELLS: u32 = 1_048_576;
 /// costs what its pieces cost, however many cells they have.
 pub struct RangeMap<T: Copy + Eq> {
     alloc: Global,
+    /// The pieces, none of which is empty.
     tree: Tree<T>,
+    /// Nodes for changes to come. Nodes of pieces that go away are freed, and not put here.
     spares: Vec<Box<Node<T>>>,
 }
 

@@ -1,3 +1,5 @@
+//! One piece of a map: neighbouring cells with one value.
+
 ghost use Rattle.std.specs.Prelude.{◌≡◌};
 ghost use Rattle.oss_ranges.specs.Cells.{told_by};
 

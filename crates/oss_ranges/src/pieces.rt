@@ -1,3 +1,5 @@
+//! The walk over the pieces of a map on a range. It keeps no path: each step looks again from the cell that it has reached.
+
 ghost use Rattle.std.specs.Prelude.{◌≡◌, ◌≤◌};
 ghost use Rattle.oss_ranges.specs.Cells.{Rises, clipped};
 
@@ -9,7 +11,9 @@ use std::marker::Model;
 #[derive(Drop)]
 pub struct Pieces<'m, T: Copy> {
     tree: &'m Tree<T>,
+    /// The cell up to which pieces were told.
     from: u32,
+    /// The end of the range.
     to: u32,
 }
 

@@ -1,3 +1,5 @@
+//! A balanced tree of pieces: the heights of two sides differ by one at most. Nodes come from the caller, so no change takes memory.
+
 ghost use Rattle.std.specs.Prelude.{◌≡◌, ◌≤◌, ◌<◌, [], ◌∷◌, ◌++◌, Some, None, is_some};
 ghost use Rattle.oss_ranges.specs.Cells.{next_of, inserted, removed, Rises};
 ghost use Rattle.oss_ranges.specs.Trees.{HasPiece, IsBetween, IsParted, IsTree, or_own, own, pieces_of};
@@ -13,10 +15,13 @@ pub(crate) struct Tree<T: Copy> {
     root: Root<T>,
 }
 
+/// The top of a tree, if it has any piece.
 #[cycle(tree)]
 #[derive(Drop)]
 enum Root<T: Copy> {
+    /// There is no piece.
     Leaf,
+    /// This node is at the top.
     Fork(Box<Node<T>>),
 }
 
@@ -24,9 +29,12 @@ enum Root<T: Copy> {
 #[cycle(tree)]
 #[derive(Drop)]
 pub(crate) struct Node<T: Copy> {
+    /// The pieces before its own.
     left: Tree<T>,
     piece: Option<Piece<T>>,
+    /// The height of the tree of which it is the top, noted so that balancing need not count.
     height: u32,
+    /// The pieces behind its own.
     right: Tree<T>,
 }
 
@@ -91,6 +99,7 @@ impl<T: Copy> Tree<T> {
     }
 }
 
+/// The first piece of the left side, or the own one where that side has none.
 fn first_of<T: Copy>(first: Option<Piece<T>>, own: Piece<T>) -> Option<Piece<T>>
     ensures { result ≡ or_own first own }
 {

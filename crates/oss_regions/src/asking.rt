@@ -1,3 +1,5 @@
+//! Obstacles and undone children in one line, told by the number of the task's opening and not by the place in the line.
+
 ghost use Rattle.std.specs.Prelude.{◌≡◌, ◌<◌, length, true, MatchOption};
 ghost use Rattle.oss_access_lists.specs.Tables.{marks_at, wires_of};
 ghost use Rattle.oss_links.specs.Readings.{is_let, is_list_done};

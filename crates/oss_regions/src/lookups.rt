@@ -1,3 +1,5 @@
+//! Tasks by the numbers of their openings, and back.
+
 ghost use Rattle.std.specs.Prelude.{◌≡◌, ◌↔◌, ◌≤◌, ◌<◌, ℕ, length, IfNone, IfSome, IsTrue, Some};
 ghost use Rattle.oss_deps.specs.Opens.{IsKnown};
 ghost use Rattle.oss_deps.specs.Columns.{IsInOrder, IsNumberOf};

@@ -1,3 +1,5 @@
+//! The questions to one fragment. An access on which nothing depends may have been left out there: its task waits for nothing.
+
 ghost use Rattle.std.specs.Prelude.{◌≡◌, ◌<◌, ◌⊎◌, ℕ, None, true, IsTrue, MatchOption, Some};
 ghost use Rattle.oss_access_lists.specs.Flags.{AreAtRest};
 ghost use Rattle.oss_access_lists.specs.Tables.{marks_at, wires_of};

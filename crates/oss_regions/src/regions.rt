@@ -1,3 +1,5 @@
+//! The state of the system, and its answers over a range, from fragment to fragment.
+
 ghost use Rattle.std.specs.Prelude.{◌≡◌, ◌↔◌, ◌≤◌, ◌<◌, ◌+◌, ℕ, IsOk, IsTrue, List as Accesses, MatchOption, None, OnErr, OnOk, Some, length};
 ghost use Rattle.oss_syntax.specs.declared.access.Access.{Access as Meant};
 ghost use Rattle.oss_syntax.specs.declared.access.Op.{Op as Operator};
@@ -25,8 +27,11 @@ use std::marker::Model;
 /// go on is told by the flags of an access alone, however many accesses stand before it, or by there being none any more.
 pub struct Regions {
     pub(crate) alloc: Global,
+    /// The opened tasks, in the order of their openings. A task is known by its place here, counted from 1.
     pub(crate) opens: Vec<Open>,
+    /// The accesses to each cell.
     pub(crate) cells: Fragments,
+    /// The accesses for which room was made, if the next opening has these.
     pub(crate) reserved: Option<List<Access>>,
 }
 

@@ -1,3 +1,5 @@
+//! Whether accesses are those that were reserved: only then is an opening sure of its memory.
+
 ghost use Rattle.std.specs.Prelude.{◌≡◌, ◌↔◌, IfOk, IsTrue, Some};
 
 use oss_syntax::{Access, List, Mode};
@@ -54,6 +56,7 @@ pub(crate) fn is_reserved(reserved: &Option<List<Access>>, accesses: &List<Acces
     }
 }
 
+/// The accesses are the same, one by one.
 fn are_same(left: &[Access], right: &[Access]) -> bool
     ensures { IsTrue result ↔ (left.now ≡ right.now) }
 {

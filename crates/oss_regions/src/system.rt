@@ -1,3 +1,5 @@
+//! The regions as a dependency system. An opening takes what was reserved, and reserves first if that was for other accesses.
+
 ghost use Rattle.std.specs.Prelude.{◌≡◌, List as Accesses, IsOk, OnErr, OnOk, Some};
 ghost use Rattle.oss_syntax.specs.declared.access.Access.{Access as Meant};
 ghost use Rattle.oss_deps.specs.Seen.{CanOpen, IsSame, Opens, Reserves};

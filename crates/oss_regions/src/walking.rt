@@ -1,3 +1,5 @@
+//! The walk back over a line for who stands in the way. The flags tell whether anybody does, so only this question costs a walk.
+
 ghost use Rattle.std.specs.Prelude.{◌≡◌, ◌<◌, length, true, false, IfSome, MatchOption};
 ghost use Rattle.oss_access_lists.specs.Flags.{is_over, is_read, is_whole};
 ghost use Rattle.oss_access_lists.specs.Tables.{hang_at, marks_at, wires_of};

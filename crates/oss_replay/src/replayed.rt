@@ -1,3 +1,5 @@
+//! What a replay comes to. A schedule is input and may be wrong, so each of its ends is an answer.
+
 use oss_model::Answer;
 
 /// What comes of a schedule that is replayed.

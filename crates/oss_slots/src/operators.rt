@@ -1,3 +1,5 @@
+//! The arithmetic of reductions: what an operator makes of two values, and its neutral value.
+
 ghost use Rattle.std.specs.Prelude.{◌≡◌};
 ghost use Rattle.oss_model.specs.Moves.{combine, neutral_value};
 

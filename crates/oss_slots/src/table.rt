@@ -1,3 +1,5 @@
+//! All slots of a task: a map from cells to homes, and one table of values.
+
 ghost use Rattle.std.specs.Prelude.{◌≡◌, ◌++◌, ◌-◌, true, is_some, None, Some, OnErr, OnOk, replicate};
 ghost use Rattle.oss_ranges.specs.Cells.{value_at};
 ghost use Rattle.oss_slots.specs.Slots.{Adds, Changes, HasSlot, SameSlots, emptied, folded, none, slot_at, value_in};
@@ -12,7 +14,9 @@ use std::marker::Model;
 /// The private slots of a task's reductions. Contracts see for each cell the slot that it has, if any: its operator, and its
 /// value.
 pub struct Slots {
+    /// Where the slot of each cell is.
     homes: RangeMap<Home>,
+    /// The values of all slots. That of a slot which was replaced stays here, and is not read any more.
     values: Vec<u64>,
 }
 

@@ -1,4 +1,5 @@
-// Groups of neighbouring jobs, one for each worker that has any.
+//! Groups of neighbouring jobs, one for each worker that has any. The counts alone tell which worker has which job.
+
 ghost use Rattle.std.specs.Prelude.{◌≡◌, ◌<◌, ◌≤◌, length, IfOk};
 ghost use Rattle.std.specs.Int.{div_ceil};
 ghost use Rattle.std.specs.List.{AllByRecursion};

@@ -1,4 +1,5 @@
-// Jobs in groups, each group on a thread of its own where one can be made.
+//! Jobs in groups, each group on a thread of its own where one can be made. The answers come back in the order of the jobs.
+
 ghost use Rattle.std.specs.Prelude.{◌≡◌, ℕ, ◌<◌, length, slice_index_or, IfOk};
 ghost use Rattle.oss_thread_groups.specs.Groups.{AreGiven, IsJoined};
 

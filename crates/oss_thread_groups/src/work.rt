@@ -1,3 +1,5 @@
+//! What a caller says of its jobs: how one is done, and which answers are right.
+
 ghost use Rattle.std.specs.Prelude.{IfOk};
 
 use std::alloc::AllocError;

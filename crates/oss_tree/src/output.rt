@@ -1,3 +1,4 @@
+//! The output of a run. Prints come in any order of time, and are put in point order when the output is asked for.
 ghost use Rattle.std.specs.Prelude.{◌≡◌, IfOk, map};
 ghost use Rattle.oss_tree.specs.Output.{IsOutput, is_up_to as passes, up_to};
 
@@ -8,6 +9,7 @@ use std::alloc::{AllocError, Global};
 /// A print: the point at which it stands, and what was printed.
 #[derive(Drop)]
 pub struct Print {
+    /// The point of the act that printed.
     pub at: Point,
     pub text: Bytes,
 }

@@ -1,3 +1,5 @@
+//! One task of the tree. It names its creator and its children by numbers, since no task is ever removed.
+
 use oss_model::{Point, TaskNo};
 use oss_syntax::List;
 

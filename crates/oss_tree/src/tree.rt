@@ -1,3 +1,4 @@
+//! The tree itself. Marks that move with each change tell what is complete, so a question costs the same for each tree.
 ghost use Rattle.std.specs.Prelude.{◌≡◌, ◌<◌, ◌++◌, ◌∷◌, ◌↔◌, ℕ, [], length, slice_get, slice_set, Some, IfOk, IsTrue, MatchOption, OnErr, OnOk};
 ghost use Rattle.oss_tree.specs.Tasks.{AreChildrenComplete, AreComplete, HasPoint, IsComplete, IsFirstUnfinished, IsLeastOpen, IsTree, MayCreate, changed, ended_task, given_task, grown, number, opening};
 ghost use Rattle.oss_tree.specs.Output.{IsOutput, up_to};
@@ -16,8 +17,11 @@ use std::marker::Model;
 /// prints in the order of time.
 pub struct Tree {
     alloc: Global,
+    /// By their numbers.
     tasks: Vec<Task>,
+    /// How many of the first children of each task are complete.
     marks: Vec<usize>,
+    /// In the order of time.
     prints: Vec<Print>,
 }
 

@@ -1,4 +1,5 @@
-// The words beside the plain lists, which may have been given up.
+//! The words beside the plain lists. If a net would need more entries than it may have, it is given up and the lists go on alone.
+
 ghost use Rattle.std.specs.Prelude.{◌≡◌, ◌<◌, ◌≤◌, ◌+◌, ◌-◌, ℕ, take, IfNone, IfOk, IfSome, IsOk, Ok, Some, length};
 ghost use Rattle.oss_word_deps.specs.declared.words.Kept.TheVariants.{Yes};
 ghost use Rattle.oss_deps.specs.declared.opened.Open.{Open};

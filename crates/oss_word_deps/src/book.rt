@@ -1,7 +1,10 @@
+//! The book: all that was linked and given up so far, so that a larger net can be made to follow it.
+
 use crate::entry::{Entry, Job, Mark};
 
 /// The accesses of all tasks that were opened, cell by cell: the entry 1 is the first.
 pub(crate) struct Book {
+    /// Each entry, from the entry 1 on.
     pub(crate) entries: Vec<Entry>,
     /// What has become of each entry.
     pub(crate) marks: Vec<Mark>,

@@ -1,3 +1,5 @@
+//! The rows of the book: entries, what has become of them, and the entries of each task.
+
 use oss_words::{After, EntryInfo};
 
 /// The access of a task to one cell, as it stands in a net. It never changes.

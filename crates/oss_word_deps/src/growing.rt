@@ -1,4 +1,5 @@
-// A new task is written into the book.
+//! A new task is written into the book, with one entry for each cell of its accesses. Room was made before, so this cannot fail.
+
 ghost use Rattle.std.specs.Prelude.{◌≡◌, ◌<◌, ◌≤◌, ◌+◌, ◌-◌, ◌++◌, ℕ, [], ◌∷◌, length, vec_capacity, None, Some};
 ghost use Rattle.oss_syntax.specs.declared.access.Access.{Access as Meant};
 ghost use Rattle.oss_deps.specs.declared.opened.Open.{Open};

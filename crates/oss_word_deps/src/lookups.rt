@@ -1,4 +1,5 @@
-// Entries by task and cell.
+//! Entries by task and cell. Those of a task rise with their cells, so one is found by halving.
+
 ghost use Rattle.std.specs.Prelude.{◌≡◌, ◌↔◌, ◌<◌, ◌≤◌, ◌+◌, ℕ, ◌-◌, length, IfSome, IfNone, IsTrue, Some, slice_get};
 ghost use Rattle.oss_word_deps.specs.declared.entry.Entry.{Entry as Row};
 ghost use Rattle.oss_word_deps.specs.declared.entry.Job.{Job as Span};

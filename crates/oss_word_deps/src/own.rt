@@ -16,6 +16,7 @@ use std::marker::Model;
 pub(crate) struct OwnNet {
     net: WordNet,
     seat: WordSeat,
+    /// How many entries the net has, main's among them.
     size: u32,
 }
 

@@ -1,3 +1,5 @@
+//! The system itself: words tell whether something may go on, and plain lists tell who stands in the way.
+
 ghost use Rattle.std.specs.Prelude.{◌≡◌, ◌<◌, ◌≤◌, ◌↔◌, ℕ, IfOk, IfSome, IsTrue, OnOk, Some, None};
 ghost use Rattle.oss_deps.specs.Seen.{IsNew, Seen};
 ghost use Rattle.oss_word_deps.specs.Booked.{IsBooked};
@@ -19,8 +21,11 @@ const FIRST: u32 = 65_536;
 /// it was told. Where a task needs more entries than are left, it makes a net of twice the size, as often as needed, and links and gives up there what the old one
 /// has; and where the most entries are too few, it gives the net up and answers from the lists.
 pub struct WordDeps {
+    /// The most entries that a net may have.
     most: u32,
+    /// Plain lists of all that it was told, for what the words do not tell.
     kept: PlainDeps,
+    /// The net with its book, until it is given up.
     words: Option<Words>,
 }
 

@@ -1,4 +1,5 @@
-// A book and the net that follows it.
+//! A book and the net that follows it. A net that is too small is replaced by a larger one, made from the book.
+
 ghost use Rattle.std.specs.Prelude.{◌≡◌, ◌↔◌, ◌<◌, ◌≤◌, ◌+◌, ◌&&◌, ℕ, [], false, true, IfErr, IfNone, IfOk, IfSome, IsOk, IsTrue, Ok, Some, length, slice_index, vec_capacity};
 ghost use Rattle.oss_syntax.specs.declared.access.Op.{Op as Operator};
 ghost use Rattle.oss_syntax.specs.declared.access.Mode.TheVariants.{Fold};
@@ -161,7 +162,9 @@ fn mark_given(book: &mut Book, entry: u32)
 /// Whether words are kept, where a task needs more entries than are left.
 #[derive(Clone, Copy)]
 pub(crate) enum Kept {
+    /// There is room for the task.
     Yes,
+    /// A net of that size may not be had: the words are to be given up.
     No,
 }
 

@@ -1,4 +1,5 @@
-// The end of a table: its state words.
+//! The end of a table: its state words are copied out, into memory that was taken before.
+
 ghost use Rattle.std.specs.Prelude.{◌≡◌, ◌<◌, ◌≤◌, ◌+◌, ◌*◌, ℕ, [], length, vec_capacity, slice_index};
 ghost use Rattle.std.specs.Slots.{slots_items, slots_len, IsFull};
 ghost use Rattle.oss_words.specs.Bits.{state_at};

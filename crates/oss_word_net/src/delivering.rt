@@ -1,4 +1,5 @@
-// A held message is delivered.
+//! A held message is delivered: one step sets its flag, and what that completes is sent on.
+
 ghost use Rattle.std.specs.Prelude.{◌≡◌, ◌<◌, ◌≤◌, ◌+◌, ◌*◌, [], length, vec_capacity};
 ghost use Rattle.oss_word_net.specs.Asks.{On, Stays};
 ghost use Rattle.oss_word_net.specs.Calls.{Delivered};

@@ -1,4 +1,5 @@
-// An entry is given up, with its children or without.
+//! An entry is given up: in one step if it has no children, and else in two, since its last child is to tell it when all are done.
+
 ghost use Rattle.std.specs.Prelude.{◌≡◌, ◌<◌, ◌+◌, ◌*◌, ℕ, [], ◌∷◌};
 ghost use Rattle.oss_words.specs.Net.{first};
 ghost use Rattle.oss_words.specs.Views.{Among};

@@ -1,4 +1,5 @@
-// The messages that a seat holds.
+//! The messages that a seat holds, each with the info word of its entry, by which the next one to deliver is picked.
+
 ghost use Rattle.std.specs.Prelude.{not, ◌==◌, vec_len, ◌≡◌, ◌<◌, ◌≤◌, ◌+◌, ◌-◌, ◌*◌, ◌++◌, ℕ, [], ◌∷◌, length, slice_index_or};
 ghost use Rattle.oss_words.specs.Bits.{info_at};
 ghost use Rattle.oss_words.specs.declared.message.Message.{Message};

@@ -1,4 +1,5 @@
-// The three ways in which a new entry is linked.
+//! The three ways in which a new entry is linked. Its own words are written first, so who follows the link finds them.
+
 ghost use Rattle.std.specs.Prelude.{◌≡◌, ◌≢◌, ◌<◌, ◌≤◌, ◌+◌, ◌*◌, ℕ, [], vec_capacity};
 ghost use Rattle.oss_words.specs.declared.entry.After.TheVariants.{FirstOf, FirstOfMain, Sibling};
 ghost use Rattle.oss_words.specs.Views.{Among};

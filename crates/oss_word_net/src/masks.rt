@@ -1,4 +1,5 @@
-// What the steps add to state words.
+//! What the steps add to state words. Each flag and link is set once, so one atomic addition sets it.
+
 ghost use Rattle.std.specs.Prelude.{◌≡◌, ◌<◌, ◌≤◌, ◌+◌, ◌*◌};
 ghost use Rattle.oss_words.specs.Bits.{mode_number, op_number, weight};
 ghost use Rattle.oss_words.specs.Causes.{is_fold};
@@ -7,15 +8,19 @@ ghost use Rattle.oss_word_net.specs.Moves.{same_fold, next_mask, child_mask};
 
 use oss_syntax::{Mode, Op};
 
-/// The weights of the flags of a state word that a step of an owner sets, and of its next link.
+/// The weight of the flag of a gift. This and the weights below are what steps of an owner add to a state word.
 pub(crate) const GIVEN: u64 = 8;
 
+/// The weight of the flag that an access is done.
 pub(crate) const DONE: u64 = 16;
 
+/// The weight of the flag that nothing is before the entry.
 pub(crate) const CLEAR: u64 = 32;
 
+/// The weight of the flag that the next link is set.
 pub(crate) const LINKED: u64 = 64;
 
+/// The weight of the next link.
 pub(crate) const NEXT: u64 = 65_536;
 
 /// The flags of an entry that begins a list of main: it may read, may be joined, may write, and has nothing before it.

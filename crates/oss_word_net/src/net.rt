@@ -31,8 +31,11 @@ use std::marker::Model;
 /// by single atomic steps: none waits for another, and none takes memory.
 #[derive(Drop)]
 pub struct WordNet {
+    /// The words: first the number of the next entry to draw, then two words for each entry.
     table: Table<u8, Sight, u32, NetRule, Global>,
+    /// How many entries there are, main's among them.
     entries: u32,
+    /// What seats take their room from.
     alloc: Global,
 }
 

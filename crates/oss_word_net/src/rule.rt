@@ -1,3 +1,5 @@
+//! The rule of the table: what each thread may rely on between any two steps. It stands in proofs alone.
+
 ghost use Rattle.oss_word_net.specs.Known.{first_known};
 ghost use Rattle.oss_word_net.specs.Table.{Stands};
 

@@ -11,7 +11,9 @@ use std::marker::Model;
 /// messages from the start. A seat may go to another thread. It is seen as the net's table, its own number, and what it knows.
 #[derive(Drop)]
 pub struct WordSeat {
+    /// The seat at the table, by which each step is made.
     pub(crate) place: Place,
+    /// The messages that wait for their delivery.
     pub(crate) held: Vec<Held>,
 }
 

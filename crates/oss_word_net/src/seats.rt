@@ -1,4 +1,5 @@
-// Seats that come and go, and a table at its start.
+//! Seats that come and go, and a table at its start. A split gives entries to a new seat, and a join brings back what it owns and knows.
+
 ghost use Rattle.std.specs.Prelude.{◌≡◌, ◌≢◌, ◌<◌, ◌≤◌, ◌+◌, ◌*◌, ℕ, List, [], length, IfOk, slice_index};
 ghost use Rattle.oss_words.specs.Views.{Among};
 ghost use Rattle.oss_word_net.specs.Asks.{On, Stays};
@@ -38,7 +39,9 @@ impl Handing for Brand {
     ghost hand = { [] };
 }
 
+/// The kind of split by which a new seat gets a hand. It is a type, so the hand may be one that only the proof knows.
 struct Parting<H: Handing> {
+    /// No value of the type is made.
     of: PhantomData<H>,
 }
 
@@ -79,6 +82,7 @@ pub(crate) fn cut(words: &Words, seat: &mut Place, hand: &[u32], _held: &Vec<Hel
     split_by::<Brand>(words, seat, hand)
 }
 
+/// The kind of join by which a seat gets what another one owns and knows.
 struct Joining;
 
 impl Join<Sight> for Joining {

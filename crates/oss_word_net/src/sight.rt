@@ -1,3 +1,5 @@
+//! What a seat knows, for proofs alone.
+
 ghost use Rattle.oss_word_net.specs.Known.{Known};
 ghost use base.Fml.{ftrue};
 

@@ -1,4 +1,5 @@
-// One function for each kind of atomic step on the words of a net.
+//! One function for each kind of atomic step on the words of a net. All calls are made of these, so each kind is proved once.
+
 ghost use Rattle.std.specs.Prelude.{◌≡◌, ◌≢◌, ◌<◌, ◌≤◌, ◌+◌, ◌*◌, ℕ, true, [], ◌∷◌};
 ghost use Rattle.oss_word_net.specs.Asks.{On, Stays, Hangs, MayFill, MayStart, MayLink, MayFollow, MayHead, MayGive, Later};
 ghost use Rattle.oss_word_net.specs.Known.{Kin, OneInfo, Family, Rests};
@@ -40,6 +41,7 @@ fn info_place(entry: u32) -> usize
     2 + 2 * entry as usize
 }
 
+/// A read of an info word. This type and its like below name a kind of step, by which the proof knows what a seat knows after it.
 struct Inform;
 
 impl Play<u8, Sight> for Inform {
@@ -58,6 +60,7 @@ pub(crate) fn read_info(words: &Words, seat: &mut Place, entry: u32) -> u64
     words.load::<Inform>(seat, info_place(entry))
 }
 
+/// A read of a state word.
 struct Look;
 
 impl Play<u8, Sight> for Look {
@@ -79,6 +82,7 @@ pub(crate) fn read_state(words: &Words, seat: &mut Place, entry: u32) -> u64
     words.load::<Look>(seat, state_place(entry))
 }
 
+/// New entries are drawn, by an addition to the first word of the table.
 struct Draw;
 
 impl Play<u8, Sight> for Draw {
@@ -101,6 +105,7 @@ pub(crate) fn add_draw(words: &Words, seat: &mut Place, count: u32) -> u64
     words.fetch_add::<Draw>(seat, 0, count as u64)
 }
 
+/// An info word is written, before its entry is linked.
 struct FillInfo;
 
 impl Play<u8, Sight> for FillInfo {
@@ -118,6 +123,7 @@ pub(crate) fn fill_info(words: &Words, seat: &mut Place, entry: u32, info: u64)
     words.store::<FillInfo>(seat, info_place(entry), info);
 }
 
+/// The state word of a first child is written, before the child is linked.
 struct FillState;
 
 impl Play<u8, Sight> for FillState {
@@ -135,6 +141,7 @@ pub(crate) fn fill_state(words: &Words, seat: &mut Place, entry: u32, _info: &En
     words.store::<FillState>(seat, state_place(entry), CLEAR);
 }
 
+/// An entry begins a list of main. No word of another entry changes.
 struct Open;
 
 impl Play<u8, Sight> for Open {
@@ -154,6 +161,7 @@ pub(crate) fn open_list(words: &Words, seat: &mut Place, entry: u32, _info: &Ent
     words.store::<Open>(seat, state_place(entry), OPEN);
 }
 
+/// An entry is linked behind a sibling.
 struct Follow;
 
 impl Play<u8, Sight> for Follow {
@@ -185,6 +193,7 @@ pub(crate) fn link_behind(
     )
 }
 
+/// An entry is linked as the first child of its parent.
 struct Head;
 
 impl Play<u8, Sight> for Head {
@@ -215,6 +224,7 @@ pub(crate) fn link_below(
     )
 }
 
+/// An entry with no child is given up, and is done with that.
 struct Give;
 
 impl Play<u8, Sight> for Give {
@@ -236,6 +246,7 @@ pub(crate) fn give_whole(words: &Words, seat: &mut Place, entry: u32, _info: &En
     words.fetch_add::<Give>(seat, state_place(entry), GIVEN + DONE)
 }
 
+/// An entry with children is given up. It is not done yet.
 struct Begin;
 
 impl Play<u8, Sight> for Begin {
@@ -254,6 +265,7 @@ pub(crate) fn begin_give(words: &Words, seat: &mut Place, entry: u32, _child: u3
     words.fetch_add::<Begin>(seat, state_place(entry), GIVEN)
 }
 
+/// The last child of an entry that is given up is linked to it.
 struct Rise;
 
 impl Play<u8, Sight> for Rise {
@@ -284,6 +296,7 @@ pub(crate) fn link_last(
     words.fetch_add::<Rise>(seat, state_place(last), LINKED + NEXT * entry as u64)
 }
 
+/// The flag of a message is set.
 struct Pass;
 
 impl Play<u8, Sight> for Pass {

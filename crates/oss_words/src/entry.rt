@@ -1,3 +1,5 @@
+//! The two words of an entry, taken apart, and the places at which an entry may be linked.
+
 use oss_syntax::Mode;
 
 /// The state word of an entry, taken apart: its flags, and its two links with what they say of the entries that they lead to.

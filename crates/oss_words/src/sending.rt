@@ -1,3 +1,5 @@
+//! Which messages a step sends: those whose causes it completes. Two words and an info tell them, so no other entry is read.
+
 ghost use Rattle.std.specs.Prelude.{◌≡◌, ◌<◌, ◌≤◌, ◌+◌, ◌++◌, ◌&&◌, not};
 ghost use Rattle.arrayvec.specs.ArrayVec.{array_vec_len};
 ghost use Rattle.oss_words.specs.Bits.{state_at, info_at};

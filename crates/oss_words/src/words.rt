@@ -1,3 +1,5 @@
+//! How entries are packed into words of 64 bits, so that one atomic step sets flags and a link together.
+
 ghost use Rattle.oss_words.specs.Sums.{num};
 ghost use Rattle.oss_words.specs.Bits.{is_bit, state_at, state_word, info_at, info_word, mode_at, op_at, mode_number, op_number};
 ghost use Rattle.oss_words.specs.Bits.{FitsWord, FitsInfo, FlagsAreBits, StatesAreRead, StateWordsAreRead, InfosAreRead, InfoWordsAreRead};

@@ -2,6 +2,7 @@
 
 use super::*;
 
+/// A reduction, by whichever operator.
 const REDUCTION: Mode = Mode::Fold(Op::Add);
 
 #[test]

@@ -1,4 +1,5 @@
-// A row of siblings below a weak access.
+//! A row of siblings below a weak access that is given up: the net on which threads are tried.
+
 ghost use Rattle.std.specs.Prelude.{◌≡◌, ◌<◌, ◌≤◌, ◌+◌, ◌-◌, ◌*◌, ℕ, [], IfOk};
 ghost use Rattle.oss_word_net.specs.Known.{first_known};
 ghost use Rattle.oss_word_net.specs.Moves.{drew};

@@ -1,4 +1,5 @@
-// Threads that give up the siblings of a row, each with a seat of its own.
+//! Threads that give up the siblings of a row, each with a seat of its own, so that their steps mix in any order.
+
 ghost use Rattle.std.specs.Prelude.{◌≡◌, ◌<◌, ◌≤◌, ◌+◌, ◌-◌, ◌*◌, ℕ, [], IfOk};
 ghost use Rattle.std.specs.Thread.{IsSync};
 ghost use Rattle.oss_word_net.specs.Rows.{ToGive, Spans, Parted, Back};

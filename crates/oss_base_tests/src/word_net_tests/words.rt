@@ -1,4 +1,5 @@
-// The words of two writes, one behind the other.
+//! The words of two writes, one behind the other, worked by hand from the bits.
+
 ghost use Rattle.std.specs.Prelude.{◌≡◌};
 
 use crate::word_net_tests::rows::settle;
