@@ -1,3 +1,6 @@
+//! A place in the tokens of one expression that shows a limited number of operators, so that reading stops where an expression has too many,
+//! whatever stands behind.
+
 ghost use Rattle.std.specs.Prelude.{◌≡◌, ◌↔◌, ◌∷◌, ◌++◌, [], IsTrue, MatchOption, drop};
 ghost use Rattle.oss_grammar.specs.Reading.{begins, has, read_one};
 ghost use Rattle.oss_grammar.specs.Levels.{is_operator};

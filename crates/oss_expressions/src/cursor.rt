@@ -1,3 +1,5 @@
+//! A place in the tokens of a text, from which readers take one token at a time; and why nothing was read there.
+
 ghost use Rattle.std.specs.Prelude.{◌≡◌, ◌∷◌, [], MatchOption};
 ghost use Rattle.oss_grammar.specs.Reading.{begins, has, read_one};
 ghost use Rattle.oss_expressions.specs.Singles.{single_of, single_unless};

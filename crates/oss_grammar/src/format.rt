@@ -1,3 +1,4 @@
+//! The string of `printf` (C11 7.21.6.1): its pieces, how many arguments they take, and what they write.
 ghost use Rattle.std.specs.Prelude.{◌≡◌, ◌≤◌, ◌<◌, ◌∷◌, [], ◌++◌, None, length, IfOk, OnOk, MatchOption};
 ghost use Rattle.std.specs.Fmt.{decimal};
 ghost use Rattle.oss_grammar.specs.Formats.{conversions_of, with_piece, pieces_of, pieces_behind_percent, pieces_behind_long, arguments_of, written_pieces, signed_text};
@@ -105,6 +106,7 @@ pub fn conversions(format: &[u8]) -> Option<usize>
     Some(count)
 }
 
+/// How many arguments one piece takes, so that they are counted without a list of the pieces.
 fn arguments_taken(piece: Piece) -> usize
     ensures value { result ≡ arguments_of (piece ∷ []) }
     ensures few { result ≤ 1 }

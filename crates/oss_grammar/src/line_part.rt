@@ -1,3 +1,5 @@
+//! The parts of a line of a text: a `#` begins a directive only where no token stands before it on its line (C11 6.10).
+
 /// Where on its line the rest of a text begins, which decides what a `#` and a newline mean there.
 #[derive(Clone, Copy)]
 pub enum LinePart {

@@ -1,4 +1,4 @@
-// Real files.
+//! The files of the system, as a shelf.
 ghost use Rattle.std.specs.Prelude.{◌≡◌, ◌≢◌, ℕ, ◌+◌, ◌-◌, ◌^◌, ◌<◌, ◌≤◌, min, List, [], ◌++◌, None, length, take, IfOk, IfSome, OnOk, OnErr, string_bytes};
 ghost use Rattle.std.specs.Io.{ReadsAtMost};
 ghost use Rattle.std.specs.Io.KnownBytes.{Consumes, IsAtEnd};
@@ -12,7 +12,7 @@ use std::io::{self, ErrorKind, Read};
 use std::marker::Model;
 use std::rt::Files;
 
-// How many bytes are asked of a file at once.
+/// How many bytes are asked of a file at once.
 const PIECE: usize = 4096;
 
 /// The files of the system, under their paths. No contract tells what they hold: it sees the shelf as its count of
@@ -48,7 +48,7 @@ impl<'a, R: Files> FileShelf<'a, R> {
     }
 }
 
-// How often the outside has failed, and the name at which it failed last.
+/// How often the outside has failed, and the name at which it failed last.
 #[derive(Drop)]
 struct FaultRecord {
     count: u64,
@@ -64,6 +64,7 @@ impl Model for FaultRecord {
 }
 
 impl FaultRecord {
+    /// Counts one more fault, of this name, for which the caller has taken room. It takes no memory.
     fn note(&mut self, name: String)
         ensures rises { Rises self.old.0 self.new.0 }
         ensures once { self.new.0 ≡ min (self.old.0 + 1) (2 ^ 64 - 1) }
@@ -74,7 +75,7 @@ impl FaultRecord {
     }
 }
 
-// One read, again where a signal cut it off.
+/// One read, again where a signal has cut it off.
 fn read_piece<F: Read>(file: &mut F, piece: &mut [u8]) -> Result<usize, ShelfFault>
     ensures within { ReadsAtMost result piece.new }
     ensures bytes { IfOk result (λ count.
@@ -92,7 +93,7 @@ fn read_piece<F: Read>(file: &mut F, piece: &mut [u8]) -> Result<usize, ShelfFau
     Err(ShelfFault::Failed)
 }
 
-// Reads to the end of a file. Where it fails, some of the bytes may be there.
+/// Reads to the end of a file. Where it fails, some of the bytes may be there.
 fn read_whole<F: Read>(file: &mut F, limit: usize, into: &mut Vec<u8>) -> Result<(), ShelfFault>
     requires { into.old.items ≡ [] }
     ensures whole { OnOk result (IfSome (F.remaining file.old) (λ bytes. into.new.items ≡ bytes)) }
@@ -115,8 +116,8 @@ fn read_whole<F: Read>(file: &mut F, limit: usize, into: &mut Vec<u8>) -> Result
     Err(ShelfFault::Failed)
 }
 
-// Reads what was opened under a name, or tells that it was not opened. Room for the name of a fault is taken first, so
-// that no fault lacks its name.
+/// Reads what was opened under a name, or tells that it was not opened. Room for the name of a fault is taken first, so
+/// that no fault lacks its name.
 fn read_opened<F: Read + Drop>(
     alloc: Global,
     name: &str,
@@ -149,7 +150,7 @@ fn read_opened<F: Read + Drop>(
     }
 }
 
-// Reads to the end of what was opened. Where it fails, some of the bytes may be there.
+/// Reads to the end of what was opened. Where it fails, some of the bytes may be there.
 fn read_if_opened<F: Read + Drop>(
     opened: io::Result<F>,
     limit: usize,
@@ -174,7 +175,7 @@ impl<'a, R: Files> Shelf for FileShelf<'a, R> {
 
     ghost last = { λ shelf. shelf.1 };
 
-    /// A file that can't be opened or read to its end fails.
+    /// It fails where the file cannot be opened, or not be read to its end.
     fn read(&mut self, name: &str, limit: usize, into: &mut Vec<u8>) -> Result<(), ShelfFault> {
         let opened = File::open(self.files, name);
         read_opened(self.alloc, name, opened, limit, into, &mut self.faults)
@@ -188,6 +189,7 @@ mod tests {
     use std::test::Fail;
 
     impl FaultRecord {
+        /// Whether there were so many faults, and the last at this name.
         fn are(&self, count: u64, last: &str) -> bool {
             self.count == count && self.last.as_str() == last
         }

@@ -1,4 +1,4 @@
-// What is called before a task begins.
+//! Gates: who runs a program sees by one which worker begins a task, before the first step of the task.
 
 /// What is called before a task begins. It sees which worker begins it and where the task stands, and the first step is made when it returns. It promises
 /// nothing, and no answer depends on it.

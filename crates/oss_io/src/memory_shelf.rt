@@ -1,4 +1,4 @@
-// A shelf in memory, for tests: what it keeps and when it fails is planned.
+//! A shelf in memory, for tests: what it keeps and when it fails is planned.
 ghost use Rattle.std.specs.Prelude.{◌≡◌, ◌≢◌, ℕ, ◌<◌, ◌≤◌, List, [], ◌∷◌, ◌++◌, length, IfOk, IfSome, OnOk, OnErr, option_copied, alloc_error};
 ghost use Rattle.std.specs.Str.{bytes_eq};
 ghost use Rattle.oss_io.specs.Faults.{Rises};
@@ -26,6 +26,7 @@ impl Model for KeptFile {
 }
 
 impl KeptFile {
+    /// A file with a copy of this name and of these bytes.
     fn new(alloc: Global, name: &str, bytes: &[u8]) -> Result<KeptFile, AllocError>
         ensures { IfOk result (λ file. file ≡ (name.now, bytes.now)) }
     {
@@ -34,12 +35,14 @@ impl KeptFile {
         Ok(KeptFile { name, bytes })
     }
 
+    /// Whether the file is kept under this name, byte for byte.
     fn is_named(&self, name: &str) -> bool
         ensures { result ≡ bytes_eq self.now.0 name.now }
     {
         self.name.as_str() == name
     }
 
+    /// What the file holds, lent as a slice.
     fn bytes(&self) -> &[u8]
         ensures { result.now ≡ self.now.1 }
     {
@@ -109,7 +112,7 @@ impl MemoryShelf {
     }
 }
 
-// The bytes that were last put under a name.
+/// The bytes that were last put under a name.
 fn find_bytes<'a>(files: &'a VecDeque<KeptFile>, name: &str) -> Option<&'a [u8]>
     ensures { option_copied result ≡ bytes_under files.now.items name.now }
 {
@@ -126,7 +129,7 @@ impl Shelf for MemoryShelf {
 
     ghost last = { λ shelf. shelf.last };
 
-    /// A planned call fails, and so does a name that isn't kept.
+    /// A planned call fails, and so does a name that is not kept.
     fn read(&mut self, name: &str, limit: usize, into: &mut Vec<u8>) -> Result<(), ShelfFault>
         requires { into.old.items ≡ [] }
 

@@ -1,4 +1,4 @@
-// A sink in memory, for tests: how much it takes and when it fails is planned.
+//! A sink in memory, for tests: how much it takes and when it fails is planned.
 ghost use Rattle.std.specs.Prelude.{◌≡◌, ◌+◌, ◌-◌, ◌^◌, ◌<◌, ◌≤◌, min, [], ◌∷◌, ◌++◌, length, take, IfOk, OnOk, OnErr};
 ghost use Rattle.std.specs.Io.KnownBytes.{append_known};
 ghost use Rattle.oss_io.specs.Faults.{Rises};

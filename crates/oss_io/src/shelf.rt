@@ -1,4 +1,4 @@
-// Where files are read from.
+//! Shelves: where files are read from, by their names, and why one is not read.
 ghost use Rattle.std.specs.Prelude.{◌≡◌, ◌≢◌, ℕ, ◌<◌, ◌≤◌, List, [], Option, length, OnOk, OnErr, IfSome};
 ghost use Rattle.oss_io.specs.Faults.{Rises};
 
@@ -48,7 +48,7 @@ pub trait Shelf {
         ensures count { result ≢ Err ShelfFault.Failed
             → (faults self.new ≡ faults self.old) × (last self.new ≡ last self.old) }
 
-        // With `within` this is exact: a file within the limit isn't too long, and a longer one isn't `Ok`.
+        // With `within` this is exact: a file within the limit is not too long, and a longer one is not `Ok`.
         ensures too_long { result ≡ Err ShelfFault.TooLong
             → IfSome (held self.old name.now) (λ bytes. limit < length bytes) };
 }

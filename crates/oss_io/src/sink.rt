@@ -1,4 +1,4 @@
-// Where text is written to.
+//! Sinks: where text is written to, which may take it in pieces, and why it is not written.
 ghost use Rattle.std.specs.Prelude.{◌≡◌, ℕ, ◌<◌, ◌≤◌, List, [], Option, length, take, IfOk, OnOk, OnErr};
 ghost use Rattle.std.specs.Io.KnownBytes.{append_known};
 ghost use Rattle.oss_io.specs.Faults.{Rises};
@@ -21,7 +21,7 @@ pub trait Sink {
     /// How often the outside has failed.
     ghost faults: { Self → ℕ };
 
-    /// Takes some bytes from the front of a piece, and says how many: at least one of a piece that isn't empty. At
+    /// Takes some bytes from the front of a piece, and tells how many: at least one of a piece that is not empty. After
     /// `Failed` it has taken none.
     fn write(&mut self, bytes: &[u8]) -> Result<usize, SinkFault>
         ensures taken { IfOk result (λ count.
@@ -35,7 +35,7 @@ pub trait Sink {
         ensures cause { OnErr result (Rises (faults self.old) (faults self.new)) };
 }
 
-/// Writes all the bytes, piece by piece. At `Failed` the sink has taken those before the piece that failed. It takes no
+/// Writes all the bytes, piece by piece. After `Failed` the sink has taken those before the piece that failed. It takes no
 /// memory.
 #[tactic(auto, using(crate::proofs::Pieces::fronts))]
 pub fn write_whole<K: Sink>(sink: &mut K, bytes: &[u8]) -> Result<(), SinkFault>

@@ -1,4 +1,4 @@
-// Standard output and error, and other writers of the system.
+//! Standard output and error, and other writers of the system, as sinks.
 ghost use Rattle.std.specs.Prelude.{◌≡◌, ◌+◌, ◌-◌, ◌^◌, ◌<◌, ◌≤◌, min, [], None, length, take, IfOk, OnOk, OnErr};
 ghost use Rattle.std.specs.Io.KnownBytes.{Appends, Keeps};
 ghost use Rattle.oss_io.specs.Faults.{Rises};
@@ -32,7 +32,7 @@ impl<W: Write + Drop> StdSink<W> {
     }
 }
 
-// One write, again where a signal cut it off. A writer that takes nothing of a piece that isn't empty has failed.
+/// One write, again where a signal has cut it off. A writer that takes nothing of a piece that is not empty has failed.
 fn write_piece<W: Write>(out: &mut W, bytes: &[u8]) -> Result<usize, SinkFault>
     requires { 0 < length bytes.now }
     ensures bytes { IfOk result (λ count.
@@ -52,8 +52,8 @@ fn write_piece<W: Write>(out: &mut W, bytes: &[u8]) -> Result<usize, SinkFault>
     Err(SinkFault::Failed)
 }
 
-// All that the sink does of a piece, which it takes or counts as a fault. An empty piece is taken without a call of the
-// writer.
+/// All that the sink does with a piece: it takes some of it, or counts a fault. An empty piece is taken without a call of the
+/// writer.
 fn write_counted<W: Write>(out: &mut W, bytes: &[u8], faults: &mut u64) -> Result<usize, SinkFault>
     ensures taken { IfOk result (λ count.
         Appends (W.contents out.old) (W.contents out.new) (take count bytes.now)) }
@@ -80,7 +80,7 @@ impl<W: Write + Drop> Sink for StdSink<W> {
 
     ghost faults = { λ sink. sink };
 
-    /// A writer that fails, or takes nothing of a piece that isn't empty, is a fault.
+    /// A writer that fails, or takes nothing of a piece that is not empty, is a fault.
     fn write(&mut self, bytes: &[u8]) -> Result<usize, SinkFault> {
         write_counted(&mut self.out, bytes, &mut self.faults)
     }

@@ -1,3 +1,4 @@
+//! The context of a task: the judge tells by it whether an act has a fault, and notes in it what the act has done.
 ghost use Rattle.std.specs.Prelude.{◌≡◌, ℕ, Bool, ◌+◌, ◌<◌, ◌≤◌, ◌||◌, false, true, if◌then◌else◌, [], length, map, Some, None, IfErr, IfOk, OnErr, OnOk};
 ghost use Rattle.std.specs.Result.{result_err};
 ghost use Rattle.oss_model.specs.Rights.{Folds, Holds, Reads, Writes, first_mark, is_fresh, is_released, mark_from, right_from, touch_fault};

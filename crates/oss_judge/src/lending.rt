@@ -1,3 +1,4 @@
+//! What a task has lent of one cell: the creation of a child lends it, and a wait for the children takes it back.
 ghost use Rattle.std.specs.Prelude.{◌≡◌};
 ghost use Rattle.oss_model.specs.Context.{lend_cell};
 ghost use Rattle.oss_judge.specs.Seen.{lending_seen, lending_told, right_seen};

@@ -1,3 +1,4 @@
+//! Marks of cells: a cell that only `out` names has nothing in it for the task to read before it has written it.
 ghost use Rattle.std.specs.Prelude.{◌≡◌};
 ghost use Rattle.oss_judge.specs.Seen.{mark_seen, mark_told};
 

@@ -1,3 +1,4 @@
+//! The modes of accesses: which of them a right covers, and what two clauses that name one cell make together.
 ghost use Rattle.std.specs.Prelude.{◌≡◌};
 ghost use Rattle.oss_model.specs.Rights.{op_eq, covers, joined_mode};
 

@@ -1,3 +1,4 @@
+//! Why the judge refuses: the task has a fault, or memory is wanting, which says nothing of the task.
 ghost use Rattle.std.specs.Prelude.{◌≡◌, IfErr, None, OnOk};
 ghost use Rattle.std.specs.Result.{result_err};
 ghost use Rattle.oss_judge.specs.Refusal.{IsRefusal};

@@ -1,3 +1,4 @@
+//! The right of a task to one cell: its dependency clauses give it, and the directive `release` ends it.
 ghost use Rattle.std.specs.Prelude.{◌≡◌};
 ghost use Rattle.oss_model.specs.Rights.{holds_uncovered, is_fold, is_released, is_unjoinable, joined_right, right_covers};
 ghost use Rattle.oss_model.specs.Context.{lacks_right};
@@ -86,6 +87,7 @@ impl Right {
         }
     }
 
+    /// Whether the right covers a child's access of this mode. One that is released, or never was, covers none.
     fn covers(self, mode: Mode) -> bool
         ensures { result ≡ right_covers (right_seen self) mode }
     {

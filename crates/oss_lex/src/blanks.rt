@@ -1,3 +1,4 @@
+//! What may stand between two tokens: blanks, comments (C11 6.4.9), and newlines behind a backslash (C11 5.1.1.2).
 ghost use Rattle.std.specs.Prelude.{◌≡◌, ◌≤◌, false, length};
 ghost use Rattle.oss_grammar.specs.Words.{opens_comment};
 ghost use Rattle.oss_grammar.specs.Tokens.{ends_line, is_blank, newlines};
@@ -5,6 +6,7 @@ ghost use Rattle.oss_lex.specs.Reading.{close_len, gap_len, gaps_len, remark_len
 
 use crate::bytes::{byte_at, first};
 
+/// Whether a byte is a blank. A newline is none, since it may end a directive.
 #[tactic(auto, unfolding(oss_grammar::specs::Tokens::is_blank))]
 fn is_space(b: u8) -> bool
     ensures { result ≡ is_blank b }

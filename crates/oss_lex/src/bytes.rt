@@ -1,3 +1,4 @@
+//! Single bytes of a text: letters and digits (C11 6.4.2.1), the first byte, and the byte at a place.
 ghost use Rattle.std.specs.Prelude.{◌≡◌, [], ◌∷◌, MatchOption, slice_index};
 ghost use Rattle.oss_grammar.specs.Words.{is_letter, is_digit, is_name_byte};
 

@@ -1,3 +1,4 @@
+//! The keywords (C11 6.4.1): those of the language, and those of C that it leaves out. No name is one of either.
 ghost use Rattle.std.specs.Prelude.{◌≡◌};
 ghost use Rattle.oss_grammar.specs.Words.{is_keyword, is_left_out_keyword, is_used_keyword};
 
@@ -10,6 +11,7 @@ pub(crate) fn is_reserved(word: &[u8]) -> bool
     is_used(word) || is_left_out(word)
 }
 
+/// Whether a word is a keyword for which the grammar has a place.
 #[tactic(auto, unfolding(oss_grammar::specs::Words::is_used_keyword))]
 fn is_used(word: &[u8]) -> bool
     ensures { result ≡ is_used_keyword word.now }
@@ -28,6 +30,7 @@ fn is_used(word: &[u8]) -> bool
         || word == b"printf".as_slice()
 }
 
+/// Whether a word is a keyword of C that has no place in the grammar. It stays reserved, so that it is refused and never taken as a name.
 #[tactic(auto, unfolding(oss_grammar::specs::Words::is_left_out_keyword))]
 fn is_left_out(word: &[u8]) -> bool
     ensures { result ≡ is_left_out_keyword word.now }

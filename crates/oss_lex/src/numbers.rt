@@ -1,3 +1,4 @@
+//! Integer constants (C11 6.4.4.1), decimal, octal and hexadecimal, with their suffixes. Each is a number of 64 bits, signed or unsigned.
 ghost use Rattle.std.specs.Prelude.{◌≡◌, ◌≤◌, ◌<◌, ◌^◌, ℕ, length};
 ghost use Rattle.std.specs.List.{prefix_len};
 ghost use Rattle.std.specs.Option.{SomeIff};
@@ -48,6 +49,7 @@ fn value(base: u8, digits: &[u8]) -> Option<u64>
     Some(sum)
 }
 
+/// Whether a suffix says nothing of the sign, as an empty one. Then the value tells whether the number is signed.
 #[tactic(auto, unfolding(oss_grammar::specs::Words::is_signed_suffix))]
 fn keeps_sign(suffix: &[u8]) -> bool
     ensures { result ≡ is_signed_suffix suffix.now }
@@ -59,6 +61,7 @@ fn keeps_sign(suffix: &[u8]) -> bool
         || suffix == b"LL".as_slice()
 }
 
+/// Whether a suffix makes the number unsigned: a `u` of either case, alone or beside an `l` or `ll` of one case.
 #[tactic(auto, unfolding(oss_grammar::specs::Words::is_unsigned_suffix))]
 fn takes_sign(suffix: &[u8]) -> bool
     ensures { result ≡ is_unsigned_suffix suffix.now }

@@ -1,3 +1,4 @@
+//! The reader of a whole text: it takes blanks, directives and tokens from the front, one at a time, and counts the lines.
 ghost use Rattle.std.specs.Prelude.{◌≡◌, ◌≤◌, ◌<◌, ◌+◌, ◌^◌, [], ◌++◌, OnOk, length};
 ghost use Rattle.oss_grammar.specs.Tokens.{IsReading, found_before, part_behind};
 ghost use Rattle.oss_lex.specs.Reading.{AnswersAs, Shows, StepsAs, front_at, front_behind, gap_len, is_beginning, newline_at, token_at};

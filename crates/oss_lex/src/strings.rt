@@ -1,3 +1,4 @@
+//! String literals (C11 6.4.5), each on one line, with the escapes of the language (C11 6.4.4.4).
 ghost use Rattle.std.specs.Prelude.{◌≡◌, [], ◌∷◌, ◌++◌, false, OnOk};
 ghost use Rattle.oss_grammar.specs.Words.{escaped, is_escape, is_plain};
 ghost use Rattle.oss_lex.specs.Reading.{AnswersAs, string_at};

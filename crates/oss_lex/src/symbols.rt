@@ -1,3 +1,4 @@
+//! Punctuators (C11 6.4.6). Of those that stand at a place the longest is taken (C11 6.4p4).
 ghost use Rattle.std.specs.Prelude.{◌≡◌, ◌≤◌, length};
 ghost use Rattle.oss_grammar.specs.Words.{is_one, is_three, is_two};
 ghost use Rattle.oss_lex.specs.Reading.{AnswersAs, symbol_at, symbol_len};
@@ -8,6 +9,7 @@ use crate::taken::{Taken, no_token};
 use oss_syntax::{Name, Refusal, TokenKind};
 use std::alloc::Global;
 
+/// Whether a byte alone is a punctuator.
 #[tactic(auto, unfolding(oss_grammar::specs::Words::is_one))]
 fn is_symbol(a: u8) -> bool
     ensures { result ≡ is_one a }
@@ -38,6 +40,7 @@ fn is_symbol(a: u8) -> bool
         || a == b'.'
 }
 
+/// Whether two bytes together are a punctuator, which is taken before the first of them alone.
 #[tactic(auto, unfolding(oss_grammar::specs::Words::is_two))]
 fn is_symbol_of_two(a: u8, b: u8) -> bool
     ensures { result ≡ is_two a b }
@@ -64,6 +67,7 @@ fn is_symbol_of_two(a: u8, b: u8) -> bool
         || (b == b'>' && a == b'-')
 }
 
+/// Whether three bytes together are a punctuator: a shift with an assignment.
 #[tactic(auto, unfolding(oss_grammar::specs::Words::is_three))]
 fn is_symbol_of_three(a: u8, b: u8, c: u8) -> bool
     ensures { result ≡ is_three a b c }

@@ -1,3 +1,4 @@
+//! What readers of one token answer: the token, and the text behind it; or why there is none.
 ghost use Rattle.std.specs.Prelude.{◌≡◌};
 
 use oss_grammar::LinePart;

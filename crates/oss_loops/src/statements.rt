@@ -96,6 +96,7 @@ fn part(alloc: Global, one: Option<Boxed<Stmt>>) -> Result<Option<Boxed<Stmt>>, 
     }
 }
 
+/// A block; where memory is wanting nothing is left of it, as of each statement here.
 #[cycle(statements)]
 fn block(alloc: Global, line: u32, list: List<Stmt>) -> Result<Stmt, AllocError>
     ensures { IfOk result (λ done. done ≡ stmt_at line (stmts.Block (map written_out list))) }
@@ -104,6 +105,7 @@ fn block(alloc: Global, line: u32, list: List<Stmt>) -> Result<Stmt, AllocError>
     Ok(at(line, StmtKind::Block(list)))
 }
 
+/// An `if`. Its test has no statements in it, and comes into the new one as it is.
 #[cycle(statements)]
 fn branches(
     alloc: Global,
@@ -141,6 +143,7 @@ fn both(
     Ok((then, other))
 }
 
+/// A `while`, with its test as it is. Where memory is wanting the test is let go with the rest.
 #[cycle(statements)]
 fn while_loop(alloc: Global, line: u32, test: Expr, body: Boxed<Stmt>) -> Result<Stmt, AllocError>
     ensures { IfOk result (λ done. done ≡ stmt_at line (stmts.While test (written_out body))) }
@@ -154,6 +157,7 @@ fn while_loop(alloc: Global, line: u32, test: Expr, body: Boxed<Stmt>) -> Result
     }
 }
 
+/// A `for`. It stays one and becomes no `while`, so that `continue` still leads to its last part.
 #[cycle(statements)]
 fn for_loop(
     alloc: Global,
@@ -188,6 +192,7 @@ fn for_parts(alloc: Global, parts: ForParts) -> Result<ForParts, AllocError>
     Ok(ForParts { start, step, body })
 }
 
+/// A task statement. Its clauses have no statements in them, and stay as they are.
 #[cycle(statements)]
 fn task(alloc: Global, line: u32, mark: TaskMark, body: Boxed<Stmt>) -> Result<Stmt, AllocError>
     ensures { IfOk result (λ done. done ≡ stmt_at line (stmts.Task mark (written_out body))) }
@@ -196,6 +201,7 @@ fn task(alloc: Global, line: u32, mark: TaskMark, body: Boxed<Stmt>) -> Result<S
     Ok(at(line, StmtKind::Task(mark, body)))
 }
 
+/// A task loop. Those in its body are written out first, and then it is.
 #[cycle(statements)]
 fn task_loop(
     alloc: Global,

@@ -1,3 +1,5 @@
+//! Instructions with their lines and the depth of the stack at each, and how far they stand from where `break` and `continue` lead.
+
 use oss_code::Instr;
 
 /// An instruction at its place in a code.

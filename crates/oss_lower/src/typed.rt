@@ -110,6 +110,7 @@ fn direction(op: BinOp) -> Direction
     }
 }
 
+/// Whether arithmetic on the value moves a pointer, so that it counts elements.
 fn is_pointer(kind: ValueKind) -> bool
     ensures { result ≡ is_pointer kind }
 {
@@ -119,6 +120,7 @@ fn is_pointer(kind: ValueKind) -> bool
     }
 }
 
+/// Whether operators read the value as unsigned, which its 64 bits alone do not tell.
 fn is_unsigned(kind: ValueKind) -> bool
     ensures { result ≡ is_unsigned_kind kind }
 {

@@ -1,3 +1,5 @@
+//! One open function of a body: its values and locals, and what the clauses of a directive have given so far.
+
 use oss_meaning::Value;
 use oss_syntax::{Access, Range};
 

@@ -1,3 +1,5 @@
+//! Asks: the machine touches no cell and creates no task by itself; it asks for it, and goes on with the answer.
+
 use oss_code::TaskOrder;
 use oss_syntax::{Access, Boxed, Bytes, FaultKind, List, Op, Range};
 

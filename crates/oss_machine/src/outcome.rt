@@ -1,3 +1,5 @@
+//! What one instruction, or one answer, makes of the function that runs.
+
 use oss_syntax::FaultKind;
 
 /// What an instruction came to.

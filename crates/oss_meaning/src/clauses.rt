@@ -1,3 +1,5 @@
+//! Dependency clauses by their meaning: the words `in`, `weakout` and the others differ in three things alone.
+
 use oss_syntax::Mode;
 
 /// What a dependency clause declares of the cells of its sections (OmpSs-2, dependency clauses).

@@ -1,3 +1,5 @@
+//! What names and expressions stand for, as far as the text tells it before any run.
+
 use oss_grammar::ValueKind;
 use oss_syntax::{Kind, NumKind};
 

@@ -1,3 +1,5 @@
+//! Values. A pointer is a global with an index and no address, so that it means the same wherever the cells of the global lie.
+
 /// A value of an expression, a local or a parameter.
 #[derive(Clone, Copy, PartialEq, Eq)]
 pub enum Value {

@@ -174,6 +174,7 @@ fn is_wrong(function: &Function) -> bool
     main_is_wrong || task_is_wrong
 }
 
+/// Whether a function of this result may be `main`.
 fn is_int(kind: Kind) -> bool
     ensures { result ≡ returns_int kind }
 {
@@ -183,6 +184,7 @@ fn is_int(kind: Kind) -> bool
     }
 }
 
+/// Whether a function of this result may have a pragma: nothing waits for its task where it is called, so it can give no value.
 fn is_nothing(kind: Kind) -> bool
     ensures { result ≡ returns_nothing kind }
 {

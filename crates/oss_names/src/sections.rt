@@ -102,6 +102,7 @@ fn clause(
     }
 }
 
+/// Whether a clause is a reduction, which allows fewer types than a dependency.
 fn folds(mode: Mode) -> bool
     ensures { result ≡ is_fold mode }
 {
@@ -173,6 +174,7 @@ fn section(
     )
 }
 
+/// Whether a base is not in scope. It is refused for this alone.
 fn is_unknown(named: Named) -> bool
     ensures { result ≡ is_missing named }
 {
@@ -342,6 +344,7 @@ fn is_wrong(fold: bool, form: &Form, named: Named) -> bool
     }
 }
 
+/// Whether the base has what a form counts in: cells of a global, elements, or rows and columns.
 fn fits(form: &Form, named: Named) -> bool
     ensures { result ≡ fits_base form.now named }
 {
@@ -356,6 +359,7 @@ fn fits(form: &Form, named: Named) -> bool
     }
 }
 
+/// Whether the text tells how many cells a base has in all, so that its name alone is a section.
 fn is_a_global(named: Named) -> bool
     ensures { result ≡ is_global named }
 {
@@ -367,6 +371,7 @@ fn is_a_global(named: Named) -> bool
     }
 }
 
+/// Whether the text tells how many elements or rows a base has, so that an upper end may be left out.
 fn is_an_array(named: Named) -> bool
     ensures { result ≡ is_array named }
 {
@@ -377,6 +382,7 @@ fn is_an_array(named: Named) -> bool
     }
 }
 
+/// Whether a base has rows and columns.
 fn is_a_grid(named: Named) -> bool
     ensures { result ≡ is_grid named }
 {
@@ -386,6 +392,7 @@ fn is_a_grid(named: Named) -> bool
     }
 }
 
+/// Whether a base is counted in single elements: an array of one dimension, or a pointer.
 fn names_elements(named: Named) -> bool
     ensures { result ≡ has_elements named }
 {
@@ -396,6 +403,7 @@ fn names_elements(named: Named) -> bool
     }
 }
 
+/// Whether the cells of a base are numbers of 32 bits, into which no reduction folds.
 fn names_ints(named: Named) -> bool
     ensures { result ≡ has_ints named }
 {

@@ -57,6 +57,7 @@ fn wanted_by_target(op: Option<BinOp>, kind: ValueKind, object: Object) -> Optio
     }
 }
 
+/// What may be stored where a target designates this; `None` where it designates no object, or the operator does not go with it.
 fn wanted_by_object(op: Option<BinOp>, object: Object) -> Option<Wanted>
     ensures { result ≡ stored_in op object }
 {
@@ -69,6 +70,7 @@ fn wanted_by_object(op: Option<BinOp>, object: Object) -> Option<Wanted>
     }
 }
 
+/// What may be stored in a pointer: a pointer of its type, or by `+=` and `-=` a number of elements by which it moves.
 fn wanted_by_pointer(op: Option<BinOp>, number: NumKind) -> Option<Wanted>
     ensures { result ≡ moved op number }
 {
@@ -117,6 +119,7 @@ pub(crate) fn print(
     )
 }
 
+/// The first rule that the string of a `printf` breaks beside so many arguments. `None` for the conversions is a `%` that begins none.
 fn refusal_of_format(conversions: Option<usize>, count: usize, line: u32) -> Option<Refused>
     ensures { result ≡ first (format_rules conversions count line) }
 {
@@ -161,6 +164,7 @@ pub(crate) fn return_statement(
     )
 }
 
+/// Whether a `return` has a value where the result is `void`, or has none elsewhere.
 fn is_wrong_for(kind: Kind, value: &Option<Expr>) -> bool
     ensures { result ≡ is_wrong_return kind value.now }
 {

@@ -152,6 +152,7 @@ fn scope_of(around: Around, count: usize) -> Around
     }
 }
 
+/// What stands around the body of a `while` or `for`: `break` and `continue` belong to it.
 fn looping(around: Around) -> Around
     ensures { result ≡ in_a_loop around }
 {
@@ -163,6 +164,7 @@ fn looping(around: Around) -> Around
     }
 }
 
+/// What stands around the body of a task statement: no jump leads out of it, so a loop outside of it does not count.
 fn tasking(around: Around) -> Around
     ensures { result ≡ in_a_task around }
 {
@@ -174,6 +176,7 @@ fn tasking(around: Around) -> Around
     }
 }
 
+/// What stands around the body of a task loop: it is that of a task too, and `continue` ends a turn.
 fn turning(around: Around) -> Around
     ensures { result ≡ in_a_task_loop around }
 {

@@ -23,6 +23,7 @@ pub fn pragma(alloc: Global, tokens: &List<Token>, at: u32) -> Result<(Directive
     pragma_told(alloc, tokens, at)
 }
 
+/// The same, told by the definition of the reader, of which it is proved that it reads as the grammar says.
 fn pragma_told(alloc: Global, tokens: &List<Token>, at: u32) -> Result<(Directive, u32), Refusal>
     requires within { at ≤ length tokens.now }
     requires counted { length tokens.now ≤ 4294967295 }

@@ -116,6 +116,7 @@ impl Found {
     }
 }
 
+/// One or the other, without a branch in the caller for each clause.
 fn either(one: bool, other: bool) -> bool
     ensures { result ≡ (one || other) }
 {

@@ -1,3 +1,4 @@
+//! How the text of a schedule is cut into lines, and a line into words.
 ghost use Rattle.std.specs.Prelude.{◌≡◌, ◌≤◌, ◌<◌, ◌∷◌, [], None, Some, IfSome, MatchOption, drop, length};
 ghost use Rattle.std.specs.List.{prefix_len};
 ghost use Rattle.oss_sched.specs.Schedules.{lines_of};

@@ -1,3 +1,4 @@
+//! Laws of schedules and traces, each carried by a function that does nothing. A crate above calls the function, and then has the law.
 ghost use Rattle.oss_sched.specs.Schedules.{IsReadOnce};
 ghost use Rattle.oss_sched.specs.Traces.{IsTraceRead};
 

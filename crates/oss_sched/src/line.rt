@@ -1,3 +1,4 @@
+//! One line of a schedule: a move in its exact form, nothing where it is empty or a comment, or wrong.
 ghost use Rattle.std.specs.Prelude.{◌≡◌, IfOk, OnOk};
 ghost use Rattle.oss_sched.specs.Reading.{cells_in, cells_move, is_remark, move_in, named_move, point_in, run_in, step_in, told_in, told_of as told_of_move};
 

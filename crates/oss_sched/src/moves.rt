@@ -1,3 +1,5 @@
+//! The moves that the lines of a schedule ask for, and what a run by waves did, of which a trace is made.
+
 use oss_model::Point;
 use oss_syntax::List;
 

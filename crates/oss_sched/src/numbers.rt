@@ -1,3 +1,4 @@
+//! Decimal numbers in their exact form, without sign and leading zeros, so that each number has one text.
 ghost use Rattle.std.specs.Prelude.{◌≡◌, ◌≤◌, None, IfSome};
 ghost use Rattle.oss_sched.specs.Reading.{number_from, number_in, number_with};
 

@@ -1,3 +1,4 @@
+//! The reader of schedules: it takes one line after the other, and refuses the text at the first that is wrong.
 ghost use Rattle.std.specs.Prelude.{◌≡◌, ◌≤◌, [], OnOk, IfErr, length};
 ghost use Rattle.oss_sched.specs.Schedules.{IsReading, IsRefusal, IsScheduleText};
 ghost use Rattle.oss_sched.specs.Reading.{RefusedAs, TakenAs, told_in};

@@ -1,3 +1,4 @@
+//! Why a schedule is not read: a line of it is wrong, or memory is wanting.
 ghost use Rattle.std.specs.Prelude.{◌≡◌};
 ghost use Rattle.oss_sched.specs.declared.refused.ScheduleRefused.TheVariants.{Memory};
 

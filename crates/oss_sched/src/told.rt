@@ -1,3 +1,5 @@
+//! What one line of a schedule tells, and which moves name cells.
+
 use crate::moves::TextMove;
 
 /// What a line tells.

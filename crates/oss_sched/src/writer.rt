@@ -1,3 +1,4 @@
+//! The writer of traces. What is no move stands in comments, so that each trace is a schedule and can be replayed.
 ghost use Rattle.std.specs.Prelude.{◌≡◌, ◌++◌, ◌∷◌, [], IfOk, OnOk, length};
 ghost use Rattle.std.specs.Fmt.{decimal};
 ghost use Rattle.oss_model.specs.Points.{text_of};

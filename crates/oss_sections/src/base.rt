@@ -1,3 +1,4 @@
+//! Array sections once their expressions are evaluated (OmpSs-2, array sections): the base, and what is named of it.
 ghost use Rattle.std.specs.Prelude.{◌+◌, ◌<◌, ◌≤◌};
 ghost use Rattle.std.specs.Option.{ForSome};
 

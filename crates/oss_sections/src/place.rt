@@ -1,3 +1,4 @@
+//! The place of an element of an array of two dimensions. Each index is tested in its own dimension, so that none runs over into another row.
 ghost use Rattle.std.specs.Prelude.{◌≡◌, ◌*◌, ◌≤◌, Some, None, if◌then◌else◌};
 ghost use Rattle.oss_sections.specs.Places.{is_index, place_of};
 

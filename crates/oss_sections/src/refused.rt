@@ -1,3 +1,4 @@
+//! Why a section has no cells to tell: it has a fault, or memory is wanting.
 ghost use Rattle.std.specs.Prelude.{◌≡◌};
 ghost use Rattle.oss_sections.specs.declared.refused.SectionRefused.TheVariants.{Memory};
 

@@ -1,3 +1,4 @@
+//! Ranges of cells in rows: one range for each row, and one for all of them where no cell is left out between.
 ghost use Rattle.std.specs.Prelude.{◌≡◌, ◌+◌, ◌*◌, ◌<◌, ◌≤◌, Ok};
 ghost use Rattle.std.specs.List.{range_with_len};
 ghost use Rattle.oss_grammar.specs.SectionCells.{cells_of_rows};

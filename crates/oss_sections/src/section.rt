@@ -1,3 +1,4 @@
+//! The cells of a section of one or two dimensions. The ends are tested before any range is made, so that a fault costs no memory.
 ghost use Rattle.std.specs.Prelude.{◌≡◌, ◌+◌, ◌*◌, ◌<◌, ◌≤◌, Some, None};
 ghost use Rattle.oss_grammar.specs.SectionCells.{cells_of_extent, grid_cells, section_cells, stretch_cells};
 ghost use Rattle.oss_sections.specs.Evaluated.{IsTold, meant_base, meant_extent};

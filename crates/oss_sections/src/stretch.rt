@@ -1,3 +1,4 @@
+//! A part of one dimension: where it begins and how many elements it has. The count is exact and may be negative: the bounds are tested last.
 ghost use Rattle.std.specs.Prelude.{◌≡◌, ◌+ℤ◌, ◌-ℤ◌, pos, false};
 ghost use Rattle.oss_grammar.specs.SectionCells.{all_columns, is_empty, is_negative_size, last_of, or_zero, signed, stretch_of};
 ghost use Rattle.oss_sections.specs.Evaluated.{meant_part};

@@ -1,3 +1,4 @@
+//! Accesses (OmpSs-2, dependency clauses): ranges of cells, how a task uses them, and the operators of reductions.
 ghost use Rattle.std.specs.Prelude.{◌<◌, ◌≤◌};
 
 /// The operator of a reduction (OmpSs-2, the clause `reduction`).

@@ -1,3 +1,4 @@
+//! Boxes, for the trees of a program. A contract does not see where one lies.
 ghost use Rattle.std.specs.Prelude.{◌≡◌, IfOk};
 
 use std::alloc::{AllocError, Global};

@@ -1,3 +1,5 @@
+//! Faults of a run. No rule on the text tells them, so a program that is accepted may still have one.
+
 /// What can go wrong in a run, in the order in which the tests of one act stand.
 #[derive(Clone, Copy, Debug, PartialEq, Eq)]
 pub enum FaultKind {

@@ -1,3 +1,4 @@
+//! Refusals: why and where a program text is not accepted, before any run.
 ghost use Rattle.std.specs.Prelude.{◌≡◌};
 ghost use Rattle.oss_syntax.specs.declared.refusal.Refusal.TheVariants.{Memory};
 

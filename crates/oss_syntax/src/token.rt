@@ -1,3 +1,5 @@
+//! Tokens (C11 6.4). A line `#pragma oss` has one more for its beginning and one for its end, so that the grammar sees where it ends.
+
 use crate::{Bytes, Name};
 
 /// What a token is.

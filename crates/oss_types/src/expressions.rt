@@ -120,6 +120,7 @@ fn arguments(
     None
 }
 
+/// What the first of these parameters takes. An argument too many is allowed any value, since the count is refused at the name.
 fn wanted_of_argument(params: &[Local]) -> Wanted
     ensures { result ≡ argument_wanted params.now }
 {
@@ -129,6 +130,7 @@ fn wanted_of_argument(params: &[Local]) -> Wanted
     }
 }
 
+/// The parameters of the arguments behind the first; none stay none.
 fn behind_first(params: &[Local]) -> &[Local]
     ensures { result.now ≡ parameters_behind params.now }
 {
@@ -158,6 +160,7 @@ fn refusal_of_call(
     }
 }
 
+/// The first rule that a call of this function breaks at its name: `main` is not called, and a function with a pragma gives no value.
 fn refusal_of_callee(
     function: &Function,
     line: u32,
@@ -182,6 +185,7 @@ pub fn is_named_main(function: &Function) -> bool
     function.name.as_slice() == b"main".as_slice()
 }
 
+/// The parameters of what is called; none where it is no function, which is refused at its name.
 fn parameters<'p>(named: Named, function: Option<&'p Function>) -> &'p [Local]
     ensures { result.now ≡ parameters_of named (option_copied function.entry) }
 {
@@ -194,6 +198,7 @@ fn parameters<'p>(named: Named, function: Option<&'p Function>) -> &'p [Local]
     }
 }
 
+/// The kind of a call's value: unknown where no function is called, so that nothing more is refused for it.
 fn kind_of_call(named: Named, function: Option<&Function>) -> ValueKind
     ensures { result ≡ call_kind named (option_copied function.entry) }
 {

@@ -1,3 +1,5 @@
+//! What is found of an expression. Of the rules that it breaks only the first in the text counts, and of those that one token breaks the
+//! first in the order of the rules.
 ghost use Rattle.std.specs.Prelude.{◌≡◌, Option};
 ghost use Rattle.oss_grammar.specs.Broken.{broken, first, rank, insert, where_so};
 ghost use Rattle.oss_grammar.specs.Kinds.{Findings, all_of, allows, number_kind, value_kind, same_number, refused_here, placed, wanted_by, number_findings};
@@ -123,6 +125,7 @@ pub fn taken_by(kind: Kind) -> Wanted
     }
 }
 
+/// Whether two types of numbers are one. A pointer to one is no pointer to another, even where both have 64 bits.
 fn are_same(one: NumKind, other: NumKind) -> bool
     ensures { result ≡ same_number one other }
 {

@@ -98,6 +98,7 @@ impl<'p> Globals<'p> {
     }
 }
 
+/// What the name of a global stands for, which its cells and columns tell.
 fn named_global(global: &GlobalDef) -> Named
     ensures { result ≡ global_meaning global.now.cells global.now.columns global.now.kind }
 {

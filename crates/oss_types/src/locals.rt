@@ -30,18 +30,21 @@ impl<'p> Model for Visible<'p> {
 }
 
 impl<'p> Visible<'p> {
+    /// A local of a text.
     fn of(local: &'p Local) -> Visible<'p>
         ensures { result ≡ local.now }
     {
         Visible { local: Some(local) }
     }
 
+    /// A local that a task loop has beside its variable. It takes a place as any other, but no text finds it.
     fn hidden() -> Visible<'p>
         ensures { result ≡ hidden_local }
     {
         Visible { local: None }
     }
 
+    /// Whether the local has this name. A hidden one is named `$`, as no name of a text is.
     fn is_named(&self, name: &[u8]) -> bool
         ensures { result ≡ bytes_eq self.now.name name.now }
     {
@@ -51,6 +54,7 @@ impl<'p> Visible<'p> {
         }
     }
 
+    /// The type of the local. A hidden one is a signed number of 64 bits.
     fn kind(&self) -> Kind
         ensures { result ≡ self.now.kind }
     {
@@ -196,6 +200,7 @@ impl<'p> Locals<'p> {
     }
 }
 
+/// The type of the last local of this name: it hides those before it.
 fn kind_among(locals: &[Visible<'_>], name: &[u8]) -> Option<Kind>
     ensures { result ≡ local_kind locals.now name.now }
 {
@@ -208,6 +213,7 @@ fn kind_among(locals: &[Visible<'_>], name: &[u8]) -> Option<Kind>
     found
 }
 
+/// The type of the local at a place that a table has told.
 fn kind_of_place(locals: &[Visible<'_>], place: Option<usize>) -> Option<Kind>
     ensures { result ≡ kind_at locals.now place }
 {
@@ -220,6 +226,7 @@ fn kind_of_place(locals: &[Visible<'_>], place: Option<usize>) -> Option<Kind>
     }
 }
 
+/// Whether a name is declared already in the scope that begins at `start`. In a scope around it the name may stand.
 fn is_among(locals: &[Visible<'_>], start: usize, name: &[u8]) -> bool
     ensures { result ≡ is_local_again start locals.now name.now }
 {

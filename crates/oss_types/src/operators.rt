@@ -23,6 +23,7 @@ pub(crate) fn name(named: Named, line: u32) -> Finding
     }
 }
 
+/// The rule that a name as a value breaks: it is not in scope, or it is a function, which is no value here.
 fn refusal_of_name(named: Named, line: u32) -> Option<Refused>
     ensures { result ≡ first (name_rules named line) }
 {
@@ -33,6 +34,7 @@ fn refusal_of_name(named: Named, line: u32) -> Option<Refused>
     }
 }
 
+/// The kind of a name's value. An array stands for a pointer to its first element (C11 6.3.2.1p3).
 fn kind_of_name(named: Named) -> ValueKind
     ensures { result ≡ name_kind named }
 {
@@ -46,6 +48,7 @@ fn kind_of_name(named: Named) -> ValueKind
     }
 }
 
+/// What a name designates: an array and a function are no targets.
 fn object_of_name(named: Named) -> Object
     ensures { result ≡ name_object named }
 {
@@ -67,6 +70,7 @@ pub fn kind_of_element(kind: ValueKind) -> ValueKind
     }
 }
 
+/// What stands behind a pointer of this kind: a row of an array of two dimensions is no cell, and so no target.
 fn object_of_element(kind: ValueKind) -> Object
     ensures { result ≡ element_object kind }
 {
@@ -112,6 +116,7 @@ pub(crate) fn unary(line: u32, op: UnOp, operand: Finding) -> Finding
     }
 }
 
+/// An expression behind a prefix operator: its first token is the operator, so all that is broken stands behind that.
 fn prefix(line: u32, operand: Finding, kind: ValueKind, object: Object) -> Finding
     ensures { (e : Findings) → operand ≡ seen e → result ≡ seen (prefixed line e kind object) }
 {
@@ -124,12 +129,14 @@ fn prefix(line: u32, operand: Finding, kind: ValueKind, object: Object) -> Findi
     }
 }
 
+/// An operator whose value is of the kind of its operand.
 fn same_kind(line: u32, operand: Finding) -> Finding
     ensures { (e : Findings) → operand ≡ seen e → result ≡ seen (prefixed line e e.kind Object.ValueOnly) }
 {
     prefix(line, operand, operand.kind, Object::ValueOnly)
 }
 
+/// `*p`, which designates the cell to which the pointer points.
 fn pointed_to(line: u32, operand: Finding) -> Finding
     ensures { (e : Findings) → operand ≡ seen e → result ≡ seen (prefixed line e (element_kind e.kind) (element_object e.kind)) }
 {
@@ -141,6 +148,7 @@ fn pointed_to(line: u32, operand: Finding) -> Finding
     )
 }
 
+/// `&e`. Only a cell has an address: a local has no place in the memory that tasks share.
 fn address(line: u32, operand: Finding) -> Finding
     ensures { (e : Findings) → operand ≡ seen e → result ≡ seen (prefixed line (unless (has_address e.kind e.object) e) (address_kind e.kind e.object) Object.ValueOnly) }
 {
@@ -152,6 +160,7 @@ fn address(line: u32, operand: Finding) -> Finding
     }
 }
 
+/// The kind of `&e`; unknown where it is refused, so that nothing more is.
 fn kind_of_address(kind: ValueKind, object: Object) -> ValueKind
     ensures { result ≡ address_kind kind object }
 {
@@ -162,6 +171,7 @@ fn kind_of_address(kind: ValueKind, object: Object) -> ValueKind
     }
 }
 
+/// Whether `&` may stand before an expression. One that is refused already is not refused again.
 fn may_have_address(kind: ValueKind, object: Object) -> bool
     ensures { result ≡ has_address kind object }
 {
@@ -188,6 +198,7 @@ pub(crate) fn binary(line: u32, op: BinOp, left: Finding, right: Finding) -> Fin
     }
 }
 
+/// What the left operand may be: a pointer before `+` and `-` alone, by which it moves.
 fn wanted_on_the_left(op: BinOp) -> Wanted
     ensures { result ≡ left_wanted op }
 {
@@ -217,6 +228,7 @@ pub fn kind_of_binary(op: BinOp, left: ValueKind, right: ValueKind) -> ValueKind
     }
 }
 
+/// The kind of a value that comes from both operands: a number is unsigned where one of them is (C11 6.3.1.8).
 fn kind_of_both(left: ValueKind, right: ValueKind) -> ValueKind
     ensures { result ≡ joined_kind left right }
 {
@@ -230,6 +242,7 @@ fn kind_of_both(left: ValueKind, right: ValueKind) -> ValueKind
     }
 }
 
+/// This kind; unknown where that of the right operand is, so that what breaks a rule breaks no further one.
 fn unless_it_is_unknown(right: ValueKind, kind: ValueKind) -> ValueKind
     ensures { result ≡ unless_unknown right kind }
 {

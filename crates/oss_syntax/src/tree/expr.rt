@@ -1,3 +1,5 @@
+//! Expressions and their operators (C11 6.5), as far as the language has them.
+
 use crate::{Boxed, List, Name};
 
 /// A prefix operator (C11 6.5.3).

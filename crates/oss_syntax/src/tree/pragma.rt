@@ -1,3 +1,5 @@
+//! Directives, their clauses, and the array sections in these (OmpSs-2), as they are written: nothing of them is evaluated.
+
 use crate::{Bytes, Expr, List, Local, Mode, Name};
 
 /// The cells that a dependency clause names (OmpSs-2, array sections).

@@ -1,3 +1,5 @@
+//! Types, locals, globals and functions (C11 6.7, 6.9), and the program that these make.
+
 use crate::{Expr, List, Name, Stmt, TaskMark};
 
 /// The types of numbers: `int` has 32 bits, `long` and `unsigned long` have 64.

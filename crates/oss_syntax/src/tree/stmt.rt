@@ -1,3 +1,5 @@
+//! Statements (C11 6.8), and those that a directive makes: tasks, task loops, waits and releases.
+
 use crate::{BinOp, Boxed, Bytes, Clause, Expr, List, Local, Name, Section, TaskMark};
 
 /// The head of a task loop (OmpSs-2, the taskloop directive): `for (long i = l; i < u; i++)` behind its pragma.

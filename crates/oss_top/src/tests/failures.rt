@@ -21,6 +21,7 @@ struct Told {
 }
 
 impl Told {
+    /// Whether the call ended with this status and these texts.
     fn is(&self, status: u8, out: &str, err: &str) -> bool {
         self.status == status
             && self.sinks.out.bytes() == out.as_bytes()
@@ -28,12 +29,14 @@ impl Told {
     }
 }
 
+/// A shelf that keeps this text as `p.c`.
 fn shelf_with(alloc: Global, text: &str) -> Result<MemoryShelf, AllocError> {
     let mut shelf = MemoryShelf::new(alloc);
     shelf.put("p.c", text.as_bytes())?;
     Ok(shelf)
 }
 
+/// One call of the program with these words, where each task passes the gate at once.
 fn call<R: Threads + Sync>(
     rt: &R,
     alloc: Global,
@@ -49,6 +52,7 @@ fn call<R: Threads + Sync>(
     Ok(Told { status, sinks })
 }
 
+/// A sink that does not fail: it has room for all that these programs tell.
 fn sink(alloc: Global) -> Result<MemorySink, AllocError> {
     MemorySink::new(alloc, 4096)
 }

@@ -11,6 +11,7 @@ use std::test::Fail;
 
 const TEXT: &str = "x = a - 1;\n#pragma oss taskwait on(x)\n#pragma oss task on(x)\n";
 
+/// Whether an expression is the name `a`.
 fn is_name(value: &Expr) -> bool {
     match &value.what {
         ExprKind::Name(name) => name.as_slice() == b"a".as_slice(),
@@ -18,6 +19,7 @@ fn is_name(value: &Expr) -> bool {
     }
 }
 
+/// Whether an expression is a difference with `a` on its left.
 fn is_difference(value: &Expr) -> bool {
     match &value.what {
         ExprKind::Binary(BinOp::Sub, left, _) => is_name(left.get()),
@@ -25,6 +27,7 @@ fn is_difference(value: &Expr) -> bool {
     }
 }
 
+/// Whether a directive is a wait on so many sections.
 fn is_wait_on(directive: &Directive, sections: usize) -> bool {
     match directive {
         Directive::TaskWait(Some(on)) => on.len() == sections,
@@ -32,6 +35,7 @@ fn is_wait_on(directive: &Directive, sections: usize) -> bool {
     }
 }
 
+/// Whether a refusal is of this kind, on this line and behind so many tokens.
 fn is(refused: &Refused, kind: RefusedKind, line: u32, token: u32) -> bool {
     refused.kind == kind && refused.line == line && refused.token == token
 }
