@@ -386,15 +386,26 @@ pub(crate) fn call(
 fn call_of(function: Option<&Function>, number: u32, arguments: u32) -> Instr
     ensures { result ≡ call_instr (is_task_function (option_copied function.entry)) number arguments }
 {
+    if is_task_function(function) {
+        Instr::Spawn {
+            function: number,
+            arguments,
+        }
+    } else {
+        Instr::Call {
+            function: number,
+            arguments,
+        }
+    }
+}
+
+/// Whether a call of it creates a task.
+fn is_task_function(function: Option<&Function>) -> bool
+    ensures { result ≡ is_task_function (option_copied function.entry) }
+{
     match function {
-        Some(Function { mark: Some(_), .. }) => Instr::Spawn {
-            function: number,
-            arguments,
-        },
-        _ => Instr::Call {
-            function: number,
-            arguments,
-        },
+        Some(function) => function.mark.is_some(),
+        None => false,
     }
 }
 

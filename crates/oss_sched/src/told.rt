@@ -4,7 +4,7 @@ use crate::moves::TextMove;
 
 /// What a line tells.
 #[derive(Drop)]
-pub(crate) enum Told {
+pub enum Told {
     /// Nothing: it is empty or a comment.
     Nothing,
     /// A move.

@@ -19,7 +19,7 @@ point_of (links.Acts p first count) = p
 point_of (links.Let p c) = p
 point_of (links.Join p c) = p
 
--- The acts so many from this one on are numbered.
+-- So many acts from this one on are numbered: up to the last one there are no more than 18,446,744,073,709,551,615.
 abbrev pub are_numbered : ℕ → ℕ → Bool
 are_numbered first count = nat_le (first + count) (2 ^ 64 - 1)
 
