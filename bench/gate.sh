@@ -32,7 +32,12 @@ echo "status $(cat "$room/status"), $(((ended - begun) / 60)) minutes of clock"
 awk -F '[ms ]+' 'NR == 2 { all = $1 * 60 + $2 + $3 * 60 + $4; printf "%d processor seconds, %d minutes\n", all, all / 60 + 0.5 }' "$room/times"
 awk '
   FILENAME == ARGV[1] { if ($4 > most[$1, $2, $3]) { cost[$2, $3] += $4 - most[$1, $2, $3]; most[$1, $2, $3] = $4 } }
-  FILENAME == ARGV[2] && /^[a-z]/ { split($0, head, /[: ]/); names[++crates] = head[1] }
+  # a program is proved by a check too: it counts as a wrong body only where its crate has some
+  FILENAME == ARGV[2] && /^[a-z]/ {
+    split($0, head, /[: ]/)
+    names[++crates] = head[1]
+    if (system("test -d crates/" head[1] "/must-fail")) { cost[head[1], "proof"] += cost[head[1], "wrong"]; cost[head[1], "wrong"] = 0 }
+  }
   function told(name, kind) { all[kind] += cost[name, kind]; return cost[name, kind] ? cost[name, kind] : "–" }
   END {
     for (i = 1; i <= crates; i++) printf "| `%s` | %s | %s | %s |\n", names[i], told(names[i], "proof"), told(names[i], "tests"), told(names[i], "wrong")
