@@ -1,21 +1,25 @@
 -- The tasks of a body behind an act, and the act that stands next.
-use Rattle.std.proofs.Common.{◌≡◌, ℕ, suc, ◌<◌, refl, sym, ap, ◌∙◌, subst, List, [], ◌∷◌, ◌++◌, length, arith, Bool, true, false, nat_lt, Option, Some, None}
+use Rattle.std.proofs.Common.{◌≡◌, ℕ, suc, ◌<◌, refl, sym, ap, ◌∙◌, subst, List, [], ◌∷◌, ◌++◌, length, arith, Bool, true, false, nat_lt, Option, Some, None, Result}
 use Rattle.std.specs.Prelude.{not, MatchOption}
+use Rattle.std.specs.declared.alloc.AllocError.{AllocError}
 use Rattle.std.proofs.lemmas.Bool.{lt-ltb}
 use Rattle.std.proofs.lemmas.List.{length-append}
 use Rattle.oss_code.specs.declared.code.CodeParts.{CodeParts}
 use Rattle.oss_machine.specs.Frames.{CodeScript}
 use Rattle.oss_machine.specs.Machines.{asks}
 use Rattle.oss_model.specs.Bodies.{Act as MeantAct, Awaited, Created, Ended, Fault, Folded, Frame as Meant, Load, Order, Over, Printed, Releases, Stack, Store, Ticked, Waited, WaitedOn, act_of, child_frame, frame_act, frame_after, including_frame, settled_frame, stack_after, top_frame}
+use Rattle.oss_model.specs.Context.{Context}
 use Rattle.oss_model.specs.Rights.{Right}
 use Rattle.oss_body.specs.declared.act.Act.{Act}
 use Rattle.oss_body.specs.declared.act.Act.TheVariants as acts
 use Rattle.oss_body.specs.declared.act.Creation.{Creation}
 use Rattle.oss_body.specs.declared.tasks.Tasks.{Tasks}
 use Rattle.oss_body.specs.Acts.{act_seen}
+use Rattle.oss_body.specs.Following.{IsFollowing}
 use Rattle.oss_body.specs.Kept.{kept}
 use Rattle.oss_body.specs.Places.{Framed}
 use Rattle.oss_body.specs.Stacks.{IsFollowed, all_of, including, including_parts, includes_in, is_nil, kept_stack, rest_of, stays_on}
+use Rattle.oss_body.proofs.Results.{if_ok}
 use Rattle.oss_body.proofs.StackLemmas.{some_task, tasks_of}
 
 -- a body whose task that acts is this one
@@ -180,3 +184,14 @@ pub never_alone : (creation : Creation) (included : Bool) (below : List Framed) 
 never_alone creation true below h i n = cc
 never_alone creation false [] h i n = cc
 never_alone creation false (x ∷ xs) h i n = cc
+
+-- tasks that go on behind one thing do so behind another, where these who follow the one follow the other
+pub following_as : (F G : CodeParts → Context → Stack CodeScript → Tasks → Act → Type 0) (code : CodeParts) (own : Context) (old new : Tasks) (point : Option (List ℕ)) (result : Result Act AllocError)
+    → ((next : Act) (s : Stack CodeScript) → old ≡ kept_stack code s → F code own s new next → G code own s new next) → IsFollowing F code own old new point result → IsFollowing G code own old new point result
+following_as F G code own old new point result goes is = record {
+  followed = if_ok result (λ next h s e. goes next s e (h s e)) is.followed;
+  passed = is.passed;
+  child = is.child;
+  key = is.key;
+  err = is.err;
+}

@@ -1,6 +1,7 @@
 pub mod Acts
 pub mod Behind
 pub mod Drafts
+pub mod Following
 pub mod Kept
 pub mod Left
 pub mod Mains

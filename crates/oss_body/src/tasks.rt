@@ -1,10 +1,8 @@
 //! The tasks of a body.
-ghost use Rattle.std.specs.Prelude.{◌≡◌, ◌<◌, true, false, suc, length, IfOk, OnErr, OnOk, None};
-ghost use Rattle.oss_machine.specs.Asks.{meant_order};
-ghost use Rattle.oss_machine.specs.Frames.{CodeScript};
-ghost use Rattle.oss_model.specs.Bodies.{Stack, Ended, stack_after, top_frame};
-ghost use Rattle.oss_model.specs.Context.{child_context, create_fault, right_of};
-ghost use Rattle.oss_body.specs.Acts.{HasContext, act_seen, answer_to, passed};
+ghost use Rattle.std.specs.Prelude.{◌≡◌, ◌<◌, true, false, suc, length, None};
+ghost use Rattle.oss_model.specs.Context.{create_fault};
+ghost use Rattle.oss_body.specs.Acts.{act_seen, passed};
+ghost use Rattle.oss_body.specs.Following.{BehindAct, BehindAnswer, BehindCreation, BehindEnd, IsFollowing};
 ghost use Rattle.oss_body.specs.Places.{IsKey};
 ghost use Rattle.oss_body.specs.Stacks.{includes_in, stays_on};
 ghost use Rattle.oss_body.specs.declared.act.Act.TheVariants as acts;
@@ -71,7 +69,7 @@ fn way_behind(act: &Act, alone: bool) -> Way
 }
 
 impl Tasks {
-    ghost use Rattle.oss_body.specs.Stacks.{IsFollowed, including, is_nil, kept_stack, own_place};
+    ghost use Rattle.oss_body.specs.Stacks.{is_nil, own_place};
 
     /// The act has happened, and a load found this value: the tasks go on, and this tells the act that stands next, unless the body's own task has
     /// ended. `own` has the rights with which that one started. A key that is kept is that of the task that acts. Where memory is wanting the
@@ -88,11 +86,7 @@ impl Tasks {
         requires running { self.old.ended ≡ false }
         requires passed { passed act.now self.old.top.place.context ≡ true }
         requires key { IsKey key.old self.old.top.place }
-        ensures followed { IfOk result (λ next. (s : Stack CodeScript) → self.old ≡ kept_stack code.now s → HasContext (top_frame s.base s.inner).context act.now → IsFollowed code.now (right_of own.now) (stack_after (act_seen act.now) (answer_to (act_seen act.now) loaded) s.base s.inner) self.new next) }
-        ensures passed { IfOk result (λ next. passed next self.new.top.place.context ≡ true) }
-        ensures child { IfOk result (λ next. HasContext self.new.top.place.context next) }
-        ensures key { OnOk result (IsKey key.new self.new.top.place) }
-        ensures err { OnErr result (self.new ≡ self.old) }
+        ensures following { IsFollowing (BehindAct act.now loaded) code.now own.now self.old self.new key.new result }
     {
         match way_behind(act, self.below.len() == 0) {
             Way::On => self.go_on(alloc, code, own, act, loaded, key),
@@ -113,11 +107,7 @@ impl Tasks {
         requires running { self.old.ended ≡ false }
         requires goes_into { includes_in act.now (is_nil self.old.below) ≡ true }
         requires passed { passed act.now self.old.top.place.context ≡ true }
-        ensures followed { IfOk result (λ next. (s : Stack CodeScript) → self.old ≡ kept_stack code.now s → HasContext (top_frame s.base s.inner).context act.now → IsFollowed code.now (right_of own.now) (stack_after (act_seen act.now) 0 s.base s.inner) self.new next) }
-        ensures passed { IfOk result (λ next. passed next self.new.top.place.context ≡ true) }
-        ensures child { IfOk result (λ next. HasContext self.new.top.place.context next) }
-        ensures key { OnOk result (IsKey key.new self.new.top.place) }
-        ensures err { OnErr result (self.new ≡ self.old) }
+        ensures following { IsFollowing (BehindAnswer act.now 0) code.now own.now self.old self.new key.new result }
     {
         match act {
             Act::Create { creation, .. } => self.include(alloc, code, own, creation.get(), key),
@@ -140,11 +130,7 @@ impl Tasks {
         requires stays { stays_on (act_seen act.now) (is_nil self.old.below) ≡ true }
         requires passed { passed act.now self.old.top.place.context ≡ true }
         requires key { IsKey key.old self.old.top.place }
-        ensures followed { IfOk result (λ next. (s : Stack CodeScript) → self.old ≡ kept_stack code.now s → HasContext (top_frame s.base s.inner).context act.now → IsFollowed code.now (right_of own.now) (stack_after (act_seen act.now) (answer_to (act_seen act.now) loaded) s.base s.inner) self.new next) }
-        ensures passed { IfOk result (λ next. passed next self.new.top.place.context ≡ true) }
-        ensures child { IfOk result (λ next. HasContext self.new.top.place.context next) }
-        ensures key { OnOk result (IsKey key.new self.new.top.place) }
-        ensures err { OnErr result (self.new ≡ self.old) }
+        ensures following { IsFollowing (BehindAct act.now loaded) code.now own.now self.old self.new key.new result }
     {
         let included = 0 < self.below.len();
         self.top
@@ -163,11 +149,8 @@ impl Tasks {
         requires running { self.old.ended ≡ false }
         requires passed { create_fault self.old.top.place.context ≡ None }
         requires depth { creation.now.context.depth ≡ suc self.old.top.place.context.depth }
-        ensures followed { IfOk result (λ next. (s : Stack CodeScript) → self.old ≡ kept_stack code.now s → creation.now.context ≡ child_context (top_frame s.base s.inner).context creation.now.order.accesses creation.now.order.last → IsFollowed code.now (right_of own.now) (including (meant_order creation.now.order) s) self.new next) }
-        ensures passed { IfOk result (λ next. passed next self.new.top.place.context ≡ true) }
-        ensures child { IfOk result (λ next. HasContext self.new.top.place.context next) }
-        ensures key { OnOk result (IsKey key.new self.new.top.place) }
-        ensures err { OnErr result (self.new ≡ self.old) }
+        ensures following { IsFollowing (BehindCreation creation.now) code.now own.now self.old self.new
+            key.new result }
     {
         let mut child = self.top.child(alloc, code, creation)?;
         drop(mem::replace(key, None));
@@ -202,11 +185,7 @@ impl Tasks {
     ) -> Result<Act, AllocError>
         requires running { self.old.ended ≡ false }
         requires key { IsKey key.old self.old.top.place }
-        ensures followed { IfOk result (λ next. (s : Stack CodeScript) → self.old ≡ kept_stack code.now s → IsFollowed code.now (right_of own.now) (stack_after Ended 0 s.base s.inner) self.new next) }
-        ensures passed { IfOk result (λ next. passed next self.new.top.place.context ≡ true) }
-        ensures child { IfOk result (λ next. HasContext self.new.top.place.context next) }
-        ensures key { OnOk result (IsKey key.new self.new.top.place) }
-        ensures err { OnErr result (self.new ≡ self.old) }
+        ensures following { IsFollowing BehindEnd code.now own.now self.old self.new key.new result }
     {
         if self.below.len() == 0 {
             self.ended = true;
@@ -225,11 +204,7 @@ impl Tasks {
     ) -> Result<Act, AllocError>
         requires running { self.old.ended ≡ false }
         requires some { 0 < length self.old.below }
-        ensures followed { IfOk result (λ next. (s : Stack CodeScript) → self.old ≡ kept_stack code.now s → IsFollowed code.now (right_of own.now) (stack_after Ended 0 s.base s.inner) self.new next) }
-        ensures passed { IfOk result (λ next. passed next self.new.top.place.context ≡ true) }
-        ensures child { IfOk result (λ next. HasContext self.new.top.place.context next) }
-        ensures key { OnOk result (IsKey key.new self.new.top.place) }
-        ensures err { OnErr result (self.new ≡ self.old) }
+        ensures following { IsFollowing BehindEnd code.now own.now self.old self.new key.new result }
     {
         let included = 1 < self.below.len();
         self.below.exchange(&mut self.top);

@@ -23,6 +23,6 @@ returns-clause-ok c = λ start found is.
       slots = c.keep.ensures.slots;
     } in
     let next = sym c.replace.ensures.after in
-    let followed = subst (λ (a : Act). IsFollowed code (right_of old.own.context) (stack_after (act_seen old.act) (answer_to (act_seen old.act) c.args.loaded) stack.base stack.inner) tasks a) next (c.in_ok-act.ensures.followed stack (is.tasks running) (is.child running)) in
-    let child = subst (λ (a : Act). HasContext tasks.top.place.context a) next c.in_ok-act.ensures.child in
+    let followed = subst (λ (a : Act). IsFollowed code (right_of old.own.context) (stack_after (act_seen old.act) (answer_to (act_seen old.act) c.args.loaded) stack.base stack.inner) tasks a) next (c.in_ok-act.ensures.following.followed stack (is.tasks running) (is.child running)) in
+    let child = subst (λ (a : Act). HasContext tasks.top.place.context a) next c.in_ok-act.ensures.following.child in
     advanced code start found old (answer_to (act_seen old.act) c.args.loaded) is running _ followed child own refl
