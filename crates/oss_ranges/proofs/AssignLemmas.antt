@@ -1,9 +1,10 @@
 -- What assigning and clearing a range make of the pieces.
-use Rattle.std.specs.Prelude.{◌≡◌, ◌≤◌, ◌<◌, ℕ, Bool, true, false, if◌then◌else◌, List, Some, None, refl}
-use Rattle.std.proofs.Common.{◌∙◌, ap, arith, inl, inr}
-use Rattle.oss_ranges.proofs.CutLemmas.{cut_is_cut, cut_keeps, cut_rises, cut_same}
-use Rattle.oss_ranges.proofs.MapLemmas.{inserted_cut, outside_cut, outside_inserted, value_inserted, value_outside}
-use Rattle.oss_ranges.specs.Cells.{Assigns, cut_at, CutsAround, inserted, is_within, IsCut, outside, Rises, value_at}
+use Rattle.std.specs.Prelude.{◌≡◌, ◌≤◌, ◌<◌, ℕ, Bool, true, false, if◌then◌else◌, List, Option, Some, None, refl}
+use Rattle.std.proofs.Common.{◌∙◌, ap, arith, inl, inr, subst}
+use Rattle.std.proofs.lemmas.Bool.Decides.{nat_tests}
+use Rattle.oss_ranges.proofs.CutLemmas.{cut_begin, cut_is_cut, cut_keeps, cut_none, cut_rises, cut_same, next_within}
+use Rattle.oss_ranges.proofs.MapLemmas.{inserted_cut, next_none_on, next_same, outside_cut, outside_inserted, outside_none, value_inserted, value_outside}
+use Rattle.oss_ranges.specs.Cells.{Assigns, cut_at, CutsAround, inserted, is_before, is_within, IsCut, next_of, outside, Rises, value_at}
 use Rattle.oss_ranges.specs.declared.piece.Piece.{Piece}
 
 module _ {T : Type 0} where
@@ -31,6 +32,24 @@ module _ {T : Type 0} where
     outside_cut hi lo hi (cut_at hi (cut_at lo xs)) (twice_high lo hi xs h),
     λ other out cut. outside_cut other lo hi (cut_at hi (cut_at lo xs)) (cut_keeps hi other (cut_at lo xs) (cut_keeps lo other xs cut)),
   )
+
+  -- where no piece has a cell of the range, nothing is cut and nothing goes
+  pub emptied_none : (lo hi : ℕ) (xs : List (Piece T)) → Rises 0 xs 1048576 → lo < hi → is_before (next_of lo xs) hi ≡ false → emptied lo hi xs ≡ xs
+  emptied_none lo hi xs h low e =
+      let whole = by (next_of lo xs) refl e in
+      ap (outside lo hi) (ap (cut_at hi) whole.0 ∙ whole.1) ∙ outside_none 0 1048576 lo hi xs h e where
+        by : (n : Option (Piece T)) → next_of lo xs ≡ n → is_before n hi ≡ false → (cut_at lo xs ≡ xs) × (cut_at hi xs ≡ xs)
+        by None f k = (cut_none lo xs f, cut_none hi xs (next_none_on lo hi xs f (omega arith)))
+        by (Some p) f k =
+            let far : hi ≤ p.lo = grind (arith, nat_tests) in
+            let own = (next_within 0 1048576 lo p xs h f).1 in
+            (cut_begin lo p xs f (omega arith), cut_begin hi p xs (next_same 0 1048576 lo hi p xs h f (omega arith) (omega arith)) far)
+
+  pub untouched_map : (lo hi : ℕ) (xs : List (Piece T)) → Rises 0 xs 1048576 → lo < hi → is_before (next_of lo xs) hi ≡ false → Assigns lo hi None xs xs
+  untouched_map lo hi xs h low e = subst (λ ys. Assigns lo hi None xs ys) (emptied_none lo hi xs h low e) (emptied_map lo hi xs h)
+
+  pub untouched_cuts : (lo hi : ℕ) (xs : List (Piece T)) → Rises 0 xs 1048576 → lo < hi → is_before (next_of lo xs) hi ≡ false → CutsAround lo hi xs xs
+  untouched_cuts lo hi xs h low e = subst (λ ys. CutsAround lo hi xs ys) (emptied_none lo hi xs h low e) (emptied_cuts lo hi xs h)
 
   pub assigned_rises : (p : Piece T) (xs : List (Piece T)) → Rises 0 xs 1048576 → p.lo < p.hi → p.hi ≤ 1048576 → Rises 0 (inserted p (emptied p.lo p.hi xs)) 1048576
   assigned_rises p xs h own high =

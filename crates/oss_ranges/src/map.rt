@@ -122,7 +122,8 @@ impl<T: Copy + Eq> RangeMap<T> {
         Ok(())
     }
 
-    /// Takes the values of all cells of a range away. After want of memory the map is as it was.
+    /// Takes the values of all cells of a range away. After want of memory the map is as it was. Where no cell of the range has
+    /// a value it takes no memory.
     pub fn clear(&mut self, range: Range) -> Result<(), AllocError>
         ensures map { OnOk result (Assigns range.lo range.hi None self.old.pieces self.new.pieces) }
         ensures cuts { OnOk result (CutsAround range.lo range.hi self.old.pieces self.new.pieces) }
@@ -131,12 +132,15 @@ impl<T: Copy + Eq> RangeMap<T> {
         ensures room { 3 ≤ self.old.spares → IsOk result }
         ensures spares { self.old.spares ≤ self.new.spares + 3 }
     {
-        self.prepare(NODES)?;
-        self.empty(range);
+        if self.has_within(range) {
+            self.prepare(NODES)?;
+            self.empty(range);
+        }
         Ok(())
     }
 
-    /// Takes the values of the cells from this one on away. After want of memory the map is as it was.
+    /// Takes the values of the cells from this one on away. After want of memory the map is as it was. Where none of them has a
+    /// value it takes no memory.
     pub fn truncate(&mut self, cells: u32) -> Result<(), AllocError>
         ensures here { OnOk result ((cell : ℕ) → cell < cells → value_at self.new.pieces cell ≡ value_at self.old.pieces cell) }
         ensures past { OnOk result ((cell : ℕ) → cells ≤ cell → value_at self.new.pieces cell ≡ None) }
@@ -145,7 +149,8 @@ impl<T: Copy + Eq> RangeMap<T> {
         ensures room { 3 ≤ self.old.spares → IsOk result }
         ensures spares { self.old.spares ≤ self.new.spares + 3 }
     {
-        self.prepare(NODES)?;
+        // the invariant is known where a field is read
+        let _ = &self.alloc;
         if cells < CELLS {
             self.clear(Range {
                 lo: cells,
@@ -226,6 +231,14 @@ impl<T: Copy + Eq> RangeMap<T> {
             from = piece.hi;
         }
         Ok(copy)
+    }
+
+    /// Whether a cell of a range has a value. It takes no memory.
+    fn has_within(&self, range: Range) -> bool
+        ensures within { result ≡ is_before (next_of range.lo self.now.pieces) range.hi }
+        ensures rising { Rises 0 self.now.pieces 1048576 }
+    {
+        begins_before(self.tree.next(range.lo), range.hi)
     }
 
     /// Takes nodes into reserve until there are so many.

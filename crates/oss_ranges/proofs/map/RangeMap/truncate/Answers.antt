@@ -1,4 +1,4 @@
-use Rattle.std.proofs.Common.{◌≡◌, ◌<◌, ◌≤◌, ℕ, Bool, true, false, refl, ◌∙◌, arith, List, None, if◌then◌else◌}
+use Rattle.std.proofs.Common.{◌≡◌, ◌≤◌, ℕ, Bool, true, false, refl, ◌∙◌, arith, List, None, if◌then◌else◌}
 use Rattle.std.proofs.lemmas.Bool.Decides.{nat_tests}
 use Rattle.oss_ranges.proofs.MapLemmas.{none_past}
 use Rattle.oss_ranges.specs.Cells.{is_within, Rises, value_at}
@@ -13,10 +13,11 @@ cleared_past cells cell xs rises far = by (is_within cells 1048576 cell) refl wh
   by false e = none_past 0 1048576 cell xs rises (grind (arith, nat_tests))
 
 pub returns-in_ok-clear-clause-past : goal.returns-in_ok-clear-clause-past
-returns-in_ok-clear-clause-past g c = λ cell far. c.in_ok-clear.ensures.map cell ∙ cleared_past c.args.cells cell c.prepare.new.self.pieces c.in_ok-prepare.ensures.rising far
+returns-in_ok-clear-clause-past g c = λ cell far.
+    let rising : Rises 0 c.args.self.now.pieces 1048576 = rw (← c.self.view_is) c.self.invariant in
+    c.in_ok-clear.ensures.map cell ∙ cleared_past c.args.cells cell c.args.self.now.pieces rising far
 
 pub returns-else-cells-lt-CELLS-clause-past : goal.returns-else-cells-lt-CELLS-clause-past
-returns-else-cells-lt-CELLS-clause-past g c = λ cell far. let high = c.if-cells-lt-CELLS.false in none_past 0 1048576 cell c.prepare.new.self.pieces c.in_ok-prepare.ensures.rising (omega arith)
-
-pub returns-in_ok-clear-clause-edges : goal.returns-in_ok-clear-clause-edges
-returns-in_ok-clear-clause-edges g c = rw c.in_ok-prepare.ensures.same at c.in_ok-clear.ensures.edges
+returns-else-cells-lt-CELLS-clause-past g c = λ cell far.
+    let rising : Rises 0 c.args.self.now.pieces 1048576 = rw (← c.self.view_is) c.self.invariant in
+    let high = c.if-cells-lt-CELLS.false in none_past 0 1048576 cell c.args.self.now.pieces rising (omega arith)
