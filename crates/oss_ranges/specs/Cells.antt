@@ -84,6 +84,10 @@ abbrev pub outside : {T : Type 0} → ℕ → ℕ → List (Piece T) → List (P
 outside lo hi [] = []
 outside lo hi (p ∷ rest) = if nat_lt lo p.hi && nat_lt p.lo hi then outside lo hi rest else p ∷ outside lo hi rest
 
+-- the pieces without the cells of a range: those that go over its ends are cut there
+abbrev pub emptied : {T : Type 0} → ℕ → ℕ → List (Piece T) → List (Piece T)
+emptied lo hi pieces = outside lo hi (cut_at hi (cut_at lo pieces))
+
 -- what the first piece that ends behind a cell tells of it: it has the cell, or begins behind it
 abbrev pub told_by : {T : Type 0} → Piece T → ℕ → Option T
 told_by p cell = if nat_le p.lo cell then Some p.value else None
@@ -129,3 +133,8 @@ IsApart same p (q ∷ rest) = p.hi ≡ q.lo → same p.value q.value ≡ false
 abbrev pub IsMerged : {T : Type 0} → (T → T → Bool) → List (Piece T) → Type 0
 IsMerged same [] = Unit {0}
 IsMerged same (p ∷ rest) = IsApart same p rest × IsMerged same rest
+
+-- a piece has the cells from `lo` up to `hi`, and no others
+abbrev pub IsExactly : {T : Type 0} → ℕ → ℕ → Option (Piece T) → Type 0
+IsExactly lo hi None = ⊥
+IsExactly lo hi (Some p) = (p.lo ≡ lo) × (p.hi ≡ hi)

@@ -1,7 +1,7 @@
 //! The range map: pieces in a balanced tree, and spare nodes that are taken before a change, so that it is made as a whole or not at all.
 
 ghost use Rattle.std.specs.Prelude.{◌≡◌, ◌≤◌, ◌<◌, ◌+◌, ◌*◌, ◌^◌, ◌⊎◌, [], ◌∷◌, ℕ, true, Some, None, is_some, IfOk, IsOk, OnOk, OnErr, length};
-ghost use Rattle.oss_ranges.specs.Cells.{Assigns, Cuts, CutsAround, EdgesFrom, IsEdge, IsMerged, Restricts, Rises, SameMap, cut_at, inserted, is_before, joined_at, next_of, outside, removed, union_of, value_at};
+ghost use Rattle.oss_ranges.specs.Cells.{Assigns, Cuts, CutsAround, EdgesFrom, IsEdge, IsExactly, IsMerged, Restricts, Rises, SameMap, cut_at, emptied, inserted, is_before, joined_at, next_of, outside, removed, union_of, value_at};
 
 use crate::piece::Piece;
 use crate::pieces::Pieces;
@@ -112,13 +112,14 @@ impl<T: Copy + Eq> RangeMap<T> {
         ensures room { 3 ≤ self.old.spares → IsOk result }
         ensures spares { self.old.spares ≤ self.new.spares + 3 }
     {
-        self.prepare(NODES)?;
-        self.empty(range);
-        self.insert(Piece {
-            lo: range.lo,
-            hi: range.hi,
-            value,
-        });
+        self.put(
+            range,
+            Piece {
+                lo: range.lo,
+                hi: range.hi,
+                value,
+            },
+        )?;
         Ok(())
     }
 
@@ -233,6 +234,57 @@ impl<T: Copy + Eq> RangeMap<T> {
         Ok(copy)
     }
 
+    /// Puts a piece with the cells of a range in place of what is there. It takes one node where no cell of the range has a value,
+    /// and no memory where one piece has the cells of the range and no others.
+    fn put(&mut self, range: Range, piece: Piece<T>) -> Result<(), AllocError>
+        requires begins { piece.lo ≡ range.lo }
+        requires ends { piece.hi ≡ range.hi }
+        ensures pieces { OnOk result (self.new.pieces ≡ inserted piece (emptied range.lo range.hi self.old.pieces)) }
+        ensures refused { OnErr result (self.new.pieces ≡ self.old.pieces) }
+        ensures room { 3 ≤ self.old.spares → IsOk result }
+        ensures spares { self.old.spares ≤ self.new.spares + 3 }
+        ensures rising { Rises 0 self.old.pieces 1048576 }
+    {
+        if self.is_piece(range) {
+            self.replace(piece);
+        } else if self.has_within(range) {
+            self.prepare(NODES)?;
+            self.empty(range);
+            self.insert(piece);
+        } else {
+            self.prepare(1)?;
+            self.insert(piece);
+        }
+        Ok(())
+    }
+
+    /// Whether one piece has the cells of a range and no others. It takes no memory.
+    fn is_piece(&self, range: Range) -> bool
+        ensures exactly { result ≡ true → IsExactly range.lo range.hi (next_of range.lo self.now.pieces) }
+        ensures rising { Rises 0 self.now.pieces 1048576 }
+    {
+        match self.tree.next(range.lo) {
+            Some(piece) => piece.lo == range.lo && piece.hi == range.hi,
+            None => false,
+        }
+    }
+
+    /// Puts a piece in place of the first that ends behind its first cell, in the node of that one. It takes no memory.
+    fn replace(&mut self, piece: Piece<T>)
+        requires found { is_some (next_of piece.lo self.old.pieces) ≡ true }
+        requires rising { Rises 0 (inserted piece (removed piece.lo self.old.pieces)) 1048576 }
+        ensures pieces { self.new.pieces ≡ inserted piece (removed piece.lo self.old.pieces) }
+        ensures spares { self.new.spares ≡ self.old.spares }
+    {
+        let (node, rest) = mem::replace(&mut self.tree, Tree::new()).without(piece.lo);
+        match node {
+            Some(node) => {
+                self.tree = rest.with(piece, node);
+            }
+            None => unreachable!(),
+        }
+    }
+
     /// Whether a cell of a range has a value. It takes no memory.
     fn has_within(&self, range: Range) -> bool
         ensures within { result ≡ is_before (next_of range.lo self.now.pieces) range.hi }
@@ -284,7 +336,7 @@ impl<T: Copy + Eq> RangeMap<T> {
     /// Takes the values of the cells of a range away.
     fn empty(&mut self, range: Range)
         requires { 2 ≤ self.old.spares }
-        ensures pieces { self.new.pieces ≡ outside range.lo range.hi (cut_at range.hi (cut_at range.lo self.old.pieces)) }
+        ensures pieces { self.new.pieces ≡ emptied range.lo range.hi self.old.pieces }
         ensures spares { self.old.spares ≤ self.new.spares + 2 }
     {
         self.cut(range.lo);

@@ -1,4 +1,4 @@
-use Rattle.std.proofs.Common.{◌≡◌, Bool, false, sym, ◌∙◌}
+use Rattle.std.proofs.Common.{◌≡◌, false, sym, ◌∙◌}
 use Rattle.oss_ranges.proofs.AssignLemmas.{emptied_cuts, emptied_map, untouched_cuts, untouched_map}
 use Rattle.oss_ranges.proofs.EdgeLemmas.{edges_emptied}
 use Rattle.oss_ranges.specs.Cells.{is_before, next_of}
