@@ -1,3 +1,4 @@
+pub mod Assignments
 pub mod Branches
 pub mod ForRests
 pub mod Inner

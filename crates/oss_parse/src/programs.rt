@@ -338,8 +338,14 @@ fn function_from(
 ) -> Result<List<Item>, Unread>
     ensures { ReadsAs (read_function_from read_body mark kind name tokens.old) result tokens.new }
 {
-    let (params, body) = function_parts(alloc, tokens)?;
-    Ok(function(alloc, mark, kind, name, params, body)?)
+    match function_parts(alloc, tokens) {
+        Ok((params, body)) => Ok(function(alloc, mark, kind, name, params, body)?),
+        Err(unread) => {
+            drop(mark);
+            drop(name);
+            Err(unread)
+        }
+    }
 }
 
 /// Globals or a function, behind their type and the first name.
@@ -397,9 +403,18 @@ fn mark_of(directive: Directive) -> Option<TaskMark>
 {
     match directive {
         Directive::Task(mark) => Some(mark),
-        Directive::TaskLoop(_) => None,
-        Directive::TaskWait(_) => None,
-        Directive::Release(_) => None,
+        Directive::TaskLoop(mark) => {
+            drop(mark);
+            None
+        }
+        Directive::TaskWait(sections) => {
+            drop(sections);
+            None
+        }
+        Directive::Release(clauses) => {
+            drop(clauses);
+            None
+        }
     }
 }
 

@@ -5,6 +5,7 @@ ghost use Rattle.oss_grammar.specs.Reading.{begins, has, read_one};
 ghost use Rattle.oss_grammar.specs.SimpleStatements.{assignment_of, first_line, step_of};
 ghost use Rattle.oss_expressions.specs.TokenValues.{keyword_at, name_at, start_at};
 ghost use Rattle.oss_expressions.specs.Told.{ReadsAs, Makes};
+ghost use Rattle.oss_parse.specs.Assignments.{bit_assignment_of};
 ghost use Rattle.oss_parse.specs.ProgramReading.{value_at, value_in};
 ghost use Rattle.oss_parse.specs.SimpleReading.{assignment_at, single_kind_at, step_at};
 ghost use Rattle.oss_parse.specs.StatementReading.{text_at, text_in};
@@ -33,6 +34,25 @@ fn text_of(alloc: Global, what: &TokenKind) -> Result<Bytes, Unread>
     }
 }
 
+/// The assignment with an operator of bits that this is.
+fn bit_assignment_of(what: &TokenKind) -> Option<Option<BinOp>>
+    ensures { result ≡ bit_assignment_of what.now }
+{
+    if symbol_is(b"&=", what) {
+        Some(Some(BinOp::And))
+    } else if symbol_is(b"|=", what) {
+        Some(Some(BinOp::Or))
+    } else if symbol_is(b"^=", what) {
+        Some(Some(BinOp::Xor))
+    } else if symbol_is(b"<<=", what) {
+        Some(Some(BinOp::Left))
+    } else if symbol_is(b">>=", what) {
+        Some(Some(BinOp::Right))
+    } else {
+        None
+    }
+}
+
 /// The assignment that this is: `=` has no operator, a compound one has its own.
 #[tactic(auto, unfolding(oss_grammar::specs::SimpleStatements::assignment_of))]
 pub(crate) fn assignment_of(what: &TokenKind) -> Option<Option<BinOp>>
@@ -50,18 +70,8 @@ pub(crate) fn assignment_of(what: &TokenKind) -> Option<Option<BinOp>>
         Some(Some(BinOp::Div))
     } else if symbol_is(b"%=", what) {
         Some(Some(BinOp::Rem))
-    } else if symbol_is(b"&=", what) {
-        Some(Some(BinOp::And))
-    } else if symbol_is(b"|=", what) {
-        Some(Some(BinOp::Or))
-    } else if symbol_is(b"^=", what) {
-        Some(Some(BinOp::Xor))
-    } else if symbol_is(b"<<=", what) {
-        Some(Some(BinOp::Left))
-    } else if symbol_is(b">>=", what) {
-        Some(Some(BinOp::Right))
     } else {
-        None
+        bit_assignment_of(what)
     }
 }
 
