@@ -4,6 +4,7 @@ pub mod Jumps
 pub mod Lowered
 pub mod Programs
 pub mod SectionCode
+pub mod Singles
 pub mod Spots
 pub mod StatementCode
 pub mod Tables

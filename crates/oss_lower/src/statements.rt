@@ -11,10 +11,12 @@ use crate::around::Around;
 use crate::clauses::created;
 use crate::expressions::value;
 use crate::listing::{Jump, Listing};
+use crate::looping::Loop;
 use crate::names::Names;
 use crate::numbers::narrow;
 use crate::scope::Scope;
-use crate::simple::{assign, call_alone, declare, end, give, print, release, wait_on};
+use crate::simple::end;
+use crate::single::single;
 use crate::site::Site;
 use oss_code::Instr;
 use oss_syntax::{Boxed, Clause, Expr, Kind, Stmt, StmtKind};
@@ -31,7 +33,8 @@ pub(crate) fn statements<'p>(
 ) -> Result<(), AllocError>
     requires { IsBehind around (length out.old) }
     ensures scope { OnOk result (take (length scope.old) scope.new ≡ scope.old) }
-    ensures code { OnOk result (out.new ≡ out.old ++ codes_in_order (stmt_codes names.now list.now) (spot_at around scope.old (length out.old))) }
+    ensures code { OnOk result (out.new ≡ out.old ++
+        codes_in_order (stmt_codes names.now list.now) (spot_at around scope.old (length out.old))) }
 {
     for one in list {
         statement(names, scope, out, around, one)?;
@@ -50,28 +53,12 @@ fn statement<'p>(
 ) -> Result<(), AllocError>
     requires { IsBehind around (length out.old) }
     ensures scope { OnOk result (scope.new ≡ (stmt_code names.now one.now).scope scope.old) }
-    ensures code { OnOk result (out.new ≡ out.old ++ (stmt_code names.now one.now).code (spot_at around scope.old (length out.old))) }
+    ensures code { OnOk result (out.new ≡ out.old ++
+        (stmt_code names.now one.now).code (spot_at around scope.old (length out.old))) }
 {
     let line = one.line;
     match &one.what {
         StmtKind::Block(list) => block(names, scope, out, around, line, list.as_slice()),
-        StmtKind::Empty => out.push(Instr::Tick, line, 0),
-        StmtKind::Declare(locals) => {
-            out.push(Instr::Tick, line, 0)?;
-            declare(names, scope, out, line, locals.as_slice())
-        }
-        StmtKind::Assign(target, op, given) => {
-            out.push(Instr::Tick, line, 0)?;
-            assign(&Site { names, scope, line }, out, target, *op, given)
-        }
-        StmtKind::Call(name, values) => {
-            out.push(Instr::Tick, line, 0)?;
-            call_alone(&Site { names, scope, line }, out, name, values.as_slice())
-        }
-        StmtKind::Print(format, values) => {
-            out.push(Instr::Tick, line, 0)?;
-            print(&Site { names, scope, line }, out, format, values.as_slice())
-        }
         StmtKind::If(test, side, other) => {
             choice(
                 names,
@@ -91,10 +78,12 @@ fn statement<'p>(
                 out,
                 around,
                 line,
-                None,
-                Some(test),
-                None,
-                body.get(),
+                Loop {
+                    first: None,
+                    test: Some(test),
+                    last: None,
+                    body: body.get(),
+                },
             )
         }
         StmtKind::For(first, test, last, body) => {
@@ -104,22 +93,14 @@ fn statement<'p>(
                 out,
                 around,
                 line,
-                part(first),
-                test.as_ref(),
-                part(last),
-                body.get(),
+                Loop {
+                    first: part(first),
+                    test: test.as_ref(),
+                    last: part(last),
+                    body: body.get(),
+                },
             )
         }
-        StmtKind::Return(None) => {
-            out.push(Instr::Tick, line, 0)?;
-            end(out, line, around.result)
-        }
-        StmtKind::Return(Some(given)) => {
-            out.push(Instr::Tick, line, 0)?;
-            give(&Site { names, scope, line }, out, around.result, given)
-        }
-        StmtKind::Break => jump(out, line, around.stop),
-        StmtKind::Continue => jump(out, line, around.again),
         StmtKind::Task(mark, body) => {
             task(
                 names,
@@ -131,19 +112,7 @@ fn statement<'p>(
                 body.get(),
             )
         }
-        StmtKind::TaskLoop(_, _) => out.push(Instr::Tick, line, 0),
-        StmtKind::TaskWait(None) => {
-            out.push(Instr::Tick, line, 0)?;
-            out.push(Instr::Wait, line, 0)
-        }
-        StmtKind::TaskWait(Some(list)) => {
-            out.push(Instr::Tick, line, 0)?;
-            wait_on(&Site { names, scope, line }, out, list.as_slice())
-        }
-        StmtKind::Release(clauses) => {
-            out.push(Instr::Tick, line, 0)?;
-            release(&Site { names, scope, line }, out, clauses.as_slice())
-        }
+        _ => single(names, scope, out, around, one),
     }
 }
 
@@ -155,15 +124,6 @@ fn part(one: &Option<Boxed<Stmt>>) -> Option<&Stmt>
         Some(one) => Some(one.get()),
         None => None,
     }
-}
-
-/// Writes a tick that leads back to a piece.
-fn jump(out: &mut Listing, line: u32, to: usize) -> Result<(), AllocError>
-    requires { to ≤ length out.old }
-    ensures { OnOk result (out.new ≡ out.old ++ one line 0 (i.Again (length out.old - to))) }
-{
-    let back = narrow(out.len() - to)?;
-    out.push(Instr::Again(back), line, 0)
 }
 
 /// Writes a block: the locals that are declared inside are dropped at the end.
@@ -178,7 +138,8 @@ fn block<'p>(
 ) -> Result<(), AllocError>
     requires { IsBehind around (length out.old) }
     ensures scope { OnOk result (scope.new ≡ scope.old) }
-    ensures code { OnOk result (out.new ≡ out.old ++ (blocked_code line (stmt_codes names.now list.now)).code (spot_at around scope.old (length out.old))) }
+    ensures code { OnOk result (out.new ≡ out.old ++
+        (blocked_code line (stmt_codes names.now list.now)).code (spot_at around scope.old (length out.old))) }
 {
     let count = scope.len();
     statements(names, scope, out, around, list)?;
@@ -199,7 +160,8 @@ fn inside<'p>(
 ) -> Result<(), AllocError>
     requires { IsBehind around (length out.old) }
     ensures scope { OnOk result (scope.new ≡ scope.old) }
-    ensures code { OnOk result (out.new ≡ out.old ++ (stmt_code names.now one.now).code (spot_at around scope.old (length out.old))) }
+    ensures code { OnOk result (out.new ≡ out.old ++
+        (stmt_code names.now one.now).code (spot_at around scope.old (length out.old))) }
 {
     let count = scope.len();
     statement(names, scope, out, around, one)?;
@@ -218,7 +180,9 @@ fn inside_part<'p>(
 ) -> Result<(), AllocError>
     requires { IsBehind around (length out.old) }
     ensures scope { OnOk result (scope.new ≡ scope.old) }
-    ensures code { OnOk result (out.new ≡ out.old ++ part_code (option_map (stmt_code names.now) (option_copied one.entry)) (spot_at around scope.old (length out.old))) }
+    ensures code { OnOk result (out.new ≡ out.old ++
+        part_code (option_map (stmt_code names.now) (option_copied one.entry))
+        (spot_at around scope.old (length out.old))) }
 {
     match one {
         Some(one) => inside(names, scope, out, around, one),
@@ -237,7 +201,9 @@ fn first_part<'p>(
 ) -> Result<(), AllocError>
     requires { IsBehind around (length out.old) }
     ensures scope { OnOk result (scope.new ≡ part_scope (option_map (stmt_code names.now) (option_copied one.entry)) scope.old) }
-    ensures code { OnOk result (out.new ≡ out.old ++ part_code (option_map (stmt_code names.now) (option_copied one.entry)) (spot_at around scope.old (length out.old))) }
+    ensures code { OnOk result (out.new ≡ out.old ++
+        part_code (option_map (stmt_code names.now) (option_copied one.entry))
+        (spot_at around scope.old (length out.old))) }
 {
     match one {
         Some(one) => statement(names, scope, out, around, one),
@@ -259,7 +225,10 @@ fn choice<'p>(
 ) -> Result<(), AllocError>
     requires { IsBehind around (length out.old) }
     ensures scope { OnOk result (scope.new ≡ scope.old) }
-    ensures code { OnOk result (out.new ≡ out.old ++ (choice_code names.now line test.now (stmt_code names.now side.now) (option_map (stmt_code names.now) (option_copied other.entry))).code (spot_at around scope.old (length out.old))) }
+    ensures code { OnOk result (out.new ≡ out.old ++
+        (choice_code names.now line test.now (stmt_code names.now side.now)
+        (option_map (stmt_code names.now) (option_copied other.entry))).code
+        (spot_at around scope.old (length out.old))) }
 {
     out.push(Instr::Tick, line, 0)?;
     value(&Site { names, scope, line }, out, 0, test)?;
@@ -282,19 +251,20 @@ fn for_loop<'p>(
     out: &mut Listing,
     around: Around,
     line: u32,
-    first: Option<&'p Stmt>,
-    test: Option<&Expr>,
-    last: Option<&'p Stmt>,
-    body: &'p Stmt,
+    parts: Loop<'p>,
 ) -> Result<(), AllocError>
     requires { IsBehind around (length out.old) }
     ensures scope { OnOk result (scope.new ≡ scope.old) }
-    ensures code { OnOk result (out.new ≡ out.old ++ (for_code names.now line (option_map (stmt_code names.now) (option_copied first.entry)) (option_copied test.entry) (option_map (stmt_code names.now) (option_copied last.entry)) (stmt_code names.now body.now)).code (spot_at around scope.old (length out.old))) }
+    ensures code { OnOk result (out.new ≡ out.old ++
+        (for_code names.now line (option_map (stmt_code names.now) (option_copied parts.entry.first))
+        (option_copied parts.entry.test) (option_map (stmt_code names.now) (option_copied parts.entry.last))
+        (stmt_code names.now parts.entry.body.now)).code
+        (spot_at around scope.old (length out.old))) }
 {
     let count = scope.len();
     out.push(Instr::Tick, line, 0)?;
-    first_part(names, scope, out, around, first)?;
-    turns(names, scope, out, around, line, test, last, body)?;
+    first_part(names, scope, out, around, parts.first)?;
+    turns(names, scope, out, around, line, parts)?;
     scope.leave(count);
     out.push(Instr::Keep(count), line, 0)?;
     Ok(())
@@ -308,21 +278,22 @@ fn turns<'p>(
     out: &mut Listing,
     around: Around,
     line: u32,
-    test: Option<&Expr>,
-    last: Option<&'p Stmt>,
-    body: &'p Stmt,
+    parts: Loop<'p>,
 ) -> Result<(), AllocError>
     requires { IsBehind around (length out.old) }
     ensures scope { OnOk result (scope.new ≡ scope.old) }
-    ensures code { OnOk result (out.new ≡ out.old ++ loop_code names.now line (option_copied test.entry) (option_map (stmt_code names.now) (option_copied last.entry)) (stmt_code names.now body.now) (spot_at around scope.old (length out.old))) }
+    ensures code { OnOk result (out.new ≡ out.old ++
+        loop_code names.now line (option_copied parts.entry.test)
+        (option_map (stmt_code names.now) (option_copied parts.entry.last)) (stmt_code names.now parts.entry.body.now)
+        (spot_at around scope.old (length out.old))) }
 {
     let kept = scope.len();
     pads(out, line, kept)?;
     let start = out.len();
-    let test_at = tested(&Site { names, scope, line }, out, test)?;
-    inside(names, scope, out, of_loop(around.result, start), body)?;
+    let test_at = tested(&Site { names, scope, line }, out, parts.test)?;
+    inside(names, scope, out, of_loop(around.result, start), parts.body)?;
     out.fill(start - 2, Jump::Always, 0)?;
-    inside_part(names, scope, out, around, last)?;
+    inside_part(names, scope, out, around, parts.last)?;
     let written = out.len();
     let back = narrow(written - start)?;
     out.push(Instr::Again(back), line, 0)?;
@@ -349,8 +320,11 @@ fn tested(
     out: &mut Listing,
     test: Option<&Expr>,
 ) -> Result<Option<usize>, AllocError>
-    ensures place { IfOk result (λ place. place ≡ option_map (λ e. length out.old + length ((expr_code site.now.names.now site.now.scope.now e).value site.now.line 0)) (option_copied test.entry)) }
-    ensures code { OnOk result (out.new ≡ out.old ++ test_code site.now.names.now (option_copied test.entry) site.now.line site.now.scope.now 0) }
+    ensures place { IfOk result (λ place. place ≡ option_map
+        (λ e. length out.old + length ((expr_code site.now.names.now site.now.scope.now e).value site.now.line 0))
+        (option_copied test.entry)) }
+    ensures code { OnOk result (out.new ≡ out.old ++
+        test_code site.now.names.now (option_copied test.entry) site.now.line site.now.scope.now 0) }
 {
     match test {
         Some(test) => {
@@ -366,7 +340,9 @@ fn tested(
 /// Lets the jump of a test pass all that is written behind it.
 fn passed(out: &mut Listing, test: Option<usize>) -> Result<(), AllocError>
     requires { IfSome test (λ place. place < length out.old) }
-    ensures some { OnOk result ((before after : List Written) (l : Written) → out.old ≡ before ++ (l ∷ after) → test ≡ Some (length before) → out.new ≡ before ++ (one l.line l.depth (i.SkipUnless (length after)) ++ after)) }
+    ensures some { OnOk result ((before after : List Written) (l : Written)
+        → out.old ≡ before ++ (l ∷ after) → test ≡ Some (length before)
+        → out.new ≡ before ++ (one l.line l.depth (i.SkipUnless (length after)) ++ after)) }
     ensures none { OnOk result (test ≡ None → out.new ≡ out.old) }
 {
     match test {
@@ -399,7 +375,9 @@ fn task<'p>(
     body: &'p Stmt,
 ) -> Result<(), AllocError>
     ensures scope { OnOk result (scope.new ≡ scope.old) }
-    ensures code { OnOk result (out.new ≡ out.old ++ (task_code names.now line clauses.now (stmt_code names.now body.now)).code (spot_at around scope.old (length out.old))) }
+    ensures code { OnOk result (out.new ≡ out.old ++
+        (task_code names.now line clauses.now (stmt_code names.now body.now)).code
+        (spot_at around scope.old (length out.old))) }
 {
     out.push(Instr::Tick, line, 0)?;
     created(&Site { names, scope, line }, out, 4, clauses)?;

@@ -62,10 +62,10 @@ pub for_loop-returns-clause-code : goal.for_loop-returns-clause-code
 for_loop-returns-clause-code t c =
     let all = c.args.names.now in
     let scope = c.args.scope.now in
-    let first = option_copied c.args.first in
+    let first = option_copied c.args.parts.first in
     let parts = c.in_ok-first_part.ensures in
     let made = c.in_ok-turns.ensures in
-    for-written c.args.around all c.args.line (option_map (stmt_code all) first) (option_copied c.args.test) (option_map (stmt_code all) (option_copied c.args.last)) (stmt_code all c.args.body.now)
+    for-written c.args.around all c.args.line (option_map (stmt_code all) first) (option_copied c.args.parts.test) (option_map (stmt_code all) (option_copied c.args.parts.last)) (stmt_code all c.args.parts.body.now)
     scope c.first_part.new.scope c.args.out.now c.push.new.self c.first_part.new.out c.turns.new.out c.push-2.new.self
     c.requires c.in_ok-push.ensures parts.code parts.scope made.code
     (c.in_ok-push-2.ensures ∙ ap (λ n. c.turns.new.out ++ one c.args.line 0 (i.Keep n)) c.len-count.ensures)
@@ -76,8 +76,8 @@ turns-returns-clause-code t c =
     let a = c.args.around in
     let line = c.args.line in
     let scope = c.args.scope.now in
-    let test = option_copied c.args.test in
-    let last = option_map (stmt_code all) (option_copied c.args.last) in
+    let test = option_copied c.args.parts.test in
+    let last = option_map (stmt_code all) (option_copied c.args.parts.last) in
     let o0 = c.args.out.now in
     let o1 = c.pads.new.out in
     let o4 = c.fill.new.self in
@@ -91,7 +91,7 @@ turns-returns-clause-code t c =
     let next : start - 2 ≡ length o0 + 4 = omega arith in
     let leave : start - 4 ≡ length o0 + 2 = omega arith in
     let begins : start ≡ length o0 + 6 = omega arith in
-    turns-written a c.of_loop.result all line last (stmt_code all c.args.body.now) scope
+    turns-written a c.of_loop.result all line last (stmt_code all c.args.parts.body.now) scope
     o0 o1 c.tested.new.out c.inside.new.out o4 o5 c.push.new.self c.fill-2.new.self
     c.requires
     (c.of_loop.ensures ∙ ap (λ n. record { result = a.result; stop = n; again = start - 3 }) stop ∙ ap (λ n. record { result = a.result; stop = length o0 + 1; again = n }) again)
@@ -156,6 +156,6 @@ turns-passed-requires t c =
     let all = c.args.names.now in
     let line = c.args.line in
     let scope = c.args.scope.now in
-    let fits : length c.pads.new.out + length (test_code all (option_copied c.args.test) line scope 0) ≤ length c.fill-2.new.self = omega arith in
+    let fits : length c.pads.new.out + length (test_code all (option_copied c.args.parts.test) line scope 0) ≤ length c.fill-2.new.self = omega arith in
     subst (λ p. IfSome p (λ place. place < length c.fill-2.new.self)) (sym c.in_ok-test_at.ensures.place)
-    (test-within all line scope (length c.pads.new.out) (length c.fill-2.new.self) (option_copied c.args.test) fits)
+    (test-within all line scope (length c.pads.new.out) (length c.fill-2.new.self) (option_copied c.args.parts.test) fits)

@@ -37,10 +37,10 @@ abbrev pub decreases-choice : goal.decreases-choice
 decreases-choice l = 8 * (weight l.side.now + part_weight (option_copied l.other)) + 3
 
 abbrev pub decreases-turns : goal.decreases-turns
-decreases-turns l = 8 * (part_weight (option_copied l.last) + weight l.body.now) + 3
+decreases-turns l = 8 * (part_weight (option_copied l.parts.last) + weight l.parts.body.now) + 3
 
 abbrev pub decreases-for_loop : goal.decreases-for_loop
-decreases-for_loop l = 8 * (part_weight (option_copied l.first) + (part_weight (option_copied l.last) + weight l.body.now)) + 4
+decreases-for_loop l = 8 * (part_weight (option_copied l.parts.first) + (part_weight (option_copied l.parts.last) + weight l.parts.body.now)) + 4
 
 abbrev pub decreases-task : goal.decreases-task
 decreases-task l = 8 * weight l.body.now + 2
