@@ -21,13 +21,13 @@ use Rattle.oss_code.specs.declared.code.CodeParts.{CodeParts}
 use Rattle.oss_machine.specs.Frames.{CodeScript}
 use Rattle.oss_machine.specs.Machines.{asks}
 use Rattle.oss_body.specs.Mains.{code_main}
-use Rattle.oss_lower.specs.Programs.{IsCodeOf, moved_order, moved_start}
-use Rattle.oss_lower.proofs.LiveLemmas.{programs_are_lively}
-use Rattle.oss_lower.proofs.MovedBodies.{acts_alike, moved_act, moved_frame, stands_alike}
-use Rattle.oss_lower.proofs.MovedRuns.{moved_body, moved_running, moved_state, moved_task, outcome_alike, outcomes_alike, sequential_alike}
-use Rattle.oss_lower.proofs.OneResult.{one_end}
-use Rattle.oss_lower.proofs.OutcomeLaws.{main_setting, start_is}
-use Rattle.oss_lower.proofs.OutcomeLemmas.{run_has_one}
+use Rattle.oss_lower_laws.specs.Programs.{IsCodeOf, moved_order, moved_start}
+use Rattle.oss_lower_laws.proofs.LiveLemmas.{programs_are_lively}
+use Rattle.oss_lower_laws.proofs.MovedBodies.{acts_alike, moved_act, moved_frame, stands_alike}
+use Rattle.oss_lower_laws.proofs.MovedRuns.{moved_body, moved_running, moved_state, moved_task, outcome_alike, outcomes_alike, sequential_alike}
+use Rattle.oss_lower_laws.proofs.OneResult.{one_end}
+use Rattle.oss_lower_laws.proofs.OutcomeLaws.{main_setting, start_is}
+use Rattle.oss_lower_laws.proofs.OutcomeLemmas.{run_has_one}
 use Rattle.oss_audit.specs.declared.unused.Unused.{Unused}
 use Rattle.oss_audit_laws.specs.Claims.{AuditsAlike}
 use Rattle.oss_audit.specs.Trails.{Declares, Place, touches}

@@ -11,7 +11,7 @@ use Rattle.oss_model.proofs.OrderLemmas.{before_not, before_trans}
 use Rattle.oss_meaning.specs.Results.{IsOutcome, Outcome}
 use Rattle.oss_meaning.specs.Results.IsOutcome.{ends as outcome_ends, fails as outcome_fails}
 use Rattle.oss_machine.proofs.RangeLemmas.{same_range}
-use Rattle.oss_lower.proofs.OneResult.{one_end, one_result}
+use Rattle.oss_lower_laws.proofs.OneResult.{one_end, one_result}
 use Rattle.oss_audit.specs.declared.unused.Unused.{Unused}
 use Rattle.oss_audit.specs.Unused.{AreUnused, HasDeclared, HasTouched, IsAhead, IsAudited, Rises, ends, fails}
 use Rattle.oss_audit_laws.specs.Claims.{AuditsAreOne}

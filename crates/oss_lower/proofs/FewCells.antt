@@ -8,7 +8,7 @@ use Rattle.oss_grammar.specs.Layout.{cells_in, sizes_of}
 use Rattle.oss_meaning.specs.Results.{first_cells}
 use Rattle.oss_names.specs.Resolved.{IsWrittenOut, bounds_of}
 use Rattle.oss_names.proofs.LayoutLemmas.{bound-fits}
-use Rattle.oss_lower.proofs.OutcomeLaws.{cells_are}
+use Rattle.oss_lower_laws.proofs.OutcomeLaws.{cells_are}
 
 pub few_cells : (p : Program) (cells : List ℕ) → IsWrittenOut p → cells ≡ first_cells p.items → length cells ≤ 1048576
 few_cells p cells well is =

@@ -2,7 +2,7 @@
 use Rattle.std.proofs.Common.{◌≡◌, ℕ, refl}
 use Rattle.oss_syntax.specs.declared.tree.expr.BinOp.{BinOp}
 use Rattle.oss_syntax.specs.declared.tree.expr.BinOp.TheVariants as op
-use Rattle.oss_lower.specs.ExpressionCode.{ExprCode, binary_code, operator_by, then_two}
+use Rattle.oss_lower_laws.specs.ExpressionCode.{ExprCode, binary_code, operator_by, then_two}
 
 -- an operator that does not jump: both sides, and then it
 pub both-sides : (o : BinOp) (a b : ExprCode) (line depth : ℕ) → (o ≡ op.AndAlso → ⊥) → (o ≡ op.OrElse → ⊥)

@@ -3,9 +3,9 @@ use Rattle.std.proofs.Common.{◌≡◌, ◌≤◌, ℕ, zero, suc, ◌+◌, ◌
 use Rattle.std.proofs.lemmas.List.{take-map}
 use Rattle.std.specs.Prelude.{slice_set}
 use Rattle.oss_code.specs.declared.instr.Instr.{Instr}
-use Rattle.oss_lower.specs.declared.lined.Lined.{Lined}
+use Rattle.oss_lower_laws.specs.declared.lined.Lined.{Lined}
 use Rattle.oss_lower.specs.declared.listing.Jump.{Jump}
-use Rattle.oss_lower.specs.ExpressionCode.{one}
+use Rattle.oss_lower_laws.specs.ExpressionCode.{one}
 use Rattle.oss_lower.specs.Jumps.{jump_by}
 
 pub put-at : {X : Type 0} (before after : List X) (l m : X) → slice_set (before ++ (l ∷ after)) (length before) m ≡ before ++ (m ∷ after)

@@ -1,6 +1,6 @@
 -- Expressions, one list of them behind the other.
 use Rattle.std.proofs.Common.{◌≡◌, ℕ, ◌+◌, List, [], ◌∷◌, ◌++◌, length, map, refl, sym, ap, ◌∙◌, append_assoc, arith}
-use Rattle.oss_lower.specs.ExpressionCode.{ExprCode, arguments_code}
+use Rattle.oss_lower_laws.specs.ExpressionCode.{ExprCode, arguments_code}
 
 pub arguments-behind : (es fs : List ExprCode) (line depth : ℕ) → arguments_code (es ++ fs) line depth ≡ arguments_code es line depth ++ arguments_code fs line (depth + length es)
 arguments-behind [] fs line depth = ap (arguments_code fs line) (omega arith)

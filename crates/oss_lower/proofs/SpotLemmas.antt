@@ -5,9 +5,9 @@ use Rattle.oss_syntax.specs.declared.tree.program.Local.{Local}
 use Rattle.oss_syntax.specs.declared.tree.stmt.Stmt.{Stmt}
 use Rattle.oss_syntax.specs.declared.tree.stmt.StmtKind.TheOpen as open_stmt
 use Rattle.oss_lower.specs.declared.around.Around.{Around}
-use Rattle.oss_lower.specs.StatementCode.{StmtCode, behind, stmt_code, stmt_code_step}
+use Rattle.oss_lower_laws.specs.StatementCode.{StmtCode, behind, stmt_code, stmt_code_step}
 use Rattle.oss_lower.specs.Spots.{IsBehind, spot_at}
-use Rattle.oss_lower.proofs.StatementFolds as folds
+use Rattle.oss_lower_laws.proofs.StatementFolds as folds
 
 further : (s n k : ℕ) → s ≤ k → k - s + n ≡ k + n - s
 further s n k h = omega arith

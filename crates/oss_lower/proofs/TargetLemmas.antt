@@ -17,8 +17,8 @@ use Rattle.oss_meaning.specs.declared.names.Target.TheVariants as target
 use Rattle.oss_meaning.specs.declared.names.Typed.{Typed}
 use Rattle.oss_meaning.specs.Expressions.{typed_address, typed_index, typed_name, typed_pointed, typed_prefix}
 use Rattle.oss_meaning.specs.Names.{found}
-use Rattle.oss_lower.specs.ExpressionCode.{ExprCode, expr_code, expr_code_step}
-use Rattle.oss_lower.proofs.ExpressionFolds as folds
+use Rattle.oss_lower_laws.specs.ExpressionCode.{ExprCode, expr_code, expr_code_step}
+use Rattle.oss_lower_laws.proofs.ExpressionFolds as folds
 
 abbrev IsKinded : Typed → Type 0
 IsKinded t = (n : NumKind) → t.target ≡ target.Cell n → t.kind ≡ number_kind n

@@ -1,10 +1,5 @@
-pub mod ExpressionCode
 pub mod Indices
 pub mod Jumps
-pub mod Lowered
-pub mod Programs
-pub mod SectionCode
 pub mod Singles
 pub mod Spots
-pub mod StatementCode
 pub mod Tables

@@ -6,7 +6,7 @@ use Rattle.oss_syntax.specs.declared.tree.program.Local.{Local}
 use Rattle.oss_meaning.specs.declared.names.Target.{Target}
 use Rattle.oss_meaning.specs.declared.names.Target.TheVariants as target
 use Rattle.oss_lower.specs.declared.around.Around.{Around}
-use Rattle.oss_lower.specs.StatementCode.{Spot}
+use Rattle.oss_lower_laws.specs.StatementCode.{Spot}
 
 -- the spot of what begins at a place
 abbrev pub spot_at : Around → List Local → ℕ → Spot

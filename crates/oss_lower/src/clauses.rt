@@ -1,6 +1,6 @@
 //! The instructions of clauses, and of the creation of tasks.
 ghost use Rattle.std.specs.Prelude.{◌≡◌, ◌++◌, OnOk};
-ghost use Rattle.oss_lower.specs.SectionCode.{clause_code, clauses_code, created_code};
+ghost use Rattle.oss_lower_laws.specs.SectionCode.{clause_code, clauses_code, created_code};
 
 use crate::expressions::value;
 use crate::listing::Listing;

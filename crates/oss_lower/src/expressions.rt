@@ -3,7 +3,7 @@ ghost use Rattle.std.specs.Prelude.{◌≡◌, ◌++◌, ◌+◌, IfOk, OnOk, le
 ghost use Rattle.oss_grammar.specs.Kinds.{binary_kind};
 ghost use Rattle.oss_meaning.specs.Expressions.{called_kind, given_kind, is_task_function, typed_index, typed_prefix};
 ghost use Rattle.oss_meaning.specs.Names.{item_found};
-ghost use Rattle.oss_lower.specs.ExpressionCode.{and_code, arguments_code, binary_code, call_code, call_instr, expr_code, index_code, name_place_code, name_value_code, or_code, prefix_value_code};
+ghost use Rattle.oss_lower_laws.specs.ExpressionCode.{and_code, arguments_code, binary_code, call_code, call_instr, expr_code, index_code, name_place_code, name_value_code, or_code, prefix_value_code};
 ghost use Rattle.std.specs.Option.{option_copied};
 ghost use Rattle.oss_lower.specs.Indices.{under_of};
 

@@ -1,7 +1,7 @@
 //! The instructions of functions.
 ghost use Rattle.std.specs.Prelude.{◌≡◌, ◌++◌, IfOk, OnOk, length};
 ghost use Rattle.oss_meaning.specs.Names.{functions_of};
-ghost use Rattle.oss_lower.specs.Lowered.{bodies_from, body_entry, bound_code, entered_code, entries_from, function_code, function_codes};
+ghost use Rattle.oss_lower_laws.specs.Lowered.{bodies_from, body_entry, bound_code, entered_code, entries_from, function_code, function_codes};
 
 use crate::around::Around;
 use crate::clauses::created;

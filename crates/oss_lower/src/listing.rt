@@ -1,13 +1,13 @@
 //! The instructions that are written so far.
 ghost use Rattle.std.specs.Prelude.{◌≡◌, ◌+◌, ◌<◌, ◌∷◌, ◌++◌, List, [], length, take, IfOk, OnOk};
-ghost use Rattle.oss_lower.specs.declared.lined.Lined.{Lined as Written};
-ghost use Rattle.oss_lower.specs.ExpressionCode.{one};
+ghost use Rattle.oss_lower_laws.specs.declared.lined.Lined.{Lined as Written};
+ghost use Rattle.oss_lower_laws.specs.ExpressionCode.{one};
 ghost use Rattle.oss_lower.specs.Jumps.{jump_by};
 ghost use Rattle.oss_lower.specs.declared.listing.Jump.TheVariants.{Always as AlwaysMade};
 
-use crate::lined::Lined;
 use crate::numbers::{deeper, narrow};
 use oss_code::Instr;
+use oss_lower_laws::Lined;
 use std::alloc::{AllocError, Global};
 use std::marker::Model;
 
@@ -48,7 +48,7 @@ impl Drop for Listing {
 
 impl Model for Listing {
     ghost use Rattle.std.specs.Prelude.{List};
-    ghost use Rattle.oss_lower.specs.declared.lined.Lined.{Lined};
+    ghost use Rattle.oss_lower_laws.specs.declared.lined.Lined.{Lined};
     ghost use Rattle.std.specs.Coded.{coded_list};
     ghost use Rattle.oss_lower.specs.contracts.lined.Lined as lined;
 

@@ -2,18 +2,17 @@
 ghost use Rattle.std.specs.Prelude.{◌≡◌, ◌++◌, ◌≤◌, IfOk, OnOk, length, map};
 ghost use Rattle.oss_meaning.specs.Meaning.{main_number};
 ghost use Rattle.oss_meaning.specs.Names.{functions_of};
-ghost use Rattle.oss_lower.specs.Lowered.{IsLowered, bodies_from, body_place, entries_from, first_entry, program_code};
-ghost use Rattle.oss_lower.specs.Programs.{IsCodeOf};
+ghost use Rattle.oss_lower_laws.specs.Lowered.{IsLowered, bodies_from, body_place, entries_from, first_entry, program_code};
+ghost use Rattle.oss_lower_laws.specs.Programs.{IsCodeOf};
 ghost use Rattle.oss_code.specs.Soundness.{IsSound};
 
 use crate::data::{first_cells, places};
 use crate::functions::functions;
-use crate::laws::{codes_are_sound, codes_ask_alike};
-use crate::lined::Lined;
 use crate::listing::Listing;
 use crate::names::Names;
 use crate::numbers::narrow;
 use oss_code::{Code, CodeParts, Instr};
+use oss_lower_laws::{Lined, codes_are_sound, codes_ask_alike};
 use oss_meaning::Found;
 use oss_names::Known;
 use oss_syntax::{Cells, Item, List, Program};

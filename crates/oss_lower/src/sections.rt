@@ -1,8 +1,8 @@
 //! The instructions of array sections.
 ghost use Rattle.std.specs.Prelude.{◌≡◌, ◌∷◌, ◌++◌, ◌+◌, [], IfOk, OnOk, length, map, is_some};
 ghost use Rattle.oss_meaning.specs.Sections.{inner_operands, operands_in, optional};
-ghost use Rattle.oss_lower.specs.ExpressionCode.{arguments_code, expr_code};
-ghost use Rattle.oss_lower.specs.SectionCode.{base_code, form_code, inner_code, many_code, optional_code, section_code, sections_code, turn_code};
+ghost use Rattle.oss_lower_laws.specs.ExpressionCode.{arguments_code, expr_code};
+ghost use Rattle.oss_lower_laws.specs.SectionCode.{base_code, form_code, inner_code, many_code, optional_code, section_code, sections_code, turn_code};
 
 use crate::expressions::value;
 use crate::listing::{Jump, Listing};

@@ -8,10 +8,10 @@ ghost use Rattle.oss_meaning.specs.Names.{item_found};
 ghost use Rattle.oss_meaning.specs.Statements.{fold_of, folded_by};
 ghost use Rattle.oss_meaning.specs.declared.names.Found.TheVariants.{Variable as IsVariable};
 ghost use Rattle.oss_code.specs.declared.instr.Instr.TheVariants as i;
-ghost use Rattle.oss_lower.specs.ExpressionCode.{ExprCode, arguments_code, call_code, expr_code, one};
-ghost use Rattle.oss_lower.specs.SectionCode.{clauses_code, sections_code};
+ghost use Rattle.oss_lower_laws.specs.ExpressionCode.{ExprCode, arguments_code, call_code, expr_code, one};
+ghost use Rattle.oss_lower_laws.specs.SectionCode.{clauses_code, sections_code};
 ghost use Rattle.oss_lower.specs.Spots.{local_in};
-ghost use Rattle.oss_lower.specs.StatementCode.{assigned_code, cell_changed_code, declared_code, end_code, first_code, first_instr, given_code, local_assigned_code, pieces_in as pieces_told};
+ghost use Rattle.oss_lower_laws.specs.StatementCode.{assigned_code, cell_changed_code, declared_code, end_code, first_code, first_instr, given_code, local_assigned_code, pieces_in as pieces_told};
 
 use crate::clauses::clauses;
 use crate::expressions::{arguments, call, place, value};

@@ -1,10 +1,10 @@
 //! The instructions of a statement for which no other one is written.
 ghost use Rattle.std.specs.Prelude.{◌≡◌, ◌≤◌, ◌-◌, ◌++◌, OnOk, length, true};
 ghost use Rattle.oss_code.specs.declared.instr.Instr.TheVariants as i;
-ghost use Rattle.oss_lower.specs.ExpressionCode.{one};
+ghost use Rattle.oss_lower_laws.specs.ExpressionCode.{one};
 ghost use Rattle.oss_lower.specs.Singles.{is_single};
 ghost use Rattle.oss_lower.specs.Spots.{IsBehind, spot_at};
-ghost use Rattle.oss_lower.specs.StatementCode.{stmt_code};
+ghost use Rattle.oss_lower_laws.specs.StatementCode.{stmt_code};
 
 use crate::around::Around;
 use crate::listing::Listing;

@@ -1,10 +1,10 @@
 //! The instructions of statements.
 ghost use Rattle.std.specs.Prelude.{◌≡◌, ◌≤◌, ◌<◌, ◌+◌, ◌-◌, ◌∷◌, ◌++◌, IfOk, IfSome, List, OnOk, length, option_map, take, None, Some};
 ghost use Rattle.std.specs.Option.{option_copied};
-ghost use Rattle.oss_lower.specs.ExpressionCode.{expr_code, one};
-ghost use Rattle.oss_lower.specs.declared.lined.Lined.{Lined as Written};
+ghost use Rattle.oss_lower_laws.specs.ExpressionCode.{expr_code, one};
+ghost use Rattle.oss_lower_laws.specs.declared.lined.Lined.{Lined as Written};
 ghost use Rattle.oss_code.specs.declared.instr.Instr.TheVariants as i;
-ghost use Rattle.oss_lower.specs.StatementCode.{blocked_code, choice_code, codes_in_order, for_code, loop_code, pads_code, part_code, part_scope, stmt_code, stmt_codes, task_code, test_code};
+ghost use Rattle.oss_lower_laws.specs.StatementCode.{blocked_code, choice_code, codes_in_order, for_code, loop_code, pads_code, part_code, part_scope, stmt_code, stmt_codes, task_code, test_code};
 ghost use Rattle.oss_lower.specs.Spots.{IsBehind, spot_at};
 
 use crate::around::Around;

@@ -2,7 +2,7 @@
 ghost use Rattle.std.specs.Prelude.{◌≡◌};
 ghost use Rattle.oss_meaning.specs.Expressions.{typed_address, typed_cell, typed_name, typed_number, typed_pointed, typed_value};
 ghost use Rattle.oss_meaning.specs.Operators.{is_back, is_pointer, is_unsigned_kind};
-ghost use Rattle.oss_lower.specs.ExpressionCode.{direction_of, operator_by};
+ghost use Rattle.oss_lower_laws.specs.ExpressionCode.{direction_of, operator_by};
 
 use oss_code::{Direction, Instr, Operator};
 use oss_grammar::ValueKind;

@@ -3,7 +3,7 @@ use Rattle.std.proofs.Common.{refl, subst}
 use Rattle.oss_model.specs.Bodies.{Ask, Program}
 use Rattle.oss_model.specs.Bodies.Ask.{Await, Begin, Create, End, Fails, Fold, Print, Read, Release, Tick, Wait, WaitOn, Write}
 use Rattle.oss_meaning.specs.Results.{IsOutcome}
-use Rattle.oss_lower.proofs.OutcomeLemmas.{one_outcome}
+use Rattle.oss_lower_laws.proofs.OutcomeLemmas.{one_outcome}
 use Rattle.oss_multidependency_laws.specs.Claims.{GroupingsHaveOneOutcome}
 use Rattle.oss_multidependency_laws.specs.Grouping.{plain_asked}
 use Rattle.oss_multidependency_laws.proofs.PlainBodies.{AskAlike, IsGoodAsk}

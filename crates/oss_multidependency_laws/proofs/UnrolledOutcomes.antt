@@ -12,10 +12,10 @@ use Rattle.oss_meaning.specs.Expressions.{TreeScript}
 use Rattle.oss_meaning.specs.Meaning.{asks_of}
 use Rattle.oss_meaning.specs.Names.{functions_of, item_found}
 use Rattle.oss_meaning.specs.Results.{IsOutcome, IsOutcomeOf, first_cells, main_of, main_order}
-use Rattle.oss_lower.specs.Programs.{HavePlaces}
-use Rattle.oss_lower.proofs.OutcomeLaws.{a_program_has_one_outcome}
-use Rattle.oss_lower.proofs.OutcomeLemmas.{one_outcome}
-use Rattle.oss_lower.proofs.TextPlaces.{accepted_places}
+use Rattle.oss_lower_laws.specs.Programs.{HavePlaces}
+use Rattle.oss_lower_laws.proofs.OutcomeLaws.{a_program_has_one_outcome}
+use Rattle.oss_lower_laws.proofs.OutcomeLemmas.{one_outcome}
+use Rattle.oss_lower_laws.proofs.TextPlaces.{accepted_places}
 use Rattle.oss_multidependency_laws.specs.Claims.{UnrolledProgramsHaveOneOutcome, UnrolledTextsHaveOneOutcome}
 use Rattle.oss_multidependency_laws.specs.Fitting.{functions_fit, takes}
 use Rattle.oss_multidependency_laws.specs.Grouping.{plain_asked}

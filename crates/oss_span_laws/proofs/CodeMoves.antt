@@ -18,10 +18,10 @@ use Rattle.oss_code.specs.declared.code.CodeParts.{CodeParts}
 use Rattle.oss_machine.specs.Frames.{CodeScript}
 use Rattle.oss_machine.specs.Machines.{asks}
 use Rattle.oss_body.specs.Mains.{code_main}
-use Rattle.oss_lower.specs.Programs.{IsCodeOf, moved_start}
-use Rattle.oss_lower.proofs.MovedBodies.{acts_alike, moved_act, moved_frame, stands_alike}
-use Rattle.oss_lower.proofs.MovedRuns.{child_is}
-use Rattle.oss_lower.proofs.OutcomeLaws.{start_is}
+use Rattle.oss_lower_laws.specs.Programs.{IsCodeOf, moved_start}
+use Rattle.oss_lower_laws.proofs.MovedBodies.{acts_alike, moved_act, moved_frame, stands_alike}
+use Rattle.oss_lower_laws.proofs.MovedRuns.{child_is}
+use Rattle.oss_lower_laws.proofs.OutcomeLaws.{start_is}
 
 module _ (all : List Item) (code : CodeParts) (of : IsCodeOf all code) where
   abbrev P : Asks TreeScript

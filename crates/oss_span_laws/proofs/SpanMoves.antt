@@ -23,9 +23,9 @@ use Rattle.oss_meaning.specs.Results.IsOutcome.{ends as outcome_ends, fails as o
 use Rattle.oss_code.specs.declared.code.CodeParts.{CodeParts}
 use Rattle.oss_machine.specs.Machines.{asks}
 use Rattle.oss_body.specs.Mains.{code_main}
-use Rattle.oss_lower.specs.Programs.{IsCodeOf}
-use Rattle.oss_lower.proofs.OneResult.{one_end, one_result}
-use Rattle.oss_lower.proofs.OutcomeLaws.{main_outcomes_alike, start_is}
+use Rattle.oss_lower_laws.specs.Programs.{IsCodeOf}
+use Rattle.oss_lower_laws.proofs.OneResult.{one_end, one_result}
+use Rattle.oss_lower_laws.proofs.OutcomeLaws.{main_outcomes_alike, start_is}
 use Rattle.oss_chain_laws.specs.Chains.{capped, ticks_in}
 use Rattle.oss_chain_laws.specs.Happenings.{Happening}
 use Rattle.oss_chain_laws.specs.Runs.{IsLongest, ticks_at}

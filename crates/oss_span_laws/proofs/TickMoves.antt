@@ -13,7 +13,7 @@ use Rattle.oss_same_acts_laws.proofs.ResultLemmas.{IsStageAlike, both_go_on, goe
 use Rattle.oss_same_acts_laws.proofs.TurnLemmas.{at_both}
 use Rattle.oss_chain_laws.specs.Happenings.{tick_of}
 use Rattle.oss_chain_laws.specs.Runs.{Ticks, more_ticks, no_ticks}
-use Rattle.oss_lower.proofs.OneResult.{Same}
+use Rattle.oss_lower_laws.proofs.OneResult.{Same}
 use Rattle.oss_span_laws.proofs.ChainMoves.{tick_alike}
 
 module _ {S T : Type 0} (P : Program S) (Q : Program T) (R : Start S → Start T → Type 0) (is : IsBisimulation P Q R) where

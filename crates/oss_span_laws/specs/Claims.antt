@@ -10,7 +10,7 @@ use Rattle.oss_model.specs.declared.answer.Answer.{Answer}
 use Rattle.oss_code.specs.declared.code.CodeParts.{CodeParts}
 use Rattle.oss_machine.specs.Machines.{asks}
 use Rattle.oss_body.specs.Mains.{code_main}
-use Rattle.oss_lower.specs.Programs.{IsCodeOf}
+use Rattle.oss_lower_laws.specs.Programs.{IsCodeOf}
 use Rattle.oss_span.specs.Reply.{IsSpannedOf}
 use Rattle.oss_span.specs.Spans.{Spans}
 use Rattle.oss_span.specs.declared.link.Link.{Link}

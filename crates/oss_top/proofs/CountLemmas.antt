@@ -19,7 +19,7 @@ use Rattle.oss_wave_laws.specs.Rounds as rounds
 use Rattle.oss_wave_laws.proofs.MovesLemmas.{rounds_stop}
 use Rattle.oss_meaning.specs.Results.{IsOutcome, Outcome, is_among, tasks_in, weighed}
 use Rattle.oss_meaning.specs.Results.IsOutcome.{ends, fails}
-use Rattle.oss_lower.proofs.OutcomeLemmas.{weighed_alike}
+use Rattle.oss_lower_laws.proofs.OutcomeLemmas.{weighed_alike}
 use Rattle.oss_top.specs.Runs.{IsDone}
 
 module _ {S : Type 0} (P : Asks S) (main : Start S) where

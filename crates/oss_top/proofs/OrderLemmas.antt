@@ -13,7 +13,7 @@ use Rattle.oss_meaning.specs.Expressions.{TreeScript}
 use Rattle.oss_meaning.specs.Meaning.{asks_of}
 use Rattle.oss_meaning.specs.Results.{IsOutcome, Outcome, first_cells, main_of}
 use Rattle.oss_meaning.specs.Results.IsOutcome.{ends, fails}
-use Rattle.oss_lower.proofs.TextPlaces.{accepted_setting}
+use Rattle.oss_lower_laws.proofs.TextPlaces.{accepted_setting}
 use Rattle.oss_top.specs.EveryOrder.{IsRunInEveryOrder}
 use Rattle.oss_top.specs.Forms.{answer_reply}
 

@@ -17,8 +17,8 @@ use Rattle.oss_code.specs.declared.code.CodeParts.{CodeParts}
 use Rattle.oss_machine.specs.Frames.{CodeScript}
 use Rattle.oss_machine.specs.Machines.{asks}
 use Rattle.oss_body.specs.Mains.{code_main}
-use Rattle.oss_lower.specs.Programs.{IsCodeOf}
-use Rattle.oss_lower.proofs.OutcomeLaws.{main_outcomes_alike, outcomes_are_one}
+use Rattle.oss_lower_laws.specs.Programs.{IsCodeOf}
+use Rattle.oss_lower_laws.proofs.OutcomeLaws.{main_outcomes_alike, outcomes_are_one}
 use Rattle.oss_sched.specs.declared.moves.TextMove.{TextMove}
 use Rattle.oss_replay.specs.Replays.{IsReplayed, Plays}
 use Rattle.oss_replay.specs.declared.replayed.Replayed.{Replayed}

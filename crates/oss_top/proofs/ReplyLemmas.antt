@@ -19,7 +19,7 @@ use Rattle.oss_meaning.specs.Meaning.{asks_of}
 use Rattle.oss_meaning.specs.Results.{IsOutcomeOf, Outcome, first_cells, main_of}
 use Rattle.oss_wave_laws.specs.Rounds.{Trace}
 use Rattle.oss_wave_laws.proofs.OneRunLemmas.{one_trace}
-use Rattle.oss_lower.proofs.OutcomeLaws.{outcomes_are_one}
+use Rattle.oss_lower_laws.proofs.OutcomeLaws.{outcomes_are_one}
 use Rattle.oss_model.specs.declared.answer.Answer.{Answer}
 use Rattle.oss_model.specs.declared.answer.Answer.TheVariants.{Done, Fault}
 use Rattle.oss_audit.specs.Lines.{audit_text}

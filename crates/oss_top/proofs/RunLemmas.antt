@@ -9,8 +9,8 @@ use Rattle.oss_wave_laws.specs.Rounds.{trace_of}
 use Rattle.oss_meaning.specs.Meaning.{asks_of}
 use Rattle.oss_meaning.specs.Results.{Outcome, first_cells, main_of}
 use Rattle.oss_code.specs.declared.code.CodeParts.{CodeParts}
-use Rattle.oss_lower.specs.Programs.{IsCodeOf}
-use Rattle.oss_lower.proofs.OutcomeLaws.{main_outcomes_alike, main_setting}
+use Rattle.oss_lower_laws.specs.Programs.{IsCodeOf}
+use Rattle.oss_lower_laws.proofs.OutcomeLaws.{main_outcomes_alike, main_setting}
 use Rattle.oss_machine.specs.Machines.{asks}
 use Rattle.oss_body.specs.Mains.{code_main}
 use Rattle.oss_deps.specs.Seen.{Seen}

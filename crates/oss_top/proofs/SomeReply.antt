@@ -30,10 +30,10 @@ use Rattle.oss_wave_laws.proofs.ExistLemmas.{has_trace}
 use Rattle.oss_meaning.specs.Expressions.{TreeScript}
 use Rattle.oss_meaning.specs.Meaning.{asks_of}
 use Rattle.oss_meaning.specs.Results.{IsOutcomeOf, Outcome, first_cells, main_of}
-use Rattle.oss_lower.proofs.LiveLemmas.{programs_are_lively}
-use Rattle.oss_lower.proofs.OutcomeLaws.{programs_have_codes}
-use Rattle.oss_lower.proofs.ProgramLemmas.{codes_ask_alike}
-use Rattle.oss_lower.proofs.TextPlaces.{accepted_places, accepted_programs_have_one_outcome, accepted_setting}
+use Rattle.oss_lower_laws.proofs.LiveLemmas.{programs_are_lively}
+use Rattle.oss_lower_laws.proofs.OutcomeLaws.{programs_have_codes}
+use Rattle.oss_lower_laws.proofs.ProgramLemmas.{codes_ask_alike}
+use Rattle.oss_lower_laws.proofs.TextPlaces.{accepted_places, accepted_programs_have_one_outcome, accepted_setting}
 use Rattle.oss_top.specs.ProgramTexts.{Accepts, Refuses}
 use Rattle.oss_top.specs.ProgramTexts.Refuses.{by_grammar, by_rules}
 use Rattle.oss_top.specs.Forms.{accepted_line, answer_reply, done_reply, error_reply, most_bytes, soak_reply, too_large_line, trace_reply}

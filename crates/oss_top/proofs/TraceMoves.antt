@@ -10,8 +10,8 @@ use Rattle.oss_meaning.specs.Results.{first_cells, main_of}
 use Rattle.oss_code.specs.declared.code.CodeParts.{CodeParts}
 use Rattle.oss_machine.specs.Machines.{asks}
 use Rattle.oss_body.specs.Mains.{code_main}
-use Rattle.oss_lower.specs.Programs.{IsCodeOf}
-use Rattle.oss_lower.proofs.OutcomeLaws.{start_is}
+use Rattle.oss_lower_laws.specs.Programs.{IsCodeOf}
+use Rattle.oss_lower_laws.proofs.OutcomeLaws.{start_is}
 use Rattle.oss_span_laws.proofs.CodeMoves.{codes_do_the_same, is_moved}
 
 module _ (all : List Item) (code : CodeParts) (of : IsCodeOf all code) (fuel : ℕ) (trace : Trace) where

@@ -1,5 +1,5 @@
 use Rattle.std.proofs.Common.{◌≡◌, ◌++◌, drop}
-use Rattle.oss_lower.specs.SectionCode.{clauses_code}
+use Rattle.oss_lower_laws.specs.SectionCode.{clauses_code}
 use Rattle.oss_lower.proofs.clauses.clauses.Given as goal
 
 -- what is written and what is left are the instructions of all clauses

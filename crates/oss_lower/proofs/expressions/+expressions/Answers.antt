@@ -1,5 +1,5 @@
 use Rattle.std.proofs.Common.{rules, ◌≡◌, ◌≤◌, append_assoc, subst, sym, arith}
-use Rattle.oss_lower.specs.ExpressionCode.{binary_code, expr_code, operator_by, then_two}
+use Rattle.oss_lower_laws.specs.ExpressionCode.{binary_code, expr_code, operator_by, then_two}
 use Rattle.oss_lower.proofs.FormCases.{both-sides}
 use Rattle.oss_lower.proofs.ExprWeights.{weight, weights, weight-one}
 use Rattle.oss_lower.proofs.expressions.+expressions.Goals as goal

@@ -1,5 +1,5 @@
 use Rattle.std.proofs.Common.{◌≡◌, ◌+◌, ◌*◌, ◌++◌, drop, map}
-use Rattle.oss_lower.specs.ExpressionCode.{arguments_code, expr_code}
+use Rattle.oss_lower_laws.specs.ExpressionCode.{arguments_code, expr_code}
 use Rattle.oss_lower.proofs.ExprWeights.{weight, weights}
 use Rattle.oss_lower.proofs.expressions.+expressions.Given as goal
 

@@ -1,5 +1,5 @@
 use Rattle.std.proofs.Common.{◌≡◌, ◌++◌, drop}
-use Rattle.oss_lower.specs.Lowered.{bound_code}
+use Rattle.oss_lower_laws.specs.Lowered.{bound_code}
 use Rattle.oss_lower.proofs.functions.bound.Given as goal
 
 -- what is written and what is left are the instructions of all parameters

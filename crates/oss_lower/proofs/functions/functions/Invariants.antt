@@ -1,5 +1,5 @@
 use Rattle.std.proofs.Common.{◌≡◌, ◌++◌, drop, length, map}
-use Rattle.oss_lower.specs.Lowered.{bodies_from, entries_from, function_codes}
+use Rattle.oss_lower_laws.specs.Lowered.{bodies_from, entries_from, function_codes}
 use Rattle.oss_lower.proofs.functions.functions.Given as goal
 
 -- what is written and what is left are the instructions of all functions, and so are their beginnings

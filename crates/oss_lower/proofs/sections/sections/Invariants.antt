@@ -1,5 +1,5 @@
 use Rattle.std.proofs.Common.{◌≡◌, ◌++◌, drop}
-use Rattle.oss_lower.specs.SectionCode.{sections_code}
+use Rattle.oss_lower_laws.specs.SectionCode.{sections_code}
 use Rattle.oss_lower.proofs.sections.sections.Given as goal
 
 -- what is written and what is left are the instructions of all sections

@@ -2,8 +2,8 @@ use Rattle.std.proofs.Common.{◌≡◌, ◌++◌, ap, subst, sym}
 use Rattle.std.specs.Prelude.{OnOk}
 use Rattle.oss_meaning.specs.declared.names.Found.TheVariants as names
 use Rattle.oss_meaning.specs.Expressions.{typed_name}
-use Rattle.oss_lower.specs.ExpressionCode.{expr_code}
-use Rattle.oss_lower.specs.StatementCode.{assigned_code}
+use Rattle.oss_lower_laws.specs.ExpressionCode.{expr_code}
+use Rattle.oss_lower_laws.specs.StatementCode.{assigned_code}
 use Rattle.oss_lower.proofs.simple.assign.Goals as goal
 
 pub returns-in-Some : goal.returns-in-Some

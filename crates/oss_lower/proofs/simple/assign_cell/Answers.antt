@@ -2,8 +2,8 @@ use Rattle.std.proofs.Common.{◌≡◌, ◌∙◌, ◌++◌, Some, ap, append_a
 use Rattle.std.specs.Prelude.{OnOk}
 use Rattle.oss_meaning.specs.declared.names.Target.TheVariants as target
 use Rattle.oss_meaning.specs.Statements.{folded_by}
-use Rattle.oss_lower.specs.ExpressionCode.{expr_code}
-use Rattle.oss_lower.specs.StatementCode.{assigned_code, cell_changed_code}
+use Rattle.oss_lower_laws.specs.ExpressionCode.{expr_code}
+use Rattle.oss_lower_laws.specs.StatementCode.{assigned_code, cell_changed_code}
 use Rattle.oss_lower.proofs.TargetLemmas.{kinded}
 use Rattle.oss_lower.proofs.simple.assign_cell.Goals as goal
 

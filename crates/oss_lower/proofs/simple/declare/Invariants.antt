@@ -1,5 +1,5 @@
 use Rattle.std.proofs.Common.{◌≡◌, ◌++◌, drop}
-use Rattle.oss_lower.specs.StatementCode.{declared_code}
+use Rattle.oss_lower_laws.specs.StatementCode.{declared_code}
 use Rattle.oss_lower.proofs.simple.declare.Given as goal
 
 -- what is written and what is left are the instructions of all locals, and so are the locals in scope

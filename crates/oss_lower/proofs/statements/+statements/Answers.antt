@@ -3,9 +3,9 @@ use Rattle.std.proofs.lemmas.List.{drop_more}
 use Rattle.std.specs.Option.{option_copied}
 use Rattle.oss_code.specs.declared.instr.Instr.TheVariants as i
 use Rattle.oss_lower.specs.declared.listing.Jump.TheVariants as jump
-use Rattle.oss_lower.specs.ExpressionCode.{one}
+use Rattle.oss_lower_laws.specs.ExpressionCode.{one}
 use Rattle.oss_lower.specs.Spots.{spot_at}
-use Rattle.oss_lower.specs.StatementCode.{codes_in_order, pads_code, part_code, stmt_code, stmt_codes, test_code}
+use Rattle.oss_lower_laws.specs.StatementCode.{codes_in_order, pads_code, part_code, stmt_code, stmt_codes, test_code}
 use Rattle.oss_lower.proofs.SpotLemmas.{prefix-trans, stays, still-behind}
 use Rattle.oss_lower.proofs.StmtWeights.{weight, weights, weight-one}
 use Rattle.oss_lower.proofs.WrittenLemmas.{choice-written, fill-size, for-written, order-step, test-within, turns-written}

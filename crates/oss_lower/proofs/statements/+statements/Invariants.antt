@@ -1,7 +1,7 @@
 use Rattle.std.proofs.Common.{◌≡◌, ◌+◌, ◌*◌, ◌++◌, drop, length, take}
 use Rattle.std.specs.Option.{option_copied}
 use Rattle.oss_lower.specs.Spots.{IsBehind, spot_at}
-use Rattle.oss_lower.specs.StatementCode.{codes_in_order, stmt_codes}
+use Rattle.oss_lower_laws.specs.StatementCode.{codes_in_order, stmt_codes}
 use Rattle.oss_lower.proofs.StmtWeights.{part_weight, weight, weights}
 use Rattle.oss_lower.proofs.statements.+statements.Given as goal
 

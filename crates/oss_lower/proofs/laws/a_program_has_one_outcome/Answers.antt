@@ -1,5 +1,0 @@
-use Rattle.oss_lower.proofs.OutcomeLaws.{a_program_has_one_outcome}
-use Rattle.oss_lower.proofs.laws.a_program_has_one_outcome.Goals as goal
-
-pub returns : goal.returns
-returns c = a_program_has_one_outcome

@@ -1,5 +1,0 @@
-use Rattle.oss_lower.proofs.ProgramLemmas.{bounds_are_enough}
-use Rattle.oss_lower.proofs.laws.bounds_are_enough.Goals as goal
-
-pub returns : goal.returns
-returns c = bounds_are_enough

@@ -1,5 +1,0 @@
-use Rattle.oss_lower.proofs.ProgramLemmas.{codes_ask_alike}
-use Rattle.oss_lower.proofs.laws.codes_ask_alike.Goals as goal
-
-pub returns : goal.returns
-returns c = codes_ask_alike

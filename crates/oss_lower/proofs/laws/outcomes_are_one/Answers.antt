@@ -1,5 +1,0 @@
-use Rattle.oss_lower.proofs.OutcomeLaws.{outcomes_are_one}
-use Rattle.oss_lower.proofs.laws.outcomes_are_one.Goals as goal
-
-pub returns : goal.returns
-returns c = outcomes_are_one

@@ -1,5 +1,0 @@
-use Rattle.oss_lower.proofs.LiveLemmas.{programs_are_lively}
-use Rattle.oss_lower.proofs.laws.programs_are_lively.Goals as goal
-
-pub returns : goal.returns
-returns c = programs_are_lively

@@ -1,5 +1,0 @@
-use Rattle.oss_lower.proofs.OutcomeLaws.{programs_have_codes}
-use Rattle.oss_lower.proofs.laws.programs_have_codes.Goals as goal
-
-pub returns : goal.returns
-returns c = programs_have_codes
