@@ -1,9 +1,4 @@
-pub mod ListingLemmas
-pub mod NameLemmas
-pub mod ExprWeights
 pub mod FewCells
-pub mod FormCases
-pub mod OperandLemmas
 pub mod SpotLemmas
 pub mod TargetLemmas
 pub mod StmtWeights

@@ -9,10 +9,10 @@ use Rattle.oss_code.specs.declared.instr.Instr.{Instr}
 use Rattle.oss_code.specs.declared.instr.Instr.TheVariants as i
 use Rattle.oss_lower.specs.declared.around.Around.{Around}
 use Rattle.oss_lower_laws.specs.declared.lined.Lined.{Lined}
-use Rattle.oss_lower.specs.declared.listing.Jump.{Jump}
-use Rattle.oss_lower.specs.declared.listing.Jump.TheVariants as jump
+use Rattle.oss_lower_expressions.specs.declared.listing.Jump.{Jump}
+use Rattle.oss_lower_expressions.specs.declared.listing.Jump.TheVariants as jump
 use Rattle.oss_lower_laws.specs.ExpressionCode.{expr_code, one}
-use Rattle.oss_lower.specs.Jumps.{jump_by}
+use Rattle.oss_lower_expressions.specs.Jumps.{jump_by}
 use Rattle.oss_lower_laws.specs.SectionCode.{created_code}
 use Rattle.oss_lower_laws.specs.StatementCode.{Spot, StmtCode, behind, body_spot, choice_code, choice_of, codes_in_order, end_code, for_code, in_scope, last_spot, loop_body, loop_code, loop_last, loop_spot, other_spot, pads_code, part_code, part_scope, side_spot, stmt_code, stmt_codes, task_code, test_code}
 use Rattle.oss_lower.specs.Spots.{IsBehind, spot_at}

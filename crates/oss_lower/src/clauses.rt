@@ -2,11 +2,8 @@
 ghost use Rattle.std.specs.Prelude.{◌≡◌, ◌++◌, OnOk};
 ghost use Rattle.oss_lower_laws.specs.SectionCode.{clause_code, clauses_code, created_code};
 
-use crate::expressions::value;
-use crate::listing::Listing;
-use crate::sections::sections;
-use crate::site::Site;
 use oss_code::{Declared, Instr};
+use oss_lower_expressions::{Listing, Site, sections, value};
 use oss_syntax::Clause;
 use std::alloc::AllocError;
 

@@ -5,14 +5,10 @@ ghost use Rattle.oss_lower_laws.specs.Lowered.{bodies_from, body_entry, bound_co
 
 use crate::around::Around;
 use crate::clauses::created;
-use crate::listing::Listing;
-use crate::names::Names;
-use crate::numbers::{deeper, narrow};
-use crate::scope::Scope;
 use crate::simple::end;
-use crate::site::Site;
 use crate::statements::statements;
 use oss_code::Instr;
+use oss_lower_expressions::{Listing, Names, Scope, Site, deeper, narrow};
 use oss_syntax::{Function, Local};
 use std::alloc::AllocError;
 

@@ -8,10 +8,8 @@ ghost use Rattle.oss_code.specs.Soundness.{IsSound};
 
 use crate::data::{first_cells, places};
 use crate::functions::functions;
-use crate::listing::Listing;
-use crate::names::Names;
-use crate::numbers::narrow;
 use oss_code::{Code, CodeParts, Instr};
+use oss_lower_expressions::{Listing, Names, narrow};
 use oss_lower_laws::{Lined, codes_are_sound, codes_ask_alike};
 use oss_meaning::Found;
 use oss_names::Known;

@@ -14,16 +14,11 @@ ghost use Rattle.oss_lower.specs.Spots.{local_in};
 ghost use Rattle.oss_lower_laws.specs.StatementCode.{assigned_code, cell_changed_code, declared_code, end_code, first_code, first_instr, given_code, local_assigned_code, pieces_in as pieces_told};
 
 use crate::clauses::clauses;
-use crate::expressions::{arguments, call, place, value};
-use crate::listing::Listing;
-use crate::names::Names;
-use crate::numbers::narrow;
-use crate::scope::Scope;
-use crate::sections::sections;
-use crate::site::Site;
-use crate::typed::operator;
 use oss_code::{Declared, Instr};
 use oss_grammar::{Piece, ValueKind, pieces};
+use oss_lower_expressions::{
+    Listing, Names, Scope, Site, arguments, call, narrow, operator, place, sections, value,
+};
 use oss_meaning::{Found, Target};
 use oss_syntax::{
     BinOp, Bytes, Clause, Expr, ExprKind, Kind, List, Local, Mode, Name, NumKind, Op, Section,

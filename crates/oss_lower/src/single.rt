@@ -7,13 +7,9 @@ ghost use Rattle.oss_lower.specs.Spots.{IsBehind, spot_at};
 ghost use Rattle.oss_lower_laws.specs.StatementCode.{stmt_code};
 
 use crate::around::Around;
-use crate::listing::Listing;
-use crate::names::Names;
-use crate::numbers::narrow;
-use crate::scope::Scope;
 use crate::simple::{assign, call_alone, declare, end, give, print, release, wait_on};
-use crate::site::Site;
 use oss_code::Instr;
+use oss_lower_expressions::{Listing, Names, Scope, Site, narrow};
 use oss_syntax::{Stmt, StmtKind};
 use std::alloc::AllocError;
 

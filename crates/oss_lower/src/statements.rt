@@ -9,16 +9,11 @@ ghost use Rattle.oss_lower.specs.Spots.{IsBehind, spot_at};
 
 use crate::around::Around;
 use crate::clauses::created;
-use crate::expressions::value;
-use crate::listing::{Jump, Listing};
 use crate::looping::Loop;
-use crate::names::Names;
-use crate::numbers::narrow;
-use crate::scope::Scope;
 use crate::simple::end;
 use crate::single::single;
-use crate::site::Site;
 use oss_code::Instr;
+use oss_lower_expressions::{Jump, Listing, Names, Scope, Site, narrow, value};
 use oss_syntax::{Boxed, Clause, Expr, Kind, Stmt, StmtKind};
 use std::alloc::AllocError;
 

@@ -2,7 +2,7 @@ use Rattle.std.proofs.Common.{◌≡◌, ◌≤◌, ◌<◌, IfSome, ◌+◌, �
 use Rattle.std.proofs.lemmas.List.{drop_more}
 use Rattle.std.specs.Option.{option_copied}
 use Rattle.oss_code.specs.declared.instr.Instr.TheVariants as i
-use Rattle.oss_lower.specs.declared.listing.Jump.TheVariants as jump
+use Rattle.oss_lower_expressions.specs.declared.listing.Jump.TheVariants as jump
 use Rattle.oss_lower_laws.specs.ExpressionCode.{one}
 use Rattle.oss_lower.specs.Spots.{spot_at}
 use Rattle.oss_lower_laws.specs.StatementCode.{codes_in_order, pads_code, part_code, stmt_code, stmt_codes, test_code}
