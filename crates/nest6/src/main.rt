@@ -11,7 +11,8 @@ use std::env;
 use std::io::{self, ErrorKind, Stderr, Stdout};
 use std::process::ExitCode;
 
-/// Calls the top call with the words of the command line, the files, and the standard streams, and ends with its status.
+/// Calls the top call with the words of the command line, the files, and the standard streams, and ends with
+/// its status.
 fn main(rt: HostRuntime) -> ExitCode {
     let alloc = rt.alloc();
     let Some(words) = given(alloc, words_of(&rt)) else {
@@ -50,8 +51,8 @@ fn behind_first(words: &[String]) -> &[String]
     }
 }
 
-/// The words of the call, where they were read. A word that is not UTF-8 makes the words as a whole faulty, so there are none,
-/// and these are refused. `None` where memory was wanting.
+/// The words of the call, where they were read. A word that is not UTF-8 makes the words as a whole faulty, so
+/// there are none, and these are refused. `None` where memory was wanting.
 fn given(alloc: Global, words: io::Result<Vec<String>>) -> Option<Vec<String>>
     ensures { IsGiven words result }
 {

@@ -1,4 +1,5 @@
-//! All tables of a line of accesses behind one invariant. The work on the tables is in `queue`, which takes them one by one.
+//! All tables of a line of accesses behind one invariant. The work on the tables is in `queue`, which takes
+//! them one by one.
 
 ghost use Rattle.std.specs.Prelude.{ℕ, ◌≡◌, ◌<◌, ◌==◌, [], ◌∷◌, length, false, true, IfOk, IsOk, OnOk, OnErr};
 ghost use Rattle.oss_access_lists.specs.Kept.{HasRoom};
@@ -15,10 +16,11 @@ use oss_syntax::Mode;
 use std::alloc::{AllocError, Global};
 use std::marker::Model;
 
-/// The accesses to one cell, or to cells that are all alike, in lists: the accesses of the children of an access hang below it, one
-/// behind the other, in the order of creation. They go by numbers in the order of their openings; 0 is main's. Flags move along
-/// the lists: a call of `open` or `give` posts them, and `settle` delivers what is posted. To open, give up and settle a chain of
-/// accesses one by one costs as much as there are accesses: no call walks over all of them.
+/// The accesses to one cell, or to cells that are all alike, in lists: the accesses of the children of an
+/// access hang below it, one behind the other, in the order of creation. They go by numbers in the order of
+/// their openings; 0 is main's. Flags move along the lists: a call of `open` or `give` posts them, and `settle`
+/// delivers what is posted. To open, give up and settle a chain of accesses one by one costs as much as there
+/// are accesses: no call walks over all of them.
 pub struct AccessList {
     /// The links, the mode and the gift of each access, by its number.
     hangs: Vec<Hang>,
@@ -57,7 +59,19 @@ impl Model for AccessList {
 
     ghost use Rattle.oss_access_lists.specs.Tables.{AreTables};
 
-    ghost view = { λ l. record { hangs = l.hangs.items; stand = l.stand.items; posted = l.posted.items; behind = l.behind.items; head = l.head; rooms = record { hangs = vec_capacity l.hangs; stand = vec_capacity l.stand; posted = vec_capacity l.posted; behind = vec_capacity l.behind } } };
+    ghost view = { λ l. record {
+      hangs = l.hangs.items;
+      stand = l.stand.items;
+      posted = l.posted.items;
+      behind = l.behind.items;
+      head = l.head;
+      rooms = record {
+        hangs = vec_capacity l.hangs;
+        stand = vec_capacity l.stand;
+        posted = vec_capacity l.posted;
+        behind = vec_capacity l.behind;
+      };
+    } };
 
     ghost invariant = { λ l. AreTables l.hangs.items l.stand.items l.posted.items l.behind.items l.head };
 }
@@ -81,8 +95,8 @@ impl AccessList {
         })
     }
 
-    /// Takes the memory for one more access, so that the next `open` cannot fail. Err: memory is wanting, which it is not where there is
-    /// enough already. Nothing else changes.
+    /// Takes the memory for one more access, so that the next `open` cannot fail. Err: memory is wanting, which
+    /// it is not where there is enough already. Nothing else changes.
     pub fn reserve(&mut self) -> Result<(), AllocError>
         ensures same { self.new ≡ record self.old { rooms = self.new.rooms } }
         ensures ok { OnOk result (HasRoom self.new) }
@@ -96,15 +110,17 @@ impl AccessList {
         )
     }
 
-    /// Hangs an access at the end of the list of `above`, the access of its creator, or 0 for main. Its number is the `count` before.
-    /// Its flags stand once the line is settled. Err: memory is wanting, which it is not behind `reserve`, and nothing has changed but
-    /// for how much memory is there. It costs the same for each line, but for what the tables take to grow.
+    /// Hangs an access at the end of the list of `above`, the access of its creator, or 0 for main. Its number
+    /// is the `count` before. Its flags stand once the line is settled. Err: memory is wanting, which it is not
+    /// behind `reserve`, and nothing has changed but for how much memory is there. It costs the same for each
+    /// line, but for what the tables take to grow.
     pub fn open(&mut self, above: usize, mode: Mode) -> Result<(), AllocError>
         requires within { above < length self.old.hangs }
         requires held { (hang_at self.old.hangs above).gave ≡ false }
         requires covered { covers (hang_at self.old.hangs above).mode mode ≡ true }
         ensures opened { OnOk result (self.new.hangs ≡ opened_in self.old.hangs above mode) }
-        ensures hung { OnOk result (IsHung (wires_of self.old.hangs) (wires_of self.new.hangs) above (length self.old.hangs)) }
+        ensures hung { OnOk result (IsHung (wires_of self.old.hangs) (wires_of self.new.hangs) above
+            (length self.old.hangs)) }
         ensures same { OnErr result (self.new ≡ record self.old { rooms = self.new.rooms }) }
         ensures sure { HasRoom self.old → IsOk result }
     {
@@ -120,8 +136,8 @@ impl AccessList {
         Ok(())
     }
 
-    /// The task of the access gives up the cell. What follows stands once the line is settled. It takes no memory, and costs the
-    /// same for each line.
+    /// The task of the access gives up the cell. What follows stands once the line is settled. It takes no
+    /// memory, and costs the same for each line.
     pub fn give(&mut self, at: usize)
         requires main { at ≡ 0 → ⊥ }
         requires within { at < length self.old.hangs }
@@ -140,8 +156,8 @@ impl AccessList {
         );
     }
 
-    /// Delivers the flags that wait, until none does. It takes no memory. It costs as much as there are accesses that get a flag:
-    /// an access gets each of its six flags once, over all calls together.
+    /// Delivers the flags that wait, until none does. It takes no memory. It costs as much as there are
+    /// accesses that get a flag: an access gets each of its six flags once, over all calls together.
     pub fn settle(&mut self)
         ensures hangs { self.new.hangs ≡ self.old.hangs }
         ensures rest { self.new.head ≡ 0 }
@@ -158,7 +174,8 @@ impl AccessList {
         self.head = 0;
     }
 
-    /// The flags of an access, in a line that is settled: each stands exactly where what it says is so. It costs one look.
+    /// The flags of an access, in a line that is settled: each stands exactly where what it says is so. It
+    /// costs one look.
     pub fn flags(&self, at: usize) -> Marks
         requires rest { self.now.head ≡ 0 }
         requires main { at ≡ 0 → ⊥ }
@@ -170,8 +187,9 @@ impl AccessList {
         marks_at(self.stand.as_slice(), at)
     }
 
-    /// Whether nothing waits. Its clauses tell besides what holds of each line: the lists are such as grow by openings, each access hangs
-    /// in one, no link leads out of the line, and where nothing waits all that is due stands. So the laws of `laws` hold of it.
+    /// Whether nothing waits. Its clauses tell besides what holds of each line: the lists are such as grow by
+    /// openings, each access hangs in one, no link leads out of the line, and where nothing waits all that is
+    /// due stands. So the laws of `laws` hold of it.
     pub fn is_settled(&self) -> bool
         ensures settled { result ≡ (self.now.head == 0) }
         ensures wired { AreWired (wires_of self.now.hangs) }
@@ -189,16 +207,17 @@ impl AccessList {
         self.hangs.len()
     }
 
-    /// The links, the mode and the gift of an access, or of main; past the last access, those of one that hangs nowhere. It costs one
-    /// look.
+    /// The links, the mode and the gift of an access, or of main; past the last access, those of one that hangs
+    /// nowhere. It costs one look.
     pub fn hang(&self, at: usize) -> Hang
         ensures { result ≡ hang_at self.now.hangs at }
     {
         hang_at(self.hangs.as_slice(), at)
     }
 
-    /// The same line once more: where cells that were alike are parted, the flags that stand, those that wait and the links stay for
-    /// each of them. The memory that is reserved is not copied. Err: memory is wanting. It costs as much as there are accesses.
+    /// The same line once more: where cells that were alike are parted, the flags that stand, those that wait
+    /// and the links stay for each of them. The memory that is reserved is not copied. Err: memory is wanting.
+    /// It costs as much as there are accesses.
     pub fn copy(&self) -> Result<AccessList, AllocError>
         ensures { IfOk result (λ l. l ≡ record self.now { rooms = l.rooms }) }
     {

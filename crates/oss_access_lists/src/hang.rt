@@ -2,8 +2,8 @@
 
 use oss_syntax::Mode;
 
-/// How an access to a cell hangs among the others, by their numbers. A number is 0 where there is no such access; the one above is 0
-/// also where main is the creator.
+/// How an access to a cell hangs among the others, by their numbers. A number is 0 where there is no such
+/// access; the one above is 0 also where main is the creator.
 #[derive(Clone, Copy)]
 pub struct Hang {
     /// It hangs in a list: so does each access but main's.

@@ -1,5 +1,5 @@
-//! What holds of the accesses to one cell, whatever keeps them: laws, each carried by a function that does nothing. A crate above
-//! calls the function, and then has the law.
+//! What holds of the accesses to one cell, whatever keeps them: laws, each carried by a function that does
+//! nothing. A crate above calls the function, and then has the law.
 
 ghost use Rattle.oss_access_lists.specs.Claims.{BeginningsStand, DeliveriesKeep, DueIsSo, GiftsKeep, GiftsStay, LastTellsOfAll, OpeningsKeep, OpeningsStay, QuietIsAtRest, RestIsExact};
 

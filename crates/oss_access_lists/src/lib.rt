@@ -1,5 +1,6 @@
-//! The accesses to one cell, hung in lists, and the flags that messages move along the lists: what an access may do, and whether it is
-//! done, is told by six flags at the access itself, and nobody looks through the lists.
+//! The accesses to one cell, hung in lists, and the flags that messages move along the lists: what an access
+//! may do, and whether it is done, is told by six flags at the access itself, and nobody looks through the
+//! lists.
 #![tactic(auto)]
 
 mod access_list;

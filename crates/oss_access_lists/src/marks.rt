@@ -27,7 +27,8 @@ pub struct Marks {
 }
 
 impl Marks {
-    /// The flags as the bits of a number, from the lowest: `reads`, `joins`, `writes`, `given`, `done`, `clear`. The other bits are 0.
+    /// The flags as the bits of a number, from the lowest: `reads`, `joins`, `writes`, `given`, `done`,
+    /// `clear`. The other bits are 0.
     pub fn bits(self) -> u16
         ensures { result ≡ bits_of self }
     {
@@ -179,7 +180,8 @@ fn is_fold(m: Mode) -> bool
     }
 }
 
-/// Both are reductions by one operator. Their folds commute, so the join of the later one need not wait for the earlier one.
+/// Both are reductions by one operator. Their folds commute, so the join of the later one need not wait for the
+/// earlier one.
 fn same_fold(m: Mode, n: Mode) -> bool
     ensures { result ≡ Rattle.oss_access_lists.specs.Flags.same_fold m n }
 {

@@ -1,4 +1,5 @@
-//! Openings and gifts post flags, and a loop delivers them. Who waits is a chain through a table, so a post takes no memory.
+//! Openings and gifts post flags, and a loop delivers them. Who waits is a chain through a table, so a post
+//! takes no memory.
 
 ghost use Rattle.std.specs.Prelude.{◌≡◌, ◌<◌, ◌++◌, [], ◌∷◌, length, vec_capacity, false, true, IfOk, IsOk, OnOk, OnErr};
 ghost use Rattle.oss_model.specs.Rights.{covers};
@@ -23,7 +24,8 @@ fn number_at(all: &[usize], at: usize) -> usize
     }
 }
 
-/// Posts flags to an access, and puts it in front of those that wait, where nothing waited there. Answers who is in front.
+/// Posts flags to an access, and puts it in front of those that wait, where nothing waited there. Answers who
+/// is in front.
 fn post(
     stand: &[Marks],
     posted: &mut [Marks],
@@ -310,8 +312,12 @@ pub(crate) fn reserve(
     ensures stand { stand.new.items ≡ stand.old.items }
     ensures posted { posted.new.items ≡ posted.old.items }
     ensures behind { behind.new.items ≡ behind.old.items }
-    ensures ok { OnOk result ((length hangs.new.items < vec_capacity hangs.new) × (length stand.new.items < vec_capacity stand.new) × (length posted.new.items < vec_capacity posted.new) × (length behind.new.items < vec_capacity behind.new)) }
-    ensures sure { length hangs.old.items < vec_capacity hangs.old → length stand.old.items < vec_capacity stand.old → length posted.old.items < vec_capacity posted.old → length behind.old.items < vec_capacity behind.old → IsOk result }
+    ensures ok { OnOk result ((length hangs.new.items < vec_capacity hangs.new) ×
+        (length stand.new.items < vec_capacity stand.new) ×
+        (length posted.new.items < vec_capacity posted.new) × (length behind.new.items < vec_capacity behind.new)) }
+    ensures sure { length hangs.old.items < vec_capacity hangs.old →
+        length stand.old.items < vec_capacity stand.old → length posted.old.items < vec_capacity posted.old →
+        length behind.old.items < vec_capacity behind.old → IsOk result }
 {
     hangs.reserve(1)?;
     stand.reserve(1)?;
@@ -336,8 +342,11 @@ fn hang_on(
     ensures stand { OnOk result (stand.new.items ≡ stand.old.items ++ no_marks ∷ []) }
     ensures posted { OnOk result (posted.new.items ≡ posted.old.items ++ flags ∷ []) }
     ensures behind { OnOk result (behind.new.items ≡ behind.old.items ++ head ∷ []) }
-    ensures same { OnErr result ((hangs.new.items ≡ hangs.old.items) × (stand.new.items ≡ stand.old.items) × (posted.new.items ≡ posted.old.items) × (behind.new.items ≡ behind.old.items)) }
-    ensures sure { length hangs.old.items < vec_capacity hangs.old → length stand.old.items < vec_capacity stand.old → length posted.old.items < vec_capacity posted.old → length behind.old.items < vec_capacity behind.old → IsOk result }
+    ensures same { OnErr result ((hangs.new.items ≡ hangs.old.items) × (stand.new.items ≡ stand.old.items) ×
+        (posted.new.items ≡ posted.old.items) × (behind.new.items ≡ behind.old.items)) }
+    ensures sure { length hangs.old.items < vec_capacity hangs.old →
+        length stand.old.items < vec_capacity stand.old → length posted.old.items < vec_capacity posted.old →
+        length behind.old.items < vec_capacity behind.old → IsOk result }
 {
     reserve(hangs, stand, posted, behind)?;
     let at = hangs.len();
@@ -366,11 +375,16 @@ pub(crate) fn open(
     requires within { above < length hangs.old.items }
     requires held { (hang_at hangs.old.items above).gave ≡ false }
     requires covered { covers (hang_at hangs.old.items above).mode mode ≡ true }
-    ensures tables { IfOk result (λ to. AreTables hangs.new.items stand.new.items posted.new.items behind.new.items to) }
+    ensures tables { IfOk result (λ to. AreTables hangs.new.items stand.new.items posted.new.items
+        behind.new.items to) }
     ensures opened { OnOk result (hangs.new.items ≡ opened_in hangs.old.items above mode) }
-    ensures hung { OnOk result (IsHung (wires_of hangs.old.items) (wires_of hangs.new.items) above (length hangs.old.items)) }
-    ensures same { OnErr result ((hangs.new.items ≡ hangs.old.items) × (stand.new.items ≡ stand.old.items) × (posted.new.items ≡ posted.old.items) × (behind.new.items ≡ behind.old.items)) }
-    ensures sure { length hangs.old.items < vec_capacity hangs.old → length stand.old.items < vec_capacity stand.old → length posted.old.items < vec_capacity posted.old → length behind.old.items < vec_capacity behind.old → IsOk result }
+    ensures hung { OnOk result (IsHung (wires_of hangs.old.items) (wires_of hangs.new.items) above
+        (length hangs.old.items)) }
+    ensures same { OnErr result ((hangs.new.items ≡ hangs.old.items) × (stand.new.items ≡ stand.old.items) ×
+        (posted.new.items ≡ posted.old.items) × (behind.new.items ≡ behind.old.items)) }
+    ensures sure { length hangs.old.items < vec_capacity hangs.old →
+        length stand.old.items < vec_capacity stand.old → length posted.old.items < vec_capacity posted.old →
+        length behind.old.items < vec_capacity behind.old → IsOk result }
 {
     let at = hangs.len();
     let flags = first_flags(hangs.as_slice(), stand.as_slice(), above, mode);

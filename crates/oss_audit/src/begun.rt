@@ -57,7 +57,8 @@ impl Begun {
         })
     }
 
-    /// A task that this one created has ended: what it left unused is told, and what it has touched counts for this one too.
+    /// A task that this one created has ended: what it left unused is told, and what it has touched counts for
+    /// this one too.
     pub(crate) fn take(&mut self, alloc: Global, child: &mut Begun) -> Result<(), AllocError>
         ensures { OnOk result (IsTaken self.old child.old self.new) }
     {

@@ -12,7 +12,8 @@ use std::alloc::{AllocError, Global};
 /// A program has no cell from here on.
 pub(crate) const CELLS: u32 = 1_048_576;
 
-/// A set of cells. Neighbouring cells are kept as one range, so that a call costs what the ranges cost, however many cells they have.
+/// A set of cells. Neighbouring cells are kept as one range, so that a call costs what the ranges cost, however
+/// many cells they have.
 #[derive(Drop)]
 pub(crate) struct CellSet {
     cells: RangeMap<()>,

@@ -9,8 +9,9 @@ use oss_model::point_text;
 use oss_syntax::{Bytes, List};
 use std::alloc::{AllocError, Global};
 
-/// The text of what an audit tells: for each run a line `unused POINT L N`, where `N` cells from the cell `L` on are unused, and last a line `# unused M`
-/// with the number of cells of all lines. Each line ends with a newline. Want of memory is the one error.
+/// The text of what an audit tells: for each run a line `unused POINT L N`, where `N` cells from the cell `L`
+/// on are unused, and last a line `# unused M` with the number of cells of all lines. Each line ends with a
+/// newline. Want of memory is the one error.
 pub fn audit_lines(alloc: Global, unused: &List<Unused>) -> Result<Bytes, AllocError>
     ensures { IfOk result (λ text. text ≡ audit_text unused.now) }
 {

@@ -21,10 +21,12 @@ enum End {
     Fault(FaultKind, u32),
 }
 
-/// Runs a code sequentially, each task with fuel for so many ticks, and tells which cells the clauses of a task name that neither it nor a task below
-/// it touches (OmpSs-2, the task directive and its dependency clauses): a touch is a load, a store or a fold. The answer is that of the sequential run, and
-/// the list is exact where the run comes to its end; want of memory is the one other answer. A touch costs what the logarithm of the ranges costs
-/// that its task has touched, and the end of a task what its ranges do. Condition: the code has at most 1,048,576 cells.
+/// Runs a code sequentially, each task with fuel for so many ticks, and tells which cells the clauses of a task
+/// name that neither it nor a task below it touches (OmpSs-2, the task directive and its dependency clauses): a
+/// touch is a load, a store or a fold. The answer is that of the sequential run, and the list is exact where
+/// the run comes to its end; want of memory is the one other answer. A touch costs what the logarithm of the
+/// ranges costs that its task has touched, and the end of a task what its ranges do. Condition: the code has at
+/// most 1,048,576 cells.
 pub fn audit(alloc: Global, code: &Code, fuel: u32) -> Result<AuditRun, AllocError>
     requires { length code.now.first ≤ 1048576 }
     ensures { IfOk result (λ run. IsAuditOf code.now fuel run) }

@@ -10,8 +10,8 @@ use oss_model::Point;
 use oss_syntax::Range;
 use std::alloc::{AllocError, Global};
 
-/// The cells that are declared and were not touched, as longest runs of neighbouring cells, each with this point. It costs what the ranges of the
-/// two sets do.
+/// The cells that are declared and were not touched, as longest runs of neighbouring cells, each with this
+/// point. It costs what the ranges of the two sets do.
 pub(crate) fn unused_runs(
     alloc: Global,
     point: &Point,
@@ -36,7 +36,8 @@ pub(crate) fn unused_runs(
     Ok(told)
 }
 
-/// Whether the cell `from` is declared and was not touched, and the cell up to which it is so with all cells: `to` at most.
+/// Whether the cell `from` is declared and was not touched, and the cell up to which it is so with all cells:
+/// `to` at most.
 fn left_run(declared: &CellSet, touched: &CellSet, from: u32, to: u32) -> (bool, u32)
     requires { from < to }
     ensures alike { (c : ℕ) → from ≤ c → c < result.1 → is_left declared.now touched.now c ≡ result.0 }

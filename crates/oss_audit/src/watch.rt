@@ -1,4 +1,5 @@
-//! What follows the acts of a run: the tasks on the way to the one that acts, and what is told of those that have ended.
+//! What follows the acts of a run: the tasks on the way to the one that acts, and what is told of those that
+//! have ended.
 
 ghost use Rattle.std.specs.Prelude.{◌≡◌, ◌<◌, [], length, IfOk, OnOk};
 
@@ -33,7 +34,8 @@ impl Watch {
         })
     }
 
-    /// An act of the task that acts has happened. The cells that it touches are noted for that task alone; who is above learns of them at its end.
+    /// An act of the task that acts has happened. The cells that it touches are noted for that task alone; who
+    /// is above learns of them at its end.
     pub(crate) fn note(&mut self, act: &Act) -> Result<(), AllocError>
         requires { HasRoom act.now self.old.top }
         ensures { OnOk result (IsNoted act.now self.old self.new) }

@@ -1,4 +1,5 @@
-//! What holds of every audit: a law, carried by a function that does nothing. A crate above calls the function, and then has the law.
+//! What holds of every audit: a law, carried by a function that does nothing. A crate above calls the function,
+//! and then has the law.
 
 ghost use Rattle.oss_audit_laws.specs.Claims.{AuditsAlike, AuditsAreOne};
 

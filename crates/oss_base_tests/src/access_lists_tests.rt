@@ -11,7 +11,8 @@ use std::test::Fail;
 /// How many accesses hang in the chain.
 const LENGTH: usize = 1_000;
 
-/// The flags of an access as bits, the lowest first: it may read, join, write; it is given up, done; all before it is done.
+/// The flags of an access as bits, the lowest first: it may read, join, write; it is given up, done; all before
+/// it is done.
 type Bits = u16;
 
 /// An access of this mode covers each one of a child.

@@ -1,5 +1,6 @@
-//! What no clause says: that each public call answers where there is memory. The faults that are expected are those of the rules,
-//! worked by hand. Each context dies by a call of `drop`: at the end of a function the proof would take its maps apart anew.
+//! What no clause says: that each public call answers where there is memory. The faults that are expected are
+//! those of the rules, worked by hand. Each context dies by a call of `drop`: at the end of a function the
+//! proof would take its maps apart anew.
 
 ghost use Rattle.std.specs.Prelude.{◌<◌, ◌≤◌};
 

@@ -1,5 +1,6 @@
-//! What no clause says of the crates below the parser and the runs, tried by their public calls: that each answers where there is memory, printed texts, and answers that were worked out by hand.
-//! The tests have a crate of their own, since a crate with tests is proved once without them and once with them.
+//! What no clause says of the crates below the parser and the runs, tried by their public calls: that each
+//! answers where there is memory, printed texts, and answers that were worked out by hand. The tests have a
+//! crate of their own, since a crate with tests is proved once without them and once with them.
 #![tactic(auto)]
 
 #[cfg(test)]

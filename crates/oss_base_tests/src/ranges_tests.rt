@@ -1,5 +1,5 @@
-//! What no clause says: that a map and a plain vector of cells answer alike over many calls, and that each call answers with
-//! ample memory.
+//! What no clause says: that a map and a plain vector of cells answer alike over many calls, and that each call
+//! answers with ample memory.
 
 ghost use Rattle.std.specs.Prelude.{◌<◌};
 

@@ -40,7 +40,8 @@ fn give(rt: &impl Abort, line: &mut AccessList, at: usize) {
     line.settle();
 }
 
-/// The flags of an access as bits, the lowest first: it may read, join, write; it is given up, done; all before it is done.
+/// The flags of an access as bits, the lowest first: it may read, join, write; it is given up, done; all before
+/// it is done.
 fn flags(rt: &impl Abort, line: &AccessList, at: usize) -> u16 {
     assert!(rt; line.is_settled());
     assert!(rt; at != 0);

@@ -1,4 +1,5 @@
-//! The worked examples of the definitions: that these say what is meant, and that each call answers where there is memory.
+//! The worked examples of the definitions: that these say what is meant, and that each call answers where there
+//! is memory.
 
 use oss_sections::{Base, Extent, Part, SectionRefused, add_cell, element_place, section_ranges};
 use oss_syntax::{FaultKind, List, Range};

@@ -1,4 +1,5 @@
-//! What operators make of values: those of the table are what a C compiler made of the same numbers, with arithmetic that wraps.
+//! What operators make of values: those of the table are what a C compiler made of the same numbers, with
+//! arithmetic that wraps.
 
 use oss_meaning::Value;
 use oss_syntax::{BinOp, FaultKind, Kind, NumKind, UnOp};

@@ -1,4 +1,5 @@
-//! Each call on a net of few entries, with the words that it must leave, worked by hand from the bits; and threads that give up entries at once.
+//! Each call on a net of few entries, with the words that it must leave, worked by hand from the bits; and
+//! threads that give up entries at once.
 
 mod rows;
 mod threads;

@@ -50,7 +50,8 @@ impl Below {
 
     /// The newest one and another change places, where there is one. It takes no memory.
     pub(crate) fn exchange(&mut self, other: &mut Frame)
-        ensures { (rest : List Framed) (last : Framed) → self.old ≡ rest ++ last ∷ [] → (self.new ≡ rest ++ other.old ∷ []) × (other.new ≡ last) }
+        ensures { (rest : List Framed) (last : Framed) → self.old ≡ rest ++ last ∷ [] →
+            (self.new ≡ rest ++ other.old ∷ []) × (other.new ≡ last) }
     {
         match self.frames.pop() {
             Some(last) => {

@@ -28,9 +28,9 @@ use oss_syntax::{Access, List};
 use std::alloc::{AllocError, Global};
 use std::mem;
 
-/// A body: one task of a program, and the tasks that it includes (OmpSs-2, execution model; the task directive, its clause `final`). It
-/// tells the act that stands next, and goes on behind it. Of what it has done nothing is kept: it costs the contexts and the
-/// machines of its tasks, and the slots of its own task.
+/// A body: one task of a program, and the tasks that it includes (OmpSs-2, execution model; the task directive,
+/// its clause `final`). It tells the act that stands next, and goes on behind it. Of what it has done nothing
+/// is kept: it costs the contexts and the machines of its tasks, and the slots of its own task.
 ///
 /// Contracts say what holds for each start and each list of answers of which this is the body (`IsBody`).
 pub struct Body {
@@ -67,8 +67,9 @@ impl Body {
     ghost use Rattle.oss_body.specs.Kept.{kept};
     ghost use Rattle.oss_body.specs.Relation.{HasStarted, IsBody, has_begun, has_wait, is_over, is_some, pending_of, released_by};
 
-    /// The body of a task at its start: with this order, in this context, at this point. The code is the one in which the order was asked
-    /// for. Condition: the point has one number more than there are tasks above the task, which are 64 at most.
+    /// The body of a task at its start: with this order, in this context, at this point. The code is the one in
+    /// which the order was asked for. Condition: the point has one number more than there are tasks above the
+    /// task, which are 64 at most.
     pub fn start(
         alloc: Global,
         code: &Code,
@@ -78,7 +79,8 @@ impl Body {
     ) -> Result<Body, AllocError>
         requires numbers { length point ≡ suc context.depth }
         requires depth { context.depth ≤ 64 }
-        ensures { IfOk result (λ body. (path : Items ℕ) → point ≡ written path → IsBody code.now (record { order = meant_order order.now; context = context; path = path }) [] body) }
+        ensures { IfOk result (λ body. (path : Items ℕ) → point ≡ written path →
+            IsBody code.now (record { order = meant_order order.now; context = context; path = path }) [] body) }
     {
         let own = Own::new(alloc, order, &context)?;
         let top = Frame::new(alloc, code, order, Place::new(context, point))?;
@@ -87,7 +89,8 @@ impl Body {
 
     /// The body of a task that has done nothing.
     fn begin(alloc: Global, code: &Code, own: Own, top: Frame) -> Result<Body, AllocError>
-        ensures { IfOk result (λ body. (start : Start CodeScript) → HasStarted start own → top ≡ kept code.now (start_frame (asks code.now) start) → IsBody code.now start [] body) }
+        ensures { IfOk result (λ body. (start : Start CodeScript) → HasStarted start own →
+            top ≡ kept code.now (start_frame (asks code.now) start) → IsBody code.now start [] body) }
     {
         let mut top = top;
         let mut key = None;
@@ -110,19 +113,24 @@ impl Body {
     pub fn pending(&self) -> &Act
         requires running { is_over self.now ≡ false }
         ensures kept { result.now ≡ pending_of self.now }
-        ensures act { (code : CodeParts) (start : Start CodeScript) (found : Items ℕ) → IsBody code start found self.now → act_seen result.now ≡ stage_act (asks code) start found }
+        ensures act { (code : CodeParts) (start : Start CodeScript) (found : Items ℕ) →
+            IsBody code start found self.now → act_seen result.now ≡ stage_act (asks code) start found }
     {
         &self.act
     }
 
-    /// The pending act has happened, and a load found this number, which else says nothing. The code is the one with which the body was
-    /// started. Where memory is wanting the body stays: it has the same start, the same answers and the same pending act, and the call may be
-    /// made again. Condition: the body has not ended, and the act is no fault.
+    /// The pending act has happened, and a load found this number, which else says nothing. The code is the one
+    /// with which the body was started. Where memory is wanting the body stays: it has the same start, the same
+    /// answers and the same pending act, and the call may be made again. Condition: the body has not ended, and
+    /// the act is no fault.
     pub fn advance(&mut self, code: &Code, loaded: u64) -> Result<(), AllocError>
         requires running { is_over self.old ≡ false }
         requires goes { goes_on (pending_of self.old) ≡ true }
-        ensures ok { OnOk result ((start : Start CodeScript) (found : Items ℕ) → IsBody code.now start found self.old → IsBody code.now start (answer_to (act_seen (pending_of self.old)) loaded ∷ found) self.new) }
-        ensures stays { OnErr result ((parts : CodeParts) (start : Start CodeScript) (found : Items ℕ) → IsBody parts start found self.old → IsBody parts start found self.new) }
+        ensures ok { OnOk result ((start : Start CodeScript) (found : Items ℕ) →
+            IsBody code.now start found self.old → IsBody code.now start
+            (answer_to (act_seen (pending_of self.old)) loaded ∷ found) self.new) }
+        ensures stays { OnErr result ((parts : CodeParts) (start : Start CodeScript) (found : Items ℕ) →
+            IsBody parts start found self.old → IsBody parts start found self.new) }
         ensures pending { OnErr result (pending_of self.new ≡ pending_of self.old) }
         ensures running { OnErr result (is_over self.new ≡ false) }
     {
@@ -145,17 +153,22 @@ impl Body {
     /// The end of the body's own task is done.
     pub fn ended(&self) -> bool
         ensures kept { result ≡ is_over self.now }
-        ensures ended { (code : CodeParts) (start : Start CodeScript) (found : Items ℕ) → IsBody code start found self.now → result ≡ (stack_from (asks code) start found).ended }
+        ensures ended { (code : CodeParts) (start : Start CodeScript) (found : Items ℕ) →
+            IsBody code start found self.now → result ≡ (stack_from (asks code) start found).ended }
     {
         self.tasks.ended
     }
 
-    /// The body, at its start, of the task that the pending act creates. The code is the one with which this body was started. Condition: the body
-    /// has not ended, and the act is the creation of a task that is not included.
+    /// The body, at its start, of the task that the pending act creates. The code is the one with which this
+    /// body was started. Condition: the body has not ended, and the act is the creation of a task that is not
+    /// included.
     pub fn child(&self, code: &Code) -> Result<Body, AllocError>
         requires running { is_over self.now ≡ false }
         requires creates { creates (pending_of self.now) ≡ true }
-        ensures { IfOk result (λ child. (start : Start CodeScript) (found : Items ℕ) (order : Order CodeScript) → IsBody code.now start found self.now → stage_act (asks code.now) start found ≡ Created order false → IsBody code.now (child_start (stack_from (asks code.now) start found).base order) [] child) }
+        ensures { IfOk result (λ child. (start : Start CodeScript) (found : Items ℕ)
+            (order : Order CodeScript) → IsBody code.now start found self.now →
+            stage_act (asks code.now) start found ≡ Created order false →
+            IsBody code.now (child_start (stack_from (asks code.now) start found).base order) [] child) }
     {
         match &self.act {
             Act::Create { creation, .. } => {
@@ -178,41 +191,52 @@ impl Body {
         }
     }
 
-    /// The accesses of the task, as it started with them: they give its rights and the marks of the cells that it may write, each cell
-    /// once, in rising order and as few as can be.
+    /// The accesses of the task, as it started with them: they give its rights and the marks of the cells that
+    /// it may write, each cell once, in rising order and as few as can be.
     pub fn accesses(&self) -> Result<List<Access>, AllocError>
-        ensures rights { IfOk result (λ accesses. (code : CodeParts) (start : Start CodeScript) (found : Items ℕ) → IsBody code start found self.now → (c : ℕ) → right_from false accesses c ≡ held_right (right_of start.context c)) }
-        ensures marks { IfOk result (λ accesses. (code : CodeParts) (start : Start CodeScript) (found : Items ℕ) → IsBody code start found self.now → (c : ℕ) → mark_from false accesses c ≡ held_mark (right_of start.context c) (mark_of start.context c)) }
+        ensures rights { IfOk result (λ accesses. (code : CodeParts) (start : Start CodeScript)
+            (found : Items ℕ) → IsBody code start found self.now → (c : ℕ) →
+            right_from false accesses c ≡ held_right (right_of start.context c)) }
+        ensures marks { IfOk result (λ accesses. (code : CodeParts) (start : Start CodeScript)
+            (found : Items ℕ) → IsBody code start found self.now → (c : ℕ) →
+            mark_from false accesses c ≡ held_mark (right_of start.context c) (mark_of start.context c)) }
         ensures rising { IfOk result (λ accesses. IsRising accesses) }
     {
         self.own.context.accesses()
     }
 
-    /// What is in the slot of a cell of which the task has the right of a strong reduction: the fold of all that was folded into it. For every other
-    /// cell the number says nothing. It takes no memory.
+    /// What is in the slot of a cell of which the task has the right of a strong reduction: the fold of all
+    /// that was folded into it. For every other cell the number says nothing. It takes no memory.
     pub fn slot(&self, cell: u32) -> u64
-        ensures { (code : CodeParts) (start : Start CodeScript) (found : Items ℕ) (op : Op) → IsBody code start found self.now → right_of start.context cell ≡ Holds (Fold op) true → result ≡ slot_of (asks code) start cell op found }
+        ensures { (code : CodeParts) (start : Start CodeScript) (found : Items ℕ) (op : Op) →
+            IsBody code start found self.now → right_of start.context cell ≡ Holds (Fold op) true →
+            result ≡ slot_of (asks code) start cell op found }
     {
         self.own.slot(cell)
     }
 
     /// The point of the task.
     pub fn point(&self) -> &Point
-        ensures { (code : CodeParts) (start : Start CodeScript) (found : Items ℕ) → IsBody code start found self.now → result.now ≡ written start.path }
+        ensures { (code : CodeParts) (start : Start CodeScript) (found : Items ℕ) →
+            IsBody code start found self.now → result.now ≡ written start.path }
     {
         self.tasks.own_place().path()
     }
 
-    /// Whether the task has released a cell. A task that it includes has not: that releases a right of its own. It takes no memory.
+    /// Whether the task has released a cell. A task that it includes has not: that releases a right of its own.
+    /// It takes no memory.
     pub fn has_released(&self, cell: u32) -> bool
         ensures kept { result ≡ released_by self.now cell }
-        ensures released { (code : CodeParts) (start : Start CodeScript) (found : Items ℕ) → IsBody code start found self.now → result ≡ is_released (right_of (stack_from (asks code) start found).base.context cell) }
+        ensures released { (code : CodeParts) (start : Start CodeScript) (found : Items ℕ) →
+            IsBody code start found self.now → result ≡
+            is_released (right_of (stack_from (asks code) start found).base.context cell) }
     {
         self.tasks.own_place().context().has_released(cell)
     }
 
-    /// A run of cells from one on, up to another: whether the task has released each of them, or none, as `has_released` tells, and where the run
-    /// ends. It costs what the ranges that the task has do, and takes no memory.
+    /// A run of cells from one on, up to another: whether the task has released each of them, or none, as
+    /// `has_released` tells, and where the run ends. It costs what the ranges that the task has do, and takes
+    /// no memory.
     pub fn released_run(&self, from: u32, to: u32) -> (bool, u32)
         requires { from < to }
         ensures alike { (cell : ℕ) → from ≤ cell → cell < result.1 → released_by self.now cell ≡ result.0 }
@@ -225,14 +249,16 @@ impl Body {
     /// Whether the task has the clause `wait`.
     pub fn waits(&self) -> bool
         ensures kept { result ≡ has_wait self.now }
-        ensures wait { (code : CodeParts) (start : Start CodeScript) (found : Items ℕ) → IsBody code start found self.now → result ≡ start.order.wait }
+        ensures wait { (code : CodeParts) (start : Start CodeScript) (found : Items ℕ) →
+            IsBody code start found self.now → result ≡ start.order.wait }
     {
         self.own.wait
     }
 
     /// The priority of the task. It orders nothing that the program can see.
     pub fn priority(&self) -> i64
-        ensures { (code : CodeParts) (start : Start CodeScript) (found : Items ℕ) → IsBody code start found self.now → result ≡ start.order.priority }
+        ensures { (code : CodeParts) (start : Start CodeScript) (found : Items ℕ) →
+            IsBody code start found self.now → result ≡ start.order.priority }
     {
         self.own.priority
     }
@@ -240,7 +266,8 @@ impl Body {
     /// Whether an act of the body is done.
     pub fn begun(&self) -> bool
         ensures kept { result ≡ has_begun self.now }
-        ensures begun { (code : CodeParts) (start : Start CodeScript) (found : Items ℕ) → IsBody code start found self.now → result ≡ is_some found }
+        ensures begun { (code : CodeParts) (start : Start CodeScript) (found : Items ℕ) →
+            IsBody code start found self.now → result ≡ is_some found }
     {
         self.begun
     }

@@ -5,8 +5,8 @@ use oss_judge::Given;
 use oss_model::FaultKind;
 use oss_syntax::{Access, Boxed, List};
 
-/// An act that is made before it is known whether the judge lets it pass. All that it takes memory for is there, so the judge can be asked
-/// behind the last call that may want memory.
+/// An act that is made before it is known whether the judge lets it pass. All that it takes memory for is
+/// there, so the judge can be asked behind the last call that may want memory.
 #[derive(Drop)]
 pub(crate) enum Draft {
     /// An act that is neither a creation nor a release.

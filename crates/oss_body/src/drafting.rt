@@ -22,9 +22,9 @@ use oss_syntax::{Access, Boxed, Bytes, List, Range};
 use std::alloc::{AllocError, Global};
 
 impl Place {
-    /// The draft of an ask of the task, which no other ask passes, for the time when the task has created so many. `own` has the rights with
-    /// which the body's own task started, and `included` says that another task acts. Until then the task may touch cells, lend them, wait and
-    /// release.
+    /// The draft of an ask of the task, which no other ask passes, for the time when the task has created so
+    /// many. `own` has the rights with which the body's own task started, and `included` says that another task
+    /// acts. Until then the task may touch cells, lend them, wait and release.
     pub(crate) fn draft(
         &self,
         alloc: Global,
@@ -34,7 +34,10 @@ impl Place {
         created: u32,
     ) -> Result<Draft, AllocError>
         requires few { created ≤ 65535 }
-        ensures means { IfOk result (λ draft. (f : Meant CodeScript) (line : ℕ) → Alike self.now.context f.context → self.now.path ≡ written f.path → f.context.created ≡ created → act_of_ask (right_of own.now) included f (meant_ask ask.now) line ≡ judged_act f line (draft_fault f.context draft) (drafted draft)) }
+        ensures means { IfOk result (λ draft. (f : Meant CodeScript) (line : ℕ) →
+            Alike self.now.context f.context → self.now.path ≡ written f.path → f.context.created ≡ created →
+            act_of_ask (right_of own.now) included f (meant_ask ask.now) line ≡ judged_act f line
+            (draft_fault f.context draft) (drafted draft)) }
         ensures right { IfOk result (λ draft. IsDraft self.now.context draft) }
     {
         match ask {
@@ -48,7 +51,9 @@ impl Place {
 
     /// A creation, with the context of the new task. A task that stands too deep makes none.
     fn creation(&self, alloc: Global, order: &TaskOrder) -> Result<Draft, AllocError>
-        ensures means { IfOk result (λ draft. (f : Meant CodeScript) (line : ℕ) → Alike self.now.context f.context → act_of_ask (λ c. NoRight) false f (Create (meant_order order.now)) line ≡ judged_act f line (draft_fault f.context draft) (drafted draft)) }
+        ensures means { IfOk result (λ draft. (f : Meant CodeScript) (line : ℕ) →
+            Alike self.now.context f.context → act_of_ask (λ c. NoRight) false f
+            (Create (meant_order order.now)) line ≡ judged_act f line (draft_fault f.context draft) (drafted draft)) }
         ensures right { IfOk result (λ draft. IsDraft self.now.context draft) }
     {
         if self.context.depth() >= 64 {
@@ -69,7 +74,10 @@ impl Place {
     /// A print, with its key.
     fn print(&self, alloc: Global, text: &Bytes, created: u32) -> Result<Draft, AllocError>
         requires few { created ≤ 65535 }
-        ensures means { IfOk result (λ draft. (f : Meant CodeScript) (line : ℕ) → self.now.path ≡ written f.path → f.context.created ≡ created → act_of_ask (λ c. NoRight) false f (Print text.now) line ≡ judged_act f line (draft_fault f.context draft) (drafted draft)) }
+        ensures means { IfOk result (λ draft. (f : Meant CodeScript) (line : ℕ) →
+            self.now.path ≡ written f.path → f.context.created ≡ created →
+            act_of_ask (λ c. NoRight) false f (Print text.now) line ≡ judged_act f line
+            (draft_fault f.context draft) (drafted draft)) }
         ensures right { IfOk result (λ draft. IsDraft self.now.context draft) }
     {
         let text = Bytes::from_slice(alloc, text.as_slice())?;
@@ -81,7 +89,9 @@ impl Place {
 /// The draft of an ask for which no memory is needed.
 fn draft_at_once(own: &Context, ask: &Ask) -> Draft
     requires small { needs_memory ask.now ≡ false }
-    ensures means { (included : Bool) (f : Meant CodeScript) (line : ℕ) → act_of_ask (right_of own.now) included f (meant_ask ask.now) line ≡ judged_act f line (draft_fault f.context result) (drafted result) }
+    ensures means { (included : Bool) (f : Meant CodeScript) (line : ℕ) →
+        act_of_ask (right_of own.now) included f (meant_ask ask.now) line ≡ judged_act f line
+        (draft_fault f.context result) (drafted result) }
     ensures right { (x : _) → IsDraft x result }
 {
     match ask {
@@ -105,7 +115,9 @@ fn draft_at_once(own: &Context, ask: &Ask) -> Draft
 
 /// A wait for cells.
 fn wait_on(alloc: Global, ranges: &List<Range>) -> Result<Draft, AllocError>
-    ensures means { IfOk result (λ draft. (f : Meant CodeScript) (line : ℕ) → act_of_ask (λ c. NoRight) false f (WaitOn (declared_on waited_for ranges.now)) line ≡ judged_act f line (draft_fault f.context draft) (drafted draft)) }
+    ensures means { IfOk result (λ draft. (f : Meant CodeScript) (line : ℕ) →
+        act_of_ask (λ c. NoRight) false f (WaitOn (declared_on waited_for ranges.now)) line ≡ judged_act f line
+        (draft_fault f.context draft) (drafted draft)) }
     ensures right { IfOk result (λ draft. (x : _) → IsDraft x draft) }
 {
     let ranges = copy_items(alloc, ranges.as_slice())?;
@@ -114,7 +126,9 @@ fn wait_on(alloc: Global, ranges: &List<Range>) -> Result<Draft, AllocError>
 
 /// A release, of an included task or not.
 fn release(alloc: Global, clauses: &List<Access>, included: bool) -> Result<Draft, AllocError>
-    ensures means { IfOk result (λ draft. (f : Meant CodeScript) (line : ℕ) → act_of_ask (λ c. NoRight) included f (Release clauses.now) line ≡ judged_act f line (draft_fault f.context draft) (drafted draft)) }
+    ensures means { IfOk result (λ draft. (f : Meant CodeScript) (line : ℕ) →
+        act_of_ask (λ c. NoRight) included f (Release clauses.now) line ≡ judged_act f line
+        (draft_fault f.context draft) (drafted draft)) }
     ensures right { IfOk result (λ draft. (x : _) → IsDraft x draft) }
 {
     let given = Given::of(alloc, clauses, false)?;

@@ -60,7 +60,11 @@ impl Frame {
         order: &TaskOrder,
         place: Place,
     ) -> Result<Frame, AllocError>
-        ensures { IfOk result (λ frame. frame ≡ record { machine = machine_start code.now (script_of order.now); place = place; awaits = false }) }
+        ensures { IfOk result (λ frame. frame ≡ record {
+          machine = machine_start code.now (script_of order.now);
+          place = place;
+          awaits = false;
+        }) }
     {
         let machine = Machine::new(alloc, code, order)?;
         Ok(Frame {
@@ -77,8 +81,9 @@ impl Frame {
         &self.place
     }
 
-    /// Passes what is no act, and tells the act that stands next, or the fault. `own` has the rights with which the body's own task started, and
-    /// `included` says that this is another task. A key that is kept is that of the task. Where memory is wanting the task stays.
+    /// Passes what is no act, and tells the act that stands next, or the fault. `own` has the rights with which
+    /// the body's own task started, and `included` says that this is another task. A key that is kept is that
+    /// of the task. Where memory is wanting the task stays.
     pub(crate) fn next(
         &mut self,
         alloc: Global,
@@ -88,8 +93,11 @@ impl Frame {
         key: &mut Option<Point>,
     ) -> Result<Act, AllocError>
         requires key { IsKey key.old self.old.place }
-        ensures frame { OnOk result ((f : Meant CodeScript) → self.old ≡ kept code.now f → self.new ≡ kept code.now (settled_frame (asks code.now) f)) }
-        ensures act { IfOk result (λ act. (f : Meant CodeScript) → self.old ≡ kept code.now f → act_seen act ≡ frame_act (asks code.now) (right_of own.now) included (settled_frame (asks code.now) f) (settled_frame (asks code.now) f).awaits) }
+        ensures frame { OnOk result ((f : Meant CodeScript) → self.old ≡ kept code.now f →
+            self.new ≡ kept code.now (settled_frame (asks code.now) f)) }
+        ensures act { IfOk result (λ act. (f : Meant CodeScript) → self.old ≡ kept code.now f →
+            act_seen act ≡ frame_act (asks code.now) (right_of own.now) included
+            (settled_frame (asks code.now) f) (settled_frame (asks code.now) f).awaits) }
         ensures passed { IfOk result (λ act. passed act self.new.place.context ≡ true) }
         ensures child { IfOk result (λ act. HasContext self.new.place.context act) }
         ensures key { OnOk result (IsKey key.new self.new.place) }
@@ -121,7 +129,8 @@ impl Frame {
         }
     }
 
-    /// The same where nothing wants memory: the act is a tick or a touch, and so is the next one, or that is a fault. Otherwise nothing changes.
+    /// The same where nothing wants memory: the act is a tick or a touch, and so is the next one, or that is a
+    /// fault. Otherwise nothing changes.
     fn follow_at_once(
         &mut self,
         code: &Code,
@@ -131,8 +140,16 @@ impl Frame {
     ) -> Option<Act>
         requires passed { passed act.now self.old.place.context ≡ true }
         requires key { IsKey key.old self.old.place }
-        ensures frame { (next : Act) → result ≡ Some next → (f : Meant CodeScript) → self.old ≡ kept code.now f → HasContext f.context act.now → self.new ≡ kept code.now (settled_frame (asks code.now) (frame_after (act_seen act.now) (answer_to (act_seen act.now) loaded) f)) }
-        ensures act { (next : Act) → result ≡ Some next → (slots : ℕ → Right) (included : Bool) (f : Meant CodeScript) → self.old ≡ kept code.now f → HasContext f.context act.now → act_seen next ≡ frame_act (asks code.now) slots included (settled_frame (asks code.now) (frame_after (act_seen act.now) (answer_to (act_seen act.now) loaded) f)) (settled_frame (asks code.now) (frame_after (act_seen act.now) (answer_to (act_seen act.now) loaded) f)).awaits }
+        ensures frame { (next : Act) → result ≡ Some next → (f : Meant CodeScript) →
+            self.old ≡ kept code.now f → HasContext f.context act.now →
+            self.new ≡ kept code.now (settled_frame (asks code.now)
+            (frame_after (act_seen act.now) (answer_to (act_seen act.now) loaded) f)) }
+        ensures act { (next : Act) → result ≡ Some next →
+            (slots : ℕ → Right) (included : Bool) (f : Meant CodeScript) → self.old ≡ kept code.now f →
+            HasContext f.context act.now → act_seen next ≡ frame_act (asks code.now) slots included
+            (settled_frame (asks code.now) (frame_after (act_seen act.now) (answer_to (act_seen act.now) loaded)
+            f)) (settled_frame (asks code.now) (frame_after (act_seen act.now)
+            (answer_to (act_seen act.now) loaded) f)).awaits }
         ensures passed { (next : Act) → result ≡ Some next → passed next self.new.place.context ≡ true }
         ensures child { (next : Act) → result ≡ Some next → HasContext self.new.place.context next }
         ensures key { (next : Act) → result ≡ Some next → IsKey key.new self.new.place }
@@ -152,8 +169,9 @@ impl Frame {
         )
     }
 
-    /// The act has happened, which leaves the task the one that acts, and a load found this value: the task goes on, and this tells the act that stands
-    /// next, as `next` does. Where memory is wanting the task stays.
+    /// The act has happened, which leaves the task the one that acts, and a load found this value: the task
+    /// goes on, and this tells the act that stands next, as `next` does. Where memory is wanting the task
+    /// stays.
     pub(crate) fn follow(
         &mut self,
         alloc: Global,
@@ -166,8 +184,15 @@ impl Frame {
     ) -> Result<Act, AllocError>
         requires passed { passed act.now self.old.place.context ≡ true }
         requires key { IsKey key.old self.old.place }
-        ensures frame { OnOk result ((f : Meant CodeScript) → self.old ≡ kept code.now f → HasContext f.context act.now → self.new ≡ kept code.now (settled_frame (asks code.now) (frame_after (act_seen act.now) (answer_to (act_seen act.now) loaded) f))) }
-        ensures act { IfOk result (λ next. (f : Meant CodeScript) → self.old ≡ kept code.now f → HasContext f.context act.now → act_seen next ≡ frame_act (asks code.now) (right_of own.now) included (settled_frame (asks code.now) (frame_after (act_seen act.now) (answer_to (act_seen act.now) loaded) f)) (settled_frame (asks code.now) (frame_after (act_seen act.now) (answer_to (act_seen act.now) loaded) f)).awaits) }
+        ensures frame { OnOk result ((f : Meant CodeScript) → self.old ≡ kept code.now f →
+            HasContext f.context act.now → self.new ≡
+            kept code.now (settled_frame (asks code.now)
+            (frame_after (act_seen act.now) (answer_to (act_seen act.now) loaded) f))) }
+        ensures act { IfOk result (λ next. (f : Meant CodeScript) → self.old ≡ kept code.now f →
+            HasContext f.context act.now → act_seen next ≡ frame_act (asks code.now) (right_of own.now) included
+            (settled_frame (asks code.now) (frame_after (act_seen act.now) (answer_to (act_seen act.now) loaded)
+            f)) (settled_frame (asks code.now) (frame_after (act_seen act.now)
+            (answer_to (act_seen act.now) loaded) f)).awaits) }
         ensures passed { IfOk result (λ next. passed next self.new.place.context ≡ true) }
         ensures child { IfOk result (λ next. HasContext self.new.place.context next) }
         ensures key { OnOk result (IsKey key.new self.new.place) }
@@ -193,8 +218,15 @@ impl Frame {
     ) -> Result<Act, AllocError>
         requires passed { passed act.now self.old.place.context ≡ true }
         requires key { IsKey key.old self.old.place }
-        ensures frame { OnOk result ((f : Meant CodeScript) → self.old ≡ kept code.now f → HasContext f.context act.now → self.new ≡ kept code.now (settled_frame (asks code.now) (frame_after (act_seen act.now) (answer_to (act_seen act.now) loaded) f))) }
-        ensures act { IfOk result (λ next. (f : Meant CodeScript) → self.old ≡ kept code.now f → HasContext f.context act.now → act_seen next ≡ frame_act (asks code.now) (right_of own.now) included (settled_frame (asks code.now) (frame_after (act_seen act.now) (answer_to (act_seen act.now) loaded) f)) (settled_frame (asks code.now) (frame_after (act_seen act.now) (answer_to (act_seen act.now) loaded) f)).awaits) }
+        ensures frame { OnOk result ((f : Meant CodeScript) → self.old ≡ kept code.now f →
+            HasContext f.context act.now → self.new ≡
+            kept code.now (settled_frame (asks code.now)
+            (frame_after (act_seen act.now) (answer_to (act_seen act.now) loaded) f))) }
+        ensures act { IfOk result (λ next. (f : Meant CodeScript) → self.old ≡ kept code.now f →
+            HasContext f.context act.now → act_seen next ≡ frame_act (asks code.now) (right_of own.now) included
+            (settled_frame (asks code.now) (frame_after (act_seen act.now) (answer_to (act_seen act.now) loaded)
+            f)) (settled_frame (asks code.now) (frame_after (act_seen act.now)
+            (answer_to (act_seen act.now) loaded) f)).awaits) }
         ensures passed { IfOk result (λ next. passed next self.new.place.context ≡ true) }
         ensures child { IfOk result (λ next. HasContext self.new.place.context next) }
         ensures key { OnOk result (IsKey key.new self.new.place) }
@@ -232,10 +264,13 @@ impl Frame {
         }
     }
 
-    /// The creation of a task has happened that is included: the task goes on to what it asks behind it. Where memory is wanting it stays.
+    /// The creation of a task has happened that is included: the task goes on to what it asks behind it. Where
+    /// memory is wanting it stays.
     pub(crate) fn include(&mut self, code: &Code, creation: &Creation) -> Result<(), AllocError>
         requires { create_fault self.old.place.context ≡ None }
-        ensures ok { OnOk result ((f : Meant CodeScript) → self.old ≡ kept code.now f → creation.now.context ≡ child_context f.context creation.now.order.accesses creation.now.order.last → self.new ≡ kept code.now (including_frame (meant_order creation.now.order) f)) }
+        ensures ok { OnOk result ((f : Meant CodeScript) → self.old ≡ kept code.now f →
+            creation.now.context ≡ child_context f.context creation.now.order.accesses creation.now.order.last →
+            self.new ≡ kept code.now (including_frame (meant_order creation.now.order) f)) }
         ensures err { OnErr result (self.new ≡ self.old) }
     {
         match look_at_included(&mut self.machine, &mut self.place, code, creation) {
@@ -259,7 +294,9 @@ impl Frame {
     ) -> Result<Frame, AllocError>
         requires passed { create_fault self.now.place.context ≡ None }
         requires depth { creation.now.context.depth ≡ suc self.now.place.context.depth }
-        ensures { IfOk result (λ child. (f : Meant CodeScript) → self.now ≡ kept code.now f → creation.now.context ≡ child_context f.context creation.now.order.accesses creation.now.order.last → child ≡ kept code.now (child_frame f (meant_order creation.now.order))) }
+        ensures { IfOk result (λ child. (f : Meant CodeScript) → self.now ≡ kept code.now f →
+            creation.now.context ≡ child_context f.context creation.now.order.accesses creation.now.order.last →
+            child ≡ kept code.now (child_frame f (meant_order creation.now.order))) }
     {
         let path = self.place.key()?;
         let context = creation.context.copy()?;
@@ -278,7 +315,8 @@ fn found_by(act: &Act, loaded: u64) -> u64
     }
 }
 
-/// Looks at how the machine goes on behind the creation of an included task, which then happens at the place. It lends nothing.
+/// Looks at how the machine goes on behind the creation of an included task, which then happens at the place.
+/// It lends nothing.
 fn look_at_included(
     machine: &mut Machine,
     place: &mut Place,
@@ -288,7 +326,10 @@ fn look_at_included(
     requires { create_fault place.old.context ≡ None }
     ensures stays { machine.new.stands ≡ machine.old.stands }
     ensures ahead { OnOk result (machine.new.ahead ≡ machine_after code.now 0 machine.old.ahead) }
-    ensures ok { OnOk result (place.new ≡ record place.old { context = made (right_of creation.now.context) (one_more_created place.old.context) }) }
+    ensures ok { OnOk result (place.new ≡ record place.old {
+      context = made (right_of creation.now.context)
+          (one_more_created place.old.context);
+    }) }
     ensures err { OnErr result (place.new ≡ place.old) }
 {
     machine.look(code, 0)?;

@@ -22,11 +22,13 @@ use oss_model::{FaultKind, Point};
 use std::mem;
 
 impl Place {
-    /// The act that a draft is, or the fault that the judge finds in its place. A fault takes the key, which is that at which the task acts.
+    /// The act that a draft is, or the fault that the judge finds in its place. A fault takes the key, which is
+    /// that at which the task acts.
     pub(crate) fn judged(&self, draft: Draft, line: u32, key: &mut Option<Point>) -> Act
         requires right { IsDraft self.now.context draft }
         requires key { key.old ≡ Some (key_at self.now) }
-        ensures act { (f : Meant CodeScript) → self.now ≡ place_of f → act_seen result ≡ judged_act f line (draft_fault f.context draft) (drafted draft) }
+        ensures act { (f : Meant CodeScript) → self.now ≡ place_of f →
+            act_seen result ≡ judged_act f line (draft_fault f.context draft) (drafted draft) }
         ensures passed { passed result self.now.context ≡ true }
         ensures child { HasContext self.now.context result }
         ensures key { IsKey key.new self.now }
@@ -71,7 +73,8 @@ impl Place {
         requires passed { result_err found ≡ None → passed act self.now.context ≡ true }
         requires child { HasContext self.now.context act }
         requires key { key.old ≡ Some (key_at self.now) }
-        ensures act { (f : Meant CodeScript) → self.now ≡ place_of f → act_seen result ≡ judged_act f line (result_err found) (act_seen act) }
+        ensures act { (f : Meant CodeScript) → self.now ≡ place_of f →
+            act_seen result ≡ judged_act f line (result_err found) (act_seen act) }
         ensures passed { passed result self.now.context ≡ true }
         ensures child { HasContext self.now.context result }
         ensures key { IsKey key.new self.now }
@@ -82,12 +85,14 @@ impl Place {
         }
     }
 
-    /// The act that a tick or a touch is, or the fault in its place. A fault takes the key, which is that at which the task acts.
+    /// The act that a tick or a touch is, or the fault in its place. A fault takes the key, which is that at
+    /// which the task acts.
     #[inline(always)]
     pub(crate) fn judged_at_once(&self, ask: &Ask, line: u32, key: &mut Option<Point>) -> Act
         requires quick { is_quick_ask (meant_ask ask.now) ≡ true }
         requires key { key.old ≡ Some (key_at self.now) }
-        ensures act { (slots : ℕ → Right) (included : Bool) (f : Meant CodeScript) → self.now ≡ place_of f → act_seen result ≡ act_of_ask slots included f (meant_ask ask.now) line }
+        ensures act { (slots : ℕ → Right) (included : Bool) (f : Meant CodeScript) → self.now ≡ place_of f →
+            act_seen result ≡ act_of_ask slots included f (meant_ask ask.now) line }
         ensures passed { passed result self.now.context ≡ true }
         ensures child { HasContext self.now.context result }
         ensures key { IsKey key.new self.now }
@@ -145,7 +150,8 @@ impl Place {
     /// The fault of a creation whose clauses give these rights. The number of tasks is tested before its clauses.
     fn creation_fault(&self, given: &Given, order: &TaskOrder) -> Result<(), FaultKind>
         requires { IsGiven (self.now.context.final || order.now.last) order.now.accesses given.now }
-        ensures { result_err result ≡ creation_fault self.now.context order.now.accesses (self.now.context.final || order.now.last) }
+        ensures { result_err result ≡ creation_fault self.now.context order.now.accesses
+            (self.now.context.final || order.now.last) }
     {
         match self.context.may_create() {
             Ok(()) => self.context.may_give_these(given, &order.accesses),

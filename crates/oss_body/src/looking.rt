@@ -20,7 +20,8 @@ use oss_machine::{Ask, Machine};
 use oss_model::Point;
 use std::alloc::{AllocError, Global};
 
-/// What a task knows of the state in which it will make its next act: how many tasks it has created by then, and whether it awaits the newest.
+/// What a task knows of the state in which it will make its next act: how many tasks it has created by then,
+/// and whether it awaits the newest.
 #[derive(Clone, Copy)]
 pub(crate) struct Ahead {
     pub(crate) created: u32,
@@ -75,7 +76,8 @@ fn settle(machine: &mut Machine, code: &Code, begins: bool, awaits: bool) -> Res
 /// Looks at how the machine goes on behind an act.
 fn look_behind(machine: &mut Machine, code: &Code, act: &Act, loaded: u64) -> Result<(), AllocError>
     ensures stays { machine.new.stands ≡ machine.old.stands }
-    ensures ahead { OnOk result (machine.new.ahead ≡ answered_standing code.now (act_seen act.now) (answer_to (act_seen act.now) loaded) machine.old.ahead) }
+    ensures ahead { OnOk result (machine.new.ahead ≡ answered_standing code.now (act_seen act.now)
+        (answer_to (act_seen act.now) loaded) machine.old.ahead) }
 {
     match act {
         Act::Load(_) => machine.look(code, loaded),
@@ -123,7 +125,10 @@ fn draft_ahead(
     ahead: Ahead,
 ) -> Result<Draft, AllocError>
     requires few { ahead.created ≤ 65535 }
-    ensures means { IfOk result (λ draft. (code : CodeParts) (f : Meant CodeScript) → IsAhead code f machine.now.ahead place.now ahead.created ahead.awaits → frame_act (asks code) (right_of own.now) included f f.awaits ≡ judged_act f machine.now.ahead.asked.line (draft_fault f.context draft) (drafted draft)) }
+    ensures means { IfOk result (λ draft. (code : CodeParts) (f : Meant CodeScript) →
+        IsAhead code f machine.now.ahead place.now ahead.created ahead.awaits →
+        frame_act (asks code) (right_of own.now) included f f.awaits ≡ judged_act f machine.now.ahead.asked.line
+        (draft_fault f.context draft) (drafted draft)) }
     ensures right { IfOk result (λ draft. IsDraft place.now.context draft) }
 {
     if ahead.awaits {
@@ -144,8 +149,15 @@ pub(crate) fn reach(
 ) -> Result<Draft, AllocError>
     requires few { ahead.created ≤ 65535 }
     ensures stays { machine.new.stands ≡ machine.old.stands }
-    ensures ahead { OnOk result ((f : Meant CodeScript) → IsAhead code.now f machine.old.ahead place.now ahead.created ahead.awaits → machine.new.ahead ≡ machine_at code.now (settled_frame (asks code.now) f).script (settled_frame (asks code.now) f).answers) }
-    ensures means { IfOk result (λ draft. (f : Meant CodeScript) → IsAhead code.now f machine.old.ahead place.now ahead.created ahead.awaits → frame_act (asks code.now) (right_of own.now) included (settled_frame (asks code.now) f) (settled_frame (asks code.now) f).awaits ≡ judged_act (settled_frame (asks code.now) f) machine.new.ahead.asked.line (draft_fault (settled_frame (asks code.now) f).context draft) (drafted draft)) }
+    ensures ahead { OnOk result ((f : Meant CodeScript) →
+        IsAhead code.now f machine.old.ahead place.now ahead.created ahead.awaits →
+        machine.new.ahead ≡ machine_at code.now (settled_frame (asks code.now) f).script
+        (settled_frame (asks code.now) f).answers) }
+    ensures means { IfOk result (λ draft. (f : Meant CodeScript) →
+        IsAhead code.now f machine.old.ahead place.now ahead.created ahead.awaits →
+        frame_act (asks code.now) (right_of own.now) included (settled_frame (asks code.now) f)
+        (settled_frame (asks code.now) f).awaits ≡ judged_act (settled_frame (asks code.now) f)
+        machine.new.ahead.asked.line (draft_fault (settled_frame (asks code.now) f).context draft) (drafted draft)) }
     ensures right { IfOk result (λ draft. IsDraft place.now.context draft) }
 {
     let begins = place.may_begin(ahead.created);
@@ -153,8 +165,9 @@ pub(crate) fn reach(
     draft_ahead(alloc, machine, place, own, included, ahead)
 }
 
-/// Looks at how the task goes on behind an act, makes the draft of what stands next, and then lets the act happen at its place, where that leaves the
-/// task the one that acts. Where memory is wanting the place stays, and the machine has at most looked ahead.
+/// Looks at how the task goes on behind an act, makes the draft of what stands next, and then lets the act
+/// happen at its place, where that leaves the task the one that acts. Where memory is wanting the place stays,
+/// and the machine has at most looked ahead.
 pub(crate) fn reach_behind(
     alloc: Global,
     code: &Code,
@@ -169,8 +182,17 @@ pub(crate) fn reach_behind(
     requires few { ahead.created ≤ 65535 }
     requires passed { passed act.now place.old.context ≡ true }
     ensures stays { machine.new.stands ≡ machine.old.stands }
-    ensures ahead { OnOk result ((f : Meant CodeScript) → IsAhead code.now f (answered_standing code.now (act_seen act.now) (answer_to (act_seen act.now) loaded) machine.old.ahead) place.old ahead.created ahead.awaits → machine.new.ahead ≡ machine_at code.now (settled_frame (asks code.now) f).script (settled_frame (asks code.now) f).answers) }
-    ensures means { IfOk result (λ draft. (f : Meant CodeScript) → IsAhead code.now f (answered_standing code.now (act_seen act.now) (answer_to (act_seen act.now) loaded) machine.old.ahead) place.old ahead.created ahead.awaits → frame_act (asks code.now) (right_of own.now) included (settled_frame (asks code.now) f) (settled_frame (asks code.now) f).awaits ≡ judged_act (settled_frame (asks code.now) f) machine.new.ahead.asked.line (draft_fault (settled_frame (asks code.now) f).context draft) (drafted draft)) }
+    ensures ahead { OnOk result ((f : Meant CodeScript) →
+        IsAhead code.now f (answered_standing code.now (act_seen act.now) (answer_to (act_seen act.now) loaded)
+        machine.old.ahead) place.old ahead.created ahead.awaits →
+        machine.new.ahead ≡ machine_at code.now (settled_frame (asks code.now) f).script
+        (settled_frame (asks code.now) f).answers) }
+    ensures means { IfOk result (λ draft. (f : Meant CodeScript) →
+        IsAhead code.now f (answered_standing code.now (act_seen act.now) (answer_to (act_seen act.now) loaded)
+        machine.old.ahead) place.old ahead.created ahead.awaits →
+        frame_act (asks code.now) (right_of own.now) included (settled_frame (asks code.now) f)
+        (settled_frame (asks code.now) f).awaits ≡ judged_act (settled_frame (asks code.now) f)
+        machine.new.ahead.asked.line (draft_fault (settled_frame (asks code.now) f).context draft) (drafted draft)) }
     ensures right { IfOk result (λ draft. IsDraft place.old.context draft) }
     ensures place { OnOk result (place.new ≡ record place.old { context = context_behind act.now place.old.context }) }
     ensures err { OnErr result (place.new ≡ place.old) }

@@ -12,8 +12,9 @@ use oss_model::Point;
 use oss_syntax::List;
 use std::alloc::{AllocError, Global};
 
-/// The body of main at its start: it begins at the first instruction, may write each cell of the code, and has this much fuel, as has each
-/// other task. Want of memory is the one error. Condition: the code has at most 1,048,576 cells.
+/// The body of main at its start: it begins at the first instruction, may write each cell of the code, and has
+/// this much fuel, as has each other task. Want of memory is the one error. Condition: the code has at most
+/// 1,048,576 cells.
 pub fn main_body(alloc: Global, code: &Code, fuel: u32) -> Result<Body, AllocError>
     requires { length code.now.first ≤ 1048576 }
     ensures { IfOk result (λ body. IsBody code.now (code_main code.now fuel) [] body) }

@@ -49,7 +49,8 @@ impl Own {
         ensures context { IfOk result (λ own. own.context ≡ context.now) }
         ensures wait { IfOk result (λ own. own.wait ≡ order.now.wait) }
         ensures priority { IfOk result (λ own. own.priority ≡ order.now.priority) }
-        ensures slots { IfOk result (λ own. (c : ℕ) (op : OpMeant) → right_of context.now c ≡ Holds (Fold op) true → slot_at own.slots c ≡ Some (fresh op)) }
+        ensures slots { IfOk result (λ own. (c : ℕ) (op : OpMeant) →
+            right_of context.now c ≡ Holds (Fold op) true → slot_at own.slots c ≡ Some (fresh op)) }
     {
         let accesses = context.accesses()?;
         let slots = slots_of(alloc, accesses.as_slice())?;
@@ -64,7 +65,9 @@ impl Own {
 
     /// Keeps an act that has happened, if it is a fold into a slot. It takes no memory.
     pub(crate) fn keep(&mut self, act: &Act)
-        ensures slots { (c : ℕ) (op : OpMeant) (held : ℕ) → slot_at self.old.slots c ≡ Some (record { op = op; value = held }) → slot_at self.new.slots c ≡ Some (record { op = op; value = slot_more (act_seen act.now) c op held }) }
+        ensures slots { (c : ℕ) (op : OpMeant) (held : ℕ) →
+            slot_at self.old.slots c ≡ Some (record { op = op; value = held }) →
+            slot_at self.new.slots c ≡ Some (record { op = op; value = slot_more (act_seen act.now) c op held }) }
         ensures rest { self.new ≡ record self.old { slots = self.new.slots } }
     {
         match act {
@@ -94,7 +97,8 @@ impl Own {
 
     /// What is in the slot of a cell; 0 where the task has no slot for it. It takes no memory.
     pub(crate) fn slot(&self, cell: u32) -> u64
-        ensures { (op : OpMeant) (held : ℕ) → slot_at self.now.slots cell ≡ Some (record { op = op; value = held }) → result ≡ held }
+        ensures { (op : OpMeant) (held : ℕ) → slot_at self.now.slots cell ≡
+            Some (record { op = op; value = held }) → result ≡ held }
     {
         if self.slots.has(cell) {
             self.slots.value(cell)
@@ -117,7 +121,9 @@ fn slots_of(alloc: Global, accesses: &[Access]) -> Result<Slots, AllocError>
 
 /// Adds the slots of an access, if it is a strong reduction.
 fn add_slots(slots: &mut Slots, access: &Access) -> Result<(), AllocError>
-    ensures { OnOk result ((c : ℕ) → slot_at slots.new c ≡ (if in_access access.now c then added (strong_op access.now.mode access.now.strong) (slot_at slots.old c) else slot_at slots.old c)) }
+    ensures { OnOk result ((c : ℕ) → slot_at slots.new c ≡
+        (if in_access access.now c then added (strong_op access.now.mode access.now.strong)
+        (slot_at slots.old c) else slot_at slots.old c)) }
 {
     match op_of(access) {
         Some(op) => slots.add(access.range, op),
@@ -138,7 +144,9 @@ fn op_of(access: &Access) -> Option<Op>
 
 /// Folds a value into the slot of a cell, if there is one.
 fn fold_into(slots: &mut Slots, cell: u32, value: u64)
-    ensures { (c : ℕ) (op : OpMeant) (held : ℕ) → slot_at slots.old c ≡ Some (record { op = op; value = held }) → slot_at slots.new c ≡ Some (record { op = op; value = if cell == c then combine op held (word_of value) else held }) }
+    ensures { (c : ℕ) (op : OpMeant) (held : ℕ) → slot_at slots.old c ≡
+        Some (record { op = op; value = held }) → slot_at slots.new c ≡
+        Some (record { op = op; value = if cell == c then combine op held (word_of value) else held }) }
 {
     if slots.has(cell) {
         slots.fold(cell, value);

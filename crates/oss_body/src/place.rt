@@ -14,8 +14,8 @@ use oss_syntax::{Access, List, Range};
 use std::alloc::AllocError;
 use std::marker::Model;
 
-/// A task that runs in a body: its context, and its point. The point has one number more than there are tasks above it, which are 64
-/// at most.
+/// A task that runs in a body: its context, and its point. The point has one number more than there are tasks
+/// above it, which are 64 at most.
 pub(crate) struct Place {
     pub(crate) context: Context,
     pub(crate) path: Point,
@@ -65,7 +65,8 @@ impl Place {
         &self.path
     }
 
-    /// The key at which the task acts once it has created so many, which is also the point of the next task that it creates then.
+    /// The key at which the task acts once it has created so many, which is also the point of the next task
+    /// that it creates then.
     pub(crate) fn key_behind(&self, created: u32) -> Result<Point, AllocError>
         requires { created ≤ 65535 }
         ensures key { IfOk result (λ key. key ≡ self.now.path ++ created ∷ []) }
@@ -107,7 +108,8 @@ impl Place {
 
     /// Whether the task may begin a creation once it has created so many.
     pub(crate) fn may_begin(&self, created: u32) -> bool
-        ensures { (x : Meaning) → x.depth ≡ self.now.context.depth → x.created ≡ created → result ≡ is_none (create_fault x) }
+        ensures { (x : Meaning) → x.depth ≡ self.now.context.depth → x.created ≡ created →
+            result ≡ is_none (create_fault x) }
     {
         self.context.depth() < 64 && created < 65_535
     }
@@ -115,7 +117,10 @@ impl Place {
     /// Notes one more tick, which is no fault. It takes no memory.
     pub(crate) fn tick(&mut self)
         requires { tick_fault self.old.context ≡ None }
-        ensures { self.new ≡ record self.old { context = record self.old.context { ticks = self.old.context.ticks + 1 } } }
+        ensures { self.new ≡ record self.old {
+          context = record self.old.context
+              { ticks = self.old.context.ticks + 1 };
+        } }
     {
         match self.context.tick() {
             Ok(()) => {}
@@ -131,11 +136,14 @@ impl Place {
         self.context.wrote(cell)
     }
 
-    /// Notes a creation that is no fault: what the task with this context may write counts as written, and where `lends` is true what it
-    /// has is lent to it.
+    /// Notes a creation that is no fault: what the task with this context may write counts as written, and
+    /// where `lends` is true what it has is lent to it.
     pub(crate) fn give(&mut self, child: &Context, lends: bool) -> Result<(), AllocError>
         requires { create_fault self.old.context ≡ None }
-        ensures ok { OnOk result (self.new ≡ record self.old { context = made (right_of child.now) (lent_when lends (right_of child.now) (one_more_created self.old.context)) }) }
+        ensures ok { OnOk result (self.new ≡ record self.old {
+          context = made (right_of child.now)
+              (lent_when lends (right_of child.now) (one_more_created self.old.context));
+        }) }
         ensures err { OnErr result (self.new ≡ self.old) }
     {
         if lends {
@@ -162,7 +170,10 @@ impl Place {
 
     /// Takes back what is lent of the cells of these ranges.
     pub(crate) fn wait_on(&mut self, named: &List<Range>) -> Result<(), AllocError>
-        ensures ok { OnOk result (self.new ≡ record self.old { context = waited_on (map reading named.now) self.old.context }) }
+        ensures ok { OnOk result (self.new ≡ record self.old {
+          context = waited_on (map reading named.now)
+              self.old.context;
+        }) }
         ensures err { OnErr result (self.new ≡ self.old) }
     {
         self.context.took_back(named)
@@ -227,7 +238,10 @@ impl Place {
     /// The creation of a task has happened that is not included.
     fn create(&mut self, creation: &Creation) -> Result<(), AllocError>
         requires { create_fault self.old.context ≡ None }
-        ensures ok { OnOk result (self.new ≡ record self.old { context = behind_creation creation.now self.old.context }) }
+        ensures ok { OnOk result (self.new ≡ record self.old {
+          context = behind_creation creation.now
+              self.old.context;
+        }) }
         ensures err { OnErr result (self.new ≡ self.old) }
     {
         self.give(&creation.context, creation.order.when)

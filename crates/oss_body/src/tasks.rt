@@ -71,9 +71,9 @@ fn way_behind(act: &Act, alone: bool) -> Way
 impl Tasks {
     ghost use Rattle.oss_body.specs.Stacks.{is_nil, own_place};
 
-    /// The act has happened, and a load found this value: the tasks go on, and this tells the act that stands next, unless the body's own task has
-    /// ended. `own` has the rights with which that one started. A key that is kept is that of the task that acts. Where memory is wanting the
-    /// tasks stay.
+    /// The act has happened, and a load found this value: the tasks go on, and this tells the act that stands
+    /// next, unless the body's own task has ended. `own` has the rights with which that one started. A key that
+    /// is kept is that of the task that acts. Where memory is wanting the tasks stay.
     pub(crate) fn follow(
         &mut self,
         alloc: Global,

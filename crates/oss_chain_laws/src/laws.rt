@@ -2,7 +2,8 @@
 
 ghost use Rattle.oss_chain_laws.specs.Claims.{EveryRunHasASpan, EveryWayBackEnds, ReadyIsAllGiven, WhatIsWaitedForStandsBefore};
 
-/// What an event waits for stands before it in the order of the sequential run, with the cells that are given up put in.
+/// What an event waits for stands before it in the order of the sequential run, with the cells that are given
+/// up put in.
 pub fn what_is_waited_for_stands_before<S>()
     ensures { WhatIsWaitedForStandsBefore S }
 {}

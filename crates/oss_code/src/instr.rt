@@ -4,10 +4,11 @@ use oss_meaning::Declared;
 use oss_syntax::{BinOp, Kind, List, NumKind, Op, UnOp};
 use std::mem::size_of;
 
-/// One instruction. It works on the stack of values of its function and on the locals of it, and goes on with the next
-/// instruction where nothing else is said. A jump tells how many instructions it passes. All jumps go forward but two: `Again`,
-/// which asks for a tick first, and `NextTurn`, of which a multidependency makes a bounded number. `takes`, `leaves`, `leads` and
-/// `enters` tell of each instruction what they say. An instruction takes at most 64 bytes.
+/// One instruction. It works on the stack of values of its function and on the locals of it, and goes on with
+/// the next instruction where nothing else is said. A jump tells how many instructions it passes. All jumps go
+/// forward but two: `Again`, which asks for a tick first, and `NextTurn`, of which a multidependency makes a
+/// bounded number. `takes`, `leaves`, `leads` and `enters` tell of each instruction what they say. An
+/// instruction takes at most 64 bytes.
 #[derive(Drop)]
 pub enum Instr {
     /// Leaves this number.
@@ -20,7 +21,8 @@ pub enum Instr {
     Address(u32),
     /// Takes the index of a row, and leaves the pointer to the first cell of that row of the global with this number.
     Row(u32),
-    /// Takes the index of a row and that of a column, and leaves the pointer to that cell of the global with this number.
+    /// Takes the index of a row and that of a column, and leaves the pointer to that cell of the global with
+    /// this number.
     Element(u32),
     /// Takes a pointer and a number, and leaves the pointer moved by it.
     Move(Direction),
@@ -58,10 +60,11 @@ pub enum Instr {
     Again(u32),
     /// Asks for a tick.
     Tick,
-    /// Takes so many arguments, the first one lowest, asks for a tick, and calls the function with this number. Its value is left
-    /// when it returns.
+    /// Takes so many arguments, the first one lowest, asks for a tick, and calls the function with this number.
+    /// Its value is left when it returns.
     Call { function: u32, arguments: u32 },
-    /// Takes a value, and gives it to the caller, which goes on behind its `Call` or `Spawn`; without a caller the body ends.
+    /// Takes a value, and gives it to the caller, which goes on behind its `Call` or `Spawn`; without a caller
+    /// the body ends.
     Return,
     /// Takes so many numbers, the first one lowest, and prints the pieces of a string with them.
     Print { pieces: List<Piece>, arguments: u32 },
@@ -71,12 +74,14 @@ pub enum Instr {
     Begin,
     /// Takes the numbers of a section, the first one lowest, and adds its cells to those that the directive declares.
     Section(SectionBase, SectionForm, Declared),
-    /// Takes the first value of the variable of a multidependency and the number of its turns. The variable becomes the last
-    /// local. Without a turn it passes so many instructions, to the `EndTurns`.
+    /// Takes the first value of the variable of a multidependency and the number of its turns. The variable
+    /// becomes the last local. Without a turn it passes so many instructions, to the `EndTurns`.
     Turns(u32),
-    /// Takes the indices of a turn, the first one lowest, and adds the cells that they name to those of the multidependency.
+    /// Takes the indices of a turn, the first one lowest, and adds the cells that they name to those of the
+    /// multidependency.
     Turn(SectionBase, Indices),
-    /// Adds 1 to the variable, and goes back so many instructions, counted from itself, as long as there is a turn left.
+    /// Adds 1 to the variable, and goes back so many instructions, counted from itself, as long as there is a
+    /// turn left.
     NextTurn(u32),
     /// Drops the variable, and adds the cells of all turns to those that the directive declares.
     EndTurns(Declared),
@@ -88,12 +93,12 @@ pub enum Instr {
     Late,
     /// Takes the value of the clause `priority`.
     Priority,
-    /// Creates a task with what the clauses gave and a copy of the locals. Its body begins so many instructions behind the next
-    /// one.
+    /// Creates a task with what the clauses gave and a copy of the locals. Its body begins so many instructions
+    /// behind the next one.
     Create(u32),
-    /// Takes so many arguments, the first one lowest, and goes to the creation of the task function with this number, with no
-    /// tick. They are the locals there, and the line of each of its faults is that of this instruction. A value is left when it
-    /// returns.
+    /// Takes so many arguments, the first one lowest, and goes to the creation of the task function with this
+    /// number, with no tick. They are the locals there, and the line of each of its faults is that of this
+    /// instruction. A value is left when it returns.
     Spawn { function: u32, arguments: u32 },
     /// Waits for what the children declared of the cells that the directive declares.
     WaitOn,

@@ -71,7 +71,8 @@ impl Instr {
         }
     }
 
-    /// How many values it leaves there when it goes on: a `Call` or a `Spawn` when the function that it calls has returned.
+    /// How many values it leaves there when it goes on: a `Call` or a `Spawn` when the function that it calls
+    /// has returned.
     pub fn leaves(&self) -> usize
         ensures value { result ≡ leaves self.now }
         ensures small { result ≤ 3 }

@@ -32,15 +32,18 @@ pub enum Command<'w> {
     Run(&'w str, Options),
     /// To tell whether a file is a program.
     Check(&'w str),
-    /// To tell the trace of the run by waves of the program in a file. Of the options only the fuel and the dependency system may be said.
+    /// To tell the trace of the run by waves of the program in a file. Of the options only the fuel and the
+    /// dependency system may be said.
     Trace(&'w str, Options),
     /// To replay a schedule on the program in a file.
     Replay(Replay<'w>),
     /// To run a generated program.
     Soak(Soak),
-    /// To tell which cells the tasks of the program in a file name and never touch, where a task may do so many ticks, 1 to 1,000,000,000; 1,000,000 where nothing is said.
+    /// To tell which cells the tasks of the program in a file name and never touch, where a task may do so many
+    /// ticks, 1 to 1,000,000,000; 1,000,000 where nothing is said.
     Audit(&'w str, u32),
-    /// To tell how parallel the program in a file can be at best, where a task may do so many ticks, 1 to 1,000,000,000; 1,000,000 where nothing is said.
+    /// To tell how parallel the program in a file can be at best, where a task may do so many ticks, 1 to
+    /// 1,000,000,000; 1,000,000 where nothing is said.
     Span(&'w str, u32),
 }
 
@@ -52,8 +55,8 @@ pub enum WordsRefused {
     Usage,
 }
 
-/// Reads the words behind the program's name: a command, and its operands and options. `Usage` exactly where they are something
-/// else. It takes no memory.
+/// Reads the words behind the program's name: a command, and its operands and options. `Usage` exactly where
+/// they are something else. It takes no memory.
 pub fn read_words(words: &[String]) -> Result<Command<'_>, WordsRefused>
     ensures asked { IsAsked (map string_bytes words.now) result }
     ensures workers { IfOk result (λ told. HasWorkers (meant told)) }
@@ -202,7 +205,8 @@ fn audit_on(rest: &[String]) -> Result<Command<'_>, WordsRefused>
     }
 }
 
-/// The file and the fuel that `audit` and `span` take from the words behind them; none where the words are something else.
+/// The file and the fuel that `audit` and `span` take from the words behind them; none where the words are
+/// something else.
 fn file_and_fuel(rest: &[String]) -> Option<(&str, u32)>
     ensures { option_map (λ asked. (asked.0.now, asked.1)) result ≡ file_and_fuel_in (map string_bytes rest.now) }
 {
@@ -216,7 +220,8 @@ fn file_and_fuel(rest: &[String]) -> Option<(&str, u32)>
 
 /// The soak that two words and options ask for.
 fn soak_by(number: &[u8], size: &[u8], options: Option<Options>) -> Option<Soak>
-    ensures asked { option_map (λ asked. soak asked.number asked.size asked.options) result ≡ soak_of (Some (number.now, size.now)) options }
+    ensures asked { option_map (λ asked. soak asked.number asked.size asked.options) result ≡
+        soak_of (Some (number.now, size.now)) options }
     ensures options { IfSome result (λ asked. options ≡ Some asked.options) }
 {
     let number = number_within(0, 18_446_744_073_709_551_615, number)?;

@@ -33,8 +33,10 @@ use std::cmp::Ordering;
 fn is_still<D: Deps>(tasks: &[Held], tree: &Tree, deps: &mut D) -> bool
     requires sizes { length tree.now.tasks ≡ length tasks.now }
     requires known { (v : ℕ) → v < length tasks.now → IsKnown (D.seen deps.old).opens v }
-    requires folding { (v c : ℕ) (held : Kept) (op : Operator) → slice_get tasks.now v ≡ Some held → value_at held.owed.pieces c ≡ Some (ways.Join op) → IsFoldOf (D.seen deps.old).opens v c op }
-    ensures still { IsTrue result ↔ ((v : ℕ) (held : Kept) → slice_get tasks.now v ≡ Some held → MayAnything held tree.now.tasks (D.seen deps.old) v → ⊥) }
+    requires folding { (v c : ℕ) (held : Kept) (op : Operator) → slice_get tasks.now v ≡ Some held →
+        value_at held.owed.pieces c ≡ Some (ways.Join op) → IsFoldOf (D.seen deps.old).opens v c op }
+    ensures still { IsTrue result ↔ ((v : ℕ) (held : Kept) → slice_get tasks.now v ≡ Some held →
+        MayAnything held tree.now.tasks (D.seen deps.old) v → ⊥) }
     ensures same { IsSame (D.seen deps.old) (D.seen deps.new) }
 {
     for at in 0..tasks.len() {
@@ -84,7 +86,8 @@ fn fault_seen(body: &Body) -> Option<FaultSeen<'_>>
 
 /// Whether a key comes before that of the fault before which a body stands.
 fn comes_before(key: &Point, body: &Body) -> bool
-    ensures { (kind : Kind) (line : ℕ) (other : Items ℕ) → IsFaultOf body.now kind line other → (IsTrue result ↔ IsBefore key.now other) }
+    ensures { (kind : Kind) (line : ℕ) (other : Items ℕ) → IsFaultOf body.now kind line other →
+        (IsTrue result ↔ IsBefore key.now other) }
 {
     match fault_seen(body) {
         Some(seen) => match key.cmp(seen.key) {
@@ -166,11 +169,14 @@ impl<D: Deps> Core<D> {
     ghost use Rattle.oss_core.specs.Cores.{kept_of};
     ghost use Rattle.oss_core.specs.Kept.{IsCore, IsRunning};
 
-    /// Whether no move may be made: exactly where the state for which the core stands is stopped. The core stays. It takes no memory.
+    /// Whether no move may be made: exactly where the state for which the core stands is stopped. The core
+    /// stays. It takes no memory.
     pub fn stopped(&mut self) -> bool
         requires { (code : CodeParts) × IsRunning code (kept_of D.seen self.old) }
         ensures still { IsTrue result ↔ IsStill (kept_of D.seen self.old) }
-        ensures stopped { (code : CodeParts) (main : Start CodeScript) (first : Items ℕ) (s : State CodeScript) → IsCore code main first (kept_of D.seen self.old) s → (IsTrue result ↔ IsStopped (asks code) s) }
+        ensures stopped { (code : CodeParts) (main : Start CodeScript) (first : Items ℕ)
+            (s : State CodeScript) → IsCore code main first (kept_of D.seen self.old) s →
+            (IsTrue result ↔ IsStopped (asks code) s) }
         ensures same { kept_of D.seen self.new ≡ kept_of D.seen self.old }
     {
         is_still(self.tasks.as_slice(), &self.tree, &mut self.deps)
@@ -178,16 +184,22 @@ impl<D: Deps> Core<D> {
 
     /// How many tasks are not complete. It takes no memory.
     pub fn unfinished(&self) -> u64
-        ensures { (code : CodeParts) (main : Start CodeScript) (first : Items ℕ) (s : State CodeScript) → IsCore code main first (kept_of D.seen self.now) s → HasUnfinished (asks code) s result }
+        ensures { (code : CodeParts) (main : Start CodeScript) (first : Items ℕ) (s : State CodeScript) →
+            IsCore code main first (kept_of D.seen self.now) s → HasUnfinished (asks code) s result }
     {
         unfinished_in(&self.tree)
     }
 
-    /// The answer of a stopped state: exactly that of the definitions; `None` exactly where a move is left. The core stays. Want of memory is the one error.
+    /// The answer of a stopped state: exactly that of the definitions; `None` exactly where a move is left. The
+    /// core stays. Want of memory is the one error.
     pub fn answer(&mut self) -> Result<Option<Answer>, AllocError>
         requires { (code : CodeParts) × IsRunning code (kept_of D.seen self.old) }
-        ensures some { IfOk result (λ a. IfSome a (λ b. (code : CodeParts) (main : Start CodeScript) (first : Items ℕ) (s : State CodeScript) → IsCore code main first (kept_of D.seen self.old) s → IsStopped (asks code) s × IsAnswer (asks code) s b)) }
-        ensures none { IfOk result (λ a. a ≡ None → (code : CodeParts) (main : Start CodeScript) (first : Items ℕ) (s : State CodeScript) → IsCore code main first (kept_of D.seen self.old) s → IsStopped (asks code) s → ⊥) }
+        ensures some { IfOk result (λ a. IfSome a (λ b. (code : CodeParts) (main : Start CodeScript)
+            (first : Items ℕ) (s : State CodeScript) → IsCore code main first (kept_of D.seen self.old) s →
+            IsStopped (asks code) s × IsAnswer (asks code) s b)) }
+        ensures none { IfOk result (λ a. a ≡ None →
+            (code : CodeParts) (main : Start CodeScript) (first : Items ℕ) (s : State CodeScript) →
+            IsCore code main first (kept_of D.seen self.old) s → IsStopped (asks code) s → ⊥) }
         ensures same { kept_of D.seen self.new ≡ kept_of D.seen self.old }
     {
         if !self.stopped() {

@@ -75,9 +75,12 @@ fn owed_by_all(alloc: Global, accesses: &[Access]) -> Result<RangeMap<Owed>, All
 
 /// What a task with this body has of cells, at its start.
 pub(crate) fn share_of(alloc: Global, body: &Body) -> Result<Share, AllocError>
-    ensures rights { IfOk result (λ share. (code : CodeParts) (start : Start CodeScript) (found : Items ℕ) → IsBody code start found body.now → (c : ℕ) → right_from false share.accesses c ≡ held_right (right_of start.context c)) }
+    ensures rights { IfOk result (λ share. (code : CodeParts) (start : Start CodeScript) (found : Items ℕ) →
+        IsBody code start found body.now → (c : ℕ) →
+        right_from false share.accesses c ≡ held_right (right_of start.context c)) }
     ensures rising { IfOk result (λ share. IsRising share.accesses) }
-    ensures owed { IfOk result (λ share. (c : ℕ) → value_at share.owed.pieces c ≡ owed_by_access (access_at share.accesses c)) }
+    ensures owed { IfOk result (λ share. (c : ℕ) → value_at share.owed.pieces c ≡ owed_by_access
+        (access_at share.accesses c)) }
 {
     let accesses = body.accesses()?;
     let owed = owed_by_all(alloc, accesses.as_slice())?;
@@ -105,7 +108,8 @@ pub(crate) fn add_to_tree(
 ) -> Result<TaskNo, AllocError>
     requires { MayCreate tree.old.tasks creator.0 }
     ensures number { IfOk result (λ task. task.0 ≡ length tree.old.tasks) }
-    ensures tasks { OnOk result (tree.new.tasks ≡ noted_new newborn.now.accesses (length tree.old.tasks) (grown tree.old.tasks creator.0 (has_wait newborn.now.held.body))) }
+    ensures tasks { OnOk result (tree.new.tasks ≡ noted_new newborn.now.accesses (length tree.old.tasks)
+        (grown tree.old.tasks creator.0 (has_wait newborn.now.held.body))) }
     ensures prints { OnOk result (tree.new.prints ≡ tree.old.prints) }
 {
     let task = tree.add(creator, newborn.held.body.waits())?;
@@ -123,7 +127,13 @@ impl<D: Deps> Core<D> {
         requires sizes { length self.old.tree.tasks ≡ length self.old.tasks.items }
         requires before { StandsBeforeCreation self.old.tasks.items task.0 }
         requires room { MayCreate self.old.tree.tasks task.0 }
-        requires opens { (before child : Kept) (accesses : Items Meant) → slice_get self.old.tasks.items task.0 ≡ Some before → IsCreated code.now before child accesses → CanOpen (D.seen self.old.deps) (record { task = length self.old.tasks.items; parent = task.0; accesses = accesses }) }
+        requires opens { (before child : Kept) (accesses : Items Meant) →
+            slice_get self.old.tasks.items task.0 ≡ Some before → IsCreated code.now before child accesses →
+            CanOpen (D.seen self.old.deps) (record {
+              task = length self.old.tasks.items;
+              parent = task.0;
+              accesses = accesses;
+            }) }
         ensures { OnOk result (HasCreated code.now task.0 (kept_of D.seen self.old) (kept_of D.seen self.new)) }
     {
         let at = task.0 as usize;

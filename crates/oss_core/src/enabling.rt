@@ -125,8 +125,10 @@ pub(crate) fn may_join<D: Deps>(
     cell: u32,
 ) -> bool
     requires sizes { length tree.now.tasks ≡ length tasks.now }
-    requires folding { (v c : ℕ) (held : Kept) (op : Operator) → slice_get tasks.now v ≡ Some held → value_at held.owed.pieces c ≡ Some (ways.Join op) → IsFoldOf (D.seen deps.old).opens v c op }
-    ensures may { IsTrue result ↔ ((op : Operator) × MayJoin tasks.now tree.now.tasks (D.seen deps.old) task.0 cell op) }
+    requires folding { (v c : ℕ) (held : Kept) (op : Operator) → slice_get tasks.now v ≡ Some held →
+        value_at held.owed.pieces c ≡ Some (ways.Join op) → IsFoldOf (D.seen deps.old).opens v c op }
+    ensures may { IsTrue result ↔ ((op : Operator) ×
+        MayJoin tasks.now tree.now.tasks (D.seen deps.old) task.0 cell op) }
     ensures same { IsSame (D.seen deps.old) (D.seen deps.new) }
 {
     match held_at(tasks, task) {
@@ -144,7 +146,8 @@ pub(crate) fn may_fold<D: Deps>(
     cell: u32,
 ) -> bool
     requires there { task.0 < length tree.now.tasks }
-    requires folding { (op : Operator) → value_at held.now.owed.pieces cell ≡ Some (ways.Join op) → IsFoldOf (D.seen deps.old).opens task.0 cell op }
+    requires folding { (op : Operator) → value_at held.now.owed.pieces cell ≡ Some (ways.Join op) →
+        IsFoldOf (D.seen deps.old).opens task.0 cell op }
     ensures may { IsTrue result ↔ ((op : Operator) × MayFold held.now tree.now.tasks (D.seen deps.old) task.0 cell op) }
     ensures same { IsSame (D.seen deps.old) (D.seen deps.new) }
 {

@@ -1,4 +1,5 @@
-//! Why a move is not made: callers tell a move that is not enabled from want of memory, after which the run is given up.
+//! Why a move is not made: callers tell a move that is not enabled from want of memory, after which the run is
+//! given up.
 
 ghost use Rattle.std.specs.Prelude.{◌≡◌};
 ghost use Rattle.oss_core.specs.declared.fault.ApplyFault.TheVariants as faults;

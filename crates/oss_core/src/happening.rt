@@ -12,7 +12,8 @@ use oss_syntax::Bytes;
 use oss_tree::Tree;
 use std::alloc::{AllocError, Global};
 
-/// An act of a task happens in memory. The answer is the number that a load finds, and else 0. A fold into a slot leaves the memory as it is.
+/// An act of a task happens in memory. The answer is the number that a load finds, and else 0. A fold into a
+/// slot leaves the memory as it is.
 pub(crate) fn happen(act: &Act, cells: &mut Vec<u64>) -> u64
     ensures cells { cells.new.items ≡ cells_after (act_seen act.now) cells.old.items }
     ensures found { result ≡ found_in act.now cells.old.items }

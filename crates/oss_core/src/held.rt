@@ -1,4 +1,5 @@
-//! What a core keeps of each task beside the tree and the dependency system: its body, and the cells that it still owes.
+//! What a core keeps of each task beside the tree and the dependency system: its body, and the cells that it
+//! still owes.
 
 use oss_body::Body;
 use oss_ranges::RangeMap;
@@ -13,7 +14,8 @@ pub enum Owed {
     Join(Op),
 }
 
-/// What a core keeps of a task: its body, and how each cell that it has not given up is to be given up. Main has none to give up.
+/// What a core keeps of a task: its body, and how each cell that it has not given up is to be given up. Main
+/// has none to give up.
 pub struct Held {
     pub body: Body,
     /// By cells. A cell that is given up has no value here.

@@ -19,11 +19,13 @@ use oss_model::TaskNo;
 use oss_syntax::Range;
 use oss_tree::Tree;
 
-/// A task because of which the next act of a task with this body may not be made as yet. It takes no memory, and the dependency system stays.
+/// A task because of which the next act of a task with this body may not be made as yet. It takes no memory,
+/// and the dependency system stays.
 fn hindrance_of<D: Deps>(body: &Body, tree: &Tree, deps: &mut D, task: TaskNo) -> Option<TaskNo>
     requires there { task.0 < length tree.now.tasks }
     requires known { IsKnown (D.seen deps.old).opens task.0 }
-    ensures hindrance { MatchOption result (GoesFree body.now tree.now.tasks (D.seen deps.old) task.0) (λ u. IsHeldBack body.now tree.now.tasks (D.seen deps.old) task.0 u.0) }
+    ensures hindrance { MatchOption result (GoesFree body.now tree.now.tasks (D.seen deps.old) task.0) (λ u.
+        IsHeldBack body.now tree.now.tasks (D.seen deps.old) task.0 u.0) }
     ensures same { IsSame (D.seen deps.old) (D.seen deps.new) }
 {
     if body.ended() {
@@ -38,10 +40,13 @@ fn hindrance_of<D: Deps>(body: &Body, tree: &Tree, deps: &mut D, task: TaskNo) -
     }
 }
 
-/// A task whose access stands in the way of a task with this body before its first act. It takes no memory, and the dependency system stays.
+/// A task whose access stands in the way of a task with this body before its first act. It takes no memory, and
+/// the dependency system stays.
 fn barred_by<D: Deps>(body: &Body, deps: &mut D, task: TaskNo) -> Option<TaskNo>
     requires { IsKnown (D.seen deps.old).opens task.0 }
-    ensures barred { MatchOption result (has_begun body.now ≡ false → (task.0 ≡ 0) ⊎ IsMet (D.seen deps.old).opens (D.seen deps.old).given task.0) (λ u. IsBarred body.now (D.seen deps.old) task.0 u.0) }
+    ensures barred { MatchOption result (has_begun body.now ≡ false → (task.0 ≡ 0) ⊎
+        IsMet (D.seen deps.old).opens (D.seen deps.old).given task.0) (λ u.
+        IsBarred body.now (D.seen deps.old) task.0 u.0) }
     ensures same { IsSame (D.seen deps.old) (D.seen deps.new) }
 {
     if body.begun() {
@@ -57,7 +62,8 @@ fn barred_by<D: Deps>(body: &Body, deps: &mut D, task: TaskNo) -> Option<TaskNo>
 fn awaited_by<D: Deps>(tree: &Tree, deps: &mut D, task: TaskNo, act: &Act) -> Option<TaskNo>
     requires there { task.0 < length tree.now.tasks }
     requires known { IsKnown (D.seen deps.old).opens task.0 }
-    ensures awaited { MatchOption result (IsActMet tree.now.tasks (D.seen deps.old) task.0 act.now) (λ u. IsAwaited tree.now.tasks (D.seen deps.old) task.0 act.now u.0) }
+    ensures awaited { MatchOption result (IsActMet tree.now.tasks (D.seen deps.old) task.0 act.now) (λ u.
+        IsAwaited tree.now.tasks (D.seen deps.old) task.0 act.now u.0) }
     ensures same { IsSame (D.seen deps.old) (D.seen deps.new) }
 {
     match act {
@@ -79,7 +85,8 @@ fn awaited_by<D: Deps>(tree: &Tree, deps: &mut D, task: TaskNo, act: &Act) -> Op
 /// The newest child of this task, where it is not complete.
 fn newest_open(tree: &Tree, task: TaskNo) -> Option<TaskNo>
     requires { task.0 < length tree.now.tasks }
-    ensures { MatchOption result (IsNewestComplete tree.now.tasks task.0) (λ u. IsNewestOpen tree.now.tasks task.0 u.0) }
+    ensures { MatchOption result (IsNewestComplete tree.now.tasks task.0) (λ u.
+        IsNewestOpen tree.now.tasks task.0 u.0) }
 {
     let _tasks = tree.count();
     match tree.task(task).children.as_slice().last() {
@@ -97,7 +104,9 @@ fn newest_open(tree: &Tree, task: TaskNo) -> Option<TaskNo>
 /// A child of this task with an access to a cell of these ranges that is not done.
 fn undone_in<D: Deps>(deps: &mut D, task: TaskNo, ranges: &[Range]) -> Option<TaskNo>
     requires { IsKnown (D.seen deps.old).opens task.0 }
-    ensures child { MatchOption result ((c : ℕ) → in_clauses (declared_on waited_for ranges.now) c ≡ true → AreChildrenDone (D.seen deps.old).opens (D.seen deps.old).given task.0 c) (λ u. HasUndoneIn (D.seen deps.old) task.0 ranges.now u.0) }
+    ensures child { MatchOption result ((c : ℕ) → in_clauses (declared_on waited_for ranges.now) c ≡ true →
+        AreChildrenDone (D.seen deps.old).opens (D.seen deps.old).given task.0 c) (λ u.
+        HasUndoneIn (D.seen deps.old) task.0 ranges.now u.0) }
     ensures same { IsSame (D.seen deps.old) (D.seen deps.new) }
 {
     for range in ranges {
@@ -114,19 +123,23 @@ impl<D: Deps> Core<D> {
     ghost use Rattle.oss_core.specs.Hindered.{IsFree, IsHindered, IsSpent};
     ghost use Rattle.oss_core.specs.Kept.{IsRunning};
 
-    /// A task because of which the next act of this one may not be made as yet: one whose access stands in its way, or a child for which it waits. `None` exactly where nothing hinders
-    /// the task: its next act may be made, or it has none, since it has ended or stands before a fault. Condition: it is a task of the core. It takes no memory, and the core stays.
+    /// A task because of which the next act of this one may not be made as yet: one whose access stands in its
+    /// way, or a child for which it waits. `None` exactly where nothing hinders the task: its next act may be
+    /// made, or it has none, since it has ended or stands before a fault. Condition: it is a task of the core.
+    /// It takes no memory, and the core stays.
     pub fn hindrance(&mut self, task: TaskNo) -> Option<TaskNo>
         requires running { (code : CodeParts) × IsRunning code (kept_of D.seen self.old) }
         requires there { task.0 < length self.old.tree.tasks }
-        ensures hindrance { MatchOption result (IsFree (kept_of D.seen self.old) task.0) (λ u. IsHindered (kept_of D.seen self.old) task.0 u.0) }
+        ensures hindrance { MatchOption result (IsFree (kept_of D.seen self.old) task.0) (λ u.
+            IsHindered (kept_of D.seen self.old) task.0 u.0) }
         ensures same { kept_of D.seen self.new ≡ kept_of D.seen self.old }
     {
         let body = &self.tasks[task.0 as usize].body;
         hindrance_of(body, &self.tree, &mut self.deps, task)
     }
 
-    /// Whether the task has ended and owes no cell, so that it does nothing any more. Condition: it is a task of the core. It takes no memory.
+    /// Whether the task has ended and owes no cell, so that it does nothing any more. Condition: it is a task
+    /// of the core. It takes no memory.
     pub fn spent(&self, task: TaskNo) -> bool
         requires running { (code : CodeParts) × IsRunning code (kept_of D.seen self.now) }
         requires there { task.0 < length self.now.tree.tasks }

@@ -1,5 +1,5 @@
-//! What is left to do for a core falls: laws, each carried by a function that does nothing. A crate above calls the function, and then has
-//! the law for the measure of its loop.
+//! What is left to do for a core falls: laws, each carried by a function that does nothing. A crate above calls
+//! the function, and then has the law for the measure of its loop.
 
 ghost use Rattle.oss_core.specs.CoreLeft.{CoreMovesFall, CorePassesFall, CoreRoundsFall, CoreWavesFall};
 

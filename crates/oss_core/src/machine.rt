@@ -22,8 +22,9 @@ use oss_ranges::RangeMap;
 use oss_tree::Tree;
 use std::alloc::{AllocError, Global};
 
-/// The machine of tasks over a dependency system: their bodies, where they stand, what they have printed, which cells they are still to give up, and the
-/// memory. It makes the moves of the definitions, one at a time, in whatever order they are asked for.
+/// The machine of tasks over a dependency system: their bodies, where they stand, what they have printed, which
+/// cells they are still to give up, and the memory. It makes the moves of the definitions, one at a time, in
+/// whatever order they are asked for.
 pub struct Core<D: Deps> {
     pub(crate) alloc: Global,
     /// What is kept of each task, by its number.
@@ -81,13 +82,15 @@ impl<D: Deps> Core<D> {
     ghost use Rattle.oss_core.specs.Enabled.{MayMove};
     ghost use Rattle.oss_core.specs.Kept.{IsCore, IsRunning};
 
-    /// The machine at its beginning: main alone, which has done nothing, over the cells of its code. Want of memory is the one error. Condition: the code has
-    /// at most 1,048,576 cells, and in the dependency system no task is open and no cell given up.
+    /// The machine at its beginning: main alone, which has done nothing, over the cells of its code. Want of
+    /// memory is the one error. Condition: the code has at most 1,048,576 cells, and in the dependency system
+    /// no task is open and no cell given up.
     pub fn new(alloc: Global, code: &Code, fuel: u32, deps: D) -> Result<Core<D>, AllocError>
         requires cells { length code.now.first ≤ 1048576 }
         requires opens { (D.seen deps).opens ≡ [] }
         requires given { (t c : ℕ) → (D.seen deps).given t c ≡ false }
-        ensures { IfOk result (λ core. IsCore code.now (code_main code.now fuel) code.now.first (kept_of D.seen core) (opening (code_main code.now fuel) code.now.first)) }
+        ensures { IfOk result (λ core. IsCore code.now (code_main code.now fuel) code.now.first
+            (kept_of D.seen core) (opening (code_main code.now fuel) code.now.first)) }
     {
         main_is_set(code, fuel);
         let body = main_body(alloc, code, fuel)?;
@@ -108,16 +111,20 @@ impl<D: Deps> Core<D> {
 
     /// The task that has this point; `None` exactly where none has. It takes no memory.
     pub fn find(&self, point: &[u16]) -> Option<TaskNo>
-        ensures { MatchOption result ((t : ℕ) → HasPoint self.now.tree.tasks t point.now → ⊥) (λ task. HasPoint self.now.tree.tasks task.0 point.now) }
+        ensures { MatchOption result ((t : ℕ) → HasPoint self.now.tree.tasks t point.now →
+            ⊥) (λ task. HasPoint self.now.tree.tasks task.0 point.now) }
     {
         self.tree.find(point)
     }
 
-    /// Whether a move may be made: exactly where the definitions allow it from the state for which the core stands. It takes no memory, and the core stays.
+    /// Whether a move may be made: exactly where the definitions allow it from the state for which the core
+    /// stands. It takes no memory, and the core stays.
     pub fn enabled(&mut self, m: &Move) -> bool
         requires { (code : CodeParts) × IsRunning code (kept_of D.seen self.old) }
         ensures may { IsTrue result ↔ MayMove (kept_of D.seen self.old) m.now }
-        ensures enabled { (code : CodeParts) (main : Start CodeScript) (first : Items ℕ) (s : State CodeScript) → IsCore code main first (kept_of D.seen self.old) s → (IsTrue result ↔ ((n : State CodeScript) × IsMove (asks code) self.old.tree.tasks m.now s n)) }
+        ensures enabled { (code : CodeParts) (main : Start CodeScript) (first : Items ℕ)
+            (s : State CodeScript) → IsCore code main first (kept_of D.seen self.old) s →
+            (IsTrue result ↔ ((n : State CodeScript) × IsMove (asks code) self.old.tree.tasks m.now s n)) }
         ensures same { kept_of D.seen self.new ≡ kept_of D.seen self.old }
     {
         self.may_move(m)
@@ -167,7 +174,8 @@ impl<D: Deps> Core<D> {
     fn make_join(&mut self, code: &Code, task: TaskNo, cell: u32) -> Result<(), AllocError>
         requires running { IsRunning code.now (kept_of D.seen self.old) }
         requires may { MayMove (kept_of D.seen self.old) (Meant.Join task cell) }
-        ensures { OnOk result (IsMade code.now (kept_of D.seen self.old) (kept_of D.seen self.new) (Meant.Join task cell)) }
+        ensures { OnOk result (IsMade code.now (kept_of D.seen self.old) (kept_of D.seen self.new)
+            (Meant.Join task cell)) }
     {
         match join_of(self.tasks[task.0 as usize].owed.get(cell)) {
             Some(op) => self.join(code, task, cell, op),
@@ -175,14 +183,22 @@ impl<D: Deps> Core<D> {
         }
     }
 
-    /// Makes a move: `Ok` exactly where it was enabled and was made, so that the core stands for a state to which the move leads. `NotNow` comes exactly where it
-    /// is not enabled, before memory is taken, and the core is as it was. `Memory` comes of an enabled move alone, and after it the core is given up. The code is the one with which the core was made.
+    /// Makes a move: `Ok` exactly where it was enabled and was made, so that the core stands for a state to
+    /// which the move leads. `NotNow` comes exactly where it is not enabled, before memory is taken, and the
+    /// core is as it was. `Memory` comes of an enabled move alone, and after it the core is given up. The code
+    /// is the one with which the core was made.
     pub fn apply(&mut self, code: &Code, m: Move) -> Result<(), ApplyFault>
         requires { IsRunning code.now (kept_of D.seen self.old) }
         ensures ok { OnOk result (IsMade code.now (kept_of D.seen self.old) (kept_of D.seen self.new) m) }
-        ensures not_now { result ≡ Err faults.NotNow → (main : Start CodeScript) (first : Items ℕ) (s : State CodeScript) → IsCore code.now main first (kept_of D.seen self.old) s → (n : State CodeScript) → IsMove (asks code.now) self.old.tree.tasks m s n → ⊥ }
+        ensures not_now { result ≡ Err faults.NotNow →
+            (main : Start CodeScript) (first : Items ℕ) (s : State CodeScript) →
+            IsCore code.now main first (kept_of D.seen self.old) s → (n : State CodeScript) →
+            IsMove (asks code.now) self.old.tree.tasks m s n → ⊥ }
         ensures same { result ≡ Err faults.NotNow → kept_of D.seen self.new ≡ kept_of D.seen self.old }
-        ensures now { (result ≡ Err faults.NotNow → ⊥) → (main : Start CodeScript) (first : Items ℕ) (s : State CodeScript) → IsCore code.now main first (kept_of D.seen self.old) s → (n : State CodeScript) × IsMove (asks code.now) self.old.tree.tasks m s n }
+        ensures now { (result ≡ Err faults.NotNow → ⊥) →
+            (main : Start CodeScript) (first : Items ℕ) (s : State CodeScript) →
+            IsCore code.now main first (kept_of D.seen self.old) s → (n : State CodeScript) ×
+            IsMove (asks code.now) self.old.tree.tasks m s n }
     {
         if !self.enabled(&m) {
             return Err(ApplyFault::NotNow);

@@ -52,7 +52,8 @@ fn tasks_of(alloc: Global, placed: &[Placed<'_>]) -> Result<Vec<TaskNo>, AllocEr
 }
 
 impl<D: Deps> Core<D> {
-    /// These tasks in the order of their points. Condition: they are tasks of the core, none twice. Want of memory is the one error.
+    /// These tasks in the order of their points. Condition: they are tasks of the core, none twice. Want of
+    /// memory is the one error.
     pub fn in_point_order(&self, tasks: Vec<TaskNo>) -> Result<Vec<TaskNo>, AllocError>
         requires there { (v : Number) → IsIn v tasks.items → v.0 < length self.now.tree.tasks }
         requires once { AreOnce tasks.items }

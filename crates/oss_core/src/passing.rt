@@ -18,7 +18,8 @@ use std::alloc::AllocError;
 /// A program has at most so many cells.
 const CELLS: u32 = 1_048_576;
 
-/// Neighbouring cells of one task that a pass has given up one after the other in one way: by lets, or by joins of their slots.
+/// Neighbouring cells of one task that a pass has given up one after the other in one way: by lets, or by joins
+/// of their slots.
 #[derive(Clone, Copy)]
 pub struct Passed {
     pub task: TaskNo,
@@ -90,16 +91,20 @@ impl<D: Deps> Core<D> {
     ghost use Rattle.oss_core.specs.Leaving.{HaveGivenUp};
     ghost use Rattle.oss_core.specs.Passing.{HasPassed, HaveGiven, OwesRange, RunPassed, TaskPassed};
 
-    /// One pass: each of these tasks, in point order, and of each task its cells in rising order, gives up or joins what it may at its turn. The answer
-    /// tells of each longest run of neighbouring cells that one task has given up in one way, in the order of the pass; no task of which it does not
-    /// tell gives anything up. Condition: the list has, in point order, each task that is not still: that owes a cell and has ended, or that has
-    /// released a cell which it owes by a let. Others may stand in it, as in a list of all that are not complete. It costs what the ranges of cells do
-    /// that these tasks owe, and of slots what their cells do. After want of memory the core is given up.
+    /// One pass: each of these tasks, in point order, and of each task its cells in rising order, gives up or
+    /// joins what it may at its turn. The answer tells of each longest run of neighbouring cells that one task
+    /// has given up in one way, in the order of the pass; no task of which it does not tell gives anything up.
+    /// Condition: the list has, in point order, each task that is not still: that owes a cell and has ended, or
+    /// that has released a cell which it owes by a let. Others may stand in it, as in a list of all that are
+    /// not complete. It costs what the ranges of cells do that these tasks owe, and of slots what their cells
+    /// do. After want of memory the core is given up.
     pub fn pass(&mut self, code: &Code, asked: &[TaskNo]) -> Result<Vec<Passed>, AllocError>
         requires running { IsRunning code.now (kept_of D.seen self.old) }
         requires asked { HaveGivers (kept_of D.seen self.old) asked.now }
-        ensures passed { IfOk result (λ passed. HasPassed code.now (kept_of D.seen self.old) (kept_of D.seen self.new) passed.items) }
-        ensures given_up { IfOk result (λ passed. HaveGivenUp passed.items (kept_of D.seen self.old) (kept_of D.seen self.new)) }
+        ensures passed { IfOk result (λ passed. HasPassed code.now (kept_of D.seen self.old)
+            (kept_of D.seen self.new) passed.items) }
+        ensures given_up { IfOk result (λ passed. HaveGivenUp passed.items (kept_of D.seen self.old)
+            (kept_of D.seen self.new)) }
         ensures tasks { OnOk result (HaveGiven self.old.tree.tasks self.new.tree.tasks) }
     {
         let mut passed = Vec::new(self.alloc);
@@ -118,7 +123,8 @@ impl<D: Deps> Core<D> {
     ) -> Result<(), AllocError>
         requires running { IsRunning code.now (kept_of D.seen self.old) }
         requires there { task.0 < length self.old.tasks.items }
-        ensures { OnOk result (TaskPassed code.now task.0 (kept_of D.seen self.old) (kept_of D.seen self.new) passed.old.items passed.new.items) }
+        ensures { OnOk result (TaskPassed code.now task.0 (kept_of D.seen self.old) (kept_of D.seen self.new)
+            passed.old.items passed.new.items) }
     {
         let mut from = 0;
         'runs: while from < CELLS {
@@ -128,8 +134,8 @@ impl<D: Deps> Core<D> {
         Ok(())
     }
 
-    /// A run of cells of a task, from one on, that it owes in one way, or the first of them: the answer is where they end. After want of memory the core is
-    /// given up.
+    /// A run of cells of a task, from one on, that it owes in one way, or the first of them: the answer is
+    /// where they end. After want of memory the core is given up.
     fn pass_run(
         &mut self,
         code: &Code,
@@ -141,7 +147,8 @@ impl<D: Deps> Core<D> {
         requires there { task.0 < length self.old.tasks.items }
         requires before { from < 1048576 }
         ensures ends { IfOk result (λ to. (from < to) × (to ≤ 1048576)) }
-        ensures passed { IfOk result (λ to. RunPassed code.now task.0 from to (kept_of D.seen self.old) (kept_of D.seen self.new) passed.old.items passed.new.items) }
+        ensures passed { IfOk result (λ to. RunPassed code.now task.0 from to (kept_of D.seen self.old)
+            (kept_of D.seen self.new) passed.old.items passed.new.items) }
     {
         let (owed, end) = self.tasks[task.0 as usize].owed.run_from(from, CELLS);
         let range = Range { lo: from, hi: end };
@@ -154,8 +161,8 @@ impl<D: Deps> Core<D> {
         }
     }
 
-    /// A run of cells of a task that it owes by lets, or its first cells, as far as the task has released all or none of them: the answer is where they end.
-    /// After want of memory the core is given up.
+    /// A run of cells of a task that it owes by lets, or its first cells, as far as the task has released all
+    /// or none of them: the answer is where they end. After want of memory the core is given up.
     fn pass_lets(
         &mut self,
         task: TaskNo,
@@ -165,7 +172,9 @@ impl<D: Deps> Core<D> {
         requires running { (code : CodeParts) × IsRunning code (kept_of D.seen self.old) }
         requires owes { OwesRange self.old.tasks.items task.0 range.lo range.hi }
         ensures ends { IfOk result (λ to. (range.lo < to) × (to ≤ range.hi)) }
-        ensures passed { IfOk result (λ to. (code : CodeParts) → RunPassed code task.0 range.lo to (kept_of D.seen self.old) (kept_of D.seen self.new) passed.old.items passed.new.items) }
+        ensures passed { IfOk result (λ to. (code : CodeParts) →
+            RunPassed code task.0 range.lo to (kept_of D.seen self.old) (kept_of D.seen self.new)
+            passed.old.items passed.new.items) }
     {
         let body = &self.tasks[task.0 as usize].body;
         let (released, until) = body.released_run(range.lo, range.hi);
@@ -189,8 +198,8 @@ impl<D: Deps> Core<D> {
         Ok(given.hi)
     }
 
-    /// A run of cells of a task whose slots it owes; where the task is through, its first cell alone: the answer is where they end. After want of memory
-    /// the core is given up.
+    /// A run of cells of a task whose slots it owes; where the task is through, its first cell alone: the
+    /// answer is where they end. After want of memory the core is given up.
     fn pass_join(
         &mut self,
         code: &Code,
@@ -200,9 +209,11 @@ impl<D: Deps> Core<D> {
         passed: &mut Vec<Passed>,
     ) -> Result<u32, AllocError>
         requires running { IsRunning code.now (kept_of D.seen self.old) }
-        requires owes { (held : Kept) × (slice_get self.old.tasks.items task.0 ≡ Some held) × ((c : ℕ) → range.lo ≤ c → c < range.hi → value_at held.owed.pieces c ≡ Some (ways.Join op)) }
+        requires owes { (held : Kept) × (slice_get self.old.tasks.items task.0 ≡ Some held) ×
+            ((c : ℕ) → range.lo ≤ c → c < range.hi → value_at held.owed.pieces c ≡ Some (ways.Join op)) }
         ensures ends { IfOk result (λ to. (range.lo < to) × (to ≤ range.hi)) }
-        ensures passed { IfOk result (λ to. RunPassed code.now task.0 range.lo to (kept_of D.seen self.old) (kept_of D.seen self.new) passed.old.items passed.new.items) }
+        ensures passed { IfOk result (λ to. RunPassed code.now task.0 range.lo to (kept_of D.seen self.old)
+            (kept_of D.seen self.new) passed.old.items passed.new.items) }
     {
         let at = task.0 as usize;
         let cell = range.lo;

@@ -126,7 +126,8 @@ impl<D: Deps> Core<D> {
     /// These tasks are new: this one has created them, one after the other. After want of memory the core is given up.
     fn add_all(&mut self, creator: TaskNo, newborns: Vec<Newborn>) -> Result<(), AllocError>
         requires sizes { length self.old.tree.tasks ≡ length self.old.tasks.items }
-        requires may { MayAdd creator.0 (length self.old.tasks.items) newborns.items self.old.tree.tasks (D.seen self.old.deps) }
+        requires may { MayAdd creator.0 (length self.old.tasks.items) newborns.items self.old.tree.tasks
+            (D.seen self.old.deps) }
         ensures { OnOk result (AreAdded creator.0 newborns.items (kept_of D.seen self.old) (kept_of D.seen self.new)) }
     {
         for newborn in newborns {
@@ -138,17 +139,21 @@ impl<D: Deps> Core<D> {
         Ok(())
     }
 
-    /// Tasks with these bodies are new: this one has created them, one after the other. After want of memory the core is given up.
+    /// Tasks with these bodies are new: this one has created them, one after the other. After want of memory
+    /// the core is given up.
     fn add_children(&mut self, creator: TaskNo, children: Vec<Body>) -> Result<(), AllocError>
         requires sizes { length self.old.tree.tasks ≡ length self.old.tasks.items }
-        requires may { (xs : Items New) → AreNewborns xs children.items → MayAdd creator.0 (length self.old.tasks.items) xs self.old.tree.tasks (D.seen self.old.deps) }
-        ensures { OnOk result ((xs : Items New) × AreNewborns xs children.items × AreAdded creator.0 xs (kept_of D.seen self.old) (kept_of D.seen self.new)) }
+        requires may { (xs : Items New) → AreNewborns xs children.items →
+            MayAdd creator.0 (length self.old.tasks.items) xs self.old.tree.tasks (D.seen self.old.deps) }
+        ensures { OnOk result ((xs : Items New) × AreNewborns xs children.items ×
+            AreAdded creator.0 xs (kept_of D.seen self.old) (kept_of D.seen self.new)) }
     {
         let newborns = newborns_of(self.alloc, children)?;
         self.add_all(creator, newborns)
     }
 
-    /// Puts the part of a task in. The body that stood in the place of its own meanwhile is kept with the spares. After want of memory the core is given up.
+    /// Puts the part of a task in. The body that stood in the place of its own meanwhile is kept with the
+    /// spares. After want of memory the core is given up.
     pub(crate) fn put(
         &mut self,
         task: TaskNo,
@@ -157,8 +162,11 @@ impl<D: Deps> Core<D> {
     ) -> Result<(), AllocError>
         requires sizes { length self.old.tree.tasks ≡ length self.old.tasks.items }
         requires there { task.0 < length self.old.tasks.items }
-        requires may { (xs : Items New) → AreNewborns xs part.children.items → MayAdd task.0 (length self.old.tasks.items) xs self.old.tree.tasks (D.seen self.old.deps) }
-        ensures { OnOk result ((xs : Items New) × AreNewborns xs part.children.items × IsPut task.0 xs part.body part.prints.items (kept_of D.seen self.old) (kept_of D.seen self.new) × IsWritten part.writes.pieces self.old.cells.items self.new.cells.items) }
+        requires may { (xs : Items New) → AreNewborns xs part.children.items →
+            MayAdd task.0 (length self.old.tasks.items) xs self.old.tree.tasks (D.seen self.old.deps) }
+        ensures { OnOk result ((xs : Items New) × AreNewborns xs part.children.items ×
+            IsPut task.0 xs part.body part.prints.items (kept_of D.seen self.old) (kept_of D.seen self.new) ×
+            IsWritten part.writes.pieces self.old.cells.items self.new.cells.items) }
     {
         let Segment {
             body,

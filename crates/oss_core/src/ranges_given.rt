@@ -15,7 +15,8 @@ use std::alloc::AllocError;
 /// The task at a place owes the cells of a range no more. The answer is whether it owes none now.
 fn clear_range(tasks: &mut Vec<Held>, at: usize, range: Range) -> Result<bool, AllocError>
     requires owes { OwesRange tasks.old.items at range.lo range.hi }
-    ensures { MatchResult result (λ last. HasClearedRange at range.lo range.hi last tasks.old.items tasks.new.items) (λ e. Unit {0}) }
+    ensures { MatchResult result (λ last. HasClearedRange at range.lo range.hi last tasks.old.items
+        tasks.new.items) (λ e. Unit {0}) }
 {
     let held = &mut tasks[at];
     held.owed.clear(range)?;
@@ -25,7 +26,8 @@ fn clear_range(tasks: &mut Vec<Held>, at: usize, range: Range) -> Result<bool, A
 impl<D: Deps> Core<D> {
     ghost use Rattle.oss_core.specs.Cores.{kept_of};
 
-    /// A task gives up the cells of a range by lets, one after the other. It costs what one let does. After want of memory the core is given up.
+    /// A task gives up the cells of a range by lets, one after the other. It costs what one let does. After
+    /// want of memory the core is given up.
     pub(crate) fn let_range(&mut self, task: TaskNo, range: Range) -> Result<(), AllocError>
         requires sizes { length self.old.tree.tasks ≡ length self.old.tasks.items }
         requires owes { OwesRange self.old.tasks.items task.0 range.lo range.hi }

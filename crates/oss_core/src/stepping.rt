@@ -15,7 +15,8 @@ use oss_model::TaskNo;
 use oss_tree::Tree;
 use std::alloc::AllocError;
 
-/// The body at a place goes on by its next act, for which a load has found this number. After want of memory it is of no use.
+/// The body at a place goes on by its next act, for which a load has found this number. After want of memory it
+/// is of no use.
 pub(crate) fn go_on(
     tasks: &mut Vec<Held>,
     code: &Code,
@@ -43,7 +44,8 @@ fn note_end(tree: &mut Tree, task: TaskNo, body: &Body)
 impl<D: Deps> Core<D> {
     ghost use Rattle.oss_core.specs.Cores.{kept_of};
 
-    /// The next act of a task, which creates no task of the machine, is made. After want of memory the core is given up.
+    /// The next act of a task, which creates no task of the machine, is made. After want of memory the core is
+    /// given up.
     pub(crate) fn step(&mut self, code: &Code, task: TaskNo) -> Result<(), AllocError>
         requires sizes { length self.old.tree.tasks ≡ length self.old.tasks.items }
         requires before { StandsBeforeStep self.old.tasks.items task.0 }

@@ -25,7 +25,8 @@ fn is_given(owed: Option<Owed>, through: bool, released: bool) -> bool
     is_let(owed) && (released || through)
 }
 
-/// Whether a task that is kept so may give up any cell by a let. It costs what its ranges of owed and of released cells do.
+/// Whether a task that is kept so may give up any cell by a let. It costs what its ranges of owed and of
+/// released cells do.
 fn may_give_any(held: &Held, tree: &Tree, task: TaskNo) -> bool
     requires { task.0 < length tree.now.tasks }
     ensures { IsTrue result ↔ ((c : ℕ) × MayGive held.now tree.now.tasks task.0 c) }
@@ -46,8 +47,10 @@ fn may_give_any(held: &Held, tree: &Tree, task: TaskNo) -> bool
 /// Whether any slot of a task that is kept so may be joined.
 fn may_fold_any<D: Deps>(held: &Held, tree: &Tree, deps: &mut D, task: TaskNo) -> bool
     requires there { task.0 < length tree.now.tasks }
-    requires folding { (c : ℕ) (op : Operator) → value_at held.now.owed.pieces c ≡ Some (ways.Join op) → IsFoldOf (D.seen deps.old).opens task.0 c op }
-    ensures may { IsTrue result ↔ ((c : ℕ) × (op : Operator) × MayFold held.now tree.now.tasks (D.seen deps.old) task.0 c op) }
+    requires folding { (c : ℕ) (op : Operator) → value_at held.now.owed.pieces c ≡ Some (ways.Join op) →
+        IsFoldOf (D.seen deps.old).opens task.0 c op }
+    ensures may { IsTrue result ↔ ((c : ℕ) × (op : Operator) ×
+        MayFold held.now tree.now.tasks (D.seen deps.old) task.0 c op) }
     ensures same { IsSame (D.seen deps.old) (D.seen deps.new) }
 {
     let mut from = 0;
@@ -68,7 +71,8 @@ fn may_fold_any<D: Deps>(held: &Held, tree: &Tree, deps: &mut D, task: TaskNo) -
 pub(crate) fn may_anything<D: Deps>(held: &Held, tree: &Tree, deps: &mut D, task: TaskNo) -> bool
     requires there { task.0 < length tree.now.tasks }
     requires known { IsKnown (D.seen deps.old).opens task.0 }
-    requires folding { (c : ℕ) (op : Operator) → value_at held.now.owed.pieces c ≡ Some (ways.Join op) → IsFoldOf (D.seen deps.old).opens task.0 c op }
+    requires folding { (c : ℕ) (op : Operator) → value_at held.now.owed.pieces c ≡ Some (ways.Join op) →
+        IsFoldOf (D.seen deps.old).opens task.0 c op }
     ensures may { IsTrue result ↔ MayAnything held.now tree.now.tasks (D.seen deps.old) task.0 }
     ensures same { IsSame (D.seen deps.old) (D.seen deps.new) }
 {

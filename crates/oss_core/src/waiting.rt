@@ -52,7 +52,8 @@ fn is_newest_complete(tree: &Tree, task: TaskNo) -> bool
 /// Whether each access of a child of this task to a cell of these ranges is done.
 fn are_children_done<D: Deps>(deps: &mut D, task: TaskNo, ranges: &[Range]) -> bool
     requires { IsKnown (D.seen deps.old).opens task.0 }
-    ensures done { IsTrue result ↔ ((c : ℕ) → in_clauses (declared_on waited_for ranges.now) c ≡ true → AreChildrenDone (D.seen deps.old).opens (D.seen deps.old).given task.0 c) }
+    ensures done { IsTrue result ↔ ((c : ℕ) → in_clauses (declared_on waited_for ranges.now) c ≡ true →
+        AreChildrenDone (D.seen deps.old).opens (D.seen deps.old).given task.0 c) }
     ensures same { IsSame (D.seen deps.old) (D.seen deps.new) }
 {
     for range in ranges {

@@ -48,8 +48,9 @@ impl<D: Deps> Core<D> {
     ghost use Rattle.oss_core.specs.Leaving.{WasWave};
     ghost use Rattle.oss_core.specs.Turns.{AwaitsParts, HasLent, HasWaved, IsMidway, KeepsTasks, Midway};
 
-    /// A wave begins: the bodies of those of these tasks that may act go out, and spare ones stand in their places until `end_wave`. Conditions: the list has each
-    /// task that may step, in point order; the code has at most 1,048,576 cells. After want of memory the core is given up.
+    /// A wave begins: the bodies of those of these tasks that may act go out, and spare ones stand in their
+    /// places until `end_wave`. Conditions: the list has each task that may step, in point order; the code has
+    /// at most 1,048,576 cells. After want of memory the core is given up.
     pub fn begin_wave(
         &mut self,
         code: &Code,
@@ -59,30 +60,39 @@ impl<D: Deps> Core<D> {
         requires running { IsRunning code.now (kept_of D.seen self.old) }
         requires asked { HaveSteppers (kept_of D.seen self.old) asked.now }
         requires cells { length code.now.first ≤ 1048576 }
-        ensures { IfOk result (λ lent. HasLent code.now (kept_of D.seen self.old) (kept_of D.seen self.new) lent.steppers.items lent.bodies.items) }
+        ensures { IfOk result (λ lent. HasLent code.now (kept_of D.seen self.old) (kept_of D.seen self.new)
+            lent.steppers.items lent.bodies.items) }
     {
         let steppers = self.steppers(asked)?;
         let bodies = self.lend(code, steppers.as_slice(), spares)?;
         Ok(Lent { steppers, bodies })
     }
 
-    /// The wave ends: the parts of these tasks are put in, one after the other in point order. The answer tells how many acts each task made; of a task
-    /// that made none nothing is kept otherwise. Condition: these are the parts of the bodies that are out, over the memory of the core. After want of memory the core is given up.
+    /// The wave ends: the parts of these tasks are put in, one after the other in point order. The answer tells
+    /// how many acts each task made; of a task that made none nothing is kept otherwise. Condition: these are
+    /// the parts of the bodies that are out, over the memory of the core. After want of memory the core is
+    /// given up.
     pub fn end_wave(
         &mut self,
         steppers: &[TaskNo],
         parts: Vec<Segment>,
         spares: &mut Vec<Body>,
     ) -> Result<Vec<Turn>, AllocError>
-        requires { (code : CodeParts) × (before : Kept) × AwaitsParts code before (kept_of D.seen self.old) steppers.now parts.items }
-        ensures waved { IfOk result (λ turns. (code : CodeParts) (before : Kept) → AwaitsParts code before (kept_of D.seen self.old) steppers.now parts.items → HasWaved code before (kept_of D.seen self.new) turns.items) }
-        ensures turned { IfOk result (λ turns. (code : CodeParts) (before : Kept) → AwaitsParts code before (kept_of D.seen self.old) steppers.now parts.items → WasWave turns.items before (kept_of D.seen self.new)) }
+        requires { (code : CodeParts) × (before : Kept) ×
+            AwaitsParts code before (kept_of D.seen self.old) steppers.now parts.items }
+        ensures waved { IfOk result (λ turns. (code : CodeParts) (before : Kept) →
+            AwaitsParts code before (kept_of D.seen self.old) steppers.now parts.items →
+            HasWaved code before (kept_of D.seen self.new) turns.items) }
+        ensures turned { IfOk result (λ turns. (code : CodeParts) (before : Kept) →
+            AwaitsParts code before (kept_of D.seen self.old) steppers.now parts.items →
+            WasWave turns.items before (kept_of D.seen self.new)) }
         ensures tasks { OnOk result (KeepsTasks self.old.tree.tasks self.new.tree.tasks) }
     {
         self.put_all(steppers, parts, spares)
     }
 
-    /// The bodies of these tasks go out, and others stand in their places meanwhile. After want of memory the core is given up.
+    /// The bodies of these tasks go out, and others stand in their places meanwhile. After want of memory the
+    /// core is given up.
     fn lend(
         &mut self,
         code: &Code,
@@ -91,7 +101,8 @@ impl<D: Deps> Core<D> {
     ) -> Result<Vec<Body>, AllocError>
         requires there { (v : Number) → IsIn v steppers.now → v.0 < length self.old.tasks.items }
         requires cells { length code.now.first ≤ 1048576 }
-        ensures out { IfOk result (λ bodies. IsFilled steppers.now bodies.items self.new.tasks.items self.old.tasks.items) }
+        ensures out { IfOk result (λ bodies. IsFilled steppers.now bodies.items self.new.tasks.items
+            self.old.tasks.items) }
         ensures beside { OnOk result (IsBeside (kept_of D.seen self.old) (kept_of D.seen self.new)) }
     {
         let mut bodies = Vec::new(self.alloc);
@@ -111,7 +122,10 @@ impl<D: Deps> Core<D> {
         spares: &mut Vec<Body>,
     ) -> Result<Vec<Turn>, AllocError>
         requires { IsMidway steppers.now steppers.now parts.items [] (kept_of D.seen self.old) }
-        ensures { IfOk result (λ turns. (code : CodeParts) (main : Start CodeScript) (first : Items ℕ) (s : State CodeScript) (before : Kept) → Midway code main first s before steppers.now steppers.now parts.items [] (kept_of D.seen self.old) → Midway code main first s before steppers.now [] [] turns.items (kept_of D.seen self.new)) }
+        ensures { IfOk result (λ turns. (code : CodeParts) (main : Start CodeScript) (first : Items ℕ)
+            (s : State CodeScript) (before : Kept) →
+            Midway code main first s before steppers.now steppers.now parts.items [] (kept_of D.seen self.old) →
+            Midway code main first s before steppers.now [] [] turns.items (kept_of D.seen self.new)) }
     {
         let mut turns = Vec::new(self.alloc);
         let mut at: usize = 0;

@@ -31,7 +31,9 @@ impl Column {
         requires covered { AreModesCovered self.now.frames.items }
         requires shown { IsShown self.now.frames.items number }
         requires plain { IsPlain want }
-        ensures { (k : ℕ) → IsPlaceOf self.now.frames.items number k → MatchOption result (IsSatisfied (place_forest self.now.frames.items self.now.marks.items) want k) (λ t. IsBarOf self.now.frames.items self.now.marks.items want k t.0) }
+        ensures { (k : ℕ) → IsPlaceOf self.now.frames.items number k →
+            MatchOption result (IsSatisfied (place_forest self.now.frames.items self.now.marks.items) want k)
+            (λ t. IsBarOf self.now.frames.items self.now.marks.items want k t.0) }
     {
         match place_of(self.frames.as_slice(), number) {
             Some(at) => bar_task(self.frames.as_slice(), self.marks.as_slice(), want, at),
@@ -45,7 +47,9 @@ impl Column {
         requires marked { AreMarked self.now.frames.items self.now.marks.items None }
         requires covered { AreModesCovered self.now.frames.items }
         requires shown { IsShown self.now.frames.items number }
-        ensures { (k : ℕ) (op : Operator) → IsPlaceOf self.now.frames.items number k → mode_at_place self.now.frames.items k ≡ Fold op → (IsTrue result ↔ IsSatisfied (place_forest self.now.frames.items self.now.marks.items) (Want.ToJoin op) k) }
+        ensures { (k : ℕ) (op : Operator) → IsPlaceOf self.now.frames.items number k →
+            mode_at_place self.now.frames.items k ≡ Fold op →
+            (IsTrue result ↔ IsSatisfied (place_forest self.now.frames.items self.now.marks.items) (Want.ToJoin op) k) }
     {
         match place_of(self.frames.as_slice(), number) {
             Some(at) => is_join_clear(self.frames.as_slice(), self.marks.as_slice(), at),
@@ -57,7 +61,9 @@ impl Column {
     fn undone_child(&self, number: usize) -> Option<TaskNo>
         requires linked { AreLinked self.now.frames.items }
         requires marked { AreMarked self.now.frames.items self.now.marks.items None }
-        ensures some { (k : ℕ) → IsPlaceOf self.now.frames.items number k → MatchOption result (first_at self.now.marks.items k ≡ None) (λ t. IsFirstOf self.now.frames.items self.now.marks.items k t.0) }
+        ensures some { (k : ℕ) → IsPlaceOf self.now.frames.items number k →
+            MatchOption result (first_at self.now.marks.items k ≡ None) (λ t.
+            IsFirstOf self.now.frames.items self.now.marks.items k t.0) }
         ensures none { ((k : ℕ) → IsPlaceOf self.now.frames.items number k → ⊥) → result ≡ None }
     {
         match place_of(self.frames.as_slice(), number) {
@@ -73,7 +79,8 @@ fn is_join_clear(frames: &[Frame], marks: &[Mark], at: usize) -> bool
     requires marked { AreMarked frames.now marks.now None }
     requires covered { AreModesCovered frames.now }
     requires within { IsWithin frames.now at }
-    ensures { (op : Operator) → mode_at_place frames.now at ≡ Fold op → (IsTrue result ↔ IsSatisfied (place_forest frames.now marks.now) (Want.ToJoin op) at) }
+    ensures { (op : Operator) → mode_at_place frames.now at ≡ Fold op →
+        (IsTrue result ↔ IsSatisfied (place_forest frames.now marks.now) (Want.ToJoin op) at) }
 {
     match frames[at].mode {
         Mode::Fold(op) => is_satisfied(frames, marks, Want::ToJoin(op), at),
@@ -87,7 +94,9 @@ impl PlainDeps {
     fn bar_over(&self, number: usize, want: Want, range: Range) -> Option<TaskNo>
         requires plain { IsPlain want }
         requires named { IsNamedOver self.now.opens number range.lo range.hi }
-        ensures { (o : Entry) → IsNumber self.now.opens number o → MatchOption result (AreClear self.now want o range.lo range.hi) (λ u. IsBarredOver self.now want o range.lo range.hi u.0) }
+        ensures { (o : Entry) → IsNumber self.now.opens number o →
+            MatchOption result (AreClear self.now want o range.lo range.hi) (λ u.
+            IsBarredOver self.now want o range.lo range.hi u.0) }
     {
         let mut cell = range.lo;
         'stretches: while cell < range.hi {
@@ -109,7 +118,9 @@ impl PlainDeps {
     /// The task whose access stands in the way of an access of a task.
     fn obstacle_at(&self, number: usize, access: Access) -> Option<TaskNo>
         requires { (o : Entry) × IsNumber self.now.opens number o × IsIn access o.accesses }
-        ensures { (o : Entry) → IsNumber self.now.opens number o → MatchOption result (IsAccessMet self.now o access) (λ u. Hinders self.now.opens (given_at self.now.pieces self.now.columns) o.task u.0) }
+        ensures { (o : Entry) → IsNumber self.now.opens number o →
+            MatchOption result (IsAccessMet self.now o access) (λ u.
+            Hinders self.now.opens (given_at self.now.pieces self.now.columns) o.task u.0) }
     {
         // the invariant is known where a field is read
         let _ = &self.alloc;
@@ -126,7 +137,9 @@ impl PlainDeps {
     /// The task whose access stands in the way of a task.
     pub(crate) fn obstacle_to(&self, number: usize) -> Option<TaskNo>
         requires { (o : Entry) × IsNumber self.now.opens number o }
-        ensures { (o : Entry) → IsNumber self.now.opens number o → MatchOption result (AreAccessesMet self.now o) (λ u. Hinders self.now.opens (given_at self.now.pieces self.now.columns) o.task u.0) }
+        ensures { (o : Entry) → IsNumber self.now.opens number o →
+            MatchOption result (AreAccessesMet self.now o) (λ u.
+            Hinders self.now.opens (given_at self.now.pieces self.now.columns) o.task u.0) }
     {
         for access in self.opens[number - 1].accesses.as_slice() {
             let obstacle = self.obstacle_at(number, *access);
@@ -140,7 +153,9 @@ impl PlainDeps {
     /// The slot of a task may be joined into a cell.
     pub(crate) fn is_joinable(&self, number: usize, cell: u32) -> bool
         requires { IsNamedOver self.now.opens number cell (cell + 1) }
-        ensures { (o : Entry) (op : Operator) → IsNumber self.now.opens number o → mode_at cell o ≡ Fold op → (IsTrue result ↔ IsJoinSatisfied (opened_forest self.now.opens (given_at self.now.pieces self.now.columns) cell) op o.task) }
+        ensures { (o : Entry) (op : Operator) → IsNumber self.now.opens number o → mode_at cell o ≡ Fold op →
+            (IsTrue result ↔ IsJoinSatisfied (opened_forest self.now.opens
+            (given_at self.now.pieces self.now.columns) cell) op o.task) }
     {
         match self.map.get(cell) {
             Some(at) => self.columns[at].is_joinable(number),
@@ -150,7 +165,9 @@ impl PlainDeps {
 
     /// A child of the task whose access to a cell of a range is not done.
     pub(crate) fn undone_over(&self, number: usize, range: Range) -> Option<TaskNo>
-        ensures { (t : ℕ) → IsNumberOf self.now.opens number t → MatchOption result ((c : ℕ) → range.lo ≤ c → c < range.hi → AreChildrenDone self.now.opens (given_at self.now.pieces self.now.columns) t c) (λ u. HasUndoneChild self.now.opens (given_at self.now.pieces self.now.columns) t range.lo range.hi u.0) }
+        ensures { (t : ℕ) → IsNumberOf self.now.opens number t → MatchOption result ((c : ℕ) → range.lo ≤ c →
+            c < range.hi → AreChildrenDone self.now.opens (given_at self.now.pieces self.now.columns) t c) (λ u.
+            HasUndoneChild self.now.opens (given_at self.now.pieces self.now.columns) t range.lo range.hi u.0) }
     {
         let mut cell = range.lo;
         'stretches: while cell < range.hi {

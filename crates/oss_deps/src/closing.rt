@@ -1,4 +1,5 @@
-//! How a gift makes accesses done, from level to level upwards. Each access notes its first child that is not done, so nobody counts children.
+//! How a gift makes accesses done, from level to level upwards. Each access notes its first child that is not
+//! done, so nobody counts children.
 
 ghost use Rattle.std.specs.Prelude.{◌≡◌, ◌||◌, ◌==◌, ℕ, length, slice_get, None, Some, true};
 ghost use Rattle.oss_deps.specs.declared.frame.Frame.{Frame as Link};
@@ -24,8 +25,8 @@ fn next_open(frames: &[Frame], marks: &[Mark], at: usize) -> Option<usize>
     None
 }
 
-/// Where an access has come to be done, that above it has another first one that is not. Gives the access above, if it is done
-/// with that.
+/// Where an access has come to be done, that above it has another first one that is not. Gives the access
+/// above, if it is done with that.
 fn pass(frames: &[Frame], marks: &mut [Mark], done: usize) -> Option<usize>
     requires linked { AreLinked frames.now }
     requires marked { AreMarked frames.now marks.old (Some done) }
@@ -59,7 +60,8 @@ pub(crate) fn give_at(frames: &[Frame], marks: &mut [Mark], at: usize)
     requires marked { AreMarked frames.now marks.old None }
     requires within { IsWithin frames.now at }
     ensures marked { AreMarked frames.now marks.new None }
-    ensures given { (f : Link) (t : ℕ) → slice_get frames.now at ≡ Some f → given_by frames.now marks.new t ≡ (given_by frames.now marks.old t || (f.task == t)) }
+    ensures given { (f : Link) (t : ℕ) → slice_get frames.now at ≡ Some f →
+        given_by frames.now marks.new t ≡ (given_by frames.now marks.old t || (f.task == t)) }
 {
     marks[at].given = true;
     let mut done = if marks[at].is_closed() {

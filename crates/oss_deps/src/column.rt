@@ -1,4 +1,5 @@
-//! The list of accesses that the cells of a stretch share. It is made for all cells at first, and by copies where a cut divides it.
+//! The list of accesses that the cells of a stretch share. It is made for all cells at first, and by copies
+//! where a cut divides it.
 
 ghost use Rattle.std.specs.Prelude.{◌≡◌, ◌∷◌, [], false, true, IfOk, OnOk, OnErr};
 ghost use Rattle.oss_deps.specs.Columns.{HasRoom, root};
@@ -8,7 +9,8 @@ use crate::frame::{Frame, Mark};
 use oss_syntax::Mode;
 use std::alloc::{AllocError, Global};
 
-/// The accesses to a stretch of cells that no cut divides, in the order in which their tasks were opened. The first is main's.
+/// The accesses to a stretch of cells that no cut divides, in the order in which their tasks were opened. The
+/// first is main's.
 #[derive(Drop)]
 pub(crate) struct Column {
     /// The first of its cells.

@@ -1,4 +1,5 @@
-//! Cuts that were asked for: a range that is given up may end only there. A stretch may begin at a cell that is no cut, where memory was reserved.
+//! Cuts that were asked for: a range that is given up may end only there. A stretch may begin at a cell that is
+//! no cut, where memory was reserved.
 
 ghost use Rattle.std.specs.Prelude.{◌≡◌, ◌≤◌, ◌||◌, ◌==◌, [], ℕ};
 ghost use Rattle.oss_syntax.specs.declared.access.Access.{Access as Meant};
@@ -19,7 +20,8 @@ fn ask(map: &RangeMap<usize>, columns: &mut Vec<Column>, ended: &mut bool, cell:
     requires divided { IsDivided columns.old.items cell }
     requires bound { cell ≤ 1048576 }
     ensures same { AreSameButAsked columns.old.items columns.new.items }
-    ensures cuts { (k : ℕ) → is_cut columns.new.items ended.new k ≡ (is_cut columns.old.items ended.old k || (k == cell)) }
+    ensures cuts { (k : ℕ) → is_cut columns.new.items ended.new k ≡
+        (is_cut columns.old.items ended.old k || (k == cell)) }
 {
     if cell >= CELLS {
         *ended = true;
@@ -43,7 +45,8 @@ pub(crate) fn ask_ends(
     requires begins { IsDivided columns.old.items range.lo }
     requires ends { IsDivided columns.old.items range.hi }
     ensures same { AreSameButAsked columns.old.items columns.new.items }
-    ensures cuts { (k : ℕ) → is_cut columns.new.items ended.new k ≡ (is_cut columns.old.items ended.old k || is_end range k) }
+    ensures cuts { (k : ℕ) → is_cut columns.new.items ended.new k ≡
+        (is_cut columns.old.items ended.old k || is_end range k) }
 {
     ask(map, columns, ended, range.lo);
     ask(map, columns, ended, range.hi);
@@ -61,7 +64,8 @@ pub(crate) fn ask_all(
     requires begins { (a : Meant) → IsIn a accesses.now → IsDivided columns.old.items a.range.lo }
     requires ends { (a : Meant) → IsIn a accesses.now → IsDivided columns.old.items a.range.hi }
     ensures same { AreSameButAsked columns.old.items columns.new.items }
-    ensures cuts { (k : ℕ) → is_cut columns.new.items ended.new k ≡ (is_cut columns.old.items ended.old k || is_access_end accesses.now k) }
+    ensures cuts { (k : ℕ) → is_cut columns.new.items ended.new k ≡
+        (is_cut columns.old.items ended.old k || is_access_end accesses.now k) }
 {
     for access in accesses {
         ask_ends(map, columns, ended, access.range);

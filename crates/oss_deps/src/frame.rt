@@ -1,12 +1,13 @@
-//! One access in a stretch, in two parts: its place among the others, and how far it has come. A gift changes the second part alone.
+//! One access in a stretch, in two parts: its place among the others, and how far it has come. A gift changes
+//! the second part alone.
 
 ghost use Rattle.std.specs.Prelude.{◌≡◌};
 ghost use Rattle.oss_deps.specs.Places.{is_closed};
 
 use oss_syntax::Mode;
 
-/// What stands fast of an access to a stretch of cells, and its links in the list of such accesses: where that of the creator
-/// stands, the newest one of a child, and the next one of a sibling.
+/// What stands fast of an access to a stretch of cells, and its links in the list of such accesses: where that
+/// of the creator stands, the newest one of a child, and the next one of a sibling.
 #[derive(Clone, Copy)]
 pub(crate) struct Frame {
     /// The number of tasks that were opened up to this one.

@@ -27,7 +27,9 @@ fn give_in(column: &mut Column, number: usize)
     ensures frames { column.new.frames.items ≡ column.old.frames.items }
     ensures marked { AreMarked column.old.frames.items column.new.marks.items None }
     ensures room { HasRoom column.old → HasRoom column.new }
-    ensures given { (k t : ℕ) (f : Link) → slice_get column.old.frames.items k ≡ Some f → f.number ≡ number → given_by column.old.frames.items column.new.marks.items t ≡ (given_by column.old.frames.items column.old.marks.items t || (f.task == t)) }
+    ensures given { (k t : ℕ) (f : Link) → slice_get column.old.frames.items k ≡ Some f → f.number ≡ number →
+        given_by column.old.frames.items column.new.marks.items t ≡
+        (given_by column.old.frames.items column.old.marks.items t || (f.task == t)) }
 {
     match place_of(column.frames.as_slice(), number) {
         Some(at) => give_at(column.frames.as_slice(), column.marks.as_mut_slice(), at),
@@ -49,9 +51,11 @@ pub(crate) fn give_over(
     requires begins { IsDivided columns.old.items range.lo }
     requires ends { IsDivided columns.old.items range.hi }
     ensures columns { AreColumns opens.now map.now.pieces columns.new.items }
-    ensures given { (t c : ℕ) → given_at map.now.pieces columns.new.items t c ≡ (given_at map.now.pieces columns.old.items t c || ((task == t) && in_range range c)) }
+    ensures given { (t c : ℕ) → given_at map.now.pieces columns.new.items t c ≡
+        (given_at map.now.pieces columns.old.items t c || ((task == t) && in_range range c)) }
     ensures asked { (k : ℕ) → is_asked columns.new.items k ≡ is_asked columns.old.items k }
-    ensures ready { (reserved : Option (List Meant)) → AreReady reserved columns.old.items → AreReady reserved columns.new.items }
+    ensures ready { (reserved : Option (List Meant)) → AreReady reserved columns.old.items →
+        AreReady reserved columns.new.items }
 {
     match number_of(opens, task) {
         Some(number) => {

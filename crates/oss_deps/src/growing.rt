@@ -25,7 +25,8 @@ fn set_next(frames: &mut [Frame], last: Option<usize>, new: usize)
 fn link(frames: &mut [Frame], up: usize, new: usize)
     requires linked { AreLinked frames.old }
     requires within { up < length frames.old }
-    ensures { (k : ℕ) (f : Link) → slice_get frames.old k ≡ Some f → IsOldFrame new up (slice_index_or frames.old up blank).last k f (slice_get frames.new k) }
+    ensures { (k : ℕ) (f : Link) → slice_get frames.old k ≡ Some f →
+        IsOldFrame new up (slice_index_or frames.old up blank).last k f (slice_get frames.new k) }
 {
     let last = frames[up].last;
     set_next(frames, last, new);
@@ -51,14 +52,22 @@ fn note(marks: &mut [Mark], up: usize, new: usize)
     marks[up].first = first;
 }
 
-/// Adds an access behind all others of a stretch of cells, which has room for it: the access of the task with a number, below that of
-/// its creator at a place.
+/// Adds an access behind all others of a stretch of cells, which has room for it: the access of the task with a
+/// number, below that of its creator at a place.
 pub(crate) fn add(column: &mut Column, number: usize, task: u64, up: usize, mode: Mode)
     requires linked { AreLinked column.old.frames.items }
     requires same { length column.old.marks.items ≡ length column.old.frames.items }
     requires within { up < length column.old.frames.items }
     requires room { HasRoom column.old }
-    ensures frames { AreGrown column.old.frames.items column.new.frames.items up (slice_index_or column.old.frames.items up blank).last (record { number = number; task = task; up = up; mode = mode; last = None; next = None }) }
+    ensures frames { AreGrown column.old.frames.items column.new.frames.items up
+        (slice_index_or column.old.frames.items up blank).last (record {
+          number = number;
+          task = task;
+          up = up;
+          mode = mode;
+          last = None;
+          next = None;
+        }) }
     ensures marks { AreMarksGrown column.old.marks.items column.new.marks.items up }
     ensures lo { column.new.lo ≡ column.old.lo }
     ensures hi { column.new.hi ≡ column.old.hi }

@@ -1,4 +1,5 @@
-//! How a task and its access in a stretch are found: the task at once if tasks were opened in the order of their numbers, the access by halving.
+//! How a task and its access in a stretch are found: the task at once if tasks were opened in the order of
+//! their numbers, the access by halving.
 
 ghost use Rattle.std.specs.Prelude.{◌≡◌, ◌↔◌, ◌<◌, ℕ, length, IfSome, IfNone, IsTrue};
 ghost use Rattle.oss_deps.specs.Opens.{IsKnown};

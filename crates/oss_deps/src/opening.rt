@@ -33,7 +33,8 @@ fn add_over(
     access: Access,
 )
     requires { AreAddable map.now.pieces columns.old.items parent access.range.lo access.range.hi }
-    ensures { AreGrownTo number task parent access.mode access.range.lo access.range.hi columns.old.items columns.new.items }
+    ensures { AreGrownTo number task parent access.mode access.range.lo access.range.hi columns.old.items
+        columns.new.items }
 {
     let mut cell = access.range.lo;
     'stretches: while cell < access.range.hi {
@@ -58,7 +59,8 @@ pub(crate) fn add_all(
     accesses: &[Access],
 )
     requires rising { IsRising accesses.now }
-    requires addable { (a : Meant) → IsIn a accesses.now → AreAddable map.now.pieces columns.old.items parent a.range.lo a.range.hi }
+    requires addable { (a : Meant) → IsIn a accesses.now →
+        AreAddable map.now.pieces columns.old.items parent a.range.lo a.range.hi }
     ensures { AreAllGrown number task parent accesses.now columns.old.items columns.new.items }
 {
     for access in accesses {

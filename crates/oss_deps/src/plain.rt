@@ -1,4 +1,5 @@
-//! The plain lists: a dependency system that keeps links and marks alone, and finds each answer by a walk over the lists.
+//! The plain lists: a dependency system that keeps links and marks alone, and finds each answer by a walk over
+//! the lists.
 
 ghost use Rattle.std.specs.Prelude.{◌≡◌, ◌≤◌, ◌<◌, ℕ, IsOk, List as Accesses, MatchOption, OnErr, OnOk, Some};
 ghost use Rattle.oss_syntax.specs.declared.access.Access.{Access as Meant};
@@ -64,7 +65,13 @@ impl Model for PlainDeps {
     ghost use Rattle.oss_deps.specs.Columns.{AreRight};
     ghost use Rattle.std.specs.Prelude.{vec_capacity};
 
-    ghost view = { λ d. record { opens = d.opens.items; pieces = d.map.pieces; columns = d.columns.items; ended = d.ended; reserved = d.reserved } };
+    ghost view = { λ d. record {
+      opens = d.opens.items;
+      pieces = d.map.pieces;
+      columns = d.columns.items;
+      ended = d.ended;
+      reserved = d.reserved;
+    } };
 
     ghost invariant = { λ d. AreRight d.opens.items (vec_capacity d.opens) d.map.pieces d.columns.items d.reserved };
 }
@@ -100,8 +107,10 @@ impl PlainDeps {
 
     /// Opens a task with the reserved accesses.
     fn open_reserved(&mut self, task: u64, parent: u64)
-        requires { (accesses : Accesses Meant) × (self.old.reserved ≡ Some accesses) × CanOpen (seen_of self.old) (record { task = task; parent = parent; accesses = accesses }) }
-        ensures { (accesses : Accesses Meant) → self.old.reserved ≡ Some accesses → Opens (record { task = task; parent = parent; accesses = accesses }) (seen_of self.old) (seen_of self.new) }
+        requires { (accesses : Accesses Meant) × (self.old.reserved ≡ Some accesses) ×
+            CanOpen (seen_of self.old) (record { task = task; parent = parent; accesses = accesses }) }
+        ensures { (accesses : Accesses Meant) → self.old.reserved ≡ Some accesses →
+            Opens (record { task = task; parent = parent; accesses = accesses }) (seen_of self.old) (seen_of self.new) }
     {
         let creator = match number_of(self.opens.as_slice(), parent) {
             Some(creator) => creator,
@@ -138,7 +147,8 @@ impl PlainDeps {
     /// The task of which an access stands in the way of this one.
     fn obstacle_of(&self, task: TaskNo) -> Option<TaskNo>
         requires { IsKnown self.now.opens task.0 }
-        ensures { MatchOption result (IsMet self.now.opens (given_at self.now.pieces self.now.columns) task.0) (λ u. Hinders self.now.opens (given_at self.now.pieces self.now.columns) task.0 u.0) }
+        ensures { MatchOption result (IsMet self.now.opens (given_at self.now.pieces self.now.columns) task.0)
+            (λ u. Hinders self.now.opens (given_at self.now.pieces self.now.columns) task.0 u.0) }
     {
         match number_of(self.opens.as_slice(), task.0) {
             Some(number) => {
@@ -155,7 +165,9 @@ impl PlainDeps {
     /// A child of the task with an access to a cell of the range that is not done.
     fn undone_child_of(&self, task: TaskNo, range: Range) -> Option<TaskNo>
         requires { IsKnown self.now.opens task.0 }
-        ensures { MatchOption result ((c : ℕ) → range.lo ≤ c → c < range.hi → AreChildrenDone self.now.opens (given_at self.now.pieces self.now.columns) task.0 c) (λ u. HasUndoneChild self.now.opens (given_at self.now.pieces self.now.columns) task.0 range.lo range.hi u.0) }
+        ensures { MatchOption result ((c : ℕ) → range.lo ≤ c → c < range.hi →
+            AreChildrenDone self.now.opens (given_at self.now.pieces self.now.columns) task.0 c) (λ u.
+            HasUndoneChild self.now.opens (given_at self.now.pieces self.now.columns) task.0 range.lo range.hi u.0) }
     {
         match number_of(self.opens.as_slice(), task.0) {
             Some(number) => self.undone_over(number, range),
@@ -164,11 +176,13 @@ impl PlainDeps {
     }
 }
 
-/// What a call costs is told by the stretches that it comes to, and not by their cells: a range has one for each cut in it, and one
-/// more. A task is found at once where tasks are opened in the order of their numbers, and its access in a stretch by halving. `met` and `obstacle` then go back, on each level, over the
-/// accesses behind the first sibling that is not done, and end at the first that stands in the way; so in a chain of writers one step is
-/// enough, and at most each of these accesses is looked at once. `may_join` does so in one stretch. `children_done` and `undone_child`
-/// read one mark in each stretch, and end at the first child that is not done.
+/// What a call costs is told by the stretches that it comes to, and not by their cells: a range has one for
+/// each cut in it, and one more. A task is found at once where tasks are opened in the order of their numbers,
+/// and its access in a stretch by halving. `met` and `obstacle` then go back, on each level, over the accesses
+/// behind the first sibling that is not done, and end at the first that stands in the way; so in a chain of
+/// writers one step is enough, and at most each of these accesses is looked at once. `may_join` does so in one
+/// stretch. `children_done` and `undone_child` read one mark in each stretch, and end at the first child that
+/// is not done.
 impl Deps for PlainDeps {
     ghost use Rattle.oss_deps.specs.Kept.{seen_of};
 

@@ -1,4 +1,5 @@
-//! Room for an opening is made beforehand: stretches are divided at the ends of the accesses, and each gets room for one more access.
+//! Room for an opening is made beforehand: stretches are divided at the ends of the accesses, and each gets
+//! room for one more access.
 
 ghost use Rattle.std.specs.Prelude.{◌≡◌, ◌≤◌, ◌<◌, [], OnOk};
 ghost use Rattle.oss_syntax.specs.declared.access.Access.{Access as Meant};

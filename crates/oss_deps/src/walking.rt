@@ -8,13 +8,14 @@ use crate::frame::{Frame, Mark};
 use crate::want::{Want, may_pass, want_above};
 use oss_model::TaskNo;
 
-/// The nearest earlier sibling whose access stands in the way of the access at a place, by its place. It goes back from one place to
-/// the one before it, and no further than the first sibling that is not done.
+/// The nearest earlier sibling whose access stands in the way of the access at a place, by its place. It goes
+/// back from one place to the one before it, and no further than the first sibling that is not done.
 fn bar_beside(frames: &[Frame], marks: &[Mark], want: Want, at: usize) -> Option<usize>
     requires linked { AreLinked frames.now }
     requires marked { AreMarked frames.now marks.now None }
     requires within { IsWithin frames.now at }
-    ensures { MatchOption result (IsLevelClear frames.now marks.now want at) (λ u. IsBarBeside frames.now marks.now want u at) }
+    ensures { MatchOption result (IsLevelClear frames.now marks.now want at) (λ u.
+        IsBarBeside frames.now marks.now want u at) }
 {
     let up = frames[at].up;
     let first = match marks[up].first {
@@ -32,14 +33,16 @@ fn bar_beside(frames: &[Frame], marks: &[Mark], want: Want, at: usize) -> Option
     None
 }
 
-/// The access that stands in the way of the access at a place, by its place: on the lowest level that has one, the nearest.
+/// The access that stands in the way of the access at a place, by its place: on the lowest level that has one,
+/// the nearest.
 fn bar_of(frames: &[Frame], marks: &[Mark], wanted: Want, at: usize) -> Option<usize>
     requires linked { AreLinked frames.now }
     requires marked { AreMarked frames.now marks.now None }
     requires covered { AreModesCovered frames.now }
     requires within { IsWithin frames.now at }
     requires fits { Fits frames.now wanted at }
-    ensures { MatchOption result (IsSatisfied (place_forest frames.now marks.now) wanted at) (λ u. IsBar frames.now marks.now u wanted at) }
+    ensures { MatchOption result (IsSatisfied (place_forest frames.now marks.now) wanted at) (λ u.
+        IsBar frames.now marks.now u wanted at) }
 {
     let mut place = at;
     let mut want = wanted;
@@ -62,7 +65,8 @@ pub(crate) fn bar_task(frames: &[Frame], marks: &[Mark], want: Want, at: usize) 
     requires covered { AreModesCovered frames.now }
     requires within { IsWithin frames.now at }
     requires fits { Fits frames.now want at }
-    ensures { MatchOption result (IsSatisfied (place_forest frames.now marks.now) want at) (λ t. IsBarOf frames.now marks.now want at t.0) }
+    ensures { MatchOption result (IsSatisfied (place_forest frames.now marks.now) want at) (λ t.
+        IsBarOf frames.now marks.now want at t.0) }
 {
     match bar_of(frames, marks, want, at) {
         Some(bar) => Some(TaskNo(frames[bar].task)),

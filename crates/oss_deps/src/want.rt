@@ -51,8 +51,8 @@ fn is_read(mode: Mode) -> bool
     }
 }
 
-/// An access of an earlier sibling does not stand in the way: it has this mode, and is done or not. It is the first one that is not
-/// done, or stands behind that.
+/// An access of an earlier sibling does not stand in the way: it has this mode, and is done or not. It is the
+/// first one that is not done, or stands behind that.
 pub(crate) fn may_pass(want: Want, mode: Mode, is_closed: bool) -> bool
     ensures { result ≡ may_pass want mode is_closed }
 {

@@ -1,4 +1,5 @@
-//! Dependency systems beside each other: each keeps with it what it was told, so that both are told the same, and are to answer alike.
+//! Dependency systems beside each other: each keeps with it what it was told, so that both are told the same,
+//! and are to answer alike.
 #![tactic(auto)]
 
 #[cfg(test)]

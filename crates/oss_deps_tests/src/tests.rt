@@ -1,4 +1,5 @@
-//! Dependency systems beside lists that were worked by hand, and beside each other. Each call that wanted memory is made again: nothing is lost by that.
+//! Dependency systems beside lists that were worked by hand, and beside each other. Each call that wanted
+//! memory is made again: nothing is lost by that.
 
 mod beside;
 mod obstacles;

@@ -156,7 +156,11 @@ fn is_lent(opens: &[Open], gives: &[(u64, Range)], parent: u64, access: Access) 
 
 /// The task may be opened.
 fn may_open(opens: &[Open], gives: &[(u64, Range)], task: u64, parent: u64, access: Access) -> bool
-    ensures { IsTrue result → MayOpen opens.now gives.now (record { task = task; parent = parent; accesses = access ∷ [] }) }
+    ensures { IsTrue result → MayOpen opens.now gives.now (record {
+      task = task;
+      parent = parent;
+      accesses = access ∷ [];
+    }) }
 {
     match number_of(opens, task) {
         Some(_) => false,
@@ -220,17 +224,19 @@ impl<D: Deps> Told<D> {
         (self.opens.len(), self.gives.len(), self.joins)
     }
 
-    /// Whether a task is nested at most so deep: main at most 0, its children at most 1. It is not where the task was not opened.
+    /// Whether a task is nested at most so deep: main at most 0, its children at most 1. It is not where the
+    /// task was not opened.
     pub fn is_nested_within(&self, task: u64, levels: u64) -> bool
         ensures { IsTrue result → IsShallow self.now.opens.items task levels }
     {
         is_shallow(self.opens.as_slice(), task, levels)
     }
 
-    /// Whether the task is known, by what was told, to meet the condition of `open`. It may meet it where this is not known: an access is
-    /// looked for in one access of the creator, never in several beside each other.
+    /// Whether the task is known, by what was told, to meet the condition of `open`. It may meet it where this
+    /// is not known: an access is looked for in one access of the creator, never in several beside each other.
     pub fn may_open(&self, task: u64, parent: u64, access: Access) -> bool
-        ensures { IsTrue result → MayOpen self.now.opens.items self.now.gives.items (record { task = task; parent = parent; accesses = access ∷ [] }) }
+        ensures { IsTrue result → MayOpen self.now.opens.items self.now.gives.items
+            (record { task = task; parent = parent; accesses = access ∷ [] }) }
     {
         may_open(
             self.opens.as_slice(),
@@ -241,19 +247,21 @@ impl<D: Deps> Told<D> {
         )
     }
 
-    /// Whether the task is known, by what was told, to meet the condition of `give`, once the ends of the range are cuts.
+    /// Whether the task is known, by what was told, to meet the condition of `give`, once the ends of the range
+    /// are cuts.
     pub fn may_give(&self, task: u64, range: Range) -> bool
         ensures { IsTrue result → MayGive self.now.opens.items self.now.gives.items task range }
     {
         may_give(self.opens.as_slice(), self.gives.as_slice(), task, range)
     }
 
-    /// Opens a task with one access, where `may_open` allows it, and tells whether it was opened. Where it was not, and after want of memory,
-    /// what was told is as before.
+    /// Opens a task with one access, where `may_open` allows it, and tells whether it was opened. Where it was
+    /// not, and after want of memory, what was told is as before.
     pub fn open(&mut self, task: u64, parent: u64, access: Access) -> Result<bool, AllocError>
         requires { IsTold (D.seen self.old.system) self.old.opens.items self.old.gives.items }
         ensures told { IsTold (D.seen self.new.system) self.new.opens.items self.new.gives.items }
-        ensures opened { result ≡ Gave true → self.new.opens.items ≡ self.old.opens.items ++ record { task = task; parent = parent; accesses = access ∷ [] } ∷ [] }
+        ensures opened { result ≡ Gave true → self.new.opens.items ≡ self.old.opens.items ++
+            record { task = task; parent = parent; accesses = access ∷ [] } ∷ [] }
         ensures not_opened { (result ≡ Gave true → ⊥) → self.new.opens.items ≡ self.old.opens.items }
         ensures gives { self.new.gives ≡ self.old.gives }
     {
@@ -271,8 +279,8 @@ impl<D: Deps> Told<D> {
         Ok(true)
     }
 
-    /// A task gives up a range, whose ends are made cuts before, where `may_give` allows it. Tells whether it was given up. Where it was
-    /// not, and after want of memory, what was told is as before.
+    /// A task gives up a range, whose ends are made cuts before, where `may_give` allows it. Tells whether it
+    /// was given up. Where it was not, and after want of memory, what was told is as before.
     pub fn give(&mut self, task: u64, range: Range) -> Result<bool, AllocError>
         requires { IsTold (D.seen self.old.system) self.old.opens.items self.old.gives.items }
         ensures told { IsTold (D.seen self.new.system) self.new.opens.items self.new.gives.items }
@@ -295,7 +303,8 @@ impl<D: Deps> Told<D> {
         requires { IsTold (D.seen self.old.system) self.old.opens.items self.old.gives.items }
         ensures told { IsTold (D.seen self.new.system) self.new.opens.items self.new.gives.items }
         ensures same { (self.new.opens ≡ self.old.opens) × (self.new.gives ≡ self.old.gives) }
-        ensures some { IfSome result (λ r. IsTrue r ↔ IsMet (D.seen self.old.system).opens (D.seen self.old.system).given task) }
+        ensures some { IfSome result (λ r. IsTrue r ↔
+            IsMet (D.seen self.old.system).opens (D.seen self.old.system).given task) }
         ensures none { IfNone result (IsKnown self.old.opens.items task → ⊥) }
     {
         match number_of(self.opens.as_slice(), task) {
@@ -304,13 +313,16 @@ impl<D: Deps> Told<D> {
         }
     }
 
-    /// Whether the slot of the task for the first cell of a range may be joined; none where it is not known that the task has one access
-    /// to the range, and that a reduction.
+    /// Whether the slot of the task for the first cell of a range may be joined; none where it is not known
+    /// that the task has one access to the range, and that a reduction.
     pub fn may_join(&mut self, task: u64, range: Range) -> Option<bool>
         requires { IsTold (D.seen self.old.system) self.old.opens.items self.old.gives.items }
         ensures told { IsTold (D.seen self.new.system) self.new.opens.items self.new.gives.items }
         ensures same { (self.new.opens ≡ self.old.opens) × (self.new.gives ≡ self.old.gives) }
-        ensures some { IfSome result (λ r. (op : Operator) → mode_in (D.seen self.old.system).opens range.lo task ≡ Fold op → (IsTrue r ↔ IsJoinSatisfied (opened_forest (D.seen self.old.system).opens (D.seen self.old.system).given range.lo) op task)) }
+        ensures some { IfSome result (λ r. (op : Operator) →
+            mode_in (D.seen self.old.system).opens range.lo task ≡ Fold op →
+            (IsTrue r ↔ IsJoinSatisfied (opened_forest (D.seen self.old.system).opens
+            (D.seen self.old.system).given range.lo) op task)) }
     {
         match mode_over(self.opens.as_slice(), task, range) {
             Some(Mode::Fold(_)) => {
@@ -326,7 +338,8 @@ impl<D: Deps> Told<D> {
         requires { IsTold (D.seen self.old.system) self.old.opens.items self.old.gives.items }
         ensures told { IsTold (D.seen self.new.system) self.new.opens.items self.new.gives.items }
         ensures same { (self.new.opens ≡ self.old.opens) × (self.new.gives ≡ self.old.gives) }
-        ensures some { IfSome result (λ r. IsTrue r ↔ ((c : ℕ) → range.lo ≤ c → c < range.hi → AreChildrenDone (D.seen self.old.system).opens (D.seen self.old.system).given task c)) }
+        ensures some { IfSome result (λ r. IsTrue r ↔ ((c : ℕ) → range.lo ≤ c → c < range.hi →
+            AreChildrenDone (D.seen self.old.system).opens (D.seen self.old.system).given task c)) }
         ensures none { IfNone result (IsKnown self.old.opens.items task → ⊥) }
     {
         match number_of(self.opens.as_slice(), task) {
@@ -340,7 +353,9 @@ impl<D: Deps> Told<D> {
         requires { IsTold (D.seen self.old.system) self.old.opens.items self.old.gives.items }
         ensures told { IsTold (D.seen self.new.system) self.new.opens.items self.new.gives.items }
         ensures same { (self.new.opens ≡ self.old.opens) × (self.new.gives ≡ self.old.gives) }
-        ensures some { IfSome result (λ r. MatchOption r (IsMet (D.seen self.old.system).opens (D.seen self.old.system).given task) (λ u. Hinders (D.seen self.old.system).opens (D.seen self.old.system).given task u.0)) }
+        ensures some { IfSome result (λ r. MatchOption r (IsMet (D.seen self.old.system).opens
+            (D.seen self.old.system).given task) (λ u. Hinders (D.seen self.old.system).opens
+            (D.seen self.old.system).given task u.0)) }
         ensures none { IfNone result (IsKnown self.old.opens.items task → ⊥) }
     {
         match number_of(self.opens.as_slice(), task) {
@@ -349,12 +364,15 @@ impl<D: Deps> Told<D> {
         }
     }
 
-    /// A child of the task with an access to a range that is not done, if there is one; none exactly where there is no such task.
+    /// A child of the task with an access to a range that is not done, if there is one; none exactly where
+    /// there is no such task.
     pub fn undone_child(&mut self, task: u64, range: Range) -> Option<Option<TaskNo>>
         requires { IsTold (D.seen self.old.system) self.old.opens.items self.old.gives.items }
         ensures told { IsTold (D.seen self.new.system) self.new.opens.items self.new.gives.items }
         ensures same { (self.new.opens ≡ self.old.opens) × (self.new.gives ≡ self.old.gives) }
-        ensures some { IfSome result (λ r. MatchOption r ((c : ℕ) → range.lo ≤ c → c < range.hi → AreChildrenDone (D.seen self.old.system).opens (D.seen self.old.system).given task c) (λ u. HasUndoneChild (D.seen self.old.system).opens (D.seen self.old.system).given task range.lo range.hi u.0)) }
+        ensures some { IfSome result (λ r. MatchOption r ((c : ℕ) → range.lo ≤ c → c < range.hi →
+            AreChildrenDone (D.seen self.old.system).opens (D.seen self.old.system).given task c) (λ u.
+            HasUndoneChild (D.seen self.old.system).opens (D.seen self.old.system).given task range.lo range.hi u.0)) }
         ensures none { IfNone result (IsKnown self.old.opens.items task → ⊥) }
     {
         match number_of(self.opens.as_slice(), task) {

@@ -1,5 +1,5 @@
-//! A place in the tokens of one expression that shows a limited number of operators, so that reading stops where an expression has too many,
-//! whatever stands behind.
+//! A place in the tokens of one expression that shows a limited number of operators, so that reading stops
+//! where an expression has too many, whatever stands behind.
 
 ghost use Rattle.std.specs.Prelude.{◌≡◌, ◌↔◌, ◌∷◌, ◌++◌, [], IsTrue, MatchOption, drop};
 ghost use Rattle.oss_grammar.specs.Reading.{begins, has, read_one};
@@ -16,9 +16,9 @@ use oss_syntax::{BinOp, Expr, Token, UnOp};
 use std::alloc::Global;
 use std::marker::Model;
 
-/// A place in the tokens of one expression: it shows no token behind the last operator of a number of them. Contracts see the
-/// tokens that are shown and left, and those behind. A call that answers `Ok` has taken what it read, and one that answers an
-/// error has taken nothing.
+/// A place in the tokens of one expression: it shows no token behind the last operator of a number of them.
+/// Contracts see the tokens that are shown and left, and those behind. A call that answers `Ok` has taken what
+/// it read, and one that answers an error has taken nothing.
 #[derive(Drop)]
 pub(crate) struct Counted<'t> {
     left: &'t [Token],
@@ -60,7 +60,8 @@ impl<'t> Counted<'t> {
 
     /// The next token, and the place behind it.
     fn split(&self) -> Option<(&'t Token, Counted<'t>)>
-        ensures { MatchOption result (self.now.seen ≡ []) (λ p. (self.now.seen ≡ p.0.now ∷ p.1.seen) × (p.1.behind ≡ self.now.behind)) }
+        ensures { MatchOption result (self.now.seen ≡ []) (λ p. (self.now.seen ≡ p.0.now ∷ p.1.seen) ×
+            (p.1.behind ≡ self.now.behind)) }
     {
         if self.operators == 0 {
             return None;

@@ -41,8 +41,8 @@ pub struct Named {
     pub line: u32,
 }
 
-/// A place in a list of tokens: contracts see the tokens that are left. A call that answers `Ok` has taken what it read, and
-/// one that answers an error has taken nothing.
+/// A place in a list of tokens: contracts see the tokens that are left. A call that answers `Ok` has taken what
+/// it read, and one that answers an error has taken nothing.
 #[derive(Drop)]
 pub struct Cursor<'t> {
     left: &'t [Token],

@@ -270,7 +270,8 @@ fn operations(
     tokens: &mut Counted<'_>,
 ) -> Result<Expr, Unread>
     requires { more ≤ 9 }
-    ensures value { ReadsAs (read_operations level (read_above more levels) left tokens.old.seen) result tokens.new.seen }
+    ensures value { ReadsAs (read_operations level (read_above more levels) left tokens.old.seen) result
+        tokens.new.seen }
     ensures behind { tokens.new.behind ≡ tokens.old.behind }
 {
     let mut value = left;

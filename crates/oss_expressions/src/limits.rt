@@ -79,9 +79,12 @@ fn counted(
     }
 }
 
-/// Where all tokens that are shown were taken, and the last of them is one operator too many: the tokens from that one on.
+/// Where all tokens that are shown were taken, and the last of them is one operator too many: the tokens from
+/// that one on.
 fn over<'t>(operators: u32, all: &'t [Token], seen: &Counted<'t>) -> Option<&'t [Token]>
-    ensures { MatchOption result (passed is_operator operators all.now seen.now.seen ≡ false) (λ place. (passed is_operator operators all.now seen.now.seen ≡ true) × (place.now ≡ from_count is_operator operators all.now)) }
+    ensures { MatchOption result (passed is_operator operators all.now seen.now.seen ≡ false) (λ place.
+        (passed is_operator operators all.now seen.now.seen ≡ true) ×
+        (place.now ≡ from_count is_operator operators all.now)) }
 {
     if !seen.is_at_end() {
         return None;

@@ -1,5 +1,5 @@
-//! What readers of pragmas and of whole programs stand on: the cursor and why reading stops, the readers of expressions that go on
-//! from a cursor, and what single tokens are.
+//! What readers of pragmas and of whole programs stand on: the cursor and why reading stops, the readers of
+//! expressions that go on from a cursor, and what single tokens are.
 
 pub use crate::cursor::{Cursor, Named, Unread};
 pub use crate::expressions::element;

@@ -20,7 +20,8 @@ fn ask(map: &RangeMap<usize>, fragments: &mut Vec<Fragment>, ended: &mut bool, c
     requires divided { IsDivided fragments.old.items cell }
     requires bound { cell ≤ 1048576 }
     ensures same { AreSameButAsked fragments.old.items fragments.new.items }
-    ensures cuts { (k : ℕ) → is_cut_by fragments.new.items ended.new k ≡ (is_cut_by fragments.old.items ended.old k || (k == cell)) }
+    ensures cuts { (k : ℕ) → is_cut_by fragments.new.items ended.new k ≡
+        (is_cut_by fragments.old.items ended.old k || (k == cell)) }
 {
     if cell >= CELLS {
         *ended = true;
@@ -44,7 +45,8 @@ pub(crate) fn ask_ends(
     requires begins { IsDivided fragments.old.items range.lo }
     requires ends { IsDivided fragments.old.items range.hi }
     ensures same { AreSameButAsked fragments.old.items fragments.new.items }
-    ensures cuts { (k : ℕ) → is_cut_by fragments.new.items ended.new k ≡ (is_cut_by fragments.old.items ended.old k || is_end range k) }
+    ensures cuts { (k : ℕ) → is_cut_by fragments.new.items ended.new k ≡
+        (is_cut_by fragments.old.items ended.old k || is_end range k) }
 {
     ask(map, fragments, ended, range.lo);
     ask(map, fragments, ended, range.hi);
@@ -62,7 +64,8 @@ pub(crate) fn ask_all(
     requires begins { (a : Meant) → IsIn a accesses.now → IsDivided fragments.old.items a.range.lo }
     requires ends { (a : Meant) → IsIn a accesses.now → IsDivided fragments.old.items a.range.hi }
     ensures same { AreSameButAsked fragments.old.items fragments.new.items }
-    ensures cuts { (k : ℕ) → is_cut_by fragments.new.items ended.new k ≡ (is_cut_by fragments.old.items ended.old k || is_access_end accesses.now k) }
+    ensures cuts { (k : ℕ) → is_cut_by fragments.new.items ended.new k ≡
+        (is_cut_by fragments.old.items ended.old k || is_access_end accesses.now k) }
 {
     for access in accesses {
         ask_ends(map, fragments, ended, access.range);

@@ -97,13 +97,15 @@ impl Fragment {
         self.line.reserve()
     }
 
-    /// Leaves out the accesses that are spent, so that a copy of the fragment has none of them. It costs as much as there are accesses, and
-    /// one look at each where none is spent. Err: memory is wanting, and nothing has changed.
+    /// Leaves out the accesses that are spent, so that a copy of the fragment has none of them. It costs as
+    /// much as there are accesses, and one look at each where none is spent. Err: memory is wanting, and
+    /// nothing has changed.
     pub(crate) fn thin(&mut self, alloc: Global) -> Result<(), AllocError>
         requires right { IsFragment self.old }
         ensures edges { HasSameEdges self.old self.new }
         ensures thinner { IsThinner self.old self.new }
-        ensures left { OnOk result (IsRemainder self.old.line.hangs self.old.line.stand self.old.tasks.items self.new.line.hangs self.new.tasks.items) }
+        ensures left { OnOk result (IsRemainder self.old.line.hangs self.old.line.stand self.old.tasks.items
+            self.new.line.hangs self.new.tasks.items) }
         ensures err { OnErr result (self.new ≡ self.old) }
     {
         if !has_spent(&self.line) {
@@ -119,8 +121,8 @@ impl Fragment {
         Ok(())
     }
 
-    /// The access of a task, by the number of its open; main's is 0. None: none is kept here; the task has none, or it was left out. It costs
-    /// the logarithm of the number of accesses.
+    /// The access of a task, by the number of its open; main's is 0. None: none is kept here; the task has
+    /// none, or it was left out. It costs the logarithm of the number of accesses.
     pub fn entry_of(&self, number: usize) -> Option<usize>
         requires { AreEntries (here_of self.now) }
         ensures found { IfSome result (λ at. IsEntry (here_of self.now) number at) }
@@ -151,7 +153,8 @@ impl Fragment {
         requires room { HasRoom self.old }
         ensures edges { HasSameEdges self.old self.new }
         ensures hangs { self.new.line.hangs ≡ opened_in self.old.line.hangs above mode }
-        ensures hung { IsHung (wires_of self.old.line.hangs) (wires_of self.new.line.hangs) above (length self.old.line.hangs) }
+        ensures hung { IsHung (wires_of self.old.line.hangs) (wires_of self.new.line.hangs) above
+            (length self.old.line.hangs) }
         ensures settled { self.new.line.head ≡ 0 }
         ensures tasks { self.new.tasks.items ≡ self.old.tasks.items ++ number ∷ [] }
     {

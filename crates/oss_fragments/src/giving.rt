@@ -22,7 +22,8 @@ pub(crate) fn give_over(
     requires some { fragments.old.items ≡ [] → ⊥ }
     requires begins { IsDivided fragments.old.items range.lo }
     requires ends { IsDivided fragments.old.items range.hi }
-    requires shown { (c : ℕ) → range.lo ≤ c → c < range.hi → IsShown number (here_by map.now.pieces fragments.old.items c) }
+    requires shown { (c : ℕ) → range.lo ≤ c → c < range.hi →
+        IsShown number (here_by map.now.pieces fragments.old.items c) }
     ensures { AreWalked (IsGivenIn number) range.lo range.hi fragments.old.items fragments.new.items }
 {
     let mut cell = range.lo;

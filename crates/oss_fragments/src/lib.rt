@@ -1,4 +1,5 @@
-//! The cells of a program in fragments: cells that stand side by side and have the same accesses share one line of accesses.
+//! The cells of a program in fragments: cells that stand side by side and have the same accesses share one line
+//! of accesses.
 #![tactic(auto)]
 
 mod cutting;

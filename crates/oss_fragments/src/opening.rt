@@ -23,8 +23,10 @@ fn open_over(
     requires are { AreFragments map.now.pieces fragments.old.items }
     requires some { fragments.old.items ≡ [] → ⊥ }
     requires ready { IsReady fragments.old.items access.range.lo access.range.hi }
-    requires may { (c : ℕ) → access.range.lo ≤ c → c < access.range.hi → MayHang number parent access.mode (here_by map.now.pieces fragments.old.items c) }
-    ensures { AreWalked (IsOpenedIn number parent access.mode) access.range.lo access.range.hi fragments.old.items fragments.new.items }
+    requires may { (c : ℕ) → access.range.lo ≤ c → c < access.range.hi →
+        MayHang number parent access.mode (here_by map.now.pieces fragments.old.items c) }
+    ensures { AreWalked (IsOpenedIn number parent access.mode) access.range.lo access.range.hi
+        fragments.old.items fragments.new.items }
 {
     let mut cell = access.range.lo;
     'fragments: while cell < access.range.hi {
@@ -46,10 +48,14 @@ pub(crate) fn open_all(
     requires are { AreFragments map.now.pieces fragments.old.items }
     requires rising { IsRising accesses.now }
     requires ready { AreReady accesses.now fragments.old.items }
-    requires may { (c : ℕ) → IfSome (access_at accesses.now c) (λ a. MayHang number parent a.mode (here_by map.now.pieces fragments.old.items c)) }
+    requires may { (c : ℕ) → IfSome (access_at accesses.now c) (λ a. MayHang number parent a.mode
+        (here_by map.now.pieces fragments.old.items c)) }
     ensures are { AreFragments map.now.pieces fragments.new.items }
     ensures some { fragments.new.items ≡ [] → ⊥ }
-    ensures opened { (c : ℕ) → MatchOption (access_at accesses.now c) (here_by map.now.pieces fragments.new.items c ≡ here_by map.now.pieces fragments.old.items c) (λ a. IsOpened number parent a.mode (here_by map.now.pieces fragments.old.items c) (here_by map.now.pieces fragments.new.items c)) }
+    ensures opened { (c : ℕ) → MatchOption (access_at accesses.now c)
+        (here_by map.now.pieces fragments.new.items c ≡ here_by map.now.pieces fragments.old.items c) (λ a.
+        IsOpened number parent a.mode (here_by map.now.pieces fragments.old.items c)
+        (here_by map.now.pieces fragments.new.items c)) }
     ensures asked { (k : ℕ) → is_asked fragments.new.items k ≡ is_asked fragments.old.items k }
     ensures divided { (k : ℕ) → IsDivided fragments.old.items k → IsDivided fragments.new.items k }
 {

@@ -1,4 +1,5 @@
-//! Room for an opening is made beforehand: fragments are divided at the ends of the accesses, and each gets room for one more access.
+//! Room for an opening is made beforehand: fragments are divided at the ends of the accesses, and each gets
+//! room for one more access.
 
 ghost use Rattle.std.specs.Prelude.{◌≡◌, ◌≤◌, ◌<◌, [], ℕ, Some, OnOk};
 ghost use Rattle.oss_syntax.specs.declared.access.Access.{Access as Meant};
@@ -74,7 +75,8 @@ pub(crate) fn make_ready(
     requires are { AreFragments map.old.pieces fragments.old.items }
     requires some { fragments.old.items ≡ [] → ⊥ }
     ensures finer { IsFiner map.old.pieces fragments.old.items map.new.pieces fragments.new.items }
-    ensures ready { OnOk result ((a : Meant) → IsIn a accesses.now → IsReady fragments.new.items a.range.lo a.range.hi) }
+    ensures ready { OnOk result ((a : Meant) → IsIn a accesses.now →
+        IsReady fragments.new.items a.range.lo a.range.hi) }
 {
     for access in accesses {
         split_around(alloc, map, fragments, access.range)?;

@@ -1,4 +1,5 @@
-//! How fragments are made and divided. Spent accesses are left out first, so what is copied does not grow with what is over.
+//! How fragments are made and divided. Spent accesses are left out first, so what is copied does not grow with
+//! what is over.
 
 ghost use Rattle.std.specs.Prelude.{◌≡◌, ◌<◌, [], length, Some, OnErr, OnOk, slice_get};
 ghost use Rattle.oss_ranges.specs.Cells.{value_at};
@@ -35,7 +36,8 @@ pub(crate) fn cover(
     Ok(())
 }
 
-/// Divides the fragment that has a cell and the one before it. What is spent of its accesses is left out first, so neither part has it.
+/// Divides the fragment that has a cell and the one before it. What is spent of its accesses is left out first,
+/// so neither part has it.
 pub(crate) fn split(
     alloc: Global,
     map: &mut RangeMap<usize>,
@@ -78,7 +80,8 @@ fn divide(
     requires are { AreFragments map.old.pieces fragments.old.items }
     requires here { value_at map.old.pieces cell ≡ Some at }
     requires begins { (a : Part) → slice_get fragments.old.items at ≡ Some a → a.lo < cell }
-    ensures ok { OnOk result (IsDividedAt map.old.pieces fragments.old.items map.new.pieces fragments.new.items at cell) }
+    ensures ok { OnOk result (IsDividedAt map.old.pieces fragments.old.items map.new.pieces fragments.new.items
+        at cell) }
     ensures map { OnErr result (map.new.pieces ≡ map.old.pieces) }
     ensures fragments { OnErr result (fragments.new.items ≡ fragments.old.items) }
 {

@@ -7,7 +7,8 @@ use crate::tasks::write_tasks;
 use oss_syntax::Bytes;
 use std::alloc::{AllocError, Global};
 
-/// The text of the program with so many tasks that `main` creates, 1 to 9000. Two starts that are alike modulo 256 give one text. Want of memory is the one error.
+/// The text of the program with so many tasks that `main` creates, 1 to 9000. Two starts that are alike modulo
+/// 256 give one text. Want of memory is the one error.
 #[tactic(auto, unfolding(crate::specs::Generated::head_text, crate::specs::Generated::end_text))]
 pub fn generated(alloc: Global, start: u64, size: u32) -> Result<Bytes, AllocError>
     requires some { 1 ≤ size }

@@ -35,7 +35,8 @@ pub fn pieces(alloc: Global, format: &[u8]) -> Result<Option<List<Piece>>, Alloc
 /// The piece that a string begins with, and what stands behind it; `None` where it begins with none.
 fn first_piece(format: &[u8]) -> Option<(Piece, &[u8])>
     requires { 0 < length format.now }
-    ensures { MatchOption result (pieces_of format.now ≡ None) (λ x. (pieces_of format.now ≡ with_piece x.0 (pieces_of x.1.now)) × (length x.1.now < length format.now)) }
+    ensures { MatchOption result (pieces_of format.now ≡ None) (λ x.
+        (pieces_of format.now ≡ with_piece x.0 (pieces_of x.1.now)) × (length x.1.now < length format.now)) }
 {
     let (byte, behind) = first_byte(format)?;
     if byte == b'%' {
@@ -46,7 +47,9 @@ fn first_piece(format: &[u8]) -> Option<(Piece, &[u8])>
 
 /// The piece that a `%` begins with this behind it, and what stands behind the piece.
 fn behind_percent(format: &[u8]) -> Option<(Piece, &[u8])>
-    ensures { MatchOption result (pieces_behind_percent format.now ≡ None) (λ x. (pieces_behind_percent format.now ≡ with_piece x.0 (pieces_of x.1.now)) × (length x.1.now < length format.now)) }
+    ensures { MatchOption result (pieces_behind_percent format.now ≡ None) (λ x.
+        (pieces_behind_percent format.now ≡ with_piece x.0 (pieces_of x.1.now)) ×
+        (length x.1.now < length format.now)) }
 {
     let (byte, behind) = first_byte(format)?;
     match byte {
@@ -59,7 +62,8 @@ fn behind_percent(format: &[u8]) -> Option<(Piece, &[u8])>
 
 /// The piece that a `%l` begins with this behind it, and what stands behind the piece.
 fn behind_long(format: &[u8]) -> Option<(Piece, &[u8])>
-    ensures { MatchOption result (pieces_behind_long format.now ≡ None) (λ x. (pieces_behind_long format.now ≡ with_piece x.0 (pieces_of x.1.now)) × (length x.1.now < length format.now)) }
+    ensures { MatchOption result (pieces_behind_long format.now ≡ None) (λ x.
+        (pieces_behind_long format.now ≡ with_piece x.0 (pieces_of x.1.now)) × (length x.1.now < length format.now)) }
 {
     let (byte, behind) = first_byte(format)?;
     match byte {

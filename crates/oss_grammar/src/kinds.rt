@@ -1,5 +1,5 @@
-//! What the static rules speak of: the kinds of values, what a place allows, what names and expressions stand for, and what stands around a
-//! statement.
+//! What the static rules speak of: the kinds of values, what a place allows, what names and expressions stand
+//! for, and what stands around a statement.
 
 use oss_syntax::{Kind, NumKind};
 

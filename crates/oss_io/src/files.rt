@@ -127,7 +127,8 @@ fn read_opened<F: Read + Drop>(
     faults: &mut FaultRecord,
 ) -> Result<(), ShelfFault>
     requires { into.old.items ≡ [] }
-    ensures whole { OnOk result (OfOpened opened (λ file. IfSome (F.remaining file) (λ bytes. into.new.items ≡ bytes))) }
+    ensures whole { OnOk result (OfOpened opened (λ file. IfSome (F.remaining file) (λ bytes. into.new.items ≡
+        bytes))) }
     ensures within { OnOk result (length into.new.items ≤ limit) }
     ensures empty { OnErr result (into.new.items ≡ []) }
     ensures failed { result ≡ Err ShelfFault.Failed
@@ -157,7 +158,8 @@ fn read_if_opened<F: Read + Drop>(
     into: &mut Vec<u8>,
 ) -> Result<(), ShelfFault>
     requires { into.old.items ≡ [] }
-    ensures whole { OnOk result (OfOpened opened (λ file. IfSome (F.remaining file) (λ bytes. into.new.items ≡ bytes))) }
+    ensures whole { OnOk result (OfOpened opened (λ file. IfSome (F.remaining file) (λ bytes. into.new.items ≡
+        bytes))) }
     ensures within { OnOk result (length into.new.items ≤ limit) }
     ensures too_long { result ≡ Err ShelfFault.TooLong
         → OfOpened opened (λ file. IfSome (F.remaining file) (λ bytes. limit < length bytes)) }

@@ -1,10 +1,10 @@
 //! Gates: who runs a program sees by one which worker begins a task, before the first step of the task.
 
-/// What is called before a task begins. It sees which worker begins it and where the task stands, and the first step is made when it returns. It promises
-/// nothing, and no answer depends on it.
+/// What is called before a task begins. It sees which worker begins it and where the task stands, and the first
+/// step is made when it returns. It promises nothing, and no answer depends on it.
 pub trait Gate: Sync {
-    /// Called once for each task that is not included in another, directly before its first step: by the worker that makes this step, with its number and the
-    /// numbers of the task's point, from main's 0 down.
+    /// Called once for each task that is not included in another, directly before its first step: by the worker
+    /// that makes this step, with its number and the numbers of the task's point, from main's 0 down.
     fn pass(&self, worker: u32, point: &[u16]);
 }
 

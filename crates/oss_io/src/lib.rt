@@ -1,4 +1,5 @@
-//! The outside: shelves that files are read from, sinks that text is written to, and gates that tasks pass before they begin.
+//! The outside: shelves that files are read from, sinks that text is written to, and gates that tasks pass
+//! before they begin.
 #![tactic(auto)]
 
 mod files;

@@ -35,8 +35,8 @@ pub trait Sink {
         ensures cause { OnErr result (Rises (faults self.old) (faults self.new)) };
 }
 
-/// Writes all the bytes, piece by piece. After `Failed` the sink has taken those before the piece that failed. It takes no
-/// memory.
+/// Writes all the bytes, piece by piece. After `Failed` the sink has taken those before the piece that failed.
+/// It takes no memory.
 #[tactic(auto, using(crate::proofs::Pieces::fronts))]
 pub fn write_whole<K: Sink>(sink: &mut K, bytes: &[u8]) -> Result<(), SinkFault>
     ensures whole { OnOk result (K.taken sink.new ≡ append_known (K.taken sink.old) bytes.now) }

@@ -52,8 +52,8 @@ fn write_piece<W: Write>(out: &mut W, bytes: &[u8]) -> Result<usize, SinkFault>
     Err(SinkFault::Failed)
 }
 
-/// All that the sink does with a piece: it takes some of it, or counts a fault. An empty piece is taken without a call of the
-/// writer.
+/// All that the sink does with a piece: it takes some of it, or counts a fault. An empty piece is taken without
+/// a call of the writer.
 fn write_counted<W: Write>(out: &mut W, bytes: &[u8], faults: &mut u64) -> Result<usize, SinkFault>
     ensures taken { IfOk result (λ count.
         Appends (W.contents out.old) (W.contents out.new) (take count bytes.now)) }

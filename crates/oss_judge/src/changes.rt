@@ -27,7 +27,8 @@ pub(crate) fn change_all<T: Copy + Eq>(
     map: &mut RangeMap<T>,
     changes: &[Change<T>],
 ) -> Result<(), AllocError>
-    ensures ok { OnOk result ((cell : ℕ) → value_at map.new.pieces cell ≡ overlaid changes.now cell (value_at map.old.pieces cell)) }
+    ensures ok { OnOk result ((cell : ℕ) → value_at map.new.pieces cell ≡ overlaid changes.now cell
+        (value_at map.old.pieces cell)) }
     ensures err { OnErr result (map.new.pieces ≡ map.old.pieces) }
 {
     map.reserve_all(changes.len())?;
@@ -42,8 +43,10 @@ pub(crate) fn change_both<S: Copy + Eq, T: Copy + Eq>(
     first_changes: &[Change<S>],
     second_changes: &[Change<T>],
 ) -> Result<(), AllocError>
-    ensures first { OnOk result ((cell : ℕ) → value_at first.new.pieces cell ≡ overlaid first_changes.now cell (value_at first.old.pieces cell)) }
-    ensures second { OnOk result ((cell : ℕ) → value_at second.new.pieces cell ≡ overlaid second_changes.now cell (value_at second.old.pieces cell)) }
+    ensures first { OnOk result ((cell : ℕ) → value_at first.new.pieces cell ≡ overlaid first_changes.now cell
+        (value_at first.old.pieces cell)) }
+    ensures second { OnOk result ((cell : ℕ) → value_at second.new.pieces cell ≡
+        overlaid second_changes.now cell (value_at second.old.pieces cell)) }
     ensures first_stays { OnErr result (first.new.pieces ≡ first.old.pieces) }
     ensures second_stays { OnErr result (second.new.pieces ≡ second.old.pieces) }
 {
@@ -89,7 +92,9 @@ pub(crate) fn lendings(
 ) -> Result<Vec<Change<Lending>>, AllocError>
     requires { cells ≤ 1048576 }
     ensures few { IfOk result (λ changes. length changes.items ≤ cells) }
-    ensures here { IfOk result (λ changes. (c : ℕ) → c < cells → lending_told (overlaid changes.items c (value_at lent.now.pieces c)) ≡ lend_cell (right_at given.now.pieces c) (lent_at lent.now.pieces c)) }
+    ensures here { IfOk result (λ changes. (c : ℕ) → c < cells →
+        lending_told (overlaid changes.items c (value_at lent.now.pieces c)) ≡
+        lend_cell (right_at given.now.pieces c) (lent_at lent.now.pieces c)) }
     ensures past { IfOk result (λ changes. (c : ℕ) (value : _) → cells ≤ c → overlaid changes.items c value ≡ value) }
 {
     let mut changes = Vec::new(alloc);
@@ -119,7 +124,9 @@ pub(crate) fn writings(
     cells: u32,
 ) -> Result<Vec<Change<Mark>>, AllocError>
     requires { cells ≤ 1048576 }
-    ensures here { IfOk result (λ changes. (c : ℕ) → c < cells → mark_told (overlaid changes.items c (value_at marks.now.pieces c)) ≡ made_mark (right_at given.now.pieces c) (mark_at marks.now.pieces c)) }
+    ensures here { IfOk result (λ changes. (c : ℕ) → c < cells →
+        mark_told (overlaid changes.items c (value_at marks.now.pieces c)) ≡
+        made_mark (right_at given.now.pieces c) (mark_at marks.now.pieces c)) }
     ensures past { IfOk result (λ changes. (c : ℕ) (value : _) → cells ≤ c → overlaid changes.items c value ≡ value) }
 {
     let mut changes = Vec::new(alloc);
@@ -148,7 +155,9 @@ pub(crate) fn endings(
     clauses: &[Access],
     cells: u32,
 ) -> Result<Vec<Change<Right>>, AllocError>
-    ensures here { IfOk result (λ changes. (c : ℕ) (value : _) → c < cells → right_told (overlaid changes.items c value) ≡ (if in_clauses clauses.now c then Released else right_told value)) }
+    ensures here { IfOk result (λ changes. (c : ℕ) (value : _) → c < cells →
+        right_told (overlaid changes.items c value) ≡
+        (if in_clauses clauses.now c then Released else right_told value)) }
     ensures past { IfOk result (λ changes. (c : ℕ) (value : _) → cells ≤ c → overlaid changes.items c value ≡ value) }
 {
     let mut changes = Vec::new(alloc);
@@ -164,8 +173,11 @@ fn add_ending(
     clause: &Access,
     cells: u32,
 ) -> Result<(), AllocError>
-    ensures here { OnOk result ((c : ℕ) (value : _) → c < cells → overlaid changes.new.items c value ≡ (if in_access clause.now c then Some RightKept.Released else overlaid changes.old.items c value)) }
-    ensures past { OnOk result ((c : ℕ) (value : _) → cells ≤ c → overlaid changes.new.items c value ≡ overlaid changes.old.items c value) }
+    ensures here { OnOk result ((c : ℕ) (value : _) → c < cells →
+        overlaid changes.new.items c value ≡ (if in_access clause.now c then Some RightKept.Released else
+        overlaid changes.old.items c value)) }
+    ensures past { OnOk result ((c : ℕ) (value : _) → cells ≤ c →
+        overlaid changes.new.items c value ≡ overlaid changes.old.items c value) }
 {
     if cells <= clause.range.lo {
         return Ok(());
@@ -182,7 +194,9 @@ fn add_ending(
 
 /// What a wait for the cells of these ranges changes of what is lent.
 pub(crate) fn takings(alloc: Global, named: &[Range]) -> Result<Vec<Change<Lending>>, AllocError>
-    ensures here { IfOk result (λ changes. (c : ℕ) (value : _) → lending_told (overlaid changes.items c value) ≡ (if in_clauses (map reading named.now) c then Free else lending_told value)) }
+    ensures here { IfOk result (λ changes. (c : ℕ) (value : _) →
+        lending_told (overlaid changes.items c value) ≡
+        (if in_clauses (map reading named.now) c then Free else lending_told value)) }
     ensures none { IfOk result (λ changes. (c : ℕ) → overlaid changes.items c None ≡ None) }
 {
     let mut changes = Vec::new(alloc);
@@ -194,7 +208,8 @@ pub(crate) fn takings(alloc: Global, named: &[Range]) -> Result<Vec<Change<Lendi
 
 /// Adds that what is lent of the cells of a range is taken back.
 fn add_taking(changes: &mut Vec<Change<Lending>>, range: Range) -> Result<(), AllocError>
-    ensures { OnOk result ((c : ℕ) (value : _) → overlaid changes.new.items c value ≡ (if in_access (reading range) c then None else overlaid changes.old.items c value)) }
+    ensures { OnOk result ((c : ℕ) (value : _) → overlaid changes.new.items c value ≡
+        (if in_access (reading range) c then None else overlaid changes.old.items c value)) }
 {
     changes.push(Change { range, value: None })?;
     Ok(())

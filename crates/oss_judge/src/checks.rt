@@ -1,5 +1,5 @@
-//! Whether a task may give rights away, or wait for cells. A call costs what the runs of alike cells in the ranges cost, however
-//! many cells they have.
+//! Whether a task may give rights away, or wait for cells. A call costs what the runs of alike cells in the
+//! ranges cost, however many cells they have.
 ghost use Rattle.std.specs.Prelude.{◌≡◌, ◌-◌, map};
 ghost use Rattle.std.specs.Result.{result_err};
 ghost use Rattle.oss_model.specs.Rights.{any_cell, any_from, holds_uncovered, is_released};
@@ -80,7 +80,8 @@ fn is_any_released(own: &RangeMap<Right>, clauses: &[Access]) -> bool
 
 /// The task has no right that covers the one that clauses give to a cell.
 fn is_any_uncovered(own: &RangeMap<Right>, given: &RangeMap<Right>, clauses: &[Access]) -> bool
-    ensures { result ≡ any_cell (λ c. holds_uncovered (right_at own.now.pieces c) (right_at given.now.pieces c)) clauses.now }
+    ensures { result ≡ any_cell (λ c. holds_uncovered (right_at own.now.pieces c) (right_at given.now.pieces c))
+        clauses.now }
 {
     for clause in clauses {
         if is_uncovered_in(own, given, clause.range) {
@@ -119,7 +120,8 @@ fn is_lacking_in(own: &RangeMap<Right>, range: Range) -> bool
 }
 
 fn is_uncovered_in(own: &RangeMap<Right>, given: &RangeMap<Right>, range: Range) -> bool
-    ensures { result ≡ any_from (λ c. holds_uncovered (right_at own.now.pieces c) (right_at given.now.pieces c)) range.lo (range.hi - range.lo) }
+    ensures { result ≡ any_from (λ c. holds_uncovered (right_at own.now.pieces c) (right_at given.now.pieces c))
+        range.lo (range.hi - range.lo) }
 {
     let mut from = range.lo;
     while from < range.hi {

@@ -28,9 +28,9 @@ use oss_syntax::{Access, List, Mode, Op, Range};
 use std::alloc::{AllocError, Global};
 use std::marker::Model;
 
-/// What the judge knows of one task: its right to each cell of the program, what it has lent, which cells it has yet to write,
-/// and how far it has used up its limits. It keeps ranges of cells, so its size is that of the task's clauses and of what the
-/// task has done with their parts.
+/// What the judge knows of one task: its right to each cell of the program, what it has lent, which cells it
+/// has yet to write, and how far it has used up its limits. It keeps ranges of cells, so its size is that of
+/// the task's clauses and of what the task has done with their parts.
 pub struct Context {
     alloc: Global,
     cells: u32,
@@ -74,9 +74,18 @@ impl Model for Context {
     ghost use Rattle.oss_judge.specs.Seen.{entry_at};
     ghost use Rattle.oss_judge.specs.View.{EndsBefore};
 
-    ghost view = { λ x. record { entries = table_from (entry_at x.rights.pieces x.lent.pieces x.marks.pieces) 0 x.cells; ticks = x.ticks; fuel = x.fuel; created = x.created; depth = x.depth; final = x.is_final } };
+    ghost view = { λ x. record {
+      entries = table_from (entry_at x.rights.pieces x.lent.pieces x.marks.pieces) 0
+          x.cells;
+      ticks = x.ticks;
+      fuel = x.fuel;
+      created = x.created;
+      depth = x.depth;
+      final = x.is_final;
+    } };
 
-    ghost invariant = { λ x. (x.cells ≤ 1048576) × (x.created ≤ 65535) × EndsBefore x.cells x.rights.pieces × EndsBefore x.cells x.lent.pieces × EndsBefore x.cells x.marks.pieces };
+    ghost invariant = { λ x. (x.cells ≤ 1048576) × (x.created ≤ 65535) × EndsBefore x.cells x.rights.pieces ×
+        EndsBefore x.cells x.lent.pieces × EndsBefore x.cells x.marks.pieces };
 }
 
 impl Context {
@@ -123,21 +132,24 @@ impl Context {
 
     /// The fault of a read of a cell. It takes no memory.
     pub fn may_read(&self, cell: u32) -> Result<(), FaultKind>
-        ensures { result_err result ≡ touch_fault (right_of self.now cell) (lent_of self.now cell) (mark_of self.now cell) Reads }
+        ensures { result_err result ≡ touch_fault (right_of self.now cell) (lent_of self.now cell)
+            (mark_of self.now cell) Reads }
     {
         touches::may_read(self.right(cell), self.lending(cell), self.mark(cell))
     }
 
     /// The fault of a write of a cell. It takes no memory.
     pub fn may_write(&self, cell: u32) -> Result<(), FaultKind>
-        ensures { result_err result ≡ touch_fault (right_of self.now cell) (lent_of self.now cell) (mark_of self.now cell) Writes }
+        ensures { result_err result ≡ touch_fault (right_of self.now cell) (lent_of self.now cell)
+            (mark_of self.now cell) Writes }
     {
         touches::may_write(self.right(cell), self.lending(cell))
     }
 
     /// The fault of a fold into a cell. It takes no memory.
     pub fn may_fold(&self, cell: u32, op: Op) -> Result<(), FaultKind>
-        ensures { result_err result ≡ touch_fault (right_of self.now cell) (lent_of self.now cell) (mark_of self.now cell) (Folds op) }
+        ensures { result_err result ≡ touch_fault (right_of self.now cell) (lent_of self.now cell)
+            (mark_of self.now cell) (Folds op) }
     {
         touches::may_fold(self.right(cell), self.lending(cell), self.mark(cell), op)
     }
@@ -156,8 +168,8 @@ impl Context {
         self.right(cell).is_released()
     }
 
-    /// A run of cells from one on, up to another: whether the task has released each of them, or none, and where the run ends. It costs what the
-    /// ranges that the task has do, and takes no memory.
+    /// A run of cells from one on, up to another: whether the task has released each of them, or none, and
+    /// where the run ends. It costs what the ranges that the task has do, and takes no memory.
     pub fn released_run(&self, from: u32, to: u32) -> (bool, u32)
         requires { from < to }
         ensures alike { (cell : ℕ) → from ≤ cell → cell < result.1 → is_released (right_of self.now cell) ≡ result.0 }
@@ -168,7 +180,8 @@ impl Context {
         (right::told(right).is_released(), end)
     }
 
-    /// Whether a cell is written already, or is none, so that marking it as written changes nothing. It takes no memory.
+    /// Whether a cell is written already, or is none, so that marking it as written changes nothing. It takes
+    /// no memory.
     #[inline(always)]
     pub fn is_written(&self, cell: u32) -> bool
         ensures { result ≡ true → wrote cell self.now ≡ self.now }
@@ -182,7 +195,8 @@ impl Context {
         }
     }
 
-    /// Marks a cell as written. A cell that is written already takes no memory. Where memory is wanting the context stays.
+    /// Marks a cell as written. A cell that is written already takes no memory. Where memory is wanting the
+    /// context stays.
     pub fn wrote(&mut self, cell: u32) -> Result<(), AllocError>
         ensures ok { OnOk result (self.new ≡ wrote cell self.old) }
         ensures err { OnErr result (self.new ≡ self.old) }
@@ -240,8 +254,8 @@ impl Context {
         Ok(())
     }
 
-    /// The fault of a creation with these clauses, after its beginning. The new task is final where this one is, or where it is
-    /// the last that is not included.
+    /// The fault of a creation with these clauses, after its beginning. The new task is final where this one
+    /// is, or where it is the last that is not included.
     pub fn may_give(&self, clauses: &List<Access>, last: bool) -> Result<(), JudgeRefused>
         ensures allowed { OnOk result (clause_fault self.now clauses.now (self.now.final || last) ≡ None) }
         ensures refused { IfErr result (IsRefusal (clause_fault self.now clauses.now (self.now.final || last))) }
@@ -250,11 +264,13 @@ impl Context {
         refused_by(self.may_give_these(&given, clauses))
     }
 
-    /// The fault of a creation with these clauses, after its beginning, where it is known what they give to the new task:
-    /// `MixedAccess` where two of them cannot be joined, else `Released` where the task has released one of the cells, and else
-    /// `NotCovered` where its right to one of them does not cover what the clauses give. It takes no memory.
+    /// The fault of a creation with these clauses, after its beginning, where it is known what they give to the
+    /// new task: `MixedAccess` where two of them cannot be joined, else `Released` where the task has released
+    /// one of the cells, and else `NotCovered` where its right to one of them does not cover what the clauses
+    /// give. It takes no memory.
     pub fn may_give_these(&self, given: &Given, clauses: &List<Access>) -> Result<(), FaultKind>
-        ensures { (final : Bool) → IsGiven final clauses.now given.now → result_err result ≡ clause_fault self.now clauses.now final }
+        ensures { (final : Bool) → IsGiven final clauses.now given.now →
+            result_err result ≡ clause_fault self.now clauses.now final }
     {
         if given.is_mixed {
             return Err(FaultKind::MixedAccess);
@@ -262,16 +278,16 @@ impl Context {
         self.check_given(&given.rights, clauses)
     }
 
-    /// The fault of the cells that clauses name, where they give these rights. That two of the clauses cannot be joined is not
-    /// asked.
+    /// The fault of the cells that clauses name, where they give these rights. That two of the clauses cannot
+    /// be joined is not asked.
     fn check_given(&self, given: &RangeMap<Right>, clauses: &List<Access>) -> Result<(), FaultKind>
         ensures { result_err result ≡ cover_fault (right_of self.now) (right_at given.now.pieces) clauses.now }
     {
         check_covered(&self.rights, given, clauses.as_slice())
     }
 
-    /// The context of a new task with these clauses. It is final where its creator is, or where it is the last that is not
-    /// included.
+    /// The context of a new task with these clauses. It is final where its creator is, or where it is the last
+    /// that is not included.
     pub fn child(&self, clauses: &List<Access>, last: bool) -> Result<Context, JudgeRefused>
         requires { create_fault self.now ≡ None }
         ensures ok { IfOk result (λ child. child ≡ child_context self.now clauses.now last) }
@@ -304,9 +320,9 @@ impl Context {
         }
     }
 
-    /// The context in which a new task with these clauses starts, where it is known what they give to it, whether or not they
-    /// may be given. It is final where its creator is, or where it is the last that is not included. Where memory is wanting
-    /// nothing has happened.
+    /// The context in which a new task with these clauses starts, where it is known what they give to it,
+    /// whether or not they may be given. It is final where its creator is, or where it is the last that is not
+    /// included. Where memory is wanting nothing has happened.
     pub fn start(
         &self,
         given: &Given,
@@ -314,7 +330,8 @@ impl Context {
         last: bool,
     ) -> Result<Context, AllocError>
         requires { self.now.depth < 64 }
-        ensures { IfOk result (λ child. IsGiven (self.now.final || last) clauses.now given.now → child ≡ child_context self.now clauses.now last) }
+        ensures { IfOk result (λ child. IsGiven (self.now.final || last) clauses.now given.now →
+            child ≡ child_context self.now clauses.now last) }
     {
         let mut rights = RangeMap::new(self.alloc);
         let mut marks = RangeMap::new(self.alloc);
@@ -331,8 +348,8 @@ impl Context {
         self.is_final || last
     }
 
-    /// Puts the rights and the marks with which a new task starts in the place of others. The given rights are those of its
-    /// clauses.
+    /// Puts the rights and the marks with which a new task starts in the place of others. The given rights are
+    /// those of its clauses.
     fn fill(
         &self,
         rights: &mut RangeMap<Right>,
@@ -341,8 +358,10 @@ impl Context {
         clauses: &List<Access>,
     ) -> Result<(), AllocError>
         requires { marks.old.pieces ≡ [] }
-        ensures rights { OnOk result ((c : ℕ) → c < length self.now.entries → right_at rights.new.pieces c ≡ right_at given.now.pieces c) }
-        ensures marks { OnOk result ((c : ℕ) → c < length self.now.entries → mark_at marks.new.pieces c ≡ first_mark (right_at given.now.pieces c) (is_fresh clauses.now c)) }
+        ensures rights { OnOk result ((c : ℕ) → c < length self.now.entries →
+            right_at rights.new.pieces c ≡ right_at given.now.pieces c) }
+        ensures marks { OnOk result ((c : ℕ) → c < length self.now.entries →
+            mark_at marks.new.pieces c ≡ first_mark (right_at given.now.pieces c) (is_fresh clauses.now c)) }
         ensures rights_end { OnOk result (EndsBefore (length self.now.entries) rights.new.pieces) }
         ensures marks_end { OnOk result (EndsBefore (length self.now.entries) marks.new.pieces) }
     {
@@ -382,8 +401,8 @@ impl Context {
         self.created += 1;
     }
 
-    /// Notes a creation of a task to which nothing is lent, as one that is included: one more is created, and what the child has a
-    /// right to write counts as written. Where memory is wanting the context stays.
+    /// Notes a creation of a task to which nothing is lent, as one that is included: one more is created, and
+    /// what the child has a right to write counts as written. Where memory is wanting the context stays.
     pub fn noted(&mut self, child: &Context) -> Result<(), AllocError>
         requires { self.old.created < 65535 }
         ensures ok { OnOk result (self.new ≡ made (right_of child.now) (one_more_created self.old)) }
@@ -394,11 +413,12 @@ impl Context {
         Ok(())
     }
 
-    /// Notes a creation, and lends the child the cells to which it has a right: one more is created, and what the child has a right
-    /// to write counts as written. Where memory is wanting the context stays.
+    /// Notes a creation, and lends the child the cells to which it has a right: one more is created, and what
+    /// the child has a right to write counts as written. Where memory is wanting the context stays.
     pub fn noted_and_lent(&mut self, child: &Context) -> Result<(), AllocError>
         requires { self.old.created < 65535 }
-        ensures ok { OnOk result (self.new ≡ made (right_of child.now) (lend (right_of child.now) (one_more_created self.old))) }
+        ensures ok { OnOk result (self.new ≡ made (right_of child.now)
+            (lend (right_of child.now) (one_more_created self.old))) }
         ensures err { OnErr result (self.new ≡ self.old) }
     {
         self.lend_and_mark(&child.rights)?;
@@ -408,7 +428,8 @@ impl Context {
 
     /// Lends cells by these rights to them, and marks those as written that the rights give to write.
     fn lend_and_mark(&mut self, given: &RangeMap<Right>) -> Result<(), AllocError>
-        ensures ok { OnOk result (self.new ≡ made (right_at given.now.pieces) (lend (right_at given.now.pieces) self.old)) }
+        ensures ok { OnOk result (self.new ≡ made (right_at given.now.pieces)
+            (lend (right_at given.now.pieces) self.old)) }
         ensures err { OnErr result (self.new ≡ self.old) }
     {
         let lent = lendings(self.alloc, &self.lent, given, self.cells)?;
@@ -487,17 +508,17 @@ impl Context {
         refused_by(self.may_release_these(&given, clauses))
     }
 
-    /// The fault of a release of the cells of these clauses, where it is known what they give to a task that is not final:
-    /// `Released` where the task has released one of the cells, and else `NotCovered` where its right to one of them does not
-    /// cover what the clauses give. It takes no memory.
+    /// The fault of a release of the cells of these clauses, where it is known what they give to a task that is
+    /// not final: `Released` where the task has released one of the cells, and else `NotCovered` where its
+    /// right to one of them does not cover what the clauses give. It takes no memory.
     pub fn may_release_these(&self, given: &Given, clauses: &List<Access>) -> Result<(), FaultKind>
         ensures { IsGiven false clauses.now given.now → result_err result ≡ release_fault self.now clauses.now }
     {
         self.check_given(&given.rights, clauses)
     }
 
-    /// Ends the right to the cells of these clauses, of which it was tested that they may be released. Where memory is wanting
-    /// the context stays.
+    /// Ends the right to the cells of these clauses, of which it was tested that they may be released. Where
+    /// memory is wanting the context stays.
     pub fn released(&mut self, clauses: &List<Access>) -> Result<(), AllocError>
         ensures ok { OnOk result (self.new ≡ release clauses.now self.old) }
         ensures err { OnErr result (self.new ≡ self.old) }
@@ -526,16 +547,17 @@ impl Context {
         self.lent = RangeMap::new(self.alloc);
     }
 
-    /// The fault of a wait for the children's accesses to the cells of these ranges: `Released` where the task has released one of
-    /// the cells, and else `NotCovered` where it never had a right to one of them. It takes no memory.
+    /// The fault of a wait for the children's accesses to the cells of these ranges: `Released` where the task
+    /// has released one of the cells, and else `NotCovered` where it never had a right to one of them. It takes
+    /// no memory.
     pub fn may_wait_on(&self, named: &List<Range>) -> Result<(), FaultKind>
         ensures { result_err result ≡ wait_on_fault self.now (map reading named.now) }
     {
         check_waited_on(&self.rights, named.as_slice())
     }
 
-    /// Takes back what is lent of the cells of these ranges, of which it was tested that the task may wait for them. Where memory
-    /// is wanting the context stays.
+    /// Takes back what is lent of the cells of these ranges, of which it was tested that the task may wait for
+    /// them. Where memory is wanting the context stays.
     pub fn took_back(&mut self, named: &List<Range>) -> Result<(), AllocError>
         ensures ok { OnOk result (self.new ≡ waited_on (map reading named.now) self.old) }
         ensures err { OnErr result (self.new ≡ self.old) }
@@ -545,10 +567,10 @@ impl Context {
         Ok(())
     }
 
-    /// Takes back what is lent of the cells of these ranges, after a wait for the children's accesses to them. `Ok` means that
-    /// the wait has no fault and that this is done. Otherwise the context stays as it was: the fault is `Released` where the
-    /// task has released one of the cells, and else `NotCovered` where it never had a right to one of them. Want of memory may
-    /// come in place of each of these answers.
+    /// Takes back what is lent of the cells of these ranges, after a wait for the children's accesses to them.
+    /// `Ok` means that the wait has no fault and that this is done. Otherwise the context stays as it was: the
+    /// fault is `Released` where the task has released one of the cells, and else `NotCovered` where it never
+    /// had a right to one of them. Want of memory may come in place of each of these answers.
     pub fn waited_on(&mut self, named: &List<Range>) -> Result<(), JudgeRefused>
         ensures ok { OnOk result (self.new ≡ waited_on (map reading named.now) self.old) }
         ensures allowed { OnOk result (wait_on_fault self.old (map reading named.now) ≡ None) }
@@ -560,11 +582,13 @@ impl Context {
         Ok(())
     }
 
-    /// The accesses of the task: they give the rights that it holds and the marks of the cells that it may write, each cell once,
-    /// in rising order and as few as can be.
+    /// The accesses of the task: they give the rights that it holds and the marks of the cells that it may
+    /// write, each cell once, in rising order and as few as can be.
     pub fn accesses(&self) -> Result<List<Access>, AllocError>
-        ensures rights { IfOk result (λ accesses. (c : ℕ) → right_from false accesses c ≡ held_right (right_of self.now c)) }
-        ensures marks { IfOk result (λ accesses. (c : ℕ) → mark_from false accesses c ≡ held_mark (right_of self.now c) (mark_of self.now c)) }
+        ensures rights { IfOk result (λ accesses. (c : ℕ) →
+            right_from false accesses c ≡ held_right (right_of self.now c)) }
+        ensures marks { IfOk result (λ accesses. (c : ℕ) →
+            mark_from false accesses c ≡ held_mark (right_of self.now c) (mark_of self.now c)) }
         ensures rising { IfOk result (λ accesses. IsRising accesses) }
     {
         let accesses = accesses_of(self.alloc, &self.rights, &self.marks)?;

@@ -1,5 +1,5 @@
-//! What clauses give to a new task, by ranges. A call costs what the runs of alike cells in the ranges of the clauses cost,
-//! however many cells they have.
+//! What clauses give to a new task, by ranges. A call costs what the runs of alike cells in the ranges of the
+//! clauses cost, however many cells they have.
 ghost use Rattle.std.specs.Prelude.{◌≡◌, ◌≤◌, ◌-◌, ℕ, true, if◌then◌else◌, [], IfOk, OnOk};
 ghost use Rattle.oss_ranges.specs.Cells.{is_within};
 ghost use Rattle.oss_model.specs.Rights.{any_cell, any_from, Written, first_mark, is_fresh, is_mixed, is_unjoinable, joined_right, right_from};
@@ -14,8 +14,8 @@ use std::alloc::AllocError;
 /// A program has no cell from here on.
 const CELLS: u32 = 1_048_576;
 
-/// Puts the rights that clauses give into an empty map, and says whether two of the clauses cannot be joined. A weak access counts
-/// as strong where the task is final.
+/// Puts the rights that clauses give into an empty map, and says whether two of the clauses cannot be joined. A
+/// weak access counts as strong where the task is final.
 pub(crate) fn join_all(
     rights: &mut RangeMap<Right>,
     clauses: &[Access],
@@ -40,7 +40,8 @@ pub(crate) fn join_all(
 
 /// A clause of the mode cannot be joined to the right to a cell of the range.
 fn is_any_unjoinable(rights: &RangeMap<Right>, range: Range, mode: Mode) -> bool
-    ensures { result ≡ any_from (λ c. is_unjoinable mode (right_at rights.now.pieces c)) range.lo (range.hi - range.lo) }
+    ensures { result ≡ any_from (λ c. is_unjoinable mode (right_at rights.now.pieces c)) range.lo
+        (range.hi - range.lo) }
 {
     let mut from = range.lo;
     while from < range.hi {
@@ -60,7 +61,9 @@ fn join(
     mode: Mode,
     strong: bool,
 ) -> Result<(), AllocError>
-    ensures { OnOk result ((c : ℕ) → right_at rights.new.pieces c ≡ (if is_within range.lo range.hi c then joined_right mode strong (right_at rights.old.pieces c) else right_at rights.old.pieces c)) }
+    ensures { OnOk result ((c : ℕ) → right_at rights.new.pieces c ≡
+        (if is_within range.lo range.hi c then joined_right mode strong (right_at rights.old.pieces c) else
+        right_at rights.old.pieces c)) }
 {
     let mut from = range.lo;
     while from < range.hi {
@@ -71,14 +74,16 @@ fn join(
     Ok(())
 }
 
-/// Puts the marks with which the cells of a new task start into an empty map. The rights are those that the clauses give.
+/// Puts the marks with which the cells of a new task start into an empty map. The rights are those that the
+/// clauses give.
 pub(crate) fn mark_all(
     marks: &mut RangeMap<Mark>,
     rights: &RangeMap<Right>,
     clauses: &[Access],
 ) -> Result<(), AllocError>
     requires { marks.old.pieces ≡ [] }
-    ensures { OnOk result ((c : ℕ) → mark_at marks.new.pieces c ≡ first_mark (right_at rights.now.pieces c) (is_fresh clauses.now c)) }
+    ensures { OnOk result ((c : ℕ) → mark_at marks.new.pieces c ≡ first_mark (right_at rights.now.pieces c)
+        (is_fresh clauses.now c)) }
 {
     mark_writes(marks, rights)?;
     for clause in clauses {
@@ -117,7 +122,8 @@ fn first_of(right: Right) -> Mark
 /// Gives the cells of a range their first mark. That they are written is what the map tells by itself.
 fn start(marks: &mut RangeMap<Mark>, range: Range, mark: Mark) -> Result<(), AllocError>
     requires { (c : ℕ) → range.lo ≤ c → mark_at marks.old.pieces c ≡ Written }
-    ensures { OnOk result ((c : ℕ) → mark_at marks.new.pieces c ≡ (if is_within range.lo range.hi c then mark_seen mark else mark_at marks.old.pieces c)) }
+    ensures { OnOk result ((c : ℕ) → mark_at marks.new.pieces c ≡
+        (if is_within range.lo range.hi c then mark_seen mark else mark_at marks.old.pieces c)) }
 {
     match mark {
         Mark::Unwritten => marks.assign(range, Mark::Unwritten),
@@ -125,10 +131,12 @@ fn start(marks: &mut RangeMap<Mark>, range: Range, mark: Mark) -> Result<(), All
     }
 }
 
-/// Takes a clause into the marks: unless it is of `out` or `weakout`, its cells have a value, an old one that the task may
-/// read.
+/// Takes a clause into the marks: unless it is of `out` or `weakout`, its cells have a value, an old one that
+/// the task may read.
 fn name(marks: &mut RangeMap<Mark>, range: Range, fresh: bool) -> Result<(), AllocError>
-    ensures { OnOk result ((c : ℕ) → mark_at marks.new.pieces c ≡ (if is_within range.lo range.hi c then (if fresh then mark_at marks.old.pieces c else Written) else mark_at marks.old.pieces c)) }
+    ensures { OnOk result ((c : ℕ) → mark_at marks.new.pieces c ≡
+        (if is_within range.lo range.hi c then (if fresh then mark_at marks.old.pieces c else Written) else
+        mark_at marks.old.pieces c)) }
 {
     if fresh { Ok(()) } else { marks.clear(range) }
 }

@@ -8,8 +8,8 @@ use oss_ranges::RangeMap;
 use oss_syntax::{Access, List};
 use std::alloc::{AllocError, Global};
 
-/// The rights that clauses give, and whether two of the clauses cannot be joined. To work them out takes memory; what is judged by
-/// them then takes none.
+/// The rights that clauses give, and whether two of the clauses cannot be joined. To work them out takes
+/// memory; what is judged by them then takes none.
 pub struct Given {
     pub(crate) rights: RangeMap<Right>,
     pub(crate) is_mixed: bool,
@@ -27,8 +27,8 @@ impl Drop for Given {
 }
 
 impl Given {
-    /// What these clauses give to a task, final or not: to a final one a weak access counts as strong. Where memory is wanting
-    /// nothing has happened.
+    /// What these clauses give to a task, final or not: to a final one a weak access counts as strong. Where
+    /// memory is wanting nothing has happened.
     pub fn of(alloc: Global, clauses: &List<Access>, is_final: bool) -> Result<Given, AllocError>
         ensures { IfOk result (λ given. IsGiven is_final clauses.now given) }
     {

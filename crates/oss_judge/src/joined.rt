@@ -19,8 +19,10 @@ pub(crate) fn accesses_of(
     rights: &RangeMap<Right>,
     marks: &RangeMap<Mark>,
 ) -> Result<Vec<Access>, AllocError>
-    ensures rights { IfOk result (λ accesses. (c : ℕ) → right_from false accesses.items c ≡ held_right (right_at rights.now.pieces c)) }
-    ensures marks { IfOk result (λ accesses. (c : ℕ) → mark_from false accesses.items c ≡ held_mark (right_at rights.now.pieces c) (mark_at marks.now.pieces c)) }
+    ensures rights { IfOk result (λ accesses. (c : ℕ) →
+        right_from false accesses.items c ≡ held_right (right_at rights.now.pieces c)) }
+    ensures marks { IfOk result (λ accesses. (c : ℕ) →
+        mark_from false accesses.items c ≡ held_mark (right_at rights.now.pieces c) (mark_at marks.now.pieces c)) }
     ensures rising { IfOk result (λ accesses. IsRising accesses.items) }
 {
     let mut accesses = Vec::new(alloc);
@@ -36,15 +38,16 @@ pub(crate) fn accesses_of(
     Ok(accesses)
 }
 
-/// Cells that stand side by side and are alike: the access to them, if the task has a right to them, and the cell behind them.
+/// Cells that stand side by side and are alike: the access to them, if the task has a right to them, and the
+/// cell behind them.
 #[derive(Clone, Copy)]
 struct Run {
     access: Option<Access>,
     end: u32,
 }
 
-/// The run of cells that begins with `from`. Only where there is a right the marks are asked, so that all runs together cost
-/// what the runs of the rights cost and those of the marks inside of them.
+/// The run of cells that begins with `from`. Only where there is a right the marks are asked, so that all runs
+/// together cost what the runs of the rights cost and those of the marks inside of them.
 fn run_at(rights: &RangeMap<Right>, marks: &RangeMap<Mark>, from: u32) -> Run
     requires { from < 1048576 }
     ensures run { IsRun (right_at rights.now.pieces) (mark_at marks.now.pieces) from result.end result.access }

@@ -87,8 +87,8 @@ pub(crate) fn blank_len(text: &[u8]) -> usize
     }
 }
 
-/// How many bytes all blanks and comments at the front of a text have. A bare newline is not counted, and nothing behind
-/// it; one in a comment or behind a backslash is.
+/// How many bytes all blanks and comments at the front of a text have. A bare newline is not counted, and
+/// nothing behind it; one in a comment or behind a backslash is.
 #[tactic(auto, using(crate::proofs::GapRuns::gaps_len_step, crate::proofs::GapRuns::gaps_len_none))]
 pub(crate) fn blanks_len(text: &[u8]) -> usize
     ensures value { result ≡ gaps_len 0 text.now }

@@ -1,5 +1,5 @@
-//! Lines that begin with `#` (C11 6.10): `#include` and pragmas other than `oss` are skipped, `#pragma oss` begins a pragma, and every other
-//! line is one token, which the grammar does not allow.
+//! Lines that begin with `#` (C11 6.10): `#include` and pragmas other than `oss` are skipped, `#pragma oss`
+//! begins a pragma, and every other line is one token, which the grammar does not allow.
 ghost use Rattle.std.specs.Prelude.{◌≡◌, ◌≤◌, ◌<◌, ◌+◌, ◌^◌, drop, length};
 ghost use Rattle.oss_lex.specs.Reading.{Shows, StepsAs, front, hash_at, line_len, pragma_at};
 

@@ -2,8 +2,8 @@
 ghost use Rattle.std.specs.Prelude.{◌≡◌};
 ghost use Rattle.oss_grammar.specs.Words.{is_keyword, is_left_out_keyword, is_used_keyword};
 
-/// Whether a word is a keyword, one that is left out too: a keyword of C (C11 6.4.1), or `printf`, which is a keyword of
-/// this language and not of C.
+/// Whether a word is a keyword, one that is left out too: a keyword of C (C11 6.4.1), or `printf`, which is a
+/// keyword of this language and not of C.
 #[tactic(auto, unfolding(oss_grammar::specs::Words::is_keyword))]
 pub(crate) fn is_reserved(word: &[u8]) -> bool
     ensures { result ≡ is_keyword word.now }
@@ -30,7 +30,8 @@ fn is_used(word: &[u8]) -> bool
         || word == b"printf".as_slice()
 }
 
-/// Whether a word is a keyword of C that has no place in the grammar. It stays reserved, so that it is refused and never taken as a name.
+/// Whether a word is a keyword of C that has no place in the grammar. It stays reserved, so that it is refused
+/// and never taken as a name.
 #[tactic(auto, unfolding(oss_grammar::specs::Words::is_left_out_keyword))]
 fn is_left_out(word: &[u8]) -> bool
     ensures { result ≡ is_left_out_keyword word.now }

@@ -1,4 +1,5 @@
-//! Names and keywords (C11 6.4.1, 6.4.2). A name has at most 63 bytes: C promises of no more that they count (C11 5.2.4.1).
+//! Names and keywords (C11 6.4.1, 6.4.2). A name has at most 63 bytes: C promises of no more that they count
+//! (C11 5.2.4.1).
 ghost use Rattle.std.specs.Prelude.{◌≡◌, ◌≤◌, length};
 ghost use Rattle.std.specs.List.{prefix_len};
 ghost use Rattle.oss_grammar.specs.Words.{is_name_byte};

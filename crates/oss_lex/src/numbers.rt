@@ -1,4 +1,5 @@
-//! Integer constants (C11 6.4.4.1), decimal, octal and hexadecimal, with their suffixes. Each is a number of 64 bits, signed or unsigned.
+//! Integer constants (C11 6.4.4.1), decimal, octal and hexadecimal, with their suffixes. Each is a number of 64
+//! bits, signed or unsigned.
 ghost use Rattle.std.specs.Prelude.{◌≡◌, ◌≤◌, ◌<◌, ◌^◌, ℕ, length};
 ghost use Rattle.std.specs.List.{prefix_len};
 ghost use Rattle.std.specs.Option.{SomeIff};

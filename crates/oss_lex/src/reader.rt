@@ -1,4 +1,5 @@
-//! The reader of a whole text: it takes blanks, directives and tokens from the front, one at a time, and counts the lines.
+//! The reader of a whole text: it takes blanks, directives and tokens from the front, one at a time, and counts
+//! the lines.
 ghost use Rattle.std.specs.Prelude.{◌≡◌, ◌≤◌, ◌<◌, ◌+◌, ◌^◌, [], ◌++◌, OnOk, length};
 ghost use Rattle.oss_grammar.specs.Tokens.{IsReading, found_before, part_behind};
 ghost use Rattle.oss_lex.specs.Reading.{AnswersAs, Shows, StepsAs, front_at, front_behind, gap_len, is_beginning, newline_at, token_at};
@@ -120,9 +121,9 @@ fn keep(found: &mut List<Token>, what: Option<TokenKind>, line: u32) -> Result<(
     }
 }
 
-/// The tokens of a text, each with its line; or why and on which line the text is first refused: `Lexical` where what
-/// stands there is no token, `TooLarge` where it is a name of more than 63 bytes. `Memory` says nothing of the text. The
-/// text has at most 1,048,576 bytes.
+/// The tokens of a text, each with its line; or why and on which line the text is first refused: `Lexical`
+/// where what stands there is no token, `TooLarge` where it is a name of more than 63 bytes. `Memory` says
+/// nothing of the text. The text has at most 1,048,576 bytes.
 pub fn tokens(alloc: Global, text: &[u8]) -> Result<List<Token>, Refusal>
     requires { length text.now ≤ 1048576 }
     ensures reading { IsReading text.now result }

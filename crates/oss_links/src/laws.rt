@@ -27,7 +27,8 @@ pub fn alike_hold()
     ensures { AlikeHold }
 {}
 
-/// The access of the creator of a task that may be opened may lend the cell: it is not given up, and its mode covers the new one.
+/// The access of the creator of a task that may be opened may lend the cell: it is not given up, and its mode
+/// covers the new one.
 pub fn creators_hold()
     ensures { CreatorsHold }
 {}

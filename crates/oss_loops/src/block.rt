@@ -12,9 +12,10 @@ use crate::round::round;
 use oss_syntax::{BinOp, Boxed, Expr, List, Local, LoopHead, Stmt, StmtKind};
 use std::alloc::{AllocError, Global};
 
-/// The block that a task loop means (OmpSs-2, the taskloop directive): it works out the first value, the end and the grainsize once,
-/// and creates a task for so many turns at a time, the last one for those that are left. The line is that of the `#`. The loop is
-/// taken by value: its clauses, its first value, its end and its statement come once into the block, and its variable is copied.
+/// The block that a task loop means (OmpSs-2, the taskloop directive): it works out the first value, the end
+/// and the grainsize once, and creates a task for so many turns at a time, the last one for those that are
+/// left. The line is that of the `#`. The loop is taken by value: its clauses, its first value, its end and its
+/// statement come once into the block, and its variable is copied.
 ///
 /// Want of memory is the one error.
 pub fn written(
@@ -31,7 +32,8 @@ pub fn written(
 
 /// The block of a loop with these parts.
 fn block(alloc: Global, line: u32, parts: LoopParts, body: Boxed<Stmt>) -> Result<Stmt, AllocError>
-    ensures { IfOk result (λ block. block ≡ block_of line parts.bounds (loop_with line (round_with line parts.task body))) }
+    ensures { IfOk result (λ block. block ≡ block_of line parts.bounds
+        (loop_with line (round_with line parts.task body))) }
 {
     let mut inside = List::new(alloc);
     fill_block(alloc, line, parts, body, &mut inside)?;
@@ -49,7 +51,9 @@ fn fill_block(
     body: Boxed<Stmt>,
     inside: &mut List<Stmt>,
 ) -> Result<(), AllocError>
-    ensures { OnOk result (inside.new ≡ inside.old ++ stmt_at line (stmts.Declare (block_locals line parts.bounds)) ∷ grain_raised line ∷ loop_with line (round_with line parts.task body) ∷ []) }
+    ensures { OnOk result (inside.new ≡ inside.old ++
+        stmt_at line (stmts.Declare (block_locals line parts.bounds)) ∷ grain_raised line ∷ loop_with line
+        (round_with line parts.task body) ∷ []) }
 {
     let LoopParts { bounds, task } = parts;
     add_locals_of_block(alloc, line, bounds, inside)?;
@@ -64,7 +68,8 @@ fn fill_behind_locals(
     body: Boxed<Stmt>,
     inside: &mut List<Stmt>,
 ) -> Result<(), AllocError>
-    ensures { OnOk result (inside.new ≡ inside.old ++ grain_raised line ∷ loop_with line (round_with line task body) ∷ []) }
+    ensures { OnOk result (inside.new ≡ inside.old ++ grain_raised line ∷ loop_with line
+        (round_with line task body) ∷ []) }
 {
     add_raised_grain(alloc, line, inside)?;
     add_rounds(alloc, line, task, body, inside)

@@ -46,8 +46,8 @@ struct SortedClauses {
     others: List<Clause>,
 }
 
-/// The parts of a head, which come into a block on this line. Of the three names that of the variable is taken: in a program that
-/// breaks no rule all are one.
+/// The parts of a head, which come into a block on this line. Of the three names that of the variable is taken:
+/// in a program that breaks no rule all are one.
 pub(crate) fn taken_apart(alloc: Global, line: u32, head: LoopHead) -> Result<LoopParts, AllocError>
     ensures bounds { IfOk result (λ parts. parts.bounds ≡ loop_bounds line head) }
     ensures task { IfOk result (λ parts. parts.task ≡ task_parts head) }
@@ -85,8 +85,17 @@ fn joined_parts(
     mark_line: u32,
     for_line: u32,
 ) -> LoopParts
-    ensures bounds { result.bounds ≡ (record { first = or_number line 0 variable.first; end = end; grain = or_number line 1 sorted.grain }) }
-    ensures task { result.task ≡ (record { variable = variable.name; clauses = sorted.others; mark_line = mark_line; for_line = for_line }) }
+    ensures bounds { result.bounds ≡ (record {
+      first = or_number line 0 variable.first;
+      end = end;
+      grain = or_number line 1 sorted.grain;
+    }) }
+    ensures task { result.task ≡ (record {
+      variable = variable.name;
+      clauses = sorted.others;
+      mark_line = mark_line;
+      for_line = for_line;
+    }) }
 {
     let Local {
         name,

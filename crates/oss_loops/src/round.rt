@@ -36,7 +36,9 @@ fn fill_round(
     body: Boxed<Stmt>,
     inside: &mut List<Stmt>,
 ) -> Result<(), AllocError>
-    ensures { OnOk result (inside.new ≡ inside.old ++ stmt_at line (stmts.Declare (round_locals line task.variable)) ∷ stop_moved line ∷ task_with line task body ∷ set_at line begin_name (name_at line stop_name) ∷ []) }
+    ensures { OnOk result (inside.new ≡ inside.old ++
+        stmt_at line (stmts.Declare (round_locals line task.variable)) ∷ stop_moved line ∷
+        task_with line task body ∷ set_at line begin_name (name_at line stop_name) ∷ []) }
 {
     add_locals_of_round(alloc, line, task.variable.as_slice(), inside)?;
     fill_behind_locals(alloc, line, task, body, inside)
@@ -50,7 +52,8 @@ fn fill_behind_locals(
     body: Boxed<Stmt>,
     inside: &mut List<Stmt>,
 ) -> Result<(), AllocError>
-    ensures { OnOk result (inside.new ≡ inside.old ++ stop_moved line ∷ task_with line task body ∷ set_at line begin_name (name_at line stop_name) ∷ []) }
+    ensures { OnOk result (inside.new ≡ inside.old ++ stop_moved line ∷ task_with line task body ∷
+        set_at line begin_name (name_at line stop_name) ∷ []) }
 {
     add_moved_stop(alloc, line, inside)?;
     add_task(alloc, line, task, body, inside)?;
@@ -118,8 +121,10 @@ fn turns(
 
 /// The test and the step of the turns of one task.
 fn turning(alloc: Global, line: u32, variable: &[u8]) -> Result<(Expr, Boxed<Stmt>), AllocError>
-    ensures test { IfOk result (λ parts. parts.0 ≡ joined_at line op.Less (name_at line variable.now) (name_at line stop_name)) }
-    ensures step { IfOk result (λ parts. parts.1 ≡ stmt_at line (stmts.Assign (name_at line variable.now) (Some op.Add) (number_at line 1))) }
+    ensures test { IfOk result (λ parts. parts.0 ≡ joined_at line op.Less (name_at line variable.now)
+        (name_at line stop_name)) }
+    ensures step { IfOk result (λ parts. parts.1 ≡ stmt_at line (stmts.Assign (name_at line variable.now)
+        (Some op.Add) (number_at line 1))) }
 {
     let step = step(alloc, line, variable)?;
     let tested = Name::from_slice(alloc, variable)?;
@@ -129,7 +134,8 @@ fn turning(alloc: Global, line: u32, variable: &[u8]) -> Result<(Expr, Boxed<Stm
 
 /// The step of the turns of one task, in a box.
 fn step(alloc: Global, line: u32, variable: &[u8]) -> Result<Boxed<Stmt>, AllocError>
-    ensures { IfOk result (λ step. step ≡ stmt_at line (stmts.Assign (name_at line variable.now) (Some op.Add) (number_at line 1))) }
+    ensures { IfOk result (λ step. step ≡ stmt_at line (stmts.Assign (name_at line variable.now) (Some op.Add)
+        (number_at line 1))) }
 {
     let target = named(line, Name::from_slice(alloc, variable)?);
     Boxed::new(
@@ -148,7 +154,8 @@ fn add_locals_of_round(
     variable: &[u8],
     inside: &mut List<Stmt>,
 ) -> Result<(), AllocError>
-    ensures { OnOk result (inside.new ≡ inside.old ++ stmt_at line (stmts.Declare (round_locals line variable.now)) ∷ []) }
+    ensures { OnOk result (inside.new ≡ inside.old ++
+        stmt_at line (stmts.Declare (round_locals line variable.now)) ∷ []) }
 {
     let variable = Name::from_slice(alloc, variable)?;
     let mut locals = List::new(alloc);
@@ -189,7 +196,8 @@ fn add_moved_stop(alloc: Global, line: u32, inside: &mut List<Stmt>) -> Result<(
 
 /// Whether more turns are left than a task makes.
 fn more_left(alloc: Global, line: u32) -> Result<Expr, AllocError>
-    ensures { IfOk result (λ test. test ≡ joined_at line op.More (joined_at line op.Sub (name_at line end_name) (name_at line begin_name)) (name_at line grain_name)) }
+    ensures { IfOk result (λ test. test ≡ joined_at line op.More (joined_at line op.Sub (name_at line end_name)
+        (name_at line begin_name)) (name_at line grain_name)) }
 {
     let end = name_of_end(alloc)?;
     let begin = name_of_begin(alloc)?;
@@ -200,7 +208,8 @@ fn more_left(alloc: Global, line: u32) -> Result<Expr, AllocError>
 
 /// That a task ends behind so many turns, in a box.
 fn moved(alloc: Global, line: u32) -> Result<Boxed<Stmt>, AllocError>
-    ensures { IfOk result (λ moved. moved ≡ set_at line stop_name (joined_at line op.Add (name_at line begin_name) (name_at line grain_name))) }
+    ensures { IfOk result (λ moved. moved ≡ set_at line stop_name
+        (joined_at line op.Add (name_at line begin_name) (name_at line grain_name))) }
 {
     let stop = name_of_stop(alloc)?;
     let begin = name_of_begin(alloc)?;

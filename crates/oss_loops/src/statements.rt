@@ -1,4 +1,5 @@
-//! Statements with each task loop in them written out. A statement is taken by value, and its parts come into the new one.
+//! Statements with each task loop in them written out. A statement is taken by value, and its parts come into
+//! the new one.
 ghost use Rattle.std.specs.Prelude.{◌≡◌, [], ◌∷◌, ◌++◌, map, option_map, IfOk, OnOk};
 ghost use Rattle.oss_syntax.specs.declared.tree.stmt.StmtKind.TheVariants as stmts;
 ghost use Rattle.oss_grammar.specs.TaskLoops.{stmt_at, written, written_out};
@@ -114,7 +115,8 @@ fn branches(
     then: Boxed<Stmt>,
     other: Option<Boxed<Stmt>>,
 ) -> Result<Stmt, AllocError>
-    ensures { IfOk result (λ done. done ≡ stmt_at line (stmts.If test (written_out then) (option_map written_out other))) }
+    ensures { IfOk result (λ done. done ≡ stmt_at line (stmts.If test (written_out then)
+        (option_map written_out other))) }
 {
     match both(alloc, then, other) {
         Ok(done) => {
@@ -165,7 +167,8 @@ fn for_loop(
     test: Option<Expr>,
     parts: ForParts,
 ) -> Result<Stmt, AllocError>
-    ensures { IfOk result (λ done. done ≡ stmt_at line (stmts.For (option_map written_out parts.start) test (option_map written_out parts.step) (written_out parts.body))) }
+    ensures { IfOk result (λ done. done ≡ stmt_at line (stmts.For (option_map written_out parts.start) test
+        (option_map written_out parts.step) (written_out parts.body))) }
 {
     match for_parts(alloc, parts) {
         Ok(done) => {

@@ -7,8 +7,8 @@ use crate::statements::statements;
 use oss_syntax::{Function, Item, List, Program};
 use std::alloc::{AllocError, Global};
 
-/// The program with each task loop in it written out as its block, in the statements of other task loops too. All else of it stays:
-/// the globals, the names, the order and the lines.
+/// The program with each task loop in it written out as its block, in the statements of other task loops too.
+/// All else of it stays: the globals, the names, the order and the lines.
 ///
 /// Want of memory is the one error.
 pub fn write_out(alloc: Global, program: Program) -> Result<Program, AllocError>

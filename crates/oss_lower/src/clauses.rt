@@ -9,7 +9,8 @@ use std::alloc::AllocError;
 
 /// Writes a clause: what it gives is kept in the frame.
 fn clause<'p>(site: &Site<'_, 'p>, out: &mut Listing, one: &'p Clause) -> Result<(), AllocError>
-    ensures { OnOk result (out.new ≡ out.old ++ clause_code site.now.names.now site.now.scope.now one.now site.now.line) }
+    ensures { OnOk result (out.new ≡ out.old ++ clause_code site.now.names.now site.now.scope.now one.now
+        site.now.line) }
 {
     match one {
         Clause::Depend(mode, strong, fresh, list) => {
@@ -44,7 +45,8 @@ pub(crate) fn clauses<'p>(
     out: &mut Listing,
     clauses: &'p [Clause],
 ) -> Result<(), AllocError>
-    ensures { OnOk result (out.new ≡ out.old ++ clauses_code site.now.names.now site.now.scope.now clauses.now site.now.line) }
+    ensures { OnOk result (out.new ≡ out.old ++ clauses_code site.now.names.now site.now.scope.now clauses.now
+        site.now.line) }
 {
     for one in clauses {
         clause(site, out, one)?;
@@ -52,14 +54,16 @@ pub(crate) fn clauses<'p>(
     Ok(())
 }
 
-/// Writes a creation: its tests, its clauses, and the creation of a task whose body begins so many instructions behind it.
+/// Writes a creation: its tests, its clauses, and the creation of a task whose body begins so many instructions
+/// behind it.
 pub(crate) fn created<'p>(
     site: &Site<'_, 'p>,
     out: &mut Listing,
     passed: u32,
     list: &'p [Clause],
 ) -> Result<(), AllocError>
-    ensures { OnOk result (out.new ≡ out.old ++ created_code site.now.names.now site.now.scope.now passed list.now site.now.line) }
+    ensures { OnOk result (out.new ≡ out.old ++ created_code site.now.names.now site.now.scope.now passed
+        list.now site.now.line) }
 {
     out.push(Instr::Begin, site.line, 0)?;
     clauses(site, out, list)?;

@@ -50,7 +50,8 @@ fn count_of(global: &GlobalDef) -> u64
     }
 }
 
-/// Where the globals lie, in text order. Those that have no cells, or rows of none, or more than 1,048,576 in all, have no room.
+/// Where the globals lie, in text order. Those that have no cells, or rows of none, or more than 1,048,576 in
+/// all, have no room.
 pub(crate) fn places(alloc: Global, items: &[Item]) -> Result<Vec<GlobalPlace>, AllocError>
     ensures { IfOk result (λ places. extents_in places.items ≡ extents_of items.now) }
 {
@@ -71,7 +72,8 @@ pub(crate) fn places(alloc: Global, items: &[Item]) -> Result<Vec<GlobalPlace>, 
 
 /// Where a global lies whose first cell is this one.
 fn place_from(start: u32, global: &GlobalDef) -> Result<GlobalPlace, AllocError>
-    ensures extent { IfOk result (λ place. extent_of place ≡ (record { start = start; count = cells_of global.now.cells; columns = global.now.columns })) }
+    ensures extent { IfOk result (λ place. extent_of place ≡
+        (record { start = start; count = cells_of global.now.cells; columns = global.now.columns })) }
     ensures end { IfOk result (λ place. place.range.hi ≡ start + cells_of global.now.cells) }
 {
     let count = count_of(global);

@@ -43,7 +43,8 @@ fn entered<'p>(
     out: &mut Listing,
     function: &'p Function,
 ) -> Result<(), AllocError>
-    ensures { scope.now ≡ function.now.params → OnOk result (out.new ≡ out.old ++ entered_code names.now function.now function.now.mark) }
+    ensures { scope.now ≡ function.now.params → OnOk result (out.new ≡ out.old ++
+        entered_code names.now function.now function.now.mark) }
 {
     let line = function.line;
     match &function.mark {
@@ -91,8 +92,10 @@ pub(crate) struct Beginnings {
 
 /// Writes the functions in text order, and tells where they begin.
 pub(crate) fn functions(names: &Names<'_>, out: &mut Listing) -> Result<Beginnings, AllocError>
-    ensures entries { IfOk result (λ b. b.functions.items ≡ entries_from names.now (length out.old) (functions_of names.now)) }
-    ensures bodies { IfOk result (λ b. b.bodies.items ≡ bodies_from names.now (length out.old) (functions_of names.now)) }
+    ensures entries { IfOk result (λ b. b.functions.items ≡ entries_from names.now (length out.old)
+        (functions_of names.now)) }
+    ensures bodies { IfOk result (λ b. b.bodies.items ≡ bodies_from names.now (length out.old)
+        (functions_of names.now)) }
     ensures code { OnOk result (out.new ≡ out.old ++ function_codes names.now (functions_of names.now)) }
 {
     let mut functions = Vec::new(names.alloc());

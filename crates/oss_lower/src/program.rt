@@ -16,9 +16,10 @@ use oss_names::Known;
 use oss_syntax::{Cells, Item, List, Program};
 use std::alloc::{AllocError, Global};
 
-/// The code of a program that breaks no rule. It asks for the same as the program, on the same lines, after any answers: each body of the
-/// program has a place in the code, that of `main` being the first instruction. It has at most 1,048,576 cells, as the program has. Want of
-/// memory is the one error; a place that no number of 32 bits tells, as in a tree that no text of 1,048,576 bytes has, is told as that.
+/// The code of a program that breaks no rule. It asks for the same as the program, on the same lines, after any
+/// answers: each body of the program has a place in the code, that of `main` being the first instruction. It
+/// has at most 1,048,576 cells, as the program has. Want of memory is the one error; a place that no number of
+/// 32 bits tells, as in a tree that no text of 1,048,576 bytes has, is told as that.
 pub fn lower(alloc: Global, known: &Known) -> Result<Code, AllocError>
     ensures code_of { IfOk result (λ code. IsCodeOf known.now.items code) }
     ensures sound { IfOk result (λ code. IsSound code) }
@@ -73,7 +74,8 @@ struct Instructions {
 /// Writes a program: the jump to the body of `main`, the end that stands for one that is not there, and the functions.
 fn written(alloc: Global, items: &[Item]) -> Result<Instructions, AllocError>
     ensures code { IfOk result (λ w. w.code.items ≡ program_code items.now) }
-    ensures functions { IfOk result (λ w. w.functions.items ≡ entries_from items.now first_entry (functions_of items.now)) }
+    ensures functions { IfOk result (λ w. w.functions.items ≡ entries_from items.now first_entry
+        (functions_of items.now)) }
 {
     let names = Names::of(alloc, items)?;
     let mut out = Listing::new(alloc);
@@ -91,7 +93,8 @@ fn written(alloc: Global, items: &[Item]) -> Result<Instructions, AllocError>
 
 /// Where the body of `main` begins; where there is none, the end that stands for it.
 fn body_of_main(names: &Names<'_>, bodies: &[usize]) -> usize
-    ensures { bodies.now ≡ bodies_from names.now first_entry (functions_of names.now) → result ≡ body_place names.now (main_number names.now) }
+    ensures { bodies.now ≡ bodies_from names.now first_entry (functions_of names.now) →
+        result ≡ body_place names.now (main_number names.now) }
 {
     let number = match names.item(b"main") {
         Found::Function(number) => number as usize,

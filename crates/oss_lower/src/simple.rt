@@ -82,7 +82,10 @@ pub(crate) fn assign(
     op: Option<BinOp>,
     given: &Expr,
 ) -> Result<(), AllocError>
-    ensures { OnOk result (out.new ≡ out.old ++ assigned_code site.now.line (expr_code site.now.names.now site.now.scope.now target.now).typed.target (expr_code site.now.names.now site.now.scope.now target.now) op (expr_code site.now.names.now site.now.scope.now given.now)) }
+    ensures { OnOk result (out.new ≡ out.old ++ assigned_code site.now.line
+        (expr_code site.now.names.now site.now.scope.now target.now).typed.target
+        (expr_code site.now.names.now site.now.scope.now target.now) op
+        (expr_code site.now.names.now site.now.scope.now given.now)) }
 {
     match local_of(site, target) {
         Some((slot, kind)) => assign_local(site, out, slot, kind, op, given),
@@ -92,7 +95,9 @@ pub(crate) fn assign(
 
 /// The local that an expression designates, if it designates one.
 fn local_of(site: &Site<'_, '_>, target: &Expr) -> Option<(u32, Kind)>
-    ensures { MatchOption result (local_in (expr_code site.now.names.now site.now.scope.now target.now).typed.target ≡ None) (λ x. (expr_code site.now.names.now site.now.scope.now target.now).typed ≡ typed_name (IsVariable x.0 x.1)) }
+    ensures { MatchOption result (local_in (expr_code site.now.names.now site.now.scope.now
+        target.now).typed.target ≡ None) (λ x. (expr_code site.now.names.now site.now.scope.now
+        target.now).typed ≡ typed_name (IsVariable x.0 x.1)) }
 {
     match &target.what {
         ExprKind::Name(name) => match site.names.named(site.scope, name.as_slice()) {
@@ -103,7 +108,8 @@ fn local_of(site: &Site<'_, '_>, target: &Expr) -> Option<(u32, Kind)>
     }
 }
 
-/// Writes an assignment to a local: the right side, with a compound assignment behind the old value and joined with it, is kept.
+/// Writes an assignment to a local: the right side, with a compound assignment behind the old value and joined
+/// with it, is kept.
 fn assign_local(
     site: &Site<'_, '_>,
     out: &mut Listing,
@@ -112,7 +118,9 @@ fn assign_local(
     op: Option<BinOp>,
     given: &Expr,
 ) -> Result<(), AllocError>
-    ensures { (t : ExprCode) → t.typed.kind ≡ value_kind kind → OnOk result (out.new ≡ out.old ++ local_assigned_code site.now.line t op (expr_code site.now.names.now site.now.scope.now given.now) slot kind) }
+    ensures { (t : ExprCode) → t.typed.kind ≡ value_kind kind →
+        OnOk result (out.new ≡ out.old ++ local_assigned_code site.now.line t op
+        (expr_code site.now.names.now site.now.scope.now given.now) slot kind) }
 {
     match op {
         None => {
@@ -127,7 +135,8 @@ fn assign_local(
     out.push(Instr::SetLocal(slot, kind), site.line, 1)
 }
 
-/// Writes an assignment to what is no local: to a cell, its place and then the right side. What designates no cell is not assigned to.
+/// Writes an assignment to what is no local: to a cell, its place and then the right side. What designates no
+/// cell is not assigned to.
 fn assign_cell(
     site: &Site<'_, '_>,
     out: &mut Listing,
@@ -135,7 +144,11 @@ fn assign_cell(
     op: Option<BinOp>,
     given: &Expr,
 ) -> Result<(), AllocError>
-    ensures { local_in (expr_code site.now.names.now site.now.scope.now target.now).typed.target ≡ None → OnOk result (out.new ≡ out.old ++ assigned_code site.now.line (expr_code site.now.names.now site.now.scope.now target.now).typed.target (expr_code site.now.names.now site.now.scope.now target.now) op (expr_code site.now.names.now site.now.scope.now given.now)) }
+    ensures { local_in (expr_code site.now.names.now site.now.scope.now target.now).typed.target ≡ None →
+        OnOk result (out.new ≡ out.old ++ assigned_code site.now.line
+        (expr_code site.now.names.now site.now.scope.now target.now).typed.target
+        (expr_code site.now.names.now site.now.scope.now target.now) op
+        (expr_code site.now.names.now site.now.scope.now given.now)) }
 {
     let before = out.len();
     match place(site, out, 0, target)? {
@@ -161,7 +174,8 @@ fn change_cell(
     op: BinOp,
     right: ValueKind,
 ) -> Result<(), AllocError>
-    ensures { (t e : ExprCode) → t.typed.kind ≡ number_kind kind → e.typed.kind ≡ right → OnOk result (out.new ≡ out.old ++ cell_changed_code line (folded_by kind op) t op e kind) }
+    ensures { (t e : ExprCode) → t.typed.kind ≡ number_kind kind → e.typed.kind ≡ right →
+        OnOk result (out.new ≡ out.old ++ cell_changed_code line (folded_by kind op) t op e kind) }
 {
     match folding(kind, op) {
         Some(fold) => out.push(Instr::Fold(fold), line, 2),
@@ -205,7 +219,9 @@ pub(crate) fn call_alone(
     name: &Name,
     values: &[Expr],
 ) -> Result<(), AllocError>
-    ensures { OnOk result (out.new ≡ out.old ++ (call_code site.now.names.now (item_found site.now.names.now name.now) (map (expr_code site.now.names.now site.now.scope.now) values.now) site.now.line 0 ++ one site.now.line 1 i.Drop)) }
+    ensures { OnOk result (out.new ≡ out.old ++ (call_code site.now.names.now
+        (item_found site.now.names.now name.now) (map (expr_code site.now.names.now site.now.scope.now)
+        values.now) site.now.line 0 ++ one site.now.line 1 i.Drop)) }
 {
     call(site, out, 0, name.as_slice(), values)?;
     out.push(Instr::Drop, site.line, 1)
@@ -218,7 +234,9 @@ pub(crate) fn print(
     format: &Bytes,
     values: &[Expr],
 ) -> Result<(), AllocError>
-    ensures { OnOk result (out.new ≡ out.old ++ (arguments_code (map (expr_code site.now.names.now site.now.scope.now) values.now) site.now.line 0 ++ one site.now.line (length values.now) (i.Print (pieces_told (pieces_of format.now)) (length values.now)))) }
+    ensures { OnOk result (out.new ≡ out.old ++ (arguments_code
+        (map (expr_code site.now.names.now site.now.scope.now) values.now) site.now.line 0 ++ one site.now.line
+        (length values.now) (i.Print (pieces_told (pieces_of format.now)) (length values.now)))) }
 {
     arguments(site, out, 0, values)?;
     let arguments = narrow(values.len())?;
@@ -243,7 +261,8 @@ pub(crate) fn give(
     kind: Kind,
     given: &Expr,
 ) -> Result<(), AllocError>
-    ensures { OnOk result (out.new ≡ out.old ++ ((expr_code site.now.names.now site.now.scope.now given.now).value site.now.line 0 ++ given_code site.now.line kind)) }
+    ensures { OnOk result (out.new ≡ out.old ++ ((expr_code site.now.names.now site.now.scope.now
+        given.now).value site.now.line 0 ++ given_code site.now.line kind)) }
 {
     value(site, out, 0, given)?;
     out.push(Instr::Convert(kind), site.line, 1)?;
@@ -265,7 +284,8 @@ pub(crate) fn wait_on<'p>(
     out: &mut Listing,
     list: &'p [Section],
 ) -> Result<(), AllocError>
-    ensures { OnOk result (out.new ≡ out.old ++ (sections_code site.now.names.now site.now.scope.now waited_for list.now site.now.line ++ one site.now.line 0 i.WaitOn)) }
+    ensures { OnOk result (out.new ≡ out.old ++ (sections_code site.now.names.now site.now.scope.now waited_for
+        list.now site.now.line ++ one site.now.line 0 i.WaitOn)) }
 {
     let declared = Declared {
         mode: Mode::Read,
@@ -282,7 +302,8 @@ pub(crate) fn release<'p>(
     out: &mut Listing,
     list: &'p [Clause],
 ) -> Result<(), AllocError>
-    ensures { OnOk result (out.new ≡ out.old ++ (clauses_code site.now.names.now site.now.scope.now list.now site.now.line ++ one site.now.line 0 i.Release)) }
+    ensures { OnOk result (out.new ≡ out.old ++ (clauses_code site.now.names.now site.now.scope.now list.now
+        site.now.line ++ one site.now.line 0 i.Release)) }
 {
     clauses(site, out, list)?;
     out.push(Instr::Release, site.line, 0)

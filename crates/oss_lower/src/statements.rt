@@ -195,7 +195,8 @@ fn first_part<'p>(
     one: Option<&'p Stmt>,
 ) -> Result<(), AllocError>
     requires { IsBehind around (length out.old) }
-    ensures scope { OnOk result (scope.new ≡ part_scope (option_map (stmt_code names.now) (option_copied one.entry)) scope.old) }
+    ensures scope { OnOk result (scope.new ≡ part_scope (option_map (stmt_code names.now)
+        (option_copied one.entry)) scope.old) }
     ensures code { OnOk result (out.new ≡ out.old ++
         part_code (option_map (stmt_code names.now) (option_copied one.entry))
         (spot_at around scope.old (length out.old))) }
@@ -297,7 +298,8 @@ fn turns<'p>(
     Ok(())
 }
 
-/// Writes what stands before the test of a loop: a jump to the tick, the piece of `break`, that of `continue`, and the tick.
+/// Writes what stands before the test of a loop: a jump to the tick, the piece of `break`, that of `continue`,
+/// and the tick.
 fn pads(out: &mut Listing, line: u32, kept: u32) -> Result<(), AllocError>
     ensures { OnOk result (out.new ≡ out.old ++ pads_code line kept 0 0) }
 {
@@ -309,7 +311,8 @@ fn pads(out: &mut Listing, line: u32, kept: u32) -> Result<(), AllocError>
     out.push(Instr::Tick, line, 0)
 }
 
-/// Writes the test of a loop, if there is one, with a jump whose length is not yet told, and tells the place of the jump.
+/// Writes the test of a loop, if there is one, with a jump whose length is not yet told, and tells the place of
+/// the jump.
 fn tested(
     site: &Site<'_, '_>,
     out: &mut Listing,

@@ -40,7 +40,8 @@ pub fn value(
     expr: &Expr,
 ) -> Result<Typed, AllocError>
     ensures typed { IfOk result (λ typed. typed ≡ (expr_code site.now.names.now site.now.scope.now expr.now).typed) }
-    ensures code { OnOk result (out.new ≡ out.old ++ (expr_code site.now.names.now site.now.scope.now expr.now).value site.now.line depth) }
+    ensures code { OnOk result (out.new ≡ out.old ++
+        (expr_code site.now.names.now site.now.scope.now expr.now).value site.now.line depth) }
 {
     match &expr.what {
         ExprKind::Number(number, unsigned) => {
@@ -73,8 +74,10 @@ pub fn place(
     depth: u32,
     expr: &Expr,
 ) -> Result<Target, AllocError>
-    ensures target { IfOk result (λ target. target ≡ (expr_code site.now.names.now site.now.scope.now expr.now).typed.target) }
-    ensures code { OnOk result (out.new ≡ out.old ++ (expr_code site.now.names.now site.now.scope.now expr.now).place site.now.line depth) }
+    ensures target { IfOk result (λ target. target ≡
+        (expr_code site.now.names.now site.now.scope.now expr.now).typed.target) }
+    ensures code { OnOk result (out.new ≡ out.old ++
+        (expr_code site.now.names.now site.now.scope.now expr.now).place site.now.line depth) }
 {
     match &expr.what {
         ExprKind::Name(name) => {
@@ -148,7 +151,8 @@ fn row_index(
     depth: u32,
     row: &Expr,
 ) -> Result<(), AllocError>
-    ensures { OnOk result (out.new ≡ out.old ++ (expr_code site.now.names.now site.now.scope.now row.now).indexed site.now.line depth) }
+    ensures { OnOk result (out.new ≡ out.old ++ (expr_code site.now.names.now site.now.scope.now
+        row.now).indexed site.now.line depth) }
 {
     match &row.what {
         ExprKind::Index(base, index) => match under_index(site, base.get()) {
@@ -177,8 +181,11 @@ fn index_place(
     base: &Expr,
     index: &Expr,
 ) -> Result<Typed, AllocError>
-    ensures typed { IfOk result (λ typed. typed ≡ typed_index (expr_code site.now.names.now site.now.scope.now base.now).typed) }
-    ensures code { OnOk result (out.new ≡ out.old ++ (index_code (expr_code site.now.names.now site.now.scope.now base.now) (expr_code site.now.names.now site.now.scope.now index.now)).place site.now.line depth) }
+    ensures typed { IfOk result (λ typed. typed ≡ typed_index
+        (expr_code site.now.names.now site.now.scope.now base.now).typed) }
+    ensures code { OnOk result (out.new ≡ out.old ++
+        (index_code (expr_code site.now.names.now site.now.scope.now base.now)
+        (expr_code site.now.names.now site.now.scope.now index.now)).place site.now.line depth) }
 {
     match under_index(site, base) {
         Under::Grid(global, kind) => {
@@ -204,7 +211,8 @@ fn index_place(
     }
 }
 
-/// Writes the instructions of the value of `base[index]`: a row is the pointer to its first cell, and all else is loaded.
+/// Writes the instructions of the value of `base[index]`: a row is the pointer to its first cell, and all else
+/// is loaded.
 #[cycle(expressions)]
 fn index_value(
     site: &Site<'_, '_>,
@@ -213,8 +221,11 @@ fn index_value(
     base: &Expr,
     index: &Expr,
 ) -> Result<Typed, AllocError>
-    ensures typed { IfOk result (λ typed. typed ≡ typed_index (expr_code site.now.names.now site.now.scope.now base.now).typed) }
-    ensures code { OnOk result (out.new ≡ out.old ++ (index_code (expr_code site.now.names.now site.now.scope.now base.now) (expr_code site.now.names.now site.now.scope.now index.now)).value site.now.line depth) }
+    ensures typed { IfOk result (λ typed. typed ≡ typed_index
+        (expr_code site.now.names.now site.now.scope.now base.now).typed) }
+    ensures code { OnOk result (out.new ≡ out.old ++
+        (index_code (expr_code site.now.names.now site.now.scope.now base.now)
+        (expr_code site.now.names.now site.now.scope.now index.now)).value site.now.line depth) }
 {
     let typed = index_place(site, out, depth, base, index)?;
     match typed.target {
@@ -235,8 +246,10 @@ fn prefix_value(
     op: UnOp,
     operand: &Expr,
 ) -> Result<Typed, AllocError>
-    ensures typed { IfOk result (λ typed. typed ≡ typed_prefix op (expr_code site.now.names.now site.now.scope.now operand.now).typed) }
-    ensures code { OnOk result (out.new ≡ out.old ++ prefix_value_code op (expr_code site.now.names.now site.now.scope.now operand.now) site.now.line depth) }
+    ensures typed { IfOk result (λ typed. typed ≡ typed_prefix op
+        (expr_code site.now.names.now site.now.scope.now operand.now).typed) }
+    ensures code { OnOk result (out.new ≡ out.old ++ prefix_value_code op
+        (expr_code site.now.names.now site.now.scope.now operand.now) site.now.line depth) }
 {
     match op {
         UnOp::Deref => {
@@ -271,8 +284,12 @@ fn binary(
     left: &Expr,
     right: &Expr,
 ) -> Result<ValueKind, AllocError>
-    ensures kind { IfOk result (λ kind. kind ≡ binary_kind op (expr_code site.now.names.now site.now.scope.now left.now).typed.kind (expr_code site.now.names.now site.now.scope.now right.now).typed.kind) }
-    ensures code { OnOk result (out.new ≡ out.old ++ binary_code op (expr_code site.now.names.now site.now.scope.now left.now) (expr_code site.now.names.now site.now.scope.now right.now) site.now.line depth) }
+    ensures kind { IfOk result (λ kind. kind ≡ binary_kind op
+        (expr_code site.now.names.now site.now.scope.now left.now).typed.kind
+        (expr_code site.now.names.now site.now.scope.now right.now).typed.kind) }
+    ensures code { OnOk result (out.new ≡ out.old ++ binary_code op
+        (expr_code site.now.names.now site.now.scope.now left.now)
+        (expr_code site.now.names.now site.now.scope.now right.now) site.now.line depth) }
 {
     match op {
         BinOp::AndAlso => {
@@ -301,7 +318,9 @@ fn and(
     left: &Expr,
     right: &Expr,
 ) -> Result<(), AllocError>
-    ensures { OnOk result (out.new ≡ out.old ++ and_code (expr_code site.now.names.now site.now.scope.now left.now).value (expr_code site.now.names.now site.now.scope.now right.now).value site.now.line depth) }
+    ensures { OnOk result (out.new ≡ out.old ++ and_code
+        (expr_code site.now.names.now site.now.scope.now left.now).value
+        (expr_code site.now.names.now site.now.scope.now right.now).value site.now.line depth) }
 {
     let above = deeper(depth, 1)?;
     value(site, out, depth, left)?;
@@ -323,7 +342,9 @@ fn or(
     left: &Expr,
     right: &Expr,
 ) -> Result<(), AllocError>
-    ensures { OnOk result (out.new ≡ out.old ++ or_code (expr_code site.now.names.now site.now.scope.now left.now).value (expr_code site.now.names.now site.now.scope.now right.now).value site.now.line depth) }
+    ensures { OnOk result (out.new ≡ out.old ++ or_code
+        (expr_code site.now.names.now site.now.scope.now left.now).value
+        (expr_code site.now.names.now site.now.scope.now right.now).value site.now.line depth) }
 {
     let above = deeper(depth, 1)?;
     value(site, out, depth, left)?;
@@ -344,7 +365,8 @@ pub fn arguments(
     depth: u32,
     values: &[Expr],
 ) -> Result<(), AllocError>
-    ensures { OnOk result (out.new ≡ out.old ++ arguments_code (map (expr_code site.now.names.now site.now.scope.now) values.now) site.now.line depth) }
+    ensures { OnOk result (out.new ≡ out.old ++ arguments_code
+        (map (expr_code site.now.names.now site.now.scope.now) values.now) site.now.line depth) }
 {
     let mut above = depth;
     for one in values {
@@ -363,8 +385,11 @@ pub fn call(
     name: &[u8],
     values: &[Expr],
 ) -> Result<ValueKind, AllocError>
-    ensures kind { IfOk result (λ kind. kind ≡ called_kind site.now.names.now (item_found site.now.names.now name.now)) }
-    ensures code { OnOk result (out.new ≡ out.old ++ call_code site.now.names.now (item_found site.now.names.now name.now) (map (expr_code site.now.names.now site.now.scope.now) values.now) site.now.line depth) }
+    ensures kind { IfOk result (λ kind. kind ≡ called_kind site.now.names.now
+        (item_found site.now.names.now name.now)) }
+    ensures code { OnOk result (out.new ≡ out.old ++ call_code site.now.names.now
+        (item_found site.now.names.now name.now) (map (expr_code site.now.names.now site.now.scope.now)
+        values.now) site.now.line depth) }
 {
     match site.names.item(name) {
         Found::Function(number) => {

@@ -1,5 +1,5 @@
-//! Lowering of expressions and sections: the instructions that evaluate them, what their names stand for, and the listing in which
-//! instructions are written.
+//! Lowering of expressions and sections: the instructions that evaluate them, what their names stand for, and
+//! the listing in which instructions are written.
 #![tactic(auto)]
 
 mod expressions;

@@ -88,7 +88,9 @@ impl Listing {
     #[tactic(auto, using(crate::proofs::ListingLemmas::put))]
     pub fn fill(&mut self, at: usize, jump: Jump, more: u32) -> Result<(), AllocError>
         requires { at < length self.old }
-        ensures { OnOk result ((before after : List Written) (l : Written) → self.old ≡ before ++ (l ∷ after) → at ≡ length before → self.new ≡ before ++ (one l.line l.depth (jump_by jump (length after + more)) ++ after)) }
+        ensures { OnOk result ((before after : List Written) (l : Written) → self.old ≡ before ++ (l ∷ after) →
+            at ≡ length before → self.new ≡ before ++
+            (one l.line l.depth (jump_by jump (length after + more)) ++ after)) }
     {
         let passed = deeper(narrow(self.code.len() - (at + 1))?, more)?;
         self.code[at].what = jump_by(jump, passed);
@@ -98,7 +100,8 @@ impl Listing {
     /// Lets the first instruction, a jump that is made always, pass so many.
     pub fn lead(&mut self, passed: u32)
         requires { 0 < length self.old }
-        ensures { (l : Written) (rest : List Written) → self.old ≡ l ∷ rest → self.new ≡ one l.line l.depth (jump_by AlwaysMade passed) ++ rest }
+        ensures { (l : Written) (rest : List Written) → self.old ≡ l ∷ rest →
+            self.new ≡ one l.line l.depth (jump_by AlwaysMade passed) ++ rest }
     {
         self.code[0].what = Instr::Skip(passed);
     }

@@ -119,7 +119,8 @@ fn add_all<'p>(
 ) -> Result<(), AllocError>
     ensures named { OnOk result (table.new ≡ table.old ++ map item_name items.now) }
     ensures found { OnOk result (found.new.items ≡ found.old.items ++ founds_from 0 0 items.now) }
-    ensures numbered { OnOk result (map (λ f. f.now) functions.new.items ≡ map (λ f. f.now) functions.old.items ++ functions_of items.now) }
+    ensures numbered { OnOk result (map (λ f. f.now) functions.new.items ≡
+        map (λ f. f.now) functions.old.items ++ functions_of items.now) }
 {
     let mut globals = 0u32;
     let mut count = 0u32;

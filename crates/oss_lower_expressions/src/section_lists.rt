@@ -71,7 +71,8 @@ fn operand(
     expr: &Expr,
 ) -> Result<u32, AllocError>
     ensures above { IfOk result (λ above. above ≡ depth + 1) }
-    ensures code { OnOk result (out.new ≡ out.old ++ (expr_code site.now.names.now site.now.scope.now expr.now).value site.now.line depth) }
+    ensures code { OnOk result (out.new ≡ out.old ++
+        (expr_code site.now.names.now site.now.scope.now expr.now).value site.now.line depth) }
 {
     value(site, out, depth, expr)?;
     deeper(depth, 1)
@@ -86,7 +87,9 @@ fn two_operands(
     second: &Expr,
 ) -> Result<u32, AllocError>
     ensures above { IfOk result (λ above. above ≡ depth + 2) }
-    ensures code { OnOk result (out.new ≡ out.old ++ ((expr_code site.now.names.now site.now.scope.now first.now).value site.now.line depth ++ (expr_code site.now.names.now site.now.scope.now second.now).value site.now.line (depth + 1))) }
+    ensures code { OnOk result (out.new ≡ out.old ++
+        ((expr_code site.now.names.now site.now.scope.now first.now).value site.now.line depth ++
+        (expr_code site.now.names.now site.now.scope.now second.now).value site.now.line (depth + 1))) }
 {
     let above = operand(site, out, depth, first)?;
     operand(site, out, above, second)
@@ -100,7 +103,8 @@ fn optional_operand(
     expr: &Option<Expr>,
 ) -> Result<u32, AllocError>
     ensures above { IfOk result (λ above. above ≡ depth + length (optional expr.now)) }
-    ensures code { OnOk result (out.new ≡ out.old ++ arguments_code (map (expr_code site.now.names.now site.now.scope.now) (optional expr.now)) site.now.line depth) }
+    ensures code { OnOk result (out.new ≡ out.old ++ arguments_code
+        (map (expr_code site.now.names.now site.now.scope.now) (optional expr.now)) site.now.line depth) }
 {
     match expr {
         Some(expr) => operand(site, out, depth, expr),
@@ -118,7 +122,9 @@ fn span_operands(
     upper: &Option<Expr>,
 ) -> Result<u32, AllocError>
     ensures above { IfOk result (λ above. above ≡ depth + length (optional lower.now ++ optional upper.now)) }
-    ensures code { OnOk result (out.new ≡ out.old ++ arguments_code (map (expr_code site.now.names.now site.now.scope.now) (optional lower.now ++ optional upper.now)) site.now.line depth) }
+    ensures code { OnOk result (out.new ≡ out.old ++ arguments_code
+        (map (expr_code site.now.names.now site.now.scope.now) (optional lower.now ++ optional upper.now))
+        site.now.line depth) }
 {
     let above = optional_operand(site, out, depth, lower)?;
     optional_operand(site, out, above, upper)
@@ -132,7 +138,8 @@ fn part_operands(
     inner: &Inner,
 ) -> Result<u32, AllocError>
     ensures above { IfOk result (λ above. above ≡ depth + length (inner_operands inner.now)) }
-    ensures code { OnOk result (out.new ≡ out.old ++ arguments_code (map (expr_code site.now.names.now site.now.scope.now) (inner_operands inner.now)) site.now.line depth) }
+    ensures code { OnOk result (out.new ≡ out.old ++ arguments_code
+        (map (expr_code site.now.names.now site.now.scope.now) (inner_operands inner.now)) site.now.line depth) }
 {
     match inner {
         Inner::Element(place) => operand(site, out, depth, place),
@@ -150,7 +157,9 @@ fn grid_operands(
     columns: &Inner,
 ) -> Result<u32, AllocError>
     ensures above { IfOk result (λ above. above ≡ length (inner_operands rows.now ++ inner_operands columns.now)) }
-    ensures code { OnOk result (out.new ≡ out.old ++ arguments_code (map (expr_code site.now.names.now site.now.scope.now) (inner_operands rows.now ++ inner_operands columns.now)) site.now.line 0) }
+    ensures code { OnOk result (out.new ≡ out.old ++ arguments_code
+        (map (expr_code site.now.names.now site.now.scope.now) (inner_operands rows.now ++
+        inner_operands columns.now)) site.now.line 0) }
 {
     let above = part_operands(site, out, 0, rows)?;
     part_operands(site, out, above, columns)
@@ -159,7 +168,8 @@ fn grid_operands(
 /// Writes the expressions of a section that is no multidependency, in text order, and tells how many they are.
 fn operands(site: &Site<'_, '_>, out: &mut Listing, form: &Form) -> Result<u32, AllocError>
     ensures above { IfOk result (λ above. above ≡ length (operands_in form.now)) }
-    ensures code { OnOk result (out.new ≡ out.old ++ arguments_code (map (expr_code site.now.names.now site.now.scope.now) (operands_in form.now)) site.now.line 0) }
+    ensures code { OnOk result (out.new ≡ out.old ++ arguments_code
+        (map (expr_code site.now.names.now site.now.scope.now) (operands_in form.now)) site.now.line 0) }
 {
     match form {
         Form::Whole => Ok(0),
@@ -179,7 +189,8 @@ pub fn optional_value(
     out: &mut Listing,
     expr: &Option<Expr>,
 ) -> Result<(), AllocError>
-    ensures { OnOk result (out.new ≡ out.old ++ optional_code site.now.names.now site.now.scope.now expr.now site.now.line) }
+    ensures { OnOk result (out.new ≡ out.old ++ optional_code site.now.names.now site.now.scope.now expr.now
+        site.now.line) }
 {
     match expr {
         Some(expr) => {
@@ -198,7 +209,8 @@ fn turn(
     index: &Expr,
     second: &Option<Expr>,
 ) -> Result<(), AllocError>
-    ensures { OnOk result (out.new ≡ out.old ++ turn_code site.now.names.now site.now.scope.now base index.now second.now site.now.line) }
+    ensures { OnOk result (out.new ≡ out.old ++ turn_code site.now.names.now site.now.scope.now base index.now
+        second.now site.now.line) }
 {
     value(site, out, 0, index)?;
     match second {
@@ -210,7 +222,8 @@ fn turn(
     }
 }
 
-/// Writes a multidependency: the first value of its variable, the number of its turns, a turn, and what leads to the next one.
+/// Writes a multidependency: the first value of its variable, the number of its turns, a turn, and what leads
+/// to the next one.
 fn many<'p>(
     site: &Site<'_, 'p>,
     out: &mut Listing,
@@ -220,7 +233,8 @@ fn many<'p>(
     second: &Option<Expr>,
     turns: &'p Turns,
 ) -> Result<(), AllocError>
-    ensures { OnOk result (out.new ≡ out.old ++ many_code site.now.names.now site.now.scope.now declared base index.now second.now turns.now site.now.line) }
+    ensures { OnOk result (out.new ≡ out.old ++ many_code site.now.names.now site.now.scope.now declared base
+        index.now second.now turns.now site.now.line) }
 {
     optional_value(site, out, &turns.variable.first)?;
     value(site, out, 1, &turns.count)?;
@@ -241,8 +255,10 @@ fn all_turns<'p>(
     second: &Option<Expr>,
     turns: &'p Turns,
 ) -> Result<u32, AllocError>
-    ensures length { IfOk result (λ count. count ≡ length (turn_code site.now.names.now (site.now.scope.now ++ turns.now.variable ∷ []) base index.now second.now site.now.line)) }
-    ensures code { OnOk result (out.new ≡ out.old ++ turn_code site.now.names.now (site.now.scope.now ++ turns.now.variable ∷ []) base index.now second.now site.now.line) }
+    ensures length { IfOk result (λ count. count ≡ length (turn_code site.now.names.now (site.now.scope.now ++
+        turns.now.variable ∷ []) base index.now second.now site.now.line)) }
+    ensures code { OnOk result (out.new ≡ out.old ++ turn_code site.now.names.now (site.now.scope.now ++
+        turns.now.variable ∷ []) base index.now second.now site.now.line) }
 {
     let scope = site.scope.with(&turns.variable)?;
     let inside = Site {
@@ -262,7 +278,8 @@ fn section<'p>(
     declared: Declared,
     one: &'p Section,
 ) -> Result<(), AllocError>
-    ensures { OnOk result (out.new ≡ out.old ++ section_code site.now.names.now site.now.scope.now declared one.now site.now.line) }
+    ensures { OnOk result (out.new ≡ out.old ++ section_code site.now.names.now site.now.scope.now declared
+        one.now site.now.line) }
 {
     let base = base_of(site.names.named(site.scope, one.base.as_slice()));
     match &one.form {
@@ -284,7 +301,8 @@ pub fn sections<'p>(
     declared: Declared,
     sections: &'p [Section],
 ) -> Result<(), AllocError>
-    ensures { OnOk result (out.new ≡ out.old ++ sections_code site.now.names.now site.now.scope.now declared sections.now site.now.line) }
+    ensures { OnOk result (out.new ≡ out.old ++ sections_code site.now.names.now site.now.scope.now declared
+        sections.now site.now.line) }
 {
     for one in sections {
         section(site, out, declared, one)?;

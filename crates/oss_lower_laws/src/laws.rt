@@ -1,10 +1,11 @@
-//! What holds of the code of every program, accepted or not: laws, each carried by a function that does nothing. A crate above calls
-//! the function, and then has the law.
+//! What holds of the code of every program, accepted or not: laws, each carried by a function that does
+//! nothing. A crate above calls the function, and then has the law.
 
 ghost use Rattle.oss_lower_laws.specs.Programs.{AProgramHasOneOutcome, AcceptedProgramsHaveOneOutcome, BoundsAreEnough, CodesAreSound, CodesAskAlike, MainOutcomesAlike, OutcomesAlike, OutcomesAreOne, ProgramsAreLively, ProgramsHaveCodes, ProgramsHaveOneOutcome};
 
-/// The code that a program becomes is a code of it: each body of the program has a place in the code, and the body at that place asks
-/// for the same, on the same lines, after any answers. `main` is at the first instruction.
+/// The code that a program becomes is a code of it: each body of the program has a place in the code, and the
+/// body at that place asks for the same, on the same lines, after any answers. `main` is at the first
+/// instruction.
 pub fn codes_ask_alike()
     ensures { CodesAskAlike }
 {}
@@ -24,8 +25,8 @@ pub fn bounds_are_enough()
     ensures { BoundsAreEnough }
 {}
 
-/// The sequential run of a program gives what that of a code of it gives, and the other way round: the same answer, as many tasks, and as
-/// many entries.
+/// The sequential run of a program gives what that of a code of it gives, and the other way round: the same
+/// answer, as many tasks, and as many entries.
 pub fn outcomes_alike()
     ensures { OutcomesAlike }
 {}
@@ -45,8 +46,8 @@ pub fn programs_have_one_outcome()
     ensures { ProgramsHaveOneOutcome }
 {}
 
-/// A program has a code where each of its globals has a place: it has a cell, no row of it has none, there are at most 1,048,576 cells in
-/// all, and it begins with a number of 64 bits.
+/// A program has a code where each of its globals has a place: it has a cell, no row of it has none, there are
+/// at most 1,048,576 cells in all, and it begins with a number of 64 bits.
 pub fn programs_have_codes()
     ensures { ProgramsHaveCodes }
 {}

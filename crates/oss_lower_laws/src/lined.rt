@@ -1,4 +1,5 @@
-//! Instructions with their lines and the depth of the stack at each, and how far they stand from where `break` and `continue` lead.
+//! Instructions with their lines and the depth of the stack at each, and how far they stand from where `break`
+//! and `continue` lead.
 
 use oss_code::Instr;
 
@@ -12,7 +13,8 @@ pub struct Lined {
     pub depth: u32,
 }
 
-/// How far some instructions of a loop's body, or of the body of a function or of a task, begin behind the pieces to which jumps lead.
+/// How far some instructions of a loop's body, or of the body of a function or of a task, begin behind the
+/// pieces to which jumps lead.
 #[derive(Clone, Copy)]
 pub struct Pads {
     /// So many instructions behind the piece of `break`.

@@ -22,7 +22,8 @@ use std::alloc::AllocError;
 
 /// The number that a load found is left in the place of its pointer.
 fn end_load(code: &Code, frame: &mut Activation, loaded: u64) -> Result<Taken, AllocError>
-    ensures { IsAnswered (λ f. with_top f.stack (λ p rest. touched (cell_of (extents_in code.now.globals) p) (λ cell. Effect.Asks (Read cell) (λ v. onward (value.Num v ∷ rest) f)))) loaded frame.old frame.new result }
+    ensures { IsAnswered (λ f. with_top f.stack (λ p rest. touched (cell_of (extents_in code.now.globals) p)
+        (λ cell. Effect.Asks (Read cell) (λ v. onward (value.Num v ∷ rest) f)))) loaded frame.old frame.new result }
 {
     match cell_of(code, value_below(frame.stack.as_slice(), 0)) {
         Some(_) => {
@@ -40,7 +41,9 @@ fn end_store(
     kind: NumKind,
     loaded: u64,
 ) -> Result<Taken, AllocError>
-    ensures { IsAnswered (λ f. with_two f.stack (λ p v rest. touched (cell_of (extents_in code.now.globals) p) (λ cell. Effect.Asks (Write cell (kept kind (number_in v))) (λ t. onward rest f)))) loaded frame.old frame.new result }
+    ensures { IsAnswered (λ f. with_two f.stack (λ p v rest. touched (cell_of (extents_in code.now.globals) p)
+        (λ cell. Effect.Asks (Write cell (kept kind (number_in v))) (λ t. onward rest f)))) loaded frame.old
+        frame.new result }
 {
     match cell_of(code, value_below(frame.stack.as_slice(), 1)) {
         Some(_) => {
@@ -53,7 +56,8 @@ fn end_store(
 
 /// What a fold took is gone.
 fn end_fold(code: &Code, frame: &mut Activation, op: Op, loaded: u64) -> Result<Taken, AllocError>
-    ensures { IsAnswered (λ f. with_two f.stack (λ p v rest. touched (cell_of (extents_in code.now.globals) p) (λ cell. Effect.Asks (Fold cell op (number_in v)) (λ t. onward rest f)))) loaded frame.old frame.new result }
+    ensures { IsAnswered (λ f. with_two f.stack (λ p v rest. touched (cell_of (extents_in code.now.globals) p)
+        (λ cell. Effect.Asks (Fold cell op (number_in v)) (λ t. onward rest f)))) loaded frame.old frame.new result }
 {
     match cell_of(code, value_below(frame.stack.as_slice(), 1)) {
         Some(_) => {
@@ -64,8 +68,8 @@ fn end_fold(code: &Code, frame: &mut Activation, op: Op, loaded: u64) -> Result<
     }
 }
 
-/// Goes on in a function with the answer to what its instruction asks. A function that asks nothing, or whose instruction fails, stays;
-/// so does one that calls, and this tells what it enters.
+/// Goes on in a function with the answer to what its instruction asks. A function that asks nothing, or whose
+/// instruction fails, stays; so does one that calls, and this tells what it enters.
 #[tactic(auto, using(crate::proofs::AnswerLemmas::stays))]
 pub(crate) fn take_answer(
     code: &Code,

@@ -22,8 +22,8 @@ impl Drop for Still {
 
 /// What has moved since.
 pub(crate) struct Run {
-    /// How many callers wait as they stood. The function that continues the next of those that stood, or the one on top, lies in `waiting`
-    /// if others wait there, and is the one that runs if none does.
+    /// How many callers wait as they stood. The function that continues the next of those that stood, or the
+    /// one on top, lies in `waiting` if others wait there, and is the one that runs if none does.
     pub live: usize,
     /// The functions that wait above the live callers, the newest last.
     pub waiting: Vec<Activation>,

@@ -85,10 +85,11 @@ pub(crate) fn element_of(code: &Code, global: u32, row: Value, column: Value) ->
     )
 }
 
-/// What is told of a touch of the cell to which the value at a place of the stack points, counted from the topmost: the body asks, or the
-/// value points to no cell.
+/// What is told of a touch of the cell to which the value at a place of the stack points, counted from the
+/// topmost: the body asks, or the value points to no cell.
 pub(crate) fn touch(code: &Code, frame: &Activation, depth: usize) -> Outcome
-    ensures { result ≡ touch_told (cell_of (extents_in code.now.globals) (value_at (reverse frame.now.stack.items) depth)) }
+    ensures { result ≡ touch_told (cell_of (extents_in code.now.globals)
+        (value_at (reverse frame.now.stack.items) depth)) }
 {
     match cell_of(code, value_below(frame.stack.as_slice(), depth)) {
         Some(_) => Outcome::Asks,
@@ -98,7 +99,9 @@ pub(crate) fn touch(code: &Code, frame: &Activation, depth: usize) -> Outcome
 
 /// The ask for a load of the cell to which the topmost value points.
 pub(crate) fn load(code: &Code, frame: &Activation) -> Ask
-    ensures { IsAskedAnywhere (λ f. with_top f.stack (λ p rest. touched (cell_of (extents_in code.now.globals) p) (λ cell. Effect.Asks (Read cell) (λ v. onward (value.Num v ∷ rest) f)))) frame.now (Ok result) }
+    ensures { IsAskedAnywhere (λ f. with_top f.stack (λ p rest.
+        touched (cell_of (extents_in code.now.globals) p) (λ cell.
+        Effect.Asks (Read cell) (λ v. onward (value.Num v ∷ rest) f)))) frame.now (Ok result) }
 {
     match cell_of(code, value_below(frame.stack.as_slice(), 0)) {
         Some(cell) => Ask::Read(cell),
@@ -108,7 +111,9 @@ pub(crate) fn load(code: &Code, frame: &Activation) -> Ask
 
 /// The ask for a store of what the cell keeps of the topmost value.
 pub(crate) fn store(code: &Code, frame: &Activation, kind: NumKind) -> Ask
-    ensures { IsAskedAnywhere (λ f. with_two f.stack (λ p v rest. touched (cell_of (extents_in code.now.globals) p) (λ cell. Effect.Asks (Write cell (kept kind (number_in v))) (λ t. onward rest f)))) frame.now (Ok result) }
+    ensures { IsAskedAnywhere (λ f. with_two f.stack (λ p v rest.
+        touched (cell_of (extents_in code.now.globals) p) (λ cell.
+        Effect.Asks (Write cell (kept kind (number_in v))) (λ t. onward rest f)))) frame.now (Ok result) }
 {
     match cell_of(code, value_below(frame.stack.as_slice(), 1)) {
         Some(cell) => {
@@ -121,7 +126,9 @@ pub(crate) fn store(code: &Code, frame: &Activation, kind: NumKind) -> Ask
 
 /// The ask for a fold of the topmost value into the cell.
 pub(crate) fn fold(code: &Code, frame: &Activation, op: Op) -> Ask
-    ensures { IsAskedAnywhere (λ f. with_two f.stack (λ p v rest. touched (cell_of (extents_in code.now.globals) p) (λ cell. Effect.Asks (Fold cell op (number_in v)) (λ t. onward rest f)))) frame.now (Ok result) }
+    ensures { IsAskedAnywhere (λ f. with_two f.stack (λ p v rest.
+        touched (cell_of (extents_in code.now.globals) p) (λ cell. Effect.Asks (Fold cell op (number_in v))
+        (λ t. onward rest f)))) frame.now (Ok result) }
 {
     match cell_of(code, value_below(frame.stack.as_slice(), 1)) {
         Some(cell) => {

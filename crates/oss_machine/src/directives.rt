@@ -23,7 +23,10 @@ use std::alloc::{AllocError, Global};
 
 /// The value of the clause `if` is taken.
 pub(crate) fn when(frame: &mut Activation) -> Result<(), AllocError>
-    ensures { IsMoved (λ f. record (onward (drop 1 f.stack) f) { made = record (f.made) { when = holds (value_at f.stack 0) } }) frame.old frame.new result }
+    ensures { IsMoved (λ f. record (onward (drop 1 f.stack) f) {
+      made = record
+          (f.made) { when = holds (value_at f.stack 0) };
+    }) frame.old frame.new result }
 {
     let value = value_below(frame.stack.as_slice(), 0);
     frame.at = place_behind(frame.at, 0)?;
@@ -34,7 +37,10 @@ pub(crate) fn when(frame: &mut Activation) -> Result<(), AllocError>
 
 /// The value of the clause `final` is taken.
 pub(crate) fn last(frame: &mut Activation) -> Result<(), AllocError>
-    ensures { IsMoved (λ f. record (onward (drop 1 f.stack) f) { made = record (f.made) { last = holds (value_at f.stack 0) } }) frame.old frame.new result }
+    ensures { IsMoved (λ f. record (onward (drop 1 f.stack) f) {
+      made = record
+          (f.made) { last = holds (value_at f.stack 0) };
+    }) frame.old frame.new result }
 {
     let value = value_below(frame.stack.as_slice(), 0);
     frame.at = place_behind(frame.at, 0)?;
@@ -54,7 +60,10 @@ pub(crate) fn late(frame: &mut Activation) -> Result<(), AllocError>
 
 /// The value of the clause `priority` is taken.
 pub(crate) fn priority(frame: &mut Activation) -> Result<(), AllocError>
-    ensures { IsMoved (λ f. record (onward (drop 1 f.stack) f) { made = record (f.made) { priority = signed (number_in (value_at f.stack 0)) } }) frame.old frame.new result }
+    ensures { IsMoved (λ f. record (onward (drop 1 f.stack) f) {
+      made = record
+          (f.made) { priority = signed (number_in (value_at f.stack 0)) };
+    }) frame.old frame.new result }
 {
     let value = value_below(frame.stack.as_slice(), 0);
     frame.at = place_behind(frame.at, 0)?;
@@ -63,7 +72,8 @@ pub(crate) fn priority(frame: &mut Activation) -> Result<(), AllocError>
     Ok(())
 }
 
-/// The entry so many instructions behind the next one. A code with an entry that no number of 32 bits tells has no room.
+/// The entry so many instructions behind the next one. A code with an entry that no number of 32 bits tells has
+/// no room.
 fn entry_behind(at: usize, passed: u32) -> Result<u32, AllocError>
     ensures { IfOk result (λ to. to ≡ at + 1 + passed) }
 {
@@ -80,7 +90,9 @@ pub(crate) fn create(
     frame: &Activation,
     passed: u32,
 ) -> Result<Ask, AllocError>
-    ensures { IsAsked (base_in base.now) (λ f. Effect.Asks (Create (order_of (record { entry = f.at + 1 + passed; copies = f.locals }) f.made)) (λ t. directive_done f)) frame.now result }
+    ensures { IsAsked (base_in base.now) (λ f. Effect.Asks
+        (Create (order_of (record { entry = f.at + 1 + passed; copies = f.locals }) f.made)) (λ t.
+        directive_done f)) frame.now result }
 {
     let entry = entry_behind(frame.at, passed)?;
     let accesses = all_accesses(alloc, base, frame)?;
@@ -99,7 +111,8 @@ pub(crate) fn create(
 
 /// The ask for what the tasks that the body created declared of the cells that the directive names.
 pub(crate) fn wait_on(alloc: Global, base: &Gathered, frame: &Activation) -> Result<Ask, AllocError>
-    ensures { IsAsked (base_in base.now) (λ f. Effect.Asks (WaitOn (named_in f.made)) (λ t. directive_done f)) frame.now result }
+    ensures { IsAsked (base_in base.now) (λ f. Effect.Asks (WaitOn (named_in f.made)) (λ t. directive_done f))
+        frame.now result }
 {
     let named = all_named(alloc, base, frame)?;
     Ok(Ask::WaitOn(named))
@@ -107,7 +120,8 @@ pub(crate) fn wait_on(alloc: Global, base: &Gathered, frame: &Activation) -> Res
 
 /// The ask for the release of what the directive declares.
 pub(crate) fn release(alloc: Global, base: &Gathered, frame: &Activation) -> Result<Ask, AllocError>
-    ensures { IsAsked (base_in base.now) (λ f. Effect.Asks (Release f.made.accesses) (λ t. directive_done f)) frame.now result }
+    ensures { IsAsked (base_in base.now) (λ f. Effect.Asks (Release f.made.accesses) (λ t. directive_done f))
+        frame.now result }
 {
     let accesses = all_accesses(alloc, base, frame)?;
     Ok(Ask::Release(accesses))
@@ -131,7 +145,8 @@ pub(crate) fn end_directive(frame: &mut Activation) -> Result<(), AllocError>
 
 /// The creation of a task function begins; none begins inside another.
 pub(crate) fn spawn(frame: &Activation) -> Outcome
-    ensures { (entry count : ℕ) → IsActedAnywhere (λ f. with_arguments count f.stack (λ vs rest. spawned f.call_line entry vs (with_stack rest f))) frame.now frame.now (Ok result) }
+    ensures { (entry count : ℕ) → IsActedAnywhere (λ f. with_arguments count f.stack (λ vs rest.
+        spawned f.call_line entry vs (with_stack rest f))) frame.now frame.now (Ok result) }
 {
     match frame.call_line {
         None => Outcome::Creates,
@@ -139,7 +154,8 @@ pub(crate) fn spawn(frame: &Activation) -> Outcome
     }
 }
 
-/// Where the creation of a task function begins to which the instruction at a place leads, and how many of the values it takes.
+/// Where the creation of a task function begins to which the instruction at a place leads, and how many of the
+/// values it takes.
 pub(crate) fn spawn_at(code: &Code, at: usize) -> (usize, usize)
     ensures { result ≡ spawn_of code.now (slice_get code.now.instrs at) }
 {

@@ -39,7 +39,8 @@ pub(crate) fn blank(alloc: Global) -> Activation
     }
 }
 
-/// A function at its beginning with these values of the locals, or a creation with the line of its call, with room for so many values.
+/// A function at its beginning with these values of the locals, or a creation with the line of its call, with
+/// room for so many values.
 pub(crate) fn first_activation(
     alloc: Global,
     call_line: Option<u32>,

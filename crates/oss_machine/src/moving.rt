@@ -26,13 +26,14 @@ pub(crate) fn count_of(call_line: Option<u32>) -> usize
 
 /// Takes so many arguments from the function that runs.
 fn without_arguments(frame: &mut Activation, count: usize)
-    ensures { (base : Base) → frame_on base frame.new ≡ with_stack (drop count (frame_on base frame.old).stack) (frame_on base frame.old) }
+    ensures { (base : Base) → frame_on base frame.new ≡ with_stack (drop count (frame_on base frame.old).stack)
+        (frame_on base frame.old) }
 {
     lower(&mut frame.stack, count);
 }
 
-/// Enters a function, or a creation with the line of its call, with so many of the values as its arguments. The function that ran waits
-/// for it.
+/// Enters a function, or a creation with the line of its call, with so many of the values as its arguments. The
+/// function that ran waits for it.
 #[tactic(auto, using(crate::proofs::RunLemmas::stacked_push))]
 pub(crate) fn enter(
     alloc: Global,
@@ -44,8 +45,11 @@ pub(crate) fn enter(
     call_line: Option<u32>,
 ) -> Result<(), AllocError>
     requires { run.old.open_count < 1000 }
-    ensures frame { OnOk result ((config_in still.now run.new).frame ≡ first_frame call_line entry (reverse (take count (config_in still.now run.old).frame.stack))) }
-    ensures callers { OnOk result ((config_in still.now run.new).callers ≡ with_stack (drop count (config_in still.now run.old).frame.stack) (config_in still.now run.old).frame ∷ (config_in still.now run.old).callers) }
+    ensures frame { OnOk result ((config_in still.now run.new).frame ≡ first_frame call_line entry
+        (reverse (take count (config_in still.now run.old).frame.stack))) }
+    ensures callers { OnOk result ((config_in still.now run.new).callers ≡
+        with_stack (drop count (config_in still.now run.old).frame.stack) (config_in still.now run.old).frame ∷
+        (config_in still.now run.old).callers) }
     ensures live { OnOk result (run.new.live ≡ run.old.live) }
     ensures open { OnOk result (run.new.open_count ≡ run.old.open_count + counted call_line) }
 {
@@ -72,7 +76,13 @@ pub(crate) fn give_moved(
     caller: Activation,
     value: Value,
 ) -> Result<(), AllocError>
-    ensures given { OnOk result (config_in still.now run.new ≡ record { frame = onward (value ∷ (frame_on (base_above (base_at still.now run.old.live) run.old.waiting.items) caller).stack) (frame_on (base_above (base_at still.now run.old.live) run.old.waiting.items) caller); callers = (config_in still.now run.old).callers }) }
+    ensures given { OnOk result (config_in still.now run.new ≡
+        record {
+          frame = onward (value ∷ (frame_on (base_above (base_at still.now run.old.live)
+              run.old.waiting.items) caller).stack) (frame_on
+              (base_above (base_at still.now run.old.live) run.old.waiting.items) caller);
+          callers = (config_in still.now run.old).callers;
+        }) }
     ensures rest { run.new ≡ record run.old { work = run.new.work } }
 {
     run.work = caller;
@@ -85,8 +95,11 @@ pub(crate) fn give_live(still: &Still, run: &mut Run, value: Value) -> Result<()
     requires some { 0 < run.old.live }
     requires live { run.old.live ≤ length still.now.callers.items }
     requires alone { run.old.waiting.items ≡ [] }
-    ensures callers { OnOk result ((config_in still.now run.old).callers ≡ frame_on no_base (slice_index_or still.now.callers.items run.new.live still.now.top) ∷ (config_in still.now run.new).callers) }
-    ensures frame { OnOk result ((config_in still.now run.new).frame ≡ onward (value ∷ (frame_on no_base (slice_index_or still.now.callers.items run.new.live still.now.top)).stack) (frame_on no_base (slice_index_or still.now.callers.items run.new.live still.now.top))) }
+    ensures callers { OnOk result ((config_in still.now run.old).callers ≡ frame_on no_base
+        (slice_index_or still.now.callers.items run.new.live still.now.top) ∷ (config_in still.now run.new).callers) }
+    ensures frame { OnOk result ((config_in still.now run.new).frame ≡
+        onward (value ∷ (frame_on no_base (slice_index_or still.now.callers.items run.new.live
+        still.now.top)).stack) (frame_on no_base (slice_index_or still.now.callers.items run.new.live still.now.top))) }
     ensures live { OnOk result (run.new.live + 1 ≡ run.old.live) }
     ensures open { run.new.open_count ≡ run.old.open_count }
 {

@@ -33,7 +33,8 @@ pub(crate) fn print(
     pieces: &[Piece],
     count: u32,
 ) -> Result<Ask, AllocError>
-    ensures { IsAskedAnywhere (λ f. with_arguments count f.stack (λ vs rest. Effect.Asks (Print (written_pieces pieces.now (map number_in vs))) (λ t. onward rest f))) frame.now result }
+    ensures { IsAskedAnywhere (λ f. with_arguments count f.stack (λ vs rest.
+        Effect.Asks (Print (written_pieces pieces.now (map number_in vs))) (λ t. onward rest f))) frame.now result }
 {
     let values = numbers(alloc, arguments(frame.stack.as_slice(), count as usize))?;
     let mut text = Vec::new(alloc);

@@ -7,7 +7,8 @@ use crate::bodies::{Reach, Run, Still};
 use crate::settling::{begin, commit};
 use std::alloc::{AllocError, Global};
 
-/// What the body has gone on to takes the place of what stood: then the run is free. Otherwise nothing changes, nor where memory is wanting.
+/// What the body has gone on to takes the place of what stood: then the run is free. Otherwise nothing changes,
+/// nor where memory is wanting.
 pub(crate) fn land(
     alloc: Global,
     still: &mut Still,

@@ -20,7 +20,8 @@ fn take_on(
     instr: &Instr,
     loaded: u64,
 ) -> Result<Taken, AllocError>
-    ensures gone { IfOk result (λ t. gone (effect code.now (config_in still.now run.old).frame instr.now) loaded (config_in still.now run.old).frame ≡ gone_on (config_in still.now run.new).frame t) }
+    ensures gone { IfOk result (λ t. gone (effect code.now (config_in still.now run.old).frame instr.now) loaded
+        (config_in still.now run.old).frame ≡ gone_on (config_in still.now run.new).frame t) }
     ensures rest { run.new ≡ record run.old { work = run.new.work } }
 {
     take_answer(code, &mut run.work, instr, loaded)
@@ -38,7 +39,10 @@ fn go_on(
     requires run { IsRun still.now run.old }
     requires at { slice_get code.now.instrs run.old.work.at ≡ Some instr.now }
     requires few { run.old.open_count < 257 }
-    ensures resumed { OnOk result (config_in still.now run.new ≡ resumed_by (after_effect (effect code.now (config_in still.now run.old).frame instr.now) (line_of code.now (config_in still.now run.old).frame) (config_in still.now run.old)) loaded (config_in still.now run.old)) }
+    ensures resumed { OnOk result (config_in still.now run.new ≡
+        resumed_by (after_effect (effect code.now (config_in still.now run.old).frame instr.now)
+        (line_of code.now (config_in still.now run.old).frame) (config_in still.now run.old)) loaded
+        (config_in still.now run.old)) }
     ensures run { OnOk result (IsRun still.now run.new) }
 {
     match take_on(code, still, run, instr, loaded)? {
@@ -59,7 +63,8 @@ pub(crate) fn resume(
     loaded: u64,
 ) -> Result<(), AllocError>
     requires { IsRun still.now run.old }
-    ensures resumed { OnOk result (config_in still.now run.new ≡ resumed code.now loaded (config_in still.now run.old)) }
+    ensures resumed { OnOk result (config_in still.now run.new ≡ resumed code.now loaded
+        (config_in still.now run.old)) }
     ensures run { OnOk result (IsRun still.now run.new) }
 {
     if TOO_MANY <= run.open_count {

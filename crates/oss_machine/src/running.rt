@@ -61,7 +61,8 @@ fn act_here(
     base: &Gathered,
     frame: &mut Activation,
 ) -> Result<Outcome, AllocError>
-    ensures { IfOk result (λ o. acted_at code.now (frame_on (base_in base.now) frame.old) ≡ (frame_on (base_in base.now) frame.new, o)) }
+    ensures { IfOk result (λ o. acted_at code.now (frame_on (base_in base.now) frame.old) ≡
+        (frame_on (base_in base.now) frame.new, o)) }
 {
     match code.get(frame.at) {
         Some(instr) => act(alloc, code, base, frame, instr),
@@ -76,7 +77,8 @@ fn slide(
     base: &Gathered,
     frame: &mut Activation,
 ) -> Result<Outcome, AllocError>
-    ensures slides { OnOk result (Slides code.now (frame_on (base_in base.now) frame.old) (frame_on (base_in base.now) frame.new)) }
+    ensures slides { OnOk result (Slides code.now (frame_on (base_in base.now) frame.old)
+        (frame_on (base_in base.now) frame.new)) }
     ensures told { IfOk result (λ o. IsToldAt code.now (frame_on (base_in base.now) frame.new) o) }
 {
     loop {
@@ -94,7 +96,8 @@ pub(crate) fn slide_on(
     still: &Still,
     run: &mut Run,
 ) -> Result<Outcome, AllocError>
-    ensures slides { OnOk result (Slides code.now (config_in still.now run.old).frame (config_in still.now run.new).frame) }
+    ensures slides { OnOk result (Slides code.now (config_in still.now run.old).frame
+        (config_in still.now run.new).frame) }
     ensures told { IfOk result (λ o. IsToldAt code.now (config_in still.now run.new).frame o) }
     ensures rest { run.new ≡ record run.old { work = run.new.work } }
 {

@@ -188,7 +188,8 @@ fn section_cells(
     form: SectionForm,
     values: &[Value],
 ) -> Result<List<Range>, SectionRefused>
-    ensures { IsTold (section_cells (base_at code.now base locals.now) (extent_from form (map number_in values.now))) result }
+    ensures { IsTold (section_cells (base_at code.now base locals.now)
+        (extent_from form (map number_in values.now))) result }
 {
     let extent = extent_from(form, values);
     let base = base_at(code, base, locals);
@@ -203,7 +204,8 @@ fn add_section(
     declared: Declared,
     ranges: &List<Range>,
 ) -> Result<Outcome, AllocError>
-    ensures { IsActedAnywhere (λ f. Effect.On (with_ranges declared ranges.now (onward (drop taken f.stack) f))) frame.old frame.new result }
+    ensures { IsActedAnywhere (λ f. Effect.On (with_ranges declared ranges.now (onward (drop taken f.stack) f)))
+        frame.old frame.new result }
 {
     frame.at = place_behind(frame.at, 0)?;
     lower(&mut frame.stack, taken);
@@ -211,8 +213,8 @@ fn add_section(
     Ok(Outcome::On)
 }
 
-/// The numbers of a section are taken, so many of them, and its cells are added to those that the directive declares; or the section
-/// has a fault.
+/// The numbers of a section are taken, so many of them, and its cells are added to those that the directive
+/// declares; or the section has a fault.
 pub(crate) fn section(
     alloc: Global,
     code: &Code,
@@ -222,7 +224,10 @@ pub(crate) fn section(
     form: SectionForm,
     declared: Declared,
 ) -> Result<Outcome, AllocError>
-    ensures { IsActedAnywhere (λ f. with_arguments taken f.stack (λ vs rest. unless_failed (section_cells (base_at code.now base f.locals) (extent_from form (map number_in vs))) (λ cells. Effect.On (record (onward rest f) { made = with_section declared cells f.made })))) frame.old frame.new result }
+    ensures { IsActedAnywhere (λ f. with_arguments taken f.stack (λ vs rest.
+        unless_failed (section_cells (base_at code.now base f.locals) (extent_from form (map number_in vs)))
+        (λ cells. Effect.On (record (onward rest f) { made = with_section declared cells f.made })))) frame.old
+        frame.new result }
 {
     let values = arguments(frame.stack.as_slice(), taken);
     match section_cells(alloc, code, frame.locals.as_slice(), base, form, values) {
@@ -262,7 +267,8 @@ fn turn_cells(
     indices: Indices,
     values: &[Value],
 ) -> Result<List<Range>, SectionRefused>
-    ensures { IsTold (place_cells (base_at code.now base locals.now) (base_at code.now base locals.now).columns (place_from indices (map number_in values.now))) result }
+    ensures { IsTold (place_cells (base_at code.now base locals.now) (base_at code.now base locals.now).columns
+        (place_from indices (map number_in values.now))) result }
 {
     let extent = place_extent(indices, values);
     let base = base_at(code, base, locals);
@@ -277,7 +283,10 @@ fn add_turn(
     ranges: &List<Range>,
 ) -> Result<Outcome, AllocError>
     requires { IsSome frame.old.turns }
-    ensures { IsActedAnywhere (λ f. with_turning f.turning (λ t. Effect.On (record (onward (drop taken f.stack) f) { turning = Some (with_turn (cells_of ranges.now) t) }))) frame.old frame.new result }
+    ensures { IsActedAnywhere (λ f. with_turning f.turning (λ t.
+        Effect.On (record (onward (drop taken f.stack) f) {
+          turning = Some (with_turn (cells_of ranges.now) t);
+        }))) frame.old frame.new result }
 {
     frame.at = place_behind(frame.at, 0)?;
     lower(&mut frame.stack, taken);
@@ -285,8 +294,8 @@ fn add_turn(
     Ok(Outcome::On)
 }
 
-/// The indices of a turn are taken, so many of them, and the cells that they name are added to those of the multidependency; or the
-/// turn has a fault.
+/// The indices of a turn are taken, so many of them, and the cells that they name are added to those of the
+/// multidependency; or the turn has a fault.
 pub(crate) fn turn(
     alloc: Global,
     code: &Code,
@@ -295,7 +304,10 @@ pub(crate) fn turn(
     base: SectionBase,
     indices: Indices,
 ) -> Result<Outcome, AllocError>
-    ensures { IsActedAnywhere (λ f. with_turning f.turning (λ t. with_arguments taken f.stack (λ vs rest. unless_failed (place_cells (base_at code.now base f.locals) (base_at code.now base f.locals).columns (place_from indices (map number_in vs))) (λ cells. Effect.On (record (onward rest f) { turning = Some (with_turn cells t) }))))) frame.old frame.new result }
+    ensures { IsActedAnywhere (λ f. with_turning f.turning (λ t. with_arguments taken f.stack (λ vs rest.
+        unless_failed (place_cells (base_at code.now base f.locals) (base_at code.now base f.locals).columns
+        (place_from indices (map number_in vs))) (λ cells.
+        Effect.On (record (onward rest f) { turning = Some (with_turn cells t) }))))) frame.old frame.new result }
 {
     if frame.turns.is_none() {
         return Ok(Outcome::Stops(FaultKind::OutOfRange));

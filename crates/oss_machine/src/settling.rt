@@ -29,8 +29,10 @@ fn gather(
     adds_accesses: bool,
     adds_ranges: bool,
 ) -> Result<(), AllocError>
-    ensures accesses { OnOk result (base.new.accesses.items ≡ base.old.accesses.items ++ before adds_accesses more.now.accesses.items) }
-    ensures ranges { OnOk result (base.new.ranges.items ≡ base.old.ranges.items ++ before adds_ranges more.now.ranges.items) }
+    ensures accesses { OnOk result (base.new.accesses.items ≡ base.old.accesses.items ++
+        before adds_accesses more.now.accesses.items) }
+    ensures ranges { OnOk result (base.new.ranges.items ≡ base.old.ranges.items ++
+        before adds_ranges more.now.ranges.items) }
     ensures err { OnErr result (base_in base.new ≡ base_in base.old) }
 {
     let count = base.accesses.len();
@@ -52,7 +54,8 @@ fn gather(
 /// An activation takes the place of that which it continues. Where memory is wanting both stay.
 fn replace(base: &mut Activation, moved: &mut Activation) -> Result<(), AllocError>
     ensures ok { OnOk result (frame_on no_base base.new ≡ frame_on (base_in base.old.gathered) moved.old) }
-    ensures err { OnErr result ((frame_on no_base base.new ≡ frame_on no_base base.old) × (base_in base.new.gathered ≡ base_in base.old.gathered)) }
+    ensures err { OnErr result ((frame_on no_base base.new ≡ frame_on no_base base.old) ×
+        (base_in base.new.gathered ≡ base_in base.old.gathered)) }
     ensures moved { OnErr result (moved.new ≡ moved.old) }
 {
     gather(
@@ -86,10 +89,14 @@ fn replace_caller(
     moved: &mut Activation,
 ) -> Result<(), AllocError>
     requires { at < length callers.old.items }
-    ensures ok { OnOk result ((d : Activation) → stacked no_base (take (at + 1) callers.new.items) [] ≡ frame_on (base_in (slice_index_or callers.old.items at d).gathered) moved.old ∷ stacked no_base (take at callers.old.items) []) }
+    ensures ok { OnOk result ((d : Activation) → stacked no_base (take (at + 1) callers.new.items) [] ≡
+        frame_on (base_in (slice_index_or callers.old.items at d).gathered) moved.old ∷ stacked no_base
+        (take at callers.old.items) []) }
     ensures err { OnErr result (stacked no_base callers.new.items [] ≡ stacked no_base callers.old.items []) }
-    ensures below { OnErr result (stacked no_base (take at callers.new.items) [] ≡ stacked no_base (take at callers.old.items) []) }
-    ensures base { OnErr result ((d : Activation) → base_in (slice_index_or callers.new.items at d).gathered ≡ base_in (slice_index_or callers.old.items at d).gathered) }
+    ensures below { OnErr result (stacked no_base (take at callers.new.items) [] ≡ stacked no_base
+        (take at callers.old.items) []) }
+    ensures base { OnErr result ((d : Activation) → base_in (slice_index_or callers.new.items at d).gathered ≡
+        base_in (slice_index_or callers.old.items at d).gathered) }
     ensures moved { OnErr result (moved.new ≡ moved.old) }
     ensures len { length callers.new.items ≡ length callers.old.items }
     ensures capacity { vec_capacity callers.new ≡ vec_capacity callers.old }
@@ -98,8 +105,8 @@ fn replace_caller(
     replace(base, moved)
 }
 
-/// The lowest function that has moved takes the place of that which it continues, and those above are gone. Where memory is wanting the body
-/// stays, and what has moved.
+/// The lowest function that has moved takes the place of that which it continues, and those above are gone.
+/// Where memory is wanting the body stays, and what has moved.
 #[tactic(auto, using(crate::proofs::CommitLemmas::popped_frame, crate::proofs::CommitLemmas::popped_rest))]
 fn settle_lowest(still: &mut Still, live: usize, moved: &mut Activation) -> Result<(), AllocError>
     requires { live ≤ length still.old.callers.items }
@@ -125,12 +132,14 @@ fn settle_lowest(still: &mut Still, live: usize, moved: &mut Activation) -> Resu
     Ok(())
 }
 
-/// The functions that wait above the lowest of those that have moved, and the one that runs, come to stand above it. It takes no memory.
+/// The functions that wait above the lowest of those that have moved, and the one that runs, come to stand
+/// above it. It takes no memory.
 #[tactic(auto, using(crate::proofs::CommitLemmas::raised_callers))]
 fn raise(alloc: Global, still: &mut Still, run: &mut Run)
     requires { length still.old.callers.items + length run.old.waiting.items < vec_capacity still.old.callers }
     ensures frame { (config_of still.new).frame ≡ frame_on no_base run.old.work }
-    ensures callers { (config_of still.new).callers ≡ stacked no_base run.old.waiting.items ((config_of still.old).frame ∷ (config_of still.old).callers) }
+    ensures callers { (config_of still.new).callers ≡ stacked no_base run.old.waiting.items
+        ((config_of still.old).frame ∷ (config_of still.old).callers) }
 {
     let work = mem::replace(&mut run.work, blank(alloc));
     let lowest = mem::replace(&mut still.top, work);
@@ -166,8 +175,8 @@ fn commit_alone(still: &mut Still, run: &mut Run) -> Result<(), AllocError>
     Ok(())
 }
 
-/// The lowest of the functions that wait takes the place of that which it continues, and those above that are gone. Where memory is wanting
-/// the body stays, and what has moved.
+/// The lowest of the functions that wait takes the place of that which it continues, and those above that are
+/// gone. Where memory is wanting the body stays, and what has moved.
 fn settle_first(
     still: &mut Still,
     live: usize,
@@ -175,7 +184,8 @@ fn settle_first(
 ) -> Result<(), AllocError>
     requires live { live ≤ length still.old.callers.items }
     requires some { 0 < length waiting.old.items }
-    ensures frame { OnOk result ((d : Activation) → (config_of still.new).frame ≡ frame_on (base_at still.old live) (slice_index_or waiting.old.items 0 d)) }
+    ensures frame { OnOk result ((d : Activation) →
+        (config_of still.new).frame ≡ frame_on (base_at still.old live) (slice_index_or waiting.old.items 0 d)) }
     ensures callers { OnOk result ((config_of still.new).callers ≡ below_live still.old live) }
     ensures rest { OnOk result (waiting.new.items ≡ remove waiting.old.items 0) }
     ensures err { OnErr result (config_of still.new ≡ config_of still.old) }

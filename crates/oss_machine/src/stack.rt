@@ -8,7 +8,8 @@ use crate::activation::Activation;
 use oss_meaning::Value;
 use std::alloc::AllocError;
 
-/// The place so many instructions behind the next one. A code with a place that no number tells has no room in any memory.
+/// The place so many instructions behind the next one. A code with a place that no number tells has no room in
+/// any memory.
 #[inline(always)]
 pub(crate) fn place_behind(at: usize, passed: u32) -> Result<usize, AllocError>
     ensures { IfOk result (λ to. to ≡ at + 1 + passed) }
@@ -105,7 +106,8 @@ pub(crate) fn pass(frame: &mut Activation, taken: usize) -> Result<(), AllocErro
 
 /// A copy of the value below the topmost one is left.
 pub(crate) fn copy_under(frame: &mut Activation) -> Result<(), AllocError>
-    ensures { IsMoved (λ f. onward (value_at f.stack 1 ∷ value_at f.stack 0 ∷ value_at f.stack 1 ∷ drop 2 f.stack) f) frame.old frame.new result }
+    ensures { IsMoved (λ f. onward (value_at f.stack 1 ∷ value_at f.stack 0 ∷ value_at f.stack 1 ∷
+        drop 2 f.stack) f) frame.old frame.new result }
 {
     let lower = value_below(frame.stack.as_slice(), 1);
     let upper = value_below(frame.stack.as_slice(), 0);
@@ -116,7 +118,8 @@ pub(crate) fn copy_under(frame: &mut Activation) -> Result<(), AllocError>
 
 /// The two topmost values change places.
 pub(crate) fn swap(frame: &mut Activation) -> Result<(), AllocError>
-    ensures { IsMoved (λ f. onward (value_at f.stack 1 ∷ value_at f.stack 0 ∷ drop 2 f.stack) f) frame.old frame.new result }
+    ensures { IsMoved (λ f. onward (value_at f.stack 1 ∷ value_at f.stack 0 ∷ drop 2 f.stack) f) frame.old
+        frame.new result }
 {
     let lower = value_below(frame.stack.as_slice(), 1);
     let upper = value_below(frame.stack.as_slice(), 0);

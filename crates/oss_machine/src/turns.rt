@@ -22,7 +22,8 @@ const MOST_TURNS: u64 = 1_048_576;
 
 /// The first value of the variable and the number of turns are taken. Without a turn so many instructions are passed.
 pub(crate) fn begin_turns(frame: &mut Activation, passed: u32) -> Result<Outcome, AllocError>
-    ensures { IsActedAnywhere (λ f. with_two f.stack (λ l n rest. turns_from f.turning passed l n rest f)) frame.old frame.new result }
+    ensures { IsActedAnywhere (λ f. with_two f.stack (λ l n rest. turns_from f.turning passed l n rest f))
+        frame.old frame.new result }
 {
     let None = frame.turns else {
         return Ok(Outcome::Stops(FaultKind::OutOfRange));
@@ -42,7 +43,8 @@ fn start_turns(
     first: u64,
     count: u64,
 ) -> Result<Outcome, AllocError>
-    ensures { IsActedAnywhere (λ f. Effect.On (turns_begun passed first count (drop 2 f.stack) f)) frame.old frame.new result }
+    ensures { IsActedAnywhere (λ f. Effect.On (turns_begun passed first count (drop 2 f.stack) f)) frame.old
+        frame.new result }
 {
     let start = place_behind(frame.at, 0)?;
     frame.at = first_place(start, frame.at, passed, count)?;
@@ -79,7 +81,8 @@ fn step_last(values: &mut Vec<Value>)
 
 /// The next turn, so many instructions back; or what stands behind the last one.
 pub(crate) fn next_turn(frame: &mut Activation, passed: u32) -> Result<Outcome, AllocError>
-    ensures { IsActedAnywhere (λ f. with_turning f.turning (λ t. Effect.On (turned passed t f))) frame.old frame.new result }
+    ensures { IsActedAnywhere (λ f. with_turning f.turning (λ t. Effect.On (turned passed t f))) frame.old
+        frame.new result }
 {
     let Some(turns) = frame.turns else {
         return Ok(Outcome::Stops(FaultKind::OutOfRange));
@@ -141,7 +144,8 @@ pub(crate) fn end_turns(
     frame: &mut Activation,
     declared: Declared,
 ) -> Result<Outcome, AllocError>
-    ensures { IsActed (base_in base.now) (λ f. with_turning f.turning (λ t. turns_ended declared t f)) frame.old frame.new result }
+    ensures { IsActed (base_in base.now) (λ f. with_turning f.turning (λ t. turns_ended declared t f)) frame.old
+        frame.new result }
 {
     let Some(turns) = frame.turns else {
         return Ok(Outcome::Stops(FaultKind::OutOfRange));
@@ -161,7 +165,8 @@ fn leave_turns(
     declared: Declared,
     ranges: &List<Range>,
 ) -> Result<Outcome, AllocError>
-    ensures { IsActedAnywhere (λ f. Effect.On (record (with_ranges declared ranges.now (ahead 0 f)) { locals = all_but_last f.locals; turning = None })) frame.old frame.new result }
+    ensures { IsActedAnywhere (λ f. Effect.On (record (with_ranges declared ranges.now (ahead 0 f))
+        { locals = all_but_last f.locals; turning = None })) frame.old frame.new result }
 {
     frame.at = place_behind(frame.at, 0)?;
     declare(&mut frame.gathered.accesses, declared, ranges.as_slice())?;

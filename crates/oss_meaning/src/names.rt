@@ -3,8 +3,8 @@
 use oss_grammar::ValueKind;
 use oss_syntax::{Kind, NumKind};
 
-/// What a name stands for at a place of the text (C11 6.2.1): a local by its place among the locals in scope, counted from 0, a
-/// global by its number in text order and a function by its number in text order.
+/// What a name stands for at a place of the text (C11 6.2.1): a local by its place among the locals in scope,
+/// counted from 0, a global by its number in text order and a function by its number in text order.
 #[derive(Clone, Copy)]
 pub enum Found {
     /// A local of this type.

@@ -1,5 +1,5 @@
-//! What holds of every run of tasks, whatever the program is: laws, each carried by a function that does nothing. A crate
-//! above calls the function for its type of scripts, and then has the law.
+//! What holds of every run of tasks, whatever the program is: laws, each carried by a function that does
+//! nothing. A crate above calls the function for its type of scripts, and then has the law.
 
 ghost use Rattle.oss_model.specs.Claims.{EveryMainIsASetting, OpeningAgrees, StepAgrees, LetAgrees, JoinAgrees, EveryStateAgrees, OpenTasksMove, RunKeepsOutput, ActsUpToFault, ActsUpToEnd, EarlierConflictsAreDone, EveryStopIsTheEnd, EveryAnswerIsTheResult, EveryResultIsTheAnswer, AnswersAreOne, DoneStays, WriteStays, ReadStays, JoinStays, ReadyStays, CompleteStays, WaitStays, TaskGoesOn, StepsExclude, JoinExcludes};
 ghost use Rattle.oss_model.specs.Marks.{EveryReadHasAValue, NoValueIsMissed, OutStartsUnwritten};
@@ -152,7 +152,8 @@ pub fn matching_state_agrees<S, L>()
     ensures { MatchingStateAgrees S L }
 {}
 
-/// What a task loads, or folds into under a right to write, has a value for it: it began written, or the task has written it.
+/// What a task loads, or folds into under a right to write, has a value for it: it began written, or the task
+/// has written it.
 pub fn every_read_has_a_value<S>()
     ensures { EveryReadHasAValue S }
 {}
@@ -167,12 +168,14 @@ pub fn out_starts_unwritten<S>()
     ensures { OutStartsUnwritten S }
 {}
 
-/// What is left to do for a body of a lively program falls with each of its acts, but for the creation of a task of its own.
+/// What is left to do for a body of a lively program falls with each of its acts, but for the creation of a
+/// task of its own.
 pub fn every_body_falls<S>()
     ensures { BodyFalls S }
 {}
 
-/// Behind such a creation, what is left for the creator and for the new task together is less than what was left for the creator.
+/// Behind such a creation, what is left for the creator and for the new task together is less than what was
+/// left for the creator.
 pub fn every_creation_falls<S>()
     ensures { CreationFalls S }
 {}

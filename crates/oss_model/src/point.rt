@@ -43,8 +43,8 @@ impl Point {
         Ok(Point { alloc, numbers })
     }
 
-    /// The point of the child that a task with this point creates after `k` others. Condition: this point has fewer than 66
-    /// numbers.
+    /// The point of the child that a task with this point creates after `k` others. Condition: this point has
+    /// fewer than 66 numbers.
     pub fn child(&self, k: u16) -> Result<Point, AllocError>
         requires { length self.now < 66 }
         ensures { IfOk result (λ child. child ≡ self.now ++ k ∷ []) }
@@ -112,7 +112,8 @@ impl Ord for Point {
 
     fn cmp(&self, other: &Point) -> Ordering
         ensures value { result ≡ slice_cmp nat_cmp self.now other.now }
-        ensures order { MatchOrdering result (IsBefore self.now other.now) (self.now ≡ other.now) (IsBefore other.now self.now) }
+        ensures order { MatchOrdering result (IsBefore self.now other.now) (self.now ≡ other.now)
+            (IsBefore other.now self.now) }
     {
         self.numbers.as_slice().cmp(other.numbers.as_slice())
     }

@@ -22,7 +22,8 @@ pub(crate) fn enter<'p>(
     head: &'p LoopHead,
     locals: &mut Locals<'p>,
 ) -> Result<(), Refusal>
-    ensures { IsPartChecked locals.old (judged (head_rules globals.now locals.old head.now) (loop_locals head.now locals.old)) result locals.new }
+    ensures { IsPartChecked locals.old (judged (head_rules globals.now locals.old head.now)
+        (loop_locals head.now locals.old)) result locals.new }
 {
     let outer = locals.len();
     let behind = refusal_of_head(globals, locals, head);
@@ -51,7 +52,11 @@ fn add_locals<'p>(head: &'p LoopHead, locals: &mut Locals<'p>) -> Result<(), All
 /// The first rule that the head of a task loop breaks behind its pragma.
 #[tactic(auto, using(oss_types::proofs::Firsts::firsts))]
 fn refusal_of_head(globals: &Globals<'_>, locals: &Locals<'_>, head: &LoopHead) -> Option<Refused>
-    ensures { result ≡ first (where_so (nat_le 251 (length locals.now)) RefusedKind.TooLarge head.now.variable.line ++ (optional_rules globals.now locals.now head.now.variable.first ++ (name_rules head.now.variable.name head.now.tested head.now.stepped ++ (value_rules globals.now locals.now Wanted.Number head.now.end ++ last_name_rules head.now.variable.name head.now.tested head.now.stepped)))) }
+    ensures { result ≡ first (where_so (nat_le 251 (length locals.now)) RefusedKind.TooLarge
+        head.now.variable.line ++ (optional_rules globals.now locals.now head.now.variable.first ++
+        (name_rules head.now.variable.name head.now.tested head.now.stepped ++
+        (value_rules globals.now locals.now Wanted.Number head.now.end ++ last_name_rules head.now.variable.name
+        head.now.tested head.now.stepped)))) }
 {
     let variable = &head.variable;
     let many = NO_ROOM <= locals.len();

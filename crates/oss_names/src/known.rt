@@ -10,8 +10,8 @@ use oss_syntax::{Program, Range, Refusal};
 use std::alloc::Global;
 use std::marker::Model;
 
-/// A program that breaks no static rule, with each task loop written out, and where its globals lie: contracts see the program that
-/// is written out.
+/// A program that breaks no static rule, with each task loop written out, and where its globals lie: contracts
+/// see the program that is written out.
 #[derive(Drop)]
 pub struct Known {
     program: Program,
@@ -34,10 +34,10 @@ impl Model for Known {
     ghost invariant = { λ k. IsWrittenOut k.program × (k.bounds.items ≡ bounds_of 0 (sizes_of k.program.items)) };
 }
 
-/// Checks the static rules of a program as it stands. It is accepted exactly where it breaks none, and then each task loop in it
-/// is written out; else the first rule that it breaks is told, in text order, with the line of the token that breaks it. It takes
-/// memory for the names of its globals and functions, for the locals in scope, for the places of its globals, and for what is
-/// written out.
+/// Checks the static rules of a program as it stands. It is accepted exactly where it breaks none, and then
+/// each task loop in it is written out; else the first rule that it breaks is told, in text order, with the
+/// line of the token that breaks it. It takes memory for the names of its globals and functions, for the locals
+/// in scope, for the places of its globals, and for what is written out.
 pub fn resolve(alloc: Global, program: Program) -> Result<Known, Refusal>
     ensures { IsResolved program result }
 {
@@ -60,8 +60,8 @@ fn kept(alloc: Global, program: Program, bounds: Vec<u32>) -> Result<Known, Refu
 }
 
 impl Known {
-    /// The program with each task loop written out, of one that breaks no rule as it stands. So it has at most 1,048,576 globals,
-    /// since each has a cell.
+    /// The program with each task loop written out, of one that breaks no rule as it stands. So it has at most
+    /// 1,048,576 globals, since each has a cell.
     pub fn program(&self) -> &Program
         ensures same { result.now ≡ self.now }
         ensures accepted { IsWrittenOut result.now }

@@ -17,7 +17,8 @@ use std::alloc::{AllocError, Global};
 /// The most cells of a program.
 const MOST_CELLS: u64 = 1_048_576;
 
-/// Checks a program, and tells the first cell of each global and the number of all cells; or the first rule that it breaks.
+/// Checks a program, and tells the first cell of each global and the number of all cells; or the first rule
+/// that it breaks.
 pub(crate) fn check(alloc: Global, program: &Program) -> Result<Vec<u32>, Refusal>
     ensures { IsChecked program.now result }
 {
@@ -141,7 +142,8 @@ fn refusal_of_mark(
     globals: &Globals<'_>,
     function: &Function,
 ) -> Result<Option<Refused>, AllocError>
-    ensures { IfOk result (λ broken. broken ≡ first (mark_rules globals.now (declare_all globals.now 0 function.now.params []).locals function.now.mark)) }
+    ensures { IfOk result (λ broken. broken ≡ first
+        (mark_rules globals.now (declare_all globals.now 0 function.now.params []).locals function.now.mark)) }
 {
     match &function.mark {
         Some(mark) => {
@@ -184,7 +186,8 @@ fn is_int(kind: Kind) -> bool
     }
 }
 
-/// Whether a function of this result may have a pragma: nothing waits for its task where it is called, so it can give no value.
+/// Whether a function of this result may have a pragma: nothing waits for its task where it is called, so it
+/// can give no value.
 fn is_nothing(kind: Kind) -> bool
     ensures { result ≡ returns_nothing kind }
 {

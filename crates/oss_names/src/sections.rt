@@ -113,8 +113,8 @@ fn folds(mode: Mode) -> bool
     }
 }
 
-/// The first rule that sections break behind so many others of their pragma; where they break none, there are at most 64
-/// with them. The sections of a reduction name numbers of 64 bits.
+/// The first rule that sections break behind so many others of their pragma; where they break none, there are
+/// at most 64 with them. The sections of a reduction name numbers of 64 bits.
 pub(crate) fn sections(
     globals: &Globals<'_>,
     locals: &Locals<'_>,
@@ -243,7 +243,9 @@ fn several(
 /// The first rule that the turns of a multidependency break, in which its variable is not in scope.
 #[tactic(auto, using(oss_types::proofs::Firsts::firsts))]
 fn turns_alone(globals: &Globals<'_>, locals: &Locals<'_>, turns: &Turns) -> Option<Refused>
-    ensures { result ≡ first (where_so (nat_le 255 (length locals.now)) RefusedKind.TooLarge turns.now.variable.line ++ (optional_rules globals.now locals.now turns.now.variable.first ++ value_rules globals.now locals.now Wanted.Number turns.now.count)) }
+    ensures { result ≡ first (where_so (nat_le 255 (length locals.now)) RefusedKind.TooLarge
+        turns.now.variable.line ++ (optional_rules globals.now locals.now turns.now.variable.first ++
+        value_rules globals.now locals.now Wanted.Number turns.now.count)) }
 {
     let many = MOST_LOCALS <= locals.len();
     let large = refused_if(many, RefusedKind::TooLarge, turns.variable.line);
@@ -260,7 +262,8 @@ fn both_dimensions(
     rows: &Inner,
     columns: &Inner,
 ) -> Option<Refused>
-    ensures { result ≡ first (inner_rules globals.now locals.now rows.now ++ inner_rules globals.now locals.now columns.now) }
+    ensures { result ≡ first (inner_rules globals.now locals.now rows.now ++
+        inner_rules globals.now locals.now columns.now) }
 {
     before(
         dimension(globals, locals, rows),
@@ -282,7 +285,8 @@ fn dimension(globals: &Globals<'_>, locals: &Locals<'_>, inner: &Inner) -> Optio
 /// The first rule that two numbers break.
 #[tactic(auto, using(oss_types::proofs::Firsts::firsts))]
 fn both(globals: &Globals<'_>, locals: &Locals<'_>, one: &Expr, other: &Expr) -> Option<Refused>
-    ensures { result ≡ first (value_rules globals.now locals.now Wanted.Number one.now ++ value_rules globals.now locals.now Wanted.Number other.now) }
+    ensures { result ≡ first (value_rules globals.now locals.now Wanted.Number one.now ++
+        value_rules globals.now locals.now Wanted.Number other.now) }
 {
     before(
         value(globals, locals, Wanted::Number, one),
@@ -298,7 +302,8 @@ fn both_ends(
     lower: &Option<Expr>,
     upper: &Option<Expr>,
 ) -> Option<Refused>
-    ensures { result ≡ first (optional_rules globals.now locals.now lower.now ++ optional_rules globals.now locals.now upper.now) }
+    ensures { result ≡ first (optional_rules globals.now locals.now lower.now ++
+        optional_rules globals.now locals.now upper.now) }
 {
     before(
         optional(globals, locals, lower),

@@ -36,7 +36,8 @@ pub(crate) fn assignment(
 /// The first rule that a target and what is stored in it break.
 #[tactic(auto, using(oss_types::proofs::Firsts::firsts))]
 fn store(wanted: Option<Wanted>, target: Finding, value: Finding) -> Option<Refused>
-    ensures { (t : Findings) → (e : Findings) → target ≡ seen t → value ≡ seen e → result ≡ first (stored_rules wanted t e) }
+    ensures { (t : Findings) → (e : Findings) → target ≡ seen t → value ≡ seen e →
+        result ≡ first (stored_rules wanted t e) }
 {
     match wanted {
         Some(wanted) => before(first_of(target), first_of(at_place(wanted, value))),
@@ -57,7 +58,8 @@ fn wanted_by_target(op: Option<BinOp>, kind: ValueKind, object: Object) -> Optio
     }
 }
 
-/// What may be stored where a target designates this; `None` where it designates no object, or the operator does not go with it.
+/// What may be stored where a target designates this; `None` where it designates no object, or the operator
+/// does not go with it.
 fn wanted_by_object(op: Option<BinOp>, object: Object) -> Option<Wanted>
     ensures { result ≡ stored_in op object }
 {
@@ -90,7 +92,8 @@ pub(crate) fn call_statement(
     name: &Name,
     values: &List<Expr>,
 ) -> Option<Refused>
-    ensures { result ≡ first (all_of (call_findings globals.now locals.now name.now line true (map (findings globals.now locals.now) values.now))) }
+    ensures { result ≡ first (all_of (call_findings globals.now locals.now name.now line true
+        (map (findings globals.now locals.now) values.now))) }
 {
     first_of(call(
         globals,
@@ -119,7 +122,8 @@ pub(crate) fn print(
     )
 }
 
-/// The first rule that the string of a `printf` breaks beside so many arguments. `None` for the conversions is a `%` that begins none.
+/// The first rule that the string of a `printf` breaks beside so many arguments. `None` for the conversions is
+/// a `%` that begins none.
 fn refusal_of_format(conversions: Option<usize>, count: usize, line: u32) -> Option<Refused>
     ensures { result ≡ first (format_rules conversions count line) }
 {

@@ -20,7 +20,8 @@ use oss_types::{Globals, Locals, before, refused_if, value};
 
 /// Ends a part of a text whose first broken rule this is.
 fn told(broken: Option<Refused>) -> Result<(), Refusal>
-    ensures { (rules : List Broken) → (locals : List Declared) → broken ≡ first rules → IsPartChecked locals (judged rules locals) result locals }
+    ensures { (rules : List Broken) → (locals : List Declared) → broken ≡ first rules →
+        IsPartChecked locals (judged rules locals) result locals }
 {
     match broken {
         Some(broken) => Err(Refusal::Refused(broken)),
@@ -248,7 +249,8 @@ fn inside_part<'p>(
     one: &'p Option<Boxed<Stmt>>,
     locals: &mut Locals<'p>,
 ) -> Result<(), Refusal>
-    ensures { IsPartChecked locals.old (inner_part (option_map rules_of one.now) globals.now around locals.old) result locals.new }
+    ensures { IsPartChecked locals.old (inner_part (option_map rules_of one.now) globals.now around locals.old)
+        result locals.new }
 {
     match one {
         Some(one) => inside(globals, around, one, locals),
@@ -264,7 +266,8 @@ fn part<'p>(
     one: &'p Option<Boxed<Stmt>>,
     locals: &mut Locals<'p>,
 ) -> Result<(), Refusal>
-    ensures { IsPartChecked locals.old (part_rules (option_map rules_of one.now) globals.now around locals.old) result locals.new }
+    ensures { IsPartChecked locals.old (part_rules (option_map rules_of one.now) globals.now around locals.old)
+        result locals.new }
 {
     match one {
         Some(one) => statement(globals, around, one.get(), locals),
@@ -282,7 +285,10 @@ fn branches<'p>(
     else_part: &'p Option<Boxed<Stmt>>,
     locals: &mut Locals<'p>,
 ) -> Result<(), Refusal>
-    ensures { IsPartChecked locals.old (then_judge (judged (value_rules globals.now locals.old Wanted.Number test.now) locals.old) (λ ls. then_judge (inner (rules_of then_part.now) globals.now around ls) (λ ms. inner_part (option_map rules_of else_part.now) globals.now around ms))) result locals.new }
+    ensures { IsPartChecked locals.old (then_judge (judged
+        (value_rules globals.now locals.old Wanted.Number test.now) locals.old) (λ ls.
+        then_judge (inner (rules_of then_part.now) globals.now around ls) (λ ms.
+        inner_part (option_map rules_of else_part.now) globals.now around ms))) result locals.new }
 {
     told(value(globals, locals, Wanted::Number, test))?;
     inside(globals, around, then_part, locals)?;
@@ -298,7 +304,9 @@ fn while_loop<'p>(
     body: &'p Boxed<Stmt>,
     locals: &mut Locals<'p>,
 ) -> Result<(), Refusal>
-    ensures { IsPartChecked locals.old (then_judge (judged (value_rules globals.now locals.old Wanted.Number test.now) locals.old) (λ ls. inner (rules_of body.now) globals.now (in_a_loop around) ls)) result locals.new }
+    ensures { IsPartChecked locals.old (then_judge (judged
+        (value_rules globals.now locals.old Wanted.Number test.now) locals.old) (λ ls.
+        inner (rules_of body.now) globals.now (in_a_loop around) ls)) result locals.new }
 {
     told(value(globals, locals, Wanted::Number, test))?;
     inside(globals, looping(around), body, locals)
@@ -315,7 +323,8 @@ fn for_statement<'p>(
     body: &'p Boxed<Stmt>,
     locals: &mut Locals<'p>,
 ) -> Result<(), Refusal>
-    ensures { IsPartChecked locals.old (inner (for_rules (option_map rules_of start.now) test.now (option_map rules_of step.now) (rules_of body.now)) globals.now around locals.old) result locals.new }
+    ensures { IsPartChecked locals.old (inner (for_rules (option_map rules_of start.now) test.now
+        (option_map rules_of step.now) (rules_of body.now)) globals.now around locals.old) result locals.new }
 {
     let count = locals.len();
     let ends = for_loop(
@@ -342,7 +351,8 @@ fn for_loop<'p>(
     body: &'p Boxed<Stmt>,
     locals: &mut Locals<'p>,
 ) -> Result<(), Refusal>
-    ensures { IsPartChecked locals.old (for_rules (option_map rules_of start.now) test.now (option_map rules_of step.now) (rules_of body.now) globals.now around locals.old) result locals.new }
+    ensures { IsPartChecked locals.old (for_rules (option_map rules_of start.now) test.now
+        (option_map rules_of step.now) (rules_of body.now) globals.now around locals.old) result locals.new }
 {
     part(globals, around, start, locals)?;
     told(optional(globals, locals, test))?;
@@ -359,7 +369,9 @@ fn task<'p>(
     body: &'p Boxed<Stmt>,
     locals: &mut Locals<'p>,
 ) -> Result<(), Refusal>
-    ensures { IsPartChecked locals.old (then_judge (judged (clauses_rules globals.now locals.old 0 mark.now.clauses) locals.old) (λ ls. inner (rules_of body.now) globals.now (in_a_task around) ls)) result locals.new }
+    ensures { IsPartChecked locals.old (then_judge (judged
+        (clauses_rules globals.now locals.old 0 mark.now.clauses) locals.old) (λ ls.
+        inner (rules_of body.now) globals.now (in_a_task around) ls)) result locals.new }
 {
     told(clauses(globals, locals, mark.clauses.as_slice()))?;
     inside(globals, tasking(around), body, locals)
@@ -374,7 +386,9 @@ fn task_loop<'p>(
     body: &'p Boxed<Stmt>,
     locals: &mut Locals<'p>,
 ) -> Result<(), Refusal>
-    ensures { IsPartChecked locals.old (alone (then_judge (judged (head_rules globals.now locals.old head.now) (loop_locals head.now locals.old)) (λ ls. inner (rules_of body.now) globals.now (in_a_task_loop around) ls)) locals.old) result locals.new }
+    ensures { IsPartChecked locals.old (alone (then_judge (judged (head_rules globals.now locals.old head.now)
+        (loop_locals head.now locals.old)) (λ ls. inner (rules_of body.now) globals.now (in_a_task_loop around)
+        ls)) locals.old) result locals.new }
 {
     let count = locals.len();
     let ends = turns(globals, around, head, body, locals);
@@ -391,7 +405,9 @@ fn turns<'p>(
     body: &'p Boxed<Stmt>,
     locals: &mut Locals<'p>,
 ) -> Result<(), Refusal>
-    ensures { IsPartChecked locals.old (then_judge (judged (head_rules globals.now locals.old head.now) (loop_locals head.now locals.old)) (λ ls. inner (rules_of body.now) globals.now (in_a_task_loop around) ls)) result locals.new }
+    ensures { IsPartChecked locals.old (then_judge (judged (head_rules globals.now locals.old head.now)
+        (loop_locals head.now locals.old)) (λ ls. inner (rules_of body.now) globals.now (in_a_task_loop around)
+        ls)) result locals.new }
 {
     enter(globals, head, locals)?;
     inside(globals, turning(around), body, locals)

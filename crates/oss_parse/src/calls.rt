@@ -15,11 +15,12 @@ use std::alloc::Global;
 
 /// Reads the program of a text of at most 1,048,576 bytes.
 ///
-/// `Ok` where the tokens of the text are a program, with its tree. Else the refusal: `Lexical` or `TooLarge` where the text has no
-/// tokens, as of `oss_lex`; then `Syntax`, `Unsupported` or `BadPragma` at the first token that no program goes on with, by that
-/// token and by whether it stands in a pragma, or `Syntax` at the end of the text, whose line is 1 plus the number of its
-/// newlines; `token` is the number of tokens before it. `TooLarge` where before that a level above 64 begins or a 257th operator
-/// stands in an expression, with the line of the token there and `token` 0. `Memory` only for want of memory.
+/// `Ok` where the tokens of the text are a program, with its tree. Else the refusal: `Lexical` or `TooLarge`
+/// where the text has no tokens, as of `oss_lex`; then `Syntax`, `Unsupported` or `BadPragma` at the first
+/// token that no program goes on with, by that token and by whether it stands in a pragma, or `Syntax` at the
+/// end of the text, whose line is 1 plus the number of its newlines; `token` is the number of tokens before it.
+/// `TooLarge` where before that a level above 64 begins or a 257th operator stands in an expression, with the
+/// line of the token there and `token` 0. `Memory` only for want of memory.
 pub fn parse(alloc: Global, text: &[u8]) -> Result<Program, Refusal>
     requires { length text.now ≤ 1048576 }
     ensures { IsParse text.now result }

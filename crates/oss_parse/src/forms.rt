@@ -18,8 +18,8 @@ use oss_syntax::{
 };
 use std::alloc::Global;
 
-/// The parts between the brackets of a `for`, each of which may be left out. Its statements are boxed as soon as they are read, as
-/// the tree holds them.
+/// The parts between the brackets of a `for`, each of which may be left out. Its statements are boxed as soon
+/// as they are read, as the tree holds them.
 #[derive(Drop)]
 pub(crate) struct ForParts {
     /// What is done before the loop.
@@ -278,7 +278,8 @@ pub(crate) fn empty(tokens: &mut Cursor<'_>) -> Result<Stmt, Unread>
 
 /// decl ";"
 pub(crate) fn declaration_statement(alloc: Global, tokens: &mut Cursor<'_>) -> Result<Stmt, Unread>
-    ensures { ReadsAs (read_mapped former (read_both (read_declaration read_expression) (read_one (symbol_at (codes ";")))) tokens.old) result tokens.new }
+    ensures { ReadsAs (read_mapped former (read_both (read_declaration read_expression)
+        (read_one (symbol_at (codes ";")))) tokens.old) result tokens.new }
 {
     let statement = declaration(alloc, tokens)?;
     match tokens.symbol(b";") {

@@ -176,7 +176,8 @@ fn globals(
     name: Named,
     tokens: &mut Cursor<'_>,
 ) -> Result<List<GlobalDef>, Unread>
-    ensures { ReadsAs (read_then (read_global_from numbers name) (λ first. read_more (read_global numbers) (first ∷ [])) tokens.old) result tokens.new }
+    ensures { ReadsAs (read_then (read_global_from numbers name) (λ first. read_more (read_global numbers)
+        (first ∷ [])) tokens.old) result tokens.new }
 {
     let first = global_from(numbers, name, tokens)?;
     let mut found = List::new(alloc);
@@ -283,7 +284,8 @@ fn parameters(alloc: Global, tokens: &mut Cursor<'_>) -> Result<List<Local>, Unr
 
 /// "{" items "}"
 fn function_body(alloc: Global, tokens: &mut Cursor<'_>) -> Result<List<Stmt>, Unread>
-    ensures { ReadsAs (read_mapped middle (read_both (read_one (symbol_at (codes "{"))) (read_both read_body (read_one (symbol_at (codes "}"))))) tokens.old) result tokens.new }
+    ensures { ReadsAs (read_mapped middle (read_both (read_one (symbol_at (codes "{")))
+        (read_both read_body (read_one (symbol_at (codes "}"))))) tokens.old) result tokens.new }
 {
     tokens.symbol(b"{")?;
     let statements = body(alloc, tokens)?;

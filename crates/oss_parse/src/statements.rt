@@ -177,7 +177,8 @@ fn task_loop_statement(
     mark: TaskMark,
     tokens: &mut Cursor<'_>,
 ) -> Result<Stmt, Unread>
-    ensures { ReadsAs (read_task_loop_statement read_expression (read_within levels) mark tokens.old) result tokens.new }
+    ensures { ReadsAs (read_task_loop_statement read_expression (read_within levels) mark tokens.old) result
+        tokens.new }
 {
     let line = mark.line;
     let head = loop_head(alloc, mark, tokens)?;
@@ -193,7 +194,8 @@ fn task_loop_statement(
     }
 }
 
-/// What follows a pragma with this line: a statement behind the pragma of a task, and a loop behind that of a task loop.
+/// What follows a pragma with this line: a statement behind the pragma of a task, and a loop behind that of a
+/// task loop.
 #[cycle(statement)]
 #[tactic(auto, unfolding(crate::specs::StatementReading::read_directed))]
 fn directed(
@@ -203,7 +205,8 @@ fn directed(
     line: u32,
     tokens: &mut Cursor<'_>,
 ) -> Result<Stmt, Unread>
-    ensures { ReadsAs (read_directed read_expression (read_within levels) (directive, line) tokens.old) result tokens.new }
+    ensures { ReadsAs (read_directed read_expression (read_within levels) (directive, line) tokens.old) result
+        tokens.new }
 {
     match directive {
         Directive::Task(mark) => task_statement(alloc, levels, mark, tokens),
@@ -223,7 +226,8 @@ fn directed(
 #[cycle(statement)]
 #[tactic(auto, unfolding(crate::specs::StatementReading::read_pragma_statement))]
 fn pragma_statement(alloc: Global, levels: u32, tokens: &mut Cursor<'_>) -> Result<Stmt, Unread>
-    ensures { ReadsAs (read_pragma_statement read_expression (read_pragma read_expression) (read_within levels) tokens.old) result tokens.new }
+    ensures { ReadsAs (read_pragma_statement read_expression (read_pragma read_expression)
+        (read_within levels) tokens.old) result tokens.new }
 {
     let line = first_line(tokens);
     let directive = pragma(alloc, tokens)?;
@@ -234,7 +238,8 @@ fn pragma_statement(alloc: Global, levels: u32, tokens: &mut Cursor<'_>) -> Resu
 #[cycle(statement)]
 #[tactic(auto, unfolding(crate::specs::StatementReading::read_keyword_statement))]
 fn keyword_statement(alloc: Global, levels: u32, tokens: &mut Cursor<'_>) -> Result<Stmt, Unread>
-    ensures { ReadsAs (read_keyword_statement read_expression (read_pragma read_expression) (read_within levels) tokens.old) result tokens.new }
+    ensures { ReadsAs (read_keyword_statement read_expression (read_pragma read_expression)
+        (read_within levels) tokens.old) result tokens.new }
 {
     if begins_with_keyword(b"if", tokens) {
         return if_statement(alloc, levels, tokens);
@@ -264,7 +269,8 @@ fn keyword_statement(alloc: Global, levels: u32, tokens: &mut Cursor<'_>) -> Res
 #[cycle(statement)]
 #[tactic(auto, unfolding(crate::specs::StatementReading::read_statement))]
 fn statement(alloc: Global, levels: u32, tokens: &mut Cursor<'_>) -> Result<Stmt, Unread>
-    ensures { ReadsAs (read_statement read_expression (read_pragma read_expression) (read_parts levels) (read_within levels) tokens.old) result tokens.new }
+    ensures { ReadsAs (read_statement read_expression (read_pragma read_expression) (read_parts levels)
+        (read_within levels) tokens.old) result tokens.new }
 {
     if tokens.begins_with_symbol(b"{") {
         return block(alloc, levels, tokens);
@@ -282,7 +288,8 @@ fn statement(alloc: Global, levels: u32, tokens: &mut Cursor<'_>) -> Result<Stmt
 #[cycle(statement)]
 #[tactic(auto, unfolding(crate::specs::StatementReading::read_item))]
 fn item(alloc: Global, levels: u32, tokens: &mut Cursor<'_>) -> Result<Stmt, Unread>
-    ensures { ReadsAs (read_item read_expression (read_pragma read_expression) (read_parts levels) (read_within levels) tokens.old) result tokens.new }
+    ensures { ReadsAs (read_item read_expression (read_pragma read_expression) (read_parts levels)
+        (read_within levels) tokens.old) result tokens.new }
 {
     if begins_with_kind(tokens) {
         return declaration_statement(alloc, tokens);

@@ -11,10 +11,11 @@ use oss_expressions::reading::{Cursor, count_before, refusal};
 use oss_syntax::{Directive, List, Refusal, Token};
 use std::alloc::Global;
 
-/// Reads the pragma that begins at a place of the tokens, and answers it with the place behind it (OmpSs-2, the directives task,
-/// taskloop, taskwait and release).
+/// Reads the pragma that begins at a place of the tokens, and answers it with the place behind it (OmpSs-2, the
+/// directives task, taskloop, taskwait and release).
 ///
-/// The answers are those of `oss_expressions::expression`, for pragmas: a level or an operator counts within each expression of the pragma.
+/// The answers are those of `oss_expressions::expression`, for pragmas: a level or an operator counts within
+/// each expression of the pragma.
 pub fn pragma(alloc: Global, tokens: &List<Token>, at: u32) -> Result<(Directive, u32), Refusal>
     requires within { at ≤ length tokens.now }
     requires counted { length tokens.now ≤ 4294967295 }

@@ -57,7 +57,8 @@ fn once_expression(
     already: bool,
     tokens: &mut Cursor<'_>,
 ) -> Result<Expr, Unread>
-    ensures { ReadsAs (read_mapped latter (read_both (read_one (single_unless already (single_of once))) (read_brackets read_expression)) tokens.old) result tokens.new }
+    ensures { ReadsAs (read_mapped latter (read_both (read_one (single_unless already (single_of once)))
+        (read_brackets read_expression)) tokens.old) result tokens.new }
 {
     tokens.once(once, already)?;
     brackets(alloc, tokens)
@@ -71,7 +72,8 @@ fn condition(
     found: &Found,
     tokens: &mut Cursor<'_>,
 ) -> Result<Clause, Unread>
-    ensures { ReadsAs (read_single read_expression once_if (counted_with kind found.now) clauses.If tokens.old) result tokens.new }
+    ensures { ReadsAs (read_single read_expression once_if (counted_with kind found.now) clauses.If tokens.old)
+        result tokens.new }
 {
     let condition = once_expression(alloc, Once::If, found.bars(kind, Once::If), tokens)?;
     Ok(Clause::If(condition))
@@ -85,7 +87,8 @@ fn final_clause(
     found: &Found,
     tokens: &mut Cursor<'_>,
 ) -> Result<Clause, Unread>
-    ensures { ReadsAs (read_single read_expression once_final (counted_with kind found.now) clauses.Final tokens.old) result tokens.new }
+    ensures { ReadsAs (read_single read_expression once_final (counted_with kind found.now) clauses.Final
+        tokens.old) result tokens.new }
 {
     let condition = once_expression(alloc, Once::Final, found.bars(kind, Once::Final), tokens)?;
     Ok(Clause::Final(condition))
@@ -99,7 +102,8 @@ fn priority(
     found: &Found,
     tokens: &mut Cursor<'_>,
 ) -> Result<Clause, Unread>
-    ensures { ReadsAs (read_single read_expression once_priority (counted_with kind found.now) clauses.Priority tokens.old) result tokens.new }
+    ensures { ReadsAs (read_single read_expression once_priority (counted_with kind found.now) clauses.Priority
+        tokens.old) result tokens.new }
 {
     let priority = once_expression(
         alloc,
@@ -118,7 +122,8 @@ fn grain(
     found: &Found,
     tokens: &mut Cursor<'_>,
 ) -> Result<Clause, Unread>
-    ensures { ReadsAs (read_single read_expression once_grain (counted_with kind found.now) clauses.Grain tokens.old) result tokens.new }
+    ensures { ReadsAs (read_single read_expression once_grain (counted_with kind found.now) clauses.Grain
+        tokens.old) result tokens.new }
 {
     let size = once_expression(alloc, Once::Grain, found.bars(kind, Once::Grain), tokens)?;
     Ok(Clause::Grain(size))
@@ -191,7 +196,8 @@ fn next_clause(
     found: &Found,
     tokens: &mut Cursor<'_>,
 ) -> Result<Clause, Unread>
-    ensures { ReadsAs (read_after_comma (read_clause read_expression (counted_with kind found.now)) tokens.old) result tokens.new }
+    ensures { ReadsAs (read_after_comma (read_clause read_expression (counted_with kind found.now)) tokens.old)
+        result tokens.new }
 {
     if tokens.begins_with_symbol(b",") {
         tokens.symbol(b",")?;

@@ -12,7 +12,8 @@ use oss_syntax::{Clause, List, Token};
 use std::alloc::{AllocError, Global};
 use std::marker::Model;
 
-/// Clauses, and which of those stand among them that a task or a task loop has once at most. Contracts see the list of the clauses.
+/// Clauses, and which of those stand among them that a task or a task loop has once at most. Contracts see the
+/// list of the clauses.
 #[derive(Drop)]
 pub(crate) struct Found {
     clauses: List<Clause>,

@@ -27,7 +27,8 @@ fn upper(alloc: Global, tokens: &mut Cursor<'_>) -> Result<Option<Expr>, Unread>
 /// ":" [ expr ]
 #[tactic(auto, unfolding(crate::specs::PragmaReading::read_span))]
 fn span_end(alloc: Global, tokens: &mut Cursor<'_>) -> Result<Option<Expr>, Unread>
-    ensures { ReadsAs (read_mapped latter (read_both (read_one (symbol_at (codes ":"))) (read_upper read_expression)) tokens.old) result tokens.new }
+    ensures { ReadsAs (read_mapped latter (read_both (read_one (symbol_at (codes ":")))
+        (read_upper read_expression)) tokens.old) result tokens.new }
 {
     tokens.symbol(b":")?;
     upper(alloc, tokens)
@@ -104,7 +105,8 @@ fn pointed(alloc: Global, tokens: &mut Cursor<'_>) -> Result<Section, Unread>
 
 /// "]" name
 fn shaped(alloc: Global, tokens: &mut Cursor<'_>) -> Result<Named, Unread>
-    ensures { ReadsAs (read_mapped latter (read_both (read_one (symbol_at (codes "]"))) (read_one name_at)) tokens.old) result tokens.new }
+    ensures { ReadsAs (read_mapped latter (read_both (read_one (symbol_at (codes "]"))) (read_one name_at))
+        tokens.old) result tokens.new }
 {
     tokens.symbol(b"]")?;
     tokens.name(alloc)
@@ -243,7 +245,8 @@ fn indices(alloc: Global, tokens: &mut Cursor<'_>) -> Result<(Expr, Option<Expr>
 
 /// ";" expr
 fn turn_count(alloc: Global, tokens: &mut Cursor<'_>) -> Result<Expr, Unread>
-    ensures { ReadsAs (read_mapped latter (read_both (read_one (symbol_at (codes ";"))) read_expression) tokens.old) result tokens.new }
+    ensures { ReadsAs (read_mapped latter (read_both (read_one (symbol_at (codes ";"))) read_expression)
+        tokens.old) result tokens.new }
 {
     tokens.symbol(b";")?;
     expression(alloc, tokens)
@@ -301,7 +304,8 @@ fn closed_turns(alloc: Global, tokens: &mut Cursor<'_>) -> Result<Turns, Unread>
 
 /// indices "," turns "}"
 fn places(alloc: Global, tokens: &mut Cursor<'_>) -> Result<((Expr, Option<Expr>), Turns), Unread>
-    ensures { ReadsAs (read_both (read_indices read_expression) (read_closed_turns read_expression) tokens.old) result tokens.new }
+    ensures { ReadsAs (read_both (read_indices read_expression) (read_closed_turns read_expression) tokens.old)
+        result tokens.new }
 {
     let indices = indices(alloc, tokens)?;
     match closed_turns(alloc, tokens) {

@@ -1,4 +1,5 @@
-//! Whole programs, run in ways of which no clause says that they happen. What is expected was worked out by hand, or is the answer of the sequential run.
+//! Whole programs, run in ways of which no clause says that they happen. What is expected was worked out by
+//! hand, or is the answer of the sequential run.
 
 mod chains;
 mod draws;

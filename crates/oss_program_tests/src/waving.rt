@@ -44,8 +44,8 @@ fn parts_of(
     Ok(parts)
 }
 
-/// Makes a wave: each task that may act makes its part, and those wake that waited for a task which has ended in it. The answer tells how many acts each
-/// of them made. After want of memory core and watch are given up.
+/// Makes a wave: each task that may act makes its part, and those wake that waited for a task which has ended
+/// in it. The answer tells how many acts each of them made. After want of memory core and watch are given up.
 pub fn wave<D: Deps>(
     alloc: Global,
     core: &mut Core<D>,
@@ -57,7 +57,8 @@ pub fn wave<D: Deps>(
     requires watch { IsWatch (kept_of D.seen core.old) watch.old }
     requires cells { length code.now.first ≤ 1048576 }
     requires room { length core.old.cells.items ≤ 1048576 }
-    ensures waved { IfOk result (λ turns. HasWaved code.now (kept_of D.seen core.old) (kept_of D.seen core.new) turns.items) }
+    ensures waved { IfOk result (λ turns. HasWaved code.now (kept_of D.seen core.old) (kept_of D.seen core.new)
+        turns.items) }
     ensures running { OnOk result (IsRunning code.now (kept_of D.seen core.new)) }
     ensures watch { OnOk result (IsWatch (kept_of D.seen core.new) watch.new) }
 {
@@ -78,7 +79,8 @@ fn bare_wave<D: Deps>(
     requires asked { HaveSteppers (kept_of D.seen core.old) asked.now }
     requires cells { length code.now.first ≤ 1048576 }
     requires room { length core.old.cells.items ≤ 1048576 }
-    ensures waved { IfOk result (λ turns. HasWaved code.now (kept_of D.seen core.old) (kept_of D.seen core.new) turns.items) }
+    ensures waved { IfOk result (λ turns. HasWaved code.now (kept_of D.seen core.old) (kept_of D.seen core.new)
+        turns.items) }
     ensures turned { IfOk result (λ turns. WasWave turns.items (kept_of D.seen core.old) (kept_of D.seen core.new)) }
     ensures tasks { OnOk result (KeepsTasks core.old.tree.tasks core.new.tree.tasks) }
 {
@@ -87,8 +89,9 @@ fn bare_wave<D: Deps>(
     core.end_wave(steppers.as_slice(), parts, spares)
 }
 
-/// Makes a pass: each task gives up and joins what it may, and those wake that waited for it. The answer tells of each run of cells that was given up;
-/// where it is empty, no task has a cell left that it may give up. After want of memory core and watch are given up.
+/// Makes a pass: each task gives up and joins what it may, and those wake that waited for it. The answer tells
+/// of each run of cells that was given up; where it is empty, no task has a cell left that it may give up.
+/// After want of memory core and watch are given up.
 pub fn pass_once<D: Deps>(
     core: &mut Core<D>,
     code: &Code,
@@ -96,7 +99,8 @@ pub fn pass_once<D: Deps>(
 ) -> Result<Vec<Passed>, AllocError>
     requires running { IsRunning code.now (kept_of D.seen core.old) }
     requires watch { IsWatch (kept_of D.seen core.old) watch.old }
-    ensures passed { IfOk result (λ passed. HasPassed code.now (kept_of D.seen core.old) (kept_of D.seen core.new) passed.items) }
+    ensures passed { IfOk result (λ passed. HasPassed code.now (kept_of D.seen core.old)
+        (kept_of D.seen core.new) passed.items) }
     ensures running { OnOk result (IsRunning code.now (kept_of D.seen core.new)) }
     ensures watch { OnOk result (IsWatch (kept_of D.seen core.new) watch.new) }
     ensures quiet { IfOk result (λ passed. passed.items ≡ [] → HasNoLet (kept_of D.seen core.new)) }

@@ -1,5 +1,5 @@
-//! Range maps: finite maps from cells that are kept by ranges, so that what a change costs does not depend on how many cells it
-//! names.
+//! Range maps: finite maps from cells that are kept by ranges, so that what a change costs does not depend on
+//! how many cells it names.
 #![tactic(auto)]
 
 mod map;

@@ -1,4 +1,5 @@
-//! The range map: pieces in a balanced tree, and spare nodes that are taken before a change, so that it is made as a whole or not at all.
+//! The range map: pieces in a balanced tree, and spare nodes that are taken before a change, so that it is made
+//! as a whole or not at all.
 
 ghost use Rattle.std.specs.Prelude.{◌≡◌, ◌≤◌, ◌<◌, ◌+◌, ◌*◌, ◌^◌, ◌⊎◌, [], ◌∷◌, ℕ, true, Some, None, is_some, IfOk, IsOk, OnOk, OnErr, length};
 ghost use Rattle.oss_ranges.specs.Cells.{Assigns, Cuts, CutsAround, EdgesFrom, IsEdge, IsExactly, IsMerged, Restricts, Rises, SameMap, cut_at, emptied, inserted, is_before, joined_at, next_of, outside, removed, union_of, value_at};
@@ -11,14 +12,15 @@ use std::alloc::{AllocError, Global};
 use std::marker::Model;
 use std::mem;
 
-/// How many nodes one call may need that changes the map: two for the cuts at the ends of a range, and one for a new piece.
+/// How many nodes one call may need that changes the map: two for the cuts at the ends of a range, and one for
+/// a new piece.
 const NODES: usize = 3;
 
 /// A program has no cell from here on.
 const CELLS: u32 = 1_048_576;
 
-/// A finite map from cells to values. Cells that stand side by side and have one value are kept as one piece, so that a call
-/// costs what its pieces cost, however many cells they have.
+/// A finite map from cells to values. Cells that stand side by side and have one value are kept as one piece,
+/// so that a call costs what its pieces cost, however many cells they have.
 pub struct RangeMap<T: Copy + Eq> {
     alloc: Global,
     /// The pieces, none of which is empty.
@@ -73,8 +75,8 @@ impl<T: Copy + Eq> RangeMap<T> {
         }
     }
 
-    /// The value of the cell `from`, if it has one, and the cell up to which all cells are alike: `to` at most. No cell from
-    /// 1,048,576 on has a value. It takes no memory.
+    /// The value of the cell `from`, if it has one, and the cell up to which all cells are alike: `to` at most.
+    /// No cell from 1,048,576 on has a value. It takes no memory.
     pub fn run_from(&self, from: u32, to: u32) -> (Option<T>, u32)
         requires { from < to }
         ensures alike { (cell : ℕ) → from ≤ cell → cell < result.1 → value_at self.now.pieces cell ≡ result.0 }
@@ -123,8 +125,8 @@ impl<T: Copy + Eq> RangeMap<T> {
         Ok(())
     }
 
-    /// Takes the values of all cells of a range away. After want of memory the map is as it was. Where no cell of the range has
-    /// a value it takes no memory.
+    /// Takes the values of all cells of a range away. After want of memory the map is as it was. Where no cell
+    /// of the range has a value it takes no memory.
     pub fn clear(&mut self, range: Range) -> Result<(), AllocError>
         ensures map { OnOk result (Assigns range.lo range.hi None self.old.pieces self.new.pieces) }
         ensures cuts { OnOk result (CutsAround range.lo range.hi self.old.pieces self.new.pieces) }
@@ -140,10 +142,11 @@ impl<T: Copy + Eq> RangeMap<T> {
         Ok(())
     }
 
-    /// Takes the values of the cells from this one on away. After want of memory the map is as it was. Where none of them has a
-    /// value it takes no memory.
+    /// Takes the values of the cells from this one on away. After want of memory the map is as it was. Where
+    /// none of them has a value it takes no memory.
     pub fn truncate(&mut self, cells: u32) -> Result<(), AllocError>
-        ensures here { OnOk result ((cell : ℕ) → cell < cells → value_at self.new.pieces cell ≡ value_at self.old.pieces cell) }
+        ensures here { OnOk result ((cell : ℕ) → cell < cells →
+            value_at self.new.pieces cell ≡ value_at self.old.pieces cell) }
         ensures past { OnOk result ((cell : ℕ) → cells ≤ cell → value_at self.new.pieces cell ≡ None) }
         ensures edges { OnOk result (EdgesFrom cells 1048576 self.old.pieces self.new.pieces) }
         ensures refused { OnErr result (self.new.pieces ≡ self.old.pieces) }
@@ -161,8 +164,8 @@ impl<T: Copy + Eq> RangeMap<T> {
         Ok(())
     }
 
-    /// Cuts the piece that has this cell and the one before it in two, so that no piece has both. No cell changes its value.
-    /// After want of memory the map is as it was.
+    /// Cuts the piece that has this cell and the one before it in two, so that no piece has both. No cell
+    /// changes its value. After want of memory the map is as it was.
     pub fn split_at(&mut self, cell: u32) -> Result<(), AllocError>
         ensures map { SameMap self.old.pieces self.new.pieces }
         ensures cuts { OnOk result (Cuts cell self.old.pieces self.new.pieces) }
@@ -176,7 +179,8 @@ impl<T: Copy + Eq> RangeMap<T> {
         Ok(())
     }
 
-    /// Makes room: as many calls of `assign`, `clear`, `truncate` and `split_at` succeed from here on. The map stays as it was.
+    /// Makes room: as many calls of `assign`, `clear`, `truncate` and `split_at` succeed from here on. The map
+    /// stays as it was.
     pub fn reserve(&mut self, calls: u32) -> Result<(), AllocError>
         ensures same { self.new.pieces ≡ self.old.pieces }
         ensures room { OnOk result (3 * calls ≤ self.new.spares) }
@@ -198,8 +202,8 @@ impl<T: Copy + Eq> RangeMap<T> {
         }
     }
 
-    /// Joins the pieces that end and begin at this cell, where they have one value, so that they are one piece. No cell changes
-    /// its value, where equal values are identical. It takes no memory.
+    /// Joins the pieces that end and begin at this cell, where they have one value, so that they are one piece.
+    /// No cell changes its value, where equal values are identical. It takes no memory.
     pub fn join_at(&mut self, cell: u32)
         requires { (a b : T) → T.eq a b ≡ true → a ≡ b }
         ensures map { SameMap self.old.pieces self.new.pieces }
@@ -209,8 +213,8 @@ impl<T: Copy + Eq> RangeMap<T> {
         self.tree = joined(mem::replace(&mut self.tree, Tree::new()), cell);
     }
 
-    /// Joins all pieces that touch and have one value. No cell changes its value, where equal values are identical. It takes
-    /// no memory.
+    /// Joins all pieces that touch and have one value. No cell changes its value, where equal values are
+    /// identical. It takes no memory.
     pub fn merge_same(&mut self)
         requires { (a b : T) → T.eq a b ≡ true → a ≡ b }
         ensures map { SameMap self.old.pieces self.new.pieces }
@@ -234,8 +238,8 @@ impl<T: Copy + Eq> RangeMap<T> {
         Ok(copy)
     }
 
-    /// Puts a piece with the cells of a range in place of what is there. It takes one node where no cell of the range has a value,
-    /// and no memory where one piece has the cells of the range and no others.
+    /// Puts a piece with the cells of a range in place of what is there. It takes one node where no cell of the
+    /// range has a value, and no memory where one piece has the cells of the range and no others.
     fn put(&mut self, range: Range, piece: Piece<T>) -> Result<(), AllocError>
         requires begins { piece.lo ≡ range.lo }
         requires ends { piece.hi ≡ range.hi }

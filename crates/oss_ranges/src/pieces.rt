@@ -1,4 +1,5 @@
-//! The walk over the pieces of a map on a range. It keeps no path: each step looks again from the cell that it has reached.
+//! The walk over the pieces of a map on a range. It keeps no path: each step looks again from the cell that it
+//! has reached.
 
 ghost use Rattle.std.specs.Prelude.{◌≡◌, ◌≤◌};
 ghost use Rattle.oss_ranges.specs.Cells.{Rises, clipped};

@@ -1,4 +1,5 @@
-//! A balanced tree of pieces: the heights of two sides differ by one at most. Nodes come from the caller, so no change takes memory.
+//! A balanced tree of pieces: the heights of two sides differ by one at most. Nodes come from the caller, so no
+//! change takes memory.
 
 ghost use Rattle.std.specs.Prelude.{◌≡◌, ◌≤◌, ◌<◌, [], ◌∷◌, ◌++◌, Some, None, is_some};
 ghost use Rattle.oss_ranges.specs.Cells.{next_of, inserted, removed, Rises};

@@ -1,4 +1,5 @@
-//! Obstacles and undone children in one line, told by the number of the task's opening and not by the place in the line.
+//! Obstacles and undone children in one line, told by the number of the task's opening and not by the place in
+//! the line.
 
 ghost use Rattle.std.specs.Prelude.{◌≡◌, ◌<◌, length, true, MatchOption};
 ghost use Rattle.oss_access_lists.specs.Tables.{marks_at, wires_of};
@@ -20,7 +21,8 @@ pub(crate) fn number_in_the_way(
     requires main { at ≡ 0 → ⊥ }
     requires within { at < length line.now.hangs }
     requires size { length numbers.now ≡ length line.now.hangs }
-    ensures { MatchOption result (is_let mode (marks_at line.now.stand at) ≡ true) (λ n. IsNumberInTheWay line.now.hangs line.now.stand numbers.now mode at n) }
+    ensures { MatchOption result (is_let mode (marks_at line.now.stand at) ≡ true) (λ n.
+        IsNumberInTheWay line.now.hangs line.now.stand numbers.now mode at n) }
 {
     match bar_of(line, mode, at) {
         Some(bar) => Some(numbers[bar]),
@@ -32,7 +34,8 @@ pub(crate) fn number_in_the_way(
 pub(crate) fn number_undone(line: &AccessList, numbers: &[usize], above: usize) -> Option<usize>
     requires settled { line.now.head ≡ 0 }
     requires size { length numbers.now ≡ length line.now.hangs }
-    ensures { MatchOption result (is_list_done (wires_of line.now.hangs) (marks_at line.now.stand) above ≡ true) (λ n. IsNumberUndone line.now.hangs line.now.stand numbers.now above n) }
+    ensures { MatchOption result (is_list_done (wires_of line.now.hangs) (marks_at line.now.stand) above ≡ true)
+        (λ n. IsNumberUndone line.now.hangs line.now.stand numbers.now above n) }
 {
     match undone_below(line, above) {
         Some(child) => Some(numbers[child]),

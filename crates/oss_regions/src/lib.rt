@@ -1,4 +1,5 @@
-//! The dependency system by ranges and messages: cells that no cut divides share the lists of their accesses, and flags tell what may go on.
+//! The dependency system by ranges and messages: cells that no cut divides share the lists of their accesses,
+//! and flags tell what may go on.
 #![tactic(auto)]
 
 mod asking;

@@ -23,8 +23,9 @@ use oss_syntax::{Access, List, Mode, Range};
 use std::alloc::Global;
 use std::marker::Model;
 
-/// The accesses to each cell in lists that cells share which no cut divides, with flags that messages move along the lists: what may
-/// go on is told by the flags of an access alone, however many accesses stand before it, or by there being none any more.
+/// The accesses to each cell in lists that cells share which no cut divides, with flags that messages move
+/// along the lists: what may go on is told by the flags of an access alone, however many accesses stand before
+/// it, or by there being none any more.
 pub struct Regions {
     pub(crate) alloc: Global,
     /// The opened tasks, in the order of their openings. A task is known by its place here, counted from 1.
@@ -76,8 +77,9 @@ impl Regions {
         }
     }
 
-    /// How many accesses are kept at a cell, main's among them. Those on which nothing depends any more are left out where its fragment is divided.
-    /// It takes no memory, and costs the logarithm of the number of fragments. Condition: a program may have the cell.
+    /// How many accesses are kept at a cell, main's among them. Those on which nothing depends any more are
+    /// left out where its fragment is divided. It takes no memory, and costs the logarithm of the number of
+    /// fragments. Condition: a program may have the cell.
     pub fn kept_at(&self, cell: u32) -> usize
         requires { cell < 1048576 }
         ensures { result ≡ length (here_at self.now.cells cell).tasks }
@@ -91,7 +93,9 @@ impl Regions {
     /// The task whose access stands in the way of that of a task to a cell of a range, where it waits in this mode.
     fn bar_over(&self, number: usize, mode: Mode, range: Range) -> Option<TaskNo>
         requires { AsksOver self.now.opens number mode range.lo range.hi }
-        ensures { (o : Entry) → IsNumber self.now.opens number o → MatchOption result (AreSatisfied self.now mode o range.lo range.hi) (λ u. Hinders self.now.opens (given_at self.now.opens self.now.cells) o.task u.0) }
+        ensures { (o : Entry) → IsNumber self.now.opens number o →
+            MatchOption result (AreSatisfied self.now mode o range.lo range.hi) (λ u.
+            Hinders self.now.opens (given_at self.now.opens self.now.cells) o.task u.0) }
     {
         let mut cell = range.lo;
         'parts: while cell < range.hi {
@@ -113,7 +117,9 @@ impl Regions {
     /// The task whose access stands in the way of an access of a task.
     fn obstacle_at(&self, number: usize, access: Access) -> Option<TaskNo>
         requires { (o : Entry) × IsNumber self.now.opens number o × IsIn access o.accesses }
-        ensures { (o : Entry) → IsNumber self.now.opens number o → MatchOption result (IsAccessMet self.now o access) (λ u. Hinders self.now.opens (given_at self.now.opens self.now.cells) o.task u.0) }
+        ensures { (o : Entry) → IsNumber self.now.opens number o →
+            MatchOption result (IsAccessMet self.now o access) (λ u.
+            Hinders self.now.opens (given_at self.now.opens self.now.cells) o.task u.0) }
     {
         // the invariant is known where a field is read
         let _ = &self.alloc;
@@ -126,7 +132,9 @@ impl Regions {
     /// The task whose access stands in the way of a task.
     fn obstacle_to(&self, number: usize) -> Option<TaskNo>
         requires { (o : Entry) × IsNumber self.now.opens number o }
-        ensures { (o : Entry) → IsNumber self.now.opens number o → MatchOption result ((a : Meant) → IsIn a o.accesses → IsAccessMet self.now o a) (λ u. Hinders self.now.opens (given_at self.now.opens self.now.cells) o.task u.0) }
+        ensures { (o : Entry) → IsNumber self.now.opens number o → MatchOption result ((a : Meant) →
+            IsIn a o.accesses → IsAccessMet self.now o a) (λ u.
+            Hinders self.now.opens (given_at self.now.opens self.now.cells) o.task u.0) }
     {
         for access in self.opens[number - 1].accesses.as_slice() {
             let obstacle = self.obstacle_at(number, *access);
@@ -140,7 +148,8 @@ impl Regions {
     /// The task of which an access stands in the way of this one.
     pub(crate) fn obstacle_of(&self, task: TaskNo) -> Option<TaskNo>
         requires { IsKnown self.now.opens task.0 }
-        ensures { MatchOption result (IsMet self.now.opens (given_at self.now.opens self.now.cells) task.0) (λ u. Hinders self.now.opens (given_at self.now.opens self.now.cells) task.0 u.0) }
+        ensures { MatchOption result (IsMet self.now.opens (given_at self.now.opens self.now.cells) task.0)
+            (λ u. Hinders self.now.opens (given_at self.now.opens self.now.cells) task.0 u.0) }
     {
         match number_of(self.opens.as_slice(), task.0) {
             Some(number) => {
@@ -157,7 +166,8 @@ impl Regions {
     /// What the task waits for in this mode has come at each cell of a range.
     fn is_let_over(&self, number: usize, mode: Mode, range: Range) -> bool
         requires { AsksOver self.now.opens number mode range.lo range.hi }
-        ensures { (o : Entry) → IsNumber self.now.opens number o → (IsTrue result ↔ AreSatisfied self.now mode o range.lo range.hi) }
+        ensures { (o : Entry) → IsNumber self.now.opens number o →
+            (IsTrue result ↔ AreSatisfied self.now mode o range.lo range.hi) }
     {
         let mut cell = range.lo;
         'parts: while cell < range.hi {
@@ -191,7 +201,8 @@ impl Regions {
     /// What the accesses of a task wait for has come.
     fn are_accesses_met(&self, number: usize) -> bool
         requires { (o : Entry) × IsNumber self.now.opens number o }
-        ensures { (o : Entry) → IsNumber self.now.opens number o → (IsTrue result ↔ ((a : Meant) → IsIn a o.accesses → IsAccessMet self.now o a)) }
+        ensures { (o : Entry) → IsNumber self.now.opens number o →
+            (IsTrue result ↔ ((a : Meant) → IsIn a o.accesses → IsAccessMet self.now o a)) }
     {
         for access in self.opens[number - 1].accesses.as_slice() {
             if !self.is_access_met(number, *access) {
@@ -221,7 +232,9 @@ impl Regions {
     /// A child of the task whose access to a cell of a range is not done.
     fn undone_over(&self, number: usize, range: Range) -> Option<TaskNo>
         requires { (t : ℕ) × IsNumberOf self.now.opens number t }
-        ensures { (t : ℕ) → IsNumberOf self.now.opens number t → MatchOption result ((c : ℕ) → range.lo ≤ c → c < range.hi → AreChildrenDone self.now.opens (given_at self.now.opens self.now.cells) t c) (λ u. HasUndoneChild self.now.opens (given_at self.now.opens self.now.cells) t range.lo range.hi u.0) }
+        ensures { (t : ℕ) → IsNumberOf self.now.opens number t → MatchOption result ((c : ℕ) → range.lo ≤ c →
+            c < range.hi → AreChildrenDone self.now.opens (given_at self.now.opens self.now.cells) t c) (λ u.
+            HasUndoneChild self.now.opens (given_at self.now.opens self.now.cells) t range.lo range.hi u.0) }
     {
         let mut cell = range.lo;
         'parts: while cell < range.hi {
@@ -242,7 +255,9 @@ impl Regions {
     /// A child of the task with an access to a cell of the range that is not done.
     pub(crate) fn undone_child_of(&self, task: TaskNo, range: Range) -> Option<TaskNo>
         requires { IsKnown self.now.opens task.0 }
-        ensures { MatchOption result ((c : ℕ) → range.lo ≤ c → c < range.hi → AreChildrenDone self.now.opens (given_at self.now.opens self.now.cells) task.0 c) (λ u. HasUndoneChild self.now.opens (given_at self.now.opens self.now.cells) task.0 range.lo range.hi u.0) }
+        ensures { MatchOption result ((c : ℕ) → range.lo ≤ c → c < range.hi →
+            AreChildrenDone self.now.opens (given_at self.now.opens self.now.cells) task.0 c) (λ u.
+            HasUndoneChild self.now.opens (given_at self.now.opens self.now.cells) task.0 range.lo range.hi u.0) }
     {
         match number_of(self.opens.as_slice(), task.0) {
             Some(number) => self.undone_over(number, range),
@@ -253,7 +268,9 @@ impl Regions {
     /// The slot of a task may be joined into a cell.
     pub(crate) fn is_joinable(&self, task: TaskNo, cell: u32) -> bool
         requires { IsFolding self.now.opens task.0 cell }
-        ensures { (op : Operator) → mode_in self.now.opens cell task.0 ≡ Fold op → (IsTrue result ↔ IsJoinSatisfied (opened_forest self.now.opens (given_at self.now.opens self.now.cells) cell) op task.0) }
+        ensures { (op : Operator) → mode_in self.now.opens cell task.0 ≡ Fold op →
+            (IsTrue result ↔ IsJoinSatisfied (opened_forest self.now.opens
+            (given_at self.now.opens self.now.cells) cell) op task.0) }
     {
         match number_of(self.opens.as_slice(), task.0) {
             Some(number) => self.joins_at(number, cell),
@@ -264,7 +281,10 @@ impl Regions {
     /// The same by the number of the task.
     fn joins_at(&self, number: usize, cell: u32) -> bool
         requires { (o : Entry) × IsNumber self.now.opens number o × HasOpened self.now.opens cell o.task }
-        ensures { (o : Entry) (op : Operator) → IsNumber self.now.opens number o → mode_in self.now.opens cell o.task ≡ Fold op → (IsTrue result ↔ IsJoinSatisfied (opened_forest self.now.opens (given_at self.now.opens self.now.cells) cell) op o.task) }
+        ensures { (o : Entry) (op : Operator) → IsNumber self.now.opens number o →
+            mode_in self.now.opens cell o.task ≡ Fold op →
+            (IsTrue result ↔ IsJoinSatisfied (opened_forest self.now.opens
+            (given_at self.now.opens self.now.cells) cell) op o.task) }
     {
         match self.cells.at(cell) {
             Some(part) => joins_in(part, number),

@@ -1,4 +1,5 @@
-//! The regions as a dependency system. An opening takes what was reserved, and reserves first if that was for other accesses.
+//! The regions as a dependency system. An opening takes what was reserved, and reserves first if that was for
+//! other accesses.
 
 ghost use Rattle.std.specs.Prelude.{◌≡◌, List as Accesses, IsOk, OnErr, OnOk, Some};
 ghost use Rattle.oss_syntax.specs.declared.access.Access.{Access as Meant};
@@ -28,8 +29,10 @@ impl Regions {
 
     /// Opens a task with the reserved accesses.
     fn open_reserved(&mut self, task: u64, parent: u64)
-        requires { (accesses : Accesses Meant) × (self.old.reserved ≡ Some accesses) × CanOpen (seen_of self.old) (record { task = task; parent = parent; accesses = accesses }) }
-        ensures { (accesses : Accesses Meant) → self.old.reserved ≡ Some accesses → Opens (record { task = task; parent = parent; accesses = accesses }) (seen_of self.old) (seen_of self.new) }
+        requires { (accesses : Accesses Meant) × (self.old.reserved ≡ Some accesses) ×
+            CanOpen (seen_of self.old) (record { task = task; parent = parent; accesses = accesses }) }
+        ensures { (accesses : Accesses Meant) → self.old.reserved ≡ Some accesses →
+            Opens (record { task = task; parent = parent; accesses = accesses }) (seen_of self.old) (seen_of self.new) }
     {
         let creator = match number_of(self.opens.as_slice(), parent) {
             Some(creator) => creator,
@@ -49,10 +52,11 @@ impl Regions {
     }
 }
 
-/// What a call costs is told by the fragments of the cells that it comes to, and not by their cells. A task is found at once where tasks are
-/// opened in the order of their numbers, and its access in a fragment by halving. `met` and `may_join` then look at the flags of one
-/// access in each fragment, and so does `children_done` where all are done. `obstacle` and `undone_child` go back over the accesses before it until
-/// the first that stands in the way, or is not done.
+/// What a call costs is told by the fragments of the cells that it comes to, and not by their cells. A task is
+/// found at once where tasks are opened in the order of their numbers, and its access in a fragment by halving.
+/// `met` and `may_join` then look at the flags of one access in each fragment, and so does `children_done`
+/// where all are done. `obstacle` and `undone_child` go back over the accesses before it until the first that
+/// stands in the way, or is not done.
 impl Deps for Regions {
     ghost use Rattle.oss_regions.specs.Kept.{seen_of};
 

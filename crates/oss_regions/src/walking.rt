@@ -1,4 +1,5 @@
-//! The walk back over a line for who stands in the way. The flags tell whether anybody does, so only this question costs a walk.
+//! The walk back over a line for who stands in the way. The flags tell whether anybody does, so only this
+//! question costs a walk.
 
 ghost use Rattle.std.specs.Prelude.{◌≡◌, ◌<◌, length, true, false, IfSome, MatchOption};
 ghost use Rattle.oss_access_lists.specs.Flags.{is_over, is_read, is_whole};
@@ -67,13 +68,14 @@ fn passes_at(line: &AccessList, mode: Mode, at: usize) -> bool
     passes(mode, line.hang(at).mode, line.flags(at))
 }
 
-/// The access that stands in the way of another one, which waits in this mode. The numbers fall on the way, so each earlier access
-/// is looked at once at most.
+/// The access that stands in the way of another one, which waits in this mode. The numbers fall on the way, so
+/// each earlier access is looked at once at most.
 pub(crate) fn bar_of(line: &AccessList, mode: Mode, at: usize) -> Option<usize>
     requires settled { line.now.head ≡ 0 }
     requires main { at ≡ 0 → ⊥ }
     requires within { at < length line.now.hangs }
-    ensures bar { MatchOption result (is_let mode (marks_at line.now.stand at) ≡ true) (λ u. IsInTheWay (wires_of line.now.hangs) (marks_at line.now.stand) mode at u) }
+    ensures bar { MatchOption result (is_let mode (marks_at line.now.stand at) ≡ true) (λ u.
+        IsInTheWay (wires_of line.now.hangs) (marks_at line.now.stand) mode at u) }
     ensures within { IfSome result (λ u. u < length line.now.hangs) }
 {
     if is_let(mode, line.flags(at)) {
@@ -107,11 +109,12 @@ fn first_bar(line: &AccessList, mode: Mode, at: usize) -> usize
     unreachable!()
 }
 
-/// A child's access that is not done, of those below an access or below main: the last one of them. `None` where each is done. It goes
-/// back over the accesses that are over though an earlier one is not done.
+/// A child's access that is not done, of those below an access or below main: the last one of them. `None`
+/// where each is done. It goes back over the accesses that are over though an earlier one is not done.
 pub(crate) fn undone_below(line: &AccessList, above: usize) -> Option<usize>
     requires settled { line.now.head ≡ 0 }
-    ensures undone { MatchOption result (is_list_done (wires_of line.now.hangs) (marks_at line.now.stand) above ≡ true) (λ u. IsUndoneIn (wires_of line.now.hangs) (marks_at line.now.stand) above u) }
+    ensures undone { MatchOption result (is_list_done (wires_of line.now.hangs) (marks_at line.now.stand)
+        above ≡ true) (λ u. IsUndoneIn (wires_of line.now.hangs) (marks_at line.now.stand) above u) }
     ensures within { IfSome result (λ u. u < length line.now.hangs) }
 {
     let _settled = line.is_settled();

@@ -12,15 +12,16 @@ use oss_deps::Deps;
 use oss_sched::TextMove;
 use std::alloc::AllocError;
 
-/// Makes a move of a schedule, and tells whether it did: it does just where the move is enabled. A core of which a move was not made
-/// has perhaps made some of its parts.
+/// Makes a move of a schedule, and tells whether it did: it does just where the move is enabled. A core of
+/// which a move was not made has perhaps made some of its parts.
 pub(crate) fn make<D: Deps>(
     core: &mut Core<D>,
     code: &Code,
     what: &TextMove,
 ) -> Result<bool, AllocError>
     requires { IsRunning code.now (kept_of D.seen core.old) }
-    ensures made { IfOk result (λ made. made ≡ true → MakesMove code.now (kept_of D.seen core.old) (kept_of D.seen core.new) what.now) }
+    ensures made { IfOk result (λ made. made ≡ true →
+        MakesMove code.now (kept_of D.seen core.old) (kept_of D.seen core.new) what.now) }
     ensures refused { IfOk result (λ made. made ≡ false → RefusesMove code.now (kept_of D.seen core.old) what.now) }
 {
     match core.find(point_of(what).as_slice()) {
@@ -43,7 +44,8 @@ fn make_part<D: Deps>(
     k: u64,
 ) -> Result<bool, AllocError>
     requires { IsRunning code.now (kept_of D.seen core.old) }
-    ensures made { IfOk result (λ made. made ≡ true → MakesPart code.now (kept_of D.seen core.old) (kept_of D.seen core.new) what.now k) }
+    ensures made { IfOk result (λ made. made ≡ true →
+        MakesPart code.now (kept_of D.seen core.old) (kept_of D.seen core.new) what.now k) }
     ensures refused { IfOk result (λ made. made ≡ false → RefusesPart code.now (kept_of D.seen core.old) what.now k) }
 {
     let task = match core.find(point_of(what).as_slice()) {

@@ -29,8 +29,8 @@ pub(crate) fn parts_of(what: &TextMove) -> u64
     }
 }
 
-/// The part of a move with this number, counted from 0, where the task has that number. There is none whose cell is past what 32
-/// bits can tell.
+/// The part of a move with this number, counted from 0, where the task has that number. There is none whose
+/// cell is past what 32 bits can tell.
 pub(crate) fn part(what: &TextMove, task: TaskNo, k: u64) -> Option<Move>
     ensures { MatchOption result (IsBeyond what.now k) (λ part. part ≡ part_of what.now task k) }
 {

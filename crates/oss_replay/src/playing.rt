@@ -16,9 +16,9 @@ use oss_sched::TextMove;
 use oss_syntax::List;
 use std::alloc::{AllocError, Global};
 
-/// Replays a schedule on the task machine of a code, where each task has fuel for so many ticks. The moves are made one after the other, as
-/// long as each is enabled. The answer is that of the definition; want of memory is the one other answer. Condition: the code has at most
-/// 1,048,576 cells.
+/// Replays a schedule on the task machine of a code, where each task has fuel for so many ticks. The moves are
+/// made one after the other, as long as each is enabled. The answer is that of the definition; want of memory
+/// is the one other answer. Condition: the code has at most 1,048,576 cells.
 pub fn replay(
     alloc: Global,
     code: &Code,
@@ -54,7 +54,8 @@ fn play<D: Deps>(
 /// What comes of a replay whose moves were all made.
 fn finish<D: Deps>(core: &mut Core<D>) -> Result<Replayed, AllocError>
     requires { (code : CodeParts) × IsRunning code (kept_of D.seen core.old) }
-    ensures { IfOk result (λ replayed. (code : CodeParts) (number : ℕ) → Replays code (kept_of D.seen core.old) number [] replayed) }
+    ensures { IfOk result (λ replayed. (code : CodeParts) (number : ℕ) →
+        Replays code (kept_of D.seen core.old) number [] replayed) }
 {
     match core.answer()? {
         Some(answer) => Ok(Replayed::Answered(answer)),

@@ -9,8 +9,9 @@ use oss_grammar::{Piece, write_pieces};
 use oss_syntax::{Bytes, Cells, GlobalDef, Item, NumKind, Program};
 use std::alloc::{AllocError, Global};
 
-/// A line for each global in text order, `NAME = V V V` and a newline: its values in these cells, those of an `unsigned long`
-/// without a sign and the others with one. The cells are those of the program. Want of memory is the one error.
+/// A line for each global in text order, `NAME = V V V` and a newline: its values in these cells, those of an
+/// `unsigned long` without a sign and the others with one. The cells are those of the program. Want of memory
+/// is the one error.
 pub fn dump_bytes(alloc: Global, program: &Program, cells: &Cells) -> Result<Bytes, AllocError>
     ensures { IfOk result (λ text. text ≡ dump_text program.now.items cells.now) }
 {

@@ -6,8 +6,8 @@ ghost use Rattle.oss_report.specs.Replays.{not_enabled_line as line_of_a_move, s
 use oss_syntax::Bytes;
 use std::alloc::{AllocError, Global};
 
-/// `schedule refused at line N` and a newline, of a text whose line with this number is the first that is none of a schedule. Want of memory is the one
-/// error.
+/// `schedule refused at line N` and a newline, of a text whose line with this number is the first that is none
+/// of a schedule. Want of memory is the one error.
 pub fn schedule_line(alloc: Global, line: u32) -> Result<Bytes, AllocError>
     ensures { IfOk result (λ text. text ≡ line_of_a_schedule line) }
 {
@@ -18,7 +18,8 @@ pub fn schedule_line(alloc: Global, line: u32) -> Result<Bytes, AllocError>
     Ok(Bytes::from_vec(text))
 }
 
-/// `move N is not enabled` and a newline, of the move with this number, counted from 1. Want of memory is the one error.
+/// `move N is not enabled` and a newline, of the move with this number, counted from 1. Want of memory is the
+/// one error.
 pub fn not_enabled_line(alloc: Global, number: u64) -> Result<Bytes, AllocError>
     ensures { IfOk result (λ text. text ≡ line_of_a_move number) }
 {

@@ -41,7 +41,8 @@ pub(crate) fn copied(
     requires settled { line.now.head ≡ 0 }
     requires size { length numbers.now ≡ length line.now.hangs }
     requires some { 0 < length line.now.hangs }
-    ensures copied { IfOk result (λ c. AreCopied line.now.hangs line.now.stand numbers.now (length line.now.hangs) c.line.hangs c.numbers.items c.places.items c.owners.items) }
+    ensures copied { IfOk result (λ c. AreCopied line.now.hangs line.now.stand numbers.now
+        (length line.now.hangs) c.line.hangs c.numbers.items c.places.items c.owners.items) }
     ensures holding { IfOk result (λ c. AreHolding c.line.hangs) }
 {
     let mut copy = Copy::new(alloc)?;
@@ -55,7 +56,8 @@ impl Copy {
     /// Main alone.
     fn new(alloc: Global) -> Result<Copy, AllocError>
         ensures hangs { IfOk result (λ c. c.line.hangs ≡ no_hang ∷ []) }
-        ensures rest { IfOk result (λ c. (c.numbers.items ≡ 0 ∷ []) × (c.places.items ≡ 0 ∷ []) × (c.owners.items ≡ 0 ∷ [])) }
+        ensures rest { IfOk result (λ c. (c.numbers.items ≡ 0 ∷ []) × (c.places.items ≡ 0 ∷ []) ×
+            (c.owners.items ≡ 0 ∷ [])) }
     {
         let line = AccessList::new(alloc)?;
         let mut numbers = Vec::new(alloc);
@@ -85,7 +87,8 @@ impl Copy {
     /// The access in whose list an access of the old line hangs.
     fn owner_of(&self, line: &AccessList, _numbers: &[usize], at: usize) -> usize
         requires within { (0 < at) × (at < length line.now.hangs) }
-        requires copied { AreCopied line.now.hangs line.now.stand _numbers.now at self.now.line.hangs self.now.numbers.items self.now.places.items self.now.owners.items }
+        requires copied { AreCopied line.now.hangs line.now.stand _numbers.now at self.now.line.hangs
+            self.now.numbers.items self.now.places.items self.now.owners.items }
         ensures { IsBelow (wires_of line.now.hangs).place result at }
     {
         let _settled = line.is_settled();
@@ -103,10 +106,12 @@ impl Copy {
         requires held { (hang_at self.old.line.hangs above).gave ≡ false }
         requires covered { covers (hang_at self.old.line.hangs above).mode mode ≡ true }
         ensures hangs { OnOk result (self.new.line.hangs ≡ opened_in self.old.line.hangs above mode) }
-        ensures hung { OnOk result (IsHung (wires_of self.old.line.hangs) (wires_of self.new.line.hangs) above (length self.old.line.hangs)) }
+        ensures hung { OnOk result (IsHung (wires_of self.old.line.hangs) (wires_of self.new.line.hangs) above
+            (length self.old.line.hangs)) }
         ensures numbers { OnOk result (self.new.numbers.items ≡ self.old.numbers.items ++ number ∷ []) }
         ensures place { IfOk result (λ place. place ≡ length self.old.line.hangs) }
-        ensures rest { (self.new.places.items ≡ self.old.places.items) × (self.new.owners.items ≡ self.old.owners.items) }
+        ensures rest { (self.new.places.items ≡ self.old.places.items) ×
+            (self.new.owners.items ≡ self.old.owners.items) }
     {
         let place = self.line.count();
         self.line.open(above, mode)?;
@@ -127,9 +132,12 @@ impl Copy {
         requires within { (0 < at) × (at < length line.now.hangs) }
         requires below { IsBelow (wires_of line.now.hangs).place owner at }
         requires not_spent { is_spent (marks_at line.now.stand at) ≡ false }
-        requires copied { AreCopied line.now.hangs line.now.stand numbers.now at self.old.line.hangs self.old.numbers.items self.old.places.items self.old.owners.items }
+        requires copied { AreCopied line.now.hangs line.now.stand numbers.now at self.old.line.hangs
+            self.old.numbers.items self.old.places.items self.old.owners.items }
         requires holding { AreHolding self.old.line.hangs }
-        ensures copied { IfOk result (λ place. AreCopied line.now.hangs line.now.stand numbers.now (at + 1) self.new.line.hangs self.new.numbers.items (self.new.places.items ++ place ∷ []) (self.new.owners.items ++ owner ∷ [])) }
+        ensures copied { IfOk result (λ place. AreCopied line.now.hangs line.now.stand numbers.now
+            (at + 1) self.new.line.hangs self.new.numbers.items (self.new.places.items ++ place ∷ [])
+            (self.new.owners.items ++ owner ∷ [])) }
         ensures holding { OnOk result (AreHolding self.new.line.hangs) }
     {
         let _settled = line.is_settled();
@@ -144,9 +152,11 @@ impl Copy {
         requires settled { line.now.head ≡ 0 }
         requires size { length numbers.now ≡ length line.now.hangs }
         requires within { (0 < at) × (at < length line.now.hangs) }
-        requires copied { AreCopied line.now.hangs line.now.stand numbers.now at self.old.line.hangs self.old.numbers.items self.old.places.items self.old.owners.items }
+        requires copied { AreCopied line.now.hangs line.now.stand numbers.now at self.old.line.hangs
+            self.old.numbers.items self.old.places.items self.old.owners.items }
         requires holding { AreHolding self.old.line.hangs }
-        ensures copied { OnOk result (AreCopied line.now.hangs line.now.stand numbers.now (at + 1) self.new.line.hangs self.new.numbers.items self.new.places.items self.new.owners.items) }
+        ensures copied { OnOk result (AreCopied line.now.hangs line.now.stand numbers.now
+            (at + 1) self.new.line.hangs self.new.numbers.items self.new.places.items self.new.owners.items) }
         ensures holding { OnOk result (AreHolding self.new.line.hangs) }
     {
         let _settled = line.is_settled();
@@ -165,10 +175,14 @@ impl Copy {
     fn give(&mut self, line: &AccessList, _numbers: &[usize], at: usize)
         requires within { (0 < at) × (at < length line.now.hangs) }
         requires gave { (hang_at line.now.hangs at).gave ≡ true }
-        requires copied { AreCopied line.now.hangs line.now.stand _numbers.now (length line.now.hangs) self.old.line.hangs self.old.numbers.items self.old.places.items self.old.owners.items }
-        requires given { AreGivenUp line.now.hangs line.now.stand (length line.now.hangs) at self.old.line.hangs self.old.places.items }
-        ensures copied { AreCopied line.now.hangs line.now.stand _numbers.now (length line.now.hangs) self.new.line.hangs self.new.numbers.items self.new.places.items self.new.owners.items }
-        ensures given { AreGivenUp line.now.hangs line.now.stand (length line.now.hangs) (at + 1) self.new.line.hangs self.new.places.items }
+        requires copied { AreCopied line.now.hangs line.now.stand _numbers.now (length line.now.hangs)
+            self.old.line.hangs self.old.numbers.items self.old.places.items self.old.owners.items }
+        requires given { AreGivenUp line.now.hangs line.now.stand (length line.now.hangs) at self.old.line.hangs
+            self.old.places.items }
+        ensures copied { AreCopied line.now.hangs line.now.stand _numbers.now (length line.now.hangs)
+            self.new.line.hangs self.new.numbers.items self.new.places.items self.new.owners.items }
+        ensures given { AreGivenUp line.now.hangs line.now.stand (length line.now.hangs)
+            (at + 1) self.new.line.hangs self.new.places.items }
     {
         let place = self.place_of(at);
         if place != 0 {
@@ -179,10 +193,13 @@ impl Copy {
     /// Gives up here what is given up in the old line.
     pub(crate) fn give_all(&mut self, line: &AccessList, numbers: &[usize])
         requires some { 0 < length line.now.hangs }
-        requires copied { AreCopied line.now.hangs line.now.stand numbers.now (length line.now.hangs) self.old.line.hangs self.old.numbers.items self.old.places.items self.old.owners.items }
+        requires copied { AreCopied line.now.hangs line.now.stand numbers.now (length line.now.hangs)
+            self.old.line.hangs self.old.numbers.items self.old.places.items self.old.owners.items }
         requires holding { AreHolding self.old.line.hangs }
-        ensures copied { AreCopied line.now.hangs line.now.stand numbers.now (length line.now.hangs) self.new.line.hangs self.new.numbers.items self.new.places.items self.new.owners.items }
-        ensures given { AreGivenUp line.now.hangs line.now.stand (length line.now.hangs) (length line.now.hangs) self.new.line.hangs self.new.places.items }
+        ensures copied { AreCopied line.now.hangs line.now.stand numbers.now (length line.now.hangs)
+            self.new.line.hangs self.new.numbers.items self.new.places.items self.new.owners.items }
+        ensures given { AreGivenUp line.now.hangs line.now.stand (length line.now.hangs) (length line.now.hangs)
+            self.new.line.hangs self.new.places.items }
     {
         for at in 1..line.count() {
             if line.hang(at).gave {
@@ -195,9 +212,12 @@ impl Copy {
     pub(crate) fn told(self, line: &AccessList, numbers: &[usize]) -> Remainder
         requires settled { line.now.head ≡ 0 }
         requires size { length numbers.now ≡ length line.now.hangs }
-        requires copied { AreCopied line.now.hangs line.now.stand numbers.now (length line.now.hangs) self.line.hangs self.numbers.items self.places.items self.owners.items }
-        requires given { AreGivenUp line.now.hangs line.now.stand (length line.now.hangs) (length line.now.hangs) self.line.hangs self.places.items }
-        ensures remainder { IsRemainder line.now.hangs line.now.stand numbers.now result.line.hangs result.numbers.items }
+        requires copied { AreCopied line.now.hangs line.now.stand numbers.now (length line.now.hangs)
+            self.line.hangs self.numbers.items self.places.items self.owners.items }
+        requires given { AreGivenUp line.now.hangs line.now.stand (length line.now.hangs)
+            (length line.now.hangs) self.line.hangs self.places.items }
+        ensures remainder { IsRemainder line.now.hangs line.now.stand numbers.now result.line.hangs
+            result.numbers.items }
         ensures size { length result.numbers.items ≡ length result.line.hangs }
         ensures main { slice_get result.numbers.items 0 ≡ Some 0 }
         ensures rising { AreRising numbers.now → AreRising result.numbers.items }

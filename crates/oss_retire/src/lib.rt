@@ -1,4 +1,5 @@
-//! Accesses to a cell that are done, with all before them, may be left out of the lists of the cell: laws, and a copy of a line that leaves them out.
+//! Accesses to a cell that are done, with all before them, may be left out of the lists of the cell: laws, and
+//! a copy of a line that leaves them out.
 #![tactic(auto)]
 
 mod copying;

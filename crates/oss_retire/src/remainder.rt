@@ -16,10 +16,12 @@ pub struct Remainder {
     pub numbers: Vec<usize>,
 }
 
-/// The accesses to a cell without those that are spent: done, with nothing earlier in the way of a write of them. All before such an access in its list, and all below it, are
-/// spent too, and what is told of each other access stays so: a released access stands in no list any more (Perez, Beltran, Labarta and Ayguadé, IPDPS 2017). What is left tells
-/// the same of the opened tasks, and numbers that rise still do. Err: memory is wanting. It costs as much as there are accesses. Conditions: the line is settled; each access has
-/// a number, and main's is among them.
+/// The accesses to a cell without those that are spent: done, with nothing earlier in the way of a write of
+/// them. All before such an access in its list, and all below it, are spent too, and what is told of each other
+/// access stays so: a released access stands in no list any more (Perez, Beltran, Labarta and Ayguadé, IPDPS
+/// 2017). What is left tells the same of the opened tasks, and numbers that rise still do. Err: memory is
+/// wanting. It costs as much as there are accesses. Conditions: the line is settled; each access has a number,
+/// and main's is among them.
 pub fn remainder_of(
     alloc: Global,
     line: &AccessList,
@@ -28,7 +30,8 @@ pub fn remainder_of(
     requires settled { line.now.head ≡ 0 }
     requires size { length numbers.now ≡ length line.now.hangs }
     requires some { 0 < length line.now.hangs }
-    ensures remainder { IfOk result (λ l. IsRemainder line.now.hangs line.now.stand numbers.now l.line.hangs l.numbers.items) }
+    ensures remainder { IfOk result (λ l. IsRemainder line.now.hangs line.now.stand numbers.now l.line.hangs
+        l.numbers.items) }
     ensures same { IfOk result (λ l. TellsTheSame line.now.hangs numbers.now l.line.hangs l.numbers.items) }
     ensures settled { IfOk result (λ l. l.line.head ≡ 0) }
     ensures size { IfOk result (λ l. length l.numbers.items ≡ length l.line.hangs) }
@@ -41,10 +44,12 @@ pub fn remainder_of(
     Ok(copy.told(line, numbers))
 }
 
-/// An access of the line, other than main's, is spent. It costs one look at each at most. Condition: the line is settled.
+/// An access of the line, other than main's, is spent. It costs one look at each at most. Condition: the line
+/// is settled.
 pub fn has_spent(line: &AccessList) -> bool
     requires settled { line.now.head ≡ 0 }
-    ensures { IsTrue result ↔ ((v : ℕ) × (v < length line.now.hangs) × ((v ≡ 0 → ⊥) × (is_spent (marks_at line.now.stand v) ≡ true))) }
+    ensures { IsTrue result ↔ ((v : ℕ) × (v < length line.now.hangs) ×
+        ((v ≡ 0 → ⊥) × (is_spent (marks_at line.now.stand v) ≡ true))) }
 {
     for at in 1..line.count() {
         if is_spent(line.flags(at)) {

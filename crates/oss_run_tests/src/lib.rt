@@ -1,5 +1,6 @@
-//! What no clause says of the machine, of audits, of parts and of runs by waves, tried by their public calls over codes that were written by hand.
-//! The tests have a crate of their own, since a crate with tests is proved once without them and once with them.
+//! What no clause says of the machine, of audits, of parts and of runs by waves, tried by their public calls
+//! over codes that were written by hand. The tests have a crate of their own, since a crate with tests is
+//! proved once without them and once with them.
 #![tactic(auto)]
 
 #[cfg(test)]

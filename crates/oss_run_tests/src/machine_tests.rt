@@ -182,7 +182,8 @@ fn answer(rt: &(impl Abort + AllocGlobal), machine: &mut Machine, code: &Code, f
     }
 }
 
-/// Looks so many asks ahead of where the machine stands, if no memory is wanting; otherwise it forgets what it looked at.
+/// Looks so many asks ahead of where the machine stands, if no memory is wanting; otherwise it forgets what it
+/// looked at.
 fn looks(machine: &mut Machine, code: &Code, asks: usize) -> bool {
     machine.stay();
     for _ in 0..asks {
@@ -540,7 +541,8 @@ fn a_task_function_that_returns(rt: HostRuntime) {
     assert_body_asks(&rt, &code, 9, &[], &body);
 }
 
-/// `in({ a[k], k = 0; i })`: the number of turns is loaded; without a turn nothing is declared, and the fourth has no cell.
+/// `in({ a[k], k = 0; i })`: the number of turns is loaded; without a turn nothing is declared, and the fourth
+/// has no cell.
 #[test]
 fn a_multidependency(rt: HostRuntime) {
     let instrs = [
@@ -613,8 +615,9 @@ fn waits_and_a_release(rt: HostRuntime) {
     assert_asks(&rt, &code, &[], &wanted);
 }
 
-/// `printf("%ld\n", f(5));` with a function `f` that gives `g(g(x))`, and a `g` that gives `x + 1` behind a tick: so from one ask to the next
-/// functions come to stand upon others, and values are given to callers that stood.
+/// `printf("%ld\n", f(5));` with a function `f` that gives `g(g(x))`, and a `g` that gives `x + 1` behind a
+/// tick: so from one ask to the next functions come to stand upon others, and values are given to callers that
+/// stood.
 fn calls_that_stand(rt: &(impl Abort + AllocGlobal)) -> Code {
     let pieces = vec![in rt.alloc(); Piece::Signed, Piece::Plain(10)].expect(rt, "memory");
     let instrs = [
@@ -687,7 +690,8 @@ fn answers_among_calls(rt: HostRuntime) {
     assert_asks(&rt, &code, &[], &ASKS_OF_CALLS);
 }
 
-/// One that looks twice and stays asks behind its answer what it asks without a look; so does one that answers without staying first.
+/// One that looks twice and stays asks behind its answer what it asks without a look; so does one that answers
+/// without staying first.
 #[test]
 fn looks_that_are_forgotten(rt: HostRuntime) {
     let code = calls_that_stand(&rt);

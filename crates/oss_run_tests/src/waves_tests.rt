@@ -45,7 +45,8 @@ fn print(rt: &(impl Abort + AllocGlobal), letter: u8) -> Instr {
     }
 }
 
-/// The code of `long x, y;` and a `main` that creates a task with `out(x)` that sets `x` to 5 and prints `a`, one with `out(y)` that sets `y` to 7 and prints `b`, and waits.
+/// The code of `long x, y;` and a `main` that creates a task with `out(x)` that sets `x` to 5 and prints `a`,
+/// one with `out(y)` that sets `y` to 7 and prints `b`, and waits.
 fn code(rt: &(impl Abort + AllocGlobal)) -> Code {
     let instrs = [
         Instr::Begin,
@@ -96,7 +97,8 @@ fn is_done(answer: &Answer, output: &[u8], cells: &[u64]) -> bool {
     }
 }
 
-/// In wave 1 main creates both tasks, in wave 2 both run and give up their cells, and in wave 3 main goes past its wait and ends.
+/// In wave 1 main creates both tasks, in wave 2 both run and give up their cells, and in wave 3 main goes past
+/// its wait and ends.
 const TRACE: &[u8] =
     b"# wave 1\nstep 0 2\n# wave 2\nstep 0.0 3\nstep 0.1 3\nlet 0.0 0 1\nlet 0.1 1 1\n# wave 3\nstep 0 2\n# tasks 3 waves 3 widest 2\n";
 

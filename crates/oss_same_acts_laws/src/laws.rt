@@ -1,5 +1,5 @@
-//! What holds of two programs whose bodies do the same acts: laws, each carried by a function that does nothing. A crate above calls the
-//! function for its types of scripts, and then has the law.
+//! What holds of two programs whose bodies do the same acts: laws, each carried by a function that does
+//! nothing. A crate above calls the function for its types of scripts, and then has the law.
 
 ghost use Rattle.oss_same_acts_laws.specs.AlikeWaves.{RunsByWavesAreAlike, TracesAreAlike};
 ghost use Rattle.oss_same_acts_laws.specs.Claims.{AnswersAreAlike, BisimulationsTurn, CompleteAlike, JoinsAreAlike, LetsAreAlike, MovesAreAlike, OpeningsAreAlike, ProgramsDoAsThemselves, ResultsAreAlike, RunsAreAlike, StatesTurn, StepsAreAlike, StoppedAlike, TasksHavePartners};

@@ -35,7 +35,8 @@ pub(crate) fn cut(text: &[u8]) -> Option<(&[u8], &[u8])>
 /// The first line of a text, and the text behind it; `None` where the text is at its end.
 #[tactic(auto, using(crate::proofs::LineLemmas::first_line_is))]
 pub(crate) fn first_line(text: &[u8]) -> Option<(&[u8], &[u8])>
-    ensures lines { MatchOption result (text.now ≡ []) (λ parts. lines_of text.now ≡ parts.0.now ∷ lines_of parts.1.now) }
+    ensures lines { MatchOption result (text.now ≡ []) (λ parts. lines_of text.now ≡ parts.0.now ∷
+        lines_of parts.1.now) }
     ensures shorter { IfSome result (λ parts. length parts.1.now < length text.now) }
 {
     if text.is_empty() {

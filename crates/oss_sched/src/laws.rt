@@ -1,4 +1,5 @@
-//! Laws of schedules and traces, each carried by a function that does nothing. A crate above calls the function, and then has the law.
+//! Laws of schedules and traces, each carried by a function that does nothing. A crate above calls the
+//! function, and then has the law.
 ghost use Rattle.oss_sched.specs.Schedules.{IsReadOnce};
 ghost use Rattle.oss_sched.specs.Traces.{IsTraceRead};
 
@@ -11,8 +12,8 @@ pub fn a_schedule_has_one_reading(text: &[u8])
     ensures { IsReadOnce text.now }
 {}
 
-/// A law, with nothing to run: the text of a record whose moves are within their limits is a schedule of these moves, in
-/// their order.
+/// A law, with nothing to run: the text of a record whose moves are within their limits is a schedule of these
+/// moves, in their order.
 #[tactic(auto, using(crate::proofs::TraceLemmas::trace_read))]
 pub fn a_trace_is_a_schedule(waves: &WaveRecord)
     ensures { IsTraceRead waves.now }

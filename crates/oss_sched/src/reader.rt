@@ -11,14 +11,14 @@ use crate::told::Told;
 use oss_syntax::List;
 use std::alloc::{AllocError, Global};
 
-/// The moves of a schedule in their order. Each line of the text is empty, a comment that begins with `#`, or one move in
-/// its exact form: `step POINT N`, `let POINT L N`, `join POINT L N`, words with one blank between, numbers without sign
-/// and leading zeros, within the limits of `TextMove`. The last line may lack its newline.
+/// The moves of a schedule in their order. Each line of the text is empty, a comment that begins with `#`, or
+/// one move in its exact form: `step POINT N`, `let POINT L N`, `join POINT L N`, words with one blank between,
+/// numbers without sign and leading zeros, within the limits of `TextMove`. The last line may lack its newline.
 ///
 /// Condition: the text has at most 16,777,216 bytes.
 ///
-/// `Line(n)` comes exactly where a line is none of these, and n is the number of the first such line, counted from 1.
-/// `Memory` says nothing of the text.
+/// `Line(n)` comes exactly where a line is none of these, and n is the number of the first such line, counted
+/// from 1. `Memory` says nothing of the text.
 pub fn read_schedule(alloc: Global, text: &[u8]) -> Result<List<TextMove>, ScheduleRefused>
     requires { length text.now ≤ 16777216 }
     ensures reading { IsReading text.now result }

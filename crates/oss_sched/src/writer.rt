@@ -11,9 +11,9 @@ use oss_model::{Point, point_text};
 use oss_syntax::{Bytes, List};
 use std::alloc::{AllocError, Global};
 
-/// The text of a record: for each wave, counted from 1, a line `# wave K` and then a line for each of its moves; and last
-/// a line `# tasks T waves K widest M`. Each line ends with a newline. Moves within their limits are read back from it by
-/// `read_schedule` (`a_trace_is_a_schedule`). Want of memory is the one error.
+/// The text of a record: for each wave, counted from 1, a line `# wave K` and then a line for each of its
+/// moves; and last a line `# tasks T waves K widest M`. Each line ends with a newline. Moves within their
+/// limits are read back from it by `read_schedule` (`a_trace_is_a_schedule`). Want of memory is the one error.
 pub fn schedule_text(alloc: Global, waves: &WaveRecord) -> Result<Bytes, AllocError>
     ensures { IfOk result (λ text. text ≡ trace_text waves.now) }
 {

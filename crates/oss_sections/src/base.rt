@@ -7,12 +7,14 @@ ghost use Rattle.std.specs.Option.{ForSome};
 pub struct Base {
     /// The first cell of the global.
     pub start: u32,
-    /// How many cells the global has: none where a pointer points nowhere. With those before it they are at most 1,048,576.
+    /// How many cells the global has: none where a pointer points nowhere. With those before it they are at
+    /// most 1,048,576.
     pub count: u32,
-    /// How many cells make a row of an array of two dimensions: at least 1. `None` for every other array, and for a pointer.
+    /// How many cells make a row of an array of two dimensions: at least 1. `None` for every other array, and
+    /// for a pointer.
     pub columns: Option<u32>,
-    /// The number of the element to which the base points, counted from the first cell of the global, modulo 2^64. It is 0 for
-    /// an array.
+    /// The number of the element to which the base points, counted from the first cell of the global, modulo
+    /// 2^64. It is 0 for an array.
     pub index: u64,
     pub ghost within: { start + count ≤ 1048576 },
     pub ghost wide: { ForSome columns (λ m. 0 < m) },
@@ -26,8 +28,8 @@ pub enum Part {
         from: u64,
         count: u64,
     },
-    /// The elements from one to another, both included. A lower end that is left out is the first element, and an upper end the
-    /// last one.
+    /// The elements from one to another, both included. A lower end that is left out is the first element, and
+    /// an upper end the last one.
     Span {
         lower: Option<u64>,
         upper: Option<u64>,

@@ -1,5 +1,5 @@
-//! Which cells an array section names once its expressions are evaluated, as ranges, or its fault; and the place of an element of
-//! an array of two dimensions.
+//! Which cells an array section names once its expressions are evaluated, as ranges, or its fault; and the
+//! place of an element of an array of two dimensions.
 #![tactic(auto)]
 
 mod adding;

@@ -1,10 +1,12 @@
-//! The place of an element of an array of two dimensions. Each index is tested in its own dimension, so that none runs over into another row.
+//! The place of an element of an array of two dimensions. Each index is tested in its own dimension, so that
+//! none runs over into another row.
 ghost use Rattle.std.specs.Prelude.{◌≡◌, ◌*◌, ◌≤◌, Some, None, if◌then◌else◌};
 ghost use Rattle.oss_sections.specs.Places.{is_index, place_of};
 
-/// The place of `a[i][j]` in an array of two dimensions, counted from the array's first cell; with no column that of the first
-/// cell of row i. `None` where the row, or the column that is written, is outside of its dimension. They are numbers of 64 bits,
-/// read as signed. Condition: the array has at most 1,048,576 cells. It takes no memory.
+/// The place of `a[i][j]` in an array of two dimensions, counted from the array's first cell; with no column
+/// that of the first cell of row i. `None` where the row, or the column that is written, is outside of its
+/// dimension. They are numbers of 64 bits, read as signed. Condition: the array has at most 1,048,576 cells. It
+/// takes no memory.
 pub fn element_place(rows: u32, columns: u32, row: u64, column: Option<u64>) -> Option<u32>
     requires { rows * columns ≤ 1048576 }
     ensures { result ≡ place_of rows columns row column }

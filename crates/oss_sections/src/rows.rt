@@ -23,7 +23,8 @@ pub(crate) fn one_range(alloc: Global, first: u32, size: u32) -> Result<List<Ran
     Ok(found)
 }
 
-/// The ranges of `size` cells in each of so many rows, from the cell `first` of the first of them on. Whole rows are one range.
+/// The ranges of `size` cells in each of so many rows, from the cell `first` of the first of them on. Whole
+/// rows are one range.
 pub(crate) fn ranges_of_rows(
     alloc: Global,
     columns: u32,

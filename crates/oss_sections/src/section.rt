@@ -1,4 +1,5 @@
-//! The cells of a section of one or two dimensions. The ends are tested before any range is made, so that a fault costs no memory.
+//! The cells of a section of one or two dimensions. The ends are tested before any range is made, so that a
+//! fault costs no memory.
 ghost use Rattle.std.specs.Prelude.{◌≡◌, ◌+◌, ◌*◌, ◌<◌, ◌≤◌, Some, None};
 ghost use Rattle.oss_grammar.specs.SectionCells.{cells_of_extent, grid_cells, section_cells, stretch_cells};
 ghost use Rattle.oss_sections.specs.Evaluated.{IsTold, meant_base, meant_extent};
@@ -11,8 +12,8 @@ use crate::stretch::{Stretch, stretch_of_part, whole_row};
 use oss_syntax::{FaultKind, List, Range};
 use std::alloc::Global;
 
-/// The cells that a section names, as rising ranges of which no two touch; or its fault. It takes memory for the ranges, and
-/// time in its rows: how many cells they have does not matter.
+/// The cells that a section names, as rising ranges of which no two touch; or its fault. It takes memory for
+/// the ranges, and time in its rows: how many cells they have does not matter.
 pub fn section_ranges(
     alloc: Global,
     base: &Base,

@@ -1,4 +1,5 @@
-//! A part of one dimension: where it begins and how many elements it has. The count is exact and may be negative: the bounds are tested last.
+//! A part of one dimension: where it begins and how many elements it has. The count is exact and may be
+//! negative: the bounds are tested last.
 ghost use Rattle.std.specs.Prelude.{◌≡◌, ◌+ℤ◌, ◌-ℤ◌, pos, false};
 ghost use Rattle.oss_grammar.specs.SectionCells.{all_columns, is_empty, is_negative_size, last_of, or_zero, signed, stretch_of};
 ghost use Rattle.oss_sections.specs.Evaluated.{meant_part};
@@ -100,8 +101,8 @@ impl Stretch {
         self.size <= 0
     }
 
-    /// The stretch in a dimension of `count` elements; `None` where it has an element that is none of these. Condition: it has no
-    /// negative length.
+    /// The stretch in a dimension of `count` elements; `None` where it has an element that is none of these.
+    /// Condition: it has no negative length.
     pub(crate) fn within(&self, count: u32) -> Option<Inside>
         requires { is_negative_size (meant_stretch self.now) ≡ false }
         ensures { IsWithin count (meant_stretch self.now) result }

@@ -6,8 +6,8 @@ ghost use Rattle.oss_body.specs.Acts.{act_seen, goes_on};
 
 use oss_body::Act;
 
-/// Whether a part goes on over the act, after so many acts and ticks of it: it stops before a fault, before a tick more than the quota, and
-/// before a wait that is not its first act.
+/// Whether a part goes on over the act, after so many acts and ticks of it: it stops before a fault, before a
+/// tick more than the quota, and before a wait that is not its first act.
 pub(crate) fn may_go(act: &Act, count: u64, ticks: u32, quota: u32) -> bool
     ensures stops { stops_before (act_seen act.now) count ticks quota ≡ not result }
     ensures goes { result ≡ true → goes_on act.now ≡ true }

@@ -12,7 +12,8 @@ use oss_ranges::RangeMap;
 use oss_syntax::Range;
 use std::alloc::AllocError;
 
-/// The number that a part finds in a cell: what it has put there itself, or else that of the memory; past the last cell it is 0.
+/// The number that a part finds in a cell: what it has put there itself, or else that of the memory; past the
+/// last cell it is 0.
 fn read(writes: &RangeMap<u64>, memory: &[u64], cell: u32) -> u64
     ensures { (cells : Items ℕ) → Shows memory.now writes.now.pieces cells → result ≡ slice_index cells cell }
 {
@@ -25,8 +26,8 @@ fn read(writes: &RangeMap<u64>, memory: &[u64], cell: u32) -> u64
     }
 }
 
-/// Puts a number into a cell; past the last cell nothing happens. After want of memory the writes are as they were. Condition: the memory has
-/// at most 1,048,576 cells.
+/// Puts a number into a cell; past the last cell nothing happens. After want of memory the writes are as they
+/// were. Condition: the memory has at most 1,048,576 cells.
 fn write(
     writes: &mut RangeMap<u64>,
     memory: &[u64],
@@ -34,7 +35,8 @@ fn write(
     value: u64,
 ) -> Result<(), AllocError>
     requires { length memory.now ≤ 1048576 }
-    ensures { OnOk result ((c : ℕ) → c < length memory.now → value_at writes.new.pieces c ≡ (if cell == c then Some value else value_at writes.old.pieces c)) }
+    ensures { OnOk result ((c : ℕ) → c < length memory.now →
+        value_at writes.new.pieces c ≡ (if cell == c then Some value else value_at writes.old.pieces c)) }
 {
     if (cell as usize) < memory.len() {
         return writes.assign(
@@ -48,16 +50,18 @@ fn write(
     Ok(())
 }
 
-/// The act happens. The answer is the number that a load finds, and else 0. A fold into a slot changes no cell. Condition: the memory has at
-/// most 1,048,576 cells.
+/// The act happens. The answer is the number that a load finds, and else 0. A fold into a slot changes no cell.
+/// Condition: the memory has at most 1,048,576 cells.
 pub(crate) fn happen(
     writes: &mut RangeMap<u64>,
     memory: &[u64],
     act: &Act,
 ) -> Result<u64, AllocError>
     requires { length memory.now ≤ 1048576 }
-    ensures writes { OnOk result ((cells : Items ℕ) → Shows memory.now writes.old.pieces cells → Leaves (act_seen act.now) cells writes.old.pieces writes.new.pieces) }
-    ensures found { IfOk result (λ found. (cells : Items ℕ) → Shows memory.now writes.old.pieces cells → found ≡ found_by (act_seen act.now) cells) }
+    ensures writes { OnOk result ((cells : Items ℕ) → Shows memory.now writes.old.pieces cells →
+        Leaves (act_seen act.now) cells writes.old.pieces writes.new.pieces) }
+    ensures found { IfOk result (λ found. (cells : Items ℕ) → Shows memory.now writes.old.pieces cells →
+        found ≡ found_by (act_seen act.now) cells) }
 {
     match act {
         Act::Load(cell) => Ok(read(writes, memory, *cell)),

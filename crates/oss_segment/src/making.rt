@@ -32,14 +32,16 @@ fn creates(act: &Act) -> bool
     }
 }
 
-/// Adds the body of the task that the pending act creates, if it creates one that is not included. Condition: the body has not ended.
+/// Adds the body of the task that the pending act creates, if it creates one that is not included. Condition:
+/// the body has not ended.
 pub(crate) fn add_child(
     body: &Body,
     code: &Code,
     children: &mut Vec<Body>,
 ) -> Result<(), AllocError>
     requires { is_over body.now ≡ false }
-    ensures { OnOk result (AddsWhen (creates_task (pending_of body.now)) code.now body.now children.old.items children.new.items) }
+    ensures { OnOk result (AddsWhen (creates_task (pending_of body.now)) code.now body.now children.old.items
+        children.new.items) }
 {
     if !creates(body.pending()) {
         return Ok(());

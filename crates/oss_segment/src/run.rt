@@ -12,9 +12,10 @@ use oss_code::Code;
 use oss_ranges::RangeMap;
 use std::alloc::{AllocError, Global};
 
-/// The part of a task: the acts of its body, one after the other, over this memory and what they have changed of it themselves. It stops where
-/// the body has ended, before a fault, before a tick more than the quota, and before an act that waits and is not the first. Want of memory is
-/// the one error, and then the body is given up. Conditions: the body is one, after some answers, of a task of this code; the memory has at most
+/// The part of a task: the acts of its body, one after the other, over this memory and what they have changed
+/// of it themselves. It stops where the body has ended, before a fault, before a tick more than the quota, and
+/// before an act that waits and is not the first. Want of memory is the one error, and then the body is given
+/// up. Conditions: the body is one, after some answers, of a task of this code; the memory has at most
 /// 1,048,576 cells.
 pub fn segment_of(
     alloc: Global,
@@ -25,7 +26,8 @@ pub fn segment_of(
 ) -> Result<Segment, AllocError>
     requires known { IsKnown code.now body }
     requires room { length memory.now ≤ 1048576 }
-    ensures { IfOk result (λ segment. (start : Start CodeScript) (found : Items ℕ) → IsBody code.now start found body → IsSegment code.now start found memory.now quota body segment) }
+    ensures { IfOk result (λ segment. (start : Start CodeScript) (found : Items ℕ) →
+        IsBody code.now start found body → IsSegment code.now start found memory.now quota body segment) }
 {
     let mut segment = Segment {
         body,

@@ -22,7 +22,8 @@ pub struct Segment {
     pub body: Body,
     /// The cells that the acts changed, with their values.
     pub writes: RangeMap<u64>,
-    /// The bodies, at their start, of the tasks that the acts created, in order. Those that are included are none of them.
+    /// The bodies, at their start, of the tasks that the acts created, in order. Those that are included are
+    /// none of them.
     pub children: Vec<Body>,
     /// What the acts printed, in order, each print with its key.
     pub prints: Vec<Print>,
@@ -35,8 +36,8 @@ impl Segment {
     ghost use Rattle.oss_body.specs.Left.{body_left};
     ghost use Rattle.oss_segment.specs.Segments.{HasCome, HasStepped};
 
-    /// One more act, unless the part stops before it. Says whether there was one. After want of memory the part is given up. Condition: the
-    /// memory has at most 1,048,576 cells.
+    /// One more act, unless the part stops before it. Says whether there was one. After want of memory the part
+    /// is given up. Condition: the memory has at most 1,048,576 cells.
     pub(crate) fn step(
         &mut self,
         alloc: Global,
@@ -45,8 +46,12 @@ impl Segment {
         quota: u32,
     ) -> Result<bool, AllocError>
         requires { length memory.now ≤ 1048576 }
-        ensures part { IfOk result (λ went. (start : Start CodeScript) (found : Items ℕ) (first : Kept) (acts : ℕ) → HasCome code.now start found memory.now quota first acts self.old → HasStepped went code.now start found memory.now quota first acts self.new) }
-        ensures less { IfOk result (λ went. (start : Start CodeScript) (found : Items ℕ) → IsBody code.now start found self.old.body → went ≡ true → body_left code.now self.new.body < body_left code.now self.old.body) }
+        ensures part { IfOk result (λ went. (start : Start CodeScript) (found : Items ℕ) (first : Kept)
+            (acts : ℕ) → HasCome code.now start found memory.now quota first acts self.old →
+            HasStepped went code.now start found memory.now quota first acts self.new) }
+        ensures less { IfOk result (λ went. (start : Start CodeScript) (found : Items ℕ) →
+            IsBody code.now start found self.old.body → went ≡ true →
+            body_left code.now self.new.body < body_left code.now self.old.body) }
     {
         if self.body.ended() {
             return Ok(false);

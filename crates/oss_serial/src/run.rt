@@ -22,9 +22,9 @@ pub struct Ran {
     pub tasks: u64,
 }
 
-/// Runs a code on one thread: a task runs where it is created, and its creator goes on behind its end (OmpSs-2, execution model). Each
-/// task has fuel for so many ticks. The answer and the number of tasks are those of the definition; want of memory is the one other answer.
-/// Condition: the code has at most 1,048,576 cells.
+/// Runs a code on one thread: a task runs where it is created, and its creator goes on behind its end (OmpSs-2,
+/// execution model). Each task has fuel for so many ticks. The answer and the number of tasks are those of the
+/// definition; want of memory is the one other answer. Condition: the code has at most 1,048,576 cells.
 pub fn serial(alloc: Global, code: &Code, fuel: u32) -> Result<Ran, AllocError>
     requires { length code.now.first ≤ 1048576 }
     ensures { IfOk result (λ ran. IsRan code.now fuel ran) }
@@ -39,7 +39,8 @@ pub fn serial(alloc: Global, code: &Code, fuel: u32) -> Result<Ran, AllocError>
     }
 }
 
-/// The run at its beginning, each task with fuel for so many ticks. Want of memory is the one error. Condition: the code has at most 1,048,576 cells.
+/// The run at its beginning, each task with fuel for so many ticks. Want of memory is the one error. Condition:
+/// the code has at most 1,048,576 cells.
 pub fn begin(alloc: Global, code: &Code, fuel: u32) -> Result<Stage, AllocError>
     requires { length code.now.first ≤ 1048576 }
     ensures stage { IfOk result (λ stage. IsFirstStage code.now (code_main code.now fuel) code.now.first stage) }

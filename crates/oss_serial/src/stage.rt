@@ -16,8 +16,8 @@ use oss_syntax::{Bytes, Cells, List};
 use std::alloc::AllocError;
 use std::mem;
 
-/// The body that runs, those above it, which wait for it, the oldest first, memory, output, and how many tasks there were. The count stays at
-/// its greatest value.
+/// The body that runs, those above it, which wait for it, the oldest first, memory, output, and how many tasks
+/// there were. The count stays at its greatest value.
 #[derive(Drop)]
 pub struct Stage {
     pub current: Body,
@@ -42,11 +42,12 @@ impl Stage {
     ghost use Rattle.oss_model.specs.declared.answer.Answer.TheVariants as answers;
     ghost use Rattle.oss_serial.specs.Stages.{IsDown, IsStage, IsTurned, IsUp};
 
-    /// One act of the body that runs. An end goes up to the creator, and a creation down to the new task. Condition: the body has not ended.
-    /// After want of memory the run is given up.
+    /// One act of the body that runs. An end goes up to the creator, and a creation down to the new task.
+    /// Condition: the body has not ended. After want of memory the run is given up.
     pub fn turn(&mut self, code: &Code) -> Result<Turned, AllocError>
         requires running { is_over self.old.current ≡ false }
-        ensures { IfOk result (λ turned. (main : Start CodeScript) (first : Items ℕ) → Setting main first → (was : IsStage code.now main first self.old) → IsTurned code.now main first self.old was self.new turned) }
+        ensures { IfOk result (λ turned. (main : Start CodeScript) (first : Items ℕ) → Setting main first →
+            (was : IsStage code.now main first self.old) → IsTurned code.now main first self.old was self.new turned) }
     {
         match happen(self.current.pending(), &mut self.cells, &mut self.output)? {
             Turn::Goes(loaded) => {
@@ -78,12 +79,14 @@ impl Stage {
         }
     }
 
-    /// The body goes down to the task that its next act creates, and waits for it. After want of memory the run is given up.
+    /// The body goes down to the task that its next act creates, and waits for it. After want of memory the run
+    /// is given up.
     fn go_down(&mut self, code: &Code) -> Result<(), AllocError>
         requires running { is_over self.old.current ≡ false }
         requires goes { goes_on (pending_of self.old.current) ≡ true }
         requires creates { creates (pending_of self.old.current) ≡ true }
-        ensures { OnOk result ((start : Start CodeScript) (found : Items ℕ) → IsBody code.now start found self.old.current → IsDown code.now start found self.old self.new) }
+        ensures { OnOk result ((start : Start CodeScript) (found : Items ℕ) →
+            IsBody code.now start found self.old.current → IsDown code.now start found self.old self.new) }
     {
         let child = self.current.child(code)?;
         self.current.advance(code, 0)?;

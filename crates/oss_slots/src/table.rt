@@ -11,8 +11,8 @@ use oss_syntax::{Op, Range};
 use std::alloc::{AllocError, Global};
 use std::marker::Model;
 
-/// The private slots of a task's reductions. Contracts see for each cell the slot that it has, if any: its operator, and its
-/// value.
+/// The private slots of a task's reductions. Contracts see for each cell the slot that it has, if any: its
+/// operator, and its value.
 pub struct Slots {
     /// Where the slot of each cell is.
     homes: RangeMap<Home>,
@@ -50,8 +50,8 @@ impl Slots {
         }
     }
 
-    /// Gives each cell of a range a slot for this operator, with its neutral value. A cell that had a slot gets a new one. It
-    /// costs the cells of the range. After want of memory the slots are as they were.
+    /// Gives each cell of a range a slot for this operator, with its neutral value. A cell that had a slot gets
+    /// a new one. It costs the cells of the range. After want of memory the slots are as they were.
     pub fn add(&mut self, range: Range, op: Op) -> Result<(), AllocError>
         ensures added { OnOk result (Adds range.lo range.hi op self.old self.new) }
         ensures refused { OnErr result (SameSlots self.new self.old) }
@@ -76,7 +76,8 @@ impl Slots {
         self.homes.get(cell).is_some()
     }
 
-    /// Folds a value into the slot of a cell, by the operator of the slot. Condition: the cell has a slot. It takes no memory.
+    /// Folds a value into the slot of a cell, by the operator of the slot. Condition: the cell has a slot. It
+    /// takes no memory.
     pub fn fold(&mut self, cell: u32, value: u64)
         requires { HasSlot self.old cell }
         ensures { Changes cell (folded value) self.old self.new }
@@ -86,8 +87,8 @@ impl Slots {
         self.values[place] = combined(home.op, self.values[place], value);
     }
 
-    /// The value of the slot of a cell: the fold of all values since the slot was added or last taken from. The slot is then as
-    /// it was when it was added. Condition: the cell has a slot. It takes no memory.
+    /// The value of the slot of a cell: the fold of all values since the slot was added or last taken from. The
+    /// slot is then as it was when it was added. Condition: the cell has a slot. It takes no memory.
     pub fn take(&mut self, cell: u32) -> u64
         requires { HasSlot self.old cell }
         ensures value { value_in self.old cell ≡ Some result }

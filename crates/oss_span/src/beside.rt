@@ -31,14 +31,16 @@ struct Longest {
     chain: List<Link>,
 }
 
-/// Runs a code sequentially, each task with fuel for so many ticks, and tells how parallel it can be at best (OmpSs-2, dependencies of tasks): how many
-/// ticks the run has, and a longest chain of its events. An event is an act of a task, or a cell that it gives up; in a chain each waits for the one
-/// before it, and none has more ticks. The answer is that of the sequential run; where a fault stops it, both numbers are 0, and the chain is empty.
-/// Want of memory is the one other answer, which is given too where a task would do more than 18,446,744,073,709,551,615 acts: those behind
-/// them are no events.
-/// An act takes a constant time, but for those that look at cells (the first act of a task, a creation, a wait on cells, a release, an end), which take
-/// the logarithm of the ranges that the task keeps, for each of these that they meet. What chains are made of is kept to the end: a constant for each
-/// of these acts, and for each range that is given up. Condition: the code has at most 1,048,576 cells.
+/// Runs a code sequentially, each task with fuel for so many ticks, and tells how parallel it can be at best
+/// (OmpSs-2, dependencies of tasks): how many ticks the run has, and a longest chain of its events. An event is
+/// an act of a task, or a cell that it gives up; in a chain each waits for the one before it, and none has more
+/// ticks. The answer is that of the sequential run; where a fault stops it, both numbers are 0, and the chain
+/// is empty. Want of memory is the one other answer, which is given too where a task would do more than
+/// 18,446,744,073,709,551,615 acts: those behind them are no events. An act takes a constant time, but for
+/// those that look at cells (the first act of a task, a creation, a wait on cells, a release, an end), which
+/// take the logarithm of the ranges that the task keeps, for each of these that they meet. What chains are made
+/// of is kept to the end: a constant for each of these acts, and for each range that is given up. Condition:
+/// the code has at most 1,048,576 cells.
 pub fn span(alloc: Global, code: &Code, fuel: u32) -> Result<SpanRun, AllocError>
     requires { length code.now.first ≤ 1048576 }
     ensures { IfOk result (λ run. IsSpanRun code.now fuel run) }

@@ -3,7 +3,8 @@
 ghost use Rattle.std.specs.Prelude.{◌≡◌};
 ghost use Rattle.oss_span.specs.Bests.{better, better_mark, no_best, no_mark};
 
-/// A longest chain: its ticks, and the node that is its end. Where the node is that of a cell that is given up, the cell is told beside it.
+/// A longest chain: its ticks, and the node that is its end. Where the node is that of a cell that is given up,
+/// the cell is told beside it.
 #[derive(Clone, Copy, PartialEq, Eq)]
 pub(crate) struct Mark {
     pub(crate) ticks: u64,

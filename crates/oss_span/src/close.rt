@@ -13,7 +13,8 @@ use oss_ranges::RangeMap;
 use oss_syntax::{Access, List, Range};
 use std::alloc::{AllocError, Global};
 
-/// What stands before the giving of a cell: its ticks, the node at its end, and the cell of that, or none where it is the same cell.
+/// What stands before the giving of a cell: its ticks, the node at its end, and the cell of that, or none where
+/// it is the same cell.
 #[derive(Clone, Copy)]
 pub(crate) struct Before {
     pub(crate) ticks: u64,
@@ -74,7 +75,8 @@ fn kept(wait: bool, last: Best, left: Best) -> Best
     if wait { last.or(left) } else { last }
 }
 
-/// Each cell of a task that has ended is given up, and its creator keeps that. It gives the longest chain to one of them.
+/// Each cell of a task that has ended is given up, and its creator keeps that. It gives the longest chain to
+/// one of them.
 fn close_cells(
     nodes: &mut List<Node>,
     creator: &mut RangeMap<Marks>,
@@ -82,7 +84,8 @@ fn close_cells(
     child: &RangeMap<Marks>,
     kept: Best,
 ) -> Result<Best, AllocError>
-    ensures cells { IfOk result (λ b. AreClosed (length nodes.old) nodes.new task kept child.now.pieces creator.old.pieces creator.new.pieces 1048576 b) }
+    ensures cells { IfOk result (λ b. AreClosed (length nodes.old) nodes.new task kept child.now.pieces
+        creator.old.pieces creator.new.pieces 1048576 b) }
     ensures grows { OnOk result (Grows nodes.old nodes.new) }
 {
     let mut lets = no_best();

@@ -16,8 +16,9 @@ use std::alloc::AllocError;
 /// All cells that a program may have.
 pub(crate) const CELLS: u32 = 1_048_576;
 
-/// What is kept of a task: its number, in the order of creations; whether it has the clause `wait`; the longest chain to its last act; those to what all
-/// ended tasks below it have left, and to what its newest child and those below that have left; and its cells.
+/// What is kept of a task: its number, in the order of creations; whether it has the clause `wait`; the longest
+/// chain to its last act; those to what all ended tasks below it have left, and to what its newest child and
+/// those below that have left; and its cells.
 pub(crate) struct Frame {
     pub(crate) task: usize,
     pub(crate) wait: bool,

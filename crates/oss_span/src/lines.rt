@@ -10,8 +10,9 @@ use oss_model::{Point, point_text};
 use oss_syntax::{Bytes, List};
 use std::alloc::{AllocError, Global};
 
-/// The text of a chain: a line for each link, the first one first. `acts POINT A N` are `N` acts of the task with this point that follow each other, the first
-/// of which is its act `A`, from 0; `let POINT C` is that the task gives up the cell `C`, and `join POINT C` that its private slot is joined to it. Each line ends with a
+/// The text of a chain: a line for each link, the first one first. `acts POINT A N` are `N` acts of the task
+/// with this point that follow each other, the first of which is its act `A`, from 0; `let POINT C` is that the
+/// task gives up the cell `C`, and `join POINT C` that its private slot is joined to it. Each line ends with a
 /// newline. Want of memory is the one error.
 pub fn chain_lines(alloc: Global, chain: &List<Link>) -> Result<Bytes, AllocError>
     ensures { IfOk result (λ text. text ≡ chain_text chain.now) }
@@ -51,7 +52,8 @@ fn write_acts(
     count: u64,
     text: &mut Vec<u8>,
 ) -> Result<(), AllocError>
-    ensures { OnOk result (text.new.items ≡ text.old.items ++ text_of point.now ++ 32 ∷ decimal first ++ 32 ∷ decimal count ++ 10 ∷ []) }
+    ensures { OnOk result (text.new.items ≡ text.old.items ++ text_of point.now ++ 32 ∷ decimal first ++ 32 ∷
+        decimal count ++ 10 ∷ []) }
 {
     write_point(alloc, point, text)?;
     write_number(alloc, first, text)?;

@@ -6,7 +6,8 @@ use oss_syntax::List;
 /// A link of a chain.
 #[derive(Drop)]
 pub enum Link {
-    /// Acts of the task with this point that follow each other: the number of the first, from 0, and how many they are, at least 1.
+    /// Acts of the task with this point that follow each other: the number of the first, from 0, and how many
+    /// they are, at least 1.
     Acts(Point, u64, u64),
     /// The task gives up a cell.
     Let(Point, u32),

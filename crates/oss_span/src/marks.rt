@@ -6,9 +6,10 @@ ghost use Rattle.oss_span.specs.Changes.{before_of, changed, is_fold_of, is_stro
 use crate::best::{Mark, no_mark};
 use oss_syntax::{Mode, Op};
 
-/// What is kept of a cell: how the task declares it; of what its ended children and those below them gave up of it the longest
-/// chains, of all, of those below no read, and of those before the run of one reduction that stands last; whether the task has released
-/// it, and the chain to that; and the longest chains of what stands in the way of a write, a read and a join by the task.
+/// What is kept of a cell: how the task declares it; of what its ended children and those below them gave up of
+/// it the longest chains, of all, of those below no read, and of those before the run of one reduction that
+/// stands last; whether the task has released it, and the chain to that; and the longest chains of what stands
+/// in the way of a write, a read and a join by the task.
 #[derive(Clone, Copy, PartialEq, Eq)]
 pub(crate) struct Marks {
     pub(crate) mode: Mode,
@@ -178,7 +179,8 @@ impl Marks {
         marks
     }
 
-    /// The longest chain that is asked for: that to what stands in the way of the first act only where the task itself reads or writes.
+    /// The longest chain that is asked for: that to what stands in the way of the first act only where the task
+    /// itself reads or writes.
     pub(crate) fn picked(self, way: Way) -> Mark
         ensures { result ≡ picked way self }
     {

@@ -11,7 +11,8 @@ pub(crate) enum Verb {
     Join,
 }
 
-/// A part of a chain: acts of a task, or a cell that it gives up. Tasks are told by their numbers, in the order of their creations.
+/// A part of a chain: acts of a task, or a cell that it gives up. Tasks are told by their numbers, in the order
+/// of their creations.
 #[derive(Clone, Copy)]
 pub(crate) enum Node {
     /// So many acts that follow each other, up to the one before `end`, behind the chain that ends here.
@@ -21,7 +22,8 @@ pub(crate) enum Node {
         count: u64,
         before: Best,
     },
-    /// A cell, behind the chain that ends at this node. Where the node is that of a cell too, it is this one, or the same cell.
+    /// A cell, behind the chain that ends at this node. Where the node is that of a cell too, it is this one,
+    /// or the same cell.
     Gives {
         task: usize,
         verb: Verb,

@@ -20,8 +20,8 @@ use oss_syntax::List;
 use std::alloc::{AllocError, Global};
 use std::mem;
 
-/// The nodes of all chains that are kept, the points of the tasks in the order of their creations, what is kept of the task that runs and of those above
-/// it, the oldest first, and the ticks so far.
+/// The nodes of all chains that are kept, the points of the tasks in the order of their creations, what is kept
+/// of the task that runs and of those above it, the oldest first, and the ticks so far.
 pub(crate) struct Pass {
     pub(crate) alloc: Global,
     pub(crate) nodes: List<Node>,

@@ -8,8 +8,9 @@ use crate::node::Node;
 use oss_syntax::List;
 use std::alloc::AllocError;
 
-/// A longest chain to the last act of a task, or, where it has done none, to its creation: how many acts the task has done, its ticks, how many acts at
-/// its end are the last ones of the task, and the chain before these.
+/// A longest chain to the last act of a task, or, where it has done none, to its creation: how many acts the
+/// task has done, its ticks, how many acts at its end are the last ones of the task, and the chain before
+/// these.
 #[derive(Clone, Copy)]
 pub(crate) struct Run {
     pub(crate) acts: u64,
@@ -19,8 +20,9 @@ pub(crate) struct Run {
 }
 
 impl Run {
-    /// The chain to the next act, which is a tick or none: behind the last one, or behind another event that it waits for and to which a longer
-    /// chain leads. `None` where the task has done 18,446,744,073,709,551,615 acts.
+    /// The chain to the next act, which is a tick or none: behind the last one, or behind another event that it
+    /// waits for and to which a longer chain leads. `None` where the task has done 18,446,744,073,709,551,615
+    /// acts.
     pub(crate) fn after(self, other: Best, is_tick: bool) -> Option<Run>
         ensures run { IfSome result (λ run. run ≡ after_act other is_tick self) }
         ensures counted { IfSome result (λ run. self.acts < 2 ^ 64 - 1) }

@@ -56,7 +56,8 @@ pub(crate) fn open_table(
     creator: &RangeMap<Marks>,
     accesses: &[Access],
 ) -> Result<RangeMap<Marks>, AllocError>
-    ensures { IfOk result (λ table. (c : ℕ) → value_at table.pieces c ≡ painted (value_at creator.now.pieces c) accesses.now c None) }
+    ensures { IfOk result (λ table. (c : ℕ) → value_at table.pieces c ≡ painted (value_at creator.now.pieces c)
+        accesses.now c None) }
 {
     let mut table = RangeMap::new(alloc);
     for access in accesses {
@@ -71,7 +72,8 @@ pub(crate) fn release_all(
     clauses: &[Access],
     mark: Mark,
 ) -> Result<(), AllocError>
-    ensures { OnOk result ((c : ℕ) → value_at table.new.pieces c ≡ released mark clauses.now c (value_at table.old.pieces c)) }
+    ensures { OnOk result ((c : ℕ) → value_at table.new.pieces c ≡ released mark clauses.now c
+        (value_at table.old.pieces c)) }
 {
     for access in clauses {
         change_all(table, access.range, Change::Release(mark))?;

@@ -14,11 +14,14 @@ use oss_span::Link;
 use oss_syntax::List;
 use std::alloc::{AllocError, Global};
 
-/// Whether links are a chain of a code's sequential run, each task with fuel for so many ticks, and have so many ticks. The answer is exact: true where
-/// the run comes to its end, the links stand for events of it that each wait for the one before, and so many of these are ticks, a number that stays at
-/// its greatest value; false else, also where a fault stops the run, or a link of acts has none, or one behind the first 18,446,744,073,709,551,615 of its
-/// task, which is no event. No links are a chain without ticks. Want of memory is the one other answer. The run is made once and noted, which takes memory
-/// for each tick, wait, release and end, and for each task; then each link is looked up in the notes. Condition: the code has at most 1,048,576 cells.
+/// Whether links are a chain of a code's sequential run, each task with fuel for so many ticks, and have so
+/// many ticks. The answer is exact: true where the run comes to its end, the links stand for events of it that
+/// each wait for the one before, and so many of these are ticks, a number that stays at its greatest value;
+/// false else, also where a fault stops the run, or a link of acts has none, or one behind the first
+/// 18,446,744,073,709,551,615 of its task, which is no event. No links are a chain without ticks. Want of
+/// memory is the one other answer. The run is made once and noted, which takes memory for each tick, wait,
+/// release and end, and for each task; then each link is looked up in the notes. Condition: the code has at
+/// most 1,048,576 cells.
 pub fn check_chain(
     alloc: Global,
     code: &Code,

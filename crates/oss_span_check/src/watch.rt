@@ -146,8 +146,8 @@ impl Watch {
         Ok(())
     }
 
-    /// The act is done; there were so many tasks above the one that ran, and are so many above the one with this body, which runs now. After want of
-    /// memory the run is given up.
+    /// The act is done; there were so many tasks above the one that ran, and are so many above the one with
+    /// this body, which runs now. After want of memory the run is given up.
     pub(crate) fn follow(&mut self, depth: usize, now: usize, body: &Body) -> Result<(), AllocError>
         ensures { OnOk result (IsFollowed depth now body.now self.old self.new) }
     {

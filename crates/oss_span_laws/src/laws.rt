@@ -1,4 +1,5 @@
-//! What holds of every longest chain: a law, carried by a function that does nothing. A crate above calls the function, and then has the law.
+//! What holds of every longest chain: a law, carried by a function that does nothing. A crate above calls the
+//! function, and then has the law.
 
 ghost use Rattle.oss_span_laws.specs.Claims.{SpansAgree, SpansAlike};
 

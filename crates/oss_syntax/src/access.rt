@@ -33,7 +33,7 @@ pub struct Access {
     pub range: Range,
     pub mode: Mode,
     pub strong: bool,
-    /// The cells were named by `out` or `weakout` alone, so the task writes each of them before it reads it. The order of tasks
-    /// asks nothing of it.
+    /// The cells were named by `out` or `weakout` alone, so the task writes each of them before it reads it.
+    /// The order of tasks asks nothing of it.
     pub fresh: bool,
 }

@@ -4,7 +4,8 @@ ghost use Rattle.std.specs.Prelude.{◌≡◌, IfOk};
 use std::alloc::{AllocError, Global};
 use std::marker::Model;
 
-/// A `Box` that contracts see as the value in it, so that two trees are equal where they mean the same, wherever they lie.
+/// A `Box` that contracts see as the value in it, so that two trees are equal where they mean the same,
+/// wherever they lie.
 #[derive(Drop)]
 pub struct Boxed<T> {
     place: Box<T>,

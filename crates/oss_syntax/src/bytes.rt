@@ -1,4 +1,5 @@
-//! Vectors of numbers that contracts see as lists, whatever room they have: bytes of a text, names, and the cells of a program.
+//! Vectors of numbers that contracts see as lists, whatever room they have: bytes of a text, names, and the
+//! cells of a program.
 ghost use Rattle.std.specs.Prelude.{◌≡◌, [], ◌∷◌, ◌++◌, ◌<◌, ◌↔◌, length, slice_get, slice_set, IsTrue, IfOk, OnOk, OnErr, OnSome, MatchOption};
 ghost use Rattle.std.specs.Option.{option_copied};
 

@@ -1,4 +1,5 @@
-//! Tokens (C11 6.4). A line `#pragma oss` has one more for its beginning and one for its end, so that the grammar sees where it ends.
+//! Tokens (C11 6.4). A line `#pragma oss` has one more for its beginning and one for its end, so that the
+//! grammar sees where it ends.
 
 use crate::{Bytes, Name};
 
@@ -7,8 +8,8 @@ use crate::{Bytes, Name};
 pub enum TokenKind {
     /// An identifier that is no keyword (C11 6.4.2).
     Name(Name),
-    /// A word of the language, also one that is left out of this subset: those of C (C11 6.4.1), and `printf`, which is a
-    /// keyword of this language and not of C.
+    /// A word of the language, also one that is left out of this subset: those of C (C11 6.4.1), and `printf`,
+    /// which is a keyword of this language and not of C.
     Keyword(Name),
     /// The value of an integer constant, and whether it is unsigned (C11 6.4.4.1).
     Number(u64, bool),

@@ -1,5 +1,5 @@
-//! The tree of a program. Each `line` is that of the first token of the thing, or of the name that a declaration gives, counted
-//! from 1.
+//! The tree of a program. Each `line` is that of the first token of the thing, or of the name that a
+//! declaration gives, counted from 1.
 
 mod expr;
 mod pragma;

@@ -15,8 +15,9 @@ pub(crate) struct Group<J: Drop> {
     pub(crate) jobs: Vec<J>,
 }
 
-/// The jobs in at most so many groups of neighbours, whose workers are counted from 0. Each group but the last has as many jobs as there are for
-/// each worker, rounded up. Where there are no jobs, the one group is empty. Want of memory is the one error.
+/// The jobs in at most so many groups of neighbours, whose workers are counted from 0. Each group but the last
+/// has as many jobs as there are for each worker, rounded up. Where there are no jobs, the one group is empty.
+/// Want of memory is the one error.
 pub(crate) fn into_groups<J: Drop>(
     alloc: Global,
     jobs: Vec<J>,
@@ -27,7 +28,8 @@ pub(crate) fn into_groups<J: Drop>(
     ensures few { IfOk result (λ groups. length groups.items ≤ workers) }
     ensures numbered { IfOk result (λ groups. AreNumbered 0 groups.items) }
     ensures below { IfOk result (λ groups. AllByRecursion (λ group. group.worker < workers) groups.items) }
-    ensures even { IfOk result (λ groups. AllByRecursion (λ group. length group.jobs.items ≤ div_ceil (length jobs.items) workers) groups.items) }
+    ensures even { IfOk result (λ groups. AllByRecursion (λ group. length group.jobs.items ≤ div_ceil
+        (length jobs.items) workers) groups.items) }
 {
     let size = jobs.len().div_ceil(workers as usize);
     let mut groups = Vec::new(alloc);

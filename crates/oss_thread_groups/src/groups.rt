@@ -1,4 +1,5 @@
-//! Jobs in groups, each group on a thread of its own where one can be made. The answers come back in the order of the jobs.
+//! Jobs in groups, each group on a thread of its own where one can be made. The answers come back in the order
+//! of the jobs.
 
 ghost use Rattle.std.specs.Prelude.{◌≡◌, ℕ, ◌<◌, length, slice_index_or, IfOk};
 ghost use Rattle.oss_thread_groups.specs.Groups.{AreGiven, IsJoined};
@@ -9,9 +10,11 @@ use std::alloc::{AllocError, Global};
 use std::thread;
 use std::thread::Threads;
 
-/// Does all jobs, by at most so many workers, 1 or more, each with neighbouring jobs. A worker has a thread of its own where one can be made, and else its jobs are
-/// done one after the other with those of others. The answers stand in the order of their jobs, and are the same for each number of workers as far as `gives`
-/// settles them. Want of memory is the one error; some jobs are then done and others not, and all answers are given up.
+/// Does all jobs, by at most so many workers, 1 or more, each with neighbouring jobs. A worker has a thread of
+/// its own where one can be made, and else its jobs are done one after the other with those of others. The
+/// answers stand in the order of their jobs, and are the same for each number of workers as far as `gives`
+/// settles them. Want of memory is the one error; some jobs are then done and others not, and all answers are
+/// given up.
 pub fn in_groups<R: Threads + Sync, J: Send + Drop, X: Send + Drop, W: Work<J, X> + Sync>(
     rt: &R,
     alloc: Global,
@@ -27,7 +30,8 @@ pub fn in_groups<R: Threads + Sync, J: Send + Drop, X: Send + Drop, W: Work<J, X
     joined(alloc, parts)
 }
 
-/// Does the jobs of each group, each group on a thread of its own where one can be made. Want of memory inside of a group is the error of that group.
+/// Does the jobs of each group, each group on a thread of its own where one can be made. Want of memory inside
+/// of a group is the error of that group.
 fn run_groups<R: Threads + Sync, J: Send + Drop, X: Send + Drop, W: Work<J, X> + Sync>(
     rt: &R,
     alloc: Global,

@@ -3,26 +3,29 @@
 ghost use Rattle.oss_top.specs.EveryOrder.{IsRunInEveryOrder};
 ghost use Rattle.oss_top.specs.OneReply.{IsReplied, IsRepliedOnce, IsSpanned};
 
-/// A law, with nothing to run: a text has one reply to a check, to a run, to a trace, to an audit and, as the text that a soak makes, to a soak, and no other. So status, output and error
-/// output of each of these are settled by the text.
+/// A law, with nothing to run: a text has one reply to a check, to a run, to a trace, to an audit and, as the
+/// text that a soak makes, to a soak, and no other. So status, output and error output of each of these are
+/// settled by the text.
 pub fn a_text_has_one_reply(text: &[u8])
     ensures { IsReplied text.now }
 {}
 
-/// A law, with nothing to run: a text has a reply to a span, and two have one status, one error output and the same numbers of ticks. Which longest chain is told is free.
+/// A law, with nothing to run: a text has a reply to a span, and two have one status, one error output and the
+/// same numbers of ticks. Which longest chain is told is free.
 pub(crate) fn a_text_has_a_span(text: &[u8])
     ensures { IsSpanned text.now }
 {}
 
-/// A law, with nothing to run: the texts of a program and of a schedule have one reply to a replay, and no other. So status, output and error output of a replay
-/// are settled by the texts and the fuel.
+/// A law, with nothing to run: the texts of a program and of a schedule have one reply to a replay, and no
+/// other. So status, output and error output of a replay are settled by the texts and the fuel.
 pub fn a_replay_has_one_reply(text: &[u8], schedule: &[u8])
     ensures { IsRepliedOnce text.now schedule.now }
 {}
 
-/// A law, with nothing to run: in whatever order the tasks of an accepted text run, as far as the moves of the machine of tasks allow
-/// it, the answer is that of the reply to its run. Moves lead from the beginning of its program to a state in which no move is
-/// left; such a state has an answer, and status, output and error output of a run are those of this answer.
+/// A law, with nothing to run: in whatever order the tasks of an accepted text run, as far as the moves of the
+/// machine of tasks allow it, the answer is that of the reply to its run. Moves lead from the beginning of its
+/// program to a state in which no move is left; such a state has an answer, and status, output and error output
+/// of a run are those of this answer.
 pub fn every_order_gives_the_reply(text: &[u8])
     ensures { IsRunInEveryOrder text.now }
 {}

@@ -1,4 +1,5 @@
-//! The top call: it reads words and files, checks, runs and traces programs, replays schedules, tells how parallel programs can be, audits them, runs generated ones, and tells what comes of it.
+//! The top call: it reads words and files, checks, runs and traces programs, replays schedules, tells how
+//! parallel programs can be, audits them, runs generated ones, and tells what comes of it.
 #![tactic(auto)]
 
 mod audit;

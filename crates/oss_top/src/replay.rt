@@ -33,7 +33,8 @@ pub(crate) fn reply_to_replay<S: Shelf>(
     shelf: &mut S,
 ) -> Result<Reply, AllocError>
     requires { length text.now ≤ 1048576 }
-    ensures { IfOk result (λ reply. IsScheduleRead asked.entry.schedule.now asked.entry.fuel text.now (shelf_span S.held S.faults S.last shelf.old shelf.new) reply) }
+    ensures { IfOk result (λ reply. IsScheduleRead asked.entry.schedule.now asked.entry.fuel text.now
+        (shelf_span S.held S.faults S.last shelf.old shelf.new) reply) }
 {
     let mut schedule = Vec::new(alloc);
     match shelf.read(asked.schedule, MOST_BYTES, &mut schedule) {

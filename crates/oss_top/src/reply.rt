@@ -82,7 +82,8 @@ pub(crate) fn reply_to<R: Threads + Sync, S: Shelf, G: Gate>(
     shelf: &mut S,
     gate: &G,
 ) -> Result<Reply, AllocError>
-    ensures { IfOk result (λ reply. IsReply (map string_bytes words.now) (shelf_span S.held S.faults S.last shelf.old shelf.new) reply) }
+    ensures { IfOk result (λ reply. IsReply (map string_bytes words.now)
+        (shelf_span S.held S.faults S.last shelf.old shelf.new) reply) }
 {
     match read_words(words) {
         Ok(command) => reply_to_command(rt, alloc, command, shelf, gate),
@@ -102,7 +103,8 @@ fn reply_to_command<R: Threads + Sync, S: Shelf, G: Gate>(
     gate: &G,
 ) -> Result<Reply, AllocError>
     requires { HasWorkers (meant command) }
-    ensures { IfOk result (λ reply. IsShelfReply (meant command.entry) (shelf_span S.held S.faults S.last shelf.old shelf.new) reply) }
+    ensures { IfOk result (λ reply. IsShelfReply (meant command.entry)
+        (shelf_span S.held S.faults S.last shelf.old shelf.new) reply) }
 {
     match command.file() {
         Some(file) => reply_to_file(rt, alloc, command, file, shelf, gate),
@@ -121,7 +123,8 @@ fn reply_to_file<R: Threads + Sync, S: Shelf, G: Gate>(
 ) -> Result<Reply, AllocError>
     requires workers { HasWorkers (meant command) }
     requires named { file_of (meant command) ≡ Some file.now }
-    ensures { IfOk result (λ reply. IsShelfReply (meant command.entry) (shelf_span S.held S.faults S.last shelf.old shelf.new) reply) }
+    ensures { IfOk result (λ reply. IsShelfReply (meant command.entry)
+        (shelf_span S.held S.faults S.last shelf.old shelf.new) reply) }
 {
     let mut text = Vec::new(alloc);
     match shelf.read(file, MOST_BYTES, &mut text) {
@@ -146,7 +149,8 @@ fn reply_to_read<R: Threads + Sync, S: Shelf, G: Gate>(
 ) -> Result<Reply, AllocError>
     requires workers { HasWorkers (meant command) }
     requires few { length text.now ≤ 1048576 }
-    ensures { IfOk result (λ reply. IsReadReply (meant command.entry) text.now (shelf_span S.held S.faults S.last shelf.old shelf.new) reply) }
+    ensures { IfOk result (λ reply. IsReadReply (meant command.entry) text.now
+        (shelf_span S.held S.faults S.last shelf.old shelf.new) reply) }
 {
     match command {
         Command::Replay(asked) => reply_to_replay(alloc, asked, text, shelf),
@@ -167,7 +171,8 @@ fn reply_to_soak<R: Threads + Sync, G: Gate>(
     gate: &G,
 ) -> Result<Reply, AllocError>
     requires { 0 < asked.options.workers }
-    ensures { IfOk result (λ reply. IsFileReply (soak asked.number asked.size asked.options) (generated_text asked.number asked.size) reply) }
+    ensures { IfOk result (λ reply. IsFileReply (soak asked.number asked.size asked.options)
+        (generated_text asked.number asked.size) reply) }
 {
     let text = generated(alloc, asked.number, asked.size)?;
     if text.as_slice().len() > MOST_BYTES {
@@ -227,7 +232,8 @@ fn accepted(alloc: Global) -> Result<Reply, AllocError>
 
 /// The reply to a text that is no program.
 pub(crate) fn reply_to_refusal(alloc: Global, refusal: Refusal) -> Result<Reply, AllocError>
-    ensures { IfOk result (λ reply. (r : Refused) × (refusal ≡ Refusal.Refused r) × (reply ≡ error_reply Status.TextRefused (line_of_refusal r.kind r.line))) }
+    ensures { IfOk result (λ reply. (r : Refused) × (refusal ≡ Refusal.Refused r) ×
+        (reply ≡ error_reply Status.TextRefused (line_of_refusal r.kind r.line))) }
 {
     match refusal {
         Refusal::Refused(refused) => {

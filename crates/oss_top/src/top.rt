@@ -18,14 +18,17 @@ pub struct Sinks<O, E> {
     pub err: E,
 }
 
-/// Reads the words behind the program's name, reads the files that they name from the shelf, does what the command asks for, and writes
-/// the texts, the output first: it checks a program, runs it, traces its waves, replays a schedule, or runs a program that it has generated. The result is the number of a
-/// `Status`. A run by waves has its workers from `rt`, and each task passes the gate before its first step.
+/// Reads the words behind the program's name, reads the files that they name from the shelf, does what the
+/// command asks for, and writes the texts, the output first: it checks a program, runs it, traces its waves,
+/// replays a schedule, or runs a program that it has generated. The result is the number of a `Status`. A run
+/// by waves has its workers from `rt`, and each task passes the gate before its first step.
 ///
-/// It is 0 where the command is done: a check that accepts the file, a program that ran to its end. It is 1 where the
-/// program ran into a fault, 2 where the words are refused, 3 where a file is too long, the text of the program is refused or the schedule has a wrong line, 4 where the
-/// shelf failed, 5 where a sink failed, 6 for want of memory, and 7 where a move of a schedule is not enabled, or one is left behind all of them: `IsOutcome` says of each what stands on the
-/// sinks, and when it comes. Where nothing failed, it is that of the files' one reply, or 6: `IsComplete`.
+/// It is 0 where the command is done: a check that accepts the file, a program that ran to its end. It is 1
+/// where the program ran into a fault, 2 where the words are refused, 3 where a file is too long, the text of
+/// the program is refused or the schedule has a wrong line, 4 where the shelf failed, 5 where a sink failed, 6
+/// for want of memory, and 7 where a move of a schedule is not enabled, or one is left behind all of them:
+/// `IsOutcome` says of each what stands on the sinks, and when it comes. Where nothing failed, it is that of
+/// the files' one reply, or 6: `IsComplete`.
 pub fn nest6<R: Threads + Sync, S: Shelf, O: Sink, E: Sink, G: Gate>(
     rt: &R,
     alloc: Global,

@@ -1,5 +1,5 @@
-//! What a tree tells of a state of the machine whose tasks and prints it keeps: laws, each carried by a function that does nothing.
-//! A crate above calls the function for its type of scripts, and then has the law.
+//! What a tree tells of a state of the machine whose tasks and prints it keeps: laws, each carried by a
+//! function that does nothing. A crate above calls the function for its type of scripts, and then has the law.
 
 ghost use Rattle.oss_tree.specs.Runs.{CompleteIsComplete, CompleteIsFinished, LeastIsLeast, OutputBeforeIsOutput, OutputIsOutput};
 

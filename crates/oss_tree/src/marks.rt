@@ -1,5 +1,5 @@
-//! How far the children of each task are complete: a mark behind the first of them that are. A task is complete where it has
-//! ended, has given up all its cells, and its mark stands behind all its children.
+//! How far the children of each task are complete: a mark behind the first of them that are. A task is complete
+//! where it has ended, has given up all its cells, and its mark stands behind all its children.
 ghost use Rattle.std.specs.Prelude.{◌≡◌, ◌<◌, ◌-◌, length, slice_get, Some, None, false};
 ghost use Rattle.oss_tree.specs.Marks.{Alone, AreMarked, AreMarkedBut, Below, Nobody, is_settled as has_settled};
 ghost use Rattle.oss_tree.specs.Tasks.{IsTree, number};

@@ -8,7 +8,8 @@ use oss_model::TaskNo;
 /// The task that has this point; `None` exactly where none has.
 pub(crate) fn find(tasks: &[Task], point: &[u16]) -> Option<TaskNo>
     requires { IsTree tasks.now }
-    ensures { MatchOption result ((t : ℕ) → HasPoint tasks.now t point.now → ⊥) (λ task. HasPoint tasks.now task.0 point.now) }
+    ensures { MatchOption result ((t : ℕ) → HasPoint tasks.now t point.now →
+        ⊥) (λ task. HasPoint tasks.now task.0 point.now) }
 {
     let (first, rest) = point.split_first()?;
     if *first != 0 {

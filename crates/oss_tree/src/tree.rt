@@ -13,8 +13,8 @@ use oss_syntax::{Bytes, List};
 use std::alloc::{AllocError, Global};
 use std::marker::Model;
 
-/// The tasks of a run by their numbers, and what they printed. Contracts see the tasks, each at the place of its number, and the
-/// prints in the order of time.
+/// The tasks of a run by their numbers, and what they printed. Contracts see the tasks, each at the place of
+/// its number, and the prints in the order of time.
 pub struct Tree {
     alloc: Global,
     /// By their numbers.
@@ -76,13 +76,16 @@ impl Tree {
         })
     }
 
-    /// Adds a task that this one creates, behind the others that it has created, with or without the clause `wait`: the answer is
-    /// its number, which is how many tasks there were. Condition: the creator has created fewer than 65,535 tasks, and is nested less than 64 deep.
-    /// After want of memory the tree is as it was.
+    /// Adds a task that this one creates, behind the others that it has created, with or without the clause
+    /// `wait`: the answer is its number, which is how many tasks there were. Condition: the creator has created
+    /// fewer than 65,535 tasks, and is nested less than 64 deep. After want of memory the tree is as it was.
     pub fn add(&mut self, parent: TaskNo, wait: bool) -> Result<TaskNo, AllocError>
         requires { MayCreate self.old.tasks parent.0 }
         ensures number { IfOk result (λ child. child ≡ number (length self.old.tasks)) }
-        ensures added { OnOk result (self.new ≡ record { tasks = grown self.old.tasks parent.0 wait; prints = self.old.prints }) }
+        ensures added { OnOk result (self.new ≡ record {
+          tasks = grown self.old.tasks parent.0 wait;
+          prints = self.old.prints;
+        }) }
         ensures refused { OnErr result (self.new ≡ self.old) }
     {
         let at = parent.0 as usize;
@@ -128,9 +131,11 @@ impl Tree {
         &self.tasks[task.0 as usize].point
     }
 
-    /// The task that has this point; `None` exactly where none has. It takes no memory, and costs what the point is long.
+    /// The task that has this point; `None` exactly where none has. It takes no memory, and costs what the
+    /// point is long.
     pub fn find(&self, point: &[u16]) -> Option<TaskNo>
-        ensures { MatchOption result ((t : ℕ) → HasPoint self.now.tasks t point.now → ⊥) (λ task. HasPoint self.now.tasks task.0 point.now) }
+        ensures { MatchOption result ((t : ℕ) → HasPoint self.now.tasks t point.now →
+            ⊥) (λ task. HasPoint self.now.tasks task.0 point.now) }
     {
         find(self.tasks.as_slice(), point)
     }
@@ -155,8 +160,8 @@ impl Tree {
         settle(self.tasks.as_slice(), self.marks.as_mut_slice(), at);
     }
 
-    /// Whether this task is complete: it has ended and given up all its cells, and each task that it created is complete.
-    /// Condition: it is one of the tree. It takes no memory, and costs the same for each tree.
+    /// Whether this task is complete: it has ended and given up all its cells, and each task that it created is
+    /// complete. Condition: it is one of the tree. It takes no memory, and costs the same for each tree.
     pub fn complete(&self, task: TaskNo) -> bool
         requires { task.0 < length self.now.tasks }
         ensures { IsTrue result ↔ IsComplete self.now.tasks task.0 }
@@ -168,19 +173,20 @@ impl Tree {
         )
     }
 
-    /// The first child of this task that is not complete; `None` exactly where each is. Condition: it is a task of the tree. It
-    /// takes no memory, and costs the same for each tree.
+    /// The first child of this task that is not complete; `None` exactly where each is. Condition: it is a task
+    /// of the tree. It takes no memory, and costs the same for each tree.
     pub fn unfinished_child(&self, task: TaskNo) -> Option<TaskNo>
         requires { task.0 < length self.now.tasks }
-        ensures { MatchOption result (AreChildrenComplete self.now.tasks task.0) (λ child. IsFirstUnfinished self.now.tasks task.0 child.0) }
+        ensures { MatchOption result (AreChildrenComplete self.now.tasks task.0) (λ child.
+            IsFirstUnfinished self.now.tasks task.0 child.0) }
     {
         let at = task.0 as usize;
         let mark = self.marks[at];
         self.tasks[at].children.get(mark).copied()
     }
 
-    /// The open task with the least key: each task with a key before its own has ended and given up all its cells. `None` exactly
-    /// where each task is complete. It takes no memory, and costs what tasks are nested.
+    /// The open task with the least key: each task with a key before its own has ended and given up all its
+    /// cells. `None` exactly where each task is complete. It takes no memory, and costs what tasks are nested.
     pub fn least_open(&self) -> Option<TaskNo>
         ensures { MatchOption result (AreComplete self.now.tasks) (λ task. IsLeastOpen self.now.tasks task.0) }
     {
@@ -194,16 +200,22 @@ impl Tree {
         Some(at)
     }
 
-    /// This text was printed at this point, behind all that was printed before. After want of memory the tree is as it was.
+    /// This text was printed at this point, behind all that was printed before. After want of memory the tree
+    /// is as it was.
     pub fn print(&mut self, at: Point, text: Bytes) -> Result<(), AllocError>
-        ensures printed { OnOk result (self.new ≡ record { tasks = self.old.tasks; prints = self.old.prints ++ record { at = at; text = text } ∷ [] }) }
+        ensures printed { OnOk result (self.new ≡ record {
+          tasks = self.old.tasks;
+          prints = self.old.prints ++
+              record { at = at; text = text } ∷ [];
+        }) }
         ensures refused { OnErr result (self.new ≡ self.old) }
     {
         self.prints.push(Print { at, text })?;
         Ok(())
     }
 
-    /// All that was printed, in point order; prints at one point stay in the order of time. Want of memory is the one error.
+    /// All that was printed, in point order; prints at one point stay in the order of time. Want of memory is
+    /// the one error.
     pub fn output(&self) -> Result<Bytes, AllocError>
         ensures { IfOk result (λ text. IsOutput self.now.prints text) }
     {
@@ -226,7 +238,9 @@ fn push_child(
     task: Task,
 ) -> Result<(), AllocError>
     requires { creator < length tasks.old.items }
-    ensures added { OnOk result ((one : Meant) → slice_get tasks.old.items creator ≡ Some one → tasks.new.items ≡ slice_set tasks.old.items creator (record one { children = one.children ++ child ∷ [] }) ++ task ∷ []) }
+    ensures added { OnOk result ((one : Meant) → slice_get tasks.old.items creator ≡ Some one →
+        tasks.new.items ≡ slice_set tasks.old.items creator
+        (record one { children = one.children ++ child ∷ [] }) ++ task ∷ []) }
     ensures refused { OnErr result (tasks.new.items ≡ tasks.old.items) }
 {
     tasks.reserve(1)?;

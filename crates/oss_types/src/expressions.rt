@@ -84,7 +84,8 @@ pub fn call(
     as_statement: bool,
     values: &[Expr],
 ) -> Finding
-    ensures { result ≡ seen (call_findings globals.now locals.now name.now line as_statement (map (findings globals.now locals.now) values.now)) }
+    ensures { result ≡ seen (call_findings globals.now locals.now name.now line as_statement
+        (map (findings globals.now locals.now) values.now)) }
 {
     let named = globals.named(locals, name);
     let function = globals.function(name);
@@ -120,7 +121,8 @@ fn arguments(
     None
 }
 
-/// What the first of these parameters takes. An argument too many is allowed any value, since the count is refused at the name.
+/// What the first of these parameters takes. An argument too many is allowed any value, since the count is
+/// refused at the name.
 fn wanted_of_argument(params: &[Local]) -> Wanted
     ensures { result ≡ argument_wanted params.now }
 {
@@ -160,7 +162,8 @@ fn refusal_of_call(
     }
 }
 
-/// The first rule that a call of this function breaks at its name: `main` is not called, and a function with a pragma gives no value.
+/// The first rule that a call of this function breaks at its name: `main` is not called, and a function with a
+/// pragma gives no value.
 fn refusal_of_callee(
     function: &Function,
     line: u32,

@@ -1,5 +1,5 @@
-//! What is found of an expression. Of the rules that it breaks only the first in the text counts, and of those that one token breaks the
-//! first in the order of the rules.
+//! What is found of an expression. Of the rules that it breaks only the first in the text counts, and of those
+//! that one token breaks the first in the order of the rules.
 ghost use Rattle.std.specs.Prelude.{◌≡◌, Option};
 ghost use Rattle.oss_grammar.specs.Broken.{broken, first, rank, insert, where_so};
 ghost use Rattle.oss_grammar.specs.Kinds.{Findings, all_of, allows, number_kind, value_kind, same_number, refused_here, placed, wanted_by, number_findings};
@@ -9,8 +9,8 @@ ghost use Rattle.oss_types.specs.Seen.{seen, earlier as earlier_of};
 use oss_grammar::{Object, ValueKind, Wanted};
 use oss_syntax::{Kind, NumKind, Refused, RefusedKind};
 
-/// What the checker keeps of an expression: the line of its first token, the first rule that is broken at that token and
-/// the first one behind it, its kind, and what it designates.
+/// What the checker keeps of an expression: the line of its first token, the first rule that is broken at that
+/// token and the first one behind it, its kind, and what it designates.
 #[derive(Clone, Copy)]
 pub struct Finding {
     pub line: u32,

@@ -65,8 +65,8 @@ impl<'p> Visible<'p> {
     }
 }
 
-/// The locals in scope: contracts see their list, the last one declared at the end. Where they may be many they have a table
-/// of their names.
+/// The locals in scope: contracts see their list, the last one declared at the end. Where they may be many they
+/// have a table of their names.
 pub struct Locals<'p> {
     locals: Vec<Visible<'p>>,
     names: Option<NameTable<'p>>,
@@ -109,8 +109,8 @@ impl<'p> Locals<'p> {
         }
     }
 
-    /// The parameters of a function as they are in scope in its pragma, however many there are: of two of one name the first
-    /// counts. Want of memory is the one error.
+    /// The parameters of a function as they are in scope in its pragma, however many there are: of two of one
+    /// name the first counts. Want of memory is the one error.
     pub fn parameters(alloc: Global, params: &'p [Local]) -> Result<Locals<'p>, AllocError>
         ensures { IfOk result (λ locals. (all : List Item) → locals ≡ (declare_all all 0 params.now []).locals) }
     {

@@ -83,7 +83,8 @@ fn object_of_element(kind: ValueKind) -> Object
 /// `base[index]`
 #[tactic(auto, using(crate::proofs::Firsts::firsts))]
 pub(crate) fn index(line: u32, base: Finding, index: Finding) -> Finding
-    ensures { (a : Findings) → (e : Findings) → base ≡ seen a → index ≡ seen e → result ≡ seen (index_findings line a e) }
+    ensures { (a : Findings) → (e : Findings) → base ≡ seen a → index ≡ seen e →
+        result ≡ seen (index_findings line a e) }
 {
     let base = at_place(Wanted::Indexed, base);
     let index = at_place(Wanted::Number, index);
@@ -138,7 +139,8 @@ fn same_kind(line: u32, operand: Finding) -> Finding
 
 /// `*p`, which designates the cell to which the pointer points.
 fn pointed_to(line: u32, operand: Finding) -> Finding
-    ensures { (e : Findings) → operand ≡ seen e → result ≡ seen (prefixed line e (element_kind e.kind) (element_object e.kind)) }
+    ensures { (e : Findings) → operand ≡ seen e → result ≡
+        seen (prefixed line e (element_kind e.kind) (element_object e.kind)) }
 {
     prefix(
         line,
@@ -150,7 +152,8 @@ fn pointed_to(line: u32, operand: Finding) -> Finding
 
 /// `&e`. Only a cell has an address: a local has no place in the memory that tasks share.
 fn address(line: u32, operand: Finding) -> Finding
-    ensures { (e : Findings) → operand ≡ seen e → result ≡ seen (prefixed line (unless (has_address e.kind e.object) e) (address_kind e.kind e.object) Object.ValueOnly) }
+    ensures { (e : Findings) → operand ≡ seen e → result ≡
+        seen (prefixed line (unless (has_address e.kind e.object) e) (address_kind e.kind e.object) Object.ValueOnly) }
 {
     let kind = kind_of_address(operand.kind, operand.object);
     if may_have_address(operand.kind, operand.object) {
@@ -185,7 +188,8 @@ fn may_have_address(kind: ValueKind, object: Object) -> bool
 /// A binary operator and its operands.
 #[tactic(auto, using(crate::proofs::Firsts::firsts))]
 pub(crate) fn binary(line: u32, op: BinOp, left: Finding, right: Finding) -> Finding
-    ensures { (a : Findings) → (b : Findings) → left ≡ seen a → right ≡ seen b → result ≡ seen (binary_findings line op a b) }
+    ensures { (a : Findings) → (b : Findings) → left ≡ seen a → right ≡ seen b →
+        result ≡ seen (binary_findings line op a b) }
 {
     let left = at_place(wanted_on_the_left(op), left);
     let right = at_place(Wanted::Number, right);

@@ -64,15 +64,17 @@ impl<'p> NameTable<'p> {
     }
 }
 
-/// Notes the place of a name, which is the number of the names before it. The first place of a name stays, and so does all
-/// where memory is wanting.
+/// Notes the place of a name, which is the number of the names before it. The first place of a name stays, and
+/// so does all where memory is wanting.
 fn note<'p>(
     places: &mut IndexMap<&'p [u8], usize>,
     name: &'p [u8],
     place: usize,
 ) -> Result<(), AllocError>
-    ensures noted { OnOk result ((names : List (List ℕ)) → HasFirstPlaces places.old names → length names ≡ place → HasFirstPlaces places.new (names ++ name.now ∷ [])) }
-    ensures stays { OnErr result ((names : List (List ℕ)) → HasFirstPlaces places.old names → HasFirstPlaces places.new names) }
+    ensures noted { OnOk result ((names : List (List ℕ)) → HasFirstPlaces places.old names →
+        length names ≡ place → HasFirstPlaces places.new (names ++ name.now ∷ [])) }
+    ensures stays { OnErr result ((names : List (List ℕ)) → HasFirstPlaces places.old names →
+        HasFirstPlaces places.new names) }
 {
     if !places.contains_key(name) {
         places.insert(name, place)?;

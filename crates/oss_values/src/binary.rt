@@ -7,9 +7,10 @@ use crate::number::{is_less, number_in, number_of, quotient, remainder, shifted_
 use oss_meaning::Value;
 use oss_syntax::{BinOp, FaultKind};
 
-/// What a binary operator makes of two numbers, both evaluated (C11 6.5.5 to 6.5.14): it is unsigned where one of them is, and a
-/// shift where the left one is. A pointer counts as 0. A right operand of 0 is the fault DivideByZero of `/` and `%`, and a shift
-/// count of 64 or more is ShiftRange. Everything else is computed modulo 2^64.
+/// What a binary operator makes of two numbers, both evaluated (C11 6.5.5 to 6.5.14): it is unsigned where one
+/// of them is, and a shift where the left one is. A pointer counts as 0. A right operand of 0 is the fault
+/// DivideByZero of `/` and `%`, and a shift count of 64 or more is ShiftRange. Everything else is computed
+/// modulo 2^64.
 pub fn apply(
     operator: BinOp,
     left_unsigned: bool,

@@ -26,8 +26,8 @@ pub fn keep(kind: NumKind, number: u64) -> u64
     }
 }
 
-/// What a variable of this type keeps of a value, as if by assignment (C11 6.5.16.1): of a number what a cell of that type keeps, and
-/// of a pointer all.
+/// What a variable of this type keeps of a value, as if by assignment (C11 6.5.16.1): of a number what a cell
+/// of that type keeps, and of a pointer all.
 pub fn convert(kind: Kind, value: Value) -> Value
     ensures { result ≡ kept_value kind value }
 {

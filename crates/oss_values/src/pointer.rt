@@ -6,8 +6,8 @@ ghost use Rattle.oss_meaning.specs.Pointers.{moved, moved_index, unsigned_of};
 use crate::number::number_in;
 use oss_meaning::Value;
 
-/// A pointer that is moved back or forth by a number of cells, modulo 2^64 (C11 6.5.6p8). What is no pointer to a global points nowhere
-/// then.
+/// A pointer that is moved back or forth by a number of cells, modulo 2^64 (C11 6.5.6p8). What is no pointer to
+/// a global points nowhere then.
 pub fn shift(back: bool, pointer: Value, by: Value) -> Value
     ensures { result ≡ moved back pointer by }
 {

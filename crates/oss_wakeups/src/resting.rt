@@ -46,8 +46,11 @@ impl Watch {
         Ok(())
     }
 
-    /// Of the tasks that are awake those sleep from now on that wait for another, which they watch, and those are let go that do nothing any more: who stays awake may make its next act, or has none,
-    /// since it stands before a fault, or has ended and still owes a cell. Condition: no cell may be given up by a let, as behind the last pass of a round. It costs what the tasks that are awake and their accesses do. The core stays. After want of memory the run is given up.
+    /// Of the tasks that are awake those sleep from now on that wait for another, which they watch, and those
+    /// are let go that do nothing any more: who stays awake may make its next act, or has none, since it stands
+    /// before a fault, or has ended and still owes a cell. Condition: no cell may be given up by a let, as
+    /// behind the last pass of a round. It costs what the tasks that are awake and their accesses do. The core
+    /// stays. After want of memory the run is given up.
     pub fn rest<D: Deps>(&mut self, core: &mut Core<D>) -> Result<(), AllocError>
         requires running { (code : CodeParts) × IsRunning code (kept_of D.seen core.old) }
         requires watch { IsWatch (kept_of D.seen core.old) self.old }

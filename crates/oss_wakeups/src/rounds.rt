@@ -39,12 +39,14 @@ impl Watch {
         Ok(())
     }
 
-    /// A wave had these turns: the tasks that it created are awake now, and those that watched a task which has ended in it. It costs n log n for the n
-    /// tasks that are awake then, and for each that has ended how deep it is nested. Want of memory is the one error, and after it the run is given up.
+    /// A wave had these turns: the tasks that it created are awake now, and those that watched a task which has
+    /// ended in it. It costs n log n for the n tasks that are awake then, and for each that has ended how deep
+    /// it is nested. Want of memory is the one error, and after it the run is given up.
     pub fn after_wave<D: Deps>(&mut self, core: &Core<D>, turns: &[Turn]) -> Result<(), AllocError>
         requires running { (code : CodeParts) × IsRunning code (kept_of D.seen core.now) }
         requires behind { IsBehindWave turns.now (kept_of D.seen core.now) self.old }
-        requires there { (at : ℕ) (turn : Told) → slice_get turns.now at ≡ Some turn → turn.task.0 < length core.now.tree.tasks }
+        requires there { (at : ℕ) (turn : Told) → slice_get turns.now at ≡ Some turn →
+            turn.task.0 < length core.now.tree.tasks }
         ensures { OnOk result (IsWatch (kept_of D.seen core.now) self.new) }
     {
         self.grow(core.count())?;
@@ -52,8 +54,9 @@ impl Watch {
         self.sort(core)
     }
 
-    /// A pass gave these up: those are awake now that watched a task of which something was passed, or one above it. It costs n log n for the n tasks that are awake then, and for each
-    /// that was passed how deep its task is nested. Want of memory is the one error, and after it the run is given up.
+    /// A pass gave these up: those are awake now that watched a task of which something was passed, or one
+    /// above it. It costs n log n for the n tasks that are awake then, and for each that was passed how deep
+    /// its task is nested. Want of memory is the one error, and after it the run is given up.
     pub fn after_pass<D: Deps>(
         &mut self,
         core: &Core<D>,
@@ -61,7 +64,8 @@ impl Watch {
     ) -> Result<(), AllocError>
         requires running { (code : CodeParts) × IsRunning code (kept_of D.seen core.now) }
         requires behind { IsBehindPass passed.now (kept_of D.seen core.now) self.old }
-        requires there { (at : ℕ) (one : Given) → slice_get passed.now at ≡ Some one → one.task.0 < length core.now.tree.tasks }
+        requires there { (at : ℕ) (one : Given) → slice_get passed.now at ≡ Some one →
+            one.task.0 < length core.now.tree.tasks }
         ensures { OnOk result (IsWatch (kept_of D.seen core.now) self.new) }
     {
         self.wake_passed(core.tree(), passed)?;

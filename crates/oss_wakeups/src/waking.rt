@@ -99,7 +99,8 @@ impl Watch {
 
     /// Wakes those that watch a task which has ended in one of these turns, or one above it.
     pub(crate) fn wake_ended(&mut self, tree: &Tree, turns: &[Turn]) -> Result<(), AllocError>
-        requires there { (at : ℕ) (turn : Told) → slice_get turns.now at ≡ Some turn → turn.task.0 < length tree.now.tasks }
+        requires there { (at : ℕ) (turn : Told) → slice_get turns.now at ≡ Some turn →
+            turn.task.0 < length tree.now.tasks }
         requires sizes { length self.old.watchers.items ≡ length tree.now.tasks }
         ensures { OnOk result (HasWoken (IsAboveEnded tree.now.tasks turns.now) self.old self.new) }
     {
@@ -113,7 +114,8 @@ impl Watch {
 
     /// Wakes those that watch a task of which something was passed, or one above it.
     pub(crate) fn wake_passed(&mut self, tree: &Tree, passed: &[Passed]) -> Result<(), AllocError>
-        requires there { (at : ℕ) (one : Given) → slice_get passed.now at ≡ Some one → one.task.0 < length tree.now.tasks }
+        requires there { (at : ℕ) (one : Given) → slice_get passed.now at ≡ Some one →
+            one.task.0 < length tree.now.tasks }
         requires sizes { length self.old.watchers.items ≡ length tree.now.tasks }
         ensures { OnOk result (HasWoken (IsAbovePassed tree.now.tasks passed.now) self.old self.new) }
     {

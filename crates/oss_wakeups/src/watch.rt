@@ -5,8 +5,9 @@ ghost use Rattle.std.specs.Prelude.{◌≡◌, [], ℕ, length, IfOk};
 use oss_model::TaskNo;
 use std::alloc::{AllocError, Global};
 
-/// The tasks of a machine that are to be asked whether they may do something; and of the others, which wait, for which task each does. A waiting task watches one task that stands in its way,
-/// and is asked again only once that task, or one below it, has ended or given something up.
+/// The tasks of a machine that are to be asked whether they may do something; and of the others, which wait,
+/// for which task each does. A waiting task watches one task that stands in its way, and is asked again only
+/// once that task, or one below it, has ended or given something up.
 pub struct Watch {
     pub(crate) alloc: Global,
     /// The tasks that are awake, in point order.

@@ -1,5 +1,5 @@
-//! What holds of runs by waves, whatever the program is: laws, each carried by a function that does nothing. A crate above calls
-//! the function for its type of scripts, and then has the law.
+//! What holds of runs by waves, whatever the program is: laws, each carried by a function that does nothing. A
+//! crate above calls the function for its type of scripts, and then has the law.
 
 ghost use Rattle.oss_wave_laws.specs.Alone.{PartFollows, PartGoesOn, WaveBegins, WaveFollows, WaveGoesOn};
 ghost use Rattle.oss_wave_laws.specs.AtOnce.{PartAtOnce};
@@ -18,8 +18,8 @@ pub fn wave_goes_on<S>()
     ensures { WaveGoesOn S }
 {}
 
-/// The next act of a part that a body computes alone, over the memory of the wave's beginning, is a step of the machine in
-/// the wave.
+/// The next act of a part that a body computes alone, over the memory of the wave's beginning, is a step of the
+/// machine in the wave.
 pub fn part_goes_on<S>()
     ensures { PartGoesOn S }
 {}

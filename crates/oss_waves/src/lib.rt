@@ -1,4 +1,5 @@
-//! Runs by waves: each task that may act does its part, on threads, and then what may be given up is given up, until no move is left.
+//! Runs by waves: each task that may act does its part, on threads, and then what may be given up is given up,
+//! until no move is left.
 #![tactic(auto)]
 
 mod noting;

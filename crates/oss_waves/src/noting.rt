@@ -58,7 +58,8 @@ pub(crate) fn note_passed<D: Deps>(
     passed: &[Passed],
     lines: &mut List<TextMove>,
 ) -> Result<(), AllocError>
-    requires there { (at : ℕ) (one : Given) → slice_get passed.now at ≡ Some one → one.task.0 < length core.now.tree.tasks }
+    requires there { (at : ℕ) (one : Given) → slice_get passed.now at ≡ Some one →
+        one.task.0 < length core.now.tree.tasks }
     requires rise { (at : ℕ) (one : Given) → slice_get passed.now at ≡ Some one → one.range.lo ≤ one.range.hi }
     ensures { OnOk result (Notes (IsGivenOf core.now.tree.tasks) passed.now lines.old lines.new) }
 {

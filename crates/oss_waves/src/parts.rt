@@ -52,8 +52,9 @@ fn ready<'a>(alloc: Global, code: &'a Code, bodies: Vec<Body>) -> Result<Vec<Rea
     Ok(all)
 }
 
-/// The part of each of these bodies, over a memory that nobody changes meanwhile, in their order. Want of memory is the one error. Conditions: each is a body, after some
-/// answers, of a task of this code; the memory has at most 1,048,576 cells.
+/// The part of each of these bodies, over a memory that nobody changes meanwhile, in their order. Want of
+/// memory is the one error. Conditions: each is a body, after some answers, of a task of this code; the memory
+/// has at most 1,048,576 cells.
 pub(crate) fn parts_of<R: Threads + Sync, G: Gate>(
     team: &Team<'_, R, G>,
     code: &Code,

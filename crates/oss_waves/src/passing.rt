@@ -15,8 +15,8 @@ use oss_syntax::List;
 use oss_wakeups::Watch;
 use std::alloc::AllocError;
 
-/// Makes a pass, notes what it gives up, and wakes those that waited for it. Says whether it gave anything up. Condition: each task that may give something up is
-/// awake. After want of memory the core is given up.
+/// Makes a pass, notes what it gives up, and wakes those that waited for it. Says whether it gave anything up.
+/// Condition: each task that may give something up is awake. After want of memory the core is given up.
 fn pass_once<D: Deps>(
     core: &mut Core<D>,
     code: &Code,
@@ -25,7 +25,8 @@ fn pass_once<D: Deps>(
 ) -> Result<bool, AllocError>
     requires running { IsRunning code.now (kept_of D.seen core.old) }
     requires watch { IsWatch (kept_of D.seen core.old) watch.old }
-    ensures pass { IfOk result (λ some. HasMadePass code.now (kept_of D.seen core.old) (kept_of D.seen core.new) lines.old lines.new some) }
+    ensures pass { IfOk result (λ some. HasMadePass code.now (kept_of D.seen core.old) (kept_of D.seen core.new)
+        lines.old lines.new some) }
     ensures watch { OnOk result (IsWatch (kept_of D.seen core.new) watch.new) }
 {
     let passed = core.pass(code, watch.awake())?;
@@ -34,8 +35,8 @@ fn pass_once<D: Deps>(
     Ok(!passed.is_empty())
 }
 
-/// Makes passes until one gives nothing up, notes what they give up, and wakes those that waited for it. Condition: each task that may give something up is
-/// awake. After want of memory the core is given up.
+/// Makes passes until one gives nothing up, notes what they give up, and wakes those that waited for it.
+/// Condition: each task that may give something up is awake. After want of memory the core is given up.
 pub(crate) fn pass_all<D: Deps>(
     core: &mut Core<D>,
     code: &Code,
@@ -44,7 +45,8 @@ pub(crate) fn pass_all<D: Deps>(
 ) -> Result<(), AllocError>
     requires running { IsRunning code.now (kept_of D.seen core.old) }
     requires watch { IsWatch (kept_of D.seen core.old) watch.old }
-    ensures passes { OnOk result (HasMadePasses code.now (kept_of D.seen core.old) (kept_of D.seen core.new) lines.old lines.new) }
+    ensures passes { OnOk result (HasMadePasses code.now (kept_of D.seen core.old) (kept_of D.seen core.new)
+        lines.old lines.new) }
     ensures watch { OnOk result (IsWatch (kept_of D.seen core.new) watch.new) }
 {
     'passes: loop {

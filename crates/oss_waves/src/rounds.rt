@@ -36,8 +36,8 @@ pub(crate) struct Ran {
     pub(crate) widest: u64,
 }
 
-/// Makes a round, unless no task may act, and notes it. Conditions: each task that may do something is awake; code and memory have at most
-/// 1,048,576 cells. After want of memory the core is given up.
+/// Makes a round, unless no task may act, and notes it. Conditions: each task that may do something is awake;
+/// code and memory have at most 1,048,576 cells. After want of memory the core is given up.
 fn round<R: Threads + Sync, D: Deps, G: Gate>(
     core: &mut Core<D>,
     code: &Code,
@@ -50,7 +50,8 @@ fn round<R: Threads + Sync, D: Deps, G: Gate>(
     requires watch { IsWatch (kept_of D.seen core.old) watch.old }
     requires cells { length code.now.first ≤ 1048576 }
     requires room { length core.old.cells.items ≤ 1048576 }
-    ensures went { IfOk result (λ went. IsRoundOf went code.now (kept_of D.seen core.old) (kept_of D.seen core.new) lines.old lines.new) }
+    ensures went { IfOk result (λ went. IsRoundOf went code.now (kept_of D.seen core.old)
+        (kept_of D.seen core.new) lines.old lines.new) }
     ensures watch { OnOk result (IsWatch (kept_of D.seen core.new) watch.new) }
 {
     let turns = wave_once(core, code, team, watch, spares, lines)?;
@@ -62,8 +63,9 @@ fn round<R: Threads + Sync, D: Deps, G: Gate>(
     Ok(Went::On(turns))
 }
 
-/// Makes rounds until no move is left, and notes them. Conditions: no cell may be given up as yet, and no slot joined; each task that may do something is awake; code
-/// and memory have at most 1,048,576 cells. After want of memory the core is given up.
+/// Makes rounds until no move is left, and notes them. Conditions: no cell may be given up as yet, and no slot
+/// joined; each task that may do something is awake; code and memory have at most 1,048,576 cells. After want
+/// of memory the core is given up.
 pub(crate) fn run_rounds<R: Threads + Sync, D: Deps, G: Gate>(
     alloc: Global,
     core: &mut Core<D>,

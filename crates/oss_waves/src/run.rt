@@ -29,15 +29,18 @@ use std::thread::Threads;
 pub struct WaveRun<D: Deps> {
     /// The output and the cells at its end, or the fault that stopped it with the output before it.
     pub answer: Answer,
-    /// The moves of each wave and the passes behind it, how many tasks there were, and the most that stepped in one wave.
+    /// The moves of each wave and the passes behind it, how many tasks there were, and the most that stepped in
+    /// one wave.
     pub waves: WaveRecord,
     /// The dependency system, as the moves have left it.
     pub deps: D,
 }
 
-/// Runs a code by waves: in each, all tasks that may act do their parts, by at most so many workers, and then what may be given up is given up, until no move is left.
-/// Each task has fuel for so many ticks, and passes the gate before its first step. Answer and record are the same for each number of workers. Want of
-/// memory is the one error. Conditions: the code has at most 1,048,576 cells; in the dependency system no task is open and no cell given up; there is a worker.
+/// Runs a code by waves: in each, all tasks that may act do their parts, by at most so many workers, and then
+/// what may be given up is given up, until no move is left. Each task has fuel for so many ticks, and passes
+/// the gate before its first step. Answer and record are the same for each number of workers. Want of memory is
+/// the one error. Conditions: the code has at most 1,048,576 cells; in the dependency system no task is open
+/// and no cell given up; there is a worker.
 pub fn waves<R: Threads + Sync, D: Deps, G: Gate>(
     rt: &R,
     alloc: Global,
@@ -68,8 +71,13 @@ pub fn waves<R: Threads + Sync, D: Deps, G: Gate>(
 /// What the run gives. Condition: no move is left.
 fn finish<D: Deps>(core: Core<D>, ran: Ran) -> Result<WaveRun<D>, AllocError>
     requires { (code : CodeParts) × IsFinal code (kept_of D.seen core) }
-    ensures answer { IfOk result (λ run. (code : CodeParts) (main : Start CodeScript) (first : Items ℕ) (s : State CodeScript) → IsCore code main first (kept_of D.seen core) s → IsAnswer (asks code) s run.answer) }
-    ensures waves { IfOk result (λ run. run.waves ≡ record { waves = ran.waves; tasks = length core.tree.tasks; widest = ran.widest }) }
+    ensures answer { IfOk result (λ run. (code : CodeParts) (main : Start CodeScript) (first : Items ℕ)
+        (s : State CodeScript) → IsCore code main first (kept_of D.seen core) s → IsAnswer (asks code) s run.answer) }
+    ensures waves { IfOk result (λ run. run.waves ≡ record {
+      waves = ran.waves;
+      tasks = length core.tree.tasks;
+      widest = ran.widest;
+    }) }
     ensures few { IfOk result (λ run. length core.tree.tasks < 2 ^ 64) }
     ensures deps { IfOk result (λ run. D.seen run.deps ≡ D.seen core.deps) }
 {

@@ -24,8 +24,9 @@ use oss_wakeups::Watch;
 use std::alloc::AllocError;
 use std::thread::Threads;
 
-/// Makes a wave: the part of each of these tasks that may act, each over the memory at its beginning. The answer tells how many acts each made. Conditions: the
-/// list has each task that may act, in point order; code and memory have at most 1,048,576 cells. After want of memory the core is given up.
+/// Makes a wave: the part of each of these tasks that may act, each over the memory at its beginning. The
+/// answer tells how many acts each made. Conditions: the list has each task that may act, in point order; code
+/// and memory have at most 1,048,576 cells. After want of memory the core is given up.
 fn wave<R: Threads + Sync, D: Deps, G: Gate>(
     core: &mut Core<D>,
     code: &Code,
@@ -37,7 +38,8 @@ fn wave<R: Threads + Sync, D: Deps, G: Gate>(
     requires asked { HaveSteppers (kept_of D.seen core.old) asked.now }
     requires cells { length code.now.first ≤ 1048576 }
     requires room { length core.old.cells.items ≤ 1048576 }
-    ensures waved { IfOk result (λ turns. HasWaved code.now (kept_of D.seen core.old) (kept_of D.seen core.new) turns.items) }
+    ensures waved { IfOk result (λ turns. HasWaved code.now (kept_of D.seen core.old) (kept_of D.seen core.new)
+        turns.items) }
     ensures turned { IfOk result (λ turns. WasWave turns.items (kept_of D.seen core.old) (kept_of D.seen core.new)) }
     ensures tasks { OnOk result (KeepsTasks core.old.tree.tasks core.new.tree.tasks) }
 {
@@ -46,8 +48,9 @@ fn wave<R: Threads + Sync, D: Deps, G: Gate>(
     core.end_wave(steppers.as_slice(), parts, spares)
 }
 
-/// Makes a wave, notes it, and wakes those that waited for a task that has ended in it. The answer is how many tasks had a turn. Conditions: code and memory
-/// have at most 1,048,576 cells; each task that may act is awake. After want of memory the core is given up.
+/// Makes a wave, notes it, and wakes those that waited for a task that has ended in it. The answer is how many
+/// tasks had a turn. Conditions: code and memory have at most 1,048,576 cells; each task that may act is awake.
+/// After want of memory the core is given up.
 pub(crate) fn wave_once<R: Threads + Sync, D: Deps, G: Gate>(
     core: &mut Core<D>,
     code: &Code,
@@ -60,7 +63,8 @@ pub(crate) fn wave_once<R: Threads + Sync, D: Deps, G: Gate>(
     requires watch { IsWatch (kept_of D.seen core.old) watch.old }
     requires cells { length code.now.first ≤ 1048576 }
     requires room { length core.old.cells.items ≤ 1048576 }
-    ensures wave { IfOk result (λ count. HasMadeWave code.now (kept_of D.seen core.old) (kept_of D.seen core.new) lines.old lines.new count) }
+    ensures wave { IfOk result (λ count. HasMadeWave code.now (kept_of D.seen core.old)
+        (kept_of D.seen core.new) lines.old lines.new count) }
     ensures watch { OnOk result (IsWatch (kept_of D.seen core.new) watch.new) }
 {
     let turns = wave(core, code, team, watch.awake(), spares)?;

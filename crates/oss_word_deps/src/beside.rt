@@ -1,4 +1,5 @@
-//! The words beside the plain lists. If a net would need more entries than it may have, it is given up and the lists go on alone.
+//! The words beside the plain lists. If a net would need more entries than it may have, it is given up and the
+//! lists go on alone.
 
 ghost use Rattle.std.specs.Prelude.{◌≡◌, ◌<◌, ◌≤◌, ◌+◌, ◌-◌, ℕ, take, IfNone, IfOk, IfSome, IsOk, Ok, Some, length};
 ghost use Rattle.oss_word_deps.specs.declared.words.Kept.TheVariants.{Yes};
@@ -26,7 +27,8 @@ fn cells_of(accesses: &[Access]) -> Option<u32>
     Some(count)
 }
 
-/// Makes room for a task with these accesses, in a net of at most `most` entries. It is an error where memory is wanted.
+/// Makes room for a task with these accesses, in a net of at most `most` entries. It is an error where memory
+/// is wanted.
 fn room_in(words: &mut Words, most: u32, accesses: &[Access]) -> Result<Kept, AllocError>
     requires most { (words.old.size ≤ most) × (most ≤ 16777216) }
     ensures ledger { words.new.ledger ≡ words.old.ledger }
@@ -65,9 +67,12 @@ pub(crate) fn make_room(
 
 /// Opens a task.
 pub(crate) fn open_in(words: &mut Option<Words>, task: u64, parent: u64, accesses: &[Access])
-    requires may { (s : Seen) × (o : Open) × ((w : Shelved) → words.old ≡ Some w → MayOpenAs s o task parent accesses.now w.ledger) }
+    requires may { (s : Seen) × (o : Open) × ((w : Shelved) → words.old ≡ Some w →
+        MayOpenAs s o task parent accesses.now w.ledger) }
     requires room { HasPlaceIn (cell_count accesses.now) words.old }
-    ensures booked { (s t : Seen) (o : Open) → ((w : Shelved) → words.old ≡ Some w → MayOpenAs s o task parent accesses.now w.ledger) → Opens o s t → (w : Shelved) → words.new ≡ Some w → IsBooked t w.ledger }
+    ensures booked { (s t : Seen) (o : Open) → ((w : Shelved) → words.old ≡ Some w →
+        MayOpenAs s o task parent accesses.now w.ledger) → Opens o s t → (w : Shelved) → words.new ≡ Some w →
+        IsBooked t w.ledger }
     ensures size { (w : Shelved) → words.new ≡ Some w → (v : Shelved) × (words.old ≡ Some v) × (w.size ≡ v.size) }
 {
     match words {
@@ -79,8 +84,10 @@ pub(crate) fn open_in(words: &mut Option<Words>, task: u64, parent: u64, accesse
 /// Gives up the cells of a range for a task.
 pub(crate) fn give_in(words: &mut Option<Words>, task: u64, range: Range)
     requires may { (s : Seen) × ((w : Shelved) → words.old ≡ Some w → IsBooked s w.ledger) × CanGive task range s }
-    ensures booked { (s t : Seen) → ((w : Shelved) → words.old ≡ Some w → IsBooked s w.ledger) → CanGive task range s → Gives task range s t → (w : Shelved) → words.new ≡ Some w → IsBooked t w.ledger }
-    ensures rows { (w : Shelved) → words.new ≡ Some w → (v : Shelved) × (words.old ≡ Some v) × HasSameRows v.ledger w.ledger × IsAsLarge v w }
+    ensures booked { (s t : Seen) → ((w : Shelved) → words.old ≡ Some w → IsBooked s w.ledger) →
+        CanGive task range s → Gives task range s t → (w : Shelved) → words.new ≡ Some w → IsBooked t w.ledger }
+    ensures rows { (w : Shelved) → words.new ≡ Some w → (v : Shelved) × (words.old ≡ Some v) ×
+        HasSameRows v.ledger w.ledger × IsAsLarge v w }
 {
     match words {
         Some(words) => words.give(task, range),

@@ -1,4 +1,5 @@
-//! A new task is written into the book, with one entry for each cell of its accesses. Room was made before, so this cannot fail.
+//! A new task is written into the book, with one entry for each cell of its accesses. Room was made before, so
+//! this cannot fail.
 
 ghost use Rattle.std.specs.Prelude.{◌≡◌, ◌<◌, ◌≤◌, ◌+◌, ◌-◌, ◌++◌, ℕ, [], ◌∷◌, length, vec_capacity, None, Some};
 ghost use Rattle.oss_syntax.specs.declared.access.Access.{Access as Meant};
@@ -67,9 +68,12 @@ fn add(book: &mut Book, task: u64, depth: u8, parent: u32, first: u32, access: A
     requires cell { cell < 1048576 }
     requires parent { (t : ℕ) × IsParent (ledger_of book.old) t cell parent }
     requires most { length book.old.entries.items + 1 < 16777216 }
-    requires room { (length book.old.entries.items < vec_capacity book.old.entries) × (length book.old.entries.items < vec_capacity book.old.marks) }
-    ensures grown { ledger_of book.new ≡ grown (ledger_of book.old) parent (new_entry (ledger_of book.old) task depth parent first access cell) }
-    ensures room { (vec_capacity book.new.entries ≡ vec_capacity book.old.entries) × (vec_capacity book.new.marks ≡ vec_capacity book.old.marks) × (book.new.jobs ≡ book.old.jobs) }
+    requires room { (length book.old.entries.items < vec_capacity book.old.entries) ×
+        (length book.old.entries.items < vec_capacity book.old.marks) }
+    ensures grown { ledger_of book.new ≡ grown (ledger_of book.old) parent
+        (new_entry (ledger_of book.old) task depth parent first access cell) }
+    ensures room { (vec_capacity book.new.entries ≡ vec_capacity book.old.entries) ×
+        (vec_capacity book.new.marks ≡ vec_capacity book.old.marks) × (book.new.jobs ≡ book.old.jobs) }
 {
     let number = book.entries.len() as u32 + 1;
     let after = place_for(parent, last_child(book, parent, cell));
@@ -95,8 +99,11 @@ fn add(book: &mut Book, task: u64, depth: u8, parent: u32, first: u32, access: A
 
 /// The entry of a task's creator at a cell; 0 where that is main.
 fn parent_at(book: &Book, creator: Option<Job>, cell: u32) -> u32
-    requires { (s : Seen) × (o : Open) × (depth : ℕ) × (first : ℕ) × (access : Meant) × MayAdd s o depth first cell creator access cell (ledger_of book.now) }
-    ensures { (s : Seen) (o : Open) (depth first : ℕ) (access : Meant) → MayAdd s o depth first cell creator access cell (ledger_of book.now) → IsParent (ledger_of book.now) o.parent cell result }
+    requires { (s : Seen) × (o : Open) × (depth : ℕ) × (first : ℕ) × (access : Meant) ×
+        MayAdd s o depth first cell creator access cell (ledger_of book.now) }
+    ensures { (s : Seen) (o : Open) (depth first : ℕ) (access : Meant) →
+        MayAdd s o depth first cell creator access cell (ledger_of book.now) →
+        IsParent (ledger_of book.now) o.parent cell result }
 {
     match creator {
         Some(job) => match entry_at(book.entries.as_slice(), job, cell) {
@@ -109,11 +116,16 @@ fn parent_at(book: &Book, creator: Option<Job>, cell: u32) -> u32
 
 /// Writes an access of a new task into the book.
 fn add_over(book: &mut Book, task: u64, depth: u8, creator: Option<Job>, first: u32, access: Access)
-    requires may { (s : Seen) × (o : Open) × MayAdd s o depth first access.range.lo creator access access.range.lo (ledger_of book.old) × (o.task ≡ task) }
+    requires may { (s : Seen) × (o : Open) × MayAdd s o depth first access.range.lo creator access
+        access.range.lo (ledger_of book.old) × (o.task ≡ task) }
     requires most { length book.old.entries.items + (access.range.hi - access.range.lo) < 16777216 }
     requires room { HasRoom (access.range.hi - access.range.lo) book.old }
-    ensures grown { (s : Seen) (o : Open) → MayAdd s o depth first access.range.lo creator access access.range.lo (ledger_of book.old) → o.task ≡ task → IsGrowing s o depth first access.range.hi (ledger_of book.new) × HasAdded first access access.range.hi (ledger_of book.old) (ledger_of book.new) }
-    ensures count { length book.new.entries.items ≡ length book.old.entries.items + (access.range.hi - access.range.lo) }
+    ensures grown { (s : Seen) (o : Open) → MayAdd s o depth first access.range.lo creator access
+        access.range.lo (ledger_of book.old) → o.task ≡ task →
+        IsGrowing s o depth first access.range.hi (ledger_of book.new) ×
+        HasAdded first access access.range.hi (ledger_of book.old) (ledger_of book.new) }
+    ensures count { length book.new.entries.items ≡
+        length book.old.entries.items + (access.range.hi - access.range.lo) }
     ensures same { HasSameRoom book.old book.new }
 {
     for cell in access.range.lo..access.range.hi {
@@ -124,12 +136,16 @@ fn add_over(book: &mut Book, task: u64, depth: u8, creator: Option<Job>, first: 
 
 /// Writes a new task into the book, behind all others. `None` is main, as its creator.
 pub(crate) fn extend(book: &mut Book, task: u64, creator: Option<Job>, accesses: &[Access])
-    requires may { (s : Seen) × (o : Open) × MayExtend s o creator (ledger_of book.old) × (o.task ≡ task) × (o.accesses ≡ accesses.now) }
+    requires may { (s : Seen) × (o : Open) × MayExtend s o creator (ledger_of book.old) × (o.task ≡ task) ×
+        (o.accesses ≡ accesses.now) }
     requires most { length book.old.entries.items + cell_count accesses.now < 16777216 }
-    requires room { HasRoom (cell_count accesses.now) book.old × (length book.old.jobs.items < vec_capacity book.old.jobs) }
-    ensures booked { (s t : Seen) (o : Open) → MayExtend s o creator (ledger_of book.old) → o.task ≡ task → o.accesses ≡ accesses.now → Opens o s t → IsBooked t (ledger_of book.new) }
+    requires room { HasRoom (cell_count accesses.now) book.old ×
+        (length book.old.jobs.items < vec_capacity book.old.jobs) }
+    ensures booked { (s t : Seen) (o : Open) → MayExtend s o creator (ledger_of book.old) → o.task ≡ task →
+        o.accesses ≡ accesses.now → Opens o s t → IsBooked t (ledger_of book.new) }
     ensures sound { IsSound (ledger_of book.new) }
-    ensures new { (v : ℕ) (e : Row) → length book.old.entries.items < v → entry_of book.new.entries.items v ≡ Some e → e.task ≡ task }
+    ensures new { (v : ℕ) (e : Row) → length book.old.entries.items < v →
+        entry_of book.new.entries.items v ≡ Some e → e.task ≡ task }
     ensures front { IsFrontOf (ledger_of book.old) (ledger_of book.new) }
     ensures count { length book.new.entries.items ≡ length book.old.entries.items + cell_count accesses.now }
 {

@@ -1,4 +1,5 @@
-//! Dependencies by access words: a dependency system whose answers are read off a net of atomic words, one entry for each task and cell.
+//! Dependencies by access words: a dependency system whose answers are read off a net of atomic words, one
+//! entry for each task and cell.
 #![tactic(auto)]
 
 mod beside;

@@ -37,7 +37,8 @@ impl Model for OwnNet {
 
     ghost view = { λ w. record { known = w.seat.known; size = w.size } };
 
-    ghost invariant = { λ w. (w.seat.net ≡ w.net.table) × (w.net.entries ≡ w.size) × IsAlone w.seat.known w.size × (w.seat.known.view.held ≡ []) × (w.size ≤ 16777216) };
+    ghost invariant = { λ w. (w.seat.net ≡ w.net.table) × (w.net.entries ≡ w.size) ×
+        IsAlone w.seat.known w.size × (w.seat.known.view.held ≡ []) × (w.size ≤ 16777216) };
 }
 
 /// Delivers until no message is held.
@@ -52,11 +53,12 @@ fn settle(net: &WordNet, seat: &mut WordSeat)
 }
 
 impl OwnNet {
-    /// A net of so many entries, from 2 to 16,777,216, of which the seat owns each. `None` where the entries could not be drawn in order, which a net
-    /// of its own never shows.
+    /// A net of so many entries, from 2 to 16,777,216, of which the seat owns each. `None` where the entries
+    /// could not be drawn in order, which a net of its own never shows.
     pub(crate) fn new(alloc: Global, size: u32) -> Result<Option<OwnNet>, AllocError>
         requires { (2 ≤ size) × (size ≤ 16777216) }
-        ensures { IfOk result (λ made. IfSome made (λ own. (own.size ≡ size) × IsBare own.known × IsAlone own.known size × (own.known.view.held ≡ []))) }
+        ensures { IfOk result (λ made. IfSome made (λ own. (own.size ≡ size) × IsBare own.known ×
+            IsAlone own.known size × (own.known.view.held ≡ []))) }
     {
         let (net, mut seat) = WordNet::new(alloc, size)?;
         match net.draw(&mut seat, size - 1) {

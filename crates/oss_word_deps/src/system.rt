@@ -17,9 +17,10 @@ use std::marker::Model;
 /// How many entries a net has at first, where it may have as many.
 const FIRST: u32 = 65_536;
 
-/// A dependency system that reads its answers off a net of access words, with one entry for each task and cell. Beside the net it keeps plain lists of what
-/// it was told. Where a task needs more entries than are left, it makes a net of twice the size, as often as needed, and links and gives up there what the old one
-/// has; and where the most entries are too few, it gives the net up and answers from the lists.
+/// A dependency system that reads its answers off a net of access words, with one entry for each task and cell.
+/// Beside the net it keeps plain lists of what it was told. Where a task needs more entries than are left, it
+/// makes a net of twice the size, as often as needed, and links and gives up there what the old one has; and
+/// where the most entries are too few, it gives the net up and answers from the lists.
 pub struct WordDeps {
     /// The most entries that a net may have.
     most: u32,
@@ -69,7 +70,8 @@ fn first_words(alloc: Global, most: u32) -> Result<Option<Words>, AllocError>
 }
 
 impl WordDeps {
-    /// No task is opened. `most` is from 1 to 16,777,216: so many entries its net has at most, of which one stands for main. It is an error where memory is wanted.
+    /// No task is opened. `most` is from 1 to 16,777,216: so many entries its net has at most, of which one
+    /// stands for main. It is an error where memory is wanted.
     pub fn new(alloc: Global, most: u32) -> Result<WordDeps, AllocError>
         requires { (0 < most) × (most ≤ 16777216) }
         ensures new { IfOk result (λ deps. IsNew (seen_by deps)) }
@@ -83,7 +85,8 @@ impl WordDeps {
         })
     }
 
-    /// How many entries its net has, of which one stands for main. None: it has given the net up, and answers from its lists.
+    /// How many entries its net has, of which one stands for main. None: it has given the net up, and answers
+    /// from its lists.
     pub fn entries(&self) -> Option<u32>
         ensures { result ≡ self.now.entries }
     {
@@ -94,9 +97,10 @@ impl WordDeps {
     }
 }
 
-/// What the words cost is told by the cells of the accesses: each has an entry of its own, which is linked and given up in a few atomic steps, and is found by halving.
-/// `met` reads a word for each strong access of the task to a cell, and `children_done` one for each cell of the range. `obstacle` and `undone_child` are asked of
-/// the plain lists.
+/// What the words cost is told by the cells of the accesses: each has an entry of its own, which is linked and
+/// given up in a few atomic steps, and is found by halving. `met` reads a word for each strong access of the
+/// task to a cell, and `children_done` one for each cell of the range. `obstacle` and `undone_child` are asked
+/// of the plain lists.
 impl Deps for WordDeps {
     ghost use Rattle.oss_word_deps.specs.Worded.{seen_by};
 

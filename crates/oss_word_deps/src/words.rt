@@ -57,7 +57,13 @@ impl Model for Words {
 
     ghost Value = { Shelved };
 
-    ghost view = { λ w. record { ledger = ledger_of w.book; size = w.net.size; entries_room = vec_capacity w.book.entries; marks_room = vec_capacity w.book.marks; jobs_room = vec_capacity w.book.jobs } };
+    ghost view = { λ w. record {
+      ledger = ledger_of w.book;
+      size = w.net.size;
+      entries_room = vec_capacity w.book.entries;
+      marks_room = vec_capacity w.book.marks;
+      jobs_room = vec_capacity w.book.jobs;
+    } };
 
     ghost invariant = { λ w. Follows w.net.known w.net.size (ledger_of w.book) × IsSound (ledger_of w.book) };
 }
@@ -67,8 +73,10 @@ fn link_from(net: &mut OwnNet, book: &Book, from: usize)
     requires sound { IsSound (ledger_of book.now) }
     requires alone { IsAlone net.old.known net.old.size × (net.old.known.view.held ≡ []) }
     requires linked { HasLinked net.old.known book.now.entries.items from }
-    requires inside { (from ≤ length book.now.entries.items) × (length book.now.entries.items < net.old.size) × (net.old.size ≤ 16777216) }
-    requires free { (v : ℕ) (e : Row) → from < v → entry_of book.now.entries.items v ≡ Some e → Among e.info.parent net.old.known.view.gives → ⊥ }
+    requires inside { (from ≤ length book.now.entries.items) × (length book.now.entries.items < net.old.size) ×
+        (net.old.size ≤ 16777216) }
+    requires free { (v : ℕ) (e : Row) → from < v → entry_of book.now.entries.items v ≡ Some e →
+        Among e.info.parent net.old.known.view.gives → ⊥ }
     ensures linked { HasLinked net.new.known book.now.entries.items (length book.now.entries.items) }
     ensures alone { IsAlone net.new.known net.new.size × (net.new.known.view.held ≡ []) }
     ensures gives { net.new.known.view.gives ≡ net.old.known.view.gives }
@@ -100,7 +108,8 @@ fn give_marked(net: &mut OwnNet, book: &Book)
 fn follow(alloc: Global, size: u32, book: &Book) -> Result<Option<OwnNet>, AllocError>
     requires sound { IsSound (ledger_of book.now) }
     requires size { (2 ≤ size) × (size ≤ 16777216) × (length book.now.entries.items < size) }
-    ensures { IfOk result (λ made. IfSome made (λ own. (own.size ≡ size) × Follows own.known size (ledger_of book.now))) }
+    ensures { IfOk result (λ made. IfSome made (λ own. (own.size ≡ size) ×
+        Follows own.known size (ledger_of book.now))) }
 {
     match OwnNet::new(alloc, size)? {
         Some(mut net) => {
@@ -127,9 +136,13 @@ fn doubled(size: u32, wanted: u32, most: u32) -> u32
 /// Room for so many entries more, and for a task. It is an error where memory is wanted.
 fn reserve_rows(book: &mut Book, count: usize) -> Result<(), AllocError>
     ensures rows { ledger_of book.new ≡ ledger_of book.old }
-    ensures room { length book.old.marks.items ≡ length book.old.entries.items → IfOk result (λ _. HasRoom count book.new × (length book.new.jobs.items < vec_capacity book.new.jobs)) }
-    ensures more { (vec_capacity book.old.entries ≤ vec_capacity book.new.entries) × (vec_capacity book.old.marks ≤ vec_capacity book.new.marks) × (vec_capacity book.old.jobs ≤ vec_capacity book.new.jobs) }
-    ensures sure { length book.old.marks.items ≡ length book.old.entries.items → HasRoom count book.old → length book.old.jobs.items < vec_capacity book.old.jobs → IsOk result }
+    ensures room { length book.old.marks.items ≡ length book.old.entries.items →
+        IfOk result (λ _. HasRoom count book.new × (length book.new.jobs.items < vec_capacity book.new.jobs)) }
+    ensures more { (vec_capacity book.old.entries ≤ vec_capacity book.new.entries) ×
+        (vec_capacity book.old.marks ≤ vec_capacity book.new.marks) ×
+        (vec_capacity book.old.jobs ≤ vec_capacity book.new.jobs) }
+    ensures sure { length book.old.marks.items ≡ length book.old.entries.items → HasRoom count book.old →
+        length book.old.jobs.items < vec_capacity book.old.jobs → IsOk result }
 {
     book.entries.reserve(count)?;
     book.marks.reserve(count)?;
@@ -154,7 +167,9 @@ fn is_over(state: EntryState) -> bool
 fn mark_given(book: &mut Book, entry: u32)
     requires { (0 < entry) × (entry ≤ length book.old.marks.items) }
     ensures freed { ledger_of book.new ≡ freed (ledger_of book.old) entry }
-    ensures room { (vec_capacity book.new.entries ≡ vec_capacity book.old.entries) × (vec_capacity book.new.marks ≡ vec_capacity book.old.marks) × (vec_capacity book.new.jobs ≡ vec_capacity book.old.jobs) }
+    ensures room { (vec_capacity book.new.entries ≡ vec_capacity book.old.entries) ×
+        (vec_capacity book.new.marks ≡ vec_capacity book.old.marks) ×
+        (vec_capacity book.new.jobs ≡ vec_capacity book.old.jobs) }
 {
     book.marks[entry as usize - 1].given = true;
 }
@@ -195,7 +210,8 @@ impl Words {
         }
     }
 
-    /// Makes room for a task with so many cells, in a net of at most `most` entries. It is an error where memory is wanted.
+    /// Makes room for a task with so many cells, in a net of at most `most` entries. It is an error where
+    /// memory is wanted.
     pub(crate) fn make_room(&mut self, count: u32, most: u32) -> Result<Kept, AllocError>
         requires count { count ≤ 16777216 }
         requires most { (self.old.size ≤ most) × (most ≤ 16777216) }
@@ -243,7 +259,8 @@ impl Words {
     pub(crate) fn open(&mut self, task: u64, parent: u64, accesses: &[Access])
         requires may { (s : Seen) × (o : Open) × MayOpenAs s o task parent accesses.now self.old.ledger }
         requires room { HasPlace (cell_count accesses.now) self.old }
-        ensures booked { (s t : Seen) (o : Open) → MayOpenAs s o task parent accesses.now self.old.ledger → Opens o s t → IsBooked t self.new.ledger }
+        ensures booked { (s t : Seen) (o : Open) → MayOpenAs s o task parent accesses.now self.old.ledger →
+            Opens o s t → IsBooked t self.new.ledger }
         ensures size { self.new.size ≡ self.old.size }
     {
         let creator = self.job(parent);
@@ -266,7 +283,8 @@ impl Words {
     /// Gives up the cells of a range for a task.
     pub(crate) fn give(&mut self, task: u64, range: Range)
         requires may { (s : Seen) × IsBooked s self.old.ledger × CanGive task range s }
-        ensures booked { (s t : Seen) → IsBooked s self.old.ledger → CanGive task range s → Gives task range s t → IsBooked t self.new.ledger }
+        ensures booked { (s t : Seen) → IsBooked s self.old.ledger → CanGive task range s →
+            Gives task range s t → IsBooked t self.new.ledger }
         ensures rows { HasSameRows self.old.ledger self.new.ledger }
         ensures same { IsAsLarge self.old self.new }
     {
@@ -279,7 +297,8 @@ impl Words {
     /// Gives up the entries of a task in a range.
     fn give_over(&mut self, job: Job, range: Range)
         requires may { (s : Seen) × MayGiveOver s job range self.old.ledger }
-        ensures booked { (s t : Seen) → MayGiveOver s job range self.old.ledger → Gives job.task range s t → IsBooked t self.new.ledger }
+        ensures booked { (s t : Seen) → MayGiveOver s job range self.old.ledger → Gives job.task range s t →
+            IsBooked t self.new.ledger }
         ensures rows { HasSameRows self.old.ledger self.new.ledger }
         ensures same { IsAsLarge self.old self.new }
     {
@@ -293,7 +312,8 @@ impl Words {
     /// Whether what an entry's access waits for has come.
     fn is_let(&mut self, entry: u32) -> bool
         requires { (0 < entry) × (entry ≤ length self.old.ledger.entries) }
-        ensures lets { (s : Seen) (e : Row) → IsBooked s self.old.ledger → entry_of self.old.ledger.entries entry ≡ Some e → (IsTrue result ↔ IsLet s.opens s.given e) }
+        ensures lets { (s : Seen) (e : Row) → IsBooked s self.old.ledger →
+            entry_of self.old.ledger.entries entry ≡ Some e → (IsTrue result ↔ IsLet s.opens s.given e) }
         ensures same { self.new ≡ self.old }
     {
         let info = self.book.entries[entry as usize - 1].info;
@@ -310,7 +330,8 @@ impl Words {
     /// Whether the task may begin, as far as its cells go.
     pub(crate) fn is_met(&mut self, task: u64) -> bool
         requires { (s : Seen) × IsBooked s self.old.ledger × IsKnown s.opens task }
-        ensures met { (s : Seen) → IsBooked s self.old.ledger → IsKnown s.opens task → (IsTrue result ↔ IsMet s.opens s.given task) }
+        ensures met { (s : Seen) → IsBooked s self.old.ledger → IsKnown s.opens task →
+            (IsTrue result ↔ IsMet s.opens s.given task) }
         ensures same { self.new ≡ self.old }
     {
         match self.job(task) {
@@ -336,7 +357,9 @@ impl Words {
     /// Whether the slot of the task may be joined into the cell.
     pub(crate) fn may_join(&mut self, task: u64, cell: u32) -> bool
         requires { (s : Seen) × IsBooked s self.old.ledger × IsFolding s.opens task cell }
-        ensures join { (s : Seen) (op : Operator) → IsBooked s self.old.ledger → mode_in s.opens cell task ≡ Fold op → IsFolding s.opens task cell → (IsTrue result ↔ IsJoinSatisfied (opened_forest s.opens s.given cell) op task) }
+        ensures join { (s : Seen) (op : Operator) → IsBooked s self.old.ledger →
+            mode_in s.opens cell task ≡ Fold op → IsFolding s.opens task cell →
+            (IsTrue result ↔ IsJoinSatisfied (opened_forest s.opens s.given cell) op task) }
         ensures same { self.new ≡ self.old }
     {
         match self.job(task) {
@@ -352,7 +375,8 @@ impl Words {
     fn are_done(&mut self, last: u32) -> bool
         requires { last ≤ length self.old.ledger.entries }
         ensures none { last ≡ 0 → IsTrue result }
-        ensures done { (e : Row) → entry_of self.old.ledger.entries last ≡ Some e → (IsTrue result ↔ IsListDone (lists_of self.old.ledger e.cell) last) }
+        ensures done { (e : Row) → entry_of self.old.ledger.entries last ≡ Some e →
+            (IsTrue result ↔ IsListDone (lists_of self.old.ledger e.cell) last) }
         ensures same { self.new ≡ self.old }
     {
         if last == 0 {
@@ -364,7 +388,8 @@ impl Words {
     /// Whether each access of main's children to a cell of the range is done.
     fn main_is_done(&mut self, range: Range) -> bool
         requires { (s : Seen) × IsBooked s self.old.ledger }
-        ensures done { (s : Seen) → IsBooked s self.old.ledger → (IsTrue result ↔ ((c : ℕ) → range.lo ≤ c → c < range.hi → AreChildrenDone s.opens s.given 0 c)) }
+        ensures done { (s : Seen) → IsBooked s self.old.ledger →
+            (IsTrue result ↔ ((c : ℕ) → range.lo ≤ c → c < range.hi → AreChildrenDone s.opens s.given 0 c)) }
         ensures same { self.new ≡ self.old }
     {
         for cell in range.lo..range.hi {
@@ -379,7 +404,8 @@ impl Words {
     /// Whether each access of a child of a task to a cell of the range is done.
     fn task_is_done(&mut self, job: Job, range: Range) -> bool
         requires { (s : Seen) × IsBooked s self.old.ledger × IsJob self.old.ledger.entries job }
-        ensures done { (s : Seen) → IsBooked s self.old.ledger → IsOpened s.opens job.task → (IsTrue result ↔ ((c : ℕ) → range.lo ≤ c → c < range.hi → AreChildrenDone s.opens s.given job.task c)) }
+        ensures done { (s : Seen) → IsBooked s self.old.ledger → IsOpened s.opens job.task →
+            (IsTrue result ↔ ((c : ℕ) → range.lo ≤ c → c < range.hi → AreChildrenDone s.opens s.given job.task c)) }
         ensures same { self.new ≡ self.old }
     {
         let from = entry_from(self.book.entries.as_slice(), job, range.lo);
@@ -396,7 +422,8 @@ impl Words {
     /// Whether each access of a child of the task, or of main, to a cell of the range is done.
     pub(crate) fn children_done(&mut self, task: u64, range: Range) -> bool
         requires { (s : Seen) × IsBooked s self.old.ledger × IsKnown s.opens task }
-        ensures done { (s : Seen) → IsBooked s self.old.ledger → IsKnown s.opens task → (IsTrue result ↔ ((c : ℕ) → range.lo ≤ c → c < range.hi → AreChildrenDone s.opens s.given task c)) }
+        ensures done { (s : Seen) → IsBooked s self.old.ledger → IsKnown s.opens task →
+            (IsTrue result ↔ ((c : ℕ) → range.lo ≤ c → c < range.hi → AreChildrenDone s.opens s.given task c)) }
         ensures same { self.new ≡ self.old }
     {
         match self.job(task) {

@@ -18,7 +18,8 @@ fn copy_states(closed: &Closed<u8, Global>, states: &mut Vec<u64>, entries: u32)
     requires full { IsFull closed.now.words }
     requires room { (states.old.items ≡ []) × (entries ≤ vec_capacity states.old) }
     ensures size { length states.new.items ≡ entries }
-    ensures words { (e : ℕ) → e < entries → slice_index states.new.items e ≡ slice_index (slots_items closed.now.words) (1 + 2 * e) }
+    ensures words { (e : ℕ) → e < entries → slice_index states.new.items e ≡
+        slice_index (slots_items closed.now.words) (1 + 2 * e) }
 {
     for entry in 0..entries {
         let word = closed.word(1 + 2 * entry as usize);
@@ -28,7 +29,8 @@ fn copy_states(closed: &Closed<u8, Global>, states: &mut Vec<u64>, entries: u32)
     }
 }
 
-/// Closes a table with a seat that has all parts of it and holds nothing, and frees it: its state words go to where there is room for them.
+/// Closes a table with a seat that has all parts of it and holds nothing, and frees it: its state words go to
+/// where there is room for them.
 pub(crate) fn close_table(
     table: Table<u8, Sight, u32, NetRule, Global>,
     place: Place,
@@ -37,7 +39,8 @@ pub(crate) fn close_table(
 )
     requires on { On table.shared.table_id entries place }
     requires key { (table.shared.key ≡ entries) × (table.shared.table_id.slots ≡ 0) }
-    requires all { (place.me.0.known.view.parts ≡ 65537) × (place.me.0.known.view.held ≡ []) × (place.me.0.known.view.half ≡ []) }
+    requires all { (place.me.0.known.view.parts ≡ 65537) × (place.me.0.known.view.held ≡ []) ×
+        (place.me.0.known.view.half ≡ []) }
     requires room { (states.old.items ≡ []) × (entries ≤ vec_capacity states.old) }
     ensures size { length states.new.items ≡ entries }
     ensures rests { (e : ℕ) → e < entries → Rests place.me.0.known e (state_at (slice_index states.new.items e)) }

@@ -1,4 +1,5 @@
-//! The children of an entry, by the links that its owner has made. A gift needs the last of them, which is to link back to the entry.
+//! The children of an entry, by the links that its owner has made. A gift needs the last of them, which is to
+//! link back to the entry.
 
 ghost use Rattle.std.specs.Prelude.{◌≡◌, ◌≢◌, ◌<◌, ◌≤◌, ◌+◌, ℕ, true, false};
 ghost use Rattle.oss_words.specs.Net.{first, after};

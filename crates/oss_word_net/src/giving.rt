@@ -1,4 +1,5 @@
-//! An entry is given up: in one step if it has no children, and else in two, since its last child is to tell it when all are done.
+//! An entry is given up: in one step if it has no children, and else in two, since its last child is to tell it
+//! when all are done.
 
 ghost use Rattle.std.specs.Prelude.{◌≡◌, ◌<◌, ◌+◌, ◌*◌, ℕ, [], ◌∷◌};
 ghost use Rattle.oss_words.specs.Net.{first};
@@ -17,7 +18,8 @@ fn give_above(words: &Words, place: &mut Place, entry: u32, child: u32) -> Messa
     requires on { On words.now.table_id words.now.key place.old }
     requires idle { Idle words.now.key place.old.me.0.known }
     requires may { MayRelease place.old.me.0.known entry }
-    requires child { Among (record { entry = child; place = first entry }) place.old.me.0.known.view.links × (child < words.now.key) }
+    requires child { Among (record { entry = child; place = first entry }) place.old.me.0.known.view.links ×
+        (child < words.now.key) }
     ensures stays { Stays place.old place.new }
     ensures idle { Idle words.now.key place.new.me.0.known }
     ensures released { Released place.old.me.0.known place.new.me.0.known entry }

@@ -1,4 +1,5 @@
-//! Messages that a step has sent are made ready for their delivery: the info word of each entry is read and kept beside the message.
+//! Messages that a step has sent are made ready for their delivery: the info word of each entry is read and
+//! kept beside the message.
 
 ghost use Rattle.std.specs.Prelude.{◌≡◌, ◌≢◌, ◌<◌, ◌≤◌, ◌+◌, ◌*◌, ◌++◌, ℕ, [], ◌∷◌, drop, length, vec_capacity, vec_len};
 ghost use Rattle.arrayvec.specs.ArrayVec.{array_vec_len};

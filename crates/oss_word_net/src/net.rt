@@ -27,8 +27,8 @@ use oss_words::{After, EntryInfo};
 use std::alloc::{AllocError, Global};
 use std::marker::Model;
 
-/// One state word and one info word for each entry, of a task's access to a cell. Any number of threads change them, each with a seat of its own,
-/// by single atomic steps: none waits for another, and none takes memory.
+/// One state word and one info word for each entry, of a task's access to a cell. Any number of threads change
+/// them, each with a seat of its own, by single atomic steps: none waits for another, and none takes memory.
 #[derive(Drop)]
 pub struct WordNet {
     /// The words: first the number of the next entry to draw, then two words for each entry.
@@ -44,13 +44,16 @@ impl Model for WordNet {
 
     ghost view = { λ w. record { table = w.table.shared.table_id; entries = w.entries } };
 
-    ghost invariant = { λ w. (w.table.shared.key ≡ w.entries) × (w.table.shared.table_id.words ≡ 1 + 2 * w.entries) × (w.table.shared.table_id.slots ≡ 0) × (0 < w.entries) × (w.entries ≤ 16777216) };
+    ghost invariant = { λ w. (w.table.shared.key ≡ w.entries) ×
+        (w.table.shared.table_id.words ≡ 1 + 2 * w.entries) × (w.table.shared.table_id.slots ≡ 0) ×
+        (0 < w.entries) × (w.entries ≤ 16777216) };
 }
 
 /// A row of words, of which the first is 1 and each other is 0.
 fn first_words(alloc: Global, count: usize) -> Result<Vec<u64>, AllocError>
     requires { 0 < count }
-    ensures { IfOk result (λ v. (length v.items ≡ count) × (slice_index v.items 0 ≡ 1) × ((k : ℕ) → 0 < k → slice_index v.items k ≡ 0)) }
+    ensures { IfOk result (λ v. (length v.items ≡ count) × (slice_index v.items 0 ≡ 1) ×
+        ((k : ℕ) → 0 < k → slice_index v.items k ≡ 0)) }
 {
     let mut words = Vec::from_elem(alloc, 0, count)?;
     words[0] = 1;
@@ -58,8 +61,8 @@ fn first_words(alloc: Global, count: usize) -> Result<Vec<u64>, AllocError>
 }
 
 impl WordNet {
-    /// A net of so many entries, from 1 to 16,777,216, and the seat with which it is made, which owns entry 0: that stands for main. It is an error where memory
-    /// is wanted.
+    /// A net of so many entries, from 1 to 16,777,216, and the seat with which it is made, which owns entry 0:
+    /// that stands for main. It is an error where memory is wanted.
     pub fn new(alloc: Global, entries: u32) -> Result<(WordNet, WordSeat), AllocError>
         requires { (0 < entries) × (entries ≤ 16777216) }
         ensures net { IfOk result (λ r. r.0.entries ≡ entries) }
@@ -85,17 +88,21 @@ impl WordNet {
         has_some(&seat.held)
     }
 
-    /// So many new entries, from 1 to 16,777,216: the first of them; they follow each other, and are above every entry that the seat owned or had linked. `None` where fewer were left at its
-    /// step, and then none are left.
+    /// So many new entries, from 1 to 16,777,216: the first of them; they follow each other, and are above
+    /// every entry that the seat owned or had linked. `None` where fewer were left at its step, and then none
+    /// are left.
     pub fn draw(&self, seat: &mut WordSeat, count: u32) -> Option<u32>
         requires net { seat.old.net ≡ self.now.table }
         requires first { seat.old.known.view.failed ≡ 0 }
         requires most { (0 < count) × (count ≤ 16777216) }
         ensures same { (seat.new.net ≡ seat.old.net) × (seat.new.id ≡ seat.old.id) }
-        ensures some { IfSome result (λ n. (n + count ≤ self.now.entries) × (seat.new.known ≡ drew count n seat.old.known)) }
+        ensures some { IfSome result (λ n. (n + count ≤ self.now.entries) ×
+            (seat.new.known ≡ drew count n seat.old.known)) }
         ensures fresh { IfSome result (λ n. (e : ℕ) → Among e seat.old.known.view.owned → e < n) }
-        ensures above { IfSome result (λ n. (0 < n) × ((e : ℕ) (p : Place) → Among (record { entry = e; place = p }) seat.old.known.view.links → e < n)) }
-        ensures none { IfNone result ((n : ℕ) × (self.now.entries < n + count) × (seat.new.known ≡ missed n seat.old.known)) }
+        ensures above { IfSome result (λ n. (0 < n) ×
+            ((e : ℕ) (p : Place) → Among (record { entry = e; place = p }) seat.old.known.view.links → e < n)) }
+        ensures none { IfNone result ((n : ℕ) × (self.now.entries < n + count) ×
+            (seat.new.known ≡ missed n seat.old.known)) }
     {
         let found = add_draw(&self.table.shared, &mut seat.place, count);
         if found + count as u64 <= self.entries as u64 {
@@ -134,8 +141,9 @@ impl WordNet {
         hold(words, &mut seat.place, &mut seat.held, &sent);
     }
 
-    /// Delivers the held message that comes first. It takes no memory and waits for nobody. A seat delivers at most six messages for each entry of the net. What it was told of an entry is one
-    /// info, so it is the info of the message's entry by which more is sent.
+    /// Delivers the held message that comes first. It takes no memory and waits for nobody. A seat delivers at
+    /// most six messages for each entry of the net. What it was told of an entry is one info, so it is the info
+    /// of the message's entry by which more is sent.
     pub fn deliver(&self, seat: &mut WordSeat)
         requires net { seat.old.net ≡ self.now.table }
         requires some { seat.old.known.view.held ≢ [] }
@@ -149,22 +157,26 @@ impl WordNet {
         hold(words, &mut seat.place, &mut seat.held, &sent);
     }
 
-    /// The state word of an entry, as it was read in one step. It tells the seat of the links that it has made, and that what it was told of an entry is one info; and where the seat holds nothing and all parts of the net,
-    /// so that each other seat was joined to it, each flag stands exactly where its condition holds.
+    /// The state word of an entry, as it was read in one step. It tells the seat of the links that it has made,
+    /// and that what it was told of an entry is one info; and where the seat holds nothing and all parts of the
+    /// net, so that each other seat was joined to it, each flag stands exactly where its condition holds.
     pub fn flags(&self, seat: &mut WordSeat, entry: u32) -> u64
         requires net { seat.old.net ≡ self.now.table }
         requires inside { entry < self.now.entries }
         ensures same { (seat.new.net ≡ seat.old.net) × (seat.new.id ≡ seat.old.id) }
         ensures known { seat.new.known ≡ looked entry result seat.old.known }
         ensures family { Family seat.old.known entry (state_at result) }
-        ensures rests { seat.old.known.view.parts ≡ 65537 → seat.old.known.view.held ≡ [] → Rests seat.old.known entry (state_at result) }
+        ensures rests { seat.old.known.view.parts ≡ 65537 → seat.old.known.view.held ≡ [] →
+            Rests seat.old.known entry (state_at result) }
         ensures one { OneInfo seat.old.known }
     {
         read_state(&self.table.shared, &mut seat.place, entry)
     }
 
-    /// A new seat, which owns the entries of `hand` from now on, and the old one no longer. It knows the links and the gives of the old one, and holds nothing. The old seat is the one with
-    /// which the net was made, owns these entries, and was split fewer than 65,536 times. It is an error where memory is wanted: the old seat is as it was then.
+    /// A new seat, which owns the entries of `hand` from now on, and the old one no longer. It knows the links
+    /// and the gives of the old one, and holds nothing. The old seat is the one with which the net was made,
+    /// owns these entries, and was split fewer than 65,536 times. It is an error where memory is wanted: the
+    /// old seat is as it was then.
     pub fn split(&self, seat: &mut WordSeat, hand: &[u32]) -> Result<WordSeat, AllocError>
         requires net { seat.old.net ≡ self.now.table }
         requires first { (seat.old.id ≡ 0) × (1 < seat.old.known.view.parts) }
@@ -180,7 +192,8 @@ impl WordNet {
         Ok(WordSeat { place, held })
     }
 
-    /// The seat owns what the other owned, and knows what it knew. The other holds nothing, and is not the seat with which the net was made: it was never split.
+    /// The seat owns what the other owned, and knows what it knew. The other holds nothing, and is not the seat
+    /// with which the net was made: it was never split.
     pub fn join(&self, seat: &mut WordSeat, other: WordSeat)
         requires net { (seat.old.net ≡ self.now.table) × (other.net ≡ self.now.table) }
         requires later { other.known.view.splits ≡ 0 }
@@ -193,14 +206,15 @@ impl WordNet {
         merge(&self.table.shared, &mut seat.place, place, &seat.held);
     }
 
-    /// The end of the net: the state words, in order of the entries. The seat has all parts of the net, so that each other seat was joined to it, and holds nothing. It is an error where memory
-    /// is wanted.
+    /// The end of the net: the state words, in order of the entries. The seat has all parts of the net, so that
+    /// each other seat was joined to it, and holds nothing. It is an error where memory is wanted.
     pub fn close(self, seat: WordSeat) -> Result<Vec<u64>, AllocError>
         requires net { seat.net ≡ self.table }
         requires all { seat.known.view.parts ≡ 65537 }
         requires empty { seat.known.view.held ≡ [] }
         ensures size { IfOk result (λ v. length v.items ≡ self.entries) }
-        ensures rests { IfOk result (λ v. (e : ℕ) → e < self.entries → Rests seat.known e (state_at (slice_index v.items e))) }
+        ensures rests { IfOk result (λ v. (e : ℕ) → e < self.entries →
+            Rests seat.known e (state_at (slice_index v.items e))) }
     {
         let mut states = Vec::with_capacity(self.alloc, self.entries as usize)?;
         let WordNet { table, entries, .. } = self;

@@ -1,4 +1,5 @@
-//! Seats that come and go, and a table at its start. A split gives entries to a new seat, and a join brings back what it owns and knows.
+//! Seats that come and go, and a table at its start. A split gives entries to a new seat, and a join brings
+//! back what it owns and knows.
 
 ghost use Rattle.std.specs.Prelude.{◌≡◌, ◌≢◌, ◌<◌, ◌≤◌, ◌+◌, ◌*◌, ℕ, List, [], length, IfOk, slice_index};
 ghost use Rattle.oss_words.specs.Views.{Among};
@@ -24,8 +25,10 @@ pub(crate) fn open_table(
     requires some { (0 < entries) × (entries ≤ 16777216) }
     requires size { length words.now ≡ 1 + 2 * entries }
     requires zeros { (slice_index words.now 0 ≡ 1) × ((k : ℕ) → 0 < k → slice_index words.now k ≡ 0) }
-    ensures table { IfOk result (λ r. (r.0.shared.table_id.words ≡ 1 + 2 * entries) × (r.0.shared.table_id.slots ≡ 0) × (r.0.shared.key ≡ entries)) }
-    ensures seat { IfOk result (λ r. (r.1.table_id ≡ r.0.shared.table_id) × (r.1.id ≡ 0) × (r.1.me.0.known ≡ first_known entries) × (r.1.me.1 ≡ [])) }
+    ensures table { IfOk result (λ r. (r.0.shared.table_id.words ≡ 1 + 2 * entries) ×
+        (r.0.shared.table_id.slots ≡ 0) × (r.0.shared.key ≡ entries)) }
+    ensures seat { IfOk result (λ r. (r.1.table_id ≡ r.0.shared.table_id) × (r.1.id ≡ 0) ×
+        (r.1.me.0.known ≡ first_known entries) × (r.1.me.1 ≡ [])) }
 {
     Table::of_words(alloc, words, &entries)
 }
@@ -61,7 +64,8 @@ fn split_by<H: Handing>(words: &Words, seat: &mut Place, _hand: &[u32]) -> Place
     requires own { (e : ℕ) → Among e _hand.now → Among e seat.old.me.0.known.view.owned }
     ensures stays { Stays seat.old seat.new }
     ensures known { seat.new.me.0.known ≡ keeping _hand.now seat.old.me.0.known }
-    ensures other { (result.table_id ≡ seat.old.table_id) × (result.me.0.known ≡ handed _hand.now seat.old.me.0.known) × (result.me.1 ≡ []) }
+    ensures other { (result.table_id ≡ seat.old.table_id) ×
+        (result.me.0.known ≡ handed _hand.now seat.old.me.0.known) × (result.me.1 ≡ []) }
 {
     words.split_seat::<Parting<H>>(seat)
 }
@@ -75,8 +79,10 @@ pub(crate) fn cut(words: &Words, seat: &mut Place, hand: &[u32], _held: &Vec<Hel
     requires own { (e : ℕ) → Among e hand.now → Among e seat.old.me.0.known.view.owned }
     ensures stays { Stays seat.old seat.new }
     ensures known { seat.new.me.0.known ≡ keeping hand.now seat.old.me.0.known }
-    ensures other { (result.table_id ≡ seat.old.table_id) × (result.me.0.known ≡ handed hand.now seat.old.me.0.known) × (result.me.1 ≡ []) }
-    ensures settled { Settled _held.now.items seat.new.me.0.known × (seat.new.me.0.known.entries ≡ seat.old.me.0.known.entries) }
+    ensures other { (result.table_id ≡ seat.old.table_id) ×
+        (result.me.0.known ≡ handed hand.now seat.old.me.0.known) × (result.me.1 ≡ []) }
+    ensures settled { Settled _held.now.items seat.new.me.0.known ×
+        (seat.new.me.0.known.entries ≡ seat.old.me.0.known.entries) }
     ensures ready { Settled [] result.me.0.known × (result.me.0.known.entries ≡ seat.old.me.0.known.entries) }
 {
     split_by::<Brand>(words, seat, hand)
@@ -100,7 +106,8 @@ pub(crate) fn merge(words: &Words, seat: &mut Place, other: Place, _held: &Vec<H
     requires empty { other.me.0.known.view.held ≡ [] }
     ensures stays { Stays seat.old seat.new }
     ensures known { seat.new.me.0.known ≡ joined seat.old.me.0.known other.me.0.known }
-    ensures settled { Settled _held.now.items seat.new.me.0.known × (seat.new.me.0.known.entries ≡ seat.old.me.0.known.entries) }
+    ensures settled { Settled _held.now.items seat.new.me.0.known ×
+        (seat.new.me.0.known.entries ≡ seat.old.me.0.known.entries) }
 {
     words.join_seat::<Joining>(seat, other);
 }

@@ -1,4 +1,5 @@
-//! One function for each kind of atomic step on the words of a net. All calls are made of these, so each kind is proved once.
+//! One function for each kind of atomic step on the words of a net. All calls are made of these, so each kind
+//! is proved once.
 
 ghost use Rattle.std.specs.Prelude.{◌≡◌, ◌≢◌, ◌<◌, ◌≤◌, ◌+◌, ◌*◌, ℕ, true, [], ◌∷◌};
 ghost use Rattle.oss_word_net.specs.Asks.{On, Stays, Hangs, MayFill, MayStart, MayLink, MayFollow, MayHead, MayGive, Later};
@@ -41,7 +42,8 @@ fn info_place(entry: u32) -> usize
     2 + 2 * entry as usize
 }
 
-/// A read of an info word. This type and its like below name a kind of step, by which the proof knows what a seat knows after it.
+/// A read of an info word. This type and its like below name a kind of step, by which the proof knows what a
+/// seat knows after it.
 struct Inform;
 
 impl Play<u8, Sight> for Inform {
@@ -55,7 +57,8 @@ pub(crate) fn read_info(words: &Words, seat: &mut Place, entry: u32) -> u64
     requires hangs { Hangs seat.old.me.0.known entry }
     ensures stays { Stays seat.old seat.new }
     ensures known { seat.new.me.0.known ≡ informed entry result seat.old.me.0.known }
-    ensures again { (j : EntryInfo) → Among (record { entry = entry; info = j }) seat.old.me.0.known.told → info_at result ≡ j }
+    ensures again { (j : EntryInfo) → Among (record { entry = entry; info = j }) seat.old.me.0.known.told →
+        info_at result ≡ j }
 {
     words.load::<Inform>(seat, info_place(entry))
 }
@@ -74,9 +77,11 @@ pub(crate) fn read_state(words: &Words, seat: &mut Place, entry: u32) -> u64
     requires live { (seat.old.me.0.known.view.parts ≢ 0) × (seat.old.me.0.known.entries ≡ words.now.key) }
     ensures stays { Stays seat.old seat.new }
     ensures known { seat.new.me.0.known ≡ looked entry result seat.old.me.0.known }
-    ensures links { ((state_at result).linked ≡ true → (state_at result).next < words.now.key) × ((state_at result).headed ≡ true → (state_at result).child < words.now.key) }
+    ensures links { ((state_at result).linked ≡ true → (state_at result).next < words.now.key) ×
+        ((state_at result).headed ≡ true → (state_at result).child < words.now.key) }
     ensures family { Family seat.old.me.0.known entry (state_at result) }
-    ensures rests { seat.old.me.0.known.view.parts ≡ 65537 → seat.old.me.0.known.view.held ≡ [] → seat.old.me.0.known.view.half ≡ [] → Rests seat.old.me.0.known entry (state_at result) }
+    ensures rests { seat.old.me.0.known.view.parts ≡ 65537 → seat.old.me.0.known.view.held ≡ [] →
+        seat.old.me.0.known.view.half ≡ [] → Rests seat.old.me.0.known entry (state_at result) }
     ensures one { OneInfo seat.old.me.0.known }
 {
     words.load::<Look>(seat, state_place(entry))
@@ -98,7 +103,8 @@ pub(crate) fn add_draw(words: &Words, seat: &mut Place, count: u32) -> u64
     ensures stays { Stays seat.old seat.new }
     ensures small { result < 2199023255552 }
     ensures fresh { (e : ℕ) → Among e seat.old.me.0.known.view.owned → e < result }
-    ensures above { (0 < result) × ((e : ℕ) (p : Spot) → Among (record { entry = e; place = p }) seat.old.me.0.known.view.links → e < result) }
+    ensures above { (0 < result) × ((e : ℕ) (p : Spot) →
+        Among (record { entry = e; place = p }) seat.old.me.0.known.view.links → e < result) }
     ensures enough { result + count ≤ words.now.key → seat.new.me.0.known ≡ drew count result seat.old.me.0.known }
     ensures short { words.now.key < result + count → seat.new.me.0.known ≡ missed result seat.old.me.0.known }
 {
@@ -182,7 +188,8 @@ pub(crate) fn link_behind(
     requires how { MayFollow seat.old.me.0.known entry info.now sibling before.now }
     requires inside { (entry < words.now.key) × (words.now.key ≤ 16777216) }
     ensures stays { Stays seat.old seat.new }
-    ensures known { seat.new.me.0.known ≡ linked_at entry info.now (after sibling) sibling before.now (next_mask entry before.now.mode info.now.mode) result seat.old.me.0.known }
+    ensures known { seat.new.me.0.known ≡ linked_at entry info.now (after sibling) sibling before.now
+        (next_mask entry before.now.mode info.now.mode) result seat.old.me.0.known }
     ensures bounded { Bounded seat.new.me.0.known }
     ensures sums { Sums result (next_mask entry before.now.mode info.now.mode) }
 {
@@ -213,7 +220,8 @@ pub(crate) fn link_below(
     requires how { MayHead seat.old.me.0.known info.now above.now }
     requires inside { (entry < words.now.key) × (words.now.key ≤ 16777216) }
     ensures stays { Stays seat.old seat.new }
-    ensures known { seat.new.me.0.known ≡ linked_at entry info.now (first info.now.parent) info.now.parent above.now (child_mask entry above.now.mode info.now.mode) result seat.old.me.0.known }
+    ensures known { seat.new.me.0.known ≡ linked_at entry info.now (first info.now.parent) info.now.parent
+        above.now (child_mask entry above.now.mode info.now.mode) result seat.old.me.0.known }
     ensures bounded { Bounded seat.new.me.0.known }
     ensures sums { Sums result (child_mask entry above.now.mode info.now.mode) }
 {
@@ -236,7 +244,8 @@ pub(crate) fn give_whole(words: &Words, seat: &mut Place, entry: u32, _info: &En
     requires on { On words.now.table_id words.now.key seat.old }
     requires may { MayGive words.now.key seat.old.me.0.known entry }
     requires told { Among (record { entry = entry; info = _info.now }) seat.old.me.0.known.told }
-    requires childless { (j : ℕ) → Among (record { entry = j; place = first entry }) seat.old.me.0.known.view.links → ⊥ }
+    requires childless { (j : ℕ) → Among (record { entry = j; place = first entry })
+        seat.old.me.0.known.view.links → ⊥ }
     requires inside { entry < words.now.key }
     ensures stays { Stays seat.old seat.new }
     ensures known { seat.new.me.0.known ≡ gave_up entry _info.now result seat.old.me.0.known }
@@ -308,7 +317,8 @@ pub(crate) fn set_flag(words: &Words, seat: &mut Place, message: Message, _info:
     requires on { On words.now.table_id words.now.key seat.old }
     requires held { Has message seat.old.me.0.known.view.held × (1 ≤ message.flag) × (message.flag ≤ 5) }
     requires told { Among (record { entry = message.entry; info = _info.now }) seat.old.me.0.known.told }
-    requires last { (b : Message) → Has b (without message seat.old.me.0.known.view.held) → Later seat.old.me.0.known message _info.now b }
+    requires last { (b : Message) → Has b (without message seat.old.me.0.known.view.held) →
+        Later seat.old.me.0.known message _info.now b }
     requires whole { seat.old.me.0.known.view.half ≡ [] }
     requires live { (seat.old.me.0.known.view.parts ≢ 0) × (seat.old.me.0.known.entries ≡ words.now.key) }
     requires inside { message.entry < words.now.key }

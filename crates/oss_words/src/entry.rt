@@ -2,7 +2,8 @@
 
 use oss_syntax::Mode;
 
-/// The state word of an entry, taken apart: its flags, and its two links with what they say of the entries that they lead to.
+/// The state word of an entry, taken apart: its flags, and its two links with what they say of the entries that
+/// they lead to.
 #[derive(Clone, Copy)]
 pub struct EntryState {
     /// Nothing earlier stands in the way of a read.

@@ -1,5 +1,5 @@
-//! What each step keeps, whatever table the words stand in, and what the rule gives: laws, each carried by a function that does nothing.
-//! A crate above calls the function, and then has the law.
+//! What each step keeps, whatever table the words stand in, and what the rule gives: laws, each carried by a
+//! function that does nothing. A crate above calls the function, and then has the law.
 
 ghost use Rattle.oss_words.specs.Laws.{BeginningsKeep, BegunGivesKeep, DeliveriesKeep, DrawsKeep, FillsKeep, FirstFillsKeep, GivesKeep, HeldIsUnset};
 ghost use Rattle.oss_words.specs.Laws.{JoinsKeep, LastLinksKeep, LinksKeep, ReadsKeep};
@@ -76,7 +76,8 @@ pub fn work_is_bounded()
     ensures { WorkIsBounded }
 {}
 
-/// The seat with which a net was made knows that the words are at rest where it holds nothing and every seat that was split off has been joined.
+/// The seat with which a net was made knows that the words are at rest where it holds nothing and every seat
+/// that was split off has been joined.
 pub fn whole_seats_know()
     ensures { WholeSeatsKnow }
 {}

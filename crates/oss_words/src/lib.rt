@@ -1,5 +1,5 @@
-//! One word of flags and links for each access of a task to a cell, the messages that set the flags, and the rule that holds between any
-//! two steps of many threads.
+//! One word of flags and links for each access of a task to a cell, the messages that set the flags, and the
+//! rule that holds between any two steps of many threads.
 #![tactic(auto)]
 
 mod entry;

@@ -1,4 +1,5 @@
-//! Which messages a step sends: those whose causes it completes. Two words and an info tell them, so no other entry is read.
+//! Which messages a step sends: those whose causes it completes. Two words and an info tell them, so no other
+//! entry is read.
 
 ghost use Rattle.std.specs.Prelude.{◌≡◌, ◌<◌, ◌≤◌, ◌+◌, ◌++◌, ◌&&◌, not};
 ghost use Rattle.arrayvec.specs.ArrayVec.{array_vec_len};
@@ -118,8 +119,8 @@ fn post(messages: &mut Messages, now: bool, before: bool, entry: u32, flag: u8)
     }
 }
 
-/// The messages whose causes the step from the state word `old` to `new` completes, of an entry with this info word. The join of the entry
-/// itself is not among them, since the entry's own number stands in no word.
+/// The messages whose causes the step from the state word `old` to `new` completes, of an entry with this info
+/// word. The join of the entry itself is not among them, since the entry's own number stands in no word.
 pub fn send(old: u64, new: u64, info: u64) -> Messages
     ensures { result.items ≡ posted (state_at old) (state_at new) (info_at info) }
 {

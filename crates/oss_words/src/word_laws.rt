@@ -1,5 +1,5 @@
-//! What each step keeps of the words alone, for a table whose seats are told in another way: laws, each carried by a function that does
-//! nothing.
+//! What each step keeps of the words alone, for a table whose seats are told in another way: laws, each carried
+//! by a function that does nothing.
 
 ghost use Rattle.oss_words.specs.WordLaws.{WordBeginsKeep, WordBegunGivesKeep, WordDeliveriesKeep, WordFillsKeep, WordGivesKeep};
 ghost use Rattle.oss_words.specs.WordLaws.{WordJoinedBegunGivesKeep, WordJoinedGivesKeep, WordLastLinksKeep, WordLeavesKeep, WordLinksKeep};

@@ -56,8 +56,9 @@ pub fn state_of(word: u64) -> EntryState
     }
 }
 
-/// The state as a word. Bits 0 to 12 are `reads`, `folds`, `writes`, `given`, `done`, `clear`, `linked`, `headed`, `left`, `next_folds`,
-/// `next_same`, `child_folds` and `child_same`; from bit 16 on stands the next link, and from 40 on the child link.
+/// The state as a word. Bits 0 to 12 are `reads`, `folds`, `writes`, `given`, `done`, `clear`, `linked`,
+/// `headed`, `left`, `next_folds`, `next_same`, `child_folds` and `child_same`; from bit 16 on stands the next
+/// link, and from 40 on the child link.
 pub fn word_of_state(state: &EntryState) -> u64
     requires { FitsWord state.now }
     ensures { result ≡ state_word state.now }
@@ -131,8 +132,9 @@ pub fn info_of(word: u64) -> EntryInfo
     }
 }
 
-/// The info as a word: bits 0 and 1 are the mode (0 a read, 1 a write, 2 a reduction), 2 and 3 the operator (0 `+`, 1 `&`, 2 `|`, 3 `^`), 4
-/// is strong, 8 to 14 the depth; from bit 16 on stands the parent, and from 40 on the task.
+/// The info as a word: bits 0 and 1 are the mode (0 a read, 1 a write, 2 a reduction), 2 and 3 the operator (0
+/// `+`, 1 `&`, 2 `|`, 3 `^`), 4 is strong, 8 to 14 the depth; from bit 16 on stands the parent, and from 40 on
+/// the task.
 pub fn word_of_info(info: &EntryInfo) -> u64
     requires { FitsInfo info.now }
     ensures { result ≡ info_word info.now }

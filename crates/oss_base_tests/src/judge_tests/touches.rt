@@ -13,7 +13,8 @@ fn main_may_touch_its_cells(rt: HostRuntime) {
     drop(main);
 }
 
-/// A task with `in` of cell 0, `inout` of cell 1, `weakinout` of cell 2, a reduction by `+` of cell 3, and nothing of cell 4.
+/// A task with `in` of cell 0, `inout` of cell 1, `weakinout` of cell 2, a reduction by `+` of cell 3, and
+/// nothing of cell 4.
 fn task_with_each(rt: &impl Abort, alloc: Global) -> Context {
     let clauses = [
         reads(0, 1),

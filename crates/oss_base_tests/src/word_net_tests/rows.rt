@@ -74,7 +74,8 @@ fn link_first(net: &WordNet, seat: &mut WordSeat, top: u32, _siblings: u32)
 /// Links a sibling behind so many others.
 fn link_next(net: &WordNet, seat: &mut WordSeat, top: u32, before: u32, _siblings: u32)
     requires net { seat.old.net ≡ net.now.table }
-    requires row { Row seat.old.known top before _siblings × (0 < before) × (before < _siblings) × (top + _siblings < 16777216) }
+    requires row { Row seat.old.known top before _siblings × (0 < before) × (before < _siblings) ×
+        (top + _siblings < 16777216) }
     ensures same { (seat.new.net ≡ seat.old.net) × (seat.new.id ≡ seat.old.id) }
     ensures row { Row seat.new.known top (before + 1) _siblings }
 {
@@ -114,7 +115,8 @@ fn give_upper(net: &WordNet, seat: &mut WordSeat, top: u32, _siblings: u32)
     settle(net, seat);
 }
 
-/// A net with a weak access that is given up, and so many siblings below it that are not: the net, its seat and the weak access.
+/// A net with a weak access that is given up, and so many siblings below it that are not: the net, its seat and
+/// the weak access.
 pub(crate) fn open_row(
     rt: &impl Abort,
     alloc: Global,

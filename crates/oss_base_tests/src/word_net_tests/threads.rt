@@ -45,7 +45,8 @@ fn part(
     requires parts { (1 < seat.old.known.view.parts) × (seat.old.known.view.splits < 65536) }
     ensures same { (seat.new.net ≡ seat.old.net) × (seat.new.id ≡ seat.old.id) }
     ensures left { IfOk result (λ s. ToGive seat.new.known middle _end) }
-    ensures parts { IfOk result (λ s. (1 + seat.new.known.view.parts ≡ seat.old.known.view.parts) × (seat.new.known.view.splits ≡ 1 + seat.old.known.view.splits)) }
+    ensures parts { IfOk result (λ s. (1 + seat.new.known.view.parts ≡ seat.old.known.view.parts) ×
+        (seat.new.known.view.splits ≡ 1 + seat.old.known.view.splits)) }
     ensures parted { IfOk result (λ s. Parted net.now.table s.seat s.start s.end) }
 {
     let hand = hand_of(alloc, start, middle)?;
@@ -71,8 +72,10 @@ fn part_two(
     requires parts { (2 < seat.old.known.view.parts) × (seat.old.known.view.splits < 1000) }
     ensures same { (seat.new.net ≡ seat.old.net) × (seat.new.id ≡ seat.old.id) }
     ensures left { IfOk result (λ s. ToGive seat.new.known (start + 2 * each) end) }
-    ensures parts { IfOk result (λ s. (2 + seat.new.known.view.parts ≡ seat.old.known.view.parts) × (seat.new.known.view.splits ≡ 2 + seat.old.known.view.splits)) }
-    ensures parted { IfOk result (λ s. Parted net.now.table s.0.seat s.0.start s.0.end × Parted net.now.table s.1.seat s.1.start s.1.end) }
+    ensures parts { IfOk result (λ s. (2 + seat.new.known.view.parts ≡ seat.old.known.view.parts) ×
+        (seat.new.known.view.splits ≡ 2 + seat.old.known.view.splits)) }
+    ensures parted { IfOk result (λ s. Parted net.now.table s.0.seat s.0.start s.0.end ×
+        Parted net.now.table s.1.seat s.1.start s.1.end) }
 {
     let middle = start + each;
     let one = part(alloc, net, seat, start, middle, end)?;
@@ -133,25 +136,30 @@ fn in_four<R: Threads + Sync>(
     left: (Share, Share),
     right: (Share, Share),
 ) -> ((WordSeat, WordSeat), (WordSeat, WordSeat))
-    requires left { Parted net.now.table left.0.seat left.0.start left.0.end × Parted net.now.table left.1.seat left.1.start left.1.end }
-    requires right { Parted net.now.table right.0.seat right.0.start right.0.end × Parted net.now.table right.1.seat right.1.start right.1.end }
+    requires left { Parted net.now.table left.0.seat left.0.start left.0.end ×
+        Parted net.now.table left.1.seat left.1.start left.1.end }
+    requires right { Parted net.now.table right.0.seat right.0.start right.0.end ×
+        Parted net.now.table right.1.seat right.1.start right.1.end }
     ensures left { Back net.now.table result.0.0 × Back net.now.table result.0.1 }
     ensures right { Back net.now.table result.1.0 × Back net.now.table result.1.1 }
 {
     join(
         rt,
         || -> (WordSeat, WordSeat)
-            requires { IsSync R.row × Parted net.now.table left.0.seat left.0.start left.0.end × Parted net.now.table left.1.seat left.1.start left.1.end }
+            requires { IsSync R.row × Parted net.now.table left.0.seat left.0.start left.0.end ×
+                Parted net.now.table left.1.seat left.1.start left.1.end }
             ensures { Back net.entry.now.table result.0 × Back net.entry.now.table result.1 }
         { in_two(rt, net, left.0, left.1) },
         || -> (WordSeat, WordSeat)
-            requires { IsSync R.row × Parted net.now.table right.0.seat right.0.start right.0.end × Parted net.now.table right.1.seat right.1.start right.1.end }
+            requires { IsSync R.row × Parted net.now.table right.0.seat right.0.start right.0.end ×
+                Parted net.now.table right.1.seat right.1.start right.1.end }
             ensures { Back net.entry.now.table result.0 × Back net.entry.now.table result.1 }
         { in_two(rt, net, right.0, right.1) },
     )
 }
 
-/// Each sibling is given up and done, and so is the weak access above; and each sibling may read, be joined and write, with nothing before it.
+/// Each sibling is given up and done, and so is the weak access above; and each sibling may read, be joined and
+/// write, with nothing before it.
 fn assert_done(rt: &impl Abort, states: &[u64], top: u32, siblings: u32)
     requires { top + siblings < 4294967296 }
 {

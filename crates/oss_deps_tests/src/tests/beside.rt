@@ -1,4 +1,5 @@
-//! The systems by ranges and by words beside the plain lists: both are told the same at random, and answer alike behind each call.
+//! The systems by ranges and by words beside the plain lists: both are told the same at random, and answer
+//! alike behind each call.
 
 ghost use Rattle.std.specs.Prelude.{◌≤◌, ◌<◌, ◌+◌};
 ghost use Rattle.oss_deps.specs.Seen.{IsNew};
@@ -192,7 +193,8 @@ fn give<A: Deps, B: Deps>(
     assert_eq!(rt; given, also, "give: {task} {range:?}");
 }
 
-/// Opens the task, below main or below an earlier one, with the first access that may be: several are tried, the last of them below main.
+/// Opens the task, below main or below an earlier one, with the first access that may be: several are tried,
+/// the last of them below main.
 fn open_somewhere<A: Deps, B: Deps>(
     rt: &impl Abort,
     one: &mut Told<A>,

@@ -1,6 +1,6 @@
-//! Which task stands in the way of each one by the plain lists, and which child is not done, at each moment of some lists that were worked by hand. A
-//! line has two texts with a letter for each task, main first: the number of the task that is told, a dash where none is, and a dot
-//! where there is nothing to ask.
+//! Which task stands in the way of each one by the plain lists, and which child is not done, at each moment of
+//! some lists that were worked by hand. A line has two texts with a letter for each task, main first: the
+//! number of the task that is told, a dash where none is, and a dot where there is nothing to ask.
 
 ghost use Rattle.std.specs.Prelude.{◌<◌};
 ghost use Rattle.oss_deps.specs.Seen.{IsNew};
@@ -75,8 +75,8 @@ fn readers_behind_writers() -> [Naming; 10] {
     ]
 }
 
-/// A child of a weak task is told of an earlier sibling of its creator, and one behind it of that child; asked over two cells, the
-/// second of which is given up last.
+/// A child of a weak task is told of an earlier sibling of its creator, and one behind it of that child; asked
+/// over two cells, the second of which is given up last.
 fn below_a_weak_task() -> [Naming; 9] {
     [
         open(1, 0, writes(0, 2), *b"--....", *b"1-...."),

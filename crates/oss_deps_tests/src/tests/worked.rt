@@ -1,6 +1,7 @@
-//! What each task waits for at each moment of some lists that were worked by hand, from what is defined of accesses and not from what
-//! a system answered. A line has three texts with a letter for each task, main first: whether it may begin, whether its slot may be
-//! joined, and whether the accesses of its children are done. A dot stands where there is nothing to ask. And how many accesses regions keep.
+//! What each task waits for at each moment of some lists that were worked by hand, from what is defined of
+//! accesses and not from what a system answered. A line has three texts with a letter for each task, main
+//! first: whether it may begin, whether its slot may be joined, and whether the accesses of its children are
+//! done. A dot stands where there is nothing to ask. And how many accesses regions keep.
 
 ghost use Rattle.std.specs.Prelude.{◌<◌};
 ghost use Rattle.oss_deps.specs.Seen.{IsNew};
@@ -249,7 +250,8 @@ fn a_cell_given_up_early() -> [Moment; 10] {
     ]
 }
 
-/// A writer and its child that are done before cuts come, then a reduction, a reader and a writer of some of their cells.
+/// A writer and its child that are done before cuts come, then a reduction, a reader and a writer of some of
+/// their cells.
 fn cuts_behind_what_is_done() -> [Moment; 10] {
     [
         open(1, 0, writes(0, 4), *b"yy....", *b"......", *b"ny...."),

@@ -1,5 +1,5 @@
-//! Longest chains: what `span` tells of a program is a chain for `check_chain`, which was written apart from it; and no chain is one with a tick more, without one of its links, or with two
-//! of its links turned.
+//! Longest chains: what `span` tells of a program is a chain for `check_chain`, which was written apart from
+//! it; and no chain is one with a tick more, without one of its links, or with two of its links turned.
 
 ghost use Rattle.std.specs.Prelude.{◌≤◌, length};
 

@@ -1,4 +1,5 @@
-//! Gates that tasks pass on their way: two tasks that meet on two threads, a count of all that pass, and the numbers of the workers that let them pass.
+//! Gates that tasks pass on their way: two tasks that meet on two threads, a count of all that pass, and the
+//! numbers of the workers that let them pass.
 
 use oss_io::{Gate, MemoryShelf, MemorySink};
 use oss_top::{Sinks, nest6};
@@ -68,7 +69,8 @@ impl<'a> Meeting<'a> {
         }
     }
 
-    /// One of the two has come, and looks for the other, which is noted where it comes. It gives up in the end, so that a run on one thread ends too.
+    /// One of the two has come, and looks for the other, which is noted where it comes. It gives up in the end,
+    /// so that a run on one thread ends too.
     fn wait(&self, mine: &AtomicU64, other: &AtomicU64) {
         mine.store(1, Ordering::SeqCst);
         for _ in 0..LOOKS {
@@ -183,7 +185,8 @@ fn each_of_49_tasks_passes_the_gate_once(rt: HostRuntime) {
     assert_counted(&rt, "--workers=64");
 }
 
-/// The greatest number of a worker that the gate is told in a run of the program with 49 tasks, on workers as this option says.
+/// The greatest number of a worker that the gate is told in a run of the program with 49 tasks, on workers as
+/// this option says.
 fn greatest_told<R: Abort + AllocGlobal + Threads + Sync>(rt: &R, option: &str) -> u64 {
     let gate = Numbering {
         greatest: AtomicU64::new(0),
@@ -192,7 +195,8 @@ fn greatest_told<R: Abort + AllocGlobal + Threads + Sync>(rt: &R, option: &str) 
     gate.greatest.load(Ordering::SeqCst)
 }
 
-/// Workers are counted from 0, so each number is below how many there are. The 32 tasks on blocks of their own begin in one wave, of which each worker does some, also where no thread can be made for it.
+/// Workers are counted from 0, so each number is below how many there are. The 32 tasks on blocks of their own
+/// begin in one wave, of which each worker does some, also where no thread can be made for it.
 #[test]
 fn workers_have_the_numbers_below_how_many_there_are(rt: HostRuntime) {
     for (option, last) in [("--workers=1", 0), ("--workers=2", 1), ("--workers=4", 3)] {

@@ -1,5 +1,6 @@
-//! What no clause says: that each public call answers where there is memory, and that the block is that of the worked example. Its parts
-//! are compared one by one with those of the block as it is written by hand. Each tree dies by a call of `drop`.
+//! What no clause says: that each public call answers where there is memory, and that the block is that of the
+//! worked example. Its parts are compared one by one with those of the block as it is written by hand. Each
+//! tree dies by a call of `drop`.
 
 mod facts;
 mod made;

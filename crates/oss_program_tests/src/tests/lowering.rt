@@ -1,4 +1,5 @@
-//! Worked programs as code: what their bodies do, and on which lines, where each load finds what it finds in the sequential run.
+//! Worked programs as code: what their bodies do, and on which lines, where each load finds what it finds in
+//! the sequential run.
 
 mod made;
 
@@ -18,7 +19,8 @@ fn code(rt: &(impl Abort + AllocGlobal), program: Program) -> Code {
     code
 }
 
-/// A letter for an ask: a tick, a creation, a load, a store, a fold, a wait, a print, the end. What begins a creation has none.
+/// A letter for an ask: a tick, a creation, a load, a store, a fold, a wait, a print, the end. What begins a
+/// creation has none.
 fn letter(ask: &Ask) -> Option<u8> {
     match ask {
         Ask::Begin => None,
@@ -34,7 +36,8 @@ fn letter(ask: &Ask) -> Option<u8> {
     }
 }
 
-/// The body that begins with this instruction does this, each act with the last digit of its line, where its loads find this number.
+/// The body that begins with this instruction does this, each act with the last digit of its line, where its
+/// loads find this number.
 fn assert_does(
     rt: &(impl Abort + AllocGlobal),
     code: &Code,

@@ -52,8 +52,8 @@ fn print(rt: &(impl Abort + AllocGlobal), letter: u8) -> Instr {
     }
 }
 
-/// The code of `long x, y = 4;` and a `main` that creates a task with `out(x) reduction(+: y)`, prints `m` and waits. The task sets `x` to 5,
-/// adds 3 to `y` and prints `t`.
+/// The code of `long x, y = 4;` and a `main` that creates a task with `out(x) reduction(+: y)`, prints `m` and
+/// waits. The task sets `x` to 5, adds 3 to `y` and prints `t`.
 fn code(rt: &(impl Abort + AllocGlobal)) -> Code {
     let instrs = [
         Instr::Begin,

@@ -1,4 +1,5 @@
-//! Programs run in orders chosen at random: each move is drawn from those that are enabled. Whatever the order, the answer is that of the sequential run.
+//! Programs run in orders chosen at random: each move is drawn from those that are enabled. Whatever the order,
+//! the answer is that of the sequential run.
 
 ghost use Rattle.std.specs.Prelude.{◌≡◌, ◌≤◌, length};
 ghost use Rattle.oss_code.specs.declared.code.CodeParts.{CodeParts as Parts};

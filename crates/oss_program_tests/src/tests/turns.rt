@@ -92,7 +92,8 @@ fn make_passes<D: Deps>(
     panic!(rt; "passes without end");
 }
 
-/// Makes a wave and the passes behind it, and notes them, unless no task may act; then those sleep that wait. Says whether some task acted.
+/// Makes a wave and the passes behind it, and notes them, unless no task may act; then those sleep that wait.
+/// Says whether some task acted.
 fn make_round<D: Deps>(
     rt: &(impl Abort + AllocGlobal),
     core: &mut Core<D>,

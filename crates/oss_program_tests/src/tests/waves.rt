@@ -1,5 +1,6 @@
-//! Programs that are stepped wave by wave, and what is done in each wave: which tasks act, how often each, and which cells are given up behind it. This was
-//! worked out by hand from the definitions of acts, waves and passes.
+//! Programs that are stepped wave by wave, and what is done in each wave: which tasks act, how often each, and
+//! which cells are given up behind it. This was worked out by hand from the definitions of acts, waves and
+//! passes.
 
 /// One task hands a number to the next.
 pub(crate) const FLOW: &str = "long x, y;

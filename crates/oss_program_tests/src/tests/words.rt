@@ -1,4 +1,5 @@
-//! Runs by waves over words, beside one over plain lists: the record is the same, also where the net is given up on the way.
+//! Runs by waves over words, beside one over plain lists: the record is the same, also where the net is given
+//! up on the way.
 
 ghost use Rattle.std.specs.Prelude.{◌≡◌, ◌≤◌, [], false, length, ℕ};
 

@@ -1,4 +1,5 @@
-//! Directives, their clauses, and the array sections in these (OmpSs-2), as they are written: nothing of them is evaluated.
+//! Directives, their clauses, and the array sections in these (OmpSs-2), as they are written: nothing of them
+//! is evaluated.
 
 use crate::{Bytes, Expr, List, Local, Mode, Name};
 

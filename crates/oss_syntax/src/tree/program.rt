@@ -31,9 +31,10 @@ pub enum Item {
     Function(Function),
 }
 
-/// A global: `cells` is how many cells an array has in all, which stays at its greatest value once it is there, and `None` for a
-/// scalar; `columns` is how many cells each row of an array of two dimensions has, and `None` for any other global. `first` is the
-/// number in each of its cells at the start, a `-` before it applied modulo 2^64.
+/// A global: `cells` is how many cells an array has in all, which stays at its greatest value once it is there,
+/// and `None` for a scalar; `columns` is how many cells each row of an array of two dimensions has, and `None`
+/// for any other global. `first` is the number in each of its cells at the start, a `-` before it applied
+/// modulo 2^64.
 #[derive(Drop)]
 pub struct GlobalDef {
     pub name: Name,

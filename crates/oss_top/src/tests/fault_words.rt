@@ -1,4 +1,5 @@
-//! The words for the faults that no program has yet: it has `OutOfFuel`, `NoRight`, `NotCovered`, `Lent` and `Unwritten` alone.
+//! The words for the faults that no program has yet: it has `OutOfFuel`, `NoRight`, `NotCovered`, `Lent` and
+//! `Unwritten` alone.
 
 use oss_report::fault_line;
 use oss_syntax::FaultKind;
