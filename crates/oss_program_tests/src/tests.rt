@@ -2,12 +2,17 @@
 //! hand, or is the answer of the sequential run.
 
 mod chains;
+mod counts;
 mod draws;
+mod failures;
+mod fault_words;
 mod gates;
+mod layout;
 mod looping;
 mod lowering;
 mod moves;
 mod programs;
+mod readers;
 mod reading;
 mod schedules;
 mod turns;

@@ -10,8 +10,6 @@ mod reply;
 mod run;
 mod span;
 mod status;
-#[cfg(test)]
-mod tests;
 mod texts;
 mod top;
 mod trace;

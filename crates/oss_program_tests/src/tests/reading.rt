@@ -11,7 +11,7 @@ use oss_serial::serial;
 use std::process::Abort;
 
 /// What is known of the program of a text.
-fn known(rt: &(impl Abort + AllocGlobal), text: &str) -> Known {
+pub(crate) fn known(rt: &(impl Abort + AllocGlobal), text: &str) -> Known {
     assert!(rt; text.len() <= 1_048_576);
     let program = match parse(rt.alloc(), text.as_bytes()) {
         Ok(program) => program,

@@ -2,8 +2,8 @@
 
 ghost use Rattle.std.specs.Prelude.{◌<◌};
 
-use crate::{Sinks, nest6};
 use oss_io::{MemoryShelf, MemorySink, NoGate};
+use oss_top::{Sinks, nest6};
 use std::alloc::{AllocError, Global};
 use std::test::Fail;
 use std::thread::Threads;
