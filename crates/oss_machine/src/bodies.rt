@@ -52,7 +52,7 @@ impl Drop for Run {
 pub(crate) enum Reach {
     /// Nothing: the body stands as it stood, and has not looked ahead.
     Unused,
-    /// The body has gone on to where the run lies, which has not taken the place of what stood.
+    /// The body has gone on to where the run lies, or begun there, which has not taken the place of what stood.
     Moved,
     /// The body stands as it stood, and has looked ahead to where the run lies.
     Ahead,
