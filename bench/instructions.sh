@@ -29,5 +29,5 @@ echo 'what | millions of instructions | for twice the tasks | ratio'
 dependency_rows
 row '2,000 tasks on one cell of an array each, behind 2,000 on the whole of it that are done' cuts
 compared 'soak 7 1000' "$(counted soak 7 1000)" "$(counted soak 7 2000)"
-growth_sources
+growth_sources 1
 growth_rows sequentially

@@ -94,7 +94,7 @@ def main():
 main()
 PROGRAM
 
-growth_sources
+growth_sources 1
 
 echo 'program | nest6 | CPython | ratio'
 beside 'array loops, 300,000 turns' arrays

@@ -143,21 +143,22 @@ dependency_rows() {
   row '1,000 weak tasks with 20 children each' weak
 }
 
-# growth_sources: the programs by which the growth of sequential runs is told, as files: each once, and once with twice the work
+# growth_sources PART: the programs by which the growth of sequential runs is told, as files: each once, and once with twice the work. They do so small a
+# part of the work: all of it where PART is 1, a tenth where it is 10, for a count that is not to take long.
 growth_sources() {
   for times in 1 2; do
     cat >"ticks_$times.c" <<PROGRAM
-int main() { long s = 0, i = 0; while (i < $((times * 300000))) { s = s + i * 3; i = i + 1; } printf("%ld\\n", s); }
+int main() { long s = 0, i = 0; while (i < $((times * 300000 / $1))) { s = s + i * 3; i = i + 1; } printf("%ld\\n", s); }
 PROGRAM
-    tasks_source x $((times * 30000)) 'inout(x)' 'x = x + i;' >"tasks_$times.c"
+    tasks_source x $((times * 30000 / $1)) 'inout(x)' 'x = x + i;' >"tasks_$times.c"
     cat >"nested_$times.c" <<PROGRAM
 long x;
 #pragma oss task inout(*p)
 void down(long *p, long n) { *p = *p + 1; if (n > 0) down(p, n - 1); }
-int main() { for (long i = 0; i < $((times * 500)); i++) { down(&x, 50); } }
+int main() { for (long i = 0; i < $((times * 500 / $1)); i++) { down(&x, 50); } }
 PROGRAM
-    filled_source $((times * 200000)) >"cells_$times.c"
-    tasks_source "a[$((times * 60000))]" $((times * 30000)) 'out(a[2 * i])' 'a[2 * i] = i;' >"lent_$times.c"
+    filled_source $((times * 200000 / $1)) >"cells_$times.c"
+    tasks_source "a[$((times * 60000 / $1))]" $((times * 30000 / $1)) 'out(a[2 * i])' 'a[2 * i] = i;' >"lent_$times.c"
   done
 }
 
