@@ -20,7 +20,7 @@ awk '
     gsub(/[|*_]/, " ", text)
     # what has no letter and no digit is no word
     gsub(/(^| )[^A-Za-z0-9 ]+( |$)/, " ", text)
-    sub(/^ +/, "", text)
+    gsub(/^ +| +$/, "", text)
     return split(text, parts, / +/)
   }
 
