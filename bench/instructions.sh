@@ -27,7 +27,7 @@ row() { compared "$1" "$(counted run "$2_1.c")" "$(counted run "$2_2.c")"; }
 
 echo 'what | millions of instructions | for twice the tasks | ratio'
 dependency_rows
-row '2,000 tasks on one cell of an array each, behind 2,000 on the whole of it that are done' cuts
+row '2,000 tasks on one cell of an array each, after 2,000 on the whole of it that are done' cuts
 compared 'soak 7 1000' "$(counted soak 7 1000)" "$(counted soak 7 2000)"
 growth_sources 1
 growth_rows sequentially

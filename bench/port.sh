@@ -1,8 +1,8 @@
 #!/bin/sh
 # Counts what runs cost by the present sources, before anything is proved: it strips the contracts from the crates, compiles what is left over a stand-in
 # for the library of the kit (bench/port), which takes seconds, and prints a table: the instructions of a turn, a cell, a call and a task of sequential runs,
-# and of a task by waves over regions with one worker, each as the difference of a run with a piece of work and one with twice that piece, through the
-# work. The programs are those of instructions.sh and programs.sh, with a tenth of the work. With the name of a row it prints behind the table what
+# and of a task by waves over regions with one worker, each as the difference of a run with a piece of work and one with twice that piece, divided by the
+# work. The programs are those of instructions.sh and programs.sh, with a tenth of the work. With the name of a row it prints after the table what
 # the instructions of that row are spent on, by function of the sources.
 # It wants `rustc`, `python3` and `valgrind`, and proves nothing.
 # usage: port.sh [turns|array|cells|calls|tasks|lent|nested|chain|apart]

@@ -20,7 +20,7 @@ row() {
 
 echo 'what | regions | plain | ratio | twice the tasks'
 dependency_rows
-row '2,000 tasks on one cell of an array each, behind 2,000 on the whole of it that are done' cuts
+row '2,000 tasks on one cell of an array each, after 2,000 on the whole of it that are done' cuts
 half=$(timed "$program" soak 7 4500)
 whole=$(timed "$program" soak 7 9000)
 echo "soak 7 9000 | $whole s | not taken | | $(ratio "$whole" "$half")"

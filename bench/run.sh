@@ -1,7 +1,7 @@
 #!/bin/sh
 # Measures the built program beside what one would use instead, in one run, and prints tables: serial loops beside CPython, tasks per second beside
 # gcc's OpenMP, how the time of generated programs grows, and how the memory grows with the touches. What is not on the machine is skipped, and
-# that is said. A ratio is what nest6 takes, through what the other takes: below 1 nest6 is the faster one.
+# that is said. A ratio is what nest6 takes relative to what the other takes: below 1 nest6 is the faster one.
 # usage: run.sh [PROGRAM], where nothing is said crates/nest6/out/nest6
 here=$(CDPATH='' cd -- "$(dirname -- "$0")" && pwd) || exit 1
 [ "$#" -gt 0 ] || set -- "$here/../crates/nest6/out/nest6"
@@ -248,13 +248,13 @@ tasks_row 'a chain of 20,000: waves, and 4 threads' chain 20000 waves 4
 echo
 echo '## Threads: 64 tasks of 90,000 ticks by waves'
 echo
-row workers time 'through the time of one'
+row workers time 'relative to the time of one'
 echo '|---|---|---|'
 threads_rows
 echo
 echo '## Generated programs: soak 7 N'
 echo
-row 'mode, N' time 'through the time of half of N'
+row 'mode, N' time 'relative to the time of half of N'
 echo '|---|---|---|'
 soak_rows serial
 soak_rows waves

@@ -53,7 +53,7 @@ int main() {
 PROGRAM
 }
 
-# cuts_source COUNT: tasks on a whole array, and behind these, once they are done, as many on one cell of it each
+# cuts_source COUNT: tasks on a whole array, and after these, once they are done, as many on one cell of it each
 cuts_source() {
   cat <<PROGRAM
 long a[$1];
