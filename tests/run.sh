@@ -11,6 +11,8 @@
 # In README.md and docs/GUIDE.md, each block `c` is the program of examples/ that the line before it names, and each block `console` is what
 # its commands, the lines that begin with `$ `, write where they are given one after the other.
 #
+# What stands around the program, in share/, is tried by tests/share.sh.
+#
 # A case is a file tests/cases/SUBJECT/NAME.case with these lines:
 #   # what the case shows
 #   words: WORDS          the words of the call, parted by blanks
@@ -357,6 +359,15 @@ if [ -c /dev/full ]; then
   "$program" run >"$work/out" 2>/dev/full
   judge "a full error output" 5 ../nothing ../nothing $?
 fi
+
+# What stands around the program is tried by a script of its own. Its checks count here; one that does not come to its last line counts as one that failed.
+"$top/tests/share.sh" "$program" >"$work/share" 2>&1
+sed '$d' "$work/share"
+counts=$(sed -n '$s/^\([0-9]*\) passed, \([0-9]*\) failed$/\1 \2/p' "$work/share")
+[ -n "$counts" ] || tail -n 1 "$work/share"
+counts=${counts:-0 1}
+passed=$((passed + ${counts% *}))
+failed=$((failed + ${counts#* }))
 
 echo "$passed passed, $failed failed"
 [ "$failed" = 0 ]
