@@ -9,7 +9,7 @@
 # warning, and what it compiles has the same output where the run has no fault.
 #
 # In README.md and docs/GUIDE.md, each block `c` is the program of examples/ that the line before it names, and each block `console` is what
-# its commands, the lines that begin with `$ `, write where they are given one after the other.
+# its commands, the lines that begin with `$ `, write where they are given one after the other. tests/tables.sh tries the rows of the tables of the other documents.
 #
 # What stands around the program, in share/, is tried by tests/share.sh.
 #
@@ -221,6 +221,12 @@ else
 fi
 check_document README.md
 check_document docs/GUIDE.md
+"$top/tests/tables.sh" "$program" >"$work/tables"
+sed '$d' "$work/tables"
+of_tables=$(sed -n '$s/^\([0-9]*\) passed, \([0-9]*\) failed$/\1 \2/p' "$work/tables")
+[ -n "$of_tables" ] || of_tables='0 1'
+passed=$((passed + ${of_tables% *}))
+failed=$((failed + ${of_tables#* }))
 
 mkdir "$work/case"
 cd "$work/case" || exit 1
