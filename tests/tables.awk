@@ -80,6 +80,7 @@ BEGIN {
   cannot("the kind Syntax, malloc_in_c", "no case has the cast")
   cannot("sed, tokens/define", "is no text")
   cannot("in(table), table_in_c", "the case has it with another name")
+  cannot("static, grammar/left_out_static", "stands alone, for what is left out")
   cannot("f(m), grammar/parameter_array", "the case grids/name_as_an_argument has it with another name")
   cannot("f(m[0]), grammar/parameter_array", "the case array_parameter has it with more arguments")
   cannot("break, grammar/left_out_goto", "stands alone for a way to write")
@@ -99,6 +100,7 @@ BEGIN {
   cannot("h(f(), g()), values/order_of_sides", "the case values/order_of_arguments has it with other names")
   cannot("1 / x, values/quotient_by_0", "the case has it with other names")
   cannot("long s;, statements/locals_begin_with_0", "the case has it with other names")
+  cannot("the fault OutOfRange, pointers/outside_and_back", "the case touches nothing outside; pointers/read_behind_the_end does")
   cannot("a[-1], pointers/index_of_an_array_outside", "the case has it with another index")
   cannot("long m[3][4];, pointers/index_of_an_array_outside", "the case grids/column_outside_its_row has it among other arrays")
 }
@@ -712,9 +714,9 @@ function row_link(   form, clause) {
   form = replaced(cell[1], "`", "")
   clause = form ~ /^join/ ? "reduction(+: s)" : "inout(s)"
   begin_try(form, "span p.c", 0)
-  gsub(/ [A-Z]( |$)/, " [0-9]+&", form)
-  gsub(/\+ [A-Z]/, "+", form)
-  want_line("^" replaced(form, "POINT", "[0-9.]+") "$")
+  form = replaced(form, "POINT", "[0-9.]+")
+  gsub(/ [A-Z]/, " [0-9]+", form)
+  want_line("^" form "$")
   put("long s;\nint main() {\n#pragma oss task " clause "\n{ s += 1; s += 2; s += 3; }\n#pragma oss task inout(s)\n{ s = s * 2; s = s * 3; }\n#pragma oss taskwait\n}\n")
 }
 
@@ -771,9 +773,9 @@ function has_piece(text, piece,   list, count, i, at) {
   return 1
 }
 
-# Reads the cases that a row names: first_case, the name of the first; texts_in_c, those that have one of the kinds of the row, and texts_to_write, all others.
+# Reads the cases that a row names: first_case, the name of the first; told, the kinds of their faults and refusals; output_of_cases; texts_in_c, those that have one of the kinds of the row, and texts_to_write, all others.
 function read_cases(list, kinds,   i, names, count, name) {
-  texts_in_c = texts_to_write = told = " "
+  texts_in_c = texts_to_write = told = output_of_cases = " "
   read_parts(list)
   count = 0
   for (i = 2; i <= parts; i += 2) names[++count] = part[i]
@@ -781,6 +783,7 @@ function read_cases(list, kinds,   i, names, count, name) {
   for (i = 1; i <= count; i++) {
     if (!read_case(names[i])) continue
     tried_pieces++
+    output_of_cases = output_of_cases case_out " "
     if (case_kind == "") texts_to_write = texts_to_write case_text "\n"
     else {
       texts_in_c = texts_in_c case_text "\n"
@@ -864,9 +867,21 @@ function row_change(   kinds, refusals, count, pieces, i, k, kind_list) {
   }
 }
 
-# A difference: each piece of the text stands in a case of the row.
-function row_difference(   i) {
+# A difference: each piece of the text stands in a case of the row. Each fault that the row tells, the number with which it begins and the line of a trace are those of its
+# cases.
+function row_difference(   i, column, number) {
   read_cases(cell[5], "")
+  for (column = 3; column <= 4; column++) {
+    read_parts(cell[column])
+    for (i = 2; i <= parts; i += 2) {
+      if (part[i - 1] ~ /fault $/ && index(told, " " part[i] " ") == 0) give_up("the fault " part[i] ", " first_case)
+      if (part[i] ~ /^# / && index(output_of_cases, part[i]) == 0) wrong("none of its cases writes this: " part[i])
+    }
+  }
+  if (match(cell[3], /^[0-9]+/)) {
+    number = substr(cell[3], 1, RLENGTH)
+    if (output_of_cases !~ "(^|[^0-9])" number "([^0-9]|$)") wrong("none of its cases writes this number: " number)
+  }
   read_parts(cell[1])
   for (i = 2; i <= parts; i += 2) {
     if (has_piece(texts_in_c texts_to_write, part[i])) tried_pieces++

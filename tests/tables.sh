@@ -59,6 +59,9 @@ is_right() {
   fi
 }
 
+# beginning FILE: the beginning of a file, in one line
+beginning() { dd if="$1" bs=100 count=1 2>/dev/null | tr '\n' ' '; }
+
 cd "$work/case" || exit 1
 echo 'int main() { }' >a.c
 cp a.c b.c
@@ -82,8 +85,9 @@ for try in "$work/tries"/*.try; do
     passed=$((passed + 1))
   else
     failed=$((failed + 1))
-    echo "failed: $row: $shows: wanted status $status $(head -n 1 "$work/err"), got $got $(head -c 200 "$work/got_err")"
-    [ ! -f "$try.out" ] || diff "$try.out" "$work/got_out" | head -n 5
+    wanted_out='any output'
+    [ ! -f "$try.out" ] || wanted_out=$(beginning "$try.out")
+    echo "failed: $row: $shows: wanted status $status [$(beginning "$work/err")] [$wanted_out]; got $got [$(beginning "$work/got_err")] [$(beginning "$work/got_out")]"
   fi
 done
 
