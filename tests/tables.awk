@@ -1,7 +1,10 @@
 # Makes tries of the rows of the tables of a document; tests/tables.sh calls it, and tells what it is for.
 #
 # -v folder=FOLDER   where the tries are left: the files NUMBER.try, and for some NUMBER.out, the wanted output, and NUMBER.schedule
-# -v top=FOLDER      the repository
+# -v usage=LINE      the usage line
+# -v kinds_of_cases=WORDS   the kinds of refusals and faults of the cases of tests/cases
+# -v porting_cases=WORDS    the names of the cases of tests/cases/porting
+# It is called at the top of the repository.
 # The lines of a file .try are read by tests/tables.sh:
 #   row: FILE:LINE     where the row stands
 #   shows: TEXT        what of it is tried
@@ -79,10 +82,7 @@ BEGIN {
   # Pieces of rows of docs/PORTING.md, with the first case of their row.
   cannot("the kind Syntax, malloc_in_c", "no case has the cast")
   cannot("sed, tokens/define", "is no text")
-  cannot("in(table), table_in_c", "the case has it with another name")
   cannot("static, grammar/left_out_static", "stands alone, for what is left out")
-  cannot("f(m), grammar/parameter_array", "the case grids/name_as_an_argument has it with another name")
-  cannot("f(m[0]), grammar/parameter_array", "the case array_parameter has it with more arguments")
   cannot("break, grammar/left_out_goto", "stands alone for a way to write")
   cannot("taskgroup, implicit_wait_in_c", "stands alone, for what is left out")
   cannot("taskgroup, other_directives_in_c", "stands alone, for what is left out")
@@ -90,19 +90,9 @@ BEGIN {
   cannot("--fuel=N, long_task_in_c", "the case has it with a number")
   cannot("int x;, names/reduction_over_an_int", "the case has it with another name")
   cannot("reduction(+: x), names/reduction_over_an_int", "the case has it with another name")
-  cannot("taskloop grainsize(16) in(x[i]), task_loops/touch_outside_the_chunk", "the case has it with other names and numbers")
-  cannot("in(x[i;16]), task_loops/chunk_outside", "the case has it with other names and numbers")
   cannot("grainsize, task_loop_without_grainsize", "stands alone, for what is not there")
   cannot("long, values/sums_wrap", "stands alone, for a type")
-  cannot("printf(\"%d\", 2147483648), values/conversions_of_64_bits", "the case has it with other numbers")
-  cannot("long x = x;, statements/locals_hide", "the case has it with other names")
-  cannot("f() + g(), values/order_of_sides", "the case has it with other names")
-  cannot("h(f(), g()), values/order_of_sides", "the case values/order_of_arguments has it with other names")
-  cannot("1 / x, values/quotient_by_0", "the case has it with other names")
-  cannot("long s;, statements/locals_begin_with_0", "the case has it with other names")
   cannot("the fault OutOfRange, pointers/outside_and_back", "the case touches nothing outside; pointers/read_behind_the_end does")
-  cannot("a[-1], pointers/index_of_an_array_outside", "the case has it with another index")
-  cannot("long m[3][4];, pointers/index_of_an_array_outside", "the case grids/column_outside_its_row has it among other arrays")
 }
 
 # ---- what is told of a table by its header
@@ -299,7 +289,7 @@ function row_definitions(   i, path, line) {
   read_parts(cell[3])
   for (i = 2; i <= parts; i += 2) {
     tried_pieces++
-    path = top "/crates/" replaced(cell[2], "`", "") "/specs/" part[i] ".antt"
+    path = "crates/" replaced(cell[2], "`", "") "/specs/" part[i] ".antt"
     if ((getline line <path) < 0) wrong("there is no such page: " path)
     close(path)
   }
@@ -734,7 +724,7 @@ function row_move(   line) {
 # reads a case: case_text, case_status, and case_kind, the kind of its line of the error output
 function read_case(name,   path, line, in_text) {
   case_text = case_status = case_kind = case_out = case_err = ""
-  path = top "/tests/cases/" (name ~ /\// ? name : "porting/" name) ".case"
+  path = "tests/cases/" (name ~ /\// ? name : "porting/" name) ".case"
   while ((getline line <path) > 0) {
     if (in_text) case_text = case_text line "\n"
     else if (line == "program:") in_text = 1

@@ -19,7 +19,7 @@ cd "$top" || exit 1
 usage=$(sed -n '/^usage: nest6 /p' docs/COMMANDS.md)
 kinds=$(sed -n 's/^err: [a-z]*: \([A-Za-z]*\) at line .*/\1/p' tests/cases/*/*.case | sort -u | tr '\n' ' ')
 porting=$(for file in tests/cases/porting/*.case; do basename "$file" .case; done | tr '\n' ' ')
-awk -v folder="$work/tries" -v top="$top" -v usage="$usage" -v kinds_of_cases="$kinds" -v porting_cases="$porting" \
+awk -v folder="$work/tries" -v usage="$usage" -v kinds_of_cases="$kinds" -v porting_cases="$porting" \
   -f tests/tables.awk docs/LANGUAGE.md docs/COMMANDS.md docs/PORTING.md >"$work/made" || exit 1
 sed -n 's/^wrong /failed: /p' "$work/made"
 failed=$(grep -c '^wrong ' "$work/made")
