@@ -71,7 +71,7 @@ BEGIN {
   cannot("`soak` with status 1", "no generated program has a fault")
   cannot("`Lexical`, in words", "the cases of tests/cases/tokens try it, and the table of limits a number that is too large")
   cannot("`TooLarge`, in words", "the table of limits tries a name that is too long")
-  # In the tables of values and of what a line is, a row without an example only explains.
+  # In the table of values a row without an example only explains.
   cannot("`+`, `-`, `*`, `<<`", "explains; `values/sums_wrap` and other cases try it")
   cannot("`&`, `|`, `^`", "explains; the cases of tests/cases/values try it")
   cannot("`/`, `%` where an operand is unsigned", "explains; the cases of tests/cases/values try it")
