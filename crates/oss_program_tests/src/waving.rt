@@ -3,7 +3,7 @@
 ghost use Rattle.std.specs.Prelude.{◌≡◌, ◌≤◌, [], length, IfOk, OnOk};
 ghost use Rattle.oss_body.specs.declared.body.Body.{Body as Kept};
 ghost use Rattle.oss_core.specs.Awake.{HaveSteppers};
-ghost use Rattle.oss_core.specs.Cores.{kept_of};
+ghost use Rattle.oss_core.specs.Cores.{cells_in, kept_of, tasks_in};
 ghost use Rattle.oss_core.specs.Kept.{IsRunning};
 ghost use Rattle.oss_core.specs.Leaving.{WasWave};
 ghost use Rattle.oss_core.specs.Passing.{HasPassed};
@@ -56,7 +56,7 @@ pub fn wave<D: Deps>(
     requires running { IsRunning code.now (kept_of D.seen core.old) }
     requires watch { IsWatch (kept_of D.seen core.old) watch.old }
     requires cells { length code.now.first ≤ 1048576 }
-    requires room { length core.old.cells.items ≤ 1048576 }
+    requires room { length (cells_in core.old) ≤ 1048576 }
     ensures waved { IfOk result (λ turns. HasWaved code.now (kept_of D.seen core.old) (kept_of D.seen core.new)
         turns.items) }
     ensures running { OnOk result (IsRunning code.now (kept_of D.seen core.new)) }
@@ -78,11 +78,11 @@ fn bare_wave<D: Deps>(
     requires running { IsRunning code.now (kept_of D.seen core.old) }
     requires asked { HaveSteppers (kept_of D.seen core.old) asked.now }
     requires cells { length code.now.first ≤ 1048576 }
-    requires room { length core.old.cells.items ≤ 1048576 }
+    requires room { length (cells_in core.old) ≤ 1048576 }
     ensures waved { IfOk result (λ turns. HasWaved code.now (kept_of D.seen core.old) (kept_of D.seen core.new)
         turns.items) }
     ensures turned { IfOk result (λ turns. WasWave turns.items (kept_of D.seen core.old) (kept_of D.seen core.new)) }
-    ensures tasks { OnOk result (KeepsTasks core.old.tree.tasks core.new.tree.tasks) }
+    ensures tasks { OnOk result (KeepsTasks (tasks_in core.old) (tasks_in core.new)) }
 {
     let Lent { steppers, bodies } = core.begin_wave(code, asked, spares)?;
     let parts = parts_of(alloc, code, core.cells(), bodies)?;

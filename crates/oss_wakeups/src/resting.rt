@@ -2,7 +2,7 @@
 
 ghost use Rattle.std.specs.Prelude.{◌≡◌, ◌<◌, length, OnOk};
 ghost use Rattle.oss_code.specs.declared.code.CodeParts.{CodeParts};
-ghost use Rattle.oss_core.specs.Cores.{kept_of};
+ghost use Rattle.oss_core.specs.Cores.{kept_of, tasks_in};
 ghost use Rattle.oss_core.specs.Kept.{IsRunning};
 ghost use Rattle.oss_wakeups.specs.Watches.{HasNoLet, HasRested, IsWatch, StayAwake};
 ghost use Rattle.oss_wakeups.specs.Watching.{HasWatched};
@@ -30,9 +30,9 @@ impl Watch {
     /// Lets a task go that does nothing any more, lets one sleep that waits for another, or keeps it awake.
     fn rest_one<D: Deps>(&mut self, core: &mut Core<D>, task: TaskNo) -> Result<(), AllocError>
         requires running { (code : CodeParts) × IsRunning code (kept_of D.seen core.old) }
-        requires there { task.0 < length core.old.tree.tasks }
-        requires asleep { length self.old.asleep.items ≡ length core.old.tree.tasks }
-        requires watchers { length self.old.watchers.items ≡ length core.old.tree.tasks }
+        requires there { task.0 < length (tasks_in core.old) }
+        requires asleep { length self.old.asleep.items ≡ length (tasks_in core.old) }
+        requires watchers { length self.old.watchers.items ≡ length (tasks_in core.old) }
         ensures rested { OnOk result (HasRested (kept_of D.seen core.old) task self.old self.new) }
         ensures same { kept_of D.seen core.new ≡ kept_of D.seen core.old }
     {

@@ -4,7 +4,7 @@ ghost use Rattle.std.specs.Prelude.{◌≡◌, ◌<◌, ℕ, length, IfOk, OnOk,
 ghost use Rattle.oss_code.specs.declared.code.CodeParts.{CodeParts};
 ghost use Rattle.oss_core.specs.declared.passing.Passed.{Passed as Given};
 ghost use Rattle.oss_core.specs.declared.turns.Turn.{Turn as Told};
-ghost use Rattle.oss_core.specs.Cores.{kept_of};
+ghost use Rattle.oss_core.specs.Cores.{kept_of, tasks_in};
 ghost use Rattle.oss_core.specs.Kept.{IsRunning};
 ghost use Rattle.oss_wakeups.specs.Watches.{IsBehindPass, IsBehindWave, IsWatch};
 ghost use Rattle.oss_wakeups.specs.Watching.{HasSorted, IsApart};
@@ -31,8 +31,8 @@ impl Watch {
     fn sort<D: Deps>(&mut self, core: &Core<D>) -> Result<(), AllocError>
         requires running { (code : CodeParts) × IsRunning code (kept_of D.seen core.now) }
         requires apart { IsApart self.old }
-        requires size { length self.old.asleep.items ≡ length core.now.tree.tasks }
-        ensures { OnOk result (HasSorted core.now.tree.tasks self.old self.new) }
+        requires size { length self.old.asleep.items ≡ length (tasks_in core.now) }
+        ensures { OnOk result (HasSorted (tasks_in core.now) self.old self.new) }
     {
         let awake = mem::replace(&mut self.awake, Vec::new(self.alloc));
         self.awake = core.in_point_order(awake)?;
@@ -46,7 +46,7 @@ impl Watch {
         requires running { (code : CodeParts) × IsRunning code (kept_of D.seen core.now) }
         requires behind { IsBehindWave turns.now (kept_of D.seen core.now) self.old }
         requires there { (at : ℕ) (turn : Told) → slice_get turns.now at ≡ Some turn →
-            turn.task.0 < length core.now.tree.tasks }
+            turn.task.0 < length (tasks_in core.now) }
         ensures { OnOk result (IsWatch (kept_of D.seen core.now) self.new) }
     {
         self.grow(core.count())?;
@@ -65,7 +65,7 @@ impl Watch {
         requires running { (code : CodeParts) × IsRunning code (kept_of D.seen core.now) }
         requires behind { IsBehindPass passed.now (kept_of D.seen core.now) self.old }
         requires there { (at : ℕ) (one : Given) → slice_get passed.now at ≡ Some one →
-            one.task.0 < length core.now.tree.tasks }
+            one.task.0 < length (tasks_in core.now) }
         ensures { OnOk result (IsWatch (kept_of D.seen core.now) self.new) }
     {
         self.wake_passed(core.tree(), passed)?;

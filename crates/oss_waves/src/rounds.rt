@@ -1,7 +1,7 @@
 //! Rounds: waves, each with the passes behind it.
 
 ghost use Rattle.std.specs.Prelude.{◌≤◌, length, IfOk, OnOk};
-ghost use Rattle.oss_core.specs.Cores.{kept_of};
+ghost use Rattle.oss_core.specs.Cores.{cells_in, kept_of};
 ghost use Rattle.oss_core.specs.Kept.{IsRunning};
 ghost use Rattle.oss_wakeups.specs.Watches.{IsWatch};
 ghost use Rattle.oss_waves.specs.Rounding.{HasMadeRounds, IsResting, IsRoundOf};
@@ -49,7 +49,7 @@ fn round<R: Threads + Sync, D: Deps, G: Gate>(
     requires running { IsRunning code.now (kept_of D.seen core.old) }
     requires watch { IsWatch (kept_of D.seen core.old) watch.old }
     requires cells { length code.now.first ≤ 1048576 }
-    requires room { length core.old.cells.items ≤ 1048576 }
+    requires room { length (cells_in core.old) ≤ 1048576 }
     ensures went { IfOk result (λ went. IsRoundOf went code.now (kept_of D.seen core.old)
         (kept_of D.seen core.new) lines.old lines.new) }
     ensures watch { OnOk result (IsWatch (kept_of D.seen core.new) watch.new) }
@@ -76,7 +76,7 @@ pub(crate) fn run_rounds<R: Threads + Sync, D: Deps, G: Gate>(
     requires resting { IsResting code.now (kept_of D.seen core.old) }
     requires watch { IsWatch (kept_of D.seen core.old) watch.old }
     requires cells { length code.now.first ≤ 1048576 }
-    requires room { length core.old.cells.items ≤ 1048576 }
+    requires room { length (cells_in core.old) ≤ 1048576 }
     ensures { IfOk result (λ ran. HasMadeRounds code.now (kept_of D.seen core.old) (kept_of D.seen core.new) ran) }
 {
     let mut spares = Vec::new(alloc);

@@ -2,7 +2,7 @@
 
 ghost use Rattle.std.specs.Prelude.{◌≡◌, ◌≤◌, ◌<◌, ◌^◌, [], false, ℕ, length, IfOk, List as Items};
 ghost use Rattle.oss_code.specs.declared.code.CodeParts.{CodeParts};
-ghost use Rattle.oss_core.specs.Cores.{kept_of};
+ghost use Rattle.oss_core.specs.Cores.{kept_of, tasks_in};
 ghost use Rattle.oss_core.specs.Kept.{IsCore};
 ghost use Rattle.oss_machine.specs.Frames.{CodeScript};
 ghost use Rattle.oss_machine.specs.Machines.{asks};
@@ -75,10 +75,10 @@ fn finish<D: Deps>(core: Core<D>, ran: Ran) -> Result<WaveRun<D>, AllocError>
         (s : State CodeScript) → IsCore code main first (kept_of D.seen core) s → IsAnswer (asks code) s run.answer) }
     ensures waves { IfOk result (λ run. run.waves ≡ record {
       waves = ran.waves;
-      tasks = length core.tree.tasks;
+      tasks = length (tasks_in core);
       widest = ran.widest;
     }) }
-    ensures few { IfOk result (λ run. length core.tree.tasks < 2 ^ 64) }
+    ensures few { IfOk result (λ run. length (tasks_in core) < 2 ^ 64) }
     ensures deps { IfOk result (λ run. D.seen run.deps ≡ D.seen core.deps) }
 {
     let mut core = core;

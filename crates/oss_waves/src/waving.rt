@@ -1,7 +1,7 @@
 //! A wave: the parts of all tasks that may act.
 
 ghost use Rattle.std.specs.Prelude.{◌≤◌, length, IfOk, OnOk};
-ghost use Rattle.oss_core.specs.Cores.{kept_of};
+ghost use Rattle.oss_core.specs.Cores.{cells_in, kept_of, tasks_in};
 ghost use Rattle.oss_core.specs.Kept.{IsRunning};
 ghost use Rattle.oss_core.specs.Awake.{HaveSteppers};
 ghost use Rattle.oss_core.specs.Leaving.{WasWave};
@@ -37,11 +37,11 @@ fn wave<R: Threads + Sync, D: Deps, G: Gate>(
     requires running { IsRunning code.now (kept_of D.seen core.old) }
     requires asked { HaveSteppers (kept_of D.seen core.old) asked.now }
     requires cells { length code.now.first ≤ 1048576 }
-    requires room { length core.old.cells.items ≤ 1048576 }
+    requires room { length (cells_in core.old) ≤ 1048576 }
     ensures waved { IfOk result (λ turns. HasWaved code.now (kept_of D.seen core.old) (kept_of D.seen core.new)
         turns.items) }
     ensures turned { IfOk result (λ turns. WasWave turns.items (kept_of D.seen core.old) (kept_of D.seen core.new)) }
-    ensures tasks { OnOk result (KeepsTasks core.old.tree.tasks core.new.tree.tasks) }
+    ensures tasks { OnOk result (KeepsTasks (tasks_in core.old) (tasks_in core.new)) }
 {
     let Lent { steppers, bodies } = core.begin_wave(code, asked, spares)?;
     let parts = parts_of(team, code, core.cells(), bodies)?;
@@ -62,7 +62,7 @@ pub(crate) fn wave_once<R: Threads + Sync, D: Deps, G: Gate>(
     requires running { IsRunning code.now (kept_of D.seen core.old) }
     requires watch { IsWatch (kept_of D.seen core.old) watch.old }
     requires cells { length code.now.first ≤ 1048576 }
-    requires room { length core.old.cells.items ≤ 1048576 }
+    requires room { length (cells_in core.old) ≤ 1048576 }
     ensures wave { IfOk result (λ count. HasMadeWave code.now (kept_of D.seen core.old)
         (kept_of D.seen core.new) lines.old lines.new count) }
     ensures watch { OnOk result (IsWatch (kept_of D.seen core.new) watch.new) }
