@@ -1,6 +1,7 @@
 #!/bin/sh
 # Tests what stands around the program, in share/: the tools that draw a trace, the man page, the completion and what editors are told. Each is
-# tried where the program is there that it needs; where it is not, a line says so. The last line counts; the status is 0 only where nothing failed.
+# tried where the program is there that it needs; where it is not, a line says so. What Emacs is told is not tried. The last line counts; the status is
+# 0 only where nothing failed.
 #   tests/share.sh [PROGRAM]        by default the built program of this repository
 #
 # tests/share/NAME.FORM is what `share/trace/draw FORM` makes of examples/NAME.trace.
@@ -18,13 +19,13 @@ failed=0
 
 # check NAME WORD..: whether the command of these words says yes
 check() {
-  name=$1
+  checked=$1
   shift
   if "$@" >"$work/told" 2>&1; then
     passed=$((passed + 1))
   else
     failed=$((failed + 1))
-    echo "failed: $name"
+    echo "failed: $checked"
     head -n 5 "$work/told"
   fi
 }
@@ -33,6 +34,13 @@ check() {
 is_there() {
   command -v "$1" >/dev/null 2>&1 && return 0
   echo "$1 is not there: $2"
+  return 1
+}
+
+# is_built WHAT: the same for the program itself
+is_built() {
+  [ -x "$program" ] && return 0
+  echo "the program is not built: $1"
   return 1
 }
 
@@ -219,6 +227,11 @@ operands() {
   esac
 }
 
+# page_options COMMAND: the options that the synopsis of the man page gives it
+page_options() {
+  awk -v command="$1" '/^\.SY / { inside = $0 == ".SY \"nest6 " command "\"" } inside && /^\.OP / { gsub(/\\/, ""); sub(/=.*/, "="); print $2 }' "$page" | each_once
+}
+
 # try_completion: what is offered, in a folder with some files
 try_completion() {
   check "commands" offers 'audit check replay run soak span trace ' nest6 ''
@@ -254,6 +267,9 @@ try_completion() {
   check "no third file" offers '' nest6 replay a.c b.txt ''
   check "no file for numbers" offers '' nest6 soak ''
   check "a file of the shell" offers 'b.txt ' nest6 trace a.c '>' b
+  for command in check run trace replay soak span audit; do
+    check "the man page has the options of $command" offers "$(page_options "$command")" nest6 "$command" --
+  done
   BREAKS=' '
   check "a value that is not parted from its option" offers '--mode=serial ' nest6 run --mode=s
   BREAKS=' =<>'
@@ -290,9 +306,9 @@ if is_there bash "the completion is not tried"; then
   try_completion
   cp a.c none.c
   : >none.txt
-  ! is_there "$program" "it is not asked which words it takes" || try_agreement
+  ! is_built "it is not asked which words it takes" || try_agreement
 fi
-! is_there "$program" "the examples of the man page are not tried" ||
+! is_built "the examples of the man page are not tried" ||
   check "the examples of the man page" page_examples
 
 # ---- editors
