@@ -13,6 +13,8 @@ cd "$work" || exit 1
 # shellcheck source=bench/sources.sh
 . "$top/bench/sources.sh"
 "$program" check /dev/null >/dev/null 2>&1
+# the script of the top has built it now: what is counted and timed is the program, and not the script before it
+[ "$program" != "$top/nest6" ] || program=$top/crates/nest6/out/nest6
 
 # timed WORD..: the seconds that a call takes, the best of three
 timed() {
