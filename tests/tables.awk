@@ -103,7 +103,8 @@ function cannot(shown, why) { reason[shown] = why }
 
 # ---- small things
 
-function wrong(why) { printf "wrong %s:%d: %s\n", page, FNR, why }
+function wrong(why) { print "wrong " page ":" FNR ": " why }
+function wrong_page(why) { print "wrong " page ": " why }
 
 # a piece of a row that cannot be tried: right where it is listed
 function give_up(shown) {
@@ -243,13 +244,15 @@ function set_apart(text, token,   result, at, size, found, line) {
   return result
 }
 
-# tries that a piece of a text, between `before` and `after`, is refused as a kind at its `token`: the one of this number, or one of them where the number is 0
+# tries that a piece of a text, between `before` and `after`, is refused as a kind at its `token`: the one of this number, the last one where it is -1, or one of them where it
+# is 0
 function try_refused_at(shown, kind, before, piece, after, token, which,   text, i) {
   if (token == "end of its line") {
     try_refused(shown, before piece "\\\n" after, "refused: " kind " at line " newlines(before piece) + 2)
     return
   }
   text = set_apart(piece, token)
+  if (which == -1) which = token_count
   if (token_count == 0 || which > token_count) {
     wrong("there is no such token as that at which it is refused: " piece)
     return
@@ -263,10 +266,10 @@ function try_refused_at(shown, kind, before, piece, after, token, which,   text,
 # Reads from part[i] on where something is refused, as in "at `x`", "at the second `x`", "at the string" and "at the end of its line": sets `token` and `which`, and
 # returns the number of the part up to which it has read, or 0.
 function read_place(i) {
-  which = part[i] ~ /second/ ? 2 : part[i] ~ /third/ ? 3 : 0
+  which = part[i] ~ /first/ ? 1 : part[i] ~ /second/ ? 2 : part[i] ~ /third/ ? 3 : part[i] ~ /last/ ? -1 : 0
   if (part[i] ~ /the end of its line/) { token = "end of its line"; return i }
   if (part[i] ~ /string/) { token = "\""; return i }
-  if (i + 1 > parts || part[i] !~ /^( at |, at )?(the )?((second|third|last) )?$/) return 0
+  if (i + 1 > parts || part[i] !~ /^( at |, at )?(the )?((first|second|third|last) )?$/) return 0
   token = part[i + 1]
   return i + 1
 }
@@ -402,18 +405,15 @@ function row_reading(   left, right) {
 
 # ---- LANGUAGE.md: refusals
 
-function row_refusal(   text, at, message) {
+function row_refusal(   text, message) {
   text = text_of(cell[1])
   read_parts(cell[2])
   message = part[2]
-  at = part[3]
   try_refused(cell[1], text, "refused: " message)
-  # Where the row names a token, it is also the one with its line. A directive and the `#` of a pragma must stand where they stand.
-  if (at ~ /at the (last )?$|at $/ && part[4] != "#") {
-    token = part[4]
-    set_apart(text, token)
+  # Where the row names a token, it is this one. The `#` of a pragma must stand where it stands.
+  if (read_place(3) && token != "#") {
     sub(/ at line.*/, "", message)
-    try_refused_at(cell[1] " at " token, message, "", text, "", token, at ~ /last/ ? token_count : 0)
+    try_refused_at(cell[1] " at " token, message, "", text, "", token, which)
   }
 }
 
@@ -934,11 +934,11 @@ function do_row(   kind) {
 
 function end_document(   list, count, i, kind) {
   if (page == "docs/COMMANDS.md")
-    for (kind in kind_of_a_case) if (!((page, kind) in kind_of_a_row)) wrong("no row has the kind of a case: " kind)
+    for (kind in kind_of_a_case) if (!((page, kind) in kind_of_a_row)) wrong_page("no row has the kind of a case: " kind)
   if (page != "docs/PORTING.md") return
-  if (block != last_step) wrong("the last block is not the program of the last step")
+  if (block != last_step) wrong_page("the last block is not the program of the last step")
   count = split(porting_cases, list)
-  for (i = 1; i <= count; i++) if (!(list[i] in named)) wrong("no row names the case " list[i])
+  for (i = 1; i <= count; i++) if (!(list[i] in named)) wrong_page("no row names the case " list[i])
 }
 
 BEGIN {
