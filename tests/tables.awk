@@ -136,13 +136,14 @@ function replaced(text, name, value,   at, result) {
   return result text
 }
 
-# splits a row into cell[1..]; `\|` stands for a `|` in a cell
+# splits a row into cell[1..]; `\|` stands for a `|` in a cell. A cell that the row does not have is empty.
 function read_cells(line,   i) {
   line = replaced(line, "\\|", "\001")
   sub(/^\| ?/, "", line)
   sub(/ *\|[ \t]*$/, "", line)
   cells = split(line, cell, /[ \t]*\|[ \t]*/)
   for (i = 1; i <= cells; i++) gsub(/\001/, "|", cell[i])
+  for (; i <= 5; i++) cell[i] = ""
 }
 
 # splits a text at its backquotes: part[2], part[4] and so on are code
@@ -169,7 +170,7 @@ function is_code(shown) { return shown ~ /^`[^`]*`$/ }
 
 # ---- tries
 
-# begins a try; what it is wanted to write and its program are added by `wants` and `put`
+# begins a try; what is wanted of it is added by `want_err`, `want_line` and `want_out`, and its program by `put`, which ends it
 function begin_try(shown, words, status) {
   number++
   file = sprintf("%s/%05d", folder, number)
@@ -317,7 +318,7 @@ function row_symbols(   list, count, i, kind) {
   for (i = 1; i <= count; i++) {
     if (length(list[i]) != cell[1]) wrong("it has not so many bytes: " list[i])
     kind = list[i] == "?" || list[i] == "." || list[i] == "->" ? "Unsupported" : "Syntax"
-    # The brackets that follow end each program, so that what is refused is the symbol itself.
+    # The program before it is whole, so what is refused is the symbol itself.
     try_refused_at(list[i], kind, "int main() { } ", list[i], "", list[i], 0)
   }
 }
@@ -645,7 +646,7 @@ function call_of(command) {
 
 # A row of statuses is tried by each command that it names, on a text and a schedule that have this status and this line of the error output. KIND, N and FILE of the line
 # are those of the text.
-function row_status(   status, message, list, count, i, command, text, schedule, words, line) {
+function row_status(   status, message, list, count, i, command, command_list, text, schedule, words, line) {
   status = cell[1]
   if (status == 5 || status == 6) { give_up("status " status); return }
   if (cell[3] ~ /^all/) list = "check run trace replay span audit"
@@ -764,7 +765,7 @@ function has_piece(text, piece,   list, count, i, at) {
 }
 
 # Reads the cases that a row names: first_case, the name of the first; told, the kinds of their faults and refusals; output_of_cases; texts_in_c, those that have one of the kinds of the row, and texts_to_write, all others.
-function read_cases(list, kinds,   i, names, count, name) {
+function read_cases(list, kinds,   i, names, count) {
   texts_in_c = texts_to_write = told = output_of_cases = " "
   read_parts(list)
   count = 0
@@ -817,7 +818,7 @@ function place_change(piece,   names, in_main) {
 
 # A change: each kind of the row is that of one of its cases. Each piece of C stands in such a case, or is refused itself as one of the kinds. Each piece of what to write
 # stands in one of the other cases, or is accepted itself.
-function row_change(   kinds, refusals, count, pieces, i, k, kind_list) {
+function row_change(   kinds, refusals, i, k, kind_list) {
   if (FNR != last_row + 1) table_of_changes++
   last_row = FNR
   kinds = cell[3]
