@@ -80,7 +80,6 @@ BEGIN {
   cannot("`==`, `!=`, `&&`, `||`", "explains; the cases of tests/cases/values try it")
 
   # Pieces of rows of docs/PORTING.md, with the first case of their row.
-  cannot("the kind Syntax, malloc_in_c", "no case has the cast")
   cannot("sed, tokens/define", "is no text")
   cannot("static, grammar/left_out_static", "stands alone, for what is left out")
   cannot("break, grammar/left_out_goto", "stands alone for a way to write")
@@ -92,7 +91,6 @@ BEGIN {
   cannot("reduction(+: x), names/reduction_over_an_int", "the case has it with another name")
   cannot("grainsize, task_loop_without_grainsize", "stands alone, for what is not there")
   cannot("long, values/sums_wrap", "stands alone, for a type")
-  cannot("the fault OutOfRange, pointers/outside_and_back", "the case touches nothing outside; pointers/read_behind_the_end does")
 }
 
 # ---- what is told of a table by its header
