@@ -9,7 +9,8 @@
 # warning, and what it compiles has the same output where the run has no fault.
 #
 # In README.md and docs/GUIDE.md, each block `c` is the program of examples/ that the line before it names, and each block `console` is what
-# its commands, the lines that begin with `$ `, write where they are given one after the other. tests/tables.sh tries the rows of the tables of the other documents.
+# its commands, the lines that begin with `$ `, write where they are given one after the other; so the blocks `console` of docs/COMMANDS.md. tests/tables.sh tries the
+# rows of the tables of the other documents.
 #
 # What stands around the program, in share/, is tried by tests/share.sh.
 #
@@ -157,8 +158,8 @@ split() {
   ' "$1"
 }
 
-# check_document FILE: the blocks `c` and `console` of a document
-check_document() {
+# open_document FILE: takes its blocks apart, into a folder from which its commands are given
+open_document() {
   rm -rf "$work/blocks" "$work/reader"
   mkdir "$work/blocks" "$work/reader" || return 1
   split "$top/$1" "$work/blocks"
@@ -169,12 +170,20 @@ check_document() {
   ln -s "$top/examples" "$work/reader/examples"
   ln -s "$program" "$work/reader/nest6"
   : >"$work/err"
+}
+
+# check_programs FILE: the blocks `c` of the document that is open
+check_programs() {
   for block in "$work/blocks"/*.c; do
     [ -f "$block" ] || continue
     shown=$(sed -n 's/.*`\(examples\/[a-z0-9_]*\.c\)`:$/\1/p' "${block%.c}.before")
     cat "$block" >"$work/out"
     judge "$1, block $(basename -- "$block"), which shows ${shown:-no file}" 0 "$top/${shown:-no file}" "$work/nothing" 0
   done
+}
+
+# check_commands FILE: the blocks `console` of the document that is open
+check_commands() {
   for block in "$work/blocks"/*.console; do
     [ -f "$block" ] || continue
     # The script tells each command before it gives it, so its whole output is to be the block. A command sees the status of the one before.
@@ -185,6 +194,13 @@ check_document() {
     (cd "$work/reader" && block=$block sh "$work/script") >"$work/out" 2>&1 </dev/null
     judge "$1, block $(basename -- "$block")" 0 "$block" "$work/nothing" 0
   done
+}
+
+# check_document FILE: the blocks `c` and `console` of a document
+check_document() {
+  open_document "$1" || return 1
+  check_programs "$1"
+  check_commands "$1"
 }
 
 cd "$top/examples" || exit 1
@@ -221,6 +237,8 @@ else
 fi
 check_document README.md
 check_document docs/GUIDE.md
+# (its programs are no examples)
+open_document docs/COMMANDS.md && check_commands docs/COMMANDS.md
 "$top/tests/tables.sh" "$program" >"$work/tables"
 sed '$d' "$work/tables"
 of_tables=$(sed -n '$s/^\([0-9]*\) passed, \([0-9]*\) failed$/\1 \2/p' "$work/tables")
