@@ -1,0 +1,6 @@
+use Rattle.oss_roles.proofs.JobClaims as lemmas
+use Rattle.oss_roles.specs.contracts.laws.stores_keep.{S-type, J-type}
+use Rattle.oss_roles.proofs.laws.stores_keep.Goals as goal
+
+pub returns : goal.returns
+returns g c = lemmas.stores_keep (S-type g.row.S g.row.J g.row.R) (J-type g.row.S g.row.J g.row.R) g.R.Jobs.is_job

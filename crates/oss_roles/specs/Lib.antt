@@ -1,0 +1,14 @@
+pub mod Alone
+pub mod Claims
+pub mod Counting
+pub mod Field
+pub mod JobSteps
+pub mod MakeSteps
+pub mod Passing
+pub mod Rest
+pub mod Roles
+pub mod Sights
+pub mod SlotSteps
+pub mod Starts
+pub mod Steps
+pub mod WordSteps
