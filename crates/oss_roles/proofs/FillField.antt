@@ -87,6 +87,7 @@ module _ {S J : Type 0} (P : Program S) (main : Start S) (first : List ℕ) (is_
             below_main = f.roles.below_main;
             main = f.roles.main;
             told = λ x q xis h. let t = f.roles.told x q xis h in let same = d.other_infos x (other x h) in (t.0, ap (λ (z : EntryInfo). z.strong) same ∙ t.1, ap (λ (z : EntryInfo). z.task) same ∙ t.2);
+            depth = f.roles.depth;
             parent = f.roles.parent;
             behind_is = f.roles.behind_is;
             topmost = f.roles.topmost;

@@ -84,6 +84,7 @@ module _ {S J : Type 0} (P : Program S) (main : Start S) (first : List ℕ) (is_
             below_main = λ e r is. no_role e r is;
             main = refl;
             told = λ e r is. no_role e r is;
+            depth = λ e r is. no_role e r is;
             parent = λ e r a b p is. no_role e r is;
             behind_is = λ e o r q is. no_role e r is;
             topmost = λ e r a is. no_role e r is;

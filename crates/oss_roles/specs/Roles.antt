@@ -3,7 +3,7 @@
 -- own, and 7 its number; 8 is its access to cell 4, a strong read, and 9 that to cell 5. All three have the path 0 ∷ []. If an earlier task
 -- writes x, 8 counts: the count of 7 waits for reads of 8. If this is the first task on x, 8 begins a list of main with all flags, and does
 -- not count.
-use Rattle.std.specs.Prelude.{◌≡◌, ◌≢◌, ◌⊎◌, ◌<◌, ℕ, Bool, true, List, [], ◌∷◌, Option, Some, None}
+use Rattle.std.specs.Prelude.{◌≡◌, ◌≢◌, ◌⊎◌, ◌<◌, ℕ, Bool, true, List, [], ◌∷◌, length, Option, Some, None}
 use Rattle.oss_syntax.specs.declared.access.Mode.{Mode}
 use Rattle.oss_model.specs.Machine.{Task, State, At, HasAccess, HasGiven}
 use Rattle.oss_model.specs.Bodies.{Program}
@@ -50,6 +50,8 @@ pub record AreRoles (net : Net) (infos : ℕ → EntryInfo) (role : ℕ → Opti
   -- what the words tell
   pub told : (e : ℕ) (r : Role) → role e ≡ Some r → net.place e ≢ apart
       → (net.mode e ≡ r.mode) × ((infos e).strong ≡ r.strong) × ((infos e).task ≡ r.task)
+  -- an entry hangs as deep as its task stands
+  pub depth : (e : ℕ) (r : Role) → role e ≡ Some r → net.place e ≢ apart → net.depth e ≡ length r.path
   -- the task above has a linked entry for the same site
   pub parent : (e : ℕ) (r : Role) (k i : ℕ) (p : List ℕ) → role e ≡ Some r → net.place e ≢ apart → r.path ≡ k ∷ i ∷ p
       → Filed net role (i ∷ p) r.site
