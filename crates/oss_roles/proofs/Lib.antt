@@ -25,6 +25,7 @@ pub mod PlanField
 pub mod PlanLaw
 pub mod ReadyLemmas
 pub mod RestField
+pub mod RunBelow
 pub mod RunFold
 pub mod RunLoad
 pub mod RunPair

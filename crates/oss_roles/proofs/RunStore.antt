@@ -16,7 +16,7 @@ use Rattle.oss_words.specs.Steps.{no_flags, Gives, GivesUp}
 use Rattle.oss_words.specs.Views.{among_first}
 use Rattle.oss_roles.specs.Alone.{with_answer}
 use Rattle.oss_roles.specs.Field.{FieldAt, Parts, IsNumberOf, of_main, of_entry}
-use Rattle.oss_roles.specs.Roles.{Role}
+use Rattle.oss_roles.specs.Roles.{Role, Site}
 use Rattle.oss_roles.specs.Sights.{Bearing, Sight}
 use Rattle.oss_roles.specs.Steps.{JobGoes}
 use Rattle.oss_roles.specs.JobSteps.{stores, ended, at_once}
@@ -75,7 +75,7 @@ module _ {S : Type 0} (P : Program S) (main : Start S) (first : List ℕ) (setti
     f8 = run.f8 P main first setting infos values cell_of o act0 right0 only0 d t
 
     -- its count is read, and its job taken
-    abbrev v9 : Sight S
+    abbrev pub v9 : Sight S
     v9 = record v8 { ready = 1 ∷ 0 ∷ [] }
 
     f9 : FieldAt P main first IsJob 5 net2 (λ e. false) role1 k8 (v9 ∷ [])
@@ -83,17 +83,18 @@ module _ {S : Type 0} (P : Program S) (main : Start S) (first : List ℕ) (setti
         let g = count_reads_keep S (Job S) IsJob P main first 5 k8 (v8 ∷ []) f8.field 0 v8 v9 1 (record { sits = refl; inside = omega (arith); spent = refl; ready = refl; seen = refl; still = refl; same = record { words = refl; bears = refl; makes = refl; loaded = refl; joined = refl; owes = refl } }) in
         record { field = g.field; same_net = g.same_net ∙ f8.same_net; same_gave = g.same_gave ∙ f8.same_gave; same_role = g.same_role ∙ f8.same_role }
 
-    abbrev k10 : Parts (Job S)
+    abbrev pub k10 : Parts (Job S)
     k10 = record k8 { bodies = λ e. cond (e == 1) 2 (cond (e == 0) 2 0); jobs = λ e. None }
 
-    abbrev v10 : Bearing S → Sight S
+    abbrev pub v10 : Bearing S → Sight S
     v10 x = record v9 { bears = x ∷ c ∷ [] }
 
-    record Fetched (x : Bearing S) : Type 0 where
-      number : x.number ≡ 1
-      body : x.body ≡ (new_task P d.body o).body
-      path : x.path ≡ created_now P d.body ∷ d.path
-      rule : FieldAt P main first IsJob 5 net2 (λ e. false) role1 k10 (v10 x ∷ [])
+    pub record Fetched (x : Bearing S) : Type 0 where
+      pub number : x.number ≡ 1
+      pub body : x.body ≡ (new_task P d.body o).body
+      pub path : x.path ≡ created_now P d.body ∷ d.path
+      pub last : (z : Site) → x.last z ≡ None
+      pub rule : FieldAt P main first IsJob 5 net2 (λ e. false) role1 k10 (v10 x ∷ [])
 
     f10 : (x : Bearing S) × Fetched x
     f10 =
@@ -116,6 +117,7 @@ module _ {S : Type 0} (P : Program S) (main : Start S) (first : List ℕ) (setti
             number = y.number;
             body = sym y.is.body ∙ ap (λ (j : Job S). j.body) (sym same);
             path = path_one g.field.role (λ e r h. role_is e r (sym (ap (λ (z : ℕ → Option Role). z e) role) ∙ h)) x.number x.path y.number mine.number;
+            last = λ z. sym (y.is.last z) ∙ ap (λ (j : Job S). j.last z) (sym same);
             rule = record { field = g.field; same_net = g.same_net ∙ f9.same_net; same_gave = g.same_gave ∙ f9.same_gave; same_role = role };
           },
         )
