@@ -12,7 +12,7 @@ use Rattle.oss_words.proofs.CauseLemmas.{bools}
 use Rattle.oss_words.proofs.CountLemmas.{held_due}
 use Rattle.oss_words.proofs.DeliverLaw.{taken}
 use Rattle.oss_words.proofs.DeliverLemmas.{target_hangs}
-use Rattle.oss_roles.specs.Claims.{StartsKeep, RestsKeep, AllStandAtHome, QuietStepsKeep, NewSeatsKeep, CountReadsKeep, WordReadsKeep, LastLinksKeep, JoinsKeep, JoinedGivesKeep, DeliveriesKeep, CountDownsKeep}
+use Rattle.oss_roles.specs.Claims.{StartsKeep, RestsKeep, AllStandAtHome, IdleFieldsRest, QuietStepsKeep, NewSeatsKeep, CountReadsKeep, WordReadsKeep, LastLinksKeep, JoinsKeep, JoinedGivesKeep, DeliveriesKeep, CountDownsKeep}
 use Rattle.oss_roles.specs.Claims.{NoCountIsReady, WhatMayGoGoes, NewPathsAreFree, TasksHaveOneMaker, ParentsAreOpen, CreatorsAreOpen, LastChildrenAreLast}
 use Rattle.oss_roles.specs.Field.{Field, Parts, Sits, words_of}
 use Rattle.oss_roles.specs.Sights.{Sight, Telling}
@@ -24,7 +24,7 @@ use Rattle.oss_roles.proofs.LeaveLaw.{gives_word, begins_word, join_give_words, 
 use Rattle.oss_roles.proofs.LookLaw.{ready_field, read_field}
 use Rattle.oss_roles.proofs.MoveLaw.{agrees}
 use Rattle.oss_roles.proofs.OtherLaw.{at_words, deliver_field, down_field}
-use Rattle.oss_roles.proofs.RestField.{rest_field}
+use Rattle.oss_roles.proofs.RestField.{rest_field, idle_rest}
 use Rattle.oss_roles.proofs.SeatLaw.{quiet_field, new_seat_field}
 use Rattle.oss_roles.proofs.StartLaw.{start_at, all_home}
 use Rattle.oss_roles.proofs.WaitLaw.{ready_of}
@@ -73,6 +73,9 @@ rests_keep S J is_job P main first n net gave role k v s setting reached d =
 pub all_stand_at_home : (S J : Type 0) (is_job : Telling S J) → AllStandAtHome S J is_job
 all_stand_at_home S J is_job P main first n k sights f p u idle h =
     all_home P main first is_job n k sights f idle p u h
+
+pub idle_fields_rest : (S J : Type 0) (is_job : Telling S J) → IdleFieldsRest S J is_job
+idle_fields_rest S J is_job P main first n k v f unleft = idle_rest P main first is_job n k v f unleft
 
 pub quiet_steps_keep : (S J : Type 0) (is_job : Telling S J) → QuietStepsKeep S J is_job
 quiet_steps_keep S J is_job P main first n k sights f id v w at d =

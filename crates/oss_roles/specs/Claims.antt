@@ -56,6 +56,13 @@ AllStandAtHome S J is_job = (P : Program S) (main : Start S) (first : List ℕ) 
     → At f.state p u
     → StandsAtHome is_job k f.role p u
 
+-- A field whose one seat knows of nothing but the words is at rest, if no value is left.
+abbrev pub IdleFieldsRest : (S J : Type 0) → Telling S J → Type 0
+IdleFieldsRest S J is_job = (P : Program S) (main : Start S) (first : List ℕ) (n : ℕ) (k : Parts J) (v : View)
+    (f : Field P main first is_job n k (idle v ∷ []))
+    → ((e : ℕ) → (k.states e).left ≡ false)
+    → AtRest P is_job n f.net f.gave f.role k v f.state
+
 -- A step by which a seat holds what it held and knows no more.
 abbrev pub QuietStepsKeep : (S J : Type 0) → Telling S J → Type 0
 QuietStepsKeep S J is_job = (P : Program S) (main : Start S) (first : List ℕ) (n : ℕ) (k : Parts J) (sights : List (Sight S))

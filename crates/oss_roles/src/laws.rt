@@ -2,10 +2,11 @@
 //! function that does nothing. A crate above calls the function for its type of jobs, and then has the law.
 
 ghost use Rattle.oss_roles.specs.Claims.{AllStandAtHome, CountDownsKeep, CountReadsKeep, CreatorsAreOpen, DeliveriesKeep, FillsKeep};
-ghost use Rattle.oss_roles.specs.Claims.{FirstPutsKeep, GivesKeep, JoinedGivesKeep, JoinsKeep, LastChildrenAreLast, LastLinksKeep};
-ghost use Rattle.oss_roles.specs.Claims.{LeavesKeep, LinksKeep, LoadsKeep, NewPathsAreFree, NewSeatsKeep, NoCountIsReady, OpeningsKeep};
-ghost use Rattle.oss_roles.specs.Claims.{OwnActsKeep, OwnGivesKeep, ParentsAreOpen, PlansKeep, PutsKeep, QuietStepsKeep, RestsKeep};
-ghost use Rattle.oss_roles.specs.Claims.{StartsKeep, StoresKeep, TakesKeep, TasksHaveOneMaker, ValuesKeep, WhatMayGoGoes, WordReadsKeep};
+ghost use Rattle.oss_roles.specs.Claims.{FirstPutsKeep, GivesKeep, IdleFieldsRest, JoinedGivesKeep, JoinsKeep, LastChildrenAreLast};
+ghost use Rattle.oss_roles.specs.Claims.{LastLinksKeep, LeavesKeep, LinksKeep, LoadsKeep, NewPathsAreFree, NewSeatsKeep, NoCountIsReady};
+ghost use Rattle.oss_roles.specs.Claims.{OpeningsKeep, OwnActsKeep, OwnGivesKeep, ParentsAreOpen, PlansKeep, PutsKeep, QuietStepsKeep};
+ghost use Rattle.oss_roles.specs.Claims.{RestsKeep, StartsKeep, StoresKeep, TakesKeep, TasksHaveOneMaker, ValuesKeep, WhatMayGoGoes};
+ghost use Rattle.oss_roles.specs.Claims.{WordReadsKeep};
 
 use crate::jobs::Jobs;
 
@@ -22,6 +23,11 @@ pub fn rests_keep<S, J, R: Jobs<S, J>>()
 /// If no seat holds a job, each task of the state stands in its slot, with its body and its last children.
 pub fn all_stand_at_home<S, J, R: Jobs<S, J>>()
     ensures { AllStandAtHome S J R.is_job }
+{}
+
+/// A field whose one seat knows of nothing but the words is at rest, if no value is left for a join.
+pub fn idle_fields_rest<S, J, R: Jobs<S, J>>()
+    ensures { IdleFieldsRest S J R.is_job }
 {}
 
 /// A step by which a seat holds what it held and knows no more keeps the rule: a draw, and what becomes of a seat
