@@ -1,10 +1,10 @@
 #!/bin/sh
-# What the gate costs, in processor seconds, user and system. A command, `rt ci --anew` where none is given, runs in a clean clone of what is
-# committed; `.ci/run` on a machine that has kept nothing is the whole gate from nothing. Told are the seconds of all its processes, and the rows of
+# What the gate costs, in processor seconds, user and system. A command, `.ci/run` where none is given, runs in a clean clone of what is committed: the
+# whole gate, from nothing where the toolchain has kept nothing. `rt ci --anew` keeps those that keep what they have proved from taking it. Told are the seconds of all its processes, and the rows of
 # docs/GATE.md: of each crate its proof, its proof with its tests, and the checks of its wrong bodies. These are read off the processes every second,
 # so that each may lack a second. From nothing it takes more than an hour, in which nothing else is to run.
 top=$(cd "$(dirname -- "$0")/.." && pwd) || exit 1
-[ "$#" != 0 ] || set -- rt ci --anew
+[ "$#" != 0 ] || set -- .ci/run
 room=$(mktemp -d) || exit 1
 trap 'rm -rf "$room"' EXIT
 git clone -q "$top" "$room/clone" || exit 1

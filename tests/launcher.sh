@@ -285,7 +285,7 @@ begin cut
 until_said cut '32 % is proved'
 cut TERM
 check "a build that is cut off ends by the signal" stopped 143 cut
-check "a build that is cut off says so" says cut 'nest6: interrupted; the next call goes on after the crates that are proved'
+check "a build that is cut off says so" says cut 'nest6: interrupted; the next call builds the program'
 check "the copy is gone after a build that is cut off" cleared
 check "a build that is cut off leaves no stamp" test ! -e "$out/built-from" -a ! -e "$out/built-from.new"
 check "a build that is cut off ends its rt" is_gone "$(cat "$work/process")"

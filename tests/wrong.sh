@@ -1,11 +1,11 @@
 #!/bin/sh
 # Tries the wrong bodies of wrong/, which the gate does not try: each is to be refused. A wrong body of crate NAME is a file wrong/NAME/*.edit, written as those of
 # crates/NAME/must-fail/.
-#   tests/wrong.sh NAME..   tries those of these crates, in a copy, by `rt ci NAME..`: over what the gate has proved on this machine, if it has
+#   tests/wrong.sh NAME..   tries those of these crates, in a copy: by `rt ci NAME..`, over what the gate has proved on this machine, or by `rt must-fail NAME..`
+#                           where the toolchain keeps nothing and so takes no names there; that one proves the crates below first, but for libraries that `rt` has built in this folder
 #   tests/wrong.sh          the same of all crates
 #   tests/wrong.sh --fit    proves nothing: whether each wrong body of wrong/ and of must-fail/ fits: each text that it changes stands once in its file
-# What comes of each is kept by rt on this machine, so what has not changed is tried once. The last line counts; the status is 0 only where each was refused, or
-# fits.
+# A toolchain that keeps what it has proved tries once what has not changed. The last line counts; the status is 0 only where each was refused, or fits.
 cd "$(dirname -- "$0")/.." || exit 1
 
 # fits EDIT CRATE: whether a wrong body fits the crate in this folder; says why, where it does not. A later change applies to what the earlier ones have made.
@@ -65,7 +65,8 @@ fit_all() {
   [ "$bad" = 0 ]
 }
 
-# copy_to FOLDER NAME..: what rt reads of the crates, with the wrong bodies of the named ones in the place of those that the gate tries
+# copy_to FOLDER NAME..: what rt reads of the crates, and the libraries that it has built of them, with the wrong bodies of the named ones in the place of
+# those that the gate tries
 copy_to() {
   to=$1
   shift
@@ -75,6 +76,8 @@ copy_to() {
     for part in src specs proofs data args stdin stdout status; do
       [ ! -e "$crate/$part" ] || cp -R "$crate/$part" "$to/$crate/$part" || return 1
     done
+    # (rt takes a library only with the stamp of what it is made from)
+    [ ! -f "$crate/out/rlib/stamp" ] || { mkdir -p "$to/$crate/out" && cp -R "$crate/out/rlib" "$to/$crate/out/rlib"; } || return 1
   done
   for name; do
     cp -R "wrong/$name" "$to/crates/$name/must-fail" || return 1
@@ -110,6 +113,11 @@ trap 'exit 143' TERM
 copy_to "$work" "$@" || exit 1
 (cd "$work" && rt ci "$@") >"$work/said" 2>&1
 status=$?
+# (what takes no names says how it is called)
+if grep -q '^usage: rt ' "$work/said"; then
+  (cd "$work" && rt must-fail "$@") >"$work/said" 2>&1
+  status=$?
+fi
 grep 'must-fail ' "$work/said" | sed 's/^rt: must-fail //'
 refused=$(grep -c ': refused, as it must be' "$work/said")
 if [ "$status" != 0 ] && [ "$refused" = 0 ]; then
