@@ -11,6 +11,7 @@ pub mod Marks
 pub mod Matching
 pub mod Memory
 pub mod Moves
+pub mod Numbers
 pub mod Order
 pub mod Points
 pub mod Potential

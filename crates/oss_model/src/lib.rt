@@ -5,6 +5,7 @@ mod answer;
 mod cell;
 pub mod laws;
 mod moving;
+mod numbers;
 mod point;
 mod task_no;
 

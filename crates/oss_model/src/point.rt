@@ -8,6 +8,7 @@ ghost use Rattle.std.specs.Ordering.{MatchOrdering, nat_cmp};
 ghost use Rattle.oss_model.specs.Order.{IsBefore};
 ghost use Rattle.oss_model.specs.Points.{IsPoint, IsPointText, continued as number_with, kept_point, numbers_from, text_of};
 
+use crate::numbers::Numbers;
 use oss_syntax::{Bytes, List};
 use std::alloc::{AllocError, Global};
 use std::cmp::Ordering;
@@ -16,22 +17,31 @@ use std::marker::Model;
 /// The point of a task has at most so many numbers, and that of an act one more.
 const MOST: usize = 65;
 
-/// Where a task, or an act of it, stands: the numbers from main's 0 down.
-#[derive(Drop)]
+/// Where a task, or an act of it, stands: the numbers from main's 0 down. A few of them take no memory.
 pub struct Point {
     alloc: Global,
-    numbers: List<u16>,
+    numbers: Numbers,
+}
+
+// By hand, so that who lets one go calls this, and does not take it apart at each exit.
+impl Drop for Point {
+    fn drop(self) {
+        let Point { alloc: _, numbers } = self;
+        drop(numbers);
+    }
 }
 
 impl Model for Point {
     ghost use Rattle.std.specs.Prelude.{List as Items, ℕ};
-    ghost use Rattle.oss_model.specs.Points.{IsPoint};
 
     ghost Value = { Items ℕ };
 
-    ghost view = { λ p. p.numbers };
+    ghost use Rattle.oss_model.specs.Numbers.{numbers_in};
+    ghost use Rattle.oss_model.specs.Points.{IsPoint};
 
-    ghost invariant = { λ p. IsPoint p.numbers };
+    ghost view = { λ p. numbers_in p.numbers };
+
+    ghost invariant = { λ p. IsPoint (numbers_in p.numbers) };
 }
 
 impl Point {
@@ -39,8 +49,10 @@ impl Point {
     pub fn main(alloc: Global) -> Result<Point, AllocError>
         ensures { IfOk result (λ main. main ≡ 0 ∷ []) }
     {
-        let numbers = with_number(alloc, &[], 0)?;
-        Ok(Point { alloc, numbers })
+        Ok(Point {
+            alloc,
+            numbers: Numbers::one(0),
+        })
     }
 
     /// The point of the child that a task with this point creates after `k` others. Condition: this point has
@@ -49,7 +61,7 @@ impl Point {
         requires { length self.now < 66 }
         ensures { IfOk result (λ child. child ≡ self.now ++ k ∷ []) }
     {
-        let numbers = with_number(self.alloc, self.numbers.as_slice(), k)?;
+        let numbers = self.numbers.with(self.alloc, k)?;
         Ok(Point {
             alloc: self.alloc,
             numbers,
@@ -60,10 +72,10 @@ impl Point {
     pub fn copy(&self) -> Result<Point, AllocError>
         ensures { IfOk result (λ copy. copy ≡ self.now) }
     {
-        let numbers = Vec::from_slice(self.alloc, self.numbers.as_slice())?;
+        let numbers = self.numbers.copy(self.alloc)?;
         Ok(Point {
             alloc: self.alloc,
-            numbers: List::from_vec(numbers),
+            numbers,
         })
     }
 
@@ -119,15 +131,6 @@ impl Ord for Point {
     }
 }
 
-/// The numbers with one more behind them.
-fn with_number(alloc: Global, numbers: &[u16], k: u16) -> Result<List<u16>, AllocError>
-    ensures { IfOk result (λ more. more ≡ numbers.now ++ k ∷ []) }
-{
-    let mut more = Vec::from_slice(alloc, numbers)?;
-    more.push(k)?;
-    Ok(List::from_vec(more))
-}
-
 /// The text of a point: its numbers in decimal, joined by dots. Want of memory is the one error.
 pub fn point_text(alloc: Global, p: &[u16]) -> Result<Bytes, AllocError>
     ensures { IfOk result (λ text. text ≡ text_of p.now) }
@@ -159,6 +162,7 @@ pub fn read_point(alloc: Global, text: &[u8]) -> Result<Option<Point>, AllocErro
     let Some(numbers) = kept(numbers_of(alloc, text)?) else {
         return Ok(None);
     };
+    let numbers = Numbers::listed(alloc, numbers)?;
     Ok(Some(Point { alloc, numbers }))
 }
 

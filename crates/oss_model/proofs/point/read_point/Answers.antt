@@ -11,9 +11,9 @@ returns-in_default c p =
 pub returns : goal.returns
 returns c p =
     let is : kept_point (numbers_from None c.args.text.now) ≡ Some c.in-Some.numbers = sym (c.kept.ensures ∙ ap kept_point c.in_ok-numbers_of.ensures) ∙ c.in-Some.is in
-    rw is at (point_read c.args.text.now p)
+    rw c.in_ok-numbers.ensures (rw is at (point_read c.args.text.now p))
 
 pub invariant_of-result : goal.invariant_of-result
 invariant_of-result c =
     let is : kept_point (numbers_from None c.args.text.now) ≡ Some c.in-Some.numbers = sym (c.kept.ensures ∙ ap kept_point c.in_ok-numbers_of.ensures) ∙ c.in-Some.is in
-    ((point_read c.args.text.now c.in-Some.numbers).0 is).0.0
+    rw c.in_ok-numbers.ensures (((point_read c.args.text.now c.in-Some.numbers).0 is).0.0)
