@@ -6,6 +6,7 @@ use Rattle.oss_machine.specs.Machines.{Standing, machine_after, machine_at}
 use Rattle.oss_model.proofs.ContextLemmas.{length-table_from}
 use Rattle.oss_model.specs.Bodies.{Frame as Meant, frame_after, lent_when, one_more_created}
 use Rattle.oss_model.specs.Context.{Context, Entry, made, right_of, with_entries}
+use Rattle.oss_model.specs.Moves.{slot_more}
 use Rattle.oss_model.specs.Order.{written}
 use Rattle.oss_model.specs.Rights.{Right}
 use Rattle.oss_body.specs.declared.act.Act.{Act}
@@ -16,6 +17,8 @@ use Rattle.oss_body.specs.Behind.{IsAhead, IsLight, answered_standing, awaits_by
 use Rattle.oss_body.specs.Drafts.{Alike, IsDraft}
 use Rattle.oss_body.specs.Kept.{kept}
 use Rattle.oss_body.specs.Places.{Framed, Placed, place_of}
+use Rattle.oss_body.specs.Stacks.{stays_on}
+use Rattle.oss_syntax.specs.declared.access.Op.{Op}
 use Rattle.oss_body.proofs.DraftLemmas.{draft_alike}
 
 alike_same : (x : Context) → Alike x x
@@ -187,3 +190,32 @@ light_awaits (acts.Release clauses included) x w h = absurd h
 light_awaits (acts.Print key text) x w h = absurd h
 light_awaits acts.End x w h = absurd h
 light_awaits (acts.Fault kind line key) x w h = absurd h
+
+-- behind a tick or a light touch the task that acts is the one that did, and what is in the slots stays
+pub light_on : (a : Act) (x : Context) (alone : Bool) → IsLight a x → stays_on (act_seen a) alone ≡ true
+light_on acts.Tick x alone h = refl
+light_on (acts.Load c) x alone h = refl
+light_on (acts.Store c u) x alone h = refl
+light_on (acts.Fold c op u slot) x alone h = absurd h
+light_on (acts.Create creation included) x alone h = absurd h
+light_on acts.Await x alone h = absurd h
+light_on acts.Wait x alone h = absurd h
+light_on (acts.WaitOn ranges) x alone h = absurd h
+light_on (acts.Release clauses included) x alone h = absurd h
+light_on (acts.Print key text) x alone h = absurd h
+light_on acts.End x alone h = absurd h
+light_on (acts.Fault kind line key) x alone h = absurd h
+
+pub light_slot : (a : Act) (x : Context) (cell : ℕ) (own : Op) (held : ℕ) → IsLight a x → held ≡ slot_more (act_seen a) cell own held
+light_slot acts.Tick x cell own held h = refl
+light_slot (acts.Load c) x cell own held h = refl
+light_slot (acts.Store c u) x cell own held h = refl
+light_slot (acts.Fold c op u slot) x cell own held h = absurd h
+light_slot (acts.Create creation included) x cell own held h = absurd h
+light_slot acts.Await x cell own held h = absurd h
+light_slot acts.Wait x cell own held h = absurd h
+light_slot (acts.WaitOn ranges) x cell own held h = absurd h
+light_slot (acts.Release clauses included) x cell own held h = absurd h
+light_slot (acts.Print key text) x cell own held h = absurd h
+light_slot acts.End x cell own held h = absurd h
+light_slot (acts.Fault kind line key) x cell own held h = absurd h

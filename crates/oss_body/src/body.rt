@@ -134,6 +134,50 @@ impl Body {
         ensures pending { OnErr result (pending_of self.new ≡ pending_of self.old) }
         ensures running { OnErr result (is_over self.new ≡ false) }
     {
+        if self.advance_at_once(code, loaded) {
+            return Ok(());
+        }
+        self.advance_by_draft(code, loaded)
+    }
+
+    /// The same where nothing wants memory: the act is a tick or a touch, and so is the next one, or that is a
+    /// fault or the end. Otherwise the body stays, and this tells it.
+    #[inline(always)]
+    fn advance_at_once(&mut self, code: &Code, loaded: u64) -> bool
+        requires running { is_over self.old ≡ false }
+        ensures went { result ≡ true → (start : Start CodeScript) (found : Items ℕ) →
+            IsBody code.now start found self.old → IsBody code.now start
+            (answer_to (act_seen (pending_of self.old)) loaded ∷ found) self.new }
+        ensures stays { result ≡ false → (parts : CodeParts) (start : Start CodeScript) (found : Items ℕ) →
+            IsBody parts start found self.old → IsBody parts start found self.new }
+        ensures pending { result ≡ false → pending_of self.new ≡ pending_of self.old }
+        ensures running { result ≡ false → is_over self.new ≡ false }
+    {
+        match self
+            .tasks
+            .follow_at_once(code, &self.act, loaded, &mut self.key)
+        {
+            Some(act) => {
+                drop(mem::replace(&mut self.act, act));
+                self.begun = true;
+                true
+            }
+            None => false,
+        }
+    }
+
+    /// The same by a draft of the next act. Where memory is wanting the body stays.
+    fn advance_by_draft(&mut self, code: &Code, loaded: u64) -> Result<(), AllocError>
+        requires running { is_over self.old ≡ false }
+        requires goes { goes_on (pending_of self.old) ≡ true }
+        ensures ok { OnOk result ((start : Start CodeScript) (found : Items ℕ) →
+            IsBody code.now start found self.old → IsBody code.now start
+            (answer_to (act_seen (pending_of self.old)) loaded ∷ found) self.new) }
+        ensures stays { OnErr result ((parts : CodeParts) (start : Start CodeScript) (found : Items ℕ) →
+            IsBody parts start found self.old → IsBody parts start found self.new) }
+        ensures pending { OnErr result (pending_of self.new ≡ pending_of self.old) }
+        ensures running { OnErr result (is_over self.new ≡ false) }
+    {
         let mut key = mem::replace(&mut self.key, None);
         let act = self.tasks.follow(
             self.alloc,

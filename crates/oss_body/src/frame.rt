@@ -7,6 +7,7 @@ ghost use Rattle.oss_machine.specs.Machines.{asks, machine_after, machine_start}
 ghost use Rattle.oss_model.specs.Bodies.{Frame as Meant, child_frame, frame_act, frame_after, including_frame, one_more_created, settled_frame};
 ghost use Rattle.oss_model.specs.Context.{child_context, create_fault, made, right_of};
 ghost use Rattle.oss_body.specs.Acts.{HasContext, act_seen, answer_to, passed};
+ghost use Rattle.oss_body.specs.Behind.{IsLight};
 ghost use Rattle.oss_body.specs.Kept.{kept};
 ghost use Rattle.oss_body.specs.Places.{IsKey};
 
@@ -129,9 +130,11 @@ impl Frame {
         }
     }
 
-    /// The same where nothing wants memory: the act is a tick or a touch, and so is the next one, or that is a
-    /// fault. Otherwise nothing changes.
-    fn follow_at_once(
+    /// The act has happened, and a load found this value, where nothing wants memory: the act is a tick or a
+    /// touch, and so is the next one, or that is a fault or the end. Then the task goes on, and this tells the
+    /// act that stands next, as `next` does. Otherwise nothing changes.
+    #[inline(always)]
+    pub(crate) fn follow_at_once(
         &mut self,
         code: &Code,
         act: &Act,
@@ -153,6 +156,7 @@ impl Frame {
         ensures passed { (next : Act) → result ≡ Some next → passed next self.new.place.context ≡ true }
         ensures child { (next : Act) → result ≡ Some next → HasContext self.new.place.context next }
         ensures key { (next : Act) → result ≡ Some next → IsKey key.new self.new.place }
+        ensures light { (next : Act) → result ≡ Some next → IsLight act.now self.old.place.context }
         ensures stays { result ≡ None → self.new ≡ self.old }
         ensures same { result ≡ None → key.new ≡ key.old }
     {
@@ -172,41 +176,8 @@ impl Frame {
     /// The act has happened, which leaves the task the one that acts, and a load found this value: the task
     /// goes on, and this tells the act that stands next, as `next` does. Where memory is wanting the task
     /// stays.
-    pub(crate) fn follow(
-        &mut self,
-        alloc: Global,
-        code: &Code,
-        own: &Context,
-        included: bool,
-        act: &Act,
-        loaded: u64,
-        key: &mut Option<Point>,
-    ) -> Result<Act, AllocError>
-        requires passed { passed act.now self.old.place.context ≡ true }
-        requires key { IsKey key.old self.old.place }
-        ensures frame { OnOk result ((f : Meant CodeScript) → self.old ≡ kept code.now f →
-            HasContext f.context act.now → self.new ≡
-            kept code.now (settled_frame (asks code.now)
-            (frame_after (act_seen act.now) (answer_to (act_seen act.now) loaded) f))) }
-        ensures act { IfOk result (λ next. (f : Meant CodeScript) → self.old ≡ kept code.now f →
-            HasContext f.context act.now → act_seen next ≡ frame_act (asks code.now) (right_of own.now) included
-            (settled_frame (asks code.now) (frame_after (act_seen act.now) (answer_to (act_seen act.now) loaded)
-            f)) (settled_frame (asks code.now) (frame_after (act_seen act.now)
-            (answer_to (act_seen act.now) loaded) f)).awaits) }
-        ensures passed { IfOk result (λ next. passed next self.new.place.context ≡ true) }
-        ensures child { IfOk result (λ next. HasContext self.new.place.context next) }
-        ensures key { OnOk result (IsKey key.new self.new.place) }
-        ensures err { OnErr result (self.new ≡ self.old) }
-    {
-        match self.follow_at_once(code, act, loaded, key) {
-            Some(next) => Ok(next),
-            None => self.follow_by_draft(alloc, code, own, included, act, loaded, key),
-        }
-    }
-
-    /// The same by a draft of the next act. Where memory is wanting the task stays.
     #[tactic(auto, using(crate::proofs::BehindLemmas::behind_created, crate::proofs::BehindLemmas::draft_behind))]
-    fn follow_by_draft(
+    pub(crate) fn follow(
         &mut self,
         alloc: Global,
         code: &Code,

@@ -63,6 +63,7 @@ impl Place {
     }
 
     /// The act, or the fault that the judge has found in its place.
+    #[inline(always)]
     fn unless_fault(
         &self,
         found: Result<(), FaultKind>,

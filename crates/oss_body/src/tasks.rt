@@ -1,7 +1,8 @@
 //! The tasks of a body.
-ghost use Rattle.std.specs.Prelude.{◌≡◌, ◌<◌, true, false, suc, length, None};
-ghost use Rattle.oss_model.specs.Context.{create_fault};
+ghost use Rattle.std.specs.Prelude.{◌≡◌, ◌<◌, true, false, suc, length, None, Some, Ok};
+ghost use Rattle.oss_model.specs.Context.{Context as Meaning, create_fault};
 ghost use Rattle.oss_body.specs.Acts.{act_seen, passed};
+ghost use Rattle.oss_body.specs.Behind.{IsLight};
 ghost use Rattle.oss_body.specs.Following.{BehindAct, BehindAnswer, BehindCreation, BehindEnd, IsFollowing};
 ghost use Rattle.oss_body.specs.Places.{IsKey};
 ghost use Rattle.oss_body.specs.Stacks.{includes_in, stays_on};
@@ -93,6 +94,28 @@ impl Tasks {
             Way::Back => self.end(alloc, code, own, key),
             Way::Into => self.follow_into(alloc, code, own, act, key),
         }
+    }
+
+    /// The same where nothing wants memory: the act is a tick or a touch, and so is the next one, or that is a
+    /// fault or the end. Otherwise nothing changes.
+    #[inline(always)]
+    pub(crate) fn follow_at_once(
+        &mut self,
+        code: &Code,
+        act: &Act,
+        loaded: u64,
+        key: &mut Option<Point>,
+    ) -> Option<Act>
+        requires running { self.old.ended ≡ false }
+        requires passed { passed act.now self.old.top.place.context ≡ true }
+        requires key { IsKey key.old self.old.top.place }
+        ensures following { (next : Act) → result ≡ Some next → (own : Meaning) →
+            IsFollowing (BehindAct act.now loaded) code.now own self.old self.new key.new (Ok next) }
+        ensures light { (next : Act) → result ≡ Some next → IsLight act.now self.old.top.place.context }
+        ensures stays { result ≡ None → self.new ≡ self.old }
+        ensures same { result ≡ None → key.new ≡ key.old }
+    {
+        self.top.follow_at_once(code, act, loaded, key)
     }
 
     /// The creation of an included task has happened: that one acts next.

@@ -22,6 +22,7 @@ pub(crate) enum Turn {
 }
 
 /// The act happens: memory and output change. A fold goes straight to memory, since no other task runs beside this one.
+#[inline(always)]
 pub(crate) fn happen(
     act: &Act,
     cells: &mut Vec<u64>,

@@ -1,5 +1,5 @@
-use Rattle.std.proofs.Common.{◌≡◌, ℕ, Bool, false, refl, sym, ap, ◌∙◌}
-use Rattle.oss_machine.specs.Machines.{Poised, Standing, asks, machine_after, machine_at}
+use Rattle.std.proofs.Common.{◌≡◌, sym, ap, ◌∙◌}
+use Rattle.oss_machine.specs.Machines.{Poised, machine_after, machine_at}
 use Rattle.oss_model.specs.Bodies.{act_of_ask, frame_after}
 use Rattle.oss_body.specs.declared.act.Act.{Act}
 use Rattle.oss_body.specs.Acts.{act_seen, answer_to}

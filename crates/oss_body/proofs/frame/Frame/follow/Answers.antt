@@ -7,7 +7,7 @@ use Rattle.oss_body.specs.Drafts.{draft_fault, drafted}
 use Rattle.oss_body.specs.Places.{Framed}
 use Rattle.oss_body.proofs.BehindLemmas.{awaits_after, behind_ahead, place_behind}
 use Rattle.oss_body.proofs.FrameLemmas.{settled_kept, settled_place_is}
-use Rattle.oss_body.proofs.frame.Frame.follow_by_draft.Goals as goal
+use Rattle.oss_body.proofs.frame.Frame.follow.Goals as goal
 
 pub returns-in-Ok-clause-frame : goal.returns-in-Ok-clause-frame
 returns-in-Ok-clause-frame c = λ f e h.

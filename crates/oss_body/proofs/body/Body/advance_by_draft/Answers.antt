@@ -7,7 +7,7 @@ use Rattle.oss_body.specs.declared.own.Own.{Own}
 use Rattle.oss_body.specs.Acts.{HasContext, act_seen, answer_to}
 use Rattle.oss_body.specs.Stacks.{IsFollowed}
 use Rattle.oss_body.proofs.Advancing.{OwnAfter, advanced}
-use Rattle.oss_body.proofs.body.Body.advance.Goals as goal
+use Rattle.oss_body.proofs.body.Body.advance_by_draft.Goals as goal
 
 pub returns-clause-ok : goal.returns-clause-ok
 returns-clause-ok c = λ start found is.
