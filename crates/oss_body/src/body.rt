@@ -15,7 +15,7 @@ ghost use Rattle.oss_syntax.specs.declared.access.Op.{Op};
 ghost use Rattle.oss_body.specs.Acts.{act_seen, answer_to, creates, goes_on, passed};
 ghost use Rattle.oss_body.specs.Places.{IsKey};
 
-use crate::act::Act;
+use crate::act::{Act, let_go};
 use crate::below::Below;
 use crate::frame::Frame;
 use crate::own::Own;
@@ -158,7 +158,7 @@ impl Body {
             .follow_at_once(code, &self.act, loaded, &mut self.key)
         {
             Some(act) => {
-                drop(mem::replace(&mut self.act, act));
+                let_go(mem::replace(&mut self.act, act));
                 self.begun = true;
                 true
             }
