@@ -1,5 +1,5 @@
 -- Where pieces begin and end.
-use Rattle.std.specs.Prelude.{◌≡◌, ◌⊎◌, ℕ, Bool, true, false, nat_lt, ◌&&◌, min, if◌then◌else◌, List, [], ◌∷◌, Option, Some, None}
+use Rattle.std.specs.Prelude.{◌≡◌, ◌⊎◌, ℕ, Bool, true, false, nat_lt, ◌&&◌, min, if◌then◌else◌, List, [], ◌∷◌, Some}
 use Rattle.std.proofs.Common.{sym, ap, subst, arith, inl, inr}
 use Rattle.oss_ranges.specs.Cells.{cut_at, EdgesFrom, inserted, IsEdge, next_of, outside}
 use Rattle.oss_ranges.specs.declared.piece.Piece.{Piece}

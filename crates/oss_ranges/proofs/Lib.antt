@@ -3,6 +3,7 @@ pub mod ClipLemmas
 pub mod CopyLemmas
 pub mod CutLemmas
 pub mod EdgeLemmas
+pub mod FlatLemmas
 pub mod JoinLemmas
 pub mod MapLemmas
 pub mod MergeLemmas

@@ -2,10 +2,13 @@
 //! how many cells it names.
 #![tactic(auto)]
 
+mod flat_map;
 mod map;
 mod piece;
 mod pieces;
+mod store;
 mod tree;
+mod tree_map;
 
 pub use map::RangeMap;
 pub use piece::Piece;

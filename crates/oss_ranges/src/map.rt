@@ -1,20 +1,21 @@
-//! The range map: pieces in a balanced tree, and spare nodes that are taken before a change, so that it is made
-//! as a whole or not at all.
+//! The range map: pieces in a list or a tree, and room that is taken before a change, so that it is made as a whole
+//! or not at all.
 
-ghost use Rattle.std.specs.Prelude.{◌≡◌, ◌≤◌, ◌<◌, ◌+◌, ◌*◌, ◌^◌, ◌⊎◌, [], ◌∷◌, ℕ, true, Some, None, is_some, IfOk, IsOk, OnOk, OnErr, length};
+ghost use Rattle.std.specs.Prelude.{◌≡◌, ◌≤◌, ◌<◌, ◌+◌, ◌*◌, ◌^◌, ◌⊎◌, [], ◌∷◌, ℕ, true, Some, None, is_some, IfOk, IsOk, OnOk, OnErr};
 ghost use Rattle.oss_ranges.specs.Cells.{Assigns, Cuts, CutsAround, EdgesFrom, IsEdge, IsExactly, IsMerged, Restricts, Rises, SameMap, cut_at, emptied, inserted, is_before, joined_at, next_of, outside, removed, union_of, value_at};
+ghost use Rattle.oss_ranges.specs.Stores.{kept_of};
 
-use crate::piece::Piece;
+use crate::flat_map::FlatMap;
+use crate::piece::{Piece, begins_before};
 use crate::pieces::Pieces;
-use crate::tree::{Node, Tree};
+use crate::store::Store;
 use oss_syntax::Range;
 use std::alloc::{AllocError, Global};
 use std::marker::Model;
-use std::mem;
 
-/// How many nodes one call may need that changes the map: two for the cuts at the ends of a range, and one for
-/// a new piece.
-const NODES: usize = 3;
+/// For how many more pieces one call may need room that changes the map: two for the cuts at the ends of a range,
+/// and one for a new piece.
+const MORE: usize = 3;
 
 /// A program has no cell from here on.
 const CELLS: u32 = 1_048_576;
@@ -24,33 +25,26 @@ const CELLS: u32 = 1_048_576;
 pub struct RangeMap<T: Copy + Eq> {
     alloc: Global,
     /// The pieces, none of which is empty.
-    tree: Tree<T>,
-    /// Nodes for changes to come. Nodes of pieces that go away are freed, and not put here.
-    spares: Vec<Box<Node<T>>>,
+    store: Store<T>,
 }
 
 // By hand, so that who lets one go calls this, and does not take it apart at each exit.
 impl<T: Copy + Eq> Drop for RangeMap<T> {
     fn drop(self) {
-        let RangeMap {
-            alloc: _,
-            tree,
-            spares,
-        } = self;
-        drop(tree);
-        drop(spares);
+        let RangeMap { alloc: _, store } = self;
+        drop(store);
     }
 }
 
 impl<T: Copy + Eq> Model for RangeMap<T> {
-    ghost use Rattle.std.specs.Prelude.{length};
     ghost use Rattle.oss_ranges.specs.Cells.{Kept, Rises};
+    ghost use Rattle.oss_ranges.specs.Stores.{kept_of};
 
     ghost Value = { Kept T };
 
-    ghost view = { λ m. record { pieces = m.tree; spares = length m.spares.items } };
+    ghost view = { λ m. kept_of m.store };
 
-    ghost invariant = { λ m. Rises 0 m.tree 1048576 };
+    ghost invariant = { λ m. Rises 0 (kept_of m.store).pieces 1048576 };
 }
 
 impl<T: Copy + Eq> RangeMap<T> {
@@ -60,8 +54,7 @@ impl<T: Copy + Eq> RangeMap<T> {
     {
         RangeMap {
             alloc,
-            tree: Tree::new(),
-            spares: Vec::new(alloc),
+            store: Store::Flat(FlatMap::new(alloc)),
         }
     }
 
@@ -69,7 +62,7 @@ impl<T: Copy + Eq> RangeMap<T> {
     pub fn get(&self, cell: u32) -> Option<T>
         ensures { result ≡ value_at self.now.pieces cell }
     {
-        match self.tree.next(cell) {
+        match self.next(cell) {
             Some(piece) => piece.value_at_or_behind(cell),
             None => None,
         }
@@ -85,7 +78,7 @@ impl<T: Copy + Eq> RangeMap<T> {
         ensures whole { (result.1 ≡ to) ⊎ IsEdge result.1 self.now.pieces }
         ensures past { (cell : ℕ) → 1048576 ≤ cell → value_at self.now.pieces cell ≡ None }
     {
-        match self.tree.next(from) {
+        match self.next(from) {
             Some(piece) => {
                 if piece.lo <= from {
                     (Some(piece.value), piece.hi.min(to))
@@ -102,7 +95,7 @@ impl<T: Copy + Eq> RangeMap<T> {
         ensures map { Restricts range.lo range.hi self.now.pieces result }
         ensures rising { Rises range.lo result range.hi }
     {
-        Pieces::of(&self.tree, range)
+        Pieces::of(&self.store, range)
     }
 
     /// Gives all cells of a range this value. After want of memory the map is as it was.
@@ -136,7 +129,7 @@ impl<T: Copy + Eq> RangeMap<T> {
         ensures spares { self.old.spares ≤ self.new.spares + 3 }
     {
         if self.has_within(range) {
-            self.prepare(NODES)?;
+            self.prepare(MORE)?;
             self.empty(range);
         }
         Ok(())
@@ -174,7 +167,7 @@ impl<T: Copy + Eq> RangeMap<T> {
         ensures room { 3 ≤ self.old.spares → IsOk result }
         ensures spares { self.old.spares ≤ self.new.spares + 3 }
     {
-        self.prepare(NODES)?;
+        self.prepare(MORE)?;
         self.cut(cell);
         Ok(())
     }
@@ -187,7 +180,7 @@ impl<T: Copy + Eq> RangeMap<T> {
         ensures enough { 3 * calls ≤ self.old.spares → IsOk result }
         ensures spares { self.old.spares ≤ self.new.spares }
     {
-        self.prepare(NODES * calls as usize)
+        self.prepare(MORE * calls as usize)
     }
 
     /// The same for any number of calls. More calls than memory can have nodes for want memory.
@@ -196,8 +189,8 @@ impl<T: Copy + Eq> RangeMap<T> {
         ensures room { OnOk result (3 * calls ≤ self.new.spares) }
         ensures spares { self.old.spares ≤ self.new.spares }
     {
-        match calls.checked_mul(NODES) {
-            Some(nodes) => self.prepare(nodes),
+        match calls.checked_mul(MORE) {
+            Some(more) => self.prepare(more),
             None => Err(AllocError),
         }
     }
@@ -210,7 +203,7 @@ impl<T: Copy + Eq> RangeMap<T> {
         ensures pieces { self.new.pieces ≡ joined_at T.eq cell self.old.pieces }
         ensures spares { self.new.spares ≡ self.old.spares }
     {
-        self.tree = joined(mem::replace(&mut self.tree, Tree::new()), cell);
+        join(&mut self.store, cell);
     }
 
     /// Joins all pieces that touch and have one value. No cell changes its value, where equal values are
@@ -221,25 +214,30 @@ impl<T: Copy + Eq> RangeMap<T> {
         ensures merged { IsMerged T.eq self.new.pieces }
         ensures spares { self.new.spares ≡ self.old.spares }
     {
-        self.tree = merged(mem::replace(&mut self.tree, Tree::new()));
+        merge(&mut self.store);
     }
 
     /// A copy of the map. It takes memory for its pieces.
     pub fn copy(&self) -> Result<RangeMap<T>, AllocError>
         ensures { IfOk result (λ copy. copy.pieces ≡ self.now.pieces) }
     {
-        let mut copy = RangeMap::new(self.alloc);
-        let mut from = 0;
-        'pieces: while let Some(piece) = self.tree.next(from) {
-            copy.prepare(1)?;
-            copy.insert(piece);
-            from = piece.hi;
-        }
-        Ok(copy)
+        let store = self.store.copy(self.alloc)?;
+        Ok(RangeMap {
+            alloc: self.alloc,
+            store,
+        })
     }
 
-    /// Puts a piece with the cells of a range in place of what is there. It takes one node where no cell of the
-    /// range has a value, and no memory where one piece has the cells of the range and no others.
+    /// The first piece that ends behind a cell. It takes no memory.
+    fn next(&self, cell: u32) -> Option<Piece<T>>
+        ensures found { result ≡ next_of cell self.now.pieces }
+        ensures rising { Rises 0 self.now.pieces 1048576 }
+    {
+        self.store.next(cell)
+    }
+
+    /// Puts a piece with the cells of a range in place of what is there. It asks for room for one more where no cell
+    /// of the range has a value, and no memory where one piece has the cells of the range and no others.
     fn put(&mut self, range: Range, piece: Piece<T>) -> Result<(), AllocError>
         requires begins { piece.lo ≡ range.lo }
         requires ends { piece.hi ≡ range.hi }
@@ -252,7 +250,7 @@ impl<T: Copy + Eq> RangeMap<T> {
         if self.is_piece(range) {
             self.replace(piece);
         } else if self.has_within(range) {
-            self.prepare(NODES)?;
+            self.prepare(MORE)?;
             self.empty(range);
             self.insert(piece);
         } else {
@@ -267,26 +265,20 @@ impl<T: Copy + Eq> RangeMap<T> {
         ensures exactly { result ≡ true → IsExactly range.lo range.hi (next_of range.lo self.now.pieces) }
         ensures rising { Rises 0 self.now.pieces 1048576 }
     {
-        match self.tree.next(range.lo) {
+        match self.next(range.lo) {
             Some(piece) => piece.lo == range.lo && piece.hi == range.hi,
             None => false,
         }
     }
 
-    /// Puts a piece in place of the first that ends behind its first cell, in the node of that one. It takes no memory.
+    /// Puts a piece in place of the first that ends behind its first cell. It takes no memory.
     fn replace(&mut self, piece: Piece<T>)
         requires found { is_some (next_of piece.lo self.old.pieces) ≡ true }
         requires rising { Rises 0 (inserted piece (removed piece.lo self.old.pieces)) 1048576 }
         ensures pieces { self.new.pieces ≡ inserted piece (removed piece.lo self.old.pieces) }
         ensures spares { self.new.spares ≡ self.old.spares }
     {
-        let (node, rest) = mem::replace(&mut self.tree, Tree::new()).without(piece.lo);
-        match node {
-            Some(node) => {
-                self.tree = rest.with(piece, node);
-            }
-            None => unreachable!(),
-        }
+        self.store.replace(piece);
     }
 
     /// Whether a cell of a range has a value. It takes no memory.
@@ -294,18 +286,18 @@ impl<T: Copy + Eq> RangeMap<T> {
         ensures within { result ≡ is_before (next_of range.lo self.now.pieces) range.hi }
         ensures rising { Rises 0 self.now.pieces 1048576 }
     {
-        begins_before(self.tree.next(range.lo), range.hi)
+        begins_before(self.next(range.lo), range.hi)
     }
 
-    /// Takes nodes into reserve until there are so many.
-    fn prepare(&mut self, nodes: usize) -> Result<(), AllocError>
+    /// Makes room for so many more pieces.
+    fn prepare(&mut self, more: usize) -> Result<(), AllocError>
         ensures same { self.new.pieces ≡ self.old.pieces }
-        ensures ready { OnOk result (nodes ≤ self.new.spares) }
-        ensures room { nodes ≤ self.old.spares → IsOk result }
+        ensures ready { OnOk result (more ≤ self.new.spares) }
+        ensures room { more ≤ self.old.spares → IsOk result }
         ensures spares { self.old.spares ≤ self.new.spares }
         ensures rising { Rises 0 self.new.pieces 1048576 }
     {
-        stock(self.alloc, nodes, &mut self.spares)
+        self.store.prepare(self.alloc, more)
     }
 
     /// Puts a piece where no other is.
@@ -315,12 +307,7 @@ impl<T: Copy + Eq> RangeMap<T> {
         ensures pieces { self.new.pieces ≡ inserted piece self.old.pieces }
         ensures spares { self.old.spares ≡ self.new.spares + 1 }
     {
-        match self.spares.pop() {
-            Some(node) => {
-                self.tree = mem::replace(&mut self.tree, Tree::new()).with(piece, node);
-            }
-            None => unreachable!(),
-        }
+        self.store.insert(piece);
     }
 
     /// Cuts the piece that has this cell and the one before it.
@@ -329,12 +316,7 @@ impl<T: Copy + Eq> RangeMap<T> {
         ensures pieces { self.new.pieces ≡ cut_at cell self.old.pieces }
         ensures spares { self.old.spares ≤ self.new.spares + 1 }
     {
-        match self.spares.pop() {
-            Some(node) => {
-                self.tree = parted(mem::replace(&mut self.tree, Tree::new()), cell, node);
-            }
-            None => unreachable!(),
-        }
+        self.store.cut(cell);
     }
 
     /// Takes the values of the cells of a range away.
@@ -353,115 +335,37 @@ impl<T: Copy + Eq> RangeMap<T> {
         ensures pieces { self.new.pieces ≡ outside range.lo range.hi self.old.pieces }
         ensures spares { self.new.spares ≡ self.old.spares }
     {
-        self.tree = without_range(
-            mem::replace(&mut self.tree, Tree::new()),
-            range.lo,
-            range.hi,
-        );
+        self.store.remove(range.lo, range.hi);
     }
 }
 
-/// Takes nodes into reserve until there are so many.
-fn stock<T: Copy>(
-    alloc: Global,
-    nodes: usize,
-    spares: &mut Vec<Box<Node<T>>>,
-) -> Result<(), AllocError>
-    ensures ready { OnOk result (nodes ≤ length spares.new.items) }
-    ensures room { nodes ≤ length spares.old.items → IsOk result }
-    ensures kept { length spares.old.items ≤ length spares.new.items }
+/// Joins the pieces that end and begin at a cell, where they have one value.
+fn join<T: Copy + Eq>(store: &mut Store<T>, cell: u32)
+    ensures pieces { (kept_of store.new).pieces ≡ joined_at T.eq cell (kept_of store.old).pieces }
+    ensures spares { (kept_of store.new).spares ≡ (kept_of store.old).spares }
+    ensures rising { Rises 0 (kept_of store.new).pieces 1048576 }
 {
-    for count in spares.len()..nodes {
-        let node = Box::new(alloc, Node::spare())?;
-        match spares.push(node) {
-            Ok(()) => {}
-            Err(full) => return Err(AllocError::from(full)),
-        }
-    }
-    Ok(())
-}
-
-/// The tree with the piece cut that has this cell and the one before it.
-fn parted<T: Copy>(tree: Tree<T>, cell: u32, spare: Box<Node<T>>) -> Tree<T>
-    requires { Rises 0 tree 1048576 }
-    ensures { result ≡ cut_at cell tree }
-{
-    match tree.next(cell) {
-        Some(piece) => {
-            if piece.lo < cell {
-                in_two(tree, piece, cell, spare)
-            } else {
-                tree
-            }
-        }
-        None => tree,
+    let front = store.next(cell.saturating_sub(1));
+    match union(front, store.next(cell), cell) {
+        Some(whole) => store.unite(whole),
+        None => {}
     }
 }
 
-/// The tree with two parts of a piece in place of it.
-fn in_two<T: Copy>(tree: Tree<T>, piece: Piece<T>, cell: u32, spare: Box<Node<T>>) -> Tree<T>
-    requires rising { Rises 0 tree 1048576 }
-    requires piece { next_of cell tree ≡ Some piece }
-    requires inside { piece.lo < cell }
-    ensures { result ≡ cut_at cell tree }
-{
-    let (node, rest) = tree.without(cell);
-    let front = Piece {
-        lo: piece.lo,
-        hi: cell,
-        value: piece.value,
-    };
-    let back = Piece {
-        lo: cell,
-        hi: piece.hi,
-        value: piece.value,
-    };
-    match node {
-        Some(node) => rest.with(front, node).with(back, spare),
-        None => unreachable!(),
-    }
-}
-
-/// The tree without the pieces that have a cell from `lo` up to `hi`.
-fn without_range<T: Copy>(tree: Tree<T>, lo: u32, hi: u32) -> Tree<T>
-    requires { Rises 0 tree 1048576 }
-    ensures { result ≡ outside lo hi tree }
-{
-    let mut left = tree;
-    while begins_before(left.next(lo), hi) {
-        let (_, rest) = left.without(lo);
-        left = rest;
-    }
-    left
-}
-
-/// The tree with the pieces joined that end and begin at a cell, where they have one value.
-fn joined<T: Copy + Eq>(tree: Tree<T>, cell: u32) -> Tree<T>
-    requires { Rises 0 tree 1048576 }
-    ensures { result ≡ joined_at T.eq cell tree }
-{
-    let front = tree.next(cell.saturating_sub(1));
-    match union(front, tree.next(cell), cell) {
-        Some(whole) => as_one(tree, whole),
-        None => tree,
-    }
-}
-
-/// The tree with all pieces joined that touch and have one value.
-fn merged<T: Copy + Eq>(tree: Tree<T>) -> Tree<T>
-    requires rising { Rises 0 tree 1048576 }
+/// Joins all pieces that touch and have one value.
+fn merge<T: Copy + Eq>(store: &mut Store<T>)
+    requires rising { Rises 0 (kept_of store.old).pieces 1048576 }
     requires same { (a b : T) → T.eq a b ≡ true → a ≡ b }
-    ensures map { SameMap tree result }
-    ensures merged { IsMerged T.eq result }
-    ensures rising { Rises 0 result 1048576 }
+    ensures map { SameMap (kept_of store.old).pieces (kept_of store.new).pieces }
+    ensures merged { IsMerged T.eq (kept_of store.new).pieces }
+    ensures spares { (kept_of store.new).spares ≡ (kept_of store.old).spares }
+    ensures rising { Rises 0 (kept_of store.new).pieces 1048576 }
 {
-    let mut left = tree;
     let mut from = 0;
-    'pieces: while let Some(piece) = left.next(from) {
+    'pieces: while let Some(piece) = store.next(from) {
         from = piece.hi;
-        left = joined(left, from);
+        join(store, from);
     }
-    left
 }
 
 /// Two pieces as one, where they touch at a cell and have one value.
@@ -485,29 +389,5 @@ fn union<T: Copy + Eq>(
             }
         }
         _ => None,
-    }
-}
-
-/// Whether there is a piece, and it begins before a cell.
-fn begins_before<T: Copy>(piece: Option<Piece<T>>, cell: u32) -> bool
-    ensures { result ≡ is_before piece cell }
-{
-    match piece {
-        Some(piece) => piece.lo < cell,
-        None => false,
-    }
-}
-
-/// The tree with this piece in place of the two of which it is made.
-fn as_one<T: Copy>(tree: Tree<T>, whole: Piece<T>) -> Tree<T>
-    requires rising { Rises 0 (inserted whole (removed whole.lo (removed whole.lo tree))) 1048576 }
-    requires found { is_some (next_of whole.lo tree) ≡ true }
-    ensures { result ≡ inserted whole (removed whole.lo (removed whole.lo tree)) }
-{
-    let (node, rest) = tree.without(whole.lo);
-    let (_, rest) = rest.without(whole.lo);
-    match node {
-        Some(node) => rest.with(whole, node),
-        None => unreachable!(),
     }
 }

@@ -1,7 +1,7 @@
 //! One piece of a map: neighbouring cells with one value.
 
 ghost use Rattle.std.specs.Prelude.{◌≡◌};
-ghost use Rattle.oss_ranges.specs.Cells.{told_by};
+ghost use Rattle.oss_ranges.specs.Cells.{is_before, told_by};
 
 /// The cells from `lo` up to `hi`, `hi` excluded, which all have this value.
 #[derive(Clone, Copy)]
@@ -21,5 +21,15 @@ impl<T: Copy> Piece<T> {
         } else {
             None
         }
+    }
+}
+
+/// Whether there is a piece, and it begins before a cell.
+pub(crate) fn begins_before<T: Copy>(piece: Option<Piece<T>>, cell: u32) -> bool
+    ensures { result ≡ is_before piece cell }
+{
+    match piece {
+        Some(piece) => piece.lo < cell,
+        None => false,
     }
 }

@@ -3,15 +3,16 @@
 
 ghost use Rattle.std.specs.Prelude.{◌≡◌, ◌≤◌};
 ghost use Rattle.oss_ranges.specs.Cells.{Rises, clipped};
+ghost use Rattle.oss_ranges.specs.Stores.{kept_of};
 
-use crate::tree::Tree;
+use crate::store::Store;
 use oss_syntax::Range;
 use std::marker::Model;
 
 /// The pieces of a map on a range, in rising order: contracts see those that are left, cut at the ends of the range.
 #[derive(Drop)]
 pub struct Pieces<'m, T: Copy> {
-    tree: &'m Tree<T>,
+    store: &'m Store<T>,
     /// The cell up to which pieces were told.
     from: u32,
     /// The end of the range.
@@ -22,22 +23,23 @@ impl<'m, T: Copy> Model for Pieces<'m, T> {
     ghost use Rattle.std.specs.Prelude.{◌≤◌, List};
     ghost use Rattle.oss_ranges.specs.declared.piece.Piece.{Piece};
     ghost use Rattle.oss_ranges.specs.Cells.{Rises, clipped};
+    ghost use Rattle.oss_ranges.specs.Stores.{kept_of};
 
     ghost Value = { List (Piece T) };
 
-    ghost view = { λ s. clipped s.from s.to s.tree.now };
+    ghost view = { λ s. clipped s.from s.to (kept_of s.store.now).pieces };
 
-    ghost invariant = { λ s. Rises 0 s.tree.now 1048576 × (s.to ≤ 1048576) };
+    ghost invariant = { λ s. Rises 0 (kept_of s.store.now).pieces 1048576 × (s.to ≤ 1048576) };
 }
 
 impl<'m, T: Copy> Pieces<'m, T> {
-    /// The pieces of a tree on a range.
-    pub(crate) fn of(tree: &'m Tree<T>, range: Range) -> Pieces<'m, T>
-        requires { Rises 0 tree.now 1048576 }
-        ensures { result ≡ clipped range.lo range.hi tree.now }
+    /// The pieces of a map on a range.
+    pub(crate) fn of(store: &'m Store<T>, range: Range) -> Pieces<'m, T>
+        requires { Rises 0 (kept_of store.now).pieces 1048576 }
+        ensures { result ≡ clipped range.lo range.hi (kept_of store.now).pieces }
     {
         Pieces {
-            tree,
+            store,
             from: range.lo,
             to: range.hi,
         }
@@ -55,7 +57,7 @@ impl<'m, T: Copy> Iterator for Pieces<'m, T> {
     ghost remaining = { item_count (λ s. s) };
 
     fn next(&mut self) -> Option<(Range, T)> {
-        match self.tree.next(self.from) {
+        match self.store.next(self.from) {
             Some(piece) => {
                 let lo = piece.lo.max(self.from);
                 let hi = piece.hi.min(self.to);

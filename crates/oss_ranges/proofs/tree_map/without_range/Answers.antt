@@ -2,7 +2,7 @@ use Rattle.std.proofs.Common.{◌≡◌, true, false, sym, ◌∙◌}
 use Rattle.oss_ranges.specs.Cells.{is_before, next_of}
 use Rattle.oss_ranges.proofs.MapLemmas.{outside_none, outside_removed, removed_shorter}
 use Rattle.oss_ranges.proofs.PieceLemmas.{removed_rises}
-use Rattle.oss_ranges.proofs.map.without_range.Goals as goal
+use Rattle.oss_ranges.proofs.tree_map.without_range.Goals as goal
 
 pub loop-left-smaller : goal.loop-left-smaller
 loop-left-smaller g c =

@@ -1,6 +1,6 @@
 use Rattle.oss_ranges.specs.Cells.{inserted, removed}
 use Rattle.oss_ranges.proofs.CutLemmas.{cut_rises, inserted_less, parts_inserted}
-use Rattle.oss_ranges.proofs.map.in_two.Goals as goal
+use Rattle.oss_ranges.proofs.tree_map.in_two.Goals as goal
 
 pub with-requires : goal.with-requires
 with-requires g c =

@@ -1,7 +1,7 @@
 use Rattle.std.proofs.Common.{◌≡◌, Some, None, sym}
 use Rattle.oss_ranges.specs.Cells.{next_of}
 use Rattle.oss_ranges.proofs.CutLemmas.{cut_begin, cut_none}
-use Rattle.oss_ranges.proofs.map.parted.Goals as goal
+use Rattle.oss_ranges.proofs.tree_map.parted.Goals as goal
 
 pub returns-else-piece-cell : goal.returns-else-piece-cell
 returns-else-piece-cell g c =
