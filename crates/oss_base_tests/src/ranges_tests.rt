@@ -77,6 +77,26 @@ impl Twins {
         }
         Ok(())
     }
+
+    /// Takes the values of the cells from this one on away, in both alike.
+    fn truncate(&mut self, cells: u32) -> Result<(), AllocError> {
+        self.map.truncate(cells)?;
+        let mut place = 0u32;
+        for cell in self.cells.iter_mut() {
+            if cells <= place {
+                *cell = None;
+            }
+            place = place.saturating_add(1);
+        }
+        Ok(())
+    }
+
+    /// Puts a copy in place of the map.
+    fn copy_map(&mut self) -> Result<(), AllocError> {
+        let copy = self.map.copy()?;
+        self.map = copy;
+        Ok(())
+    }
 }
 
 /// The values of all cells agree, one by one and as they are told by the pieces.
@@ -102,11 +122,10 @@ fn assert_alike(rt: &impl Abort, twins: &Twins, range: Range) {
     }
 }
 
-#[test]
-fn a_map_answers_like_a_vector_of_cells(rt: HostRuntime) -> Result<(), Fail> {
+/// So many calls, which change both alike, each with a look at all cells.
+fn change_at_random(rt: &impl Abort, twins: &mut Twins, calls: u32) -> Result<(), AllocError> {
     let mut random = Random { state: 7 };
-    let mut twins = Twins::new(rt.alloc())?;
-    for _ in 0..10_000 {
+    for _ in 0..calls {
         let range = random.range();
         match random.below(8) {
             0 => twins.map.merge_same(),
@@ -118,7 +137,59 @@ fn a_map_answers_like_a_vector_of_cells(rt: HostRuntime) -> Result<(), Fail> {
                 twins.set(range, Some(value as u8))?;
             }
         }
-        assert_alike(&rt, &twins, range);
+        assert_alike(rt, twins, range);
+    }
+    Ok(())
+}
+
+#[test]
+fn a_map_answers_like_a_vector_of_cells(rt: HostRuntime) -> Result<(), Fail> {
+    let mut twins = Twins::new(rt.alloc())?;
+    change_at_random(&rt, &mut twins, 10_000)?;
+    Ok(())
+}
+
+/// The same where room is made for so many pieces that the map is a tree from the first on.
+#[test]
+fn a_map_with_much_room_answers_like_a_vector_of_cells(rt: HostRuntime) -> Result<(), Fail> {
+    let mut twins = Twins::new(rt.alloc())?;
+    twins.map.reserve(100)?;
+    change_at_random(&rt, &mut twins, 2_000)?;
+    Ok(())
+}
+
+/// Each cell becomes a piece of its own, which is more than a list takes. Then every second one goes, and then the
+/// last ones, until none is left; and the map, or a copy of it, can be filled again.
+#[test]
+fn a_map_of_many_pieces_answers_alike_there_and_back(rt: HostRuntime) -> Result<(), Fail> {
+    let all = Range { lo: 0, hi: CELLS };
+    let mut twins = Twins::new(rt.alloc())?;
+    for round in 0..3u32 {
+        for cell in 0..CELLS {
+            let value = cell.wrapping_add(round) % 3;
+            let single = Range {
+                lo: cell,
+                hi: cell + 1,
+            };
+            twins.set(single, Some(value as u8))?;
+            assert_alike(&rt, &twins, all);
+        }
+        for half in 0..CELLS / 2 {
+            let single = Range {
+                lo: half * 2,
+                hi: half * 2 + 1,
+            };
+            twins.set(single, None)?;
+            assert_alike(&rt, &twins, all);
+        }
+        twins.copy_map()?;
+        for less in 0..CELLS {
+            twins.truncate(CELLS - less)?;
+            assert_alike(&rt, &twins, all);
+        }
+        twins.truncate(0)?;
+        assert_alike(&rt, &twins, all);
+        twins.copy_map()?;
     }
     Ok(())
 }

@@ -6,4 +6,4 @@ use Rattle.oss_ranges.specs.declared.store.Store.TheVariants.{Flat, Tree}
 -- what contracts see of a map, wherever its pieces are kept
 abbrev pub kept_of : {T : Type 0} → Store T → Kept T
 kept_of (Flat flat) = flat
-kept_of (Tree tree) = tree
+kept_of (Tree tree) = tree.value

@@ -15,8 +15,9 @@ use std::alloc::{AllocError, Global};
 pub(crate) enum Store<T: Copy> {
     /// A list, for few pieces: a map of one takes one piece of memory.
     Flat(FlatMap<T>),
-    /// A balanced tree. It stays one if pieces go away.
-    Tree(TreeMap<T>),
+    /// A balanced tree. It stays one if pieces go away. It stands in a box, so that a map of few pieces is no larger than
+    /// its list.
+    Tree(Box<TreeMap<T>>),
 }
 
 impl<T: Copy> Store<T> {
@@ -170,9 +171,13 @@ impl<T: Copy> Store<T> {
 }
 
 /// A tree with the pieces of a map, and room for so many more.
-fn as_tree<T: Copy>(alloc: Global, store: &Store<T>, more: usize) -> Result<TreeMap<T>, AllocError>
+fn as_tree<T: Copy>(
+    alloc: Global,
+    store: &Store<T>,
+    more: usize,
+) -> Result<Box<TreeMap<T>>, AllocError>
     requires { Rises 0 (kept_of store.now).pieces 1048576 }
-    ensures { IfOk result (λ tree. (tree.pieces ≡ (kept_of store.now).pieces) × (more ≤ tree.spares)) }
+    ensures { IfOk result (λ tree. (tree.value.pieces ≡ (kept_of store.now).pieces) × (more ≤ tree.value.spares)) }
 {
     let mut tree = TreeMap::new(alloc);
     let mut from = 0;
@@ -182,5 +187,6 @@ fn as_tree<T: Copy>(alloc: Global, store: &Store<T>, more: usize) -> Result<Tree
         from = piece.hi;
     }
     tree.prepare(alloc, more)?;
+    let tree = Box::new(alloc, tree)?;
     Ok(tree)
 }

@@ -32,4 +32,4 @@ pieces-preserved g c =
 pub returns : goal.returns
 returns g c =
     let all = c.pieces.invariant.0 ∙ front_all c.pieces.from (kept_of c.args.store.now).pieces (sym c.next.ensures.found ∙ c.in_default.is) in
-    (c.in_ok-prepare-2.ensures.same ∙ all, c.in_ok-prepare-2.ensures.ready)
+    rw c.in_ok-tree.ensures.ok (c.in_ok-prepare-2.ensures.same ∙ all, c.in_ok-prepare-2.ensures.ready)
