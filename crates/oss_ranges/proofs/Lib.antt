@@ -9,3 +9,4 @@ pub mod MapLemmas
 pub mod MergeLemmas
 pub mod NodeLemmas
 pub mod PieceLemmas
+pub mod SendLemmas

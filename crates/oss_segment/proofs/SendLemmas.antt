@@ -1,6 +1,5 @@
 -- A body, a part of one, and a body that stands before its part may go to another thread: each owns plain data alone.
 use denote.Builtin.{u64}
-use denote.RattleType.{RattleType}
 use denote.Ref.{NamedLft}
 use denote.Param.Send.{IsSend, sendable, view_send, recorded_send, enum_send, struct_send}
 use denote.Enum.Declared as enum
@@ -9,15 +8,12 @@ use Rattle.std.proofs.alloc.Global.TheSendSync as heap
 use Rattle.std.proofs.Crossing.{crosses}
 use Rattle.std.specs.Prelude.{true}
 use Rattle.std.specs.declared.cmp.PartialEq.{Ghosts}
-use Rattle.oss_ranges.proofs.tree.Tree.TheLaws.TheKnot.{send-Tree, send-Node}
+use Rattle.oss_ranges.proofs.SendLemmas.{map_send}
 use Rattle.oss_judge.specs.contracts.context.Context as context
 use Rattle.oss_judge.specs.contracts.context.Context.TheInside as inside
 use Rattle.oss_judge.proofs.right.Right.TheSendSync as right
 use Rattle.oss_judge.proofs.lending.Lending.TheSendSync as lending
 use Rattle.oss_judge.proofs.mark.Mark.TheSendSync as mark
-use Rattle.oss_ranges.specs.contracts.map.RangeMap as map
-use Rattle.oss_ranges.specs.contracts.map.RangeMap.TheInside as in_map
-use Rattle.oss_ranges.proofs.piece.Piece.TheSendSync as piece
 use Rattle.oss_code.proofs.order.TaskOrder.TheSendSync as order
 use Rattle.oss_syntax.proofs.boxed.Boxed.TheSendSync as boxed
 use Rattle.oss_syntax.proofs.list.List.TheSendSync as list
@@ -45,9 +41,6 @@ use Rattle.oss_segment.specs.contracts.ready.Ready as ready
 
 any : (D : Type 0) → Ghosts D
 any D = record { eq = λ a b. true }
-
-map_send : (T : RattleType) (e : Ghosts T.Denot) → IsSend T → IsSend (map.the_row T e)
-map_send T e s = view_send (in_map.the_row T e) _ _ _ _ (recorded_send _ _ (in_map.the_type T e).to (in_map.the_type T e).to_one (struct_send (struct.shape (in_map.the_type T e)) (heap.the_field_send, (search (sendable, crosses, send-Tree, piece.the_send) depth 40, (search (sendable, crosses, send-Node, send-Tree, piece.the_send) depth 40, tt)))))
 
 context_inside : IsSend inside.the_row
 context_inside = recorded_send _ _ (inside.the_type).to (inside.the_type).to_one (struct_send (struct.shape inside.the_type)
