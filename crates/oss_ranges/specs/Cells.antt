@@ -32,7 +32,7 @@ abbrev pub removed : {T : Type 0} → ℕ → List (Piece T) → List (Piece T)
 removed cell [] = []
 removed cell (p ∷ rest) = if nat_lt cell p.hi then rest else p ∷ removed cell rest
 
--- What contracts see of a range map: its pieces, and how many nodes it holds in reserve.
+-- What contracts see of a range map: its pieces, and for how many more it holds room in reserve.
 pub record Kept (T : Type 0) : Type 0 where
   pub pieces : List (Piece T)
   pub spares : ℕ

@@ -183,7 +183,7 @@ impl<T: Copy + Eq> RangeMap<T> {
         self.prepare(MORE * calls as usize)
     }
 
-    /// The same for any number of calls. More calls than memory can have nodes for want memory.
+    /// The same for any number of calls. More calls than memory can have room for want memory.
     pub fn reserve_all(&mut self, calls: usize) -> Result<(), AllocError>
         ensures same { self.new.pieces ≡ self.old.pieces }
         ensures room { OnOk result (3 * calls ≤ self.new.spares) }
