@@ -1,9 +1,8 @@
 -- Pieces in one block: what a change at the place of a piece makes of them.
-use Rattle.std.specs.Prelude.{◌≡◌, ◌≤◌, ◌<◌, ◌+◌, ℕ, suc, Bool, true, false, nat_lt, if◌then◌else◌, List, [], ◌∷◌, Some, None, refl, is_some, length, drop, slice_set}
+use Rattle.std.specs.Prelude.{◌≡◌, ◌≤◌, ◌<◌, ◌+◌, ℕ, suc, Bool, true, false, nat_lt, if◌then◌else◌, List, [], ◌∷◌, Some, None, refl, is_some, length, slice_set}
 use Rattle.std.specs.List.{insert, remove}
 use Rattle.std.proofs.Common.{sym, ◌∙◌, ap, subst, arith, get_or, add-one}
 use Rattle.std.proofs.lemmas.Bool.Decides.{nat_tests}
-use Rattle.std.proofs.lemmas.List.{at_drop_more, drop_all}
 use Rattle.oss_ranges.proofs.CutLemmas.{inserted_front, inserted_later}
 use Rattle.oss_ranges.proofs.MapLemmas.{inserted_within}
 use Rattle.oss_ranges.proofs.PieceLemmas.{removed_none}
@@ -12,33 +11,6 @@ use Rattle.oss_ranges.specs.Places.{place}
 use Rattle.oss_ranges.specs.declared.piece.Piece.{Piece}
 
 module _ {T : Type 0} where
-  place_here : (cell : ℕ) (p : Piece T) (rest : List (Piece T)) → cell < p.hi → place cell (p ∷ rest) ≡ 0
-  place_here cell p rest low = grind (arith, nat_tests)
-
-  place_past : (cell : ℕ) (p : Piece T) (rest : List (Piece T)) → p.hi ≤ cell → place cell (p ∷ rest) ≡ suc (place cell rest)
-  place_past cell p rest low = grind (arith, nat_tests)
-
-  -- the place is looked for from the front on
-  pub place_none : (cell : ℕ) (xs : List (Piece T)) → 0 + place cell (drop 0 xs) ≡ place cell xs
-  place_none cell xs = omega arith
-
-  pub place_found : (cell at : ℕ) (p : Piece T) (xs : List (Piece T)) → at < length xs → p ≡ get_or xs at p → cell < p.hi → at + place cell (drop at xs) ≡ place cell xs → at ≡ place cell xs
-  place_found cell at p xs within read low before =
-      let split = subst (λ q. place cell (drop at xs) ≡ place cell (q ∷ drop (at + 1) xs)) (sym read) (at_drop_more (place cell) xs at p within) in
-      let here = place_here cell p (drop (at + 1) xs) low in
-      omega arith
-
-  pub place_more : (cell at : ℕ) (p : Piece T) (xs : List (Piece T)) → at < length xs → p ≡ get_or xs at p → p.hi ≤ cell → at + place cell (drop at xs) ≡ place cell xs → (at + 1) + place cell (drop (at + 1) xs) ≡ place cell xs
-  place_more cell at p xs within read low before =
-      let split = subst (λ q. place cell (drop at xs) ≡ place cell (q ∷ drop (at + 1) xs)) (sym read) (at_drop_more (place cell) xs at p within) in
-      let past = place_past cell p (drop (at + 1) xs) low in
-      omega arith
-
-  pub place_end : (cell at : ℕ) (xs : List (Piece T)) → length xs ≤ at → at + place cell (drop at xs) ≡ place cell xs → at ≡ place cell xs
-  place_end cell at xs far before =
-      let none : place cell (drop at xs) ≡ 0 = ap (place cell) (drop_all at xs far) in
-      omega arith
-
   pub place_within : (cell : ℕ) (xs : List (Piece T)) → place cell xs ≤ length xs
   place_within cell [] = omega arith
   place_within cell (p ∷ rest) = by (nat_lt cell p.hi) (place_within cell rest) where

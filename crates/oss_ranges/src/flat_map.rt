@@ -37,7 +37,8 @@ impl<T: Copy> Model for FlatMap<T> {
 
     ghost view = { λ m. record { pieces = m.pieces.items; spares = m.spares } };
 
-    ghost invariant = { λ m. Rises 0 m.pieces.items 1048576 × (length m.pieces.items + m.spares ≤ vec_capacity m.pieces) };
+    ghost invariant = { λ m. Rises 0 m.pieces.items 1048576 ×
+        (length m.pieces.items + m.spares ≤ vec_capacity m.pieces) };
 }
 
 impl<T: Copy> FlatMap<T> {

@@ -15,8 +15,8 @@ use std::alloc::{AllocError, Global};
 pub(crate) enum Store<T: Copy> {
     /// A list, for few pieces: a map of one takes one piece of memory.
     Flat(FlatMap<T>),
-    /// A balanced tree. It stays one if pieces go away. It stands in a box, so that a map of few pieces is no larger than
-    /// its list.
+    /// A balanced tree. It stays one if pieces go away. It stands in a box, so that a map of few pieces is no larger
+    /// than its list.
     Tree(Box<TreeMap<T>>),
 }
 
