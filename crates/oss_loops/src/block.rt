@@ -109,13 +109,14 @@ fn looping(alloc: Global, line: u32, round: Stmt) -> Result<Stmt, AllocError>
     })
 }
 
-/// Whether a turn is left.
-fn turns_left(alloc: Global, line: u32) -> Result<Expr, AllocError>
+/// Whether a turn is left, in a box.
+fn turns_left(alloc: Global, line: u32) -> Result<Boxed<Expr>, AllocError>
     ensures { IfOk result (λ test. test ≡ joined_at line op.Less (name_at line begin_name) (name_at line end_name)) }
 {
     let begin = name_of_begin(alloc)?;
     let end = name_of_end(alloc)?;
-    joined_names(alloc, line, BinOp::Less, begin, end)
+    let left = joined_names(alloc, line, BinOp::Less, begin, end)?;
+    Boxed::new(alloc, left)
 }
 
 /// Adds the declaration of the locals of the block.
@@ -235,18 +236,13 @@ fn add_raised_grain(alloc: Global, line: u32, inside: &mut List<Stmt>) -> Result
     })
 }
 
-/// Whether fewer turns than one are told.
-fn no_turn(alloc: Global, line: u32) -> Result<Expr, AllocError>
+/// Whether fewer turns than one are told, in a box.
+fn no_turn(alloc: Global, line: u32) -> Result<Boxed<Expr>, AllocError>
     ensures { IfOk result (λ test. test ≡ joined_at line op.Less (name_at line grain_name) (number_at line 1)) }
 {
-    let grain = name_of_grain(alloc)?;
-    joined(
-        alloc,
-        line,
-        BinOp::Less,
-        named(line, grain),
-        number(line, 1),
-    )
+    let grain = named(line, name_of_grain(alloc)?);
+    let less = joined(alloc, line, BinOp::Less, grain, number(line, 1))?;
+    Boxed::new(alloc, less)
 }
 
 /// That a task makes one turn, in a box.
@@ -254,5 +250,6 @@ fn one_turn(alloc: Global, line: u32) -> Result<Boxed<Stmt>, AllocError>
     ensures { IfOk result (λ set. set ≡ set_at line grain_name (number_at line 1)) }
 {
     let grain = name_of_grain(alloc)?;
-    Boxed::new(alloc, set(line, grain, number(line, 1)))
+    let set = set(alloc, line, grain, number(line, 1))?;
+    Boxed::new(alloc, set)
 }

@@ -86,12 +86,31 @@ pub(crate) fn joined_names(
 }
 
 /// An assignment to a name.
-pub(crate) fn set(line: u32, name: Name, value: Expr) -> Stmt
-    ensures { result ≡ set_at line name value }
+pub(crate) fn set(alloc: Global, line: u32, name: Name, value: Expr) -> Result<Stmt, AllocError>
+    ensures { IfOk result (λ set. set ≡ set_at line name value) }
 {
-    Stmt {
-        what: StmtKind::Assign(named(line, name), None, value),
-        line,
+    match Boxed::new(alloc, value) {
+        Ok(value) => set_to(alloc, line, name, value),
+        Err(full) => {
+            drop(name);
+            Err(full)
+        }
+    }
+}
+
+/// The same with the value in its box.
+fn set_to(alloc: Global, line: u32, name: Name, value: Boxed<Expr>) -> Result<Stmt, AllocError>
+    ensures { IfOk result (λ set. set ≡ set_at line name value) }
+{
+    match Boxed::new(alloc, named(line, name)) {
+        Ok(target) => Ok(Stmt {
+            what: StmtKind::Assign(target, None, value),
+            line,
+        }),
+        Err(full) => {
+            drop(value);
+            Err(full)
+        }
     }
 }
 

@@ -113,23 +113,36 @@ fn turns(
     Boxed::new(
         alloc,
         Stmt {
-            what: StmtKind::For(None, Some(test), Some(step), body),
+            what: StmtKind::For(None, test, Some(step), body),
             line,
         },
     )
 }
 
 /// The test and the step of the turns of one task.
-fn turning(alloc: Global, line: u32, variable: &[u8]) -> Result<(Expr, Boxed<Stmt>), AllocError>
-    ensures test { IfOk result (λ parts. parts.0 ≡ joined_at line op.Less (name_at line variable.now)
-        (name_at line stop_name)) }
+fn turning(
+    alloc: Global,
+    line: u32,
+    variable: &[u8],
+) -> Result<(Boxed<Option<Expr>>, Boxed<Stmt>), AllocError>
+    ensures test { IfOk result (λ parts. parts.0 ≡ Some (joined_at line op.Less (name_at line variable.now)
+        (name_at line stop_name))) }
     ensures step { IfOk result (λ parts. parts.1 ≡ stmt_at line (stmts.Assign (name_at line variable.now)
         (Some op.Add) (number_at line 1))) }
 {
     let step = step(alloc, line, variable)?;
+    let test = in_turns(alloc, line, variable)?;
+    Ok((test, step))
+}
+
+/// Whether a turn of one task is left, in a box.
+fn in_turns(alloc: Global, line: u32, variable: &[u8]) -> Result<Boxed<Option<Expr>>, AllocError>
+    ensures { IfOk result (λ test. test ≡ Some (joined_at line op.Less (name_at line variable.now)
+        (name_at line stop_name))) }
+{
     let tested = Name::from_slice(alloc, variable)?;
     let test = joined_names(alloc, line, BinOp::Less, tested, name_of_stop(alloc)?)?;
-    Ok((test, step))
+    Boxed::new(alloc, Some(test))
 }
 
 /// The step of the turns of one task, in a box.
@@ -137,14 +150,28 @@ fn step(alloc: Global, line: u32, variable: &[u8]) -> Result<Boxed<Stmt>, AllocE
     ensures { IfOk result (λ step. step ≡ stmt_at line (stmts.Assign (name_at line variable.now) (Some op.Add)
         (number_at line 1))) }
 {
-    let target = named(line, Name::from_slice(alloc, variable)?);
+    let (target, one) = stepped(alloc, line, variable)?;
     Boxed::new(
         alloc,
         Stmt {
-            what: StmtKind::Assign(target, Some(BinOp::Add), number(line, 1)),
+            what: StmtKind::Assign(target, Some(BinOp::Add), one),
             line,
         },
     )
+}
+
+/// The variable and the number one, each in a box.
+fn stepped(
+    alloc: Global,
+    line: u32,
+    variable: &[u8],
+) -> Result<(Boxed<Expr>, Boxed<Expr>), AllocError>
+    ensures target { IfOk result (λ parts. parts.0 ≡ name_at line variable.now) }
+    ensures one { IfOk result (λ parts. parts.1 ≡ number_at line 1) }
+{
+    let target = Boxed::new(alloc, named(line, Name::from_slice(alloc, variable)?))?;
+    let one = Boxed::new(alloc, number(line, 1))?;
+    Ok((target, one))
 }
 
 /// Adds the declaration of the locals of a round.
@@ -194,8 +221,8 @@ fn add_moved_stop(alloc: Global, line: u32, inside: &mut List<Stmt>) -> Result<(
     })
 }
 
-/// Whether more turns are left than a task makes.
-fn more_left(alloc: Global, line: u32) -> Result<Expr, AllocError>
+/// Whether more turns are left than a task makes, in a box.
+fn more_left(alloc: Global, line: u32) -> Result<Boxed<Expr>, AllocError>
     ensures { IfOk result (λ test. test ≡ joined_at line op.More (joined_at line op.Sub (name_at line end_name)
         (name_at line begin_name)) (name_at line grain_name)) }
 {
@@ -203,7 +230,8 @@ fn more_left(alloc: Global, line: u32) -> Result<Expr, AllocError>
     let begin = name_of_begin(alloc)?;
     let grain = name_of_grain(alloc)?;
     let left = joined_names(alloc, line, BinOp::Sub, end, begin)?;
-    joined(alloc, line, BinOp::More, left, named(line, grain))
+    let more = joined(alloc, line, BinOp::More, left, named(line, grain))?;
+    Boxed::new(alloc, more)
 }
 
 /// That a task ends behind so many turns, in a box.
@@ -215,7 +243,8 @@ fn moved(alloc: Global, line: u32) -> Result<Boxed<Stmt>, AllocError>
     let begin = name_of_begin(alloc)?;
     let grain = name_of_grain(alloc)?;
     let behind = joined_names(alloc, line, BinOp::Add, begin, grain)?;
-    Boxed::new(alloc, set(line, stop, behind))
+    let moved = set(alloc, line, stop, behind)?;
+    Boxed::new(alloc, moved)
 }
 
 /// Adds that the next task begins where this one ends.
@@ -224,5 +253,6 @@ fn add_next(alloc: Global, line: u32, inside: &mut List<Stmt>) -> Result<(), All
 {
     let begin = name_of_begin(alloc)?;
     let stop = name_of_stop(alloc)?;
-    inside.push(set(line, begin, named(line, stop)))
+    let next = set(alloc, line, begin, named(line, stop))?;
+    inside.push(next)
 }

@@ -111,7 +111,7 @@ fn block(alloc: Global, line: u32, list: List<Stmt>) -> Result<Stmt, AllocError>
 fn branches(
     alloc: Global,
     line: u32,
-    test: Expr,
+    test: Boxed<Expr>,
     then: Boxed<Stmt>,
     other: Option<Boxed<Stmt>>,
 ) -> Result<Stmt, AllocError>
@@ -147,7 +147,12 @@ fn both(
 
 /// A `while`, with its test as it is. Where memory is wanting the test is let go with the rest.
 #[cycle(statements)]
-fn while_loop(alloc: Global, line: u32, test: Expr, body: Boxed<Stmt>) -> Result<Stmt, AllocError>
+fn while_loop(
+    alloc: Global,
+    line: u32,
+    test: Boxed<Expr>,
+    body: Boxed<Stmt>,
+) -> Result<Stmt, AllocError>
     ensures { IfOk result (λ done. done ≡ stmt_at line (stmts.While test (written_out body))) }
 {
     match within(alloc, body) {
@@ -164,7 +169,7 @@ fn while_loop(alloc: Global, line: u32, test: Expr, body: Boxed<Stmt>) -> Result
 fn for_loop(
     alloc: Global,
     line: u32,
-    test: Option<Expr>,
+    test: Boxed<Option<Expr>>,
     parts: ForParts,
 ) -> Result<Stmt, AllocError>
     ensures { IfOk result (λ done. done ≡ stmt_at line (stmts.For (option_map written_out parts.start) test
@@ -209,13 +214,13 @@ fn task(alloc: Global, line: u32, mark: TaskMark, body: Boxed<Stmt>) -> Result<S
 fn task_loop(
     alloc: Global,
     line: u32,
-    head: LoopHead,
+    head: Boxed<LoopHead>,
     body: Boxed<Stmt>,
 ) -> Result<Stmt, AllocError>
     ensures { IfOk result (λ done. done ≡ written line head (written_out body)) }
 {
     match within(alloc, body) {
-        Ok(body) => written(alloc, line, head, body),
+        Ok(body) => written(alloc, line, head.into_inner(), body),
         Err(full) => {
             drop(head);
             Err(full)

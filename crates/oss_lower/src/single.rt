@@ -36,7 +36,8 @@ pub(crate) fn single<'p>(
         }
         StmtKind::Assign(target, op, given) => {
             out.push(Instr::Tick, line, 0)?;
-            assign(&Site { names, scope, line }, out, target, *op, given)
+            let site = Site { names, scope, line };
+            assign(&site, out, target.get(), *op, given.get())
         }
         StmtKind::Call(name, values) => {
             out.push(Instr::Tick, line, 0)?;
@@ -52,7 +53,12 @@ pub(crate) fn single<'p>(
         }
         StmtKind::Return(Some(given)) => {
             out.push(Instr::Tick, line, 0)?;
-            give(&Site { names, scope, line }, out, around.result, given)
+            give(
+                &Site { names, scope, line },
+                out,
+                around.result,
+                given.get(),
+            )
         }
         StmtKind::Break => jump(out, line, around.stop),
         StmtKind::Continue => jump(out, line, around.again),

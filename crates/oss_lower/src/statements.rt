@@ -61,7 +61,7 @@ fn statement<'p>(
                 out,
                 around,
                 line,
-                test,
+                test.get(),
                 side.get(),
                 part(other),
             )
@@ -75,7 +75,7 @@ fn statement<'p>(
                 line,
                 Loop {
                     first: None,
-                    test: Some(test),
+                    test: Some(test.get()),
                     last: None,
                     body: body.get(),
                 },
@@ -90,7 +90,7 @@ fn statement<'p>(
                 line,
                 Loop {
                     first: part(first),
-                    test: test.as_ref(),
+                    test: test.get().as_ref(),
                     last: part(last),
                     body: body.get(),
                 },

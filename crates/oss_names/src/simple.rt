@@ -7,7 +7,7 @@ ghost use Rattle.oss_grammar.specs.StaticRules.{assign_rules, format_rules, is_w
 ghost use Rattle.oss_types.specs.Seen.{seen};
 
 use oss_grammar::{Around, Object, ValueKind, Wanted, conversions};
-use oss_syntax::{BinOp, Bytes, Expr, Kind, List, Name, NumKind, Refused, RefusedKind};
+use oss_syntax::{BinOp, Boxed, Bytes, Expr, Kind, List, Name, NumKind, Refused, RefusedKind};
 use oss_types::{
     Finding, Globals, Locals, Scope, at_place, before, call, expression, first_of, refused,
     refused_if, taken_by, value, wrong,
@@ -153,12 +153,12 @@ pub(crate) fn return_statement(
     locals: &Locals<'_>,
     around: Around,
     line: u32,
-    value: &Option<Expr>,
+    value: &Option<Boxed<Expr>>,
 ) -> Option<Refused>
     ensures { result ≡ first (return_rules globals.now locals.now around line value.now) }
 {
     let wrong = is_wrong_for(around.result, value);
-    let inside = optional_for(globals, locals, around.result, value);
+    let inside = returned(globals, locals, around.result, value);
     before(
         refused_if(wrong, RefusedKind::WrongKind, line),
         before(
@@ -169,13 +169,28 @@ pub(crate) fn return_statement(
 }
 
 /// Whether a `return` has a value where the result is `void`, or has none elsewhere.
-fn is_wrong_for(kind: Kind, value: &Option<Expr>) -> bool
+fn is_wrong_for(kind: Kind, value: &Option<Boxed<Expr>>) -> bool
     ensures { result ≡ is_wrong_return kind value.now }
 {
     match kind {
         Kind::Nothing => value.is_some(),
         Kind::Num(_) => value.is_none(),
         Kind::Pointer(_) => value.is_none(),
+    }
+}
+
+/// The first rule that the value of a `return` breaks, if it has one.
+fn returned(
+    globals: &Globals<'_>,
+    locals: &Locals<'_>,
+    kind: Kind,
+    given: &Option<Boxed<Expr>>,
+) -> Option<Refused>
+    ensures { result ≡ first (returned_rules globals.now locals.now kind given.now) }
+{
+    match given {
+        Some(given) => value(globals, locals, taken_by(kind), given.get()),
+        None => None,
     }
 }
 

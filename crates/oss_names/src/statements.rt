@@ -114,18 +114,18 @@ fn statement<'p>(
             declare(globals, around.start, declared.as_slice(), locals)
         }
         StmtKind::Assign(target, op, value) => {
-            told(assignment(globals, locals, *op, target, value))
+            told(assignment(globals, locals, *op, target.get(), value.get()))
         }
         StmtKind::Call(name, values) => {
             told(call_statement(globals, locals, line, name, values))
         }
         StmtKind::Print(format, values) => told(print(globals, locals, line, format, values)),
         StmtKind::If(test, then_part, else_part) => {
-            branches(globals, around, test, then_part, else_part, locals)
+            branches(globals, around, test.get(), then_part, else_part, locals)
         }
-        StmtKind::While(test, body) => while_loop(globals, around, test, body, locals),
+        StmtKind::While(test, body) => while_loop(globals, around, test.get(), body, locals),
         StmtKind::For(start, test, step, body) => {
-            for_statement(globals, around, start, test, step, body, locals)
+            for_statement(globals, around, start, test.get(), step, body, locals)
         }
         StmtKind::Return(value) => { told(return_statement(globals, locals, around, line, value)) }
         StmtKind::Break => {
@@ -135,7 +135,7 @@ fn statement<'p>(
             told(refused_if(!may_go_on(around.nearest), RefusedKind::BadJump, line))
         }
         StmtKind::Task(mark, body) => task(globals, around, mark, body, locals),
-        StmtKind::TaskLoop(head, body) => task_loop(globals, around, head, body, locals),
+        StmtKind::TaskLoop(head, body) => task_loop(globals, around, head.get(), body, locals),
         StmtKind::TaskWait(sections) => told(wait(globals, locals, sections)),
         StmtKind::Release(list) => told(clauses(globals, locals, list.as_slice())),
     }

@@ -25,21 +25,33 @@ pub(crate) struct ForParts {
     /// What is done before the loop.
     pub(crate) first: Option<Boxed<Stmt>>,
     /// What is tested before each round.
-    pub(crate) test: Option<Expr>,
+    pub(crate) test: Boxed<Option<Expr>>,
     /// What is done behind each round.
     pub(crate) last: Option<Boxed<Stmt>>,
 }
 
 /// [ expr ]
 #[tactic(auto, unfolding(crate::specs::StatementReading::read_maybe_expression))]
-fn maybe_expression(alloc: Global, tokens: &mut Cursor<'_>) -> Result<Option<Expr>, Unread>
+fn maybe_expression(alloc: Global, tokens: &mut Cursor<'_>) -> Result<Option<Boxed<Expr>>, Unread>
     ensures { ReadsAs (read_maybe_expression read_expression tokens.old) result tokens.new }
 {
     if !tokens.begins_with_expression() {
         return Ok(None);
     }
     let value = expression(alloc, tokens)?;
-    Ok(Some(value))
+    Ok(Some(Boxed::new(alloc, value)?))
+}
+
+/// [ expr ], in a box that is there also where the expression is left out
+#[tactic(auto, unfolding(crate::specs::StatementReading::read_maybe_expression))]
+fn boxed_test(alloc: Global, tokens: &mut Cursor<'_>) -> Result<Boxed<Option<Expr>>, Unread>
+    ensures { ReadsAs (read_maybe_expression read_expression tokens.old) result tokens.new }
+{
+    if !tokens.begins_with_expression() {
+        return Ok(Boxed::new(alloc, None)?);
+    }
+    let value = expression(alloc, tokens)?;
+    Ok(Boxed::new(alloc, Some(value))?)
 }
 
 /// [ simple ]
@@ -85,11 +97,11 @@ fn for_last(alloc: Global, tokens: &mut Cursor<'_>) -> Result<Option<Boxed<Stmt>
 fn for_rest(
     alloc: Global,
     tokens: &mut Cursor<'_>,
-) -> Result<(Option<Expr>, Option<Boxed<Stmt>>), Unread>
+) -> Result<(Boxed<Option<Expr>>, Option<Boxed<Stmt>>), Unread>
     ensures { ReadsAs (read_for_rest read_expression tokens.old) result tokens.new }
 {
     tokens.symbol(b";")?;
-    let test = maybe_expression(alloc, tokens)?;
+    let test = boxed_test(alloc, tokens)?;
     match for_last(alloc, tokens) {
         Ok(last) => Ok((test, last)),
         Err(unread) => {
@@ -125,18 +137,18 @@ pub(crate) fn for_head(alloc: Global, tokens: &mut Cursor<'_>) -> Result<(u32, F
     Ok((line, parts))
 }
 
-/// A keyword with its line, and the test in brackets behind it.
+/// A keyword with its line, and the test in brackets behind it, in its box.
 #[tactic(auto, unfolding(crate::specs::StatementReading::read_head, oss_expressions::specs::ExpressionReading::read_brackets))]
 pub(crate) fn head(
     alloc: Global,
     word: &[u8],
     tokens: &mut Cursor<'_>,
-) -> Result<(u32, Expr), Unread>
+) -> Result<(u32, Boxed<Expr>), Unread>
     ensures { ReadsAs (read_head word.now read_expression tokens.old) result tokens.new }
 {
     let line = keyword(word, tokens)?;
     let test = brackets(alloc, tokens)?;
-    Ok((line, test))
+    Ok((line, Boxed::new(alloc, test)?))
 }
 
 /// A name, and this symbol behind it.
@@ -241,11 +253,7 @@ fn loop_parts(
 
 /// The same, behind the pragma of a task loop.
 #[tactic(auto, unfolding(crate::specs::StatementReading::read_loop_head))]
-pub(crate) fn loop_head(
-    alloc: Global,
-    mark: TaskMark,
-    tokens: &mut Cursor<'_>,
-) -> Result<LoopHead, Unread>
+fn loop_head(alloc: Global, mark: TaskMark, tokens: &mut Cursor<'_>) -> Result<LoopHead, Unread>
     ensures { ReadsAs (read_loop_head read_expression mark tokens.old) result tokens.new }
 {
     let ((for_line, variable), (first, (tested, (end, stepped)))) = loop_parts(alloc, tokens)?;
@@ -262,6 +270,18 @@ pub(crate) fn loop_head(
         stepped,
         for_line,
     })
+}
+
+/// The same, in its box.
+pub(crate) fn boxed_loop_head(
+    alloc: Global,
+    mark: TaskMark,
+    tokens: &mut Cursor<'_>,
+) -> Result<Boxed<LoopHead>, Unread>
+    ensures { ReadsAs (read_loop_head read_expression mark tokens.old) result tokens.new }
+{
+    let head = loop_head(alloc, mark, tokens)?;
+    Ok(Boxed::new(alloc, head)?)
 }
 
 /// ";"

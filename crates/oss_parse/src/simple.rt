@@ -1,6 +1,7 @@
 //! The reader of simple statements and declarations.
 
 ghost use Rattle.std.specs.Prelude.{◌≡◌, IfOk};
+ghost use Rattle.oss_syntax.specs.declared.tree.stmt.StmtKind.TheVariants as stmts;
 ghost use Rattle.oss_grammar.specs.Reading.{read_both, read_mapped, read_one};
 ghost use Rattle.oss_grammar.specs.SimpleStatements.{one_at};
 ghost use Rattle.oss_expressions.specs.ExpressionReading.{indexed, named_expression, read_arguments, read_brackets, read_expression, read_index, read_list, read_more, read_next};
@@ -182,16 +183,57 @@ fn one(line: u32) -> Expr
     }
 }
 
+/// An assignment with this line.
+fn assignment_of(
+    alloc: Global,
+    line: u32,
+    target: Expr,
+    operator: Option<BinOp>,
+    value: Expr,
+) -> Result<Stmt, AllocError>
+    ensures { IfOk result (λ one. one ≡ (record { what = stmts.Assign target operator value; line = line })) }
+{
+    match Boxed::new(alloc, target) {
+        Ok(target) => assigned_to(alloc, line, target, operator, value),
+        Err(full) => {
+            drop(value);
+            Err(full)
+        }
+    }
+}
+
+/// The same with the target in its box.
+fn assigned_to(
+    alloc: Global,
+    line: u32,
+    target: Boxed<Expr>,
+    operator: Option<BinOp>,
+    value: Expr,
+) -> Result<Stmt, AllocError>
+    ensures { IfOk result (λ one. one ≡ (record { what = stmts.Assign target operator value; line = line })) }
+{
+    match Boxed::new(alloc, value) {
+        Ok(value) => Ok(Stmt {
+            what: StmtKind::Assign(target, operator, value),
+            line,
+        }),
+        Err(full) => {
+            drop(target);
+            Err(full)
+        }
+    }
+}
+
 /// "++" | "--", behind a target
-fn stepped(target: Expr, tokens: &mut Cursor<'_>) -> Result<Stmt, Unread>
+fn stepped(alloc: Global, target: Expr, tokens: &mut Cursor<'_>) -> Result<Stmt, Unread>
     ensures { ReadsAs (read_mapped (stepped_by target) (read_one step_at) tokens.old) result tokens.new }
 {
     let line = target.line;
     match step(tokens) {
-        Ok((operator, marked)) => Ok(Stmt {
-            what: StmtKind::Assign(target, Some(operator), one(marked)),
-            line,
-        }),
+        Ok((operator, marked)) => {
+            let stepped = assignment_of(alloc, line, target, Some(operator), one(marked))?;
+            Ok(stepped)
+        }
         Err(unread) => {
             drop(target);
             Err(unread)
@@ -214,14 +256,14 @@ fn assigned(alloc: Global, target: Expr, tokens: &mut Cursor<'_>) -> Result<Stmt
     ensures { ReadsAs (read_assigned read_expression target tokens.old) result tokens.new }
 {
     if begins_with_step(tokens) {
-        return stepped(target, tokens);
+        return stepped(alloc, target, tokens);
     }
     let line = target.line;
     match assigned_value(alloc, tokens) {
-        Ok((operator, value)) => Ok(Stmt {
-            what: StmtKind::Assign(target, operator, value),
-            line,
-        }),
+        Ok((operator, value)) => {
+            let assigned = assignment_of(alloc, line, target, operator, value)?;
+            Ok(assigned)
+        }
         Err(unread) => {
             drop(target);
             Err(unread)
@@ -236,10 +278,8 @@ fn step_first(alloc: Global, tokens: &mut Cursor<'_>) -> Result<Stmt, Unread>
 {
     let (operator, line) = step(tokens)?;
     let target = target(alloc, tokens)?;
-    Ok(Stmt {
-        what: StmtKind::Assign(target, Some(operator), one(line)),
-        line,
-    })
+    let stepped = assignment_of(alloc, line, target, Some(operator), one(line))?;
+    Ok(stepped)
 }
 
 /// "(" arguments ")", behind the name of a function

@@ -12,8 +12,8 @@ use crate::beginnings::{
     begins_with_item, begins_with_kind, begins_with_simple, begins_with_statement,
 };
 use crate::forms::{
-    ForParts, break_statement, continue_statement, declaration_statement, empty, for_head, head,
-    loop_head, print, return_statement, simple_statement,
+    ForParts, boxed_loop_head, break_statement, continue_statement, declaration_statement, empty,
+    for_head, head, print, return_statement, simple_statement,
 };
 use crate::tokens::{begins_with_keyword, first_line, keyword};
 use oss_expressions::reading::{Cursor, Unread};
@@ -53,7 +53,7 @@ fn else_branch(alloc: Global, levels: u32, tokens: &mut Cursor<'_>) -> Result<Bo
 fn maybe_else(
     alloc: Global,
     levels: u32,
-    head: (u32, Expr),
+    head: (u32, Boxed<Expr>),
     then: Boxed<Stmt>,
     tokens: &mut Cursor<'_>,
 ) -> Result<Stmt, Unread>
@@ -85,7 +85,7 @@ fn maybe_else(
 fn branches(
     alloc: Global,
     levels: u32,
-    head: (u32, Expr),
+    head: (u32, Boxed<Expr>),
     tokens: &mut Cursor<'_>,
 ) -> Result<Stmt, Unread>
     ensures { ReadsAs (read_branches (read_within levels) head tokens.old) result tokens.new }
@@ -181,7 +181,7 @@ fn task_loop_statement(
         tokens.new }
 {
     let line = mark.line;
-    let head = loop_head(alloc, mark, tokens)?;
+    let head = boxed_loop_head(alloc, mark, tokens)?;
     match within(alloc, levels, tokens) {
         Ok(body) => Ok(Stmt {
             what: StmtKind::TaskLoop(head, body),

@@ -92,7 +92,9 @@ statement-returns-in-Assign t c =
     let ls = c.args.locals.now in
     let w = c.in-Assign in
     let parts = assign_rules all ls w.op w.target w.value in
-    ends-along ls ls (judged parts ls) _ c.told-in-Assign.result (rules-assign c.args.statement.now all c.args.around ls w.target w.op w.value w.is) (c.told-in-Assign.ensures parts ls c.assignment.ensures)
+    ends-along ls ls (judged parts ls) _ c.told-in-Assign.result (rules-assign c.args.statement.now all c.args.around ls w.target w.op w.value w.is)
+    (c.told-in-Assign.ensures parts ls (c.assignment.ensures ∙ ap (λ e. first (assign_rules all ls w.op e c.get-in-Assign.result.now)) c.get.ensures
+    ∙ ap (λ e. first (assign_rules all ls w.op w.target e)) c.get-in-Assign.ensures))
 
 pub statement-returns-in-Return : goal.statement-returns-in-Return
 statement-returns-in-Return t c =

@@ -60,8 +60,8 @@ fn product(rt: &impl Abort, alloc: Global) -> Expr {
 
 /// `a[i] = i * i;`
 pub(crate) fn square(rt: &impl Abort, alloc: Global) -> Stmt {
-    let target = element(rt, alloc);
-    let value = product(rt, alloc);
+    let target = boxed(rt, alloc, element(rt, alloc));
+    let value = boxed(rt, alloc, product(rt, alloc));
     Stmt {
         what: StmtKind::Assign(target, None, value),
         line: 2,
@@ -119,8 +119,9 @@ pub(crate) fn head(rt: &impl Abort, alloc: Global) -> LoopHead {
 
 /// The loop around a statement.
 fn loop_around(rt: &impl Abort, alloc: Global, body: Stmt) -> Stmt {
+    let head = boxed(rt, alloc, head(rt, alloc));
     Stmt {
-        what: StmtKind::TaskLoop(head(rt, alloc), boxed(rt, alloc, body)),
+        what: StmtKind::TaskLoop(head, boxed(rt, alloc, body)),
         line: 1,
     }
 }
@@ -136,8 +137,9 @@ fn in_an_else(rt: &impl Abort, alloc: Global) -> Stmt {
         line: 1,
     };
     let other = boxed(rt, alloc, squares(rt, alloc));
+    let test = boxed(rt, alloc, number(1, 0));
     let branches = Stmt {
-        what: StmtKind::If(number(1, 0), boxed(rt, alloc, nothing), Some(other)),
+        what: StmtKind::If(test, boxed(rt, alloc, nothing), Some(other)),
         line: 1,
     };
     Stmt {

@@ -42,9 +42,9 @@ pub(crate) fn body<'a>(rt: &impl Abort, one: &'a Stmt) -> &'a Stmt {
 /// The test of a loop or of an `if`.
 pub(crate) fn test<'a>(rt: &impl Abort, one: &'a Stmt) -> &'a Expr {
     match &one.what {
-        StmtKind::While(test, _) => test,
-        StmtKind::If(test, _, _) => test,
-        StmtKind::For(_, test, _, _) => test.as_ref().expect(rt, "a test"),
+        StmtKind::While(test, _) => test.get(),
+        StmtKind::If(test, _, _) => test.get(),
+        StmtKind::For(_, test, _, _) => test.get().as_ref().expect(rt, "a test"),
         _ => panic!(rt; "no test"),
     }
 }
@@ -88,7 +88,7 @@ pub(crate) fn assigned<'a>(
     match &one.what {
         StmtKind::Assign(target, operator, value) => {
             assert!(rt; *operator == wanted);
-            (target, value)
+            (target.get(), value.get())
         }
         _ => panic!(rt; "no assignment"),
     }

@@ -52,7 +52,8 @@ fn set(
     op: Option<BinOp>,
     value: Expr,
 ) -> Stmt {
-    let target = named(rt, alloc, line, target);
+    let target = boxed(rt, alloc, named(rt, alloc, line, target));
+    let value = boxed(rt, alloc, value);
     Stmt {
         what: StmtKind::Assign(target, op, value),
         line,
@@ -198,11 +199,12 @@ fn folds(rt: &impl Abort, alloc: Global) -> Stmt {
 fn turns(rt: &impl Abort, alloc: Global) -> Stmt {
     let first = boxed(rt, alloc, first(rt, alloc));
     let test = joined(rt, alloc, 3, BinOp::Less, b"i", 4);
+    let test = boxed(rt, alloc, Some(test));
     let step = set(rt, alloc, 3, b"i", Some(BinOp::Add), number(3, 1, false));
     let last = boxed(rt, alloc, step);
     let body = boxed(rt, alloc, folds(rt, alloc));
     Stmt {
-        what: StmtKind::For(Some(first), Some(test), Some(last), body),
+        what: StmtKind::For(Some(first), test, Some(last), body),
         line: 3,
     }
 }
