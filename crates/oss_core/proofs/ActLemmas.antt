@@ -17,7 +17,7 @@ use Rattle.oss_body.specs.Acts.{act_seen, answer_to, creates}
 use Rattle.oss_body.specs.Relation.{IsBody}
 use Rattle.oss_tree.specs.Tasks.{HasPoint}
 use Rattle.oss_tree.proofs.ListLemmas.{get_set_other, get_set_same}
-use Rattle.oss_core.specs.declared.held.Held.{Held}
+use Rattle.oss_kept_tasks.specs.declared.held.Held.{Held}
 use Rattle.oss_core.specs.Kept.{IsCore, Kept, own}
 use Rattle.oss_core.specs.Changes.{GoesOn, found_in}
 use Rattle.oss_core.specs.Moving as moving

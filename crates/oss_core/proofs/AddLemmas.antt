@@ -8,8 +8,8 @@ use Rattle.oss_body.specs.Relation.{has_wait}
 use Rattle.oss_tree.specs.declared.task.Task.{Task as TreeTask}
 use Rattle.oss_tree.specs.Tasks.{MayCreate, changed_to, created_by, given_task, grown}
 use Rattle.oss_deps.specs.Seen.{CanOpen, Opens, Seen}
+use Rattle.oss_kept_tasks.specs.declared.held.Held.{Held}
 use Rattle.oss_core.specs.declared.creating.Newborn.{Newborn}
-use Rattle.oss_core.specs.declared.held.Held.{Held}
 use Rattle.oss_core.specs.Changes.{noted_new}
 use Rattle.oss_core.specs.Kept.{Kept}
 use Rattle.oss_core.specs.Putting.{AreAdded, AreNewborns, IsNewborn, MayAdd, OpensAll, entry_of, held_of, with_newborn, with_newborns}

@@ -5,11 +5,11 @@ use Rattle.oss_syntax.specs.declared.access.Op.{Op}
 use Rattle.oss_ranges.specs.Cells.{value_at}
 use Rattle.oss_body.specs.Relation.{released_by}
 use Rattle.oss_code.specs.declared.code.CodeParts.{CodeParts}
-use Rattle.oss_core.specs.declared.held.Held.{Held}
-use Rattle.oss_core.specs.declared.held.Owed.{Owed}
-use Rattle.oss_core.specs.declared.held.Owed.TheVariants as owed
+use Rattle.oss_kept_tasks.specs.declared.held.Held.{Held}
+use Rattle.oss_kept_tasks.specs.declared.held.Owed.{Owed}
+use Rattle.oss_kept_tasks.specs.declared.held.Owed.TheVariants as owed
+use Rattle.oss_enabled_moves.specs.Enabled.{IsThrough, MayFold, MayLet}
 use Rattle.oss_core.specs.declared.passing.Passed.{Passed}
-use Rattle.oss_core.specs.Enabled.{IsThrough, MayFold, MayLet}
 use Rattle.oss_core.specs.Giving.{HoldsCell}
 use Rattle.oss_core.specs.Kept.{IsRunning, Kept}
 use Rattle.oss_core.specs.Passing.{AreBoth, Continues, IsAdded, MayNothing, OwesNoneFrom, OwesRange}

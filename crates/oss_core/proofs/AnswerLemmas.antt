@@ -6,7 +6,6 @@ use Rattle.oss_syntax.specs.declared.fault.FaultKind.{FaultKind}
 use Rattle.oss_model.specs.declared.answer.Answer.{Answer}
 use Rattle.oss_model.specs.declared.answer.Answer.TheVariants as answers
 use Rattle.oss_model.specs.Order.{IsBefore, same, written}
-use Rattle.oss_model.specs.Points.{IsPoint}
 use Rattle.oss_model.specs.Bodies.{Act as Meant, Body, Program, Start, IsFault}
 use Rattle.oss_model.specs.Machine.{State, Task, At}
 use Rattle.oss_model.specs.Memory.{Event, key_at}
@@ -28,14 +27,14 @@ use Rattle.oss_tree.specs.Output.{IsOutput, up_to}
 use Rattle.oss_tree.specs.Runs.{KeepsPrints, Precedes, first, later}
 use Rattle.oss_tree.specs.Tasks.{AreComplete, IsClosed, IsComplete, IsTree, complete}
 use Rattle.oss_tree.proofs.RunLemmas.{finished_law, output_before_law, output_law}
-use Rattle.oss_core.specs.declared.held.Held.{Held}
+use Rattle.oss_kept_tasks.specs.declared.held.Held.{Held}
+use Rattle.oss_kept_tasks.specs.FirstFault.{AreKeyed, IsFaultAt, IsFaultless, IsLeastFaultAt}
 use Rattle.oss_core.specs.Kept.{IsCore, Kept}
 use Rattle.oss_core.specs.Printing.{InTime}
-use Rattle.oss_core.specs.Stops.{AreKeyed, IsAnswerOf, IsFaultAt, IsFaultless, IsLeastFaultAt, IsStill, done, fault}
+use Rattle.oss_core.specs.Stops.{IsAnswerOf, IsStill, done, fault}
 use Rattle.oss_core.proofs.BodyFacts.{over_told}
 use Rattle.oss_core.proofs.ExactLemmas.{body_of, kept_of}
 use Rattle.oss_core.proofs.KeepLemmas.{some_is}
-use Rattle.oss_core.proofs.StepsLemmas.{point_written}
 use Rattle.oss_core.proofs.StopLemmas.{still_stopped}
 use Rattle.oss_core.proofs.TreeFacts.{core_made, keeps_tasks}
 
@@ -67,10 +66,6 @@ fault_running : {code : CodeParts} (b : Body CodeScript) (kept : KeptBody) → I
     → (over : Bool) → is_over kept ≡ over → is_over kept ≡ false
 fault_running b kept h kind line other e false o = o
 fault_running {code = code} b kept h kind line other e true o = let f : Meant.Over ≡ Meant.Fault kind line other = sym (over_stops (asks code) b.start b.found (over_told h o)) ∙ e in absurd cc
-
--- keys that are points are written as such
-pub points_keyed : (tasks : List Held) → ((v : ℕ) (held : Held) (kind : FaultKind) (line : ℕ) (key : List ℕ) → slice_get tasks v ≡ Some held → is_over held.body ≡ false → pending_of held.body ≡ acts.Fault kind line key → IsPoint key) → AreKeyed tasks
-points_keyed tasks f v held kind line key e r a = point_written key (f v held kind line key e r a)
 
 module _ {code : CodeParts} {main : Start CodeScript} {first : List ℕ} {k : Kept} {s : State CodeScript} (core : IsCore code main first k s) where
   -- what is kept of a task of the state that stands before a fault

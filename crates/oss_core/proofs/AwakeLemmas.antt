@@ -12,12 +12,12 @@ use Rattle.oss_body.specs.Relation.{is_over, released_by}
 use Rattle.oss_tree.specs.declared.task.Task.{Task as TreeTask}
 use Rattle.oss_tree.specs.Tasks.{number}
 use Rattle.oss_deps.specs.declared.opened.Open.{Open}
-use Rattle.oss_core.specs.declared.held.Held.{Held}
-use Rattle.oss_core.specs.declared.held.Owed.{Owed}
-use Rattle.oss_core.specs.declared.held.Owed.TheVariants as owed
+use Rattle.oss_kept_tasks.specs.declared.held.Held.{Held}
+use Rattle.oss_kept_tasks.specs.declared.held.Owed.{Owed}
+use Rattle.oss_kept_tasks.specs.declared.held.Owed.TheVariants as owed
+use Rattle.oss_enabled_moves.specs.Enabled.{IsThrough, MayLet}
 use Rattle.oss_core.specs.declared.passing.Passed.{Passed}
 use Rattle.oss_core.specs.Awake.{IsStill}
-use Rattle.oss_core.specs.Enabled.{IsThrough, MayLet}
 use Rattle.oss_core.specs.Hindered.{IsSpent}
 use Rattle.oss_core.specs.Kept.{IsCore, IsRunning, Kept}
 use Rattle.oss_core.specs.Leaving.{HaveGivenUp}

@@ -23,7 +23,7 @@ use Rattle.oss_tree.specs.Tasks.{main_task}
 use Rattle.oss_tree.proofs.GrowLemmas.{main_tree}
 use Rattle.oss_deps.specs.declared.opened.Open.{Open}
 use Rattle.oss_deps.specs.Opens.{none}
-use Rattle.oss_core.specs.declared.held.Held.{Held}
+use Rattle.oss_kept_tasks.specs.declared.held.Held.{Held}
 use Rattle.oss_core.specs.Kept.{AreHeld, AreKnown, IsCore, IsHeld, IsKnown, Kept, own}
 use Rattle.oss_core.specs.Moving.{AreSound}
 use Rattle.oss_core.specs.Standing.{AreTasks, StandsFor}

@@ -17,8 +17,8 @@ use Rattle.oss_body.specs.declared.body.Body.{Body}
 use Rattle.oss_body.specs.Acts.{act_seen, goes_on}
 use Rattle.oss_body.specs.Places.{Placed}
 use Rattle.oss_body.specs.Relation.{IsBody, has_begun, is_over, is_some, pending_of, released_by}
-use Rattle.oss_core.specs.declared.held.Owed.{Owed}
-use Rattle.oss_core.specs.declared.held.Owed.TheVariants as owed
+use Rattle.oss_kept_tasks.specs.declared.held.Owed.{Owed}
+use Rattle.oss_kept_tasks.specs.declared.held.Owed.TheVariants as owed
 use Rattle.oss_core.specs.Kept.{owed_by, owed_of}
 
 -- an act that is no fault does not halt its body

@@ -17,9 +17,9 @@ use Rattle.oss_tree.specs.declared.task.Task.{Task as TreeTask}
 use Rattle.oss_tree.specs.Tasks.{AreChildrenComplete, IsComplete, number}
 use Rattle.oss_tree.proofs.TreeLemmas.{on_way, one_point}
 use Rattle.oss_deps.specs.declared.opened.Open.{Open}
+use Rattle.oss_enabled_moves.specs.Enabled.{IsNewestComplete}
 use Rattle.oss_core.specs.Standing.{IsNumbered, IsLinked}
 use Rattle.oss_core.specs.Telling.{ChildrenComplete, IsWaitTold}
-use Rattle.oss_core.specs.Enabled.{IsNewestComplete}
 use Rattle.oss_core.specs.Kept.{Kept, IsCore, own}
 use Rattle.oss_core.proofs.KeepLemmas.{some_is}
 use Rattle.oss_core.proofs.MatchLemmas.{entry_of, path_of, head_is, tail_is}

@@ -8,8 +8,8 @@ use Rattle.oss_ranges.specs.Items.{piece_of}
 use Rattle.oss_ranges.specs.declared.piece.Piece.{Piece}
 use Rattle.oss_deps.specs.Opens.{HasOpened}
 use Rattle.oss_deps.specs.Seen.{Seen, CanGive, Gives, Prepares, in_range, is_end}
-use Rattle.oss_core.specs.declared.held.Held.{Held}
-use Rattle.oss_core.specs.declared.held.Owed.{Owed}
+use Rattle.oss_kept_tasks.specs.declared.held.Held.{Held}
+use Rattle.oss_kept_tasks.specs.declared.held.Owed.{Owed}
 use Rattle.oss_core.specs.Changes.{GivesUp, noted_given}
 use Rattle.oss_core.specs.Giving.{HasCleared, HoldsCell}
 use Rattle.oss_core.specs.Kept.{Kept}

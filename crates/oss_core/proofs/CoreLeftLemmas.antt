@@ -27,8 +27,8 @@ use Rattle.oss_machine.specs.Machines.{asks}
 use Rattle.oss_machine.proofs.LiveTheorem.{lively}
 use Rattle.oss_body.specs.Left.{body_left}
 use Rattle.oss_body.proofs.LeftLemmas as bodies
-use Rattle.oss_core.specs.declared.held.Held.{Held}
-use Rattle.oss_core.specs.declared.held.Owed.{Owed}
+use Rattle.oss_kept_tasks.specs.declared.held.Held.{Held}
+use Rattle.oss_kept_tasks.specs.declared.held.Owed.{Owed}
 use Rattle.oss_core.specs.CoreLeft.{cells_owed, held_left, helds_left, core_left}
 use Rattle.oss_core.specs.Kept.{Kept, IsCore, IsHeld, owed_of}
 use Rattle.oss_core.proofs.KeepLemmas.{some_is}

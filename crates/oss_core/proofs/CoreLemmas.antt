@@ -18,7 +18,7 @@ use Rattle.oss_machine.specs.Machines.{asks}
 use Rattle.oss_tree.specs.declared.task.Task.{Task as TreeTask}
 use Rattle.oss_tree.specs.Tasks.{HasPoint}
 use Rattle.oss_tree.proofs.ListLemmas.{there_is}
-use Rattle.oss_core.specs.declared.held.Held.{Held}
+use Rattle.oss_kept_tasks.specs.declared.held.Held.{Held}
 use Rattle.oss_core.specs.Kept.{IsCore, IsHeld, IsKnown, Kept, own}
 use Rattle.oss_core.specs.Moving.{Grown}
 use Rattle.oss_core.specs.Standing.{IsNumbered}

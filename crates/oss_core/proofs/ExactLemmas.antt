@@ -21,11 +21,11 @@ use Rattle.oss_body.specs.declared.act.Act.TheVariants as acts
 use Rattle.oss_body.specs.Acts.{act_seen}
 use Rattle.oss_body.specs.Relation.{pending_of, released_by}
 use Rattle.oss_tree.specs.Tasks.{HasPoint, IsComplete}
-use Rattle.oss_core.specs.declared.held.Held.{Held}
-use Rattle.oss_core.specs.declared.held.Owed.TheVariants as owed
+use Rattle.oss_kept_tasks.specs.declared.held.Held.{Held}
+use Rattle.oss_kept_tasks.specs.declared.held.Owed.TheVariants as owed
+use Rattle.oss_enabled_moves.specs.Enabled.{IsActMet, IsThrough, MayJoin, MayLet, MayStep}
 use Rattle.oss_core.specs.Telling as told
 use Rattle.oss_core.specs.Telling.{HasEntry, IsClauseTold, IsWaitTold}
-use Rattle.oss_core.specs.Enabled.{IsActMet, IsThrough, MayJoin, MayLet, MayStep}
 use Rattle.oss_core.specs.Kept.{Kept, IsCore, IsHeld, own, owed_by, owed_of}
 use Rattle.oss_core.proofs.KeepLemmas.{some_is}
 use Rattle.oss_core.proofs.MatchLemmas.{entry_of}

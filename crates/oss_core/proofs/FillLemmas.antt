@@ -7,7 +7,7 @@ use Rattle.oss_model.specs.Order.{IsIn, here, there}
 use Rattle.oss_model.specs.declared.task_no.TaskNo.{TaskNo}
 use Rattle.oss_body.specs.declared.body.Body.{Body}
 use Rattle.oss_tree.proofs.ListLemmas.{get_front, get_set_other, get_set_same}
-use Rattle.oss_core.specs.declared.held.Held.{Held}
+use Rattle.oss_kept_tasks.specs.declared.held.Held.{Held}
 use Rattle.oss_core.specs.Putting.{HasBody}
 use Rattle.oss_core.specs.Turns.{IsFilled}
 use Rattle.oss_core.proofs.KeepLemmas.{some_is}

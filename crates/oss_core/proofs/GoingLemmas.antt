@@ -15,7 +15,7 @@ use Rattle.oss_body.specs.Relation.{IsBody, has_wait, is_over, pending_of}
 use Rattle.oss_tree.specs.Tasks as tree
 use Rattle.oss_tree.proofs.ListLemmas.{get_set_other, get_set_same, longer_by}
 use Rattle.oss_deps.specs.Seen.{IsSame, Opens}
-use Rattle.oss_core.specs.declared.held.Held.{Held}
+use Rattle.oss_kept_tasks.specs.declared.held.Held.{Held}
 use Rattle.oss_core.specs.Changes.{GoesOn, IsChanged, IsCreated, found_in, noted, noted_new, prints_after}
 use Rattle.oss_core.specs.Going.{HasCreated, HasGoneOn, HasStepped, IsKeyed}
 use Rattle.oss_core.specs.Kept.{Kept}

@@ -18,9 +18,9 @@ use Rattle.oss_tree.specs.Tasks.{changed, changed_to, created_by, ended_task, gi
 use Rattle.oss_tree.proofs.ListLemmas.{get_front, get_set_other, there_is}
 use Rattle.oss_deps.specs.declared.opened.Open.{Open}
 use Rattle.oss_deps.specs.Seen.{Seen}
+use Rattle.oss_kept_tasks.specs.declared.held.Held.{Held}
+use Rattle.oss_kept_tasks.specs.declared.held.Owed.{Owed}
 use Rattle.oss_core.specs.declared.creating.Newborn.{Newborn}
-use Rattle.oss_core.specs.declared.held.Held.{Held}
-use Rattle.oss_core.specs.declared.held.Owed.{Owed}
 use Rattle.oss_core.specs.declared.passing.Passed.{Passed}
 use Rattle.oss_core.specs.declared.turns.Turn.{Turn}
 use Rattle.oss_core.specs.Changes.{GivesUp, IsChanged, noted, noted_given, noted_new}

@@ -30,7 +30,6 @@ pub mod AnswerLemmas
 pub mod UnfinishedLemmas
 pub mod BeginLemmas
 pub mod MakingLemmas
-pub mod LeastLemmas
 pub mod StillLemmas
 pub mod WalkLemmas
 pub mod SpanLemmas

@@ -17,10 +17,11 @@ use Rattle.oss_ranges.specs.Cells.{value_at}
 use Rattle.oss_tree.specs.Tasks as tree
 use Rattle.oss_tree.specs.Tasks.{MayCreate}
 use Rattle.oss_deps.specs.Seen.{CanOpen, IsSame, Seen}
-use Rattle.oss_core.specs.declared.held.Held.{Held}
-use Rattle.oss_core.specs.declared.held.Owed.TheVariants as owed
-use Rattle.oss_core.specs.Changes.{IsCreated, IsMade, IsMove, Joins, Lets}
-use Rattle.oss_core.specs.Enabled.{IsFoldOf, MayJoin, MayLet, MayMove, MayStep}
+use Rattle.oss_kept_tasks.specs.declared.held.Held.{Held}
+use Rattle.oss_kept_tasks.specs.declared.held.Owed.TheVariants as owed
+use Rattle.oss_enabled_moves.specs.Enabled.{IsFoldOf, MayJoin, MayLet, MayStep}
+use Rattle.oss_enabled_moves.proofs.CallLemmas.{seen_is}
+use Rattle.oss_core.specs.Changes.{IsCreated, IsMade, IsMove, Joins, Lets, MayMove}
 use Rattle.oss_core.specs.Giving.{HoldsCell, OwesCell}
 use Rattle.oss_core.specs.Going.{HasCreated, HasStepped, StandsBefore}
 use Rattle.oss_core.specs.Kept.{IsCore, Kept}
@@ -31,10 +32,6 @@ use Rattle.oss_core.proofs.KeepLemmas.{some_is}
 use Rattle.oss_core.proofs.NeedLemmas.{is_folding, is_opened, may_create, may_open}
 use Rattle.oss_core.proofs.StepsLemmas.{steps_made}
 use Rattle.oss_core.proofs.StopLemmas.{move_tells, move_told}
-
--- systems that are seen alike are seen as one
-pub seen_is : (a b : Seen) → IsSame a b → b ≡ a
-seen_is a b same = λ i. record { opens = same.opens i; given = λ t c. same.given t c i; cut = λ k. same.cuts k i; reserved = same.reserved i }
 
 -- what is kept, by its parts
 abbrev pub ap_kept : List Held → tree.Kept → List ℕ → Seen → Kept

@@ -30,8 +30,8 @@ use Rattle.oss_tree.specs.Tasks.{HasPoint, grown}
 use Rattle.oss_tree.proofs.ListLemmas.{get_set_same}
 use Rattle.oss_segment.specs.declared.segment.Segment.{Segment}
 use Rattle.oss_segment.specs.Segments.{IsSegment}
+use Rattle.oss_kept_tasks.specs.declared.held.Held.{Held}
 use Rattle.oss_core.specs.declared.creating.Newborn.{Newborn}
-use Rattle.oss_core.specs.declared.held.Held.{Held}
 use Rattle.oss_core.specs.declared.turns.Turn.{Turn}
 use Rattle.oss_core.specs.Kept.{IsCore, Kept}
 use Rattle.oss_core.specs.PointOrder.{AreInPointOrder}

@@ -33,9 +33,9 @@ use Rattle.oss_tree.specs.Tasks.{MayCreate}
 use Rattle.oss_deps.specs.declared.opened.Open.{Open}
 use Rattle.oss_deps.specs.Opens.{access_at, mode_in, mode_of_access, HasOpened, IsFolding, IsKnown, IsRising}
 use Rattle.oss_deps.specs.Seen.{CanOpen}
-use Rattle.oss_core.specs.declared.held.Held.{Held}
-use Rattle.oss_core.specs.declared.held.Owed.{Owed}
-use Rattle.oss_core.specs.declared.held.Owed.TheVariants as owed
+use Rattle.oss_kept_tasks.specs.declared.held.Held.{Held}
+use Rattle.oss_kept_tasks.specs.declared.held.Owed.{Owed}
+use Rattle.oss_kept_tasks.specs.declared.held.Owed.TheVariants as owed
 use Rattle.oss_core.specs.Standing.{AreRightsOf}
 use Rattle.oss_core.specs.Kept.{Kept, IsCore, own}
 use Rattle.oss_core.proofs.EntryLemmas.{bools, bounds, mode_is, named_at, rising_behind, rising_rest}

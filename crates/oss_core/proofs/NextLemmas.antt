@@ -17,11 +17,11 @@ use Rattle.oss_body.specs.declared.body.Body.{Body}
 use Rattle.oss_tree.specs.declared.task.Task.{Task as TreeTask}
 use Rattle.oss_tree.specs.Tasks.{HasPoint, number}
 use Rattle.oss_segment.specs.declared.segment.Segment.{Segment}
+use Rattle.oss_kept_tasks.specs.declared.held.Held.{Held}
+use Rattle.oss_enabled_moves.specs.Enabled.{MayStep}
 use Rattle.oss_core.specs.declared.creating.Newborn.{Newborn}
-use Rattle.oss_core.specs.declared.held.Held.{Held}
 use Rattle.oss_core.specs.declared.turns.Turn.{Turn}
 use Rattle.oss_core.specs.Kept.{IsCore, Kept}
-use Rattle.oss_core.specs.Enabled.{MayStep}
 use Rattle.oss_core.specs.Leaving.{HasTurn, HaveTurned}
 use Rattle.oss_core.specs.PointOrder.{AreInPointOrder}
 use Rattle.oss_core.specs.Putting.{AreNewborns, IsPut, IsWritten, MayAdd}

@@ -8,7 +8,7 @@ use Rattle.oss_ranges.specs.Cells.{Assigns, value_at}
 use Rattle.oss_ranges.specs.declared.piece.Piece.{Piece}
 use Rattle.oss_deps.specs.Opens.{access_at}
 use Rattle.oss_deps.proofs.OpenLemmas.{in_bounds}
-use Rattle.oss_core.specs.declared.held.Owed.{Owed}
+use Rattle.oss_kept_tasks.specs.declared.held.Owed.{Owed}
 use Rattle.oss_core.specs.Changes.{owed_by_access}
 use Rattle.oss_core.specs.Kept.{owed_by}
 use Rattle.oss_core.proofs.EntryLemmas.{bools}

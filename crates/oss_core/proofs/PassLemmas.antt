@@ -26,6 +26,7 @@ use Rattle.oss_machine.specs.Machines.{asks}
 use Rattle.oss_tree.specs.declared.task.Task.{Task as TreeTask}
 use Rattle.oss_tree.specs.Tasks.{HasPoint, number}
 use Rattle.oss_tree.proofs.ListLemmas.{there_is}
+use Rattle.oss_enabled_moves.proofs.CallLemmas.{in_list}
 use Rattle.oss_core.specs.declared.passing.Passed.{Passed}
 use Rattle.oss_core.specs.Awake.{HaveGivers, IsStill}
 use Rattle.oss_core.specs.Kept.{IsCore, Kept}
@@ -44,12 +45,6 @@ use Rattle.oss_core.proofs.WalkLemmas.{cells_below, place, visits_idle}
 pub path_before : (p q : List ℕ) → IsBefore (written p) (written q) → IsEarlierKey p q
 path_before p q (less l) = absurd (omega (arith, l))
 path_before p q (same h) = h
-
--- what stands at a place of a list is in it
-pub in_list : {A : Type 0} (xs : List A) (n : ℕ) (y : A) → slice_get xs n ≡ Some y → IsIn y xs
-in_list [] n y g = absurd cc
-in_list (z ∷ xs) zero y g = let k : z ≡ y = some_is g in subst (λ t. IsIn t (z ∷ xs)) k here
-in_list (z ∷ xs) (suc n) y g = there (in_list xs n y g)
 
 -- a task of the list is one of the tree
 pub is_asked : (k : Kept) (left : List TaskNo) → HaveGivers k left → (i : ℕ) (d : TaskNo) → i < length left → (get_or left i d).0 < length k.tree.tasks

@@ -16,8 +16,8 @@ use Rattle.oss_tree.specs.Tasks as tree
 use Rattle.oss_tree.specs.Tasks.{HasPoint, changed, changed_to, created_by, ended_task, given_task, grown, new_task, with_child}
 use Rattle.oss_tree.proofs.ListLemmas.{get_front, get_set_other, get_set_same}
 use Rattle.oss_deps.specs.Seen.{Seen}
+use Rattle.oss_kept_tasks.specs.declared.held.Held.{Held}
 use Rattle.oss_core.specs.declared.creating.Newborn.{Newborn}
-use Rattle.oss_core.specs.declared.held.Held.{Held}
 use Rattle.oss_core.specs.Changes.{noted, noted_new}
 use Rattle.oss_core.specs.Kept.{AreHeld, AreKnown, IsCore, Kept, own}
 use Rattle.oss_core.specs.Moving.{AreSound}

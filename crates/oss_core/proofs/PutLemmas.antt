@@ -37,14 +37,14 @@ use Rattle.oss_tree.specs.Tasks.{HasPoint, MayCreate, grown}
 use Rattle.oss_tree.proofs.ListLemmas.{get_set_other, get_set_same, longer_by}
 use Rattle.oss_deps.specs.Seen.{CanOpen, Opens, Seen}
 use Rattle.oss_segment.specs.Segments.{IsKeyed, Went, with_print, went_none, went_on, went_new}
+use Rattle.oss_kept_tasks.specs.declared.held.Held.{Held}
+use Rattle.oss_enabled_moves.proofs.CallLemmas.{seen_is}
 use Rattle.oss_core.specs.declared.creating.Newborn.{Newborn}
-use Rattle.oss_core.specs.declared.held.Held.{Held}
 use Rattle.oss_core.specs.Changes.{Creates, Steps, found_in, noted, prints_after}
 use Rattle.oss_core.specs.Moving.{Grown}
 use Rattle.oss_core.specs.Kept.{IsCore, Kept}
 use Rattle.oss_core.specs.Putting.{AreNewborns, IsNewborn, IsPut, MayAdd, OpensAll, entry_of, with_newborn, with_newborns, with_tasks}
 use Rattle.oss_core.proofs.CreatesLemmas.{creates_made}
-use Rattle.oss_core.proofs.MakingLemmas.{seen_is}
 use Rattle.oss_core.proofs.ActLemmas.{created_order}
 use Rattle.oss_core.proofs.CoreLemmas.{held_at}
 use Rattle.oss_core.proofs.KeepLemmas.{some_is, which}

@@ -15,11 +15,11 @@ use Rattle.oss_machine.specs.Machines.{asks}
 use Rattle.oss_tree.specs.Tasks.{HasPoint}
 use Rattle.oss_tree.proofs.ListLemmas.{get_set_other, get_set_same}
 use Rattle.oss_wave_laws.specs.Passes.{Visits, gives, visits_none}
-use Rattle.oss_core.specs.declared.held.Held.{Held}
-use Rattle.oss_core.specs.declared.held.Owed.{Owed}
-use Rattle.oss_core.specs.declared.held.Owed.TheVariants as owed
+use Rattle.oss_kept_tasks.specs.declared.held.Held.{Held}
+use Rattle.oss_kept_tasks.specs.declared.held.Owed.{Owed}
+use Rattle.oss_kept_tasks.specs.declared.held.Owed.TheVariants as owed
+use Rattle.oss_enabled_moves.specs.Enabled.{IsThrough, MayLet}
 use Rattle.oss_core.specs.Changes.{Lets}
-use Rattle.oss_core.specs.Enabled.{IsThrough, MayLet}
 use Rattle.oss_core.specs.Kept.{IsCore, Kept}
 use Rattle.oss_core.specs.Passing.{HasClearedRange, LetsRange}
 use Rattle.oss_core.proofs.EntryLemmas.{both, both_of}

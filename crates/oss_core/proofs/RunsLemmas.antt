@@ -16,9 +16,9 @@ use Rattle.oss_machine.specs.Machines.{asks}
 use Rattle.oss_tree.specs.declared.task.Task.{Task as TreeTask}
 use Rattle.oss_tree.specs.Tasks.{HasPoint, IsTree, changed_to, given_task}
 use Rattle.oss_tree.proofs.ListLemmas.{get_set_other, get_set_same, there_is}
+use Rattle.oss_enabled_moves.specs.Enabled.{MayJoin}
 use Rattle.oss_core.specs.declared.passing.Passed.{Passed}
 use Rattle.oss_core.specs.Changes.{noted_given}
-use Rattle.oss_core.specs.Enabled.{MayJoin}
 use Rattle.oss_core.specs.Kept.{IsCore, IsRunning, Kept}
 use Rattle.oss_core.specs.Passing.{CellsPassed, HaveGiven, IsToldOf, LetsRange, MayNothing, RunPassed, Tells, TellsOf, joins, lets, more_cells, no_cells, stays}
 use Rattle.oss_core.proofs.ExactLemmas.{join_tells, join_told, let_tells}

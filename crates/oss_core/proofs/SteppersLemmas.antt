@@ -11,9 +11,9 @@ use Rattle.oss_machine.specs.Frames.{CodeScript}
 use Rattle.oss_body.specs.Relation.{is_over}
 use Rattle.oss_tree.specs.declared.task.Task.{Task as TreeTask}
 use Rattle.oss_tree.specs.Tasks.{number}
-use Rattle.oss_core.specs.declared.held.Held.{Held}
+use Rattle.oss_kept_tasks.specs.declared.held.Held.{Held}
+use Rattle.oss_enabled_moves.specs.Enabled.{MayStep}
 use Rattle.oss_core.specs.Awake.{HaveSteppers}
-use Rattle.oss_core.specs.Enabled.{MayStep}
 use Rattle.oss_core.specs.Kept.{IsCore, Kept}
 use Rattle.oss_core.specs.PointOrder.{AreInPointOrder}
 use Rattle.oss_core.specs.Steppers.{AreSteppers, IsAddedWhere}

@@ -1,9 +1,7 @@
 -- An act that creates no task: behind it the core stands for the state after the act.
 use Rattle.std.proofs.Common.{◌≡◌, ◌≢◌, ℕ, refl, sym, subst, ap, ◌∙◌, List, [], ◌∷◌, ◌++◌, ◌⊎◌, inl, inr, Bool, true, false, length-set, map}
 use Rattle.std.specs.Prelude.{slice_set}
-use Rattle.std.proofs.lemmas.List.{reverse-reverse}
 use Rattle.oss_model.specs.Order.{written}
-use Rattle.oss_model.specs.Points.{IsPoint}
 use Rattle.oss_model.specs.Context.{right_of}
 use Rattle.oss_model.specs.Bodies.{Order, Start, Act, Body, stage_act}
 use Rattle.oss_model.specs.Bodies.Act.{Created, Printed}
@@ -38,11 +36,6 @@ use Rattle.oss_core.proofs.ActLemmas.{created_is, running, found, next, bodies, 
 use Rattle.oss_core.proofs.KeepLemmas.{step_keeps}
 use Rattle.oss_core.proofs.MadeLemmas.{core_step, given_same}
 use Rattle.oss_core.proofs.PrintLemmas.{prints_more, prints_same}
-
--- a point is written as its path
-pub point_written : (key : List ℕ) → IsPoint key → written (unwritten key) ≡ key
-point_written [] h = let e = h.main in cc
-point_written (n ∷ rest) h = let e = h.main in rw (reverse-reverse rest) (cc)
 
 -- an act is a print, or prints nothing
 pub print_or : (act : KeptAct) (prints : List Print) → ((key : List ℕ) × (text : List ℕ) × (act ≡ acts.Print key text)) ⊎ (((key text : List ℕ) → act_seen act ≢ Printed key text) × (prints_after act prints ≡ prints))

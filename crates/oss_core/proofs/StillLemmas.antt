@@ -8,9 +8,10 @@ use Rattle.oss_model.specs.declared.moving.Move.TheVariants as moves
 use Rattle.oss_code.specs.declared.code.CodeParts.{CodeParts}
 use Rattle.oss_machine.specs.Frames.{CodeScript}
 use Rattle.oss_machine.specs.Machines.{asks}
-use Rattle.oss_core.specs.declared.held.Held.{Held}
+use Rattle.oss_kept_tasks.specs.declared.held.Held.{Held}
+use Rattle.oss_enabled_moves.specs.Enabled.{MayAnything, folds, gives, goes}
 use Rattle.oss_core.specs.Kept.{IsCore, Kept}
-use Rattle.oss_core.specs.Stops.{IsStill, MayAnything, folds, gives, goes}
+use Rattle.oss_core.specs.Stops.{IsStill}
 use Rattle.oss_core.proofs.StopLemmas.{still_each, still_stopped, stopped_still}
 
 -- each way

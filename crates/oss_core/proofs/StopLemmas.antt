@@ -19,10 +19,10 @@ use Rattle.oss_machine.specs.Machines.{asks}
 use Rattle.oss_body.specs.Relation.{released_by}
 use Rattle.oss_tree.specs.declared.task.Task.{Task as TreeTask}
 use Rattle.oss_deps.specs.Seen.{Seen}
-use Rattle.oss_core.specs.declared.held.Held.{Held}
-use Rattle.oss_core.specs.declared.held.Owed.TheVariants as owed
-use Rattle.oss_core.specs.Changes.{IsMove}
-use Rattle.oss_core.specs.Enabled.{IsThrough, MayFold, MayGive, MayGoOn, MayMove}
+use Rattle.oss_kept_tasks.specs.declared.held.Held.{Held}
+use Rattle.oss_kept_tasks.specs.declared.held.Owed.TheVariants as owed
+use Rattle.oss_enabled_moves.specs.Enabled.{IsThrough, MayFold, MayGive, MayGoOn}
+use Rattle.oss_core.specs.Changes.{IsMove, MayMove}
 use Rattle.oss_core.specs.Kept.{IsCore, Kept}
 use Rattle.oss_core.specs.Stops.{IsStill}
 use Rattle.oss_core.proofs.ExactLemmas.{join_tells, join_told, let_tells, let_told, step_tells, step_told}

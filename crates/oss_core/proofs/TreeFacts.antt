@@ -20,7 +20,7 @@ use Rattle.oss_tree.specs.Tasks.{HasPoint, IsComplete}
 use Rattle.oss_tree.specs.Runs.{IsTaskOf, KeepsTasks}
 use Rattle.oss_tree.proofs.RunLemmas.{complete_law}
 use Rattle.oss_tree.proofs.TreeLemmas.{one_point}
-use Rattle.oss_core.specs.declared.held.Held.{Held}
+use Rattle.oss_kept_tasks.specs.declared.held.Held.{Held}
 use Rattle.oss_core.specs.Standing.{IsNumbered}
 use Rattle.oss_core.specs.Kept.{Kept, IsCore, IsHeld, IsKnown, own}
 use Rattle.oss_core.proofs.KeepLemmas.{some_is}

@@ -1,5 +1,5 @@
--- As many tasks of the state are not complete as of the tree.
-use Rattle.std.proofs.Common.{◌≡◌, ℕ, suc, ◌<◌, refl, sym, subst, ap, ◌∙◌, List, [], ◌∷◌, length, map, Option, Some, None}
+-- How many tasks of the tree are not complete, task by task, and that as many of the state are not.
+use Rattle.std.proofs.Common.{◌≡◌, ℕ, suc, ◌+◌, ◌<◌, ◌⊎◌, inl, inr, refl, sym, subst, ap, ◌∙◌, arith, List, [], ◌∷◌, length, map, Option, Some, None}
 use Rattle.std.specs.Prelude.{slice_get}
 use Rattle.std.proofs.lemmas.List.{reverse-reverse}
 use Rattle.oss_model.specs.Order.{IsIn, here, there}
@@ -10,9 +10,12 @@ use Rattle.oss_machine.specs.Frames.{CodeScript}
 use Rattle.oss_machine.specs.Machines.{asks}
 use Rattle.oss_body.specs.Places.{unwritten}
 use Rattle.oss_tree.specs.declared.task.Task.{Task as TreeTask}
+use Rattle.oss_tree.specs.Tasks.{IsComplete}
 use Rattle.oss_core.specs.Kept.{IsCore, Kept, own}
 use Rattle.oss_core.specs.Standing.{IsNumbered}
-use Rattle.oss_core.specs.Stops.{AreApart, AreUnfinished, HasUnfinished, IsUnfinished}
+use Rattle.oss_core.specs.Stops.{AreApart, AreUnfinished, AreUnfinishedTo, HasUnfinished, IsUnfinished}
+use Rattle.oss_core.proofs.EntryLemmas.{in_cases}
+use Rattle.oss_core.proofs.KeepLemmas.{which}
 use Rattle.oss_core.proofs.TreeFacts.{at_number, body_within, complete_tells, point_of_path, sizes}
 
 -- the path of a task of a tree
@@ -101,3 +104,24 @@ module _ {code : CodeParts} {main : Start CodeScript} {first : List ℕ} {k : Ke
           let l = subst (λ (n : ℕ). v.0 < n) (sym (sizes core)) (body_within core v.0 v.1.one v.1.is) in
           let i = (a.exact v.0).1 (l, λ c. u.left ((complete_tells core v.0 p v.1).0 c)) in
           subst (λ (q : List ℕ). IsIn q (map (path_in k.tree.tasks) a.list)) (path_is v.0 p v.1) (image_in (path_in k.tree.tasks) i)
+
+below_split : (w n : ℕ) → w < n + 1 → (w ≡ n) ⊎ (w ≡ n → ⊥) → (w ≡ n) ⊎ (w < n)
+below_split w n l (inl e) = inl e
+below_split w n l (inr d) = inr (grind (arith, l, d))
+
+-- one more task that is not complete
+pub one_more : (tasks : List TreeTask) (v n : ℕ) → (IsComplete tasks v → ⊥) → AreUnfinishedTo tasks v n → AreUnfinishedTo tasks (v + 1) (n + 1)
+one_more tasks v n left told = record {
+  list = v ∷ told.list;
+  apart = ((λ i. let h = (told.exact v).0 i in let l = h.0 in absurd (omega (arith, l))), told.apart);
+  exact = λ w. ((λ i. forth w (in_cases i)), (λ h. back w (below_split w v h.0 (which w v)) h.1));
+  count = let e = told.count in omega (arith, e);
+}
+  where
+    forth : (w : ℕ) → (w ≡ v) ⊎ IsIn w told.list → (w < v + 1) × (IsComplete tasks w → ⊥)
+    forth w (inl e) = (omega (arith, e), λ c. left (subst (IsComplete tasks) e c))
+    forth w (inr i) = let h = (told.exact w).0 i in let l = h.0 in (omega (arith, l), h.1)
+
+    back : (w : ℕ) → (w ≡ v) ⊎ (w < v) → (IsComplete tasks w → ⊥) → IsIn w (v ∷ told.list)
+    back w (inl e) c = subst (λ (x : ℕ). IsIn x (v ∷ told.list)) (sym e) here
+    back w (inr l) c = there ((told.exact w).1 (l, c))

@@ -16,8 +16,8 @@ use Rattle.oss_tree.specs.Tasks.{HasPoint}
 use Rattle.oss_tree.proofs.ListLemmas.{get_set_other, get_set_same, there_is}
 use Rattle.oss_segment.specs.declared.segment.Segment.{Segment}
 use Rattle.oss_segment.specs.Segments.{IsKnown}
+use Rattle.oss_kept_tasks.specs.declared.held.Held.{Held}
 use Rattle.oss_core.specs.declared.creating.Newborn.{Newborn}
-use Rattle.oss_core.specs.declared.held.Held.{Held}
 use Rattle.oss_core.specs.declared.turns.Turn.{Turn}
 use Rattle.oss_core.specs.Kept.{IsRunning, Kept}
 use Rattle.oss_core.specs.Leaving.{WasWave}

@@ -8,10 +8,10 @@ use Rattle.oss_model.specs.declared.task_no.TaskNo.{TaskNo}
 use Rattle.oss_ranges.specs.Cells.{value_at}
 use Rattle.oss_body.specs.Relation.{is_over, released_by}
 use Rattle.oss_tree.specs.Tasks.{number}
-use Rattle.oss_core.specs.declared.held.Held.{Held}
-use Rattle.oss_core.specs.declared.held.Owed.{Owed}
-use Rattle.oss_core.specs.declared.held.Owed.TheVariants as owed
-use Rattle.oss_core.specs.Enabled.{MayStep}
+use Rattle.oss_kept_tasks.specs.declared.held.Held.{Held}
+use Rattle.oss_kept_tasks.specs.declared.held.Owed.{Owed}
+use Rattle.oss_kept_tasks.specs.declared.held.Owed.TheVariants as owed
+use Rattle.oss_enabled_moves.specs.Enabled.{MayStep}
 use Rattle.oss_core.specs.Kept.{Kept}
 use Rattle.oss_core.specs.PointOrder.{AreInPointOrder}
 

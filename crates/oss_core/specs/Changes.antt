@@ -1,4 +1,4 @@
--- What a move changes of what a core keeps, and which move of the definitions it is.
+-- Which moves may be made, what a move changes of what a core keeps, and which move of the definitions it is.
 -- Read against: the store of 5 in x by the task 1 changes the body of that task, which has one answer more, and the cell; a print stands behind all that
 -- was printed; the end of a task is known to the tree; a creation puts a body behind the others, an entry behind the opens, and a task into the tree; and a let of
 -- x by task 1 clears what it owes of x, so that it has given up all its cells, and the dependency system is told.
@@ -29,8 +29,9 @@ use Rattle.oss_tree.specs.declared.task.Task.{Task as TreeTask}
 use Rattle.oss_tree.specs.Tasks.{HasPoint, changed, ended_task, given_task, grown}
 use Rattle.oss_deps.specs.Opens.{access_at}
 use Rattle.oss_deps.specs.Seen.{IsSame, Opens}
-use Rattle.oss_core.specs.declared.held.Held.{Held}
-use Rattle.oss_core.specs.declared.held.Owed.{Owed}
+use Rattle.oss_kept_tasks.specs.declared.held.Held.{Held}
+use Rattle.oss_kept_tasks.specs.declared.held.Owed.{Owed}
+use Rattle.oss_enabled_moves.specs.Enabled.{MayJoin, MayLet, MayStep}
 use Rattle.oss_core.specs.Kept.{IsCore, Kept, owed_by}
 
 -- One task is kept otherwise, and no other.
@@ -151,6 +152,12 @@ IsMove P tasks (moves.Step task) s n = (path : List ℕ) × (one : Task CodeScri
 IsMove P tasks (moves.Let task cell) s n = (path : List ℕ) × (one : Task CodeScript) × HasPoint tasks task.0 (written path) × CanLet P s path cell one × LetGo s path cell one n
 IsMove P tasks (moves.Join task cell) s n =
     (path : List ℕ) × (one : Task CodeScript) × (op : Op) × HasPoint tasks task.0 (written path) × CanJoin P s path cell op one × Joined P s path cell op one n
+
+-- The move may be made, told of what is kept alone.
+abbrev pub MayMove : Kept → Move → Type 0
+MayMove k (moves.Step task) = MayStep k.tasks k.tree.tasks k.seen task.0
+MayMove k (moves.Let task cell) = MayLet k.tasks k.tree.tasks task.0 cell
+MayMove k (moves.Join task cell) = (op : Op) × MayJoin k.tasks k.tree.tasks k.seen task.0 cell op
 
 -- The move is made: it is one of the definitions from each state for which the core stood before, to one for which it stands after.
 abbrev pub IsMade : CodeParts → Kept → Kept → Move → Type 0

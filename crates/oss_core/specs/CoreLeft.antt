@@ -18,8 +18,8 @@ use Rattle.oss_code.specs.declared.code.CodeParts.{CodeParts}
 use Rattle.oss_machine.specs.Frames.{CodeScript}
 use Rattle.oss_machine.specs.Machines.{asks}
 use Rattle.oss_body.specs.Left.{body_left}
-use Rattle.oss_core.specs.declared.held.Held.{Held}
-use Rattle.oss_core.specs.declared.held.Owed.{Owed}
+use Rattle.oss_kept_tasks.specs.declared.held.Held.{Held}
+use Rattle.oss_kept_tasks.specs.declared.held.Owed.{Owed}
 use Rattle.oss_core.specs.Kept.{Kept, IsCore}
 
 -- How many of the first so many cells are still to be given up: of the pieces `0..2 by a let` 2 of the first 5.

@@ -4,8 +4,8 @@ use Rattle.std.specs.Prelude.{◌≡◌, ℕ, suc, ◌↔◌, Bool, true, false,
 use Rattle.oss_ranges.specs.Cells.{Assigns, value_at}
 use Rattle.oss_deps.specs.Opens.{HasOpened}
 use Rattle.oss_deps.specs.Seen.{Seen}
-use Rattle.oss_core.specs.declared.held.Held.{Held}
-use Rattle.oss_core.specs.declared.held.Owed.{Owed}
+use Rattle.oss_kept_tasks.specs.declared.held.Held.{Held}
+use Rattle.oss_kept_tasks.specs.declared.held.Owed.{Owed}
 use Rattle.oss_core.specs.Changes.{IsChanged}
 
 -- The task is there, and owes the cell.

@@ -9,7 +9,7 @@ use Rattle.oss_body.specs.declared.act.Act.TheVariants as acts
 use Rattle.oss_body.specs.Acts.{creates, goes_on}
 use Rattle.oss_body.specs.Places.{unwritten}
 use Rattle.oss_body.specs.Relation.{is_over, pending_of}
-use Rattle.oss_core.specs.declared.held.Held.{Held}
+use Rattle.oss_kept_tasks.specs.declared.held.Held.{Held}
 use Rattle.oss_core.specs.Changes.{Creates, GoesOn, IsChanged, Steps}
 use Rattle.oss_core.specs.Kept.{Kept}
 

@@ -24,9 +24,9 @@ use Rattle.oss_tree.specs.Tasks as tree
 use Rattle.oss_tree.specs.Tasks.{IsTree}
 use Rattle.oss_tree.specs.Runs.{print_of}
 use Rattle.oss_deps.specs.Seen.{Seen}
-use Rattle.oss_core.specs.declared.held.Held.{Held}
-use Rattle.oss_core.specs.declared.held.Owed.{Owed}
-use Rattle.oss_core.specs.declared.held.Owed.TheVariants as owed
+use Rattle.oss_kept_tasks.specs.declared.held.Held.{Held}
+use Rattle.oss_kept_tasks.specs.declared.held.Owed.{Owed}
+use Rattle.oss_kept_tasks.specs.declared.held.Owed.TheVariants as owed
 use Rattle.oss_core.specs.Standing.{StandsFor}
 use Rattle.oss_core.specs.Moving.{AreSound}
 use Rattle.oss_core.specs.Printing.{ArePrints}

@@ -5,7 +5,6 @@ pub mod Telling
 pub mod Printing
 pub mod Putting
 pub mod Kept
-pub mod Enabled
 pub mod Changes
 pub mod Going
 pub mod Giving
@@ -19,5 +18,4 @@ pub mod Turns
 pub mod Steppers
 pub mod Awake
 pub mod Hindered
-pub mod Hindering
 pub mod Leaving

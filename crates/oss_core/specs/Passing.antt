@@ -15,11 +15,11 @@ use Rattle.oss_machine.specs.Frames.{CodeScript}
 use Rattle.oss_machine.specs.Machines.{asks}
 use Rattle.oss_tree.specs.declared.task.Task.{Task as TreeTask}
 use Rattle.oss_tree.specs.Tasks.{HasPoint, given_task}
-use Rattle.oss_core.specs.declared.held.Held.{Held}
-use Rattle.oss_core.specs.declared.held.Owed.TheVariants as owed
+use Rattle.oss_kept_tasks.specs.declared.held.Held.{Held}
+use Rattle.oss_kept_tasks.specs.declared.held.Owed.TheVariants as owed
+use Rattle.oss_enabled_moves.specs.Enabled.{MayJoin, MayLet}
 use Rattle.oss_core.specs.declared.passing.Passed.{Passed}
 use Rattle.oss_core.specs.Changes.{IsChanged, Joins, noted_given}
-use Rattle.oss_core.specs.Enabled.{MayJoin, MayLet}
 use Rattle.oss_core.specs.Kept.{IsCore, Kept}
 
 -- What was passed is this span of the definitions: the cells of one task, by its number and by its path.

@@ -19,8 +19,8 @@ use Rattle.oss_tree.specs.Tasks.{MayCreate, grown}
 use Rattle.oss_deps.specs.declared.opened.Open.{Open}
 use Rattle.oss_deps.specs.Opens.{access_at}
 use Rattle.oss_deps.specs.Seen.{CanOpen, IsSame, Opens, Seen}
+use Rattle.oss_kept_tasks.specs.declared.held.Held.{Held}
 use Rattle.oss_core.specs.declared.creating.Newborn.{Newborn}
-use Rattle.oss_core.specs.declared.held.Held.{Held}
 use Rattle.oss_core.specs.Changes.{noted, noted_new, owed_by_access}
 use Rattle.oss_core.specs.Kept.{Kept}
 

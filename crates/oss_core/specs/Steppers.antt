@@ -5,7 +5,7 @@ use Rattle.std.specs.Prelude.{◌≡◌, ◌⊎◌, ℕ, List, [], ◌∷◌, �
 use Rattle.oss_model.specs.Order.{IsIn}
 use Rattle.oss_model.specs.declared.task_no.TaskNo.{TaskNo}
 use Rattle.oss_tree.specs.Tasks.{number}
-use Rattle.oss_core.specs.Enabled.{MayStep}
+use Rattle.oss_enabled_moves.specs.Enabled.{MayStep}
 use Rattle.oss_core.specs.Kept.{Kept}
 use Rattle.oss_core.specs.PointOrder.{AreInPointOrder}
 

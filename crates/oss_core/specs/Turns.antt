@@ -18,7 +18,7 @@ use Rattle.oss_tree.specs.declared.task.Task.{Task as TreeTask}
 use Rattle.oss_tree.specs.Tasks.{HasPoint}
 use Rattle.oss_segment.specs.declared.segment.Segment.{Segment}
 use Rattle.oss_segment.specs.Segments.{IsKnown, IsSegment}
-use Rattle.oss_core.specs.declared.held.Held.{Held}
+use Rattle.oss_kept_tasks.specs.declared.held.Held.{Held}
 use Rattle.oss_core.specs.declared.turns.Turn.{Turn}
 use Rattle.oss_core.specs.Kept.{IsCore, Kept}
 use Rattle.oss_core.specs.Leaving.{HaveTurned}

@@ -3,15 +3,15 @@
 ghost use Rattle.std.specs.Prelude.{◌≡◌, ◌<◌, ◌↔◌, ℕ, suc, length, IfOk, IsTrue, MatchResult, None, OnOk, Some, slice_index, slice_set};
 ghost use Rattle.oss_model.specs.Moves.{combine};
 ghost use Rattle.oss_ranges.specs.Cells.{value_at};
-ghost use Rattle.oss_core.specs.declared.held.Owed.{Owed as Way};
+ghost use Rattle.oss_kept_tasks.specs.declared.held.Owed.{Owed as Way};
 ghost use Rattle.oss_core.specs.Changes.{GivesUp, Joins, Lets, noted_given};
 ghost use Rattle.oss_core.specs.Giving.{HasCleared, HoldsCell, OwesCell};
 
-use crate::held::{Held, Owed};
 use crate::machine::Core;
 use oss_body::memory::{combined, set, value_at as value_in};
 use oss_code::Code;
 use oss_deps::Deps;
+use oss_kept_tasks::{Held, Owed};
 use oss_model::{TaskNo, range_of};
 use oss_ranges::RangeMap;
 use oss_syntax::{Op, Range};

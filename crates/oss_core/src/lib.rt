@@ -3,11 +3,9 @@
 
 mod answering;
 mod creating;
-mod enabling;
 mod fault;
 mod giving;
 mod happening;
-mod held;
 mod hindrance;
 mod laws;
 mod machine;
@@ -17,14 +15,11 @@ mod putting;
 mod ranges_given;
 mod steppers;
 mod stepping;
-mod stopping;
 mod told;
 mod turns;
-mod waiting;
 mod waving;
 
 pub use fault::ApplyFault;
-pub use held::{Held, Owed};
 pub use laws::{core_moves_fall, core_passes_fall, core_rounds_fall, core_waves_fall};
 pub use machine::Core;
 pub use passing::Passed;

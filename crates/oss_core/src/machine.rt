@@ -11,12 +11,12 @@ ghost use Rattle.oss_model.specs.Machine.{State};
 ghost use Rattle.oss_model.specs.Moves.{opening};
 ghost use Rattle.oss_tree.specs.Tasks.{HasPoint};
 
-use crate::enabling::{join_of, may_join, may_let, may_step};
 use crate::fault::ApplyFault;
-use crate::held::Held;
 use oss_body::{Act, main_body, main_is_set};
 use oss_code::Code;
 use oss_deps::Deps;
+use oss_enabled_moves::{join_of, may_join, may_let, may_step};
+use oss_kept_tasks::Held;
 use oss_model::{Move, TaskNo};
 use oss_ranges::RangeMap;
 use oss_tree::Tree;
@@ -77,9 +77,8 @@ fn is_creation(act: &Act) -> bool
 impl<D: Deps> Core<D> {
     ghost use Rattle.oss_model.specs.declared.moving.Move.{Move as Meant};
     ghost use Rattle.oss_core.specs.declared.fault.ApplyFault.TheVariants as faults;
-    ghost use Rattle.oss_core.specs.Changes.{IsMade, IsMove};
+    ghost use Rattle.oss_core.specs.Changes.{IsMade, IsMove, MayMove};
     ghost use Rattle.oss_core.specs.Cores.{kept_of};
-    ghost use Rattle.oss_core.specs.Enabled.{MayMove};
     ghost use Rattle.oss_core.specs.Kept.{IsCore, IsRunning};
 
     /// The machine at its beginning: main alone, which has done nothing, over the cells of its code. Want of

@@ -5,11 +5,11 @@ ghost use Rattle.oss_code.specs.declared.code.CodeParts.{CodeParts};
 ghost use Rattle.oss_ranges.specs.Cells.{value_at};
 ghost use Rattle.oss_core.specs.Passing.{AreBoth, Continues, IsAdded};
 
-use crate::enabling::{is_let, is_through, join_of, may_fold};
-use crate::held::Owed;
 use crate::machine::Core;
 use oss_code::Code;
 use oss_deps::Deps;
+use oss_enabled_moves::{is_let, is_through, join_of, may_fold};
+use oss_kept_tasks::Owed;
 use oss_model::TaskNo;
 use oss_ranges::RangeMap;
 use oss_syntax::{Op, Range};
@@ -83,8 +83,8 @@ fn owes_none_past(owed: &RangeMap<Owed>)
 }
 
 impl<D: Deps> Core<D> {
-    ghost use Rattle.oss_core.specs.declared.held.Held.{Held as Kept};
-    ghost use Rattle.oss_core.specs.declared.held.Owed.TheVariants as ways;
+    ghost use Rattle.oss_kept_tasks.specs.declared.held.Held.{Held as Kept};
+    ghost use Rattle.oss_kept_tasks.specs.declared.held.Owed.TheVariants as ways;
     ghost use Rattle.oss_core.specs.Cores.{kept_of};
     ghost use Rattle.oss_core.specs.Awake.{HaveGivers};
     ghost use Rattle.oss_core.specs.Kept.{IsRunning};

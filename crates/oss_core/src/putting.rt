@@ -4,17 +4,17 @@ ghost use Rattle.std.specs.Prelude.{◌≡◌, ◌++◌, ◌<◌, ◌≤◌, ℕ
 ghost use Rattle.oss_body.specs.declared.body.Body.{Body as Kept};
 ghost use Rattle.oss_body.specs.Relation.{is_over};
 ghost use Rattle.oss_tree.specs.declared.output.Print.{Print as Printed};
+ghost use Rattle.oss_kept_tasks.specs.declared.held.Held.{Held as Known};
 ghost use Rattle.oss_core.specs.declared.creating.Newborn.{Newborn as New};
-ghost use Rattle.oss_core.specs.declared.held.Held.{Held as Known};
 ghost use Rattle.oss_core.specs.Changes.{noted};
 ghost use Rattle.oss_core.specs.Putting.{AreAdded, AreNewborns, HasBody, IsNewborn, IsPut, IsRunPut, IsWritten, MayAdd};
 
 use crate::creating::{Newborn, Share, add_to_tree, share_of};
-use crate::held::Held;
 use crate::machine::Core;
 use oss_body::Body;
 use oss_body::memory::set;
 use oss_deps::Deps;
+use oss_kept_tasks::Held;
 use oss_model::TaskNo;
 use oss_ranges::RangeMap;
 use oss_segment::Segment;

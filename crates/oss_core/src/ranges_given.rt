@@ -5,9 +5,9 @@ ghost use Rattle.oss_core.specs.Giving.{HoldsCell};
 ghost use Rattle.oss_core.specs.Passing.{HasClearedRange, LetsRange, OwesRange};
 
 use crate::giving::{is_empty, note_given};
-use crate::held::Held;
 use crate::machine::Core;
 use oss_deps::Deps;
+use oss_kept_tasks::Held;
 use oss_model::TaskNo;
 use oss_syntax::Range;
 use std::alloc::AllocError;

@@ -2,7 +2,7 @@
 
 ghost use Rattle.std.specs.Prelude.{◌≡◌, IfOk, OnOk};
 ghost use Rattle.oss_code.specs.declared.code.CodeParts.{CodeParts};
-ghost use Rattle.oss_core.specs.Enabled.{MayStep};
+ghost use Rattle.oss_enabled_moves.specs.Enabled.{MayStep};
 ghost use Rattle.oss_core.specs.Steppers.{IsAddedWhere};
 
 use crate::machine::Core;

@@ -6,11 +6,11 @@ ghost use Rattle.oss_core.specs.Changes.{noted};
 ghost use Rattle.oss_core.specs.Going.{HasGoneOn, HasStepped, StandsBefore, StandsBeforeStep};
 
 use crate::happening::{happen, note_print};
-use crate::held::Held;
 use crate::machine::Core;
 use oss_body::Body;
 use oss_code::Code;
 use oss_deps::Deps;
+use oss_kept_tasks::Held;
 use oss_model::TaskNo;
 use oss_tree::Tree;
 use std::alloc::AllocError;

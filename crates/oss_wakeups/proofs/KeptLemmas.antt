@@ -17,17 +17,18 @@ use Rattle.oss_tree.proofs.ListLemmas.{some_is, none_some}
 use Rattle.oss_deps.specs.declared.opened.Open.{Open}
 use Rattle.oss_deps.specs.Hindrances.{HasUndoneChild, Hinders}
 use Rattle.oss_deps.specs.Opens.{AreOpens, HasOpened, IsMet, opened_forest}
-use Rattle.oss_core.specs.declared.held.Held.{Held}
-use Rattle.oss_core.specs.declared.held.Owed.{Owed}
+use Rattle.oss_kept_tasks.specs.declared.held.Held.{Held}
+use Rattle.oss_kept_tasks.specs.declared.held.Owed.{Owed}
+use Rattle.oss_enabled_moves.specs.Enabled.{IsActMet, MayGoOn, MayStep}
+use Rattle.oss_enabled_moves.specs.Reasons.{IsChildIn, IsNewestIn, IsReason, access, child, newest, use_}
+use Rattle.oss_enabled_moves.proofs.CallLemmas.{in_range_of}
 use Rattle.oss_core.specs.declared.passing.Passed.{Passed}
 use Rattle.oss_core.specs.declared.turns.Turn.{Turn}
 use Rattle.oss_core.specs.Awake.{IsStill}
-use Rattle.oss_core.specs.Enabled.{IsActMet, MayGoOn, MayStep}
-use Rattle.oss_core.specs.Hindered.{IsChildIn, IsHindered, IsNewestIn, IsReason, IsSpent, access, child, newest, use_}
+use Rattle.oss_core.specs.Hindered.{IsHindered, IsSpent}
 use Rattle.oss_core.specs.Kept.{IsRunning, Kept}
 use Rattle.oss_core.specs.Leaving.{HasGiven, HasTurn, OwesLess}
 use Rattle.oss_core.proofs.AwakeLemmas.{below_in_tree, rest_is_still, still_after}
-use Rattle.oss_core.proofs.CallLemmas.{in_range_of}
 use Rattle.oss_wakeups.specs.Watches.{HasNoLet, IsAboveEnded, IsAbovePassed, IsPassOf, IsWaveOf}
 use Rattle.oss_wakeups.specs.Watching.{IsAtOrAbove, above, itself}
 use Rattle.oss_wakeups.proofs.CompleteLemmas.{complete_before, done_before}

@@ -9,10 +9,10 @@ use Rattle.oss_code.specs.declared.code.CodeParts.{CodeParts}
 use Rattle.oss_tree.specs.declared.task.Task.{Task as TreeTask}
 use Rattle.oss_tree.specs.Tasks.{HasPoint, number}
 use Rattle.oss_tree.proofs.ListLemmas.{there_is}
+use Rattle.oss_enabled_moves.specs.Enabled.{MayStep}
 use Rattle.oss_core.specs.declared.passing.Passed.{Passed}
 use Rattle.oss_core.specs.declared.turns.Turn.{Turn}
 use Rattle.oss_core.specs.Awake.{HaveGivers, HaveSteppers, IsStill}
-use Rattle.oss_core.specs.Enabled.{MayStep}
 use Rattle.oss_core.specs.Hindered.{IsHindered}
 use Rattle.oss_core.specs.Kept.{IsRunning, Kept}
 use Rattle.oss_core.specs.PointOrder.{AreInPointOrder}

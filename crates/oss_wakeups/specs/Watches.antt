@@ -7,10 +7,10 @@ use Rattle.oss_model.specs.declared.task_no.TaskNo.{TaskNo}
 use Rattle.oss_code.specs.declared.code.CodeParts.{CodeParts}
 use Rattle.oss_tree.specs.declared.task.Task.{Task as TreeTask}
 use Rattle.oss_tree.specs.Tasks.{number}
+use Rattle.oss_enabled_moves.specs.Enabled.{MayLet}
 use Rattle.oss_core.specs.declared.passing.Passed.{Passed}
 use Rattle.oss_core.specs.declared.turns.Turn.{Turn}
 use Rattle.oss_core.specs.Awake.{IsStill}
-use Rattle.oss_core.specs.Enabled.{MayLet}
 use Rattle.oss_core.specs.Hindered.{IsFree, IsHindered, IsSpent}
 use Rattle.oss_core.specs.Kept.{IsRunning, Kept}
 use Rattle.oss_core.specs.Leaving.{HaveGivenUp, WasWave}

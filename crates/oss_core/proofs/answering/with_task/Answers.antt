@@ -1,4 +1,4 @@
-use Rattle.oss_core.proofs.LeastLemmas.{one_more}
+use Rattle.oss_core.proofs.UnfinishedLemmas.{one_more}
 use Rattle.oss_core.proofs.answering.with_task.Goals as goal
 
 pub returns-else-complete-clause-told : goal.returns-else-complete-clause-told

@@ -1,6 +1,7 @@
 use Rattle.std.proofs.Common.{subst}
+use Rattle.oss_kept_tasks.specs.FirstFault.{AreKeyed}
 use Rattle.oss_core.specs.Kept.{Kept}
-use Rattle.oss_core.specs.Stops.{AreKeyed, IsAnswerOf}
+use Rattle.oss_core.specs.Stops.{IsAnswerOf}
 use Rattle.oss_core.proofs.AnswerLemmas.{answer_is}
 use Rattle.oss_core.proofs.machine.Core.answer.Goals as goal
 

@@ -1,7 +1,7 @@
 use Rattle.std.proofs.Common.{◌≡◌, ℕ, List, sym, refl, subst, ◌∙◌, Some}
 use Rattle.std.specs.Prelude.{slice_get}
 use Rattle.oss_deps.specs.Seen.{CanOpen, Opens}
-use Rattle.oss_core.specs.declared.held.Held.{Held}
+use Rattle.oss_kept_tasks.specs.declared.held.Held.{Held}
 use Rattle.oss_core.specs.Changes.{IsCreated}
 use Rattle.oss_core.specs.Going.{HasGoneOn}
 use Rattle.oss_core.specs.Cores.{kept_of}

@@ -2,7 +2,7 @@ use Rattle.std.proofs.Common.{◌≡◌, ℕ, List, sym, ap, subst, ◌∙◌}
 use Rattle.std.specs.Prelude.{slice_index, slice_set}
 use Rattle.oss_model.specs.Moves.{combine}
 use Rattle.oss_body.specs.Relation.{IsBody}
-use Rattle.oss_core.specs.declared.held.Held.{Held}
+use Rattle.oss_kept_tasks.specs.declared.held.Held.{Held}
 use Rattle.oss_core.specs.Cores.{kept_of}
 use Rattle.oss_core.proofs.ClearLemmas.{given_with}
 use Rattle.oss_core.proofs.GoingLemmas.{read_is}

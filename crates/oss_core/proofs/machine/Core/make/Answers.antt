@@ -1,9 +1,8 @@
 use Rattle.std.proofs.Common.{subst, sym}
 use Rattle.std.specs.Prelude.{OnOk}
 use Rattle.oss_model.specs.declared.moving.Move.{Move}
-use Rattle.oss_core.specs.Changes.{IsMade}
+use Rattle.oss_core.specs.Changes.{IsMade, MayMove}
 use Rattle.oss_core.specs.Cores.{kept_of}
-use Rattle.oss_core.specs.Enabled.{MayMove}
 use Rattle.oss_core.proofs.CallLemmas.{on_ok}
 use Rattle.oss_core.proofs.MakingLemmas.{holds_cell, let_owes, made_let}
 use Rattle.oss_core.proofs.machine.Core.make.Goals as goal

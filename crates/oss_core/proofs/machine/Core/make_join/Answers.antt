@@ -1,10 +1,10 @@
 use Rattle.std.proofs.Common.{◌≡◌, sym, subst, ◌∙◌, Some}
 use Rattle.oss_syntax.specs.declared.access.Op.{Op}
 use Rattle.oss_ranges.specs.Cells.{value_at}
-use Rattle.oss_core.specs.declared.held.Held.{Held}
-use Rattle.oss_core.specs.declared.held.Owed.TheVariants as owed
+use Rattle.oss_kept_tasks.specs.declared.held.Held.{Held}
+use Rattle.oss_kept_tasks.specs.declared.held.Owed.TheVariants as owed
+use Rattle.oss_enabled_moves.specs.Enabled.{MayJoin}
 use Rattle.oss_core.specs.Cores.{kept_of}
-use Rattle.oss_core.specs.Enabled.{MayJoin}
 use Rattle.oss_core.proofs.CallLemmas.{on_ok}
 use Rattle.oss_core.proofs.GoingLemmas.{read_is}
 use Rattle.oss_core.proofs.KeepLemmas.{some_is}

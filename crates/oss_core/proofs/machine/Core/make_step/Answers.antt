@@ -1,7 +1,7 @@
 use Rattle.std.proofs.Common.{◌≡◌, sym, ap, ◌∙◌}
 use Rattle.oss_body.specs.Acts.{creates}
 use Rattle.oss_body.specs.Relation.{pending_of}
-use Rattle.oss_core.specs.declared.held.Held.{Held}
+use Rattle.oss_kept_tasks.specs.declared.held.Held.{Held}
 use Rattle.oss_core.specs.Cores.{kept_of}
 use Rattle.oss_core.proofs.CallLemmas.{on_ok}
 use Rattle.oss_core.proofs.GoingLemmas.{read_is}

@@ -1,6 +1,6 @@
 use Rattle.std.proofs.Common.{◌≡◌, ◌<◌, List, length, Some, subst}
 use Rattle.std.specs.Prelude.{slice_get}
-use Rattle.oss_core.specs.declared.held.Held.{Held}
+use Rattle.oss_kept_tasks.specs.declared.held.Held.{Held}
 use Rattle.oss_core.proofs.MakingLemmas.{fold_of, kept_is}
 use Rattle.oss_core.proofs.NeedLemmas.{is_known}
 use Rattle.oss_core.proofs.machine.Core.may_move.Goals as goal

@@ -2,10 +2,11 @@ use Rattle.std.proofs.Common.{◌≡◌, ℕ, suc, ◌+◌, refl, sym, subst, �
 use Rattle.oss_syntax.specs.declared.access.Op.{Op}
 use Rattle.oss_ranges.specs.Cells.{value_at}
 use Rattle.oss_deps.specs.Seen.{Seen}
-use Rattle.oss_core.specs.declared.held.Held.{Held}
-use Rattle.oss_core.specs.declared.held.Owed.TheVariants as owed
+use Rattle.oss_kept_tasks.specs.declared.held.Held.{Held}
+use Rattle.oss_kept_tasks.specs.declared.held.Owed.TheVariants as owed
+use Rattle.oss_enabled_moves.specs.Enabled.{MayFold}
+use Rattle.oss_enabled_moves.proofs.CallLemmas.{seen_is}
 use Rattle.oss_core.specs.Cores.{kept_of}
-use Rattle.oss_core.specs.Enabled.{MayFold}
 use Rattle.oss_core.specs.Giving.{HoldsCell}
 use Rattle.oss_core.specs.Kept.{Kept}
 use Rattle.oss_core.specs.Changes.{Joins}
@@ -13,7 +14,7 @@ use Rattle.oss_core.specs.Passing.{RunPassed, joins, stays}
 use Rattle.oss_core.proofs.AddedLemmas.{join_waits, one_way}
 use Rattle.oss_core.proofs.GoingLemmas.{read_is}
 use Rattle.oss_core.proofs.KeepLemmas.{some_is}
-use Rattle.oss_core.proofs.MakingLemmas.{fold_of, holds_cell, kept_is, seen_is}
+use Rattle.oss_core.proofs.MakingLemmas.{fold_of, holds_cell, kept_is}
 use Rattle.oss_core.proofs.machine.Core.pass_join.Goals as goal
 
 pub may_fold-requires-clause-folding : goal.may_fold-requires-clause-folding

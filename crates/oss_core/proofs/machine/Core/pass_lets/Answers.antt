@@ -1,10 +1,10 @@
 use Rattle.std.proofs.Common.{◌≡◌, ℕ, ◌<◌, ◌≤◌, ◌⊎◌, inl, inr, refl, sym, subst, ◌∙◌, arith, true, Some}
 use Rattle.std.specs.Prelude.{slice_get}
 use Rattle.oss_ranges.specs.Cells.{value_at}
-use Rattle.oss_core.specs.declared.held.Held.{Held}
-use Rattle.oss_core.specs.declared.held.Owed.TheVariants as owed
+use Rattle.oss_kept_tasks.specs.declared.held.Held.{Held}
+use Rattle.oss_kept_tasks.specs.declared.held.Owed.TheVariants as owed
+use Rattle.oss_enabled_moves.specs.Enabled.{IsThrough}
 use Rattle.oss_core.specs.Cores.{kept_of}
-use Rattle.oss_core.specs.Enabled.{IsThrough}
 use Rattle.oss_core.specs.Passing.{lets}
 use Rattle.oss_core.proofs.AddedLemmas.{holds_range, lets_may, owes_less}
 use Rattle.oss_core.proofs.GoingLemmas.{read_is}

@@ -5,11 +5,11 @@ use Rattle.oss_model.specs.Moves.{cells_after}
 use Rattle.oss_body.specs.Acts.{act_seen}
 use Rattle.oss_body.specs.Relation.{is_over, pending_of}
 use Rattle.oss_tree.specs.declared.task.Task.{Task as TreeTask}
-use Rattle.oss_core.specs.declared.held.Held.{Held}
+use Rattle.oss_kept_tasks.specs.declared.held.Held.{Held}
+use Rattle.oss_enabled_moves.proofs.CallLemmas.{seen_same}
 use Rattle.oss_core.specs.Changes.{found_in, noted, prints_after}
 use Rattle.oss_core.specs.Going.{HasGoneOn, IsKeyed}
 use Rattle.oss_core.specs.Cores.{kept_of}
-use Rattle.oss_core.proofs.CallLemmas.{seen_same}
 use Rattle.oss_core.proofs.GoingLemmas.{read_is, stepped}
 use Rattle.oss_core.proofs.KeepLemmas.{some_is}
 use Rattle.oss_core.proofs.machine.Core.step.Goals as goal

@@ -1,8 +1,8 @@
 use Rattle.std.proofs.Common.{◌≡◌, ℕ, ◌<◌, List, length, Some, subst, ◌↔◌}
 use Rattle.std.specs.Prelude.{IsTrue, slice_get}
-use Rattle.oss_core.specs.declared.held.Held.{Held}
+use Rattle.oss_kept_tasks.specs.declared.held.Held.{Held}
+use Rattle.oss_enabled_moves.specs.Enabled.{MayAnything}
 use Rattle.oss_core.specs.Cores.{kept_of}
-use Rattle.oss_core.specs.Stops.{MayAnything}
 use Rattle.oss_core.proofs.MakingLemmas.{fold_of, kept_is}
 use Rattle.oss_core.proofs.NeedLemmas.{is_known}
 use Rattle.oss_core.proofs.StillLemmas.{still_all, still_is, stopped_is}

@@ -1,0 +1,22 @@
+use Rattle.std.proofs.Common.{◌≡◌, ◌-◌, length, Some, sym, ap, arith, ◌∙◌}
+use Rattle.std.specs.Prelude.{slice_get}
+use Rattle.std.proofs.lemmas.Option.{slice_get_within}
+use Rattle.oss_tree.specs.Tasks.{number}
+use Rattle.oss_enabled_moves.proofs.hindrance.newest_open.Goals as goal
+
+pub complete-requires : goal.complete-requires
+complete-requires c =
+    let one = c.task.result.now in
+    let h : slice_get one.children (length one.children - 1) ≡ Some (number c.in-Some.child.now.0) = sym (c.in-Some.ensures.value ∙ ap (λ xs. slice_get xs (length xs - 1)) c.as_slice.ensures) in
+    let child = c.count-tasks.ensures.tree.children c.args.task.0 one c.task.ensures (length one.children - 1) c.in-Some.child.now.0 h in
+    slice_get_within c.args.tree.now.tasks c.in-Some.child.now.0 child.task child.at_
+
+pub returns-else-complete : goal.returns-else-complete
+returns-else-complete c =
+    let one = c.task.result.now in
+    let h : slice_get one.children (length one.children - 1) ≡ Some (number c.in-Some.child.now.0) = sym (c.in-Some.ensures.value ∙ ap (λ xs. slice_get xs (length xs - 1)) c.as_slice.ensures) in
+    let l = slice_get_within one.children (length one.children - 1) (number c.in-Some.child.now.0) h in
+    record {
+      newest = record { child = record { creator = one; at_ = c.task.ensures; place = length one.children - 1; is = h }; last = omega (arith, l) };
+      left = λ k. let t = c.complete.ensures.1 k in let f = c.if-complete.false in cc;
+    }
