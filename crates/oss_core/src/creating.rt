@@ -20,10 +20,9 @@ ghost use Rattle.oss_core.specs.Going.{HasCreated, IsBeforeCreation, StandsBefor
 
 use crate::machine::Core;
 use crate::stepping::go_on;
-use oss_body::Body;
 use oss_code::Code;
 use oss_deps::Deps;
-use oss_kept_tasks::{Held, Owed};
+use oss_kept_tasks::{BoxedBody, Held, Owed};
 use oss_model::TaskNo;
 use oss_ranges::RangeMap;
 use oss_syntax::{Access, List, Mode};
@@ -74,7 +73,7 @@ fn owed_by_all(alloc: Global, accesses: &[Access]) -> Result<RangeMap<Owed>, All
 }
 
 /// What a task with this body has of cells, at its start.
-pub(crate) fn share_of(alloc: Global, body: &Body) -> Result<Share, AllocError>
+pub(crate) fn share_of(alloc: Global, body: &BoxedBody) -> Result<Share, AllocError>
     ensures rights { IfOk result (λ share. (code : CodeParts) (start : Start CodeScript) (found : Items ℕ) →
         IsBody code start found body.now → (c : ℕ) →
         right_from false share.accesses c ≡ held_right (right_of start.context c)) }

@@ -12,11 +12,11 @@ ghost use Rattle.oss_model.specs.Moves.{opening};
 ghost use Rattle.oss_tree.specs.Tasks.{HasPoint};
 
 use crate::fault::ApplyFault;
-use oss_body::{Act, main_body, main_is_set};
+use oss_body::{Act, main_is_set};
 use oss_code::Code;
 use oss_deps::Deps;
 use oss_enabled_moves::{join_of, may_join, may_let, may_step};
-use oss_kept_tasks::Held;
+use oss_kept_tasks::{BoxedBody, Held};
 use oss_model::{Move, TaskNo};
 use oss_ranges::RangeMap;
 use oss_tree::Tree;
@@ -92,7 +92,7 @@ impl<D: Deps> Core<D> {
             (kept_of D.seen core) (opening (code_main code.now fuel) code.now.first)) }
     {
         main_is_set(code, fuel);
-        let body = main_body(alloc, code, fuel)?;
+        let body = BoxedBody::main(alloc, code, fuel)?;
         let main = Held {
             body,
             owed: RangeMap::new(alloc),

@@ -11,10 +11,9 @@ ghost use Rattle.oss_core.specs.Putting.{AreAdded, AreNewborns, HasBody, IsNewbo
 
 use crate::creating::{Newborn, Share, add_to_tree, share_of};
 use crate::machine::Core;
-use oss_body::Body;
 use oss_body::memory::set;
 use oss_deps::Deps;
-use oss_kept_tasks::Held;
+use oss_kept_tasks::{BoxedBody, Held};
 use oss_model::TaskNo;
 use oss_ranges::RangeMap;
 use oss_segment::Segment;
@@ -26,7 +25,7 @@ use std::mem;
 const CELLS: u32 = 1_048_576;
 
 /// A new task with this body, and its cells.
-fn newborn_of(alloc: Global, body: Body) -> Result<Newborn, AllocError>
+fn newborn_of(alloc: Global, body: BoxedBody) -> Result<Newborn, AllocError>
     ensures { IfOk result (λ newborn. IsNewborn newborn body) }
 {
     let Share { accesses, owed } = share_of(alloc, &body)?;
@@ -37,7 +36,7 @@ fn newborn_of(alloc: Global, body: Body) -> Result<Newborn, AllocError>
 }
 
 /// New tasks with these bodies, and their cells.
-fn newborns_of(alloc: Global, bodies: Vec<Body>) -> Result<Vec<Newborn>, AllocError>
+fn newborns_of(alloc: Global, bodies: Vec<BoxedBody>) -> Result<Vec<Newborn>, AllocError>
     ensures { IfOk result (λ newborns. AreNewborns newborns.items bodies.items) }
 {
     let mut newborns = Vec::new(alloc);
@@ -101,7 +100,7 @@ fn write_into(cells: &mut Vec<u64>, writes: RangeMap<u64>)
 }
 
 /// The body of a task goes into its place, and the one that stood there is handed out.
-pub(crate) fn put_body(tasks: &mut Vec<Held>, at: usize, body: Body) -> Body
+pub(crate) fn put_body(tasks: &mut Vec<Held>, at: usize, body: BoxedBody) -> BoxedBody
     requires { at < length tasks.old.items }
     ensures put { HasBody at body tasks.old.items tasks.new.items }
     ensures taken { (held : Known) → slice_get tasks.old.items at ≡ Some held → held.body ≡ result }
@@ -141,7 +140,7 @@ impl<D: Deps> Core<D> {
 
     /// Tasks with these bodies are new: this one has created them, one after the other. After want of memory
     /// the core is given up.
-    fn add_children(&mut self, creator: TaskNo, children: Vec<Body>) -> Result<(), AllocError>
+    fn add_children(&mut self, creator: TaskNo, children: Vec<BoxedBody>) -> Result<(), AllocError>
         requires sizes { length self.old.tree.tasks ≡ length self.old.tasks.items }
         requires may { (xs : Items New) → AreNewborns xs children.items →
             MayAdd creator.0 (length self.old.tasks.items) xs self.old.tree.tasks (D.seen self.old.deps) }
@@ -158,7 +157,7 @@ impl<D: Deps> Core<D> {
         &mut self,
         task: TaskNo,
         part: Segment,
-        spares: &mut Vec<Body>,
+        spares: &mut Vec<BoxedBody>,
     ) -> Result<(), AllocError>
         requires sizes { length self.old.tree.tasks ≡ length self.old.tasks.items }
         requires there { task.0 < length self.old.tasks.items }

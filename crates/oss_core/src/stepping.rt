@@ -7,10 +7,9 @@ ghost use Rattle.oss_core.specs.Going.{HasGoneOn, HasStepped, StandsBefore, Stan
 
 use crate::happening::{happen, note_print};
 use crate::machine::Core;
-use oss_body::Body;
 use oss_code::Code;
 use oss_deps::Deps;
-use oss_kept_tasks::Held;
+use oss_kept_tasks::{BoxedBody, Held};
 use oss_model::TaskNo;
 use oss_tree::Tree;
 use std::alloc::AllocError;
@@ -31,7 +30,7 @@ pub(crate) fn go_on(
 }
 
 /// Notes that a task has ended, where its body has.
-fn note_end(tree: &mut Tree, task: TaskNo, body: &Body)
+fn note_end(tree: &mut Tree, task: TaskNo, body: &BoxedBody)
     requires { task.0 < length tree.old.tasks }
     ensures tasks { tree.new.tasks ≡ noted task.0 (is_over body.now) tree.old.tasks }
     ensures prints { tree.new.prints ≡ tree.old.prints }

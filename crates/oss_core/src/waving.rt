@@ -14,9 +14,9 @@ ghost use Rattle.oss_core.specs.Turns.{ArePartsOf, IsBeside, IsFilled};
 use crate::machine::Core;
 use crate::putting::put_body;
 use crate::turns::Turn;
-use oss_body::{Body, main_body};
 use oss_code::Code;
 use oss_deps::Deps;
+use oss_kept_tasks::BoxedBody;
 use oss_model::TaskNo;
 use oss_segment::Segment;
 use std::alloc::{AllocError, Global};
@@ -27,17 +27,21 @@ pub struct Lent {
     /// The tasks.
     pub steppers: Vec<TaskNo>,
     /// The body of each, in the same order.
-    pub bodies: Vec<Body>,
+    pub bodies: Vec<BoxedBody>,
 }
 
 /// A body that stands in the place of one that is out: one of those that have served before, or a new one.
-fn spare_of(alloc: Global, code: &Code, spares: &mut Vec<Body>) -> Result<Body, AllocError>
+fn spare_of(
+    alloc: Global,
+    code: &Code,
+    spares: &mut Vec<BoxedBody>,
+) -> Result<BoxedBody, AllocError>
     requires { length code.now.first ≤ 1048576 }
     ensures { Unit {0} }
 {
     match spares.pop() {
         Some(spare) => Ok(spare),
-        None => main_body(alloc, code, 1),
+        None => BoxedBody::main(alloc, code, 1),
     }
 }
 
@@ -55,7 +59,7 @@ impl<D: Deps> Core<D> {
         &mut self,
         code: &Code,
         asked: &[TaskNo],
-        spares: &mut Vec<Body>,
+        spares: &mut Vec<BoxedBody>,
     ) -> Result<Lent, AllocError>
         requires running { IsRunning code.now (kept_of D.seen self.old) }
         requires asked { HaveSteppers (kept_of D.seen self.old) asked.now }
@@ -76,7 +80,7 @@ impl<D: Deps> Core<D> {
         &mut self,
         steppers: &[TaskNo],
         parts: Vec<Segment>,
-        spares: &mut Vec<Body>,
+        spares: &mut Vec<BoxedBody>,
     ) -> Result<Vec<Turn>, AllocError>
         requires { (code : CodeParts) × (before : Kept) ×
             AwaitsParts code before (kept_of D.seen self.old) steppers.now parts.items }
@@ -97,8 +101,8 @@ impl<D: Deps> Core<D> {
         &mut self,
         code: &Code,
         steppers: &[TaskNo],
-        spares: &mut Vec<Body>,
-    ) -> Result<Vec<Body>, AllocError>
+        spares: &mut Vec<BoxedBody>,
+    ) -> Result<Vec<BoxedBody>, AllocError>
         requires there { (v : Number) → IsIn v steppers.now → v.0 < length self.old.tasks.items }
         requires cells { length code.now.first ≤ 1048576 }
         ensures out { IfOk result (λ bodies. IsFilled steppers.now bodies.items self.new.tasks.items
@@ -119,7 +123,7 @@ impl<D: Deps> Core<D> {
         &mut self,
         steppers: &[TaskNo],
         parts: Vec<Segment>,
-        spares: &mut Vec<Body>,
+        spares: &mut Vec<BoxedBody>,
     ) -> Result<Vec<Turn>, AllocError>
         requires { IsMidway steppers.now steppers.now parts.items [] (kept_of D.seen self.old) }
         ensures { IfOk result (λ turns. (code : CodeParts) (main : Start CodeScript) (first : Items ℕ)

@@ -11,9 +11,9 @@ ghost use Rattle.oss_kept_tasks.specs.declared.held.Owed.TheVariants as ways;
 ghost use Rattle.oss_enabled_moves.specs.Enabled.{IsFoldOf, IsThrough, MayFold, MayGive, MayGoOn, MayJoin, MayLet, MayStep};
 
 use crate::waiting::is_act_met;
-use oss_body::{Act, Body};
+use oss_body::Act;
 use oss_deps::Deps;
-use oss_kept_tasks::{Held, Owed};
+use oss_kept_tasks::{BoxedBody, Held, Owed};
 use oss_model::TaskNo;
 use oss_syntax::Op;
 use oss_tree::Tree;
@@ -40,7 +40,7 @@ pub fn may_step<D: Deps>(tasks: &[Held], tree: &Tree, deps: &mut D, task: TaskNo
 }
 
 /// The same of a task with this body.
-pub(crate) fn may_go_on<D: Deps>(body: &Body, tree: &Tree, deps: &mut D, task: TaskNo) -> bool
+pub(crate) fn may_go_on<D: Deps>(body: &BoxedBody, tree: &Tree, deps: &mut D, task: TaskNo) -> bool
     requires there { task.0 < length tree.now.tasks }
     requires known { IsKnown (D.seen deps.old).opens task.0 }
     ensures may { IsTrue result ↔ MayGoOn body.now tree.now.tasks (D.seen deps.old) task.0 }
@@ -67,7 +67,7 @@ pub(crate) fn is_fault(act: &Act) -> bool
 
 /// Whether a task with this body has ended, and its clause `wait` is met. Condition: it is a task of the tree. It
 /// takes no memory.
-pub fn is_through(tree: &Tree, task: TaskNo, body: &Body) -> bool
+pub fn is_through(tree: &Tree, task: TaskNo, body: &BoxedBody) -> bool
     requires { task.0 < length tree.now.tasks }
     ensures { IsTrue result ↔ IsThrough tree.now.tasks task.0 body.now }
 {

@@ -11,8 +11,9 @@ ghost use Rattle.oss_enabled_moves.specs.Enabled.{IsActMet, IsNewestComplete};
 ghost use Rattle.oss_enabled_moves.specs.Hindering.{GoesFree, HasUndoneIn, IsAwaited, IsBarred, IsHeldBack, IsNewestOpen};
 
 use crate::enabling::is_fault;
-use oss_body::{Act, Body};
+use oss_body::Act;
 use oss_deps::Deps;
+use oss_kept_tasks::BoxedBody;
 use oss_model::TaskNo;
 use oss_syntax::Range;
 use oss_tree::Tree;
@@ -21,7 +22,12 @@ use oss_tree::Tree;
 /// in its way, or a child for which it waits. `None` exactly where nothing hinders the task: its next act may be
 /// made, or it has none, since it has ended or stands before a fault. Conditions: it is a task of the tree, and
 /// the dependency system knows it. It takes no memory, and the dependency system stays.
-pub fn hindrance_of<D: Deps>(body: &Body, tree: &Tree, deps: &mut D, task: TaskNo) -> Option<TaskNo>
+pub fn hindrance_of<D: Deps>(
+    body: &BoxedBody,
+    tree: &Tree,
+    deps: &mut D,
+    task: TaskNo,
+) -> Option<TaskNo>
     requires there { task.0 < length tree.now.tasks }
     requires known { IsKnown (D.seen deps.old).opens task.0 }
     ensures hindrance { MatchOption result (GoesFree body.now tree.now.tasks (D.seen deps.old) task.0) (λ u.
@@ -42,7 +48,7 @@ pub fn hindrance_of<D: Deps>(body: &Body, tree: &Tree, deps: &mut D, task: TaskN
 
 /// A task whose access stands in the way of a task with this body before its first act. It takes no memory, and
 /// the dependency system stays.
-fn barred_by<D: Deps>(body: &Body, deps: &mut D, task: TaskNo) -> Option<TaskNo>
+fn barred_by<D: Deps>(body: &BoxedBody, deps: &mut D, task: TaskNo) -> Option<TaskNo>
     requires { IsKnown (D.seen deps.old).opens task.0 }
     ensures barred { MatchOption result (has_begun body.now ≡ false → (task.0 ≡ 0) ⊎
         IsMet (D.seen deps.old).opens (D.seen deps.old).given task.0) (λ u.

@@ -5,8 +5,9 @@ ghost use Rattle.oss_model.specs.Order.{IsBefore};
 ghost use Rattle.oss_syntax.specs.declared.fault.FaultKind.{FaultKind as Kind};
 ghost use Rattle.oss_kept_tasks.specs.FirstFault.{AreKeyed, HasNoFault, IsFaultOf, IsFaultless, IsFirstFault, IsKeyedAt, IsLeastTo};
 
+use crate::boxed_body::BoxedBody;
 use crate::held::Held;
-use oss_body::{Act, Body};
+use oss_body::Act;
 use oss_model::{FaultKind, Point};
 use std::cmp::Ordering;
 
@@ -21,7 +22,7 @@ pub struct FaultSeen<'a> {
 }
 
 /// The fault before which a body stands; `None` exactly where it stands before none.
-fn fault_seen(body: &Body) -> Option<FaultSeen<'_>>
+fn fault_seen(body: &BoxedBody) -> Option<FaultSeen<'_>>
     ensures { MatchOption result (HasNoFault body.now) (λ seen. IsFaultOf body.now seen.kind seen.line seen.key.now) }
 {
     if body.ended() {
@@ -48,7 +49,7 @@ fn fault_seen(body: &Body) -> Option<FaultSeen<'_>>
 }
 
 /// Whether a key comes before that of the fault before which a body stands.
-fn comes_before(key: &Point, body: &Body) -> bool
+fn comes_before(key: &Point, body: &BoxedBody) -> bool
     ensures { (kind : Kind) (line : ℕ) (other : Items ℕ) → IsFaultOf body.now kind line other →
         (IsTrue result ↔ IsBefore key.now other) }
 {

@@ -1,7 +1,7 @@
 //! What is kept of a task beside its place in the tree and its entry in the dependency system: its body, and the
 //! cells that it still owes.
 
-use oss_body::Body;
+use crate::boxed_body::BoxedBody;
 use oss_ranges::RangeMap;
 use oss_syntax::Op;
 
@@ -17,7 +17,7 @@ pub enum Owed {
 /// What is kept of a task: its body, and how each cell that it has not given up is to be given up. Main has none
 /// to give up.
 pub struct Held {
-    pub body: Body,
+    pub body: BoxedBody,
     /// By cells. A cell that is given up has no value here.
     pub owed: RangeMap<Owed>,
 }

@@ -12,10 +12,10 @@ ghost use Rattle.oss_model.specs.Order.{IsIn};
 ghost use Rattle.oss_segment.specs.Segments.{IsKnown};
 ghost use Rattle.oss_wakeups.specs.Watches.{HasNoLet, IsWatch};
 
-use oss_body::Body;
 use oss_code::Code;
 use oss_core::{Core, Lent, Passed, Turn};
 use oss_deps::Deps;
+use oss_kept_tasks::BoxedBody;
 use oss_model::TaskNo;
 use oss_segment::{Ready, Segment};
 use oss_wakeups::Watch;
@@ -29,7 +29,7 @@ fn parts_of(
     alloc: Global,
     code: &Code,
     memory: &[u64],
-    bodies: Vec<Body>,
+    bodies: Vec<BoxedBody>,
 ) -> Result<Vec<Segment>, AllocError>
     requires known { (b : Kept) → IsIn b bodies.items → IsKnown code.now b }
     requires room { length memory.now ≤ 1048576 }
@@ -51,7 +51,7 @@ pub fn wave<D: Deps>(
     core: &mut Core<D>,
     code: &Code,
     watch: &mut Watch,
-    spares: &mut Vec<Body>,
+    spares: &mut Vec<BoxedBody>,
 ) -> Result<Vec<Turn>, AllocError>
     requires running { IsRunning code.now (kept_of D.seen core.old) }
     requires watch { IsWatch (kept_of D.seen core.old) watch.old }
@@ -73,7 +73,7 @@ fn bare_wave<D: Deps>(
     core: &mut Core<D>,
     code: &Code,
     asked: &[TaskNo],
-    spares: &mut Vec<Body>,
+    spares: &mut Vec<BoxedBody>,
 ) -> Result<Vec<Turn>, AllocError>
     requires running { IsRunning code.now (kept_of D.seen core.old) }
     requires asked { HaveSteppers (kept_of D.seen core.old) asked.now }

@@ -2,9 +2,9 @@
 
 ghost use Rattle.oss_segment.specs.Segments.{IsKnown};
 
-use oss_body::{Body, main_body};
 use oss_code::{Code, CodeParts, GlobalPlace, Instr};
 use oss_grammar::Piece;
+use oss_kept_tasks::BoxedBody;
 use oss_segment::{Segment, segment_of};
 use oss_syntax::{Cells, List, NumKind, Range};
 use std::process::Abort;
@@ -33,15 +33,15 @@ fn code(rt: &(impl Abort + AllocGlobal), instrs: Vec<Instr>, depths: &[u32]) -> 
 }
 
 /// The body of main at its start, with fuel for so many ticks.
-fn begun(rt: &(impl Abort + AllocGlobal), code: &Code, fuel: u32) -> Body
+fn begun(rt: &(impl Abort + AllocGlobal), code: &Code, fuel: u32) -> BoxedBody
     ensures { IsKnown code.now result }
 {
     assert!(rt; code.first().len() <= 1_048_576);
-    main_body(rt.alloc(), code, fuel).expect(rt, "memory")
+    BoxedBody::main(rt.alloc(), code, fuel).expect(rt, "memory")
 }
 
 /// The part of a body over one cell, in which 4 stands, under a quota of 4,096 ticks.
-fn part(rt: &(impl Abort + AllocGlobal), code: &Code, body: Body) -> Segment
+fn part(rt: &(impl Abort + AllocGlobal), code: &Code, body: BoxedBody) -> Segment
     requires { IsKnown code.now body }
     ensures { IsKnown code.now result.body }
 {

@@ -1,4 +1,4 @@
--- A body, a part of one, and a body that stands before its part may go to another thread: each owns plain data alone.
+-- A body, one in a box, a part of one, and a body that stands before its part may go to another thread: each owns plain data alone.
 use denote.Builtin.{u64}
 use denote.Ref.{NamedLft}
 use denote.Param.Send.{IsSend, sendable, view_send, recorded_send, enum_send, struct_send}
@@ -36,6 +36,8 @@ use Rattle.oss_body.specs.contracts.frame.Frame as frame
 use Rattle.oss_body.specs.contracts.own.Own as own
 use Rattle.oss_body.specs.contracts.tasks.Tasks as tasks
 use Rattle.oss_body.specs.contracts.body.Body as body
+use Rattle.oss_kept_tasks.specs.contracts.boxed_body.BoxedBody as boxed_body
+use Rattle.oss_kept_tasks.specs.contracts.boxed_body.BoxedBody.TheInside as in_boxed_body
 use Rattle.oss_segment.specs.contracts.segment.Segment as segment
 use Rattle.oss_segment.specs.contracts.ready.Ready as ready
 
@@ -94,12 +96,18 @@ body_field = struct_send (struct.shape body.the_type) (heap.the_field_send, (own
 pub body_send : IsSend body.the_row
 body_send = recorded_send _ _ (body.the_type).to (body.the_type).to_one body_field
 
+boxed_body_inside : IsSend in_boxed_body.the_row
+boxed_body_inside = recorded_send _ _ (in_boxed_body.the_type).to (in_boxed_body.the_type).to_one (struct_send (struct.shape in_boxed_body.the_type) (heap.the_field_send, (search (sendable, crosses, body_send) depth 40, tt)))
+
+pub boxed_body_send : IsSend boxed_body.the_row
+boxed_body_send = view_send in_boxed_body.the_row _ _ _ _ boxed_body_inside
+
 pub segment_field : IsSend (segment.the_field).row
 segment_field = struct_send (struct.shape segment.the_type)
-    (body_field, (map_send u64 (any _) (search sendable), (search (sendable, crosses, body_send) depth 40, (search (sendable, crosses, print.the_send) depth 40, (search sendable, (search sendable, tt))))))
+    (boxed_body_send, (map_send u64 (any _) (search sendable), (search (sendable, crosses, boxed_body_send) depth 40, (search (sendable, crosses, print.the_send) depth 40, (search sendable, (search sendable, tt))))))
 
 pub segment_send : IsSend segment.the_row
 segment_send = recorded_send _ _ (segment.the_type).to (segment.the_type).to_one segment_field
 
 pub ready_send : (a : NamedLft) → IsSend (ready.the_row a)
-ready_send a = recorded_send _ _ (ready.the_type a).to (ready.the_type a).to_one (struct_send (struct.shape (ready.the_type a)) (search (sendable, code.the_sync), (body_field, tt)))
+ready_send a = recorded_send _ _ (ready.the_type a).to (ready.the_type a).to_one (struct_send (struct.shape (ready.the_type a)) (search (sendable, code.the_sync), (boxed_body_send, tt)))

@@ -6,8 +6,9 @@ ghost use Rattle.oss_body.specs.Relation.{is_over, pending_of};
 ghost use Rattle.oss_segment.specs.Made.{AddsWhen};
 ghost use Rattle.oss_segment.specs.Segments.{IsKeyed, with_print};
 
-use oss_body::{Act, Body};
+use oss_body::Act;
 use oss_code::Code;
+use oss_kept_tasks::BoxedBody;
 use oss_syntax::Bytes;
 use oss_tree::Print;
 use std::alloc::{AllocError, Global};
@@ -35,9 +36,9 @@ fn creates(act: &Act) -> bool
 /// Adds the body of the task that the pending act creates, if it creates one that is not included. Condition:
 /// the body has not ended.
 pub(crate) fn add_child(
-    body: &Body,
+    body: &BoxedBody,
     code: &Code,
-    children: &mut Vec<Body>,
+    children: &mut Vec<BoxedBody>,
 ) -> Result<(), AllocError>
     requires { is_over body.now ≡ false }
     ensures { OnOk result (AddsWhen (creates_task (pending_of body.now)) code.now body.now children.old.items

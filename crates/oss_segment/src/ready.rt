@@ -8,8 +8,8 @@ ghost use Rattle.oss_segment.specs.Segments.{IsKnown, IsSegment};
 
 use crate::run::segment_of;
 use crate::segment::Segment;
-use oss_body::Body;
 use oss_code::Code;
+use oss_kept_tasks::BoxedBody;
 use std::alloc::{AllocError, Global};
 
 /// A body that stands before its part of a wave, with its code: it is the body, after some answers, of a task
@@ -17,7 +17,7 @@ use std::alloc::{AllocError, Global};
 #[derive(Drop)]
 pub struct Ready<'a> {
     pub code: &'a Code,
-    pub body: Body,
+    pub body: BoxedBody,
     pub ghost known: { IsKnown code.now body },
 }
 

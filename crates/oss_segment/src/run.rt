@@ -7,8 +7,8 @@ ghost use Rattle.oss_body.specs.Relation.{IsBody};
 ghost use Rattle.oss_segment.specs.Segments.{IsKnown, IsSegment};
 
 use crate::segment::Segment;
-use oss_body::Body;
 use oss_code::Code;
+use oss_kept_tasks::BoxedBody;
 use oss_ranges::RangeMap;
 use std::alloc::{AllocError, Global};
 
@@ -20,7 +20,7 @@ use std::alloc::{AllocError, Global};
 pub fn segment_of(
     alloc: Global,
     code: &Code,
-    body: Body,
+    body: BoxedBody,
     memory: &[u64],
     quota: u32,
 ) -> Result<Segment, AllocError>

@@ -9,8 +9,8 @@ ghost use Rattle.oss_body.specs.Relation.{IsBody};
 use crate::going::{may_go, ticks_with};
 use crate::happening::happen;
 use crate::making::{add_child, add_print};
-use oss_body::Body;
 use oss_code::Code;
+use oss_kept_tasks::BoxedBody;
 use oss_ranges::RangeMap;
 use oss_tree::Print;
 use std::alloc::{AllocError, Global};
@@ -19,12 +19,12 @@ use std::alloc::{AllocError, Global};
 #[derive(Drop)]
 pub struct Segment {
     /// The body behind the acts of the part.
-    pub body: Body,
+    pub body: BoxedBody,
     /// The cells that the acts changed, with their values.
     pub writes: RangeMap<u64>,
     /// The bodies, at their start, of the tasks that the acts created, in order. Those that are included are
     /// none of them.
-    pub children: Vec<Body>,
+    pub children: Vec<BoxedBody>,
     /// What the acts printed, in order, each print with its key.
     pub prints: Vec<Print>,
     /// How many acts the part has. The count stays at its greatest value.

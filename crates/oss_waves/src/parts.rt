@@ -9,9 +9,9 @@ ghost use Rattle.oss_core.specs.Turns.{ArePartsOf, IsPartOf};
 ghost use Rattle.oss_waves.specs.Readies.{IsReady};
 
 use crate::team::Team;
-use oss_body::Body;
 use oss_code::Code;
 use oss_io::Gate;
+use oss_kept_tasks::BoxedBody;
 use oss_segment::{Ready, Segment};
 use oss_thread_groups::{Work, in_groups};
 use std::alloc::{AllocError, Global};
@@ -41,7 +41,11 @@ impl<'a, G: Gate> Work<Ready<'a>, Segment> for Beginning<'a, G> {
 }
 
 /// Bodies that stand before their parts, with their code.
-fn ready<'a>(alloc: Global, code: &'a Code, bodies: Vec<Body>) -> Result<Vec<Ready<'a>>, AllocError>
+fn ready<'a>(
+    alloc: Global,
+    code: &'a Code,
+    bodies: Vec<BoxedBody>,
+) -> Result<Vec<Ready<'a>>, AllocError>
     requires { (b : Kept) → IsIn b bodies.items → IsKnown code.now b }
     ensures { IfOk result (λ all. AreGiven (IsReady code.now) bodies.items all.items) }
 {
@@ -59,7 +63,7 @@ pub(crate) fn parts_of<R: Threads + Sync, G: Gate>(
     team: &Team<'_, R, G>,
     code: &Code,
     memory: &[u64],
-    bodies: Vec<Body>,
+    bodies: Vec<BoxedBody>,
 ) -> Result<Vec<Segment>, AllocError>
     requires known { (b : Kept) → IsIn b bodies.items → IsKnown code.now b }
     requires room { length memory.now ≤ 1048576 }

@@ -9,11 +9,11 @@ ghost use Rattle.oss_waves.specs.Rounding.{HasMadeRounds, IsResting, IsRoundOf};
 use crate::passing::pass_all;
 use crate::team::Team;
 use crate::waving::wave_once;
-use oss_body::Body;
 use oss_code::Code;
 use oss_core::Core;
 use oss_deps::Deps;
 use oss_io::Gate;
+use oss_kept_tasks::BoxedBody;
 use oss_sched::TextMove;
 use oss_syntax::List;
 use oss_wakeups::Watch;
@@ -43,7 +43,7 @@ fn round<R: Threads + Sync, D: Deps, G: Gate>(
     code: &Code,
     team: &Team<'_, R, G>,
     watch: &mut Watch,
-    spares: &mut Vec<Body>,
+    spares: &mut Vec<BoxedBody>,
     lines: &mut List<TextMove>,
 ) -> Result<Went, AllocError>
     requires running { IsRunning code.now (kept_of D.seen core.old) }

@@ -12,11 +12,11 @@ ghost use Rattle.oss_waves.specs.Rounding.{HasMadeWave};
 use crate::noting::note_turns;
 use crate::parts::parts_of;
 use crate::team::Team;
-use oss_body::Body;
 use oss_code::Code;
 use oss_core::{Core, Lent, Turn};
 use oss_deps::Deps;
 use oss_io::Gate;
+use oss_kept_tasks::BoxedBody;
 use oss_model::TaskNo;
 use oss_sched::TextMove;
 use oss_syntax::List;
@@ -32,7 +32,7 @@ fn wave<R: Threads + Sync, D: Deps, G: Gate>(
     code: &Code,
     team: &Team<'_, R, G>,
     asked: &[TaskNo],
-    spares: &mut Vec<Body>,
+    spares: &mut Vec<BoxedBody>,
 ) -> Result<Vec<Turn>, AllocError>
     requires running { IsRunning code.now (kept_of D.seen core.old) }
     requires asked { HaveSteppers (kept_of D.seen core.old) asked.now }
@@ -56,7 +56,7 @@ pub(crate) fn wave_once<R: Threads + Sync, D: Deps, G: Gate>(
     code: &Code,
     team: &Team<'_, R, G>,
     watch: &mut Watch,
-    spares: &mut Vec<Body>,
+    spares: &mut Vec<BoxedBody>,
     lines: &mut List<TextMove>,
 ) -> Result<u64, AllocError>
     requires running { IsRunning code.now (kept_of D.seen core.old) }

@@ -8,10 +8,10 @@ ghost use Rattle.oss_wakeups.specs.Watches.{HasNoLet, IsWatch};
 use crate::tests::reading::code_of;
 use crate::tests::waves;
 use crate::{pass_once, wave};
-use oss_body::Body;
 use oss_code::Code;
 use oss_core::{Core, Passed, Turn};
 use oss_deps::{Deps, PlainDeps};
+use oss_kept_tasks::BoxedBody;
 use oss_model::{Answer, TaskNo};
 use oss_sched::{TextMove, WaveRecord, schedule_text};
 use oss_syntax::List;
@@ -27,7 +27,7 @@ const MOST: u32 = 100;
 /// A run so far: the bodies that serve again, its waves, and how many tasks had a turn in the widest.
 #[derive(Drop)]
 struct Run {
-    spares: Vec<Body>,
+    spares: Vec<BoxedBody>,
     waves: List<List<TextMove>>,
     widest: u64,
 }
