@@ -19,6 +19,7 @@ use Rattle.oss_words.proofs.SumLemmas.{total_at, same_number}
 use Rattle.oss_words.proofs.KeptLaw.{at_here}
 use Rattle.oss_roles.specs.Field.{Field, Parts, Sits, Bears, times, numbers_of, held_by_all, IsMaking, is_making, IsNumberOf, AreLast, IsSomewhere, at_home, is_out, IsBorne, IsPut, not_put, going, is_put, IsMade, IsLeft, IsPending}
 use Rattle.oss_roles.proofs.Going.{Went}
+use Rattle.oss_roles.specs.Numbers.{entry_number}
 use Rattle.oss_roles.specs.Roles.{Role, Site, AreFiled}
 use Rattle.oss_roles.specs.Sights.{Bearing, Making, Noted, Sight, Telling}
 use Rattle.oss_roles.specs.Steps.{JobGoes}
@@ -209,8 +210,17 @@ module _ {S J : Type 0} (P : Program S) (main : Start S) (first : List ℕ) (is_
                 closed = g.closed;
                 own = let o = g.own in (o.0, o.1, subst (λ (z : Body S). o.0.path ≡ created_now P z ∷ c.path) (sym same) (subst (λ (z : List ℕ). o.0.path ≡ created_now P g.creator.body ∷ z) (sym path) o.2), o.3, o.4);
                 access = λ d mode strong right.
-                    let r = g.access d mode strong (subst (λ (z : Body S). right_of (new_task P z g.order).body.start.context d ≡ Holds mode strong) same right) in
-                    (r.0, r.1, r.2, subst (λ (z : Body S). r.1.path ≡ created_now P z ∷ c.path) (sym same) (subst (λ (z : List ℕ). r.1.path ≡ created_now P g.creator.body ∷ z) (sym path) r.3), r.4, r.5, r.6, r.7);
+                    let r = g.access d mode strong (subst (λ (z : Body S). right_of (new_task P z g.order).body.start.context d ≡ Holds mode strong) same right) in (
+                      r.0,
+                      r.1,
+                      r.2,
+                      subst (λ (z : Body S). r.1.path ≡ created_now P z ∷ c.path) (sym same) (subst (λ (z : List ℕ). r.1.path ≡ created_now P g.creator.body ∷ z) (sym path) r.3),
+                      r.4,
+                      r.5,
+                      r.6,
+                      r.7,
+                      subst (λ (z : Body S). r.0 ≡ entry_number a.task (right_of (new_task P z g.order).body.start.context) d) (sym same) r.8,
+                    );
                 job = job_on (new_task P c.body g.order).body (subst (λ (z : Body S). IsPut is_job k a (new_task P z g.order).body) (sym same) g.job);
               }
           | inr ne ↦ record {

@@ -2,6 +2,7 @@ pub mod AloneLaw
 pub mod CallLemmas
 pub mod CarryLemmas
 pub mod CountLaw
+pub mod DrawLaw
 pub mod FillField
 pub mod FoldLaw
 pub mod GiveLaw
@@ -17,6 +18,7 @@ pub mod LinkField
 pub mod LookLaw
 pub mod MakeClaims
 pub mod MoveLaw
+pub mod NumberLaw
 pub mod OpenField
 pub mod OpenLaw
 pub mod OtherLaw
@@ -26,6 +28,7 @@ pub mod PlanLaw
 pub mod ReadyLemmas
 pub mod RestField
 pub mod RunBelow
+pub mod RunDraw
 pub mod RunFold
 pub mod RunLoad
 pub mod RunPair

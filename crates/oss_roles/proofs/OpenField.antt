@@ -8,6 +8,7 @@ use Rattle.atomic_table.proofs.Lists.{at_set, at_map, set_else}
 use Rattle.oss_model.specs.Agreement.{Agrees}
 use Rattle.oss_model.specs.Bodies.{Order, Program, Act, Start, Body, stage_created, stage_act}
 use Rattle.oss_model.specs.Bodies.Act.{Created, Folded, Over}
+use Rattle.oss_model.specs.Context.{right_of}
 use Rattle.oss_model.specs.Machine.{Task, State, At, IsReady}
 use Rattle.oss_model.specs.Moves.{act_now, created_now, is_ended, cells_after, found_by, after_answer, new_task, TaskStep}
 use Rattle.oss_model.specs.Order.{IsSuffix, whole, longer}
@@ -24,6 +25,7 @@ use Rattle.oss_words.specs.Views.{View, Seen, Among}
 use Rattle.oss_words.proofs.KeptLaw.{at_here}
 use Rattle.oss_words.proofs.SumLemmas.{same_number, total_at}
 use Rattle.oss_roles.specs.Field.{Field, FieldAt, Parts, Sits, Bears, times, numbers_of, held_by_all, owed_by_all, IsJoined, IsMaking, is_making, IsNumberOf, of_main, of_entry, AreLast, IsSomewhere, at_home, is_out, IsBorne, IsPut, not_put, going, is_put, IsMade, IsLeft, IsPending, IsStill, IsTaken}
+use Rattle.oss_roles.specs.Numbers.{entry_number}
 use Rattle.oss_roles.specs.Roles.{Role, Site, itself, AreGiven}
 use Rattle.oss_roles.specs.Sights.{Bearing, Making, Noted, Fixed, Sight, Telling}
 use Rattle.oss_roles.specs.Alone.{with_answer}
@@ -266,8 +268,12 @@ module _ {S J : Type 0} (P : Program S) (main : Start S) (first : List ℕ) (is_
       entries =
           record {
             access = λ d mode strong right.
-                let x = g.access d mode strong right in
-                (record { entry = x.0; it = x.1; is = x.2; hangs = hung x.0 x.1 x.2 x.5; path = x.3; site = x.4 }, x.6, x.7);
+                let x = g.access d mode strong right in (
+                  record { entry = x.0; it = x.1; is = x.2; hangs = hung x.0 x.1 x.2 x.5; path = x.3; site = x.4 },
+                  x.6,
+                  x.7,
+                  x.8 ∙ ap (λ (z : ℕ). entry_number z (right_of (new_task P b.body g.order).body.start.context) d) (sym x.5),
+                );
             task = let o = g.own in record { entry = mk.task; it = o.0; is = o.1; hangs = hung mk.task o.0 o.1 o.4; path = o.2; site = o.3 };
           }
 

@@ -19,6 +19,7 @@ use Rattle.oss_words.specs.Net.{Net}
 use Rattle.oss_words.specs.Sums.{below, num}
 use Rattle.oss_words.proofs.SumLemmas.{same_number}
 use Rattle.oss_roles.specs.Counting.{weight, AreCounts}
+use Rattle.oss_roles.specs.Numbers.{entry_number}
 use Rattle.oss_roles.specs.Roles.{Role, itself, on, Filed, AreFiled, AreGiven}
 
 module _ {S : Type 0} (P : Program S) (main : Start S) (first : List ℕ) (s : State S) (p : List ℕ) (t : Task S) (made : IsMade P main s) (started : IsStarted P s)
@@ -76,22 +77,26 @@ module _ {S : Type 0} (P : Program S) (main : Start S) (first : List ℕ) (s : S
   -- its accesses have linked entries
   pub record HasEntries (net : Net) (role : ℕ → Option Role) : Type 0 where
     pub access : (c : ℕ) (m : Mode) (strong : Bool) → right_of (new_task P t.body order).body.start.context c ≡ Holds m strong → (x : Filed net role path (on c)) × (x.it.mode ≡ m) × (x.it.strong ≡ strong)
+        × (x.entry ≡ entry_number x.it.task (right_of (new_task P t.body order).body.start.context) c)
     pub task : Filed net role path itself
 
   module _ (net : Net) (role : ℕ → Option Role) (filed : AreFiled s net role) (entries : HasEntries net role) where
     same_order : (o : Order S) → act_now P t.body ≡ Created o false → o ≡ order
     same_order o a = let z : Created o false ≡ Created order false = sym a ∙ act in cc
 
-    access_view : (q : List ℕ) (u : Task S) → StepView P s p t v q u → (j c : ℕ) (a : List ℕ) → q ≡ j ∷ a → (m : Mode) (strong : Bool) → right_of u.body.start.context c ≡ Holds m strong → (x : Filed net role q (on c)) × (x.it.mode ≡ m) × (x.it.strong ≡ strong)
+    access_view : (q : List ℕ) (u : Task S) → StepView P s p t v q u → (j c : ℕ) (a : List ℕ) → q ≡ j ∷ a → (m : Mode) (strong : Bool) → right_of u.body.start.context c ≡ Holds m strong
+        → (x : Filed net role q (on c)) × (x.it.mode ≡ m) × (x.it.strong ≡ strong) × (x.entry ≡ entry_number x.it.task (right_of u.body.start.context) c)
     access_view q u mine j c a e m strong right =
         let here : At s (j ∷ a) t = subst (λ (z : List ℕ). At s z t) e at_ in
         let x = filed.access j c a (record { task = t; at_ = here; mode = m; strong = strong; right = right }) in
-        subst (λ (z : List ℕ). (y : Filed net role z (on c)) × (y.it.mode ≡ m) × (y.it.strong ≡ strong)) (sym e) x
-    access_view q u (made_now o b) j c a e m strong right = entries.access c m strong (subst (λ (z : Order S). right_of (new_task P t.body z).body.start.context c ≡ Holds m strong) (same_order o b) right)
+        subst (λ (z : List ℕ). (y : Filed net role z (on c)) × (y.it.mode ≡ m) × (y.it.strong ≡ strong) × (y.entry ≡ entry_number y.it.task (right_of t.body.start.context) c)) (sym e) x
+    access_view q u (made_now o b) j c a e m strong right =
+        let x = entries.access c m strong (subst (λ (z : Order S). right_of (new_task P t.body z).body.start.context c ≡ Holds m strong) (same_order o b) right) in
+        (x.0, x.1, x.2, subst (λ (z : Order S). x.0.entry ≡ entry_number x.0.it.task (right_of (new_task P t.body z).body.start.context) c) (sym (same_order o b)) x.3)
     access_view q u (another ne h) j c a e m strong right =
         let here : At s (j ∷ a) u = subst (λ (z : List ℕ). At s z u) e h in
         let x = filed.access j c a (record { task = u; at_ = here; mode = m; strong = strong; right = right }) in
-        subst (λ (z : List ℕ). (y : Filed net role z (on c)) × (y.it.mode ≡ m) × (y.it.strong ≡ strong)) (sym e) x
+        subst (λ (z : List ℕ). (y : Filed net role z (on c)) × (y.it.mode ≡ m) × (y.it.strong ≡ strong) × (y.entry ≡ entry_number y.it.task (right_of u.body.start.context) c)) (sym e) x
 
     task_view : (q : List ℕ) (u : Task S) → StepView P s p t v q u → (j : ℕ) (a : List ℕ) → q ≡ j ∷ a → Filed net role q itself
     task_view q u mine j a e = subst (λ (z : List ℕ). Filed net role z itself) (sym e) (filed.task j a t (subst (λ (z : List ℕ). At s z t) e at_))

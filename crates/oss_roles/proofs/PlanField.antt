@@ -23,6 +23,7 @@ use Rattle.oss_words.proofs.KeptLaw.{at_here}
 use Rattle.oss_words.proofs.SumLemmas.{same_number}
 use Rattle.oss_roles.specs.Counting.{weight, AreCounts}
 use Rattle.oss_roles.specs.Field.{Field, FieldAt, Parts, Sits, Bears, numbers_of, held_by_all, owed_by_all, IsJoined, IsMaking, is_making, IsNumberOf, of_main, of_entry, AreLast, IsSomewhere, at_home, is_out, IsBorne, IsPut, not_put, going, is_put, IsMade, IsPending, IsStill}
+use Rattle.oss_roles.specs.Numbers.{entry_number}
 use Rattle.oss_roles.specs.Roles.{Role, Site, on, AreGiven, Plans}
 use Rattle.oss_roles.specs.Sights.{Bearing, Making, Noted, Fixed, Sight, Telling}
 use Rattle.oss_roles.proofs.HoldLemmas.{held_same}
@@ -51,7 +52,7 @@ module _ {S J : Type 0} (P : Program S) (main : Start S) (first : List ℕ) (is_
     (t : ℕ) (role' : ℕ → Option Role) (plans : Plans f.net f.role role' t (created_now P b.body ∷ b.path)) (inside : (e : ℕ) (r : Role) → role' e ≡ Some r → e < n) (pos : t ≢ 0)
     (mk : Making) (by : b.number ≡ mk.by) (task : mk.task ≡ t) (stage : mk.stage ≡ 0)
     (access : (c : ℕ) (mode : Mode) (strong : Bool) → right_of (new_task P b.body order).body.start.context c ≡ Holds mode strong
-    → (e : ℕ) × (r : Role) × (role' e ≡ Some r) × (r.path ≡ created_now P b.body ∷ b.path) × (r.site ≡ on c) × (r.task ≡ t) × (r.mode ≡ mode) × (r.strong ≡ strong))
+    → (e : ℕ) × (r : Role) × (role' e ≡ Some r) × (r.path ≡ created_now P b.body ∷ b.path) × (r.site ≡ on c) × (r.task ≡ t) × (r.mode ≡ mode) × (r.strong ≡ strong) × (e ≡ entry_number t (right_of (new_task P b.body order).body.start.context) c))
     (strongly : (e : ℕ) (r : Role) → role' e ≡ Some r → r.path ≡ created_now P b.body ∷ b.path → r.counts ≡ true → r.strong ≡ true)
     (counts' : ℕ → ℕ) (filled : counts' t ≡ 1 + below (λ e. weight t (role' e) (k.states e)) n) (others : (j : ℕ) → j ≢ t → counts' j ≡ k.counts j)
     (bears : w.bears ≡ v.bears) (makes : w.makes ≡ mk ∷ v.makes) (words : w.words ≡ v.words) (owes : w.owes ≡ v.owes) (joined : w.joined ≡ v.joined) (ready : w.ready ≡ v.ready) (loaded : w.loaded ≡ v.loaded) (seen : w.seen ≡ v.seen) (still : w.still ≡ v.still) where
@@ -166,7 +167,7 @@ module _ {S J : Type 0} (P : Program S) (main : Start S) (first : List ℕ) (is_
         act = y.act;
         closed = elim (eqb_tells a.task t) [ inl h ↦ absurd (ne h.1) | inr h ↦ rw h.0 y.closed ];
         own = (own.0, keep a.task own.0 own.1, own.2, own.3, own.4);
-        access = λ c mode strong right. let x = y.access c mode strong right in (x.0, x.1, keep x.0 x.1 x.2, x.3, x.4, x.5, x.6, x.7);
+        access = λ c mode strong right. let x = y.access c mode strong right in (x.0, x.1, keep x.0 x.1 x.2, x.3, x.4, x.5, x.6, x.7, x.8);
         job = put_on (new_task P y.creator.body y.order).body a y.job;
       }
 
@@ -189,7 +190,8 @@ module _ {S J : Type 0} (P : Program S) (main : Start S) (first : List ℕ) (is_
         act = act;
         closed = ap opened' task ∙ closed_now;
         own = (o.0, ap role' task ∙ o.1, o.2, o.3, own_task o.0 o.1 o.2 ∙ sym task);
-        access = λ c mode strong right. let x = access c mode strong right in (x.0, x.1, x.2, x.3, x.4, x.5 ∙ sym task, x.6, x.7);
+        access = λ c mode strong right. let x = access c mode strong right in
+            (x.0, x.1, x.2, x.3, x.4, x.5 ∙ sym task, x.6, x.7, x.8 ∙ ap (λ (z : ℕ). entry_number z (right_of (new_task P b.body order).body.start.context) c) (sym task));
         job = not_put stage (ap (λ (z : ℕ). k.bodies z) task ∙ slot.0) (ap (λ (z : ℕ). k.jobs z) task ∙ slot.1);
       }
 

@@ -24,6 +24,7 @@ use Rattle.oss_roles.specs.Alone.{with_answer}
 use Rattle.oss_roles.specs.Field.{FieldAt, Parts, going, is_put}
 use Rattle.oss_roles.specs.JobSteps.{ended, begins}
 use Rattle.oss_roles.specs.MakeSteps.{below_creator}
+use Rattle.oss_roles.specs.Numbers.{entry_number}
 use Rattle.oss_roles.specs.Passing.{still_there}
 use Rattle.oss_roles.specs.Roles.{Role, Site, itself, on, Filed, Plans}
 use Rattle.oss_roles.specs.Sights.{Bearing, Making, Sight}
@@ -175,7 +176,17 @@ module _ {S : Type 0} (P : Program S) (main : Start S) (first : List ℕ) (setti
                 | inr old ↦ elim (role_is e r old) [ inl p ↦ (let z = p.0 in omega (arith, z)) | inr p ↦ (let z = p.0 in omega (arith, z)) ]
               ]
             ];
-            access = λ e m s h. let w = right_now e m s h in (4, r4, refl, refl, ap (λ (z : ℕ). on z) w.0, refl, w.1, w.2);
+            access = λ e m s h. let w = right_now e m s h in (
+              4,
+              r4,
+              refl,
+              refl,
+              ap (λ (z : ℕ). on z) w.0,
+              refl,
+              w.1,
+              w.2,
+              ap (λ (z : ℕ). entry_number 3 (right_of (new_task P x.body o2).body.start.context) z) w.0,
+            );
             strongly = λ e r h p counted. elim (role3_is e r h) [
               | inl q ↦ (let z : false ≡ true = ap (λ (w : Role). w.counts) q.1 ∙ counted in absurd (let bad : ⊥ = cc in bad))
               | inr q ↦ elim q [

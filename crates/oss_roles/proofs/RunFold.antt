@@ -21,6 +21,7 @@ use Rattle.oss_words.specs.Members.{Has, head}
 use Rattle.oss_words.specs.Views.{first_view, Among, among_first, among_later}
 use Rattle.oss_roles.specs.Alone.{with_answer}
 use Rattle.oss_roles.specs.Field.{FieldAt, Parts, IsNumberOf, of_main, of_entry, going, is_put}
+use Rattle.oss_roles.specs.Numbers.{entry_number}
 use Rattle.oss_roles.specs.Roles.{Role, Site, itself, on, Plans}
 use Rattle.oss_roles.specs.Sights.{Bearing, Making, Sight}
 use Rattle.oss_roles.specs.Starts.{first_sight}
@@ -241,7 +242,17 @@ module _ {S : Type 0} (P : Program S) (main : Start S) (first : List ℕ) (setti
         let plans' = subst (λ (n : Net). Plans n f.field.role role1 1 (created_now P d.body ∷ d.path)) (sym f.same_net) (subst (λ (x : ℕ → Option Role). Plans bare x role1 1 (created_now P d.body ∷ d.path)) (sym f.same_role) plans) in
         let g = plan_field P main first IsJob 3 k2 (v2 d ∷ []) f.field 0 (v2 d) (v3 0) refl 0 d refl o act 1 role1 plans'
         (λ e r h. elim (role_is e r h) [ inl q ↦ (let z = q.0 in omega (arith, z)) | inr q ↦ (let z = q.0 in omega (arith, z)) ]) (λ h. let z : 1 ≡ 0 = h in absurd (omega (arith, z))) (making 0) t.number refl refl
-        (λ c m s h. let w = right_now c m s h in (2, r2, refl, refl, ap (λ (x : ℕ). on x) w.0, refl, w.1, w.2)) (λ e r h p c. let z : false ≡ true = sym (uncounted e r h) ∙ c in absurd (let bad : ⊥ = cc in bad))
+        (λ c m s h. let w = right_now c m s h in (
+          2,
+          r2,
+          refl,
+          refl,
+          ap (λ (x : ℕ). on x) w.0,
+          refl,
+          w.1,
+          w.2,
+          ap (λ (x : ℕ). entry_number 1 (right_of (new_task P d.body o).body.start.context) x) w.0,
+        )) (λ e r h p c. let z : false ≡ true = sym (uncounted e r h) ∙ c in absurd (let bad : ⊥ = cc in bad))
         k3.counts refl (λ j ne. else_ (j == 1) 1 (k2.counts j) (apart_from j 1 ne)) refl refl refl refl refl refl refl refl refl in
         record { field = g.field; same_net = g.same_net ∙ f.same_net; same_gave = g.same_gave ∙ f.same_gave; same_role = g.same_role }
 

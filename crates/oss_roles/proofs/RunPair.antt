@@ -22,6 +22,7 @@ use Rattle.oss_words.specs.Sums.{num}
 use Rattle.oss_words.specs.Views.{first_view, Among, among_first}
 use Rattle.oss_roles.specs.Alone.{with_answer}
 use Rattle.oss_roles.specs.Field.{FieldAt, Parts, IsNumberOf, of_main, of_entry, going, is_put}
+use Rattle.oss_roles.specs.Numbers.{entry_number}
 use Rattle.oss_roles.specs.Roles.{Role, Site, itself, on, Plans}
 use Rattle.oss_roles.specs.Sights.{Bearing, Making, Sight}
 use Rattle.oss_roles.specs.Steps.{JobGoes}
@@ -183,7 +184,17 @@ module _ {S : Type 0} (P : Program S) (main : Start S) (first : List ℕ) (setti
               | inr old ↦ elim (role_is e r old) [ inl p ↦ (let z = p.0 in omega (arith, z)) | inr p ↦ (let z = p.0 in omega (arith, z)) ]
             ]
           ]) (λ h. let z : 3 ≡ 0 = h in absurd (omega (arith, z))) (making3 0) t.number refl refl
-          (λ e m s h. let w = right2_now e m s h in (4, r4, refl, refl, ap (λ (x : ℕ). on x) w.0, refl, w.1, w.2))
+          (λ e m s h. let w = right2_now e m s h in (
+            4,
+            r4,
+            refl,
+            refl,
+            ap (λ (x : ℕ). on x) w.0,
+            refl,
+            w.1,
+            w.2,
+            ap (λ (x : ℕ). entry_number 3 (right_of (new_task P c.body o2).body.start.context) x) w.0,
+          ))
           (λ e r h p counted. elim (role3_is e r h) [
             | inl q ↦ (let z : false ≡ true = ap (λ (w : Role). w.counts) q.1 ∙ counted in absurd (let bad : ⊥ = cc in bad))
             | inr q ↦ elim q [

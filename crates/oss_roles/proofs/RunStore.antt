@@ -16,13 +16,15 @@ use Rattle.oss_words.specs.Steps.{no_flags, Gives, GivesUp}
 use Rattle.oss_words.specs.Views.{among_first}
 use Rattle.oss_roles.specs.Alone.{with_answer}
 use Rattle.oss_roles.specs.Field.{FieldAt, Parts, IsNumberOf, of_main, of_entry}
-use Rattle.oss_roles.specs.Roles.{Role, Site}
+use Rattle.oss_roles.specs.Numbers.{entry_number}
+use Rattle.oss_roles.specs.Roles.{Role, Site, Filed, on}
 use Rattle.oss_roles.specs.Sights.{Bearing, Sight}
 use Rattle.oss_roles.specs.Steps.{JobGoes}
 use Rattle.oss_roles.specs.JobSteps.{stores, ended, at_once}
 use Rattle.oss_roles.specs.Passing.{still_there}
 use Rattle.oss_roles.proofs.JobClaims.{stores_keep, gives_keep}
 use Rattle.oss_roles.proofs.MakeClaims.{takes_keep, puts_keep}
+use Rattle.oss_roles.proofs.NumberLaw.{entries_follow}
 use Rattle.oss_roles.proofs.WordClaims.{count_reads_keep}
 use Rattle.oss_roles.proofs.RunWrite as run
 use Rattle.oss_roles.proofs.RunWrite.{Job, IsJob, when, else_, apart_from, only, among_one, some_same}
@@ -131,6 +133,13 @@ module _ {S : Type 0} (P : Program S) (main : Start S) (first : List ℕ) (setti
         (over : is_ended P (with_answer 0 (new_task P (record { start = main; found = [] }) o).body) ≡ true) (nowait : (new_task P (record { start = main; found = [] }) o).body.start.order.wait ≡ false) where
       body : x.body ≡ (new_task P b0 o).body
       body = y.body ∙ ap (λ (z : Body S). (new_task P z o).body) t.body
+
+      -- its entry on cell 0 is the one behind its own
+      its_entry : (e : Filed y.rule.field.net y.rule.field.role x.path (on 0)) × (e.entry ≡ 2)
+      its_entry =
+          let z = entries_follow S (Job S) IsJob P main first 5 k10 (v10 x ∷ []) y.rule.field 0 0 (v10 x) x (created_now P d.body) 0 d.path Write true refl refl y.path
+          (ap (λ (z : Body S). right_of z.start.context 0) body ∙ right0) in
+          (z.0, z.3 ∙ ap (λ (n : ℕ). entry_number n (right_of x.body.start.context) 0) y.number)
 
       abbrev x1 : Bearing S
       x1 = record { number = x.number; path = x.path; body = with_answer 0 x.body; last = x.last }

@@ -20,6 +20,7 @@ use Rattle.oss_words.specs.Steps.{no_flags, Fills, Begun, Blank}
 use Rattle.oss_words.specs.Views.{Among, among_first, among_later}
 use Rattle.oss_roles.specs.Alone.{with_answer}
 use Rattle.oss_roles.specs.Field.{FieldAt, Parts, IsNumberOf, of_main, of_entry, going, is_put}
+use Rattle.oss_roles.specs.Numbers.{entry_number}
 use Rattle.oss_roles.specs.Roles.{Role, Site, itself, on, Plans}
 use Rattle.oss_roles.specs.Sights.{Bearing, Making, Sight}
 use Rattle.oss_roles.specs.Starts.{first_sight}
@@ -242,7 +243,17 @@ module _ {S : Type 0} (P : Program S) (main : Start S) (first : List ℕ) (setti
           act = act;
           plans = plans';
           inside = λ e r h. elim (role_is e r h) [ inl q ↦ (let z = q.0 in omega (arith, z)) | inr q ↦ (let z = q.0 in omega (arith, z)) ];
-          access = λ c m s h. let w = right_now c m s h in (2, r2, refl, refl, ap (λ (x : ℕ). on x) w.0, refl, w.1, w.2);
+          access = λ c m s h. let w = right_now c m s h in (
+            2,
+            r2,
+            refl,
+            refl,
+            ap (λ (x : ℕ). on x) w.0,
+            refl,
+            w.1,
+            w.2,
+            ap (λ (x : ℕ). entry_number 1 (right_of (new_task P d.body o).body.start.context) x) w.0,
+          );
           strongly = λ e r h p c. let z : false ≡ true = sym (uncounted e r h) ∙ c in absurd (let bad : ⊥ = cc in bad);
           by = t.number;
           task = refl;

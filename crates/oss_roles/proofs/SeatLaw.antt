@@ -5,6 +5,7 @@ use mathlib.Core.Option as maybe
 use lib.ListN.{get_elem?}
 use Rattle.atomic_table.proofs.Lists.{at_set, set_else, at_longer, at_snoc}
 use Rattle.oss_model.specs.Bodies.{Program, Start, Body}
+use Rattle.oss_model.specs.Context.{right_of}
 use Rattle.oss_model.specs.Moves.{new_task}
 use Rattle.oss_words.specs.Members.{Has}
 use Rattle.oss_words.specs.Rule.{Kept}
@@ -14,6 +15,7 @@ use Rattle.oss_words.proofs.PlaceLaw.{looked_kept, joined_kept}
 use Rattle.oss_words.proofs.StillLemmas.{grown_same}
 use Rattle.oss_words.proofs.SumLemmas.{total_append, same_number}
 use Rattle.oss_roles.specs.Field.{Field, FieldAt, Parts, Sits, words_of, times, numbers_of, held_by_all, owed_by_all, IsJoined, is_joined, IsMaking, is_making, AreLast, IsSomewhere, at_home, is_out, IsPut, not_put, going, is_put, IsMade, IsStill}
+use Rattle.oss_roles.specs.Numbers.{entry_number}
 use Rattle.oss_roles.specs.Roles.{Site}
 use Rattle.oss_roles.specs.Sights.{Bearing, Making, Noted, Fixed, Sight, Telling}
 use Rattle.oss_roles.proofs.HoldLemmas.{held_same}
@@ -238,7 +240,8 @@ module _ {S J : Type 0} (P : Program S) (main : Start S) (first : List ℕ) (is_
           act = g.act;
           closed = ap f.opened task ∙ g.closed;
           own = let o = g.own in (o.0, ap (λ (z : ℕ). f.role z) task ∙ o.1, o.2, o.3, o.4 ∙ sym task);
-          access = λ c mode strong right. let x = g.access c mode strong right in (x.0, x.1, x.2, x.3, x.4, x.5 ∙ sym task, x.6, x.7);
+          access = λ c mode strong right. let x = g.access c mode strong right in
+              (x.0, x.1, x.2, x.3, x.4, x.5 ∙ sym task, x.6, x.7, x.8 ∙ ap (λ (z : ℕ). entry_number z (right_of (new_task P g.creator.body g.order).body.start.context) c) (sym task));
           job = stage;
         }
 

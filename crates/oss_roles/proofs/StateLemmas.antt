@@ -16,6 +16,7 @@ use Rattle.oss_model.proofs.OrderLemmas.{suffix_trans}
 use Rattle.oss_model.proofs.TreeLemmas.{at_same, path_found, same_path_is}
 use Rattle.oss_words.specs.Net.{Net}
 use Rattle.oss_roles.proofs.Going.{Turned, Continues, with_task}
+use Rattle.oss_roles.specs.Numbers.{entry_number}
 use Rattle.oss_roles.specs.Roles.{Role, itself, on, AreFiled, AreGiven}
 
 -- a state in which a task of its own path is put
@@ -85,10 +86,10 @@ module _ {S : Type 0} (P : Program S) (s n : State S) (c : Continues P s n) wher
       let k = c.forth p a.task a.at_ in
       record { task = k.0; at_ = k.1; mode = a.mode; strong = a.strong; right = subst (λ (z : Start S). right_of z.context d ≡ Holds a.mode a.strong) (sym k.2.start) a.right }
 
-  pub access_back : (d : ℕ) (p : List ℕ) (a : HasAccess n d p) → (b : HasAccess s d p) × (b.mode ≡ a.mode) × (b.strong ≡ a.strong)
+  pub access_back : (d : ℕ) (p : List ℕ) (a : HasAccess n d p) → (b : HasAccess s d p) × (b.mode ≡ a.mode) × (b.strong ≡ a.strong) × (b.task.body.start ≡ a.task.body.start)
   access_back d p a =
       let k = c.back p a.task a.at_ in
-      (record { task = k.0; at_ = k.1; mode = a.mode; strong = a.strong; right = subst (λ (z : Start S). right_of z.context d ≡ Holds a.mode a.strong) k.2.start a.right }, refl, refl)
+      (record { task = k.0; at_ = k.1; mode = a.mode; strong = a.strong; right = subst (λ (z : Start S). right_of z.context d ≡ Holds a.mode a.strong) k.2.start a.right }, refl, refl, sym k.2.start)
 
   pub given_forth : (d : ℕ) (p : List ℕ) → HasGiven s d p → HasGiven n d p
   given_forth d p g = let k = c.forth p g.task g.at_ in record { task = k.0; at_ = k.1; given = k.2.given d g.given }
@@ -164,7 +165,10 @@ module _ {S : Type 0} (P : Program S) (s n : State S) (c : Continues P s n) wher
   pub filed_on : (net : Net) (role : ℕ → Option Role) → AreFiled s net role → AreFiled n net role
   filed_on net role f =
       record {
-        access = λ k d p a. let b = access_back d (k ∷ p) a in let x = f.access k d p b.0 in (x.0, x.1 ∙ b.1, x.2 ∙ b.2);
+        access = λ k d p a.
+            let b = access_back d (k ∷ p) a in
+            let x = f.access k d p b.0 in
+            (x.0, x.1 ∙ b.1, x.2 ∙ b.2, x.3 ∙ ap (λ (z : Start S). entry_number x.0.it.task (right_of z.context) d) b.3);
         task = λ k p t h. let b = c.back (k ∷ p) t h in f.task k p b.0 b.1;
       }
 

@@ -22,6 +22,7 @@ use Rattle.oss_roles.specs.Alone.{GoesAlone}
 use Rattle.oss_roles.specs.Field.{Parts, Field, FieldAt, Sits, Bears, held_by_all, IsNumberOf}
 use Rattle.oss_roles.specs.JobSteps.{Loads, Stores, GoesOn, GivesCell, GivesOwn, WritesValue, LeavesValue}
 use Rattle.oss_roles.specs.MakeSteps.{FillsEntry, PlansTask, LinksEntry, OpensTask}
+use Rattle.oss_roles.specs.Numbers.{entry_number}
 use Rattle.oss_roles.specs.Passing.{MayGo}
 use Rattle.oss_roles.specs.Rest.{idle, AtRest, StandsAtHome}
 use Rattle.oss_roles.specs.Roles.{Role, Site, itself, on, Filed}
@@ -298,3 +299,12 @@ LastChildrenAreLast S J is_job = (P : Program S) (main : Start S) (first : List 
     → Sits sights id v → Bears v i b → ((a : Making) → Among a v.makes → a.by ≢ b.number)
     → b.last y ≡ Some o → (up : Filed f.net f.role b.path y)
     → f.net.last up.entry ≡ o
+
+-- The entries of a task whose job a seat holds follow each other: that on each of its cells has the number that its cells give it.
+abbrev pub EntriesFollow : (S J : Type 0) → Telling S J → Type 0
+EntriesFollow S J is_job = (P : Program S) (main : Start S) (first : List ℕ) (n : ℕ) (k : Parts J) (sights : List (Sight S))
+    (f : Field P main first is_job n k sights)
+    (id i : ℕ) (v : Sight S) (b : Bearing S) (j c : ℕ) (p : List ℕ) (mode : Mode) (strong : Bool)
+    → Sits sights id v → Bears v i b → b.path ≡ j ∷ p → right_of b.body.start.context c ≡ Holds mode strong
+    → (x : Filed f.net f.role b.path (on c)) × (x.it.mode ≡ mode) × (x.it.strong ≡ strong)
+    × (x.entry ≡ entry_number b.number (right_of b.body.start.context) c)

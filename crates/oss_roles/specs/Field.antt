@@ -25,6 +25,7 @@ use Rattle.oss_words.specs.Rule.{Kept}
 use Rattle.oss_words.specs.Sums.{total, num}
 use Rattle.oss_words.specs.Views.{View, Seen, Among}
 use Rattle.oss_roles.specs.Counting.{AreCounts}
+use Rattle.oss_roles.specs.Numbers.{entry_number}
 use Rattle.oss_roles.specs.Roles.{Role, Site, itself, on, AreRoles, AreFiled, AreGiven}
 use Rattle.oss_roles.specs.Sights.{Bearing, Making, Noted, Fixed, Sight, Telling}
 
@@ -133,6 +134,7 @@ pub record IsMade {S J : Type 0} (P : Program S) (is_job : Telling S J) (k : Par
   pub access : (c : ℕ) (mode : Mode) (strong : Bool) → right_of (new_task P creator.body order).body.start.context c ≡ Holds mode strong
       → (e : ℕ) × (r : Role) × (role e ≡ Some r) × (r.path ≡ created_now P creator.body ∷ creator.path) × (r.site ≡ on c)
       × (r.task ≡ m.task) × (r.mode ≡ mode) × (r.strong ≡ strong)
+      × (e ≡ entry_number m.task (right_of (new_task P creator.body order).body.start.context) c)
   pub job : IsPut is_job k m (new_task P creator.body order).body
 
 -- A reduction that was left: its task has ended and may give up the cell, and the value beside the word is that of the task's slot.

@@ -1,9 +1,11 @@
 pub mod Alone
 pub mod Claims
 pub mod Counting
+pub mod Drawing
 pub mod Field
 pub mod JobSteps
 pub mod MakeSteps
+pub mod Numbers
 pub mod Passing
 pub mod Rest
 pub mod Roles

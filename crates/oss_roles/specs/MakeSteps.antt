@@ -18,6 +18,7 @@ use Rattle.oss_words.specs.Views.{Among}
 use Rattle.oss_roles.specs.Alone.{with_answer}
 use Rattle.oss_roles.specs.Counting.{stands, weight}
 use Rattle.oss_roles.specs.Field.{Field, Parts, Sits, Bears}
+use Rattle.oss_roles.specs.Numbers.{entry_number}
 use Rattle.oss_roles.specs.Roles.{Role, Site, on, Filed, Plans}
 use Rattle.oss_roles.specs.Sights.{Bearing, Making, Sight, Telling}
 use Rattle.oss_roles.specs.Steps.{SameJobs, SameButMade}
@@ -43,7 +44,7 @@ module _ {S J : Type 0} {P : Program S} {main : Start S} {first : List ℕ} {is_
       pub inside : (e : ℕ) (r : Role) → role' e ≡ Some r → e < n
       pub access : (c : ℕ) (mode : Mode) (strong : Bool) → right_of (new_task P b.body order).body.start.context c ≡ Holds mode strong
           → (e : ℕ) × (r : Role) × (role' e ≡ Some r) × (r.path ≡ created_now P b.body ∷ b.path) × (r.site ≡ on c) × (r.task ≡ t)
-          × (r.mode ≡ mode) × (r.strong ≡ strong)
+          × (r.mode ≡ mode) × (r.strong ≡ strong) × (e ≡ entry_number t (right_of (new_task P b.body order).body.start.context) c)
       pub strongly : (e : ℕ) (r : Role) → role' e ≡ Some r → r.path ≡ created_now P b.body ∷ b.path → r.counts ≡ true → r.strong ≡ true
       pub by : b.number ≡ m.by
       pub task : m.task ≡ t

@@ -5,11 +5,13 @@
 -- not count.
 use Rattle.std.specs.Prelude.{◌≡◌, ◌≢◌, ◌⊎◌, ◌<◌, ℕ, Bool, true, List, [], ◌∷◌, length, Option, Some, None}
 use Rattle.oss_syntax.specs.declared.access.Mode.{Mode}
+use Rattle.oss_model.specs.Context.{right_of}
 use Rattle.oss_model.specs.Machine.{Task, State, At, HasAccess, HasGiven}
 use Rattle.oss_model.specs.Bodies.{Program}
 use Rattle.oss_model.specs.Moves.{IsClosed}
 use Rattle.oss_words.specs.declared.entry.EntryInfo.{EntryInfo}
 use Rattle.oss_words.specs.Net.{Net, apart, top, first, after, Top, Child, Earlier}
+use Rattle.oss_roles.specs.Numbers.{entry_number}
 
 -- What an entry of a task is for: the task itself, or its access to a cell.
 pub data Site : Type 0 where
@@ -65,11 +67,12 @@ pub record AreRoles (net : Net) (infos : ℕ → EntryInfo) (role : ℕ → Opti
   pub order : (e f : ℕ) (r q : Role) (i k : ℕ) (p : List ℕ) → role e ≡ Some r → role f ≡ Some q → net.place e ≢ apart → net.place f ≢ apart
       → r.path ≡ i ∷ p → q.path ≡ k ∷ p → r.site ≡ q.site → i < k → Earlier net.place e f
 
--- The tasks of a state but main, and their accesses, have linked entries. There may be more of those: while a creation runs, the new task's
--- entries are linked before the state has the task.
+-- The tasks of a state but main, and their accesses, have linked entries, each of them at the number that the task's cells give it. There may be
+-- more of those: while a creation runs, the new task's entries are linked before the state has the task.
 pub record AreFiled {S : Type 0} (s : State S) (net : Net) (role : ℕ → Option Role) : Type 0 where
   pub access : (k c : ℕ) (p : List ℕ) (a : HasAccess s c (k ∷ p))
       → (x : Filed net role (k ∷ p) (on c)) × (x.it.mode ≡ a.mode) × (x.it.strong ≡ a.strong)
+      × (x.entry ≡ entry_number x.it.task (right_of a.task.body.start.context) c)
   pub task : (k : ℕ) (p : List ℕ) (t : Task S) → At s (k ∷ p) t → Filed net role (k ∷ p) itself
 
 -- What was given up in the words was given up in the state, and a task's own entry only if the task is closed; and what was given up in the

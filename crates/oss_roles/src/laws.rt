@@ -6,7 +6,9 @@ ghost use Rattle.oss_roles.specs.Claims.{FirstPutsKeep, GivesKeep, IdleFieldsRes
 ghost use Rattle.oss_roles.specs.Claims.{LastLinksKeep, LeavesKeep, LinksKeep, LoadsKeep, NewPathsAreFree, NewSeatsKeep, NoCountIsReady};
 ghost use Rattle.oss_roles.specs.Claims.{OpeningsKeep, OwnActsKeep, OwnGivesKeep, ParentsAreOpen, PlansKeep, PutsKeep, QuietStepsKeep};
 ghost use Rattle.oss_roles.specs.Claims.{RestsKeep, StartsKeep, StoresKeep, TakesKeep, TasksHaveOneMaker, ValuesKeep, WhatMayGoGoes};
-ghost use Rattle.oss_roles.specs.Claims.{WordReadsKeep};
+ghost use Rattle.oss_roles.specs.Claims.{EntriesFollow, WordReadsKeep};
+ghost use Rattle.oss_roles.specs.Counting.{CountsAreOfCells};
+ghost use Rattle.oss_roles.specs.Drawing.{DrawsKeep, NewSeatsDraw, NothingIsDrawn, PlansDraw};
 
 use crate::jobs::Jobs;
 
@@ -181,4 +183,35 @@ pub fn creators_are_open<S, J, R: Jobs<S, J>>()
 /// The last child that a job tells is the last of the net, if its seat makes no task by it.
 pub fn last_children_are_last<S, J, R: Jobs<S, J>>()
     ensures { LastChildrenAreLast S J R.is_job }
+{}
+
+/// The entries of a task whose job a seat holds follow each other, in the order of its cells.
+pub fn entries_follow<S, J, R: Jobs<S, J>>()
+    ensures { EntriesFollow S J R.is_job }
+{}
+
+/// What a new count says is how many cells of the new task wait for a flag, and 1 for the opening.
+pub fn counts_are_of_cells()
+    ensures { CountsAreOfCells }
+{}
+
+/// What is drawn has no role, where one seat has drawn nothing.
+pub fn nothing_is_drawn<S, J, R: Jobs<S, J>>()
+    ensures { NothingIsDrawn S }
+{}
+
+/// A step that gives no role, and draws only what is free, leaves what is drawn without a role, and with one seat
+/// alone.
+pub fn draws_keep<S, J, R: Jobs<S, J>>()
+    ensures { DrawsKeep S }
+{}
+
+/// So does the fill of a count, if the seat has drawn what gets a role.
+pub fn plans_draw<S, J, R: Jobs<S, J>>()
+    ensures { PlansDraw S }
+{}
+
+/// So does a new seat, which has drawn nothing.
+pub fn new_seats_draw<S, J, R: Jobs<S, J>>()
+    ensures { NewSeatsDraw S }
 {}

@@ -1,10 +1,12 @@
-//! What no clause says of the machine, of audits, of parts and of runs by waves, tried by their public calls
+//! What no clause says of the machine, of audits, of parts, of jobs and of runs by waves, tried by their public calls
 //! over codes that were written by hand. The tests have a crate of their own, since a crate with tests is
 //! proved once without them and once with them.
 #![tactic(auto)]
 
 #[cfg(test)]
 mod audit_tests;
+#[cfg(test)]
+mod job_tests;
 #[cfg(test)]
 mod machine_tests;
 #[cfg(test)]
