@@ -1,7 +1,8 @@
 #!/bin/sh
 # Runs the built program on the programs of examples/, on the cases of tests/cases/ and on bad words, files and bytes, and
 # compares its output, its error output and its status with what is stored. The last line counts; the status is 0 only where
-# nothing failed. `tests/run.sh PROGRAM` runs another program than the one of this repository.
+# nothing failed. `tests/run.sh PROGRAM` runs another program than the one of this repository. With `--all` as the first word it then refuses memory
+# to the program too, one piece after the other (tests/refused.sh), which takes some minutes more.
 #
 # In examples/, NAME.c is run; NAME.out is its output, NAME.err its error output (empty where there is none), NAME.status its
 # status (0 where there is none). It is run in each mode and with several numbers of workers, and its trace is replayed; NAME.trace is that
@@ -27,6 +28,11 @@
 # It is called in a folder that holds nothing but the program, as p.c, and the schedule, where the case has one, as s.txt. A run without a mode is called in the mode
 # serial too, and a trace is made over the other dependency systems too, and replayed.
 top=$(CDPATH='' cd -- "$(dirname -- "$0")/.." && pwd) || exit 1
+all=no
+[ "${1:-}" != --all ] || {
+  all=yes
+  shift
+}
 program=${1:-$top/nest6}
 case $program in
   /*) ;;
@@ -392,6 +398,16 @@ counts=$(sed -n '$s/^\([0-9]*\) passed, \([0-9]*\) failed$/\1 \2/p' "$work/share
 counts=${counts:-0 1}
 passed=$((passed + ${counts% *}))
 failed=$((failed + ${counts#* }))
+
+if [ "$all" = yes ]; then
+  "$top/tests/refused.sh" "$program" >"$work/refused" 2>&1
+  sed '$d' "$work/refused"
+  counts=$(sed -n '$s/^\([0-9]*\) passed, \([0-9]*\) failed$/\1 \2/p' "$work/refused")
+  [ -n "$counts" ] || tail -n 1 "$work/refused"
+  counts=${counts:-0 1}
+  passed=$((passed + ${counts% *}))
+  failed=$((failed + ${counts#* }))
+fi
 
 echo "$passed passed, $failed failed"
 [ "$failed" = 0 ]
