@@ -191,7 +191,7 @@ light_awaits (acts.Print key text) x w h = absurd h
 light_awaits acts.End x w h = absurd h
 light_awaits (acts.Fault kind line key) x w h = absurd h
 
--- behind a tick or a light touch the task that acts is the one that did, and what is in the slots stays
+-- after a tick or a light touch the task that acts is the one that did, and what is in the slots stays
 pub light_on : (a : Act) (x : Context) (alone : Bool) → IsLight a x → stays_on (act_seen a) alone ≡ true
 light_on acts.Tick x alone h = refl
 light_on (acts.Load c) x alone h = refl

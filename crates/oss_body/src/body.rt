@@ -140,8 +140,8 @@ impl Body {
         self.advance_by_draft(code, loaded)
     }
 
-    /// The same where nothing wants memory: the act is a tick or a touch, and so is the next one, or that is a
-    /// fault or the end. Otherwise the body stays, and this tells it.
+    /// The same where nothing wants memory: the act is a tick, a load, or a store that marks no cell anew, and the
+    /// next is a tick, a load, a store, a fault or the end. Otherwise the body stays, and this tells it.
     #[inline(always)]
     fn advance_at_once(&mut self, code: &Code, loaded: u64) -> bool
         requires running { is_over self.old ≡ false }

@@ -130,9 +130,9 @@ impl Frame {
         }
     }
 
-    /// The act has happened, and a load found this value, where nothing wants memory: the act is a tick or a
-    /// touch, and so is the next one, or that is a fault or the end. Then the task goes on, and this tells the
-    /// act that stands next, as `next` does. Otherwise nothing changes.
+    /// The act has happened, and a load found this value, where nothing wants memory: the act is a tick, a load, or
+    /// a store that marks no cell anew, and the next is a tick, a load, a store, a fault or the end. Then the task
+    /// goes on, and this tells the act that stands next, as `next` does. Otherwise nothing changes.
     #[inline(always)]
     pub(crate) fn follow_at_once(
         &mut self,

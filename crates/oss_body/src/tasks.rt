@@ -96,8 +96,8 @@ impl Tasks {
         }
     }
 
-    /// The same where nothing wants memory: the act is a tick or a touch, and so is the next one, or that is a
-    /// fault or the end. Otherwise nothing changes.
+    /// The same where nothing wants memory: the act is a tick, a load, or a store that marks no cell anew, and the
+    /// next is a tick, a load, a store, a fault or the end. Otherwise nothing changes.
     #[inline(always)]
     pub(crate) fn follow_at_once(
         &mut self,

@@ -115,7 +115,7 @@ module _ (a : Access) (rest : List Access) (c : ℕ) (b : Behind a.range.hi rest
       (if in_clauses rest c then Some ((first + (hi - lo)) + cells_before rest c) else entry_told (if is_within lo hi c then Some (base_of lo first) else kept) c)
       ≡ (if in_clauses (a ∷ rest) c then Some (first + cells_before (a ∷ rest) c) else entry_told kept c)
 
-  -- what is kept for a cell behind the entries of one access more tells its number
+  -- what is kept for a cell after one access more has got its entries tells its number
   entered_more : (first : ℕ) (kept : Option ℕ) → first ≤ 16777216
       → entry_told (entered (first + (hi - lo)) rest c (if is_within lo hi c then Some (base_of lo first) else kept)) c
       ≡ (if in_clauses rest c then Some ((first + (hi - lo)) + cells_before rest c) else entry_told (if is_within lo hi c then Some (base_of lo first) else kept) c)
@@ -219,7 +219,7 @@ entries_are xs own t c r few same =
     entered_is xs 0 (t + 1) c None (rising_behind xs r) (omega (arith, few))
     ∙ told_by xs own t c (rising_behind xs r) (λ d. sym (named_is xs 0 d (rising_behind xs r)) ∙ (ap has_cell (same d) ∙ held_has (own d)))
 
--- the last children behind a new one with these accesses
+-- the last children after a new one with these accesses
 pub lasts_are : (xs : List Access) (child c : ℕ) (kept : Option ℕ) → IsRising xs → child + cells_in xs < 16777216
     → entry_told (entered (child + 1) xs c kept) c ≡ or_else (entry_on child (right_from false xs) c) (entry_told kept c)
 lasts_are xs child c kept r few =

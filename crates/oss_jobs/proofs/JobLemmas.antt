@@ -1,4 +1,4 @@
--- A job at its start, behind an act, and behind a new child.
+-- A job at its start, after an act, and after a new child.
 use Rattle.std.proofs.Common.{◌≡◌, ◌<◌, ℕ, ◌+◌, refl, sym, subst, ap, ◌∙◌, false, List, [], ◌∷◌, ◌++◌, Option, Some, None}
 use Rattle.oss_syntax.specs.declared.access.Access.{Access}
 use Rattle.oss_model.specs.Bodies.{Act as MeantAct, Body as Meant, Start, stage_act}
@@ -47,7 +47,7 @@ begun body xs t j b code start found is same = record {
   last_child = b.last_child;
 }
 
--- the job behind an act that is told so
+-- the job after an act that is told so
 pub went_on : (code : CodeParts) (old new : Job) (v : ℕ) → is_over (body_of old) ≡ false
     → ((start : Start CodeScript) (found : List ℕ) → IsBody code start found (body_of old) → IsBody code start (v ∷ found) (body_of new))
     → prints_of new ≡ with_print (pending_of (body_of old)) (prints_of old) → IsKeyed (pending_of (body_of old)) → SameBeside old new

@@ -1,25 +1,19 @@
 -- A job may go to another thread: it owns plain data alone.
 use denote.Builtin.{u32}
-use denote.RattleType.{RattleType}
-use denote.Param.Send.{IsSend, sendable, view_send, recorded_send, struct_send}
+use denote.Param.Send.{IsSend, sendable, recorded_send, struct_send}
 use denote.Struct.Declared as struct
 use Rattle.std.proofs.alloc.Global.TheSendSync as heap
 use Rattle.std.proofs.Crossing.{crosses}
 use Rattle.std.specs.Prelude.{true}
 use Rattle.std.specs.declared.cmp.PartialEq.{Ghosts}
-use Rattle.oss_ranges.proofs.tree.Tree.TheLaws.TheKnot.{send-Tree, send-Node}
 use Rattle.oss_ranges.specs.contracts.map.RangeMap as map
-use Rattle.oss_ranges.specs.contracts.map.RangeMap.TheInside as in_map
-use Rattle.oss_ranges.proofs.piece.Piece.TheSendSync as piece
+use Rattle.oss_ranges.proofs.SendLemmas.{map_send}
 use Rattle.oss_tree.proofs.output.Print.TheSendSync as print
 use Rattle.oss_segment.proofs.SendLemmas.{body_field}
 use Rattle.oss_jobs.specs.contracts.job.Job as job
 
 any : (D : Type 0) → Ghosts D
 any D = record { eq = λ a b. true }
-
-map_send : (T : RattleType) (e : Ghosts T.Denot) → IsSend T → IsSend (map.the_row T e)
-map_send T e s = view_send (in_map.the_row T e) _ _ _ _ (recorded_send _ _ (in_map.the_type T e).to (in_map.the_type T e).to_one (struct_send (struct.shape (in_map.the_type T e)) (heap.the_field_send, (search (sendable, crosses, send-Tree, piece.the_send) depth 40, (search (sendable, crosses, send-Node, send-Tree, piece.the_send) depth 40, tt)))))
 
 entries_send : IsSend (map.the_row u32 (any _))
 entries_send = map_send u32 (any _) (search sendable)

@@ -20,7 +20,7 @@ abbrev pub entry_told : Option ℕ → ℕ → Option ℕ
 entry_told None cell = None
 entry_told (Some base) cell = Some (min (base + cell) 4294967295 - 1048576)
 
--- What is kept for a cell behind the entries of accesses, from this number on: for the cells of an access that of the access, and else what was kept.
+-- What is kept for a cell after accesses have got their entries, from this number on: for the cells of an access that of the access, and else what was kept.
 abbrev pub entered : ℕ → List Access → ℕ → Option ℕ → Option ℕ
 entered first [] cell kept = kept
 entered first (a ∷ rest) cell kept =

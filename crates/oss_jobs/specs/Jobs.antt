@@ -53,7 +53,7 @@ abbrev pub or_else : Option ℕ → Option ℕ → Option ℕ
 or_else (Some entry) other = Some entry
 or_else None other = other
 
--- The last children behind a new one with this number and these rights: it is the last, and its entries are the last ones on its cells.
+-- The last children after a new one with this number and these rights: it is the last, and its entries are the last ones on its cells.
 abbrev pub noted : ℕ → (ℕ → Right) → (Site → Option ℕ) → Site → Option ℕ
 noted child own last itself = Some child
 noted child own last (on c) = or_else (entry_on child own c) (last (on c))

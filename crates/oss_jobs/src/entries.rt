@@ -55,7 +55,7 @@ pub(crate) fn number_of(entry: Option<u32>) -> u32
     }
 }
 
-/// Gives the cells of these accesses entries from this number on, in rising order. After want of memory no entry has
+/// Gives the cells of these accesses entries from this number on, in rising order. If it is out of memory, no entry has
 /// changed.
 pub(crate) fn enter(
     entries: &mut RangeMap<u32>,

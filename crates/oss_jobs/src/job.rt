@@ -64,7 +64,8 @@ impl Job {
     ghost use Rattle.oss_jobs.specs.Jobs.{IsJob, SameJob, SameBeside, body_of, entry_at, last_at, last_child_of, noted, prints_of, task_of};
 
     /// The job of a task with this body and this number, of which no child was noted. The accesses are those that
-    /// `Body::accesses` gives. Condition: the task's number and the number of its cells are together below 16,777,216.
+    /// `Body::accesses` gives. Out of memory, the body is let go. Condition: the task's number and the number of its
+    /// cells are together below 16,777,216.
     pub fn start(
         alloc: Global,
         body: Body,
@@ -143,7 +144,7 @@ impl Job {
     }
 
     /// The pending act has happened, and a load found this number, which else says nothing. A print is kept. The code
-    /// is the one with which the body was started. After want of memory the job is as it was, and the call may be
+    /// is the one with which the body was started. If it is out of memory, the job is as it was, and the call may be
     /// made again. Condition: the body has not ended, and the act is no fault.
     pub fn advance(&mut self, code: &Code, loaded: u64) -> Result<(), AllocError>
         requires running { is_over (body_of self.old) ≡ false }
@@ -173,7 +174,7 @@ impl Job {
     }
 
     /// The task with this number is the last child from now on, and its entries are the last ones on its cells, which
-    /// these accesses name, as `Body::accesses` gives them. After want of memory the job is as it was. Condition: the
+    /// these accesses name, as `Body::accesses` gives them. If it is out of memory, the job is as it was. Condition: the
     /// child's number and the number of its cells are together below 16,777,216.
     pub fn note(&mut self, child: u32, accesses: &List<Access>) -> Result<(), AllocError>
         requires rising { IsRising accesses.now }

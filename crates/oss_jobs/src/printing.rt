@@ -8,7 +8,7 @@ use oss_syntax::Bytes;
 use oss_tree::Print;
 use std::alloc::{AllocError, Global};
 
-/// Adds what the act prints, if it is a print. After want of memory there is none more.
+/// Adds what the act prints, if it is a print. If it is out of memory, there is none more.
 pub(crate) fn add_print(alloc: Global, act: &Act, prints: &mut Vec<Print>) -> Result<(), AllocError>
     ensures prints { OnOk result (prints.new.items ≡ with_print act.now prints.old.items) }
     ensures keyed { OnOk result (IsKeyed act.now) }

@@ -88,7 +88,7 @@ impl Numbers {
         Numbers::Few(few)
     }
 
-    /// The numbers of a list, in the memory that it has.
+    /// The numbers of a list, in a box around the memory that it has.
     pub(crate) fn listed(alloc: Global, list: List<u16>) -> Result<Numbers, AllocError>
         ensures { IfOk result (λ numbers. numbers_in numbers ≡ list) }
     {

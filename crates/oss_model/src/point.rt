@@ -17,7 +17,8 @@ use std::marker::Model;
 /// The point of a task has at most so many numbers, and that of an act one more.
 const MOST: usize = 65;
 
-/// Where a task, or an act of it, stands: the numbers from main's 0 down. A few of them take no memory.
+/// Where a task, or an act of it, stands: the numbers from main's 0 down. A few of them take no memory, unless they
+/// were read from a text.
 pub struct Point {
     alloc: Global,
     numbers: Numbers,

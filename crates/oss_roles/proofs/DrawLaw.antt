@@ -1,4 +1,4 @@
--- What is drawn has no role: what each step leaves of this, and a run of two seats.
+-- What is drawn has no role: what each step leaves of this.
 use Rattle.std.proofs.Common.{◌≡◌, inl, inr, sym, subst, ◌∙◌, ℕ, zero, suc, List, [], ◌∷◌, None}
 use mathlib.Core.Option as maybe
 use Rattle.atomic_table.proofs.Lists.{at_set, at_snoc}

@@ -62,7 +62,7 @@ pub record AreNumbered (role : ℕ → Option Role) (states : ℕ → EntryState
       → (e ≡ t) ⊎ ((c : ℕ) × (c < cells) × (has_cell (own c) ≡ true) × (e ≡ entry_number t own c))
   pub waited : (e : ℕ) (r : Role) → role e ≡ Some r → r.task ≡ t → r.counts ≡ true → stands r.mode (states e) ≡ false
 
--- With such roles what a count of n entries says is how many cells of the task it waits for.
+-- With such roles the entries below n for which the count waits are as many as the cells of the task for which it waits.
 abbrev pub CountsAreOfCells : Type 0
 CountsAreOfCells = (role : ℕ → Option Role) (states : ℕ → EntryState) (t n cells : ℕ) (own : ℕ → Right) (waits : ℕ → Bool)
     → AreNumbered role states t cells own waits → t + 1 + cells_below own cells ≤ n

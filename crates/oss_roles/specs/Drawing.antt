@@ -1,5 +1,5 @@
 -- What seats have drawn for new tasks: an entry that is drawn has no role, and one seat alone has drawn it, until the fill of a count gives it
--- its role. It stands beside the rule of a field, which names the roles behind each step.
+-- its role. It stands beside the rule of a field, which names the roles after each step.
 -- Read against: a seat draws 7, 8 and 9 for the task 7 of `Roles`. Until it fills the count of 7 none of the three has a role, whatever the other
 -- seats do; then all three have theirs, and it has drawn nothing.
 use Rattle.std.specs.Prelude.{◌≡◌, ◌⊎◌, ℕ, List, [], ◌∷◌, ◌++◌, set, Option, None}

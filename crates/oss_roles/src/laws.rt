@@ -190,7 +190,7 @@ pub fn entries_follow<S, J, R: Jobs<S, J>>()
     ensures { EntriesFollow S J R.is_job }
 {}
 
-/// What a new count says is how many cells of the new task wait for a flag, and 1 for the opening.
+/// The entries for which a new count waits are as many as the cells of the new task for which it waits.
 pub fn counts_are_of_cells()
     ensures { CountsAreOfCells }
 {}

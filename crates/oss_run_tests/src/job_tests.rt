@@ -1,4 +1,4 @@
-//! Jobs over a main worked by hand: what is told at the start, behind acts, and behind new children.
+//! Jobs over a main worked by hand: what is told at the start, after acts, and after new children.
 
 ghost use Rattle.std.specs.Prelude.{◌≡◌, ◌<◌, IfOk};
 ghost use Rattle.oss_body.specs.Acts.{goes_on};

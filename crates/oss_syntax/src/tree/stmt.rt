@@ -33,8 +33,8 @@ pub struct Stmt {
     pub line: u32,
 }
 
-/// What a statement is. Expressions and the head of a task loop stand in boxes, so that a statement takes at most 64 bytes:
-/// a program may have a million of them.
+/// What a statement is. Expressions and the head of a task loop stand in boxes, so that a statement takes at most
+/// 64 bytes: a program may have a million of them.
 #[cycle(stmt)]
 #[derive(Drop)]
 pub enum StmtKind {
