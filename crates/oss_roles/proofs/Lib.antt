@@ -31,6 +31,7 @@ pub mod RunBelow
 pub mod RunDraw
 pub mod RunFold
 pub mod RunLoad
+pub mod RunOn
 pub mod RunPair
 pub mod RunStore
 pub mod RunTest

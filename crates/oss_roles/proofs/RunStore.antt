@@ -144,7 +144,7 @@ module _ {S : Type 0} (P : Program S) (main : Start S) (first : List ℕ) (setti
       abbrev x1 : Bearing S
       x1 = record { number = x.number; path = x.path; body = with_answer 0 x.body; last = x.last }
 
-      abbrev k11 : Parts (Job S)
+      abbrev pub k11 : Parts (Job S)
       k11 = record k10 { cells = slice_set first 0 stored }
 
       f11 : FieldAt P main first IsJob 5 net2 (λ e. false) role1 k11 (v10 x1 ∷ [])
@@ -162,10 +162,10 @@ module _ {S : Type 0} (P : Program S) (main : Start S) (first : List ℕ) (setti
           record { field = g.field; same_net = g.same_net ∙ y.rule.same_net; same_gave = g.same_gave ∙ y.rule.same_gave; same_role = g.same_role ∙ y.rule.same_role }
 
       -- and when it has ended, it gives the cell up
-      abbrev k12 : Parts (Job S)
+      abbrev pub k12 : Parts (Job S)
       k12 = record k11 { states = λ e. cond (e == 2) (record open_flags { given = true; done = true }) (cond (e == 1) open_flags no_flags) }
 
-      abbrev gave2 : ℕ → Bool
+      abbrev pub gave2 : ℕ → Bool
       gave2 e = cond (e == 2) true false
 
       gives : Gives k11.states k12.states k11.infos 2 (v10 x1).words (v10 x1).words
@@ -215,16 +215,16 @@ module _ {S : Type 0} (P : Program S) (main : Start S) (first : List ℕ) (setti
           record { field = g.field; same_net = g.same_net ∙ f11.same_net; same_gave = g.same_gave; same_role = g.same_role ∙ f11.same_role }
 
       -- its job is put back
-      abbrev back : Job S
+      abbrev pub back : Job S
       back = record { task = 1; body = with_answer 0 x.body; last = x.last }
 
-      abbrev k13 : Parts (Job S)
+      abbrev pub k13 : Parts (Job S)
       k13 = record k12 { bodies = λ e. cond (e == 1) 1 (cond (e == 0) 2 0); jobs = λ e. cond (e == 1) (Some back) None }
 
-      abbrev v13 : Sight S
+      abbrev pub v13 : Sight S
       v13 = record v9 { bears = c ∷ [] }
 
-      f13 : FieldAt P main first IsJob 5 net2 gave2 role1 k13 (v13 ∷ [])
+      pub f13 : FieldAt P main first IsJob 5 net2 gave2 role1 k13 (v13 ∷ [])
       f13 =
           let at_one : (j : ℕ) → j ≢ x.number → j ≢ 1 = λ j ne q. ne (q ∙ sym y.number) in
           let g = puts_keep S (Job S) IsJob P main first 5 k12 (v10 x1 ∷ []) f12.field 0 (v10 x1) v13 x1 back k13.bodies k13.jobs (record {
