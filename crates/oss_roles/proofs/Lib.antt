@@ -33,6 +33,7 @@ pub mod RunFold
 pub mod RunLoad
 pub mod RunOn
 pub mod RunPair
+pub mod RunRelease
 pub mod RunStore
 pub mod RunTest
 pub mod RunWrite
