@@ -36,6 +36,7 @@ pub mod RunPair
 pub mod RunRelease
 pub mod RunStore
 pub mod RunTest
+pub mod RunWait
 pub mod RunWrite
 pub mod SeatLaw
 pub mod StartLaw

@@ -94,13 +94,13 @@ module _ {S : Type 0} (P : Program S) (main : Start S) (first : List ℕ) (setti
           let q : Holds Write true ≡ Holds m s = sym right1 ∙ ap (λ (z : ℕ). right_of (new_task P (new_task P b0 o).body o2).body.start.context z) (sym zero_is) ∙ h0 in
           (sym zero_is, cc, cc)
 
-      abbrev r3 : Role
+      abbrev pub r3 : Role
       r3 = record { path = created_now P x.body ∷ x.path; site = itself; task = 3; mode = Read; strong = false; counts = false }
 
-      abbrev r4 : Role
+      abbrev pub r4 : Role
       r4 = record { path = created_now P x.body ∷ x.path; site = on 0; task = 3; mode = Write; strong = true; counts = true }
 
-      abbrev role3 : ℕ → Option Role
+      abbrev pub role3 : ℕ → Option Role
       role3 e = cond (e == 3) (Some r3) (cond (e == 4) (Some r4) (role1 e))
 
       role3_is : (e : ℕ) (r : Role) → role3 e ≡ Some r → ((e ≡ 3) × (r3 ≡ r)) ⊎ (((e ≡ 4) × (r4 ≡ r)) ⊎ (role1 e ≡ Some r))
@@ -212,7 +212,7 @@ module _ {S : Type 0} (P : Program S) (main : Start S) (first : List ℕ) (setti
       abbrev info4 : EntryInfo
       info4 = record { mode = Write; strong = true; depth = 2; parent = 2; task = 3 }
 
-      abbrev clear_flag : EntryState
+      abbrev pub clear_flag : EntryState
       clear_flag = record no_flags { clear = true }
 
       abbrev k12 : Parts (Job S)
@@ -270,7 +270,7 @@ module _ {S : Type 0} (P : Program S) (main : Start S) (first : List ℕ) (setti
       abbrev net3 : Net
       net3 = record { place = λ e. cond (e == 3) (first_place 1) (net2.place e); parent = λ e. cond (e == 3) 1 0; lead = λ e. e; depth = λ e. cond (e == 3) 2 (net2.depth e); mode = λ e. cond (e == 3) Read (net2.mode e); last = λ e. cond (e == 1) 3 (net2.last e) }
 
-      abbrev net4 : Net
+      abbrev pub net4 : Net
       net4 = record { place = λ e. cond (e == 4) (first_place 2) (net3.place e); parent = λ e. cond (e == 4) 2 (net3.parent e); lead = λ e. e; depth = λ e. cond (e == 4) 2 (net3.depth e); mode = λ e. cond (e == 4) Write (net3.mode e); last = λ e. cond (e == 2) 4 (net3.last e) }
 
       never_first : (o j : ℕ) → net2.place j ≢ first_place o
@@ -294,7 +294,7 @@ module _ {S : Type 0} (P : Program S) (main : Start S) (first : List ℕ) (setti
       abbrev headed1 : EntryState
       headed1 = record open_flags { headed = true; child = 3 }
 
-      abbrev headed2 : EntryState
+      abbrev pub headed2 : EntryState
       headed2 = record open_flags { headed = true; child = 4; child_folds = false; child_same = true }
 
       abbrev k14 : Parts (Job S)
@@ -537,7 +537,7 @@ module _ {S : Type 0} (P : Program S) (main : Start S) (first : List ℕ) (setti
           record { field = g.field; same_net = g.same_net ∙ g8.same_net; same_gave = g.same_gave ∙ g8.same_gave; same_role = g.same_role ∙ g8.same_role }
 
       -- the new job is put, and its task opened
-      abbrev j2 : Job S
+      abbrev pub j2 : Job S
       j2 = record { task = 3; body = (new_task P x.body o2).body; last = λ q. None }
 
       abbrev k20 : Parts (Job S)
@@ -593,16 +593,16 @@ module _ {S : Type 0} (P : Program S) (main : Start S) (first : List ℕ) (setti
       last_two (on zero) = Some 4
       last_two (on (suc e)) = None
 
-      abbrev x1 : Bearing S
+      abbrev pub x1 : Bearing S
       x1 = record { number = x.number; path = x.path; body = with_answer 0 x.body; last = last_two }
 
-      abbrev v22 : Sight S
+      abbrev pub v22 : Sight S
       v22 = record (v10 x1) { owes = 3 ∷ [] }
 
-      abbrev k22 : Parts (Job S)
+      abbrev pub k22 : Parts (Job S)
       k22 = record k21 { counts = λ e. cond (e == 3) 1 (k10.counts e) }
 
-      g12 : FieldAt P main first IsJob 5 net4 (λ e. false) role3 k22 (v22 ∷ [])
+      pub g12 : FieldAt P main first IsJob 5 net4 (λ e. false) role3 k22 (v22 ∷ [])
       g12 =
           let f = g11.field in
           let g = openings_keep S (Job S) IsJob P main first 5 k21 (z 2 ∷ []) f 0 (z 2) v22 0 x x1 (making 2) k22.counts (record {
