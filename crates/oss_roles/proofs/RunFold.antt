@@ -40,15 +40,15 @@ use Rattle.oss_roles.proofs.JobClaims.{values_keep, leaves_keep}
 use Rattle.oss_roles.proofs.WordClaims.{joins_keep, joined_gives_keep}
 
 -- a job as it stands in a slot
-record Job (S : Type 0) : Type 0 where
-  task : ℕ
-  body : Body S
-  last : Site → Option ℕ
+pub record Job (S : Type 0) : Type 0 where
+  pub task : ℕ
+  pub body : Body S
+  pub last : Site → Option ℕ
 
-record IsJob {S : Type 0} (j : Job S) (t : ℕ) (b : Body S) (l : Site → Option ℕ) : Type 0 where
-  task : j.task ≡ t
-  body : j.body ≡ b
-  last : (y : Site) → j.last y ≡ l y
+pub record IsJob {S : Type 0} (j : Job S) (t : ℕ) (b : Body S) (l : Site → Option ℕ) : Type 0 where
+  pub task : j.task ≡ t
+  pub body : j.body ≡ b
+  pub last : (y : Site) → j.last y ≡ l y
 
 when : {A : Type 0} (b : Bool) (x y : A) → b ≡ true → cond b x y ≡ x
 when true x y h = refl
@@ -99,7 +99,7 @@ module _ {S : Type 0} (P : Program S) (main : Start S) (first : List ℕ) (setti
     (act0 : act_now P (record { start = main; found = [] }) ≡ Created o false)
     (right0 : right_of (new_task P (record { start = main; found = [] }) o).body.start.context 0 ≡ Holds (Fold Add) true)
     (only0 : (c : ℕ) (m : Mode) (s : Bool) → right_of (new_task P (record { start = main; found = [] }) o).body.start.context c ≡ Holds m s → c ≡ 0) where
-  abbrev b0 : Body S
+  abbrev pub b0 : Body S
   b0 = record { start = main; found = [] }
 
   abbrev j0 : Job S
@@ -111,35 +111,35 @@ module _ {S : Type 0} (P : Program S) (main : Start S) (first : List ℕ) (setti
   abbrev v0 : Sight S
   v0 = first_sight
 
-  f0 : FieldAt P main first IsJob 3 bare (λ e. false) (λ e. None) k0 (v0 ∷ [])
-  f0 = start_field P main first IsJob setting 3 (omega (arith)) (omega (arith)) j0 infos values cell_of (record { task = refl; body = refl; last = λ y. refl })
+  f0 : FieldAt P main first IsJob 5 bare (λ e. false) (λ e. None) k0 (v0 ∷ [])
+  f0 = start_field P main first IsJob setting 5 (omega (arith)) (omega (arith)) j0 infos values cell_of (record { task = refl; body = refl; last = λ y. refl })
 
   -- the count of main is read
   abbrev v1 : Sight S
   v1 = record v0 { ready = 0 ∷ [] }
 
-  f1 : FieldAt P main first IsJob 3 bare (λ e. false) (λ e. None) k0 (v1 ∷ [])
+  f1 : FieldAt P main first IsJob 5 bare (λ e. false) (λ e. None) k0 (v1 ∷ [])
   f1 =
-      let g = ready_field P main first IsJob 3 k0 (v0 ∷ []) f0.field 0 v0 v1 refl (record { words = refl; bears = refl; makes = refl; loaded = refl; joined = refl; owes = refl }) 0 [] of_main refl refl refl refl in
+      let g = ready_field P main first IsJob 5 k0 (v0 ∷ []) f0.field 0 v0 v1 refl (record { words = refl; bears = refl; makes = refl; loaded = refl; joined = refl; owes = refl }) 0 [] of_main refl refl refl refl in
       record { field = g.field; same_net = g.same_net ∙ f0.same_net; same_gave = g.same_gave ∙ f0.same_gave; same_role = g.same_role ∙ f0.same_role }
 
   -- its job is taken
-  abbrev k2 : Parts (Job S)
+  abbrev pub k2 : Parts (Job S)
   k2 = record k0 { bodies = λ t. cond (t == 0) 2 0; jobs = λ t. None }
 
-  abbrev v2 : Bearing S → Sight S
+  abbrev pub v2 : Bearing S → Sight S
   v2 d = record v1 { bears = d ∷ [] }
 
-  record Taken (d : Bearing S) : Type 0 where
-    number : d.number ≡ 0
-    body : d.body ≡ b0
-    path : d.path ≡ []
-    last : (y : Site) → d.last y ≡ None
-    rule : FieldAt P main first IsJob 3 bare (λ e. false) (λ e. None) k2 (v2 d ∷ [])
+  pub record Taken (d : Bearing S) : Type 0 where
+    pub number : d.number ≡ 0
+    pub body : d.body ≡ b0
+    pub path : d.path ≡ []
+    pub last : (y : Site) → d.last y ≡ None
+    pub rule : FieldAt P main first IsJob 5 bare (λ e. false) (λ e. None) k2 (v2 d ∷ [])
 
   f2 : (d : Bearing S) × Taken d
   f2 =
-      let t = take_field P main first IsJob 3 k0 (v1 ∷ []) f1.field 0 v1 refl 0 (among_first refl) refl k2.bodies k2.jobs refl refl
+      let t = take_field P main first IsJob 5 k0 (v1 ∷ []) f1.field 0 v1 refl 0 (among_first refl) refl k2.bodies k2.jobs refl refl
       (λ j ne. else_ (j == 0) 2 0 (apart_from j 0 ne) ∙ sym (else_ (j == 0) 1 0 (apart_from j 0 ne))) (λ j ne. sym (else_ (j == 0) (Some j0) None (apart_from j 0 ne))) in
       let d = t.1 in
       let g = t.5 (v2 d) (record { words = refl; makes = refl; ready = refl; joined = refl; owes = refl; seen = refl }) refl refl refl in
@@ -174,16 +174,16 @@ module _ {S : Type 0} (P : Program S) (main : Start S) (first : List ℕ) (setti
         (sym zero_is, cc, cc)
 
     -- the count of the new task is set: 1, since it has no cells
-    abbrev r1 : Role
+    abbrev pub r1 : Role
     r1 = record { path = created_now P d.body ∷ d.path; site = itself; task = 1; mode = Read; strong = false; counts = false }
 
-    abbrev r2 : Role
+    abbrev pub r2 : Role
     r2 = record { path = created_now P d.body ∷ d.path; site = on 0; task = 1; mode = Fold Add; strong = true; counts = false }
 
-    abbrev role1 : ℕ → Option Role
+    abbrev pub role1 : ℕ → Option Role
     role1 e = cond (e == 1) (Some r1) (cond (e == 2) (Some r2) None)
 
-    role_is : (e : ℕ) (r : Role) → role1 e ≡ Some r → ((e ≡ 1) × (r1 ≡ r)) ⊎ ((e ≡ 2) × (r2 ≡ r))
+    pub role_is : (e : ℕ) (r : Role) → role1 e ≡ Some r → ((e ≡ 1) × (r1 ≡ r)) ⊎ ((e ≡ 2) × (r2 ≡ r))
     role_is e r h = elim (eqb_tells e 1) [
       | inl q ↦ inl (q.1, some_same r1 r (sym (when (e == 1) (Some r1) (cond (e == 2) (Some r2) None) q.0) ∙ h))
       | inr q ↦
@@ -194,7 +194,7 @@ module _ {S : Type 0} (P : Program S) (main : Start S) (first : List ℕ) (setti
           ]
     ]
 
-    uncounted : (e : ℕ) (r : Role) → role1 e ≡ Some r → r.counts ≡ false
+    pub uncounted : (e : ℕ) (r : Role) → role1 e ≡ Some r → r.counts ≡ false
     uncounted e r h = elim (role_is e r h) [ inl q ↦ ap (λ (x : Role). x.counts) (sym q.1) | inr q ↦ ap (λ (x : Role). x.counts) (sym q.1) ]
 
     abbrev making : ℕ → Making
@@ -236,11 +236,11 @@ module _ {S : Type 0} (P : Program S) (main : Start S) (first : List ℕ) (setti
           ];
         }
 
-    f3 : FieldAt P main first IsJob 3 bare (λ e. false) role1 k3 (v3 0 ∷ [])
+    f3 : FieldAt P main first IsJob 5 bare (λ e. false) role1 k3 (v3 0 ∷ [])
     f3 =
         let f = t.rule in
         let plans' = subst (λ (n : Net). Plans n f.field.role role1 1 (created_now P d.body ∷ d.path)) (sym f.same_net) (subst (λ (x : ℕ → Option Role). Plans bare x role1 1 (created_now P d.body ∷ d.path)) (sym f.same_role) plans) in
-        let g = plan_field P main first IsJob 3 k2 (v2 d ∷ []) f.field 0 (v2 d) (v3 0) refl 0 d refl o act 1 role1 plans'
+        let g = plan_field P main first IsJob 5 k2 (v2 d ∷ []) f.field 0 (v2 d) (v3 0) refl 0 d refl o act 1 role1 plans'
         (λ e r h. elim (role_is e r h) [ inl q ↦ (let z = q.0 in omega (arith, z)) | inr q ↦ (let z = q.0 in omega (arith, z)) ]) (λ h. let z : 1 ≡ 0 = h in absurd (omega (arith, z))) (making 0) t.number refl refl
         (λ c m s h. let w = right_now c m s h in (
           2,
@@ -257,7 +257,7 @@ module _ {S : Type 0} (P : Program S) (main : Start S) (first : List ℕ) (setti
         record { field = g.field; same_net = g.same_net ∙ f.same_net; same_gave = g.same_gave ∙ f.same_gave; same_role = g.same_role }
 
     -- its own entry is filled
-    abbrev open_flags : EntryState
+    abbrev pub open_flags : EntryState
     open_flags = record no_flags { reads = true; folds = true; writes = true; clear = true }
 
     abbrev info1 : EntryInfo
@@ -269,7 +269,7 @@ module _ {S : Type 0} (P : Program S) (main : Start S) (first : List ℕ) (setti
     blank : (p : Place) → p ≡ apart → Blank p no_flags
     blank p h = record { linked = refl; headed = refl; left = refl; folds = refl; reads = refl; writes = refl; clear = refl }
 
-    fills : Fills 3 bare k3.states k4.states k3.infos k4.infos 1
+    fills : Fills 5 bare k3.states k4.states k3.infos k4.infos 1
     fills =
         record {
           inside = omega (arith);
@@ -284,10 +284,10 @@ module _ {S : Type 0} (P : Program S) (main : Start S) (first : List ℕ) (setti
           other_infos = λ j ne. else_ (j == 1) info1 (infos j) (apart_from j 1 ne);
         }
 
-    f4 : FieldAt P main first IsJob 3 bare (λ e. false) role1 k4 (v3 0 ∷ [])
+    f4 : FieldAt P main first IsJob 5 bare (λ e. false) role1 k4 (v3 0 ∷ [])
     f4 =
-        let fills' = subst (λ (n : Net). Fills 3 n k3.states k4.states k3.infos k4.infos 1) (sym f3.same_net) fills in
-        let g = fill_field P main first IsJob 3 k3 (v3 0 ∷ []) f3.field 1 k4.states k4.infos k3.cell_of fills' (λ j ne. refl)
+        let fills' = subst (λ (n : Net). Fills 5 n k3.states k4.states k3.infos k4.infos 1) (sym f3.same_net) fills in
+        let g = fill_field P main first IsJob 5 k3 (v3 0 ∷ []) f3.field 1 k4.states k4.infos k3.cell_of fills' (λ j ne. refl)
         (inr (λ r h. uncounted 1 r (sym (ap (λ (z : ℕ → Option Role). z 1) f3.same_role) ∙ h))) in
         record { field = g.field; same_net = g.same_net ∙ f3.same_net; same_gave = g.same_gave ∙ f3.same_gave; same_role = g.same_role ∙ f3.same_role }
 
@@ -298,7 +298,7 @@ module _ {S : Type 0} (P : Program S) (main : Start S) (first : List ℕ) (setti
     abbrev k4b : Parts (Job S)
     k4b = record k4 { states = λ e. cond (e == 2) open_flags (cond (e == 1) open_flags no_flags); infos = λ e. cond (e == 2) info2 (cond (e == 1) info1 (infos e)); cell_of = λ e. cond (e == 2) 0 (cell_of e) }
 
-    fills2 : Fills 3 bare k4.states k4b.states k4.infos k4b.infos 2
+    fills2 : Fills 5 bare k4.states k4b.states k4.infos k4b.infos 2
     fills2 =
         record {
           inside = omega (arith);
@@ -313,10 +313,10 @@ module _ {S : Type 0} (P : Program S) (main : Start S) (first : List ℕ) (setti
           other_infos = λ j ne. else_ (j == 2) info2 (k4.infos j) (apart_from j 2 ne);
         }
 
-    f4b : FieldAt P main first IsJob 3 bare (λ e. false) role1 k4b (v3 0 ∷ [])
+    f4b : FieldAt P main first IsJob 5 bare (λ e. false) role1 k4b (v3 0 ∷ [])
     f4b =
-        let fills' = subst (λ (n : Net). Fills 3 n k4.states k4b.states k4.infos k4b.infos 2) (sym f4.same_net) fills2 in
-        let g = fill_field P main first IsJob 3 k4 (v3 0 ∷ []) f4.field 2 k4b.states k4b.infos k4b.cell_of fills' (λ j ne. else_ (j == 2) 0 (cell_of j) (apart_from j 2 ne))
+        let fills' = subst (λ (n : Net). Fills 5 n k4.states k4b.states k4.infos k4b.infos 2) (sym f4.same_net) fills2 in
+        let g = fill_field P main first IsJob 5 k4 (v3 0 ∷ []) f4.field 2 k4b.states k4b.infos k4b.cell_of fills' (λ j ne. else_ (j == 2) 0 (cell_of j) (apart_from j 2 ne))
         (inr (λ r h. uncounted 2 r (sym (ap (λ (z : ℕ → Option Role). z 2) f4.same_role) ∙ h))) in
         record { field = g.field; same_net = g.same_net ∙ f4.same_net; same_gave = g.same_gave ∙ f4.same_gave; same_role = g.same_role ∙ f4.same_role }
 
@@ -339,7 +339,7 @@ module _ {S : Type 0} (P : Program S) (main : Start S) (first : List ℕ) (setti
           how = first_of_main refl refl refl refl;
         }
 
-    begun : Begun 3 bare net1 k4b.states k4b.infos 1
+    begun : Begun 5 bare net1 k4b.states k4b.infos 1
     begun =
         record {
           adds = adds;
@@ -360,25 +360,25 @@ module _ {S : Type 0} (P : Program S) (main : Start S) (first : List ℕ) (setti
     first_making : (s : ℕ) → Among (making s) (v3 s).makes
     first_making s = among_first refl
 
-    f5 : FieldAt P main first IsJob 3 net1 (λ e. false) role1 k4b (v3 0 ∷ [])
+    f5 : FieldAt P main first IsJob 5 net1 (λ e. false) role1 k4b (v3 0 ∷ [])
     f5 =
         let f = f4b.field in
         let is : f.role 1 ≡ Some r1 = ap (λ (z : ℕ → Option Role). z 1) f4b.same_role in
-        let begun' = subst (λ (n : Net). Begun 3 n net1 k4b.states k4b.infos 1) (sym f4b.same_net) begun in
+        let begun' = subst (λ (n : Net). Begun 5 n net1 k4b.states k4b.infos 1) (sym f4b.same_net) begun in
         let adds' = subst (λ (n : Net). Adds n net1 1) (sym f4b.same_net) adds in
-        let words = begun_words 3 f.net net1 f.gave k4b.states k4b.infos ((v3 0).words ∷ []) 1 f.words begun' in
+        let words = begun_words 5 f.net net1 f.gave k4b.states k4b.infos ((v3 0).words ∷ []) 1 f.words begun' in
         let g = f.made 0 (v3 0) refl (making 0) (first_making 0) in
         let one : d ≡ g.creator = (only d g.place g.creator g.held).1 in
         let loose : f.net.place 1 ≡ apart = ap (λ (n : Net). n.place 1) f4b.same_net in
-        let new = new_path P main first IsJob 3 k4b (v3 0 ∷ []) f 0 (v3 0) refl (making 0) (first_making 0) 1 r1 is refl loose in
-        let hang = hangs_first P main first IsJob 3 k4b (v3 0 ∷ []) f 0 (v3 0) refl (making 0) (first_making 0) 1 r1 is refl loose net1
+        let new = new_path P main first IsJob 5 k4b (v3 0 ∷ []) f 0 (v3 0) refl (making 0) (first_making 0) 1 r1 is refl loose in
+        let hang = hangs_first P main first IsJob 5 k4b (v3 0 ∷ []) f 0 (v3 0) refl (making 0) (first_making 0) 1 r1 is refl loose net1
         (ap (λ (z : Bearing S). z.last itself) (sym one) ∙ t.last itself) (ap (λ (z : Bearing S). z.path) (sym one) ∙ t.path) refl in
-        let x = link_field P main first IsJob 3 k4b (v3 0 ∷ []) f 0 (v3 0) (v3 0) refl (record { bears = refl; makes = refl; ready = refl; loaded = refl; joined = refl; seen = refl; still = refl }) refl
+        let x = link_field P main first IsJob 5 k4b (v3 0 ∷ []) f 0 (v3 0) (v3 0) refl (record { bears = refl; makes = refl; ready = refl; loaded = refl; joined = refl; seen = refl; still = refl }) refl
         (making 0) (first_making 0) 1 r1 is refl net1 k4b.states adds' words (λ e. leaves_same (k4b.states e)) (λ z a. elim a [ ]) (created_now P g.creator.body) g.creator.path new (refl, refl, refl) hang
         (λ c s. let z : false ≡ true = s in absurd (let bad : ⊥ = cc in bad)) (λ c h. let z : itself ≡ on c = h in absurd (let bad : ⊥ = cc in bad)) in
         record { field = x.field; same_net = x.same_net; same_gave = x.same_gave ∙ f4b.same_gave; same_role = x.same_role ∙ f4b.same_role }
 
-    abbrev net2 : Net
+    abbrev pub net2 : Net
     net2 = record { place = λ e. cond (e == 2) top (cond (e == 1) top apart); parent = λ e. 0; lead = λ e. e; depth = λ e. cond (e == 2) 1 (cond (e == 1) 1 0); mode = λ e. cond (e == 2) (Fold Add) (cond (e == 1) Read Write); last = λ e. cond (e == 0) 2 0 }
 
     adds2 : Adds net1 net2 2
@@ -396,7 +396,7 @@ module _ {S : Type 0} (P : Program S) (main : Start S) (first : List ℕ) (setti
           how = first_of_main refl refl refl refl;
         }
 
-    begun2 : Begun 3 net1 net2 k4b.states k4b.infos 2
+    begun2 : Begun 5 net1 net2 k4b.states k4b.infos 2
     begun2 =
         record {
           adds = adds2;
@@ -414,26 +414,26 @@ module _ {S : Type 0} (P : Program S) (main : Start S) (first : List ℕ) (setti
           clear = refl;
         }
 
-    f5b : FieldAt P main first IsJob 3 net2 (λ e. false) role1 k4b (v3 0 ∷ [])
+    f5b : FieldAt P main first IsJob 5 net2 (λ e. false) role1 k4b (v3 0 ∷ [])
     f5b =
         let f = f5.field in
         let is : f.role 2 ≡ Some r2 = ap (λ (z : ℕ → Option Role). z 2) f5.same_role in
-        let begun' = subst (λ (n : Net). Begun 3 n net2 k4b.states k4b.infos 2) (sym f5.same_net) begun2 in
+        let begun' = subst (λ (n : Net). Begun 5 n net2 k4b.states k4b.infos 2) (sym f5.same_net) begun2 in
         let adds' = subst (λ (n : Net). Adds n net2 2) (sym f5.same_net) adds2 in
-        let words = begun_words 3 f.net net2 f.gave k4b.states k4b.infos ((v3 0).words ∷ []) 2 f.words begun' in
+        let words = begun_words 5 f.net net2 f.gave k4b.states k4b.infos ((v3 0).words ∷ []) 2 f.words begun' in
         let g = f.made 0 (v3 0) refl (making 0) (first_making 0) in
         let one : d ≡ g.creator = (only d g.place g.creator g.held).1 in
         let loose : f.net.place 2 ≡ apart = ap (λ (n : Net). n.place 2) f5.same_net in
-        let new = new_path P main first IsJob 3 k4b (v3 0 ∷ []) f 0 (v3 0) refl (making 0) (first_making 0) 2 r2 is refl loose in
-        let hang = hangs_first P main first IsJob 3 k4b (v3 0 ∷ []) f 0 (v3 0) refl (making 0) (first_making 0) 2 r2 is refl loose net2
+        let new = new_path P main first IsJob 5 k4b (v3 0 ∷ []) f 0 (v3 0) refl (making 0) (first_making 0) 2 r2 is refl loose in
+        let hang = hangs_first P main first IsJob 5 k4b (v3 0 ∷ []) f 0 (v3 0) refl (making 0) (first_making 0) 2 r2 is refl loose net2
         (ap (λ (z : Bearing S). z.last (on 0)) (sym one) ∙ t.last (on 0)) (ap (λ (z : Bearing S). z.path) (sym one) ∙ t.path) refl in
-        let x = link_field P main first IsJob 3 k4b (v3 0 ∷ []) f 0 (v3 0) (v3 0) refl (record { bears = refl; makes = refl; ready = refl; loaded = refl; joined = refl; seen = refl; still = refl }) refl
+        let x = link_field P main first IsJob 5 k4b (v3 0 ∷ []) f 0 (v3 0) (v3 0) refl (record { bears = refl; makes = refl; ready = refl; loaded = refl; joined = refl; seen = refl; still = refl }) refl
         (making 0) (first_making 0) 2 r2 is refl net2 k4b.states adds' words (λ e. leaves_same (k4b.states e)) (λ z a. elim a [ ]) (created_now P g.creator.body) g.creator.path new (refl, refl, refl) hang
         (λ c s. refl) (λ c h. let z : on 0 ≡ on c = h in cc) in
         record { field = x.field; same_net = x.same_net; same_gave = x.same_gave ∙ f5.same_gave; same_role = x.same_role ∙ f5.same_role }
 
     -- the new job is put into its slot, in two steps
-    abbrev j1 : Job S
+    abbrev pub j1 : Job S
     j1 = record { task = 1; body = (new_task P d.body o).body; last = λ y. None }
 
     abbrev k6 : Parts (Job S)
@@ -442,21 +442,21 @@ module _ {S : Type 0} (P : Program S) (main : Start S) (first : List ℕ) (setti
     abbrev k7 : Parts (Job S)
     k7 = record k4b { bodies = λ e. cond (e == 1) 1 (cond (e == 0) 2 0); jobs = λ e. cond (e == 1) (Some j1) None }
 
-    f6 : FieldAt P main first IsJob 3 net2 (λ e. false) role1 k6 (v3 1 ∷ [])
+    f6 : FieldAt P main first IsJob 5 net2 (λ e. false) role1 k6 (v3 1 ∷ [])
     f6 =
-        let x = stage_field P main first IsJob 3 k4b (v3 0 ∷ []) f5b.field 0 (v3 0) (v3 1) refl (making 0) (making 1) (first_making 0) (first_making 1) refl refl
+        let x = stage_field P main first IsJob 5 k4b (v3 0 ∷ []) f5b.field 0 (v3 0) (v3 1) refl (making 0) (making 1) (first_making 0) (first_making 1) refl refl
         (λ a h. inl (sym (among_one (making 1) a h))) (λ a h. (making 1, first_making 1, ap (λ (z : Making). z.task) (among_one (making 0) a h)))
         k6.bodies k6.jobs (λ j ne. else_ (j == 1) 2 (k2.bodies j) (apart_from j 1 ne)) (λ j ne. refl) (going refl refl refl) refl refl refl refl refl refl refl refl
         (λ j y sits a h q. (only (v3 0) j y sits).0) in
         record { field = x.field; same_net = x.same_net ∙ f5b.same_net; same_gave = x.same_gave ∙ f5b.same_gave; same_role = x.same_role ∙ f5b.same_role }
 
-    f7 : FieldAt P main first IsJob 3 net2 (λ e. false) role1 k7 (v3 2 ∷ [])
+    f7 : FieldAt P main first IsJob 5 net2 (λ e. false) role1 k7 (v3 2 ∷ [])
     f7 =
         let g = f6.field.made 0 (v3 1) refl (making 1) (first_making 1) in
         let one : d ≡ g.creator = (only d g.place g.creator g.held).1 in
         let order : o ≡ g.order = order_same o g.order (sym act ∙ ap (λ (z : Bearing S). act_now P z.body) one ∙ g.act) in
         let body : (new_task P d.body o).body ≡ (new_task P g.creator.body g.order).body = ap (λ (z : Bearing S). (new_task P z.body o).body) one ∙ ap (λ (z : Order S). (new_task P g.creator.body z).body) order in
-        let x = stage_field P main first IsJob 3 k6 (v3 1 ∷ []) f6.field 0 (v3 1) (v3 2) refl (making 1) (making 2) (first_making 1) (first_making 2) refl refl
+        let x = stage_field P main first IsJob 5 k6 (v3 1 ∷ []) f6.field 0 (v3 1) (v3 2) refl (making 1) (making 2) (first_making 1) (first_making 2) refl refl
         (λ a h. inl (sym (among_one (making 2) a h))) (λ a h. (making 2, first_making 2, ap (λ (z : Making). z.task) (among_one (making 1) a h)))
         k7.bodies k7.jobs (λ j ne. else_ (j == 1) 1 (k2.bodies j) (apart_from j 1 ne) ∙ sym (else_ (j == 1) 2 (k2.bodies j) (apart_from j 1 ne))) (λ j ne. else_ (j == 1) (Some j1) None (apart_from j 1 ne))
         (is_put j1 refl refl refl (record { task = refl; body = body; last = λ y. refl })) refl refl refl refl refl refl refl refl
@@ -464,23 +464,23 @@ module _ {S : Type 0} (P : Program S) (main : Start S) (first : List ℕ) (setti
         record { field = x.field; same_net = x.same_net ∙ f6.same_net; same_gave = x.same_gave ∙ f6.same_gave; same_role = x.same_role ∙ f6.same_role }
 
     -- the count down that opens it
-    abbrev c : Bearing S
+    abbrev pub c : Bearing S
     c = record { number = d.number; path = d.path; body = with_answer 0 d.body; last = last_one }
 
-    abbrev v8 : Sight S
+    abbrev pub v8 : Sight S
     v8 = record v1 { bears = c ∷ [] }
 
-    abbrev k8 : Parts (Job S)
+    abbrev pub k8 : Parts (Job S)
     k8 = record k7 { counts = λ e. cond (e == 1) 0 (cond (e == 0) 0 18446744073709551615) }
 
-    f8 : FieldAt P main first IsJob 3 net2 (λ e. false) role1 k8 (v8 ∷ [])
+    pub f8 : FieldAt P main first IsJob 5 net2 (λ e. false) role1 k8 (v8 ∷ [])
     f8 =
         let f = f7.field in
         let role_at : (e : ℕ) (r : Role) → f.role e ≡ Some r → ((e ≡ 1) × (r1 ≡ r)) ⊎ ((e ≡ 2) × (r2 ≡ r)) = λ e r h. role_is e r (sym (ap (λ (z : ℕ → Option Role). z e) f7.same_role) ∙ h) in
         let g = f.made 0 (v3 2) refl (making 2) (first_making 2) in
         let held = only d g.place g.creator g.held in
         let one : d ≡ g.creator = held.1 in
-        let x = open_field P main first IsJob 3 k7 (v3 2 ∷ []) f 0 (v3 2) v8 refl (making 2) (first_making 2) refl (λ h. let z : 1 ≡ 0 = h in absurd (omega (arith, z)))
+        let x = open_field P main first IsJob 5 k7 (v3 2 ∷ []) f 0 (v3 2) v8 refl (making 2) (first_making 2) refl (λ h. let z : 1 ≡ 0 = h in absurd (omega (arith, z)))
         (λ e r h q. hangs e r (role_at e r h) (ap (λ (n : Net). n.place e) f7.same_net))
         c (ap (λ (z : ℕ). set (d ∷ []) z c) (sym held.0)) (ap (λ (z : Bearing S). z.number) one) (ap (λ (z : Bearing S). z.path) one) (ap (λ (z : Bearing S). with_answer 0 z.body) one)
         (λ y. last_at f.role role_at (ap (λ (z : ℕ → Option Role). z 1) f7.same_role) (ap (λ (z : ℕ → Option Role). z 2) f7.same_role) g.creator one y)
@@ -510,10 +510,10 @@ module _ {S : Type 0} (P : Program S) (main : Start S) (first : List ℕ) (setti
     abbrev v9 : Sight S
     v9 = record v8 { ready = 1 ∷ 0 ∷ [] }
 
-    f9 : FieldAt P main first IsJob 3 net2 (λ e. false) role1 k8 (v9 ∷ [])
+    f9 : FieldAt P main first IsJob 5 net2 (λ e. false) role1 k8 (v9 ∷ [])
     f9 =
         let is : f8.field.role 1 ≡ Some r1 = ap (λ (z : ℕ → Option Role). z 1) f8.same_role in
-        let g = ready_field P main first IsJob 3 k8 (v8 ∷ []) f8.field 0 v8 v9 refl (record { words = refl; bears = refl; makes = refl; loaded = refl; joined = refl; owes = refl }) 1 r1.path (of_entry r1 is refl refl) refl refl refl refl in
+        let g = ready_field P main first IsJob 5 k8 (v8 ∷ []) f8.field 0 v8 v9 refl (record { words = refl; bears = refl; makes = refl; loaded = refl; joined = refl; owes = refl }) 1 r1.path (of_entry r1 is refl refl) refl refl refl refl in
         record { field = g.field; same_net = g.same_net ∙ f8.same_net; same_gave = g.same_gave ∙ f8.same_gave; same_role = g.same_role ∙ f8.same_role }
 
     abbrev k10 : Parts (Job S)
@@ -526,11 +526,11 @@ module _ {S : Type 0} (P : Program S) (main : Start S) (first : List ℕ) (setti
       number : x.number ≡ 1
       body : x.body ≡ (new_task P d.body o).body
       path : x.path ≡ created_now P d.body ∷ d.path
-      rule : FieldAt P main first IsJob 3 net2 (λ e. false) role1 k10 (v10 x ∷ [])
+      rule : FieldAt P main first IsJob 5 net2 (λ e. false) role1 k10 (v10 x ∷ [])
 
     f10 : (x : Bearing S) × Fetched x
     f10 =
-        let y = take_field P main first IsJob 3 k8 (v9 ∷ []) f9.field 0 v9 refl 1 (among_first refl) refl k10.bodies k10.jobs refl refl
+        let y = take_field P main first IsJob 5 k8 (v9 ∷ []) f9.field 0 v9 refl 1 (among_first refl) refl k10.bodies k10.jobs refl refl
         (λ j ne. else_ (j == 1) 2 (k2.bodies j) (apart_from j 1 ne) ∙ sym (else_ (j == 1) 1 (k2.bodies j) (apart_from j 1 ne))) (λ j ne. sym (else_ (j == 1) (Some j1) None (apart_from j 1 ne))) in
         let x = y.1 in
         let g = y.5 (v10 x) (record { words = refl; makes = refl; ready = refl; joined = refl; owes = refl; seen = refl }) refl refl refl in
@@ -567,10 +567,10 @@ module _ {S : Type 0} (P : Program S) (main : Start S) (first : List ℕ) (setti
       step : JobGoes (v10 x) (v10 x) 0 x x
       step = record { has = refl; bears = refl; number = refl; path = refl; last = refl; start = refl; makes = refl; ready = refl; joined = refl }
 
-      f11 : FieldAt P main first IsJob 3 net2 (λ e. false) role1 k11 (v10 x ∷ [])
+      f11 : FieldAt P main first IsJob 5 net2 (λ e. false) role1 k11 (v10 x ∷ [])
       f11 =
           let f = y.rule.field in
-          let g = values_keep S (Job S) IsJob P main first 3 k10 (v10 x ∷ []) f 0 (v10 x) (v10 x) 0 x x x.body 2 r2 value k11.values (record {
+          let g = values_keep S (Job S) IsJob P main first 5 k10 (v10 x ∷ []) f 0 (v10 x) (v10 x) 0 x x x.body 2 r2 value k11.values (record {
             entry = record {
               with_job = record { sits = refl; job = step; alone = still_there };
               loaded = λ a h. elim h [ ];
@@ -608,13 +608,13 @@ module _ {S : Type 0} (P : Program S) (main : Start S) (first : List ℕ) (setti
             whole = refl;
           }
 
-      f12 : FieldAt P main first IsJob 3 net2 (λ e. false) role1 k12 (v12 ∷ [])
+      f12 : FieldAt P main first IsJob 5 net2 (λ e. false) role1 k12 (v12 ∷ [])
       f12 =
           let f = f11.field in
           let is : f.role 2 ≡ Some r2 = ap (λ (z : ℕ → Option Role). z 2) f11.same_role in
           let hangs : f.net.place 2 ≢ apart = λ h. let z : top ≡ apart = ap (λ (n : Net). n.place 2) (sym f11.same_net) ∙ h in let bad : ⊥ = cc in bad in
           let go : JobGoes (v10 x) v12 0 x x = record { has = refl; bears = refl; number = refl; path = refl; last = refl; start = refl; makes = refl; ready = refl; joined = refl } in
-          let g = leaves_keep S (Job S) IsJob P main first 3 k11 (v10 x ∷ []) f 0 (v10 x) v12 0 x x x.body 2 r2 k12.states 0 Add (record {
+          let g = leaves_keep S (Job S) IsJob P main first 5 k11 (v10 x ∷ []) f 0 (v10 x) v12 0 x x x.body 2 r2 k12.states 0 Add (record {
             entry = record {
               with_job = record { sits = refl; job = go; alone = still_there };
               loaded = λ a h. elim h [ ];
@@ -646,9 +646,9 @@ module _ {S : Type 0} (P : Program S) (main : Start S) (first : List ℕ) (setti
       holds : Has (record { entry = 2; flag = 0 }) v12.words.held
       holds = head refl refl
 
-      f13 : FieldAt P main first IsJob 3 net2 (λ e. false) role1 k13 (v13 ∷ [])
+      f13 : FieldAt P main first IsJob 5 net2 (λ e. false) role1 k13 (v13 ∷ [])
       f13 =
-          let g = joins_keep S (Job S) IsJob P main first 3 k12 (v12 ∷ []) f12.field 0 v12 v13 2 0 Add (record {
+          let g = joins_keep S (Job S) IsJob P main first 5 k12 (v12 ∷ []) f12.field 0 v12 v13 2 0 Add (record {
             sits = refl;
             held = holds;
             others = λ z h. elim h [ ];
@@ -681,12 +681,12 @@ module _ {S : Type 0} (P : Program S) (main : Start S) (first : List ℕ) (setti
             whole = refl;
           }
 
-      f14 : FieldAt P main first IsJob 3 net2 gave2 role1 k14 (v14 ∷ [])
+      f14 : FieldAt P main first IsJob 5 net2 gave2 role1 k14 (v14 ∷ [])
       f14 =
           let f = f13.field in
           let up : GivesUp f.gave gave2 2 = record { now = refl; same = λ j ne. else_ (j == 2) true false (apart_from j 2 ne) ∙ ap (λ (z : ℕ → Bool). z j) (sym f13.same_gave) } in
           let joins' = subst (λ (n : Net). JoinsGives n k13.states k14.states k13.infos 2 [] v13.words v14.words) (sym f13.same_net) joins in
-          let g = joined_gives_keep S (Job S) IsJob P main first 3 k13 (v13 ∷ []) f 0 v13 v14 2 k14.states gave2 (record {
+          let g = joined_gives_keep S (Job S) IsJob P main first 5 k13 (v13 ∷ []) f 0 v13 v14 2 k14.states gave2 (record {
             sits = refl;
             joined = refl;
             none = refl;
