@@ -39,6 +39,7 @@ pub mod RunSibling
 pub mod RunStore
 pub mod RunTest
 pub mod RunWait
+pub mod RunWeak
 pub mod RunWrite
 pub mod SeatLaw
 pub mod StartLaw

@@ -159,12 +159,12 @@ module _ {S : Type 0} (P : Program S) (main : Start S) (first : List ℕ) (setti
       abbrev k11 : Parts (Job S)
       k11 = record k10 { counts = λ e. cond (e == 3) 2 (k10.counts e) }
 
-      g1 : FieldAt P main first IsJob 5 net2 (λ e. false) role3 k11 (u 0 ∷ [])
+      g1 : FieldAt P main first IsJob 7 net2 (λ e. false) role3 k11 (u 0 ∷ [])
       g1 =
           let f = y.rule.field in
-          let fresh : (e : ℕ) (r : Role) → role1 e ≡ Some r → r.path ≢ created_now P x.body ∷ x.path = λ e r h. new_paths_are_free S (Job S) IsJob P main first 5 k10 (v10 x ∷ []) f 0 0 (v10 x) x e r refl refl (λ a among. elim among [ ]) (ap (λ (z : ℕ → Option Role). z e) y.rule.same_role ∙ h) in
+          let fresh : (e : ℕ) (r : Role) → role1 e ≡ Some r → r.path ≢ created_now P x.body ∷ x.path = λ e r h. new_paths_are_free S (Job S) IsJob P main first 7 k10 (v10 x ∷ []) f 0 0 (v10 x) x e r refl refl (λ a among. elim among [ ]) (ap (λ (z : ℕ → Option Role). z e) y.rule.same_role ∙ h) in
           let plans' = subst (λ (n : Net). Plans n f.role role3 3 (created_now P x.body ∷ x.path)) (sym y.rule.same_net) (subst (λ (z : ℕ → Option Role). Plans net2 z role3 3 (created_now P x.body ∷ x.path)) (sym y.rule.same_role) (plans3 fresh)) in
-          let g = plans_keep S (Job S) IsJob P main first 5 k10 (v10 x ∷ []) f 0 (v10 x) (u 0) 0 x o2 3 role3 (making 0) k11.counts (record {
+          let g = plans_keep S (Job S) IsJob P main first 7 k10 (v10 x ∷ []) f 0 (v10 x) (u 0) 0 x o2 3 role3 (making 0) k11.counts (record {
             sits = refl;
             has = refl;
             act = act;
@@ -221,9 +221,9 @@ module _ {S : Type 0} (P : Program S) (main : Start S) (first : List ℕ) (setti
       abbrev k13 : Parts (Job S)
       k13 = record k11 { states = λ e. cond (e == 4) clear_flag (cond (e == 3) clear_flag (k10.states e)); infos = λ e. cond (e == 4) info4 (cond (e == 3) info3 (k10.infos e)); cell_of = λ e. cond (e == 4) 0 (k10.cell_of e) }
 
-      g2 : FieldAt P main first IsJob 5 net2 (λ e. false) role3 k12 (u 0 ∷ [])
+      g2 : FieldAt P main first IsJob 7 net2 (λ e. false) role3 k12 (u 0 ∷ [])
       g2 =
-          let fills : Fills 5 net2 k11.states k12.states k11.infos k12.infos 3 = record {
+          let fills : Fills 7 net2 k11.states k12.states k11.infos k12.infos 3 = record {
             inside = omega (arith);
             loose = refl;
             blank_before = record { linked = refl; headed = refl; left = refl; folds = refl; reads = refl; writes = refl; clear = refl };
@@ -235,16 +235,16 @@ module _ {S : Type 0} (P : Program S) (main : Start S) (first : List ℕ) (setti
             others = λ j ne. else_ (j == 3) clear_flag (k11.states j) (apart_from j 3 ne);
             other_infos = λ j ne. else_ (j == 3) info3 (k11.infos j) (apart_from j 3 ne);
           } in
-          let g = fills_keep S (Job S) IsJob P main first 5 k11 (u 0 ∷ []) g1.field 3 k12.states k12.infos k12.cell_of (record {
-            fills = subst (λ (n : Net). Fills 5 n k11.states k12.states k11.infos k12.infos 3) (sym g1.same_net) fills;
+          let g = fills_keep S (Job S) IsJob P main first 7 k11 (u 0 ∷ []) g1.field 3 k12.states k12.infos k12.cell_of (record {
+            fills = subst (λ (n : Net). Fills 7 n k11.states k12.states k11.infos k12.infos 3) (sym g1.same_net) fills;
             cells = λ j ne. refl;
             flags = inl (refl, refl);
           }) in
           record { field = g.field; same_net = g.same_net ∙ g1.same_net; same_gave = g.same_gave ∙ g1.same_gave; same_role = g.same_role ∙ g1.same_role }
 
-      g3 : FieldAt P main first IsJob 5 net2 (λ e. false) role3 k13 (u 0 ∷ [])
+      g3 : FieldAt P main first IsJob 7 net2 (λ e. false) role3 k13 (u 0 ∷ [])
       g3 =
-          let fills : Fills 5 net2 k12.states k13.states k12.infos k13.infos 4 = record {
+          let fills : Fills 7 net2 k12.states k13.states k12.infos k13.infos 4 = record {
             inside = omega (arith);
             loose = refl;
             blank_before = record { linked = refl; headed = refl; left = refl; folds = refl; reads = refl; writes = refl; clear = refl };
@@ -256,8 +256,8 @@ module _ {S : Type 0} (P : Program S) (main : Start S) (first : List ℕ) (setti
             others = λ j ne. else_ (j == 4) clear_flag (k12.states j) (apart_from j 4 ne);
             other_infos = λ j ne. else_ (j == 4) info4 (k12.infos j) (apart_from j 4 ne);
           } in
-          let g = fills_keep S (Job S) IsJob P main first 5 k12 (u 0 ∷ []) g2.field 4 k13.states k13.infos k13.cell_of (record {
-            fills = subst (λ (n : Net). Fills 5 n k12.states k13.states k12.infos k13.infos 4) (sym g2.same_net) fills;
+          let g = fills_keep S (Job S) IsJob P main first 7 k12 (u 0 ∷ []) g2.field 4 k13.states k13.infos k13.cell_of (record {
+            fills = subst (λ (n : Net). Fills 7 n k12.states k13.states k12.infos k13.infos 4) (sym g2.same_net) fills;
             cells = λ j ne. else_ (j == 4) 0 (k10.cell_of j) (apart_from j 4 ne);
             flags = inl (refl, refl);
           }) in
@@ -303,7 +303,7 @@ module _ {S : Type 0} (P : Program S) (main : Start S) (first : List ℕ) (setti
       abbrev w14 : Sight S
       w14 = record (u 0) { words = record first_view { held = record { entry = 3; flag = 3 } ∷ record { entry = 3; flag = 4 } ∷ [] } }
 
-      links3 : Links 5 net2 net3 k13.states k14.states k13.infos 1 3 (u 0).words w14.words
+      links3 : Links 7 net2 net3 k13.states k14.states k13.infos 1 3 (u 0).words w14.words
       links3 =
           record {
             adds = record {
@@ -339,18 +339,18 @@ module _ {S : Type 0} (P : Program S) (main : Start S) (first : List ℕ) (setti
             whole = refl;
           }
 
-      g4 : FieldAt P main first IsJob 5 net3 (λ e. false) role3 k14 (w14 ∷ [])
+      g4 : FieldAt P main first IsJob 7 net3 (λ e. false) role3 k14 (w14 ∷ [])
       g4 =
           let f = g3.field in
           let up : Filed f.net f.role x.path r3.site = record { entry = 1; it = r1; is = ap (λ (z : ℕ → Option Role). z 1) g3.same_role; hangs = λ h. (let z : top ≡ apart = ap (λ (n : Net). n.place 1) (sym g3.same_net) ∙ h in let bad : ⊥ = cc in bad); path = sym y.path; site = refl } in
-          let g = links_keep S (Job S) IsJob P main first 5 k13 (u 0 ∷ []) f 0 (u 0) w14 0 x (making 0) 3 r3 net3 k14.states (record {
+          let g = links_keep S (Job S) IsJob P main first 7 k13 (u 0 ∷ []) f 0 (u 0) w14 0 x (making 0) 3 r3 net3 k14.states (record {
             sits = refl;
             has = refl;
             by = y.number;
             among = making_first 0;
             is = ap (λ (z : ℕ → Option Role). z 3) g3.same_role;
             task = refl;
-            linked = below_creator up (y.last r3.site) refl (subst (λ (n : Net). Links 5 n net3 k13.states k14.states k13.infos 1 3 (u 0).words w14.words) (sym g3.same_net) links3);
+            linked = below_creator up (y.last r3.site) refl (subst (λ (n : Net). Links 7 n net3 k13.states k14.states k13.infos 1 3 (u 0).words w14.words) (sym g3.same_net) links3);
             told = (refl, refl, refl);
             starts = λ e s. let z : false ≡ true = s in absurd (let bad : ⊥ = cc in bad);
             cell = λ e h. let z : itself ≡ on e = h in absurd (let bad : ⊥ = cc in bad);
@@ -381,7 +381,7 @@ module _ {S : Type 0} (P : Program S) (main : Start S) (first : List ℕ) (setti
       abbrev k16 : Parts (Job S)
       k16 = record k15 { states = λ e. cond (e == 3) (record clear_flag { reads = true; writes = true }) (k15.states e) }
 
-      g5 : FieldAt P main first IsJob 5 net3 (λ e. false) role3 k15 (w15 ∷ [])
+      g5 : FieldAt P main first IsJob 7 net3 (λ e. false) role3 k15 (w15 ∷ [])
       g5 =
           let word : Delivers net3 k14.states k15.states k14.infos (record { entry = 3; flag = 3 }) (record { entry = 3; flag = 4 } ∷ []) w14.words w15.words = record {
             took = λ h. refl;
@@ -392,7 +392,7 @@ module _ {S : Type 0} (P : Program S) (main : Start S) (first : List ℕ) (setti
             sends = refl;
             whole = refl;
           } in
-          let g = deliveries_keep S (Job S) IsJob P main first 5 k14 (w14 ∷ []) g4.field 0 w14 w15 (record { entry = 3; flag = 3 }) (record { entry = 3; flag = 4 } ∷ []) k15.states (record {
+          let g = deliveries_keep S (Job S) IsJob P main first 7 k14 (w14 ∷ []) g4.field 0 w14 w15 (record { entry = 3; flag = 3 }) (record { entry = 3; flag = 4 } ∷ []) k15.states (record {
             sits = refl;
             word = subst (λ (n : Net). Delivers n k14.states k15.states k14.infos (record { entry = 3; flag = 3 }) (record { entry = 3; flag = 4 } ∷ []) w14.words w15.words) (sym g4.same_net) word;
             none = refl;
@@ -401,7 +401,7 @@ module _ {S : Type 0} (P : Program S) (main : Start S) (first : List ℕ) (setti
           }) in
           record { field = g.field; same_net = g.same_net ∙ g4.same_net; same_gave = g.same_gave ∙ g4.same_gave; same_role = g.same_role ∙ g4.same_role }
 
-      g6 : FieldAt P main first IsJob 5 net3 (λ e. false) role3 k16 ((u 0) ∷ [])
+      g6 : FieldAt P main first IsJob 7 net3 (λ e. false) role3 k16 ((u 0) ∷ [])
       g6 =
           let word : Delivers net3 k15.states k16.states k15.infos (record { entry = 3; flag = 4 }) [] w15.words (u 0).words = record {
             took = λ h. refl;
@@ -412,7 +412,7 @@ module _ {S : Type 0} (P : Program S) (main : Start S) (first : List ℕ) (setti
             sends = refl;
             whole = refl;
           } in
-          let g = deliveries_keep S (Job S) IsJob P main first 5 k15 (w15 ∷ []) g5.field 0 w15 (u 0) (record { entry = 3; flag = 4 }) [] k16.states (record {
+          let g = deliveries_keep S (Job S) IsJob P main first 7 k15 (w15 ∷ []) g5.field 0 w15 (u 0) (record { entry = 3; flag = 4 }) [] k16.states (record {
             sits = refl;
             word = subst (λ (n : Net). Delivers n k15.states k16.states k15.infos (record { entry = 3; flag = 4 }) [] w15.words (u 0).words) (sym g5.same_net) word;
             none = refl;
@@ -428,7 +428,7 @@ module _ {S : Type 0} (P : Program S) (main : Start S) (first : List ℕ) (setti
       abbrev w17 : Sight S
       w17 = record (u 0) { words = record first_view { held = record { entry = 4; flag = 3 } ∷ record { entry = 4; flag = 4 } ∷ [] } }
 
-      links4 : Links 5 net3 net4 k16.states k17.states k16.infos 2 4 (u 0).words w17.words
+      links4 : Links 7 net3 net4 k16.states k17.states k16.infos 2 4 (u 0).words w17.words
       links4 =
           record {
             adds = record {
@@ -464,18 +464,18 @@ module _ {S : Type 0} (P : Program S) (main : Start S) (first : List ℕ) (setti
             whole = refl;
           }
 
-      g7 : FieldAt P main first IsJob 5 net4 (λ e. false) role3 k17 (w17 ∷ [])
+      g7 : FieldAt P main first IsJob 7 net4 (λ e. false) role3 k17 (w17 ∷ [])
       g7 =
           let f = g6.field in
           let up : Filed f.net f.role x.path r4.site = record { entry = 2; it = r2; is = ap (λ (z : ℕ → Option Role). z 2) g6.same_role; hangs = λ h. (let z : top ≡ apart = ap (λ (n : Net). n.place 2) (sym g6.same_net) ∙ h in let bad : ⊥ = cc in bad); path = sym y.path; site = refl } in
-          let g = links_keep S (Job S) IsJob P main first 5 k16 (u 0 ∷ []) f 0 (u 0) w17 0 x (making 0) 4 r4 net4 k17.states (record {
+          let g = links_keep S (Job S) IsJob P main first 7 k16 (u 0 ∷ []) f 0 (u 0) w17 0 x (making 0) 4 r4 net4 k17.states (record {
             sits = refl;
             has = refl;
             by = y.number;
             among = making_first 0;
             is = ap (λ (z : ℕ → Option Role). z 4) g6.same_role;
             task = refl;
-            linked = below_creator up (y.last r4.site) refl (subst (λ (n : Net). Links 5 n net4 k16.states k17.states k16.infos 2 4 (u 0).words w17.words) (sym g6.same_net) links4);
+            linked = below_creator up (y.last r4.site) refl (subst (λ (n : Net). Links 7 n net4 k16.states k17.states k16.infos 2 4 (u 0).words w17.words) (sym g6.same_net) links4);
             told = (refl, refl, refl);
             starts = λ e s. let z : true ≡ false = e in absurd (let bad : ⊥ = cc in bad);
             cell = λ e h. let z : on 0 ≡ on e = h in cc;
@@ -496,7 +496,7 @@ module _ {S : Type 0} (P : Program S) (main : Start S) (first : List ℕ) (setti
       abbrev z : ℕ → Sight S
       z stage = record (u stage) { owes = 3 ∷ [] }
 
-      g8 : FieldAt P main first IsJob 5 net4 (λ e. false) role3 k18 (w18 ∷ [])
+      g8 : FieldAt P main first IsJob 7 net4 (λ e. false) role3 k18 (w18 ∷ [])
       g8 =
           let word : Delivers net4 k17.states k18.states k17.infos (record { entry = 4; flag = 3 }) (record { entry = 4; flag = 4 } ∷ []) w17.words w18.words = record {
             took = λ h. refl;
@@ -507,7 +507,7 @@ module _ {S : Type 0} (P : Program S) (main : Start S) (first : List ℕ) (setti
             sends = refl;
             whole = refl;
           } in
-          let g = deliveries_keep S (Job S) IsJob P main first 5 k17 (w17 ∷ []) g7.field 0 w17 w18 (record { entry = 4; flag = 3 }) (record { entry = 4; flag = 4 } ∷ []) k18.states (record {
+          let g = deliveries_keep S (Job S) IsJob P main first 7 k17 (w17 ∷ []) g7.field 0 w17 w18 (record { entry = 4; flag = 3 }) (record { entry = 4; flag = 4 } ∷ []) k18.states (record {
             sits = refl;
             word = subst (λ (n : Net). Delivers n k17.states k18.states k17.infos (record { entry = 4; flag = 3 }) (record { entry = 4; flag = 4 } ∷ []) w17.words w18.words) (sym g7.same_net) word;
             none = refl;
@@ -516,7 +516,7 @@ module _ {S : Type 0} (P : Program S) (main : Start S) (first : List ℕ) (setti
           }) in
           record { field = g.field; same_net = g.same_net ∙ g7.same_net; same_gave = g.same_gave ∙ g7.same_gave; same_role = g.same_role ∙ g7.same_role }
 
-      g9 : FieldAt P main first IsJob 5 net4 (λ e. false) role3 k19 ((z 0) ∷ [])
+      g9 : FieldAt P main first IsJob 7 net4 (λ e. false) role3 k19 ((z 0) ∷ [])
       g9 =
           let word : Delivers net4 k18.states k19.states k18.infos (record { entry = 4; flag = 4 }) [] w18.words (z 0).words = record {
             took = λ h. refl;
@@ -527,7 +527,7 @@ module _ {S : Type 0} (P : Program S) (main : Start S) (first : List ℕ) (setti
             sends = refl;
             whole = refl;
           } in
-          let g = deliveries_keep S (Job S) IsJob P main first 5 k18 (w18 ∷ []) g8.field 0 w18 (z 0) (record { entry = 4; flag = 4 }) [] k19.states (record {
+          let g = deliveries_keep S (Job S) IsJob P main first 7 k18 (w18 ∷ []) g8.field 0 w18 (z 0) (record { entry = 4; flag = 4 }) [] k19.states (record {
             sits = refl;
             word = subst (λ (n : Net). Delivers n k18.states k19.states k18.infos (record { entry = 4; flag = 4 }) [] w18.words (z 0).words) (sym g8.same_net) word;
             none = refl;
@@ -546,9 +546,9 @@ module _ {S : Type 0} (P : Program S) (main : Start S) (first : List ℕ) (setti
       abbrev k21 : Parts (Job S)
       k21 = record k19 { bodies = λ e. cond (e == 3) 1 (k10.bodies e); jobs = λ e. cond (e == 3) (Some j2) None }
 
-      g10 : FieldAt P main first IsJob 5 net4 (λ e. false) role3 k20 (z 1 ∷ [])
+      g10 : FieldAt P main first IsJob 7 net4 (λ e. false) role3 k20 (z 1 ∷ [])
       g10 =
-          let g = first_puts_keep S (Job S) IsJob P main first 5 k19 (z 0 ∷ []) g9.field 0 (z 0) (z 1) 0 x o2 (making 0) (making 1) k20.bodies k20.jobs (record {
+          let g = first_puts_keep S (Job S) IsJob P main first 7 k19 (z 0 ∷ []) g9.field 0 (z 0) (z 1) 0 x o2 (making 0) (making 1) k20.bodies k20.jobs (record {
             sits = refl;
             has = refl;
             by = y.number;
@@ -567,9 +567,9 @@ module _ {S : Type 0} (P : Program S) (main : Start S) (first : List ℕ) (setti
           }) in
           record { field = g.field; same_net = g.same_net ∙ g9.same_net; same_gave = g.same_gave ∙ g9.same_gave; same_role = g.same_role ∙ g9.same_role }
 
-      g11 : FieldAt P main first IsJob 5 net4 (λ e. false) role3 k21 (z 2 ∷ [])
+      g11 : FieldAt P main first IsJob 7 net4 (λ e. false) role3 k21 (z 2 ∷ [])
       g11 =
-          let g = first_puts_keep S (Job S) IsJob P main first 5 k20 (z 1 ∷ []) g10.field 0 (z 1) (z 2) 0 x o2 (making 1) (making 2) k21.bodies k21.jobs (record {
+          let g = first_puts_keep S (Job S) IsJob P main first 7 k20 (z 1 ∷ []) g10.field 0 (z 1) (z 2) 0 x o2 (making 1) (making 2) k21.bodies k21.jobs (record {
             sits = refl;
             has = refl;
             by = y.number;
@@ -602,10 +602,10 @@ module _ {S : Type 0} (P : Program S) (main : Start S) (first : List ℕ) (setti
       abbrev pub k22 : Parts (Job S)
       k22 = record k21 { counts = λ e. cond (e == 3) 1 (k10.counts e) }
 
-      pub g12 : FieldAt P main first IsJob 5 net4 (λ e. false) role3 k22 (v22 ∷ [])
+      pub g12 : FieldAt P main first IsJob 7 net4 (λ e. false) role3 k22 (v22 ∷ [])
       g12 =
           let f = g11.field in
-          let g = openings_keep S (Job S) IsJob P main first 5 k21 (z 2 ∷ []) f 0 (z 2) v22 0 x x1 (making 2) k22.counts (record {
+          let g = openings_keep S (Job S) IsJob P main first 7 k21 (z 2 ∷ []) f 0 (z 2) v22 0 x x1 (making 2) k22.counts (record {
             sits = refl;
             has = refl;
             by = y.number;
@@ -674,7 +674,7 @@ module _ {S : Type 0} (P : Program S) (main : Start S) (first : List ℕ) (setti
               whole = refl;
             }
 
-        g13 : FieldAt P main first IsJob 5 net4 gave2 role3 k23 (v23 ∷ [])
+        g13 : FieldAt P main first IsJob 7 net4 gave2 role3 k23 (v23 ∷ [])
         g13 =
             let f = g12.field in
             let is : f.role 2 ≡ Some r2 = ap (λ (p : ℕ → Option Role). p 2) g12.same_role in
@@ -682,7 +682,7 @@ module _ {S : Type 0} (P : Program S) (main : Start S) (first : List ℕ) (setti
             let up : GivesUp f.gave gave2 2 = record { now = refl; same = λ j ne. else_ (j == 2) true false (apart_from j 2 ne) ∙ ap (λ (p : ℕ → Bool). p j) (sym g12.same_gave) } in
             let step : JobGoes v22 v23 0 x1 x1 = record { has = refl; bears = refl; number = refl; path = refl; last = refl; start = refl; makes = refl; ready = refl; joined = refl } in
             let right : right_of x.body.start.context 0 ≡ Holds Write true = ap (λ (b : Body S). right_of b.start.context 0) same_body ∙ right0 in
-            let g = gives_keep S (Job S) IsJob P main first 5 k22 (v22 ∷ []) f 0 v22 v23 0 x1 x1 x1.body 2 r2 k23.states gave2 0 Write true (record {
+            let g = gives_keep S (Job S) IsJob P main first 7 k22 (v22 ∷ []) f 0 v22 v23 0 x1 x1 x1.body 2 r2 k23.states gave2 0 Write true (record {
               up = record {
                 entry = record {
                   with_job = record { sits = refl; job = step; alone = still_there };
@@ -720,9 +720,9 @@ module _ {S : Type 0} (P : Program S) (main : Start S) (first : List ℕ) (setti
               whole = refl;
             }
 
-        g14 : FieldAt P main first IsJob 5 net4 gave2 role3 k24 (v22 ∷ [])
+        g14 : FieldAt P main first IsJob 7 net4 gave2 role3 k24 (v22 ∷ [])
         g14 =
-            let g = last_links_keep S (Job S) IsJob P main first 5 k23 (v23 ∷ []) g13.field 0 v23 v22 2 k24.states (record {
+            let g = last_links_keep S (Job S) IsJob P main first 7 k23 (v23 ∷ []) g13.field 0 v23 v22 2 k24.states (record {
               sits = refl;
               word = subst (λ (n : Net). Rises n k23.states k24.states k23.infos 2 v23.words v22.words) (sym g13.same_net) risen;
               unlinked = ap (λ (n : Net). (k23.states (n.last 2)).linked) g13.same_net;

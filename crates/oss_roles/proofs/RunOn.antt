@@ -14,7 +14,6 @@ use Rattle.oss_model.specs.Moves.{act_now, created_now, is_ended, new_task}
 use Rattle.oss_model.specs.Rights.{Holds}
 use Rattle.oss_words.specs.declared.entry.EntryInfo.{EntryInfo}
 use Rattle.oss_words.specs.declared.entry.EntryState.{EntryState}
-use Rattle.oss_words.specs.declared.message.Message.{Message}
 use Rattle.oss_words.specs.Causes.{sets_reads}
 use Rattle.oss_words.specs.Net.{Net, Place, apart, top, first as first_place, after, behind_last}
 use Rattle.oss_words.specs.Steps.{no_flags, Fills, Links, to_sibling, Delivers}
@@ -75,7 +74,7 @@ module _ {S : Type 0} (P : Program S) (main : Start S) (first : List ℕ) (setti
       abbrev v13 : Sight S
       v13 = store.v13 P main first setting infos values cell_of o act0 right0 only0 d t x y stored act1 over nowait
 
-      f13 : FieldAt P main first IsJob 5 net2 gave2 role1 k13 (v13 ∷ [])
+      f13 : FieldAt P main first IsJob 7 net2 gave2 role1 k13 (v13 ∷ [])
       f13 = store.f13 P main first setting infos values cell_of o act0 right0 only0 d t x y stored act1 over nowait
 
       -- main makes a second task, and stands before a taskwait on cell 0
@@ -131,12 +130,12 @@ module _ {S : Type 0} (P : Program S) (main : Start S) (first : List ℕ) (setti
         abbrev k14 : Parts (Job S)
         k14 = record k13 { counts = λ e. cond (e == 3) 1 (k13.counts e) }
 
-        g1 : FieldAt P main first IsJob 5 net2 gave2 role3 k14 (u 0 ∷ [])
+        g1 : FieldAt P main first IsJob 7 net2 gave2 role3 k14 (u 0 ∷ [])
         g1 =
             let f = f13.field in
-            let fresh : (e : ℕ) (r : Role) → role1 e ≡ Some r → r.path ≢ created_now P c.body ∷ c.path = λ e r h. fresh_path P main first IsJob 5 k13 (v13 ∷ []) f 0 0 v13 c refl refl (λ a among. elim among [ ]) e r (ap (λ (z : ℕ → Option Role). z e) f13.same_role ∙ h) in
+            let fresh : (e : ℕ) (r : Role) → role1 e ≡ Some r → r.path ≢ created_now P c.body ∷ c.path = λ e r h. fresh_path P main first IsJob 7 k13 (v13 ∷ []) f 0 0 v13 c refl refl (λ a among. elim among [ ]) e r (ap (λ (z : ℕ → Option Role). z e) f13.same_role ∙ h) in
             let plans' = subst (λ (n : Net). Plans n f.role role3 3 (created_now P c.body ∷ c.path)) (sym f13.same_net) (subst (λ (z : ℕ → Option Role). Plans net2 z role3 3 (created_now P c.body ∷ c.path)) (sym f13.same_role) (plans3 fresh)) in
-            let g = plans_keep S (Job S) IsJob P main first 5 k13 (v13 ∷ []) f 0 v13 (u 0) 0 c o2 3 role3 (making 0) k14.counts (record {
+            let g = plans_keep S (Job S) IsJob P main first 7 k13 (v13 ∷ []) f 0 v13 (u 0) 0 c o2 3 role3 (making 0) k14.counts (record {
               sits = refl;
               has = refl;
               act = act;
@@ -168,9 +167,9 @@ module _ {S : Type 0} (P : Program S) (main : Start S) (first : List ℕ) (setti
         abbrev k15 : Parts (Job S)
         k15 = record k14 { infos = λ e. cond (e == 3) info3 (k13.infos e) }
 
-        g2 : FieldAt P main first IsJob 5 net2 gave2 role3 k15 (u 0 ∷ [])
+        g2 : FieldAt P main first IsJob 7 net2 gave2 role3 k15 (u 0 ∷ [])
         g2 =
-            let fills' : Fills 5 net2 k14.states k14.states k14.infos k15.infos 3 = record {
+            let fills' : Fills 7 net2 k14.states k14.states k14.infos k15.infos 3 = record {
               inside = omega (arith);
               loose = refl;
               blank_before = record { linked = refl; headed = refl; left = refl; folds = refl; reads = refl; writes = refl; clear = refl };
@@ -182,8 +181,8 @@ module _ {S : Type 0} (P : Program S) (main : Start S) (first : List ℕ) (setti
               others = λ j ne. refl;
               other_infos = λ j ne. else_ (j == 3) info3 (k13.infos j) (apart_from j 3 ne);
             } in
-            let g = fills_keep S (Job S) IsJob P main first 5 k14 (u 0 ∷ []) g1.field 3 k14.states k15.infos k14.cell_of (record {
-              fills = subst (λ (n : Net). Fills 5 n k14.states k14.states k14.infos k15.infos 3) (sym g1.same_net) fills';
+            let g = fills_keep S (Job S) IsJob P main first 7 k14 (u 0 ∷ []) g1.field 3 k14.states k15.infos k14.cell_of (record {
+              fills = subst (λ (n : Net). Fills 7 n k14.states k14.states k14.infos k15.infos 3) (sym g1.same_net) fills';
               cells = λ j ne. refl;
               flags = inl (refl, refl);
             }) in
@@ -211,7 +210,7 @@ module _ {S : Type 0} (P : Program S) (main : Start S) (first : List ℕ) (setti
           ]
         ]
 
-        links3 : Links 5 net2 net3 k15.states k16.states k15.infos 1 3 (u 0).words w16.words
+        links3 : Links 7 net2 net3 k15.states k16.states k15.infos 1 3 (u 0).words w16.words
         links3 =
             record {
               adds = record {
@@ -247,10 +246,10 @@ module _ {S : Type 0} (P : Program S) (main : Start S) (first : List ℕ) (setti
               whole = refl;
             }
 
-        g3 : FieldAt P main first IsJob 5 net3 gave2 role3 k16 (w16 ∷ [])
+        g3 : FieldAt P main first IsJob 7 net3 gave2 role3 k16 (w16 ∷ [])
         g3 =
-            let links' = subst (λ (n : Net). Links 5 n net3 k15.states k16.states k15.infos 1 3 (u 0).words w16.words) (sym g2.same_net) links3 in
-            let g = links_keep S (Job S) IsJob P main first 5 k15 (u 0 ∷ []) g2.field 0 (u 0) w16 0 c (making 0) 3 r3 net3 k16.states (record {
+            let links' = subst (λ (n : Net). Links 7 n net3 k15.states k16.states k15.infos 1 3 (u 0).words w16.words) (sym g2.same_net) links3 in
+            let g = links_keep S (Job S) IsJob P main first 7 k15 (u 0 ∷ []) g2.field 0 (u 0) w16 0 c (making 0) 3 r3 net3 k16.states (record {
               sits = refl;
               has = refl;
               by = t.number;
@@ -273,7 +272,7 @@ module _ {S : Type 0} (P : Program S) (main : Start S) (first : List ℕ) (setti
         and_false true = refl
         and_false false = refl
 
-        g4 : FieldAt P main first IsJob 5 net3 gave2 role3 k17 (u 0 ∷ [])
+        g4 : FieldAt P main first IsJob 7 net3 gave2 role3 k17 (u 0 ∷ [])
         g4 =
             let delivers : Delivers net3 k16.states k17.states k16.infos (record { entry = 3; flag = 3 }) [] w16.words (u 0).words = record {
               took = λ h. refl;
@@ -284,7 +283,7 @@ module _ {S : Type 0} (P : Program S) (main : Start S) (first : List ℕ) (setti
               sends = refl;
               whole = refl;
             } in
-            let g = deliveries_keep S (Job S) IsJob P main first 5 k16 (w16 ∷ []) g3.field 0 w16 (u 0) (record { entry = 3; flag = 3 }) [] k17.states (record {
+            let g = deliveries_keep S (Job S) IsJob P main first 7 k16 (w16 ∷ []) g3.field 0 w16 (u 0) (record { entry = 3; flag = 3 }) [] k17.states (record {
               sits = refl;
               word = subst (λ (n : Net). Delivers n k16.states k17.states k16.infos (record { entry = 3; flag = 3 }) [] w16.words (u 0).words) (sym g3.same_net) delivers;
               none = refl;
@@ -303,9 +302,9 @@ module _ {S : Type 0} (P : Program S) (main : Start S) (first : List ℕ) (setti
         abbrev k19 : Parts (Job S)
         k19 = record k17 { bodies = λ e. cond (e == 3) 1 (k13.bodies e); jobs = λ e. cond (e == 3) (Some j3) (k13.jobs e) }
 
-        g5 : FieldAt P main first IsJob 5 net3 gave2 role3 k18 (u 1 ∷ [])
+        g5 : FieldAt P main first IsJob 7 net3 gave2 role3 k18 (u 1 ∷ [])
         g5 =
-            let g = first_puts_keep S (Job S) IsJob P main first 5 k17 (u 0 ∷ []) g4.field 0 (u 0) (u 1) 0 c o2 (making 0) (making 1) k18.bodies k18.jobs (record {
+            let g = first_puts_keep S (Job S) IsJob P main first 7 k17 (u 0 ∷ []) g4.field 0 (u 0) (u 1) 0 c o2 (making 0) (making 1) k18.bodies k18.jobs (record {
               sits = refl;
               has = refl;
               by = t.number;
@@ -324,9 +323,9 @@ module _ {S : Type 0} (P : Program S) (main : Start S) (first : List ℕ) (setti
             }) in
             record { field = g.field; same_net = g.same_net ∙ g4.same_net; same_gave = g.same_gave ∙ g4.same_gave; same_role = g.same_role ∙ g4.same_role }
 
-        g6 : FieldAt P main first IsJob 5 net3 gave2 role3 k19 (u 2 ∷ [])
+        g6 : FieldAt P main first IsJob 7 net3 gave2 role3 k19 (u 2 ∷ [])
         g6 =
-            let g = first_puts_keep S (Job S) IsJob P main first 5 k18 (u 1 ∷ []) g5.field 0 (u 1) (u 2) 0 c o2 (making 1) (making 2) k19.bodies k19.jobs (record {
+            let g = first_puts_keep S (Job S) IsJob P main first 7 k18 (u 1 ∷ []) g5.field 0 (u 1) (u 2) 0 c o2 (making 1) (making 2) k19.bodies k19.jobs (record {
               sits = refl;
               has = refl;
               by = t.number;
@@ -359,11 +358,11 @@ module _ {S : Type 0} (P : Program S) (main : Start S) (first : List ℕ) (setti
         abbrev k20 : Parts (Job S)
         k20 = record k19 { counts = λ e. cond (e == 3) 0 (k13.counts e) }
 
-        g7 : FieldAt P main first IsJob 5 net3 gave2 role3 k20 (v20 ∷ [])
+        g7 : FieldAt P main first IsJob 7 net3 gave2 role3 k20 (v20 ∷ [])
         g7 =
             let f = g6.field in
             let role_at : (e : ℕ) (r : Role) → f.role e ≡ Some r → ((e ≡ 3) × (r3 ≡ r)) ⊎ (role1 e ≡ Some r) = λ e r h. role3_is e r (sym (ap (λ (z : ℕ → Option Role). z e) g6.same_role) ∙ h) in
-            let g = openings_keep S (Job S) IsJob P main first 5 k19 (u 2 ∷ []) f 0 (u 2) v20 0 c c2 (making 2) k20.counts (record {
+            let g = openings_keep S (Job S) IsJob P main first 7 k19 (u 2 ∷ []) f 0 (u 2) v20 0 c c2 (making 2) k20.counts (record {
               sits = refl;
               has = refl;
               by = t.number;
@@ -412,9 +411,9 @@ module _ {S : Type 0} (P : Program S) (main : Start S) (first : List ℕ) (setti
         abbrev v21 : Sight S
         v21 = record v20 { seen = read2 ∷ [] }
 
-        g8 : FieldAt P main first IsJob 5 net3 gave2 role3 k20 (v21 ∷ [])
+        g8 : FieldAt P main first IsJob 7 net3 gave2 role3 k20 (v21 ∷ [])
         g8 =
-            let g = word_reads_keep S (Job S) IsJob P main first 5 k20 (v20 ∷ []) g7.field 0 v20 v21 2 (record { sits = refl; ready = refl; seen = refl; still = inl refl; same = record { words = refl; bears = refl; makes = refl; loaded = refl; joined = refl; owes = refl } }) in
+            let g = word_reads_keep S (Job S) IsJob P main first 7 k20 (v20 ∷ []) g7.field 0 v20 v21 2 (record { sits = refl; ready = refl; seen = refl; still = inl refl; same = record { words = refl; bears = refl; makes = refl; loaded = refl; joined = refl; owes = refl } }) in
             record { field = g.field; same_net = g.same_net ∙ g7.same_net; same_gave = g.same_gave ∙ g7.same_gave; same_role = g.same_role ∙ g7.same_role }
 
         -- and main passes the taskwait on it
@@ -424,14 +423,14 @@ module _ {S : Type 0} (P : Program S) (main : Start S) (first : List ℕ) (setti
         abbrev v22 : Sight S
         v22 = record v21 { bears = waited ∷ [] }
 
-        g9 : FieldAt P main first IsJob 5 net3 gave2 role3 k20 (v22 ∷ [])
+        g9 : FieldAt P main first IsJob 7 net3 gave2 role3 k20 (v22 ∷ [])
         g9 =
             let stands : act_now P c2.body ≡ WaitedOn named = ap (λ (z : Body S). act_now P (with_answer 0 (with_answer 0 z))) t.body ∙ act3 in
             let zero_done : AllDone v21 c2 (on 0) = last_done read2 refl (among_first refl) refl refl in
             let met : MayPass v21 c2 (WaitedOn named) = λ e h. subst (λ (z : ℕ). AllDone v21 c2 (on z)) (sym (names e h)) zero_done in
             let goes : MayGo P v21 c2 waited.body = went_on still_there (subst IsOwnAct (sym stands) tt) (subst (λ (a : Act S). MayPass v21 c2 a) (sym stands) met) in
             let step : JobGoes v21 v22 0 c2 waited = record { has = refl; bears = refl; number = refl; path = refl; last = refl; start = refl; makes = refl; ready = refl; joined = refl } in
-            let g = own_acts_keep S (Job S) IsJob P main first 5 k20 (v21 ∷ []) g8.field 0 v21 v22 0 c2 waited waited.body (record {
+            let g = own_acts_keep S (Job S) IsJob P main first 7 k20 (v21 ∷ []) g8.field 0 v21 v22 0 c2 waited waited.body (record {
               with_job = record { sits = refl; job = step; alone = goes };
               same = record { words = refl; owes = refl; seen = refl; still = refl };
               loaded = λ a h. elim h [ ];

@@ -42,9 +42,9 @@ use Rattle.oss_roles.proofs.JobClaims.{gives_keep}
 use Rattle.oss_roles.proofs.MakeClaims.{links_keep}
 use Rattle.oss_roles.proofs.WordClaims.{count_reads_keep, deliveries_keep, count_downs_keep}
 
-module _ {S : Type 0} (P : Program S) (main : Start S) (first : List ℕ) (setting : Setting main first) (infos : ℕ → EntryInfo) (values cell_of : ℕ → ℕ) (o : Order S)
+module _ {S : Type 0} {strong : Bool} (P : Program S) (main : Start S) (first : List ℕ) (setting : Setting main first) (infos : ℕ → EntryInfo) (values cell_of : ℕ → ℕ) (o : Order S)
     (act0 : act_now P (record { start = main; found = [] }) ≡ Created o false)
-    (right0 : right_of (new_task P (record { start = main; found = [] }) o).body.start.context 0 ≡ Holds Write true)
+    (right0 : right_of (new_task P (record { start = main; found = [] }) o).body.start.context 0 ≡ Holds Write strong)
     (only0 : (c : ℕ) (m : Mode) (s : Bool) → right_of (new_task P (record { start = main; found = [] }) o).body.start.context c ≡ Holds m s → c ≡ 0) where
   abbrev b0 : Body S
   b0 = run.b0 P main first setting infos values cell_of o act0 right0 only0
@@ -89,7 +89,7 @@ module _ {S : Type 0} (P : Program S) (main : Start S) (first : List ℕ) (setti
     abbrev k8 : Parts (Job S)
     k8 = run.k8 P main first setting infos values cell_of o act0 right0 only0 d t
 
-    f8 : FieldAt P main first IsJob 5 net2 (λ e. false) role1 k8 (v8 ∷ [])
+    f8 : FieldAt P main first IsJob 7 net2 (λ e. false) role1 k8 (v8 ∷ [])
     f8 = run.f8 P main first setting infos values cell_of o act0 right0 only0 d t
 
     -- main makes a second task, which reads the cell
@@ -106,16 +106,16 @@ module _ {S : Type 0} (P : Program S) (main : Start S) (first : List ℕ) (setti
           let q : Holds Read true ≡ Holds m s = sym right2 ∙ ap (λ (x : ℕ). right_of (new_task P (with_answer 0 b0) o2).body.start.context x) (sym zero_is) ∙ h0 in
           (sym zero_is, cc, cc)
 
-      abbrev r3 : Role
+      abbrev pub r3 : Role
       r3 = record { path = created_now P c.body ∷ c.path; site = itself; task = 3; mode = Read; strong = false; counts = false }
 
-      abbrev r4 : Role
+      abbrev pub r4 : Role
       r4 = record { path = created_now P c.body ∷ c.path; site = on 0; task = 3; mode = Read; strong = true; counts = true }
 
-      abbrev role3 : ℕ → Option Role
+      abbrev pub role3 : ℕ → Option Role
       role3 e = cond (e == 3) (Some r3) (cond (e == 4) (Some r4) (role1 e))
 
-      role3_is : (e : ℕ) (r : Role) → role3 e ≡ Some r → ((e ≡ 3) × (r3 ≡ r)) ⊎ (((e ≡ 4) × (r4 ≡ r)) ⊎ (role1 e ≡ Some r))
+      pub role3_is : (e : ℕ) (r : Role) → role3 e ≡ Some r → ((e ≡ 3) × (r3 ≡ r)) ⊎ (((e ≡ 4) × (r4 ≡ r)) ⊎ (role1 e ≡ Some r))
       role3_is e r h = elim (eqb_tells e 3) [
         | inl q ↦ inl (q.1, some_same r3 r (sym (when (e == 3) (Some r3) (cond (e == 4) (Some r4) (role1 e)) q.0) ∙ h))
         | inr q ↦
@@ -171,12 +171,12 @@ module _ {S : Type 0} (P : Program S) (main : Start S) (first : List ℕ) (setti
       abbrev k9 : Parts (Job S)
       k9 = record k8 { counts = λ e. cond (e == 3) 2 (cond (e == 1) 0 (cond (e == 0) 0 18446744073709551615)) }
 
-      g1 : FieldAt P main first IsJob 5 net2 (λ e. false) role3 k9 (u 0 ∷ [])
+      g1 : FieldAt P main first IsJob 7 net2 (λ e. false) role3 k9 (u 0 ∷ [])
       g1 =
           let f = f8.field in
-          let fresh : (e : ℕ) (r : Role) → role1 e ≡ Some r → r.path ≢ created_now P c.body ∷ c.path = λ e r h. fresh_path P main first IsJob 5 k8 (v8 ∷ []) f 0 0 v8 c refl refl (λ a among. elim among [ ]) e r (ap (λ (z : ℕ → Option Role). z e) f8.same_role ∙ h) in
+          let fresh : (e : ℕ) (r : Role) → role1 e ≡ Some r → r.path ≢ created_now P c.body ∷ c.path = λ e r h. fresh_path P main first IsJob 7 k8 (v8 ∷ []) f 0 0 v8 c refl refl (λ a among. elim among [ ]) e r (ap (λ (z : ℕ → Option Role). z e) f8.same_role ∙ h) in
           let plans' = subst (λ (n : Net). Plans n f.role role3 3 (created_now P c.body ∷ c.path)) (sym f8.same_net) (subst (λ (x : ℕ → Option Role). Plans net2 x role3 3 (created_now P c.body ∷ c.path)) (sym f8.same_role) (plans3 fresh)) in
-          let g = plan_field P main first IsJob 5 k8 (v8 ∷ []) f 0 v8 (u 0) refl 0 c refl o2 act2_now 3 role3 plans'
+          let g = plan_field P main first IsJob 7 k8 (v8 ∷ []) f 0 v8 (u 0) refl 0 c refl o2 act2_now 3 role3 plans'
           (λ e r h. elim (role3_is e r h) [
             | inl q ↦ (let z = q.0 in omega (arith, z))
             | inr q ↦ elim q [
@@ -221,9 +221,9 @@ module _ {S : Type 0} (P : Program S) (main : Start S) (first : List ℕ) (setti
       empty_word : (e : ℕ) → e ≢ 1 → e ≢ 2 → k4b.states e ≡ no_flags
       empty_word e n1 n2 = else_ (e == 2) open_flags (cond (e == 1) open_flags no_flags) (apart_from e 2 n2) ∙ else_ (e == 1) open_flags no_flags (apart_from e 1 n1)
 
-      g2 : FieldAt P main first IsJob 5 net2 (λ e. false) role3 k10 (u 0 ∷ [])
+      g2 : FieldAt P main first IsJob 7 net2 (λ e. false) role3 k10 (u 0 ∷ [])
       g2 =
-          let fills' : Fills 5 net2 k9.states k9.states k9.infos k10.infos 3 = record {
+          let fills' : Fills 7 net2 k9.states k9.states k9.infos k10.infos 3 = record {
             inside = omega (arith);
             loose = refl;
             blank_before = record { linked = refl; headed = refl; left = refl; folds = refl; reads = refl; writes = refl; clear = refl };
@@ -235,12 +235,12 @@ module _ {S : Type 0} (P : Program S) (main : Start S) (first : List ℕ) (setti
             others = λ j ne. refl;
             other_infos = λ j ne. else_ (j == 3) info3 (k4b.infos j) (apart_from j 3 ne);
           } in
-          let g = fill_field P main first IsJob 5 k9 (u 0 ∷ []) g1.field 3 k9.states k10.infos k9.cell_of (subst (λ (n : Net). Fills 5 n k9.states k9.states k9.infos k10.infos 3) (sym g1.same_net) fills') (λ j ne. refl) (inl (refl, refl)) in
+          let g = fill_field P main first IsJob 7 k9 (u 0 ∷ []) g1.field 3 k9.states k10.infos k9.cell_of (subst (λ (n : Net). Fills 7 n k9.states k9.states k9.infos k10.infos 3) (sym g1.same_net) fills') (λ j ne. refl) (inl (refl, refl)) in
           record { field = g.field; same_net = g.same_net ∙ g1.same_net; same_gave = g.same_gave ∙ g1.same_gave; same_role = g.same_role ∙ g1.same_role }
 
-      g3 : FieldAt P main first IsJob 5 net2 (λ e. false) role3 k11 (u 0 ∷ [])
+      g3 : FieldAt P main first IsJob 7 net2 (λ e. false) role3 k11 (u 0 ∷ [])
       g3 =
-          let fills' : Fills 5 net2 k10.states k10.states k10.infos k11.infos 4 = record {
+          let fills' : Fills 7 net2 k10.states k10.states k10.infos k11.infos 4 = record {
             inside = omega (arith);
             loose = refl;
             blank_before = record { linked = refl; headed = refl; left = refl; folds = refl; reads = refl; writes = refl; clear = refl };
@@ -252,7 +252,7 @@ module _ {S : Type 0} (P : Program S) (main : Start S) (first : List ℕ) (setti
             others = λ j ne. refl;
             other_infos = λ j ne. else_ (j == 4) info4 (k10.infos j) (apart_from j 4 ne);
           } in
-          let g = fill_field P main first IsJob 5 k10 (u 0 ∷ []) g2.field 4 k10.states k11.infos k11.cell_of (subst (λ (n : Net). Fills 5 n k10.states k10.states k10.infos k11.infos 4) (sym g2.same_net) fills') (λ j ne. else_ (j == 4) 0 (k4b.cell_of j) (apart_from j 4 ne)) (inl (refl, refl)) in
+          let g = fill_field P main first IsJob 7 k10 (u 0 ∷ []) g2.field 4 k10.states k11.infos k11.cell_of (subst (λ (n : Net). Fills 7 n k10.states k10.states k10.infos k11.infos 4) (sym g2.same_net) fills') (λ j ne. else_ (j == 4) 0 (k4b.cell_of j) (apart_from j 4 ne)) (inl (refl, refl)) in
           record { field = g.field; same_net = g.same_net ∙ g2.same_net; same_gave = g.same_gave ∙ g2.same_gave; same_role = g.same_role ∙ g2.same_role }
 
       -- its own entry is linked behind that of the first task: since that is a read, reads is sent on
@@ -274,7 +274,7 @@ module _ {S : Type 0} (P : Program S) (main : Start S) (first : List ℕ) (setti
         ]
       ]
 
-      links3 : Links 5 net2 net3 k11.states k12.states k11.infos 1 3 (u 0).words w12.words
+      links3 : Links 7 net2 net3 k11.states k12.states k11.infos 1 3 (u 0).words w12.words
       links3 =
           record {
             adds = record {
@@ -313,11 +313,11 @@ module _ {S : Type 0} (P : Program S) (main : Start S) (first : List ℕ) (setti
       making_first : (s : ℕ) → Among (making3 s) (u s).makes
       making_first s = among_first refl
 
-      g4 : FieldAt P main first IsJob 5 net3 (λ e. false) role3 k12 (w12 ∷ [])
+      g4 : FieldAt P main first IsJob 7 net3 (λ e. false) role3 k12 (w12 ∷ [])
       g4 =
           let f = g3.field in
-          let links' = subst (λ (n : Net). Links 5 n net3 k11.states k12.states k11.infos 1 3 (u 0).words w12.words) (sym g3.same_net) links3 in
-          let x = links_keep S (Job S) IsJob P main first 5 k11 (u 0 ∷ []) f 0 (u 0) w12 0 c (making3 0) 3 r3 net3 k12.states (record {
+          let links' = subst (λ (n : Net). Links 7 n net3 k11.states k12.states k11.infos 1 3 (u 0).words w12.words) (sym g3.same_net) links3 in
+          let x = links_keep S (Job S) IsJob P main first 7 k11 (u 0 ∷ []) f 0 (u 0) w12 0 c (making3 0) 3 r3 net3 k12.states (record {
             sits = refl;
             has = refl;
             by = t.number;
@@ -341,7 +341,7 @@ module _ {S : Type 0} (P : Program S) (main : Start S) (first : List ℕ) (setti
       and_false true = refl
       and_false false = refl
 
-      g5 : FieldAt P main first IsJob 5 net3 (λ e. false) role3 k13 (u 0 ∷ [])
+      g5 : FieldAt P main first IsJob 7 net3 (λ e. false) role3 k13 (u 0 ∷ [])
       g5 =
           let d : Delivers net3 k12.states k13.states k12.infos (record { entry = 3; flag = 3 }) [] w12.words (u 0).words = record {
             took = λ h. refl;
@@ -352,7 +352,7 @@ module _ {S : Type 0} (P : Program S) (main : Start S) (first : List ℕ) (setti
             sends = refl;
             whole = refl;
           } in
-          let g = deliveries_keep S (Job S) IsJob P main first 5 k12 (w12 ∷ []) g4.field 0 w12 (u 0) (record { entry = 3; flag = 3 }) [] k13.states (record {
+          let g = deliveries_keep S (Job S) IsJob P main first 7 k12 (w12 ∷ []) g4.field 0 w12 (u 0) (record { entry = 3; flag = 3 }) [] k13.states (record {
             sits = refl;
             word = subst (λ (n : Net). Delivers n k12.states k13.states k12.infos (record { entry = 3; flag = 3 }) [] w12.words (u 0).words) (sym g4.same_net) d;
             none = refl;
@@ -362,7 +362,7 @@ module _ {S : Type 0} (P : Program S) (main : Start S) (first : List ℕ) (setti
           record { field = g.field; same_net = g.same_net ∙ g4.same_net; same_gave = g.same_gave ∙ g4.same_gave; same_role = g.same_role ∙ g4.same_role }
 
       -- that of its cell is linked behind the write, which sends nothing yet
-      abbrev net4 : Net
+      abbrev pub net4 : Net
       net4 = record { place = λ e. cond (e == 4) (after 2) (net3.place e); parent = λ e. 0; lead = λ e. cond (e == 4) 2 (net3.lead e); depth = λ e. cond (e == 4) 1 (net3.depth e); mode = λ e. cond (e == 4) Read (net3.mode e); last = λ e. cond (e == 0) 4 0 }
 
       abbrev k14 : Parts (Job S)
@@ -374,7 +374,7 @@ module _ {S : Type 0} (P : Program S) (main : Start S) (first : List ℕ) (setti
         | inr q ↦ absurd (never_after 2 j (sym (else_ (j == 3) (after 1) (net2.place j) q.0) ∙ h))
       ]
 
-      links4 : Links 5 net3 net4 k13.states k14.states k13.infos 2 4 (u 0).words (u 0).words
+      links4 : Links 7 net3 net4 k13.states k14.states k13.infos 2 4 (u 0).words (u 0).words
       links4 =
           record {
             adds = record {
@@ -410,11 +410,11 @@ module _ {S : Type 0} (P : Program S) (main : Start S) (first : List ℕ) (setti
             whole = refl;
           }
 
-      g6 : FieldAt P main first IsJob 5 net4 (λ e. false) role3 k14 (u 0 ∷ [])
+      g6 : FieldAt P main first IsJob 7 net4 (λ e. false) role3 k14 (u 0 ∷ [])
       g6 =
           let f = g5.field in
-          let links' = subst (λ (n : Net). Links 5 n net4 k13.states k14.states k13.infos 2 4 (u 0).words (u 0).words) (sym g5.same_net) links4 in
-          let x = links_keep S (Job S) IsJob P main first 5 k13 (u 0 ∷ []) f 0 (u 0) (u 0) 0 c (making3 0) 4 r4 net4 k14.states (record {
+          let links' = subst (λ (n : Net). Links 7 n net4 k13.states k14.states k13.infos 2 4 (u 0).words (u 0).words) (sym g5.same_net) links4 in
+          let x = links_keep S (Job S) IsJob P main first 7 k13 (u 0 ∷ []) f 0 (u 0) (u 0) 0 c (making3 0) 4 r4 net4 k14.states (record {
             sits = refl;
             has = refl;
             by = t.number;
@@ -440,21 +440,21 @@ module _ {S : Type 0} (P : Program S) (main : Start S) (first : List ℕ) (setti
       abbrev k16 : Parts (Job S)
       k16 = record k14 { bodies = λ e. cond (e == 3) 1 (k7.bodies e); jobs = λ e. cond (e == 3) (Some j2) (k7.jobs e) }
 
-      g7 : FieldAt P main first IsJob 5 net4 (λ e. false) role3 k15 (u 1 ∷ [])
+      g7 : FieldAt P main first IsJob 7 net4 (λ e. false) role3 k15 (u 1 ∷ [])
       g7 =
-          let x = stage_field P main first IsJob 5 k14 (u 0 ∷ []) g6.field 0 (u 0) (u 1) refl (making3 0) (making3 1) (making_first 0) (making_first 1) refl refl
+          let x = stage_field P main first IsJob 7 k14 (u 0 ∷ []) g6.field 0 (u 0) (u 1) refl (making3 0) (making3 1) (making_first 0) (making_first 1) refl refl
           (λ a h. inl (sym (among_one (making3 1) a h))) (λ a h. (making3 1, making_first 1, ap (λ (z : Making). z.task) (among_one (making3 0) a h)))
           k15.bodies k15.jobs (λ j ne. else_ (j == 3) 2 (k7.bodies j) (apart_from j 3 ne)) (λ j ne. refl) (going refl refl refl) refl refl refl refl refl refl refl refl
           (λ j y sits a h q. (only (u 0) j y sits).0) in
           record { field = x.field; same_net = x.same_net ∙ g6.same_net; same_gave = x.same_gave ∙ g6.same_gave; same_role = x.same_role ∙ g6.same_role }
 
-      g8 : FieldAt P main first IsJob 5 net4 (λ e. false) role3 k16 (u 2 ∷ [])
+      g8 : FieldAt P main first IsJob 7 net4 (λ e. false) role3 k16 (u 2 ∷ [])
       g8 =
           let g = g7.field.made 0 (u 1) refl (making3 1) (making_first 1) in
           let one : c ≡ g.creator = (only c g.place g.creator g.held).1 in
           let order : o2 ≡ g.order = order_same o2 g.order (sym act2_now ∙ ap (λ (z : Bearing S). act_now P z.body) one ∙ g.act) in
           let body : (new_task P c.body o2).body ≡ (new_task P g.creator.body g.order).body = ap (λ (z : Bearing S). (new_task P z.body o2).body) one ∙ ap (λ (z : Order S). (new_task P g.creator.body z).body) order in
-          let x = stage_field P main first IsJob 5 k15 (u 1 ∷ []) g7.field 0 (u 1) (u 2) refl (making3 1) (making3 2) (making_first 1) (making_first 2) refl refl
+          let x = stage_field P main first IsJob 7 k15 (u 1 ∷ []) g7.field 0 (u 1) (u 2) refl (making3 1) (making3 2) (making_first 1) (making_first 2) refl refl
           (λ a h. inl (sym (among_one (making3 2) a h))) (λ a h. (making3 2, making_first 2, ap (λ (z : Making). z.task) (among_one (making3 1) a h)))
           k16.bodies k16.jobs (λ j ne. else_ (j == 3) 1 (k7.bodies j) (apart_from j 3 ne) ∙ sym (else_ (j == 3) 2 (k7.bodies j) (apart_from j 3 ne))) (λ j ne. else_ (j == 3) (Some j2) (k7.jobs j) (apart_from j 3 ne))
           (is_put j2 refl refl refl (record { task = refl; body = body; last = λ y. refl })) refl refl refl refl refl refl refl refl
@@ -467,7 +467,7 @@ module _ {S : Type 0} (P : Program S) (main : Start S) (first : List ℕ) (setti
       last_two (on zero) = Some 4
       last_two (on (suc e)) = None
 
-      abbrev c2 : Bearing S
+      abbrev pub c2 : Bearing S
       c2 = record { number = d.number; path = d.path; body = with_answer 0 c.body; last = last_two }
 
       abbrev v17 : Sight S
@@ -476,13 +476,13 @@ module _ {S : Type 0} (P : Program S) (main : Start S) (first : List ℕ) (setti
       abbrev k17 : Parts (Job S)
       k17 = record k16 { counts = λ e. cond (e == 3) 1 (k8.counts e) }
 
-      g9 : FieldAt P main first IsJob 5 net4 (λ e. false) role3 k17 (v17 ∷ [])
+      g9 : FieldAt P main first IsJob 7 net4 (λ e. false) role3 k17 (v17 ∷ [])
       g9 =
           let f = g8.field in
           let g = f.made 0 (u 2) refl (making3 2) (making_first 2) in
           let held = only c g.place g.creator g.held in
           let one : c ≡ g.creator = held.1 in
-          let x = open_field P main first IsJob 5 k16 (u 2 ∷ []) f 0 (u 2) v17 refl (making3 2) (making_first 2) refl (λ h. let z : 3 ≡ 0 = h in absurd (omega (arith, z)))
+          let x = open_field P main first IsJob 7 k16 (u 2 ∷ []) f 0 (u 2) v17 refl (making3 2) (making_first 2) refl (λ h. let z : 3 ≡ 0 = h in absurd (omega (arith, z)))
           (λ e r h task q. hangs2 e r (role3_is e r (sym (ap (λ (z : ℕ → Option Role). z e) g8.same_role) ∙ h)) task (ap (λ (n : Net). n.place e) g8.same_net) q)
           c2 (ap (λ (z : ℕ). set (c ∷ []) z c2) (sym held.0)) (ap (λ (z : Bearing S). z.number) one) (ap (λ (z : Bearing S). z.path) one) (ap (λ (z : Bearing S). with_answer 0 z.body) one)
           (λ y. last_at2 f.role (λ e r h. role3_is e r (sym (ap (λ (z : ℕ → Option Role). z e) g8.same_role) ∙ h)) (ap (λ (z : ℕ → Option Role). z 3) g8.same_role) (ap (λ (z : ℕ → Option Role). z 4) g8.same_role) g.creator one y)
@@ -522,27 +522,28 @@ module _ {S : Type 0} (P : Program S) (main : Start S) (first : List ℕ) (setti
       abbrev v18 : Sight S
       v18 = record v17 { ready = 1 ∷ 0 ∷ [] }
 
-      g10 : FieldAt P main first IsJob 5 net4 (λ e. false) role3 k17 (v18 ∷ [])
+      g10 : FieldAt P main first IsJob 7 net4 (λ e. false) role3 k17 (v18 ∷ [])
       g10 =
           let is : g9.field.role 1 ≡ Some r1 = ap (λ (z : ℕ → Option Role). z 1) g9.same_role in
-          let g = ready_field P main first IsJob 5 k17 (v17 ∷ []) g9.field 0 v17 v18 refl (record { words = refl; bears = refl; makes = refl; loaded = refl; joined = refl; owes = refl }) 1 r1.path (of_entry r1 is refl refl) refl refl refl refl in
+          let g = ready_field P main first IsJob 7 k17 (v17 ∷ []) g9.field 0 v17 v18 refl (record { words = refl; bears = refl; makes = refl; loaded = refl; joined = refl; owes = refl }) 1 r1.path (of_entry r1 is refl refl) refl refl refl refl in
           record { field = g.field; same_net = g.same_net ∙ g9.same_net; same_gave = g.same_gave ∙ g9.same_gave; same_role = g.same_role ∙ g9.same_role }
 
-      abbrev k18 : Parts (Job S)
+      abbrev pub k18 : Parts (Job S)
       k18 = record k17 { bodies = λ e. cond (e == 1) 2 (k16.bodies e); jobs = λ e. cond (e == 1) None (k16.jobs e) }
 
-      abbrev v19 : Bearing S → Sight S
+      abbrev pub v19 : Bearing S → Sight S
       v19 x = record v18 { bears = x ∷ c2 ∷ [] }
 
-      record Fetched (x : Bearing S) : Type 0 where
-        number : x.number ≡ 1
-        body : x.body ≡ (new_task P d.body o).body
-        path : x.path ≡ created_now P d.body ∷ d.path
-        rule : FieldAt P main first IsJob 5 net4 (λ e. false) role3 k18 (v19 x ∷ [])
+      pub record Fetched (x : Bearing S) : Type 0 where
+        pub number : x.number ≡ 1
+        pub body : x.body ≡ (new_task P d.body o).body
+        pub path : x.path ≡ created_now P d.body ∷ d.path
+        pub last : (z : Site) → x.last z ≡ None
+        pub rule : FieldAt P main first IsJob 7 net4 (λ e. false) role3 k18 (v19 x ∷ [])
 
       g11 : (x : Bearing S) × Fetched x
       g11 =
-          let y = take_field P main first IsJob 5 k17 (v18 ∷ []) g10.field 0 v18 refl 1 (among_first refl) refl k18.bodies k18.jobs refl refl
+          let y = take_field P main first IsJob 7 k17 (v18 ∷ []) g10.field 0 v18 refl 1 (among_first refl) refl k18.bodies k18.jobs refl refl
           (λ j ne. else_ (j == 1) 2 (k16.bodies j) (apart_from j 1 ne)) (λ j ne. else_ (j == 1) None (k16.jobs j) (apart_from j 1 ne)) in
           let x = y.1 in
           let g = y.5 (v19 x) (record { words = refl; makes = refl; ready = refl; joined = refl; owes = refl; seen = refl }) refl refl refl in
@@ -554,6 +555,7 @@ module _ {S : Type 0} (P : Program S) (main : Start S) (first : List ℕ) (setti
               number = y.2;
               body = sym y.4.body ∙ ap (λ (j : Job S). j.body) (sym same);
               path = path_one g.field.role (ap (λ (z : ℕ → Option Role). z 1) role) x.number x.path y.2 mine.number;
+              last = λ z. sym (y.4.last z) ∙ ap (λ (j : Job S). j.last z) (sym same);
               rule = record { field = g.field; same_net = g.same_net ∙ g10.same_net; same_gave = g.same_gave ∙ g10.same_gave; same_role = role };
             },
           )
@@ -589,15 +591,15 @@ module _ {S : Type 0} (P : Program S) (main : Start S) (first : List ℕ) (setti
               whole = refl;
             }
 
-        g12 : FieldAt P main first IsJob 5 net4 gave2 role3 k20 (v20 ∷ [])
+        g12 : FieldAt P main first IsJob 7 net4 gave2 role3 k20 (v20 ∷ [])
         g12 =
             let f = y.rule.field in
             let is : f.role 2 ≡ Some r2 = ap (λ (z : ℕ → Option Role). z 2) y.rule.same_role in
             let hangs : f.net.place 2 ≢ apart = λ h. let z : top ≡ apart = ap (λ (n : Net). n.place 2) (sym y.rule.same_net) ∙ h in let bad : ⊥ = cc in bad in
             let up : GivesUp f.gave gave2 2 = record { now = refl; same = λ j ne. else_ (j == 2) true false (apart_from j 2 ne) ∙ ap (λ (z : ℕ → Bool). z j) (sym y.rule.same_gave) } in
             let step : JobGoes (v19 x) v20 0 x x = record { has = refl; bears = refl; number = refl; path = refl; last = refl; start = refl; makes = refl; ready = refl; joined = refl } in
-            let right : right_of x.body.start.context 0 ≡ Holds Write true = ap (λ (z : Body S). right_of z.start.context 0) body ∙ right0 in
-            let g = gives_keep S (Job S) IsJob P main first 5 k18 (v19 x ∷ []) f 0 (v19 x) v20 0 x x x.body 2 r2 k20.states gave2 0 Write true (record {
+            let right : right_of x.body.start.context 0 ≡ Holds Write strong = ap (λ (z : Body S). right_of z.start.context 0) body ∙ right0 in
+            let g = gives_keep S (Job S) IsJob P main first 7 k18 (v19 x ∷ []) f 0 (v19 x) v20 0 x x x.body 2 r2 k20.states gave2 0 Write strong (record {
               up = record {
                 entry = record {
                   with_job = record { sits = refl; job = step; alone = still_there };
@@ -617,7 +619,7 @@ module _ {S : Type 0} (P : Program S) (main : Start S) (first : List ℕ) (setti
               };
               site = refl;
               right = right;
-              no_fold = λ p h. let z : Holds Write true ≡ Holds (Fold p) true = sym right ∙ h in let bad : ⊥ = cc in bad;
+              no_fold = λ p h. let z : Holds Write strong ≡ Holds (Fold p) true = sym right ∙ h in let bad : ⊥ = cc in bad;
               may = ended (ap (λ (z : Body S). is_ended P z) body ∙ over) (λ w. let z : false ≡ true = sym nowait ∙ ap (λ (u : Body S). u.start.order.wait) (sym body) ∙ w in absurd (let bad : ⊥ = cc in bad));
             }) in
             record { field = g.field; same_net = g.same_net ∙ y.rule.same_net; same_gave = g.same_gave; same_role = g.same_role ∙ y.rule.same_role }
@@ -638,7 +640,7 @@ module _ {S : Type 0} (P : Program S) (main : Start S) (first : List ℕ) (setti
         and_true true = refl
         and_true false = refl
 
-        g13 : FieldAt P main first IsJob 5 net4 gave2 role3 k21 (v21 ∷ [])
+        g13 : FieldAt P main first IsJob 7 net4 gave2 role3 k21 (v21 ∷ [])
         g13 =
             let d0 : Delivers net4 k20.states k21.states k20.infos (record { entry = 4; flag = 3 }) (record { entry = 4; flag = 4 } ∷ record { entry = 4; flag = 5 } ∷ []) v20.words v21.words = record {
               took = λ h. refl;
@@ -649,7 +651,7 @@ module _ {S : Type 0} (P : Program S) (main : Start S) (first : List ℕ) (setti
               sends = refl;
               whole = refl;
             } in
-            let g = deliveries_keep S (Job S) IsJob P main first 5 k20 (v20 ∷ []) g12.field 0 v20 v21 (record { entry = 4; flag = 3 }) (record { entry = 4; flag = 4 } ∷ record { entry = 4; flag = 5 } ∷ []) k21.states (record {
+            let g = deliveries_keep S (Job S) IsJob P main first 7 k20 (v20 ∷ []) g12.field 0 v20 v21 (record { entry = 4; flag = 3 }) (record { entry = 4; flag = 4 } ∷ record { entry = 4; flag = 5 } ∷ []) k21.states (record {
               sits = refl;
               word = subst (λ (n : Net). Delivers n k20.states k21.states k20.infos (record { entry = 4; flag = 3 }) (record { entry = 4; flag = 4 } ∷ record { entry = 4; flag = 5 } ∷ []) v20.words v21.words) (sym g12.same_net) d0;
               none = refl;
@@ -671,9 +673,9 @@ module _ {S : Type 0} (P : Program S) (main : Start S) (first : List ℕ) (setti
           | inr q ↦ (let a : num (i == 3) ≡ 0 = ap num q.0 in let b : num (3 == i) ≡ 0 = ap num (apart_from 3 i (λ e. q.1 (sym e))) in omega (arith, a, b))
         ]
 
-        g14 : FieldAt P main first IsJob 5 net4 gave2 role3 k22 (v22 ∷ [])
+        g14 : FieldAt P main first IsJob 7 net4 gave2 role3 k22 (v22 ∷ [])
         g14 =
-            let g = count_downs_keep S (Job S) IsJob P main first 5 k21 (v21 ∷ []) g13.field 0 v21 v22 3 k22.counts (record {
+            let g = count_downs_keep S (Job S) IsJob P main first 7 k21 (v21 ∷ []) g13.field 0 v21 v22 3 k22.counts (record {
               sits = refl;
               due = omega (arith);
               owes = λ j. let z = flip j in omega (arith, z);
@@ -688,7 +690,7 @@ module _ {S : Type 0} (P : Program S) (main : Start S) (first : List ℕ) (setti
         abbrev v23 : Sight S
         v23 = record v22 { ready = 3 ∷ 1 ∷ 0 ∷ [] }
 
-        g15 : FieldAt P main first IsJob 5 net4 gave2 role3 k22 (v23 ∷ [])
+        g15 : FieldAt P main first IsJob 7 net4 gave2 role3 k22 (v23 ∷ [])
         g15 =
-            let g = count_reads_keep S (Job S) IsJob P main first 5 k22 (v22 ∷ []) g14.field 0 v22 v23 3 (record { sits = refl; inside = omega (arith); spent = refl; ready = refl; seen = refl; still = refl; same = record { words = refl; bears = refl; makes = refl; loaded = refl; joined = refl; owes = refl } }) in
+            let g = count_reads_keep S (Job S) IsJob P main first 7 k22 (v22 ∷ []) g14.field 0 v22 v23 3 (record { sits = refl; inside = omega (arith); spent = refl; ready = refl; seen = refl; still = refl; same = record { words = refl; bears = refl; makes = refl; loaded = refl; joined = refl; owes = refl } }) in
             record { field = g.field; same_net = g.same_net ∙ g14.same_net; same_gave = g.same_gave ∙ g14.same_gave; same_role = g.same_role ∙ g14.same_role }

@@ -1,6 +1,6 @@
 -- The run of `RunStore` goes on from where the new task's job is taken: the task ticks and releases its cell, and then the cell is given up before
 -- the task has ended. The table's step is the give alone: the machine makes both own acts and the give in that one step.
-use Rattle.std.proofs.Common.{◌≡◌, ◌≢◌, ◌⊎◌, inl, inr, sym, subst, refl, ◌∙◌, ap, ℕ, arith, Bool, true, false, List, [], ◌∷◌, Option, Some, None}
+use Rattle.std.proofs.Common.{◌≡◌, ◌≢◌, sym, subst, refl, ◌∙◌, ap, ℕ, Bool, true, false, List, [], ◌∷◌, Option, Some}
 use Rattle.std.specs.Prelude.{◌==◌, cond}
 use Rattle.oss_syntax.specs.declared.access.Access.{Access}
 use Rattle.oss_syntax.specs.declared.access.Mode.{Mode}
@@ -100,7 +100,7 @@ module _ {S : Type 0} (P : Program S) (main : Start S) (first : List ℕ) (setti
             whole = refl;
           }
 
-      f11 : FieldAt P main first IsJob 5 net2 gave2 role1 k11 (v10 x2 ∷ [])
+      f11 : FieldAt P main first IsJob 7 net2 gave2 role1 k11 (v10 x2 ∷ [])
       f11 =
           let f = y.rule.field in
           let is : f.role 2 ≡ Some r2 = ap (λ (z : ℕ → Option Role). z 2) y.rule.same_role in
@@ -108,7 +108,7 @@ module _ {S : Type 0} (P : Program S) (main : Start S) (first : List ℕ) (setti
           let up : GivesUp f.gave gave2 2 = record { now = refl; same = λ j ne. else_ (j == 2) true false (apart_from j 2 ne) ∙ ap (λ (z : ℕ → Bool). z j) (sym y.rule.same_gave) } in
           let step : JobGoes (v10 x) (v10 x2) 0 x x2 = record { has = refl; bears = refl; number = refl; path = refl; last = refl; start = refl; makes = refl; ready = refl; joined = refl } in
           let right : right_of x.body.start.context 0 ≡ Holds Write true = ap (λ (z : Body S). right_of z.start.context 0) same_body ∙ right0 in
-          let g = gives_keep S (Job S) IsJob P main first 5 k10 (v10 x ∷ []) f 0 (v10 x) (v10 x2) 0 x x2 x2.body 2 r2 k11.states gave2 0 Write true (record {
+          let g = gives_keep S (Job S) IsJob P main first 7 k10 (v10 x ∷ []) f 0 (v10 x) (v10 x2) 0 x x2 x2.body 2 r2 k11.states gave2 0 Write true (record {
             up = record {
               entry = record {
                 with_job = record { sits = refl; job = step; alone = goes };

@@ -1,6 +1,6 @@
 -- A run of seats that draw, split and join: the first draws 1 and 2 and is split, and hands over 2; the new seat draws 3 and takes main's count; it
 -- is joined to the first again, which has drawn all three then and takes main's job.
-use Rattle.std.proofs.Common.{◌≡◌, ◌≢◌, ◌⊎◌, inl, inr, sym, subst, refl, ◌∙◌, ap, ℕ, zero, suc, arith, false, List, [], ◌∷◌, Option, Some, None}
+use Rattle.std.proofs.Common.{◌≡◌, ◌⊎◌, inl, inr, sym, subst, refl, ◌∙◌, ℕ, zero, suc, arith, false, List, [], ◌∷◌, Option, Some, None}
 use Rattle.std.specs.Prelude.{◌==◌, cond, set}
 use mathlib.Core.Option as maybe
 use Rattle.oss_model.specs.Agreement.{Setting}

@@ -29,7 +29,6 @@ use Rattle.oss_roles.specs.Numbers.{entry_number, has_cell}
 use Rattle.oss_roles.specs.Passing.{still_there}
 use Rattle.oss_roles.specs.Roles.{Role, Site, itself, on, Plans}
 use Rattle.oss_roles.specs.Sights.{Bearing, Making, Noted, Sight}
-use Rattle.oss_roles.specs.Steps.{JobGoes}
 use Rattle.oss_roles.specs.WordSteps.{joins_at_once}
 use Rattle.oss_roles.proofs.CallLemmas.{fresh_path}
 use Rattle.oss_roles.proofs.JobClaims.{leaves_keep, own_acts_keep, stores_keep, values_keep}

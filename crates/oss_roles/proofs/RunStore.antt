@@ -73,16 +73,16 @@ module _ {S : Type 0} (P : Program S) (main : Start S) (first : List ℕ) (setti
     abbrev k8 : Parts (Job S)
     k8 = run.k8 P main first setting infos values cell_of o act0 right0 only0 d t
 
-    f8 : FieldAt P main first IsJob 5 net2 (λ e. false) role1 k8 (v8 ∷ [])
+    f8 : FieldAt P main first IsJob 7 net2 (λ e. false) role1 k8 (v8 ∷ [])
     f8 = run.f8 P main first setting infos values cell_of o act0 right0 only0 d t
 
     -- its count is read, and its job taken
     abbrev pub v9 : Sight S
     v9 = record v8 { ready = 1 ∷ 0 ∷ [] }
 
-    f9 : FieldAt P main first IsJob 5 net2 (λ e. false) role1 k8 (v9 ∷ [])
+    f9 : FieldAt P main first IsJob 7 net2 (λ e. false) role1 k8 (v9 ∷ [])
     f9 =
-        let g = count_reads_keep S (Job S) IsJob P main first 5 k8 (v8 ∷ []) f8.field 0 v8 v9 1 (record { sits = refl; inside = omega (arith); spent = refl; ready = refl; seen = refl; still = refl; same = record { words = refl; bears = refl; makes = refl; loaded = refl; joined = refl; owes = refl } }) in
+        let g = count_reads_keep S (Job S) IsJob P main first 7 k8 (v8 ∷ []) f8.field 0 v8 v9 1 (record { sits = refl; inside = omega (arith); spent = refl; ready = refl; seen = refl; still = refl; same = record { words = refl; bears = refl; makes = refl; loaded = refl; joined = refl; owes = refl } }) in
         record { field = g.field; same_net = g.same_net ∙ f8.same_net; same_gave = g.same_gave ∙ f8.same_gave; same_role = g.same_role ∙ f8.same_role }
 
     abbrev pub k10 : Parts (Job S)
@@ -96,11 +96,11 @@ module _ {S : Type 0} (P : Program S) (main : Start S) (first : List ℕ) (setti
       pub body : x.body ≡ (new_task P d.body o).body
       pub path : x.path ≡ created_now P d.body ∷ d.path
       pub last : (z : Site) → x.last z ≡ None
-      pub rule : FieldAt P main first IsJob 5 net2 (λ e. false) role1 k10 (v10 x ∷ [])
+      pub rule : FieldAt P main first IsJob 7 net2 (λ e. false) role1 k10 (v10 x ∷ [])
 
     f10 : (x : Bearing S) × Fetched x
     f10 =
-        let y = takes_keep S (Job S) IsJob P main first 5 k8 (v9 ∷ []) f9.field 0 v9 1 k10.bodies k10.jobs (record {
+        let y = takes_keep S (Job S) IsJob P main first 7 k8 (v9 ∷ []) f9.field 0 v9 1 k10.bodies k10.jobs (record {
           sits = refl;
           found = among_first refl;
           one = refl;
@@ -137,7 +137,7 @@ module _ {S : Type 0} (P : Program S) (main : Start S) (first : List ℕ) (setti
       -- its entry on cell 0 is the one behind its own
       its_entry : (e : Filed y.rule.field.net y.rule.field.role x.path (on 0)) × (e.entry ≡ 2)
       its_entry =
-          let z = entries_follow S (Job S) IsJob P main first 5 k10 (v10 x ∷ []) y.rule.field 0 0 (v10 x) x (created_now P d.body) 0 d.path Write true refl refl y.path
+          let z = entries_follow S (Job S) IsJob P main first 7 k10 (v10 x ∷ []) y.rule.field 0 0 (v10 x) x (created_now P d.body) 0 d.path Write true refl refl y.path
           (ap (λ (z : Body S). right_of z.start.context 0) body ∙ right0) in
           (z.0, z.3 ∙ ap (λ (n : ℕ). entry_number n (right_of x.body.start.context) 0) y.number)
 
@@ -147,12 +147,12 @@ module _ {S : Type 0} (P : Program S) (main : Start S) (first : List ℕ) (setti
       abbrev pub k11 : Parts (Job S)
       k11 = record k10 { cells = slice_set first 0 stored }
 
-      f11 : FieldAt P main first IsJob 5 net2 (λ e. false) role1 k11 (v10 x1 ∷ [])
+      f11 : FieldAt P main first IsJob 7 net2 (λ e. false) role1 k11 (v10 x1 ∷ [])
       f11 =
           let f = y.rule.field in
           let step : JobGoes (v10 x) (v10 x1) 0 x x1 = record { has = refl; bears = refl; number = refl; path = refl; last = refl; start = refl; makes = refl; ready = refl; joined = refl } in
           let act' : act_now P x.body ≡ Store 0 stored = ap (λ (z : Body S). act_now P z) body ∙ act1 in
-          let g = stores_keep S (Job S) IsJob P main first 5 k10 (v10 x ∷ []) f 0 (v10 x) (v10 x1) 0 x x1 x.body k11.cells (record {
+          let g = stores_keep S (Job S) IsJob P main first 7 k10 (v10 x ∷ []) f 0 (v10 x) (v10 x1) 0 x x1 x.body k11.cells (record {
             with_job = record { sits = refl; job = step; alone = still_there };
             same = record { words = refl; owes = refl; seen = refl; still = refl };
             loaded = λ a h. elim h [ ];
@@ -181,7 +181,7 @@ module _ {S : Type 0} (P : Program S) (main : Start S) (first : List ℕ) (setti
             whole = refl;
           }
 
-      f12 : FieldAt P main first IsJob 5 net2 gave2 role1 k12 (v10 x1 ∷ [])
+      f12 : FieldAt P main first IsJob 7 net2 gave2 role1 k12 (v10 x1 ∷ [])
       f12 =
           let f = f11.field in
           let is : f.role 2 ≡ Some r2 = ap (λ (z : ℕ → Option Role). z 2) f11.same_role in
@@ -189,7 +189,7 @@ module _ {S : Type 0} (P : Program S) (main : Start S) (first : List ℕ) (setti
           let up : GivesUp f.gave gave2 2 = record { now = refl; same = λ j ne. else_ (j == 2) true false (apart_from j 2 ne) ∙ ap (λ (z : ℕ → Bool). z j) (sym f11.same_gave) } in
           let step : JobGoes (v10 x1) (v10 x1) 0 x1 x1 = record { has = refl; bears = refl; number = refl; path = refl; last = refl; start = refl; makes = refl; ready = refl; joined = refl } in
           let right : right_of x.body.start.context 0 ≡ Holds Write true = ap (λ (z : Body S). right_of z.start.context 0) body ∙ right0 in
-          let g = gives_keep S (Job S) IsJob P main first 5 k11 (v10 x1 ∷ []) f 0 (v10 x1) (v10 x1) 0 x1 x1 x1.body 2 r2 k12.states gave2 0 Write true (record {
+          let g = gives_keep S (Job S) IsJob P main first 7 k11 (v10 x1 ∷ []) f 0 (v10 x1) (v10 x1) 0 x1 x1 x1.body 2 r2 k12.states gave2 0 Write true (record {
             up = record {
               entry = record {
                 with_job = record { sits = refl; job = step; alone = still_there };
@@ -224,10 +224,10 @@ module _ {S : Type 0} (P : Program S) (main : Start S) (first : List ℕ) (setti
       abbrev pub v13 : Sight S
       v13 = record v9 { bears = c ∷ [] }
 
-      pub f13 : FieldAt P main first IsJob 5 net2 gave2 role1 k13 (v13 ∷ [])
+      pub f13 : FieldAt P main first IsJob 7 net2 gave2 role1 k13 (v13 ∷ [])
       f13 =
           let at_one : (j : ℕ) → j ≢ x.number → j ≢ 1 = λ j ne q. ne (q ∙ sym y.number) in
-          let g = puts_keep S (Job S) IsJob P main first 5 k12 (v10 x1 ∷ []) f12.field 0 (v10 x1) v13 x1 back k13.bodies k13.jobs (record {
+          let g = puts_keep S (Job S) IsJob P main first 7 k12 (v10 x1 ∷ []) f12.field 0 (v10 x1) v13 x1 back k13.bodies k13.jobs (record {
             sits = refl;
             same = record { words = refl; makes = refl; ready = refl; joined = refl; owes = refl; seen = refl };
             bears = refl;

@@ -1,6 +1,6 @@
 -- The run of `RunBelow` goes on: the task below the first one is taken and ends, and gives up its cell and itself. The first task has the clause wait;
 -- its seat has read that its last child is done, and so it may give up its cell, in two steps, by the second of which the cell is done.
-use Rattle.std.proofs.Common.{◌≡◌, ◌≢◌, ◌⊎◌, inl, inr, sym, subst, refl, ◌∙◌, ap, ℕ, ◌+◌, arith, Bool, true, false, List, [], ◌∷◌, Option, Some, None}
+use Rattle.std.proofs.Common.{◌≡◌, ◌≢◌, inl, inr, sym, subst, refl, ◌∙◌, ap, ℕ, ◌+◌, arith, Bool, true, false, List, [], ◌∷◌, Option, Some, None}
 use Rattle.std.specs.Prelude.{◌==◌, ◌&&◌, cond}
 use Rattle.std.proofs.lemmas.Bool.Decides.{eqb_tells}
 use Rattle.oss_syntax.specs.declared.access.Mode.{Mode}
@@ -13,7 +13,6 @@ use Rattle.oss_model.specs.Moves.{act_now, created_now, is_ended, new_task}
 use Rattle.oss_model.specs.Rights.{Holds}
 use Rattle.oss_words.specs.declared.entry.EntryInfo.{EntryInfo}
 use Rattle.oss_words.specs.declared.entry.EntryState.{EntryState}
-use Rattle.oss_words.specs.declared.message.Message.{Message}
 use Rattle.oss_words.specs.Causes.{sets_done}
 use Rattle.oss_words.specs.Net.{Net, apart, top, first as first_place}
 use Rattle.oss_words.specs.Steps.{Begins, Delivers, Gives, GivesUp, Rises}
@@ -23,7 +22,7 @@ use Rattle.oss_roles.specs.Alone.{with_answer}
 use Rattle.oss_roles.specs.Field.{FieldAt, Parts, IsNumberOf, of_main, of_entry}
 use Rattle.oss_roles.specs.JobSteps.{ended, at_once, begins}
 use Rattle.oss_roles.specs.Passing.{still_there, last_done}
-use Rattle.oss_roles.specs.Roles.{Role, Site, on}
+use Rattle.oss_roles.specs.Roles.{Role, on}
 use Rattle.oss_roles.specs.Sights.{Bearing, Sight}
 use Rattle.oss_roles.specs.Steps.{JobGoes}
 use Rattle.oss_roles.proofs.JobClaims.{gives_keep, own_gives_keep}
@@ -87,7 +86,7 @@ module _ {S : Type 0} (P : Program S) (main : Start S) (first : List ℕ) (setti
       abbrev k22 : Parts (Job S)
       k22 = below.k22 P main first setting infos values cell_of o act0 right0 only0 d t x y o2 act1 right1 only1
 
-      g12 : FieldAt P main first IsJob 5 net4 (λ e. false) role3 k22 (v22 ∷ [])
+      g12 : FieldAt P main first IsJob 7 net4 (λ e. false) role3 k22 (v22 ∷ [])
       g12 = below.g12 P main first setting infos values cell_of o act0 right0 only0 d t x y o2 act1 right1 only1
 
       -- the count down of the new task that is owed is made, and its count is read
@@ -103,9 +102,9 @@ module _ {S : Type 0} (P : Program S) (main : Start S) (first : List ℕ) (setti
         | inr q ↦ (let a : num (i == 3) ≡ 0 = ap num q.0 in let b : num (3 == i) ≡ 0 = ap num (apart_from 3 i (λ e. q.1 (sym e))) in omega (arith, a, b))
       ]
 
-      h1 : FieldAt P main first IsJob 5 net4 (λ e. false) role3 k23 (v23 ∷ [])
+      h1 : FieldAt P main first IsJob 7 net4 (λ e. false) role3 k23 (v23 ∷ [])
       h1 =
-          let g = count_downs_keep S (Job S) IsJob P main first 5 k22 (v22 ∷ []) g12.field 0 v22 v23 3 k23.counts (record {
+          let g = count_downs_keep S (Job S) IsJob P main first 7 k22 (v22 ∷ []) g12.field 0 v22 v23 3 k23.counts (record {
             sits = refl;
             due = omega (arith);
             owes = λ j. let z = flip j in omega (arith, z);
@@ -119,9 +118,9 @@ module _ {S : Type 0} (P : Program S) (main : Start S) (first : List ℕ) (setti
       abbrev v24 : Sight S
       v24 = record v23 { ready = 3 ∷ 1 ∷ 0 ∷ [] }
 
-      h2 : FieldAt P main first IsJob 5 net4 (λ e. false) role3 k23 (v24 ∷ [])
+      h2 : FieldAt P main first IsJob 7 net4 (λ e. false) role3 k23 (v24 ∷ [])
       h2 =
-          let g = count_reads_keep S (Job S) IsJob P main first 5 k23 (v23 ∷ []) h1.field 0 v23 v24 3 (record { sits = refl; inside = omega (arith); spent = refl; ready = refl; seen = refl; still = refl; same = record { words = refl; bears = refl; makes = refl; loaded = refl; joined = refl; owes = refl } }) in
+          let g = count_reads_keep S (Job S) IsJob P main first 7 k23 (v23 ∷ []) h1.field 0 v23 v24 3 (record { sits = refl; inside = omega (arith); spent = refl; ready = refl; seen = refl; still = refl; same = record { words = refl; bears = refl; makes = refl; loaded = refl; joined = refl; owes = refl } }) in
           record { field = g.field; same_net = g.same_net ∙ h1.same_net; same_gave = g.same_gave ∙ h1.same_gave; same_role = g.same_role ∙ h1.same_role }
 
       -- its job is taken
@@ -135,11 +134,11 @@ module _ {S : Type 0} (P : Program S) (main : Start S) (first : List ℕ) (setti
         pub number : q.number ≡ 3
         pub body : q.body ≡ (new_task P x.body o2).body
         pub path : q.path ≡ created_now P x.body ∷ x.path
-        pub rule : FieldAt P main first IsJob 5 net4 (λ e. false) role3 k25 (v25 q ∷ [])
+        pub rule : FieldAt P main first IsJob 7 net4 (λ e. false) role3 k25 (v25 q ∷ [])
 
       h3 : (q : Bearing S) × Child q
       h3 =
-          let a = takes_keep S (Job S) IsJob P main first 5 k23 (v24 ∷ []) h2.field 0 v24 3 k25.bodies k25.jobs (record {
+          let a = takes_keep S (Job S) IsJob P main first 7 k23 (v24 ∷ []) h2.field 0 v24 3 k25.bodies k25.jobs (record {
             sits = refl;
             found = among_first refl;
             one = refl;
@@ -201,13 +200,13 @@ module _ {S : Type 0} (P : Program S) (main : Start S) (first : List ℕ) (setti
               whole = refl;
             }
 
-        h4 : FieldAt P main first IsJob 5 net4 gave4 role3 k26 (v25 q ∷ [])
+        h4 : FieldAt P main first IsJob 7 net4 gave4 role3 k26 (v25 q ∷ [])
         h4 =
             let f = g.rule.field in
             let is : f.role 4 ≡ Some r4 = ap (λ (z : ℕ → Option Role). z 4) g.rule.same_role in
             let hangs : f.net.place 4 ≢ apart = λ h. let z : first_place 2 ≡ apart = ap (λ (n : Net). n.place 4) (sym g.rule.same_net) ∙ h in let bad : ⊥ = cc in bad in
             let up : GivesUp f.gave gave4 4 = record { now = refl; same = λ j ne. else_ (j == 4) true false (apart_from j 4 ne) ∙ ap (λ (z : ℕ → Bool). z j) (sym g.rule.same_gave) } in
-            let a = gives_keep S (Job S) IsJob P main first 5 k25 (v25 q ∷ []) f 0 (v25 q) (v25 q) 0 q q q.body 4 r4 k26.states gave4 0 Write true (record {
+            let a = gives_keep S (Job S) IsJob P main first 7 k25 (v25 q ∷ []) f 0 (v25 q) (v25 q) 0 q q q.body 4 r4 k26.states gave4 0 Write true (record {
               up = record {
                 entry = record {
                   with_job = record { sits = refl; job = same_job; alone = still_there };
@@ -239,9 +238,9 @@ module _ {S : Type 0} (P : Program S) (main : Start S) (first : List ℕ) (setti
         abbrev v27 : Sight S
         v27 = record (v25 q) { seen = read4 ∷ [] }
 
-        h5 : FieldAt P main first IsJob 5 net4 gave4 role3 k26 (v27 ∷ [])
+        h5 : FieldAt P main first IsJob 7 net4 gave4 role3 k26 (v27 ∷ [])
         h5 =
-            let a = word_reads_keep S (Job S) IsJob P main first 5 k26 (v25 q ∷ []) h4.field 0 (v25 q) v27 4 (record { sits = refl; ready = refl; seen = refl; still = inl refl; same = record { words = refl; bears = refl; makes = refl; loaded = refl; joined = refl; owes = refl } }) in
+            let a = word_reads_keep S (Job S) IsJob P main first 7 k26 (v25 q ∷ []) h4.field 0 (v25 q) v27 4 (record { sits = refl; ready = refl; seen = refl; still = inl refl; same = record { words = refl; bears = refl; makes = refl; loaded = refl; joined = refl; owes = refl } }) in
             record { field = a.field; same_net = a.same_net ∙ h4.same_net; same_gave = a.same_gave ∙ h4.same_gave; same_role = a.same_role ∙ h4.same_role }
 
         abbrev k28 : Parts (Job S)
@@ -263,7 +262,7 @@ module _ {S : Type 0} (P : Program S) (main : Start S) (first : List ℕ) (setti
               whole = refl;
             }
 
-        h6 : FieldAt P main first IsJob 5 net4 gave3 role3 k28 (v27 ∷ [])
+        h6 : FieldAt P main first IsJob 7 net4 gave3 role3 k28 (v27 ∷ [])
         h6 =
             let f = h5.field in
             let is : f.role 3 ≡ Some r3 = ap (λ (z : ℕ → Option Role). z 3) h5.same_role in
@@ -272,7 +271,7 @@ module _ {S : Type 0} (P : Program S) (main : Start S) (first : List ℕ) (setti
             let hangs4 : f.net.place 4 ≢ apart = λ h. let z : first_place 2 ≡ apart = ap (λ (n : Net). n.place 4) (sym h5.same_net) ∙ h in let bad : ⊥ = cc in bad in
             let up : GivesUp f.gave gave3 3 = record { now = refl; same = λ j ne. else_ (j == 3) true (gave4 j) (apart_from j 3 ne) ∙ ap (λ (z : ℕ → Bool). z j) (sym h5.same_gave) } in
             let step : JobGoes v27 v27 0 q q = record { has = refl; bears = refl; number = refl; path = refl; last = refl; start = refl; makes = refl; ready = refl; joined = refl } in
-            let a = own_gives_keep S (Job S) IsJob P main first 5 k26 (v27 ∷ []) f 0 v27 v27 0 q q q.body 3 r3 k28.states gave3 (record {
+            let a = own_gives_keep S (Job S) IsJob P main first 7 k26 (v27 ∷ []) f 0 v27 v27 0 q q q.body 3 r3 k28.states gave3 (record {
               up = record {
                 entry = record {
                   with_job = record { sits = refl; job = step; alone = still_there };
@@ -312,9 +311,9 @@ module _ {S : Type 0} (P : Program S) (main : Start S) (first : List ℕ) (setti
         abbrev v29 : Sight S
         v29 = record v27 { seen = read3 ∷ read4 ∷ [] }
 
-        h7 : FieldAt P main first IsJob 5 net4 gave3 role3 k28 (v29 ∷ [])
+        h7 : FieldAt P main first IsJob 7 net4 gave3 role3 k28 (v29 ∷ [])
         h7 =
-            let a = word_reads_keep S (Job S) IsJob P main first 5 k28 (v27 ∷ []) h6.field 0 v27 v29 3 (record { sits = refl; ready = refl; seen = refl; still = inl refl; same = record { words = refl; bears = refl; makes = refl; loaded = refl; joined = refl; owes = refl } }) in
+            let a = word_reads_keep S (Job S) IsJob P main first 7 k28 (v27 ∷ []) h6.field 0 v27 v29 3 (record { sits = refl; ready = refl; seen = refl; still = inl refl; same = record { words = refl; bears = refl; makes = refl; loaded = refl; joined = refl; owes = refl } }) in
             record { field = a.field; same_net = a.same_net ∙ h6.same_net; same_gave = a.same_gave ∙ h6.same_gave; same_role = a.same_role ∙ h6.same_role }
 
         pub first_waits : x1.body.start.order.wait ≡ true
@@ -342,7 +341,7 @@ module _ {S : Type 0} (P : Program S) (main : Start S) (first : List ℕ) (setti
               whole = refl;
             }
 
-        h8 : FieldAt P main first IsJob 5 net4 gave2 role3 k30 (v30 ∷ [])
+        h8 : FieldAt P main first IsJob 7 net4 gave2 role3 k30 (v30 ∷ [])
         h8 =
             let f = h7.field in
             let is : f.role 2 ≡ Some r2 = ap (λ (z : ℕ → Option Role). z 2) h7.same_role in
@@ -350,7 +349,7 @@ module _ {S : Type 0} (P : Program S) (main : Start S) (first : List ℕ) (setti
             let up : GivesUp f.gave gave2 2 = record { now = refl; same = λ j ne. else_ (j == 2) true (gave3 j) (apart_from j 2 ne) ∙ ap (λ (z : ℕ → Bool). z j) (sym h7.same_gave) } in
             let step : JobGoes v29 v30 1 x1 x1 = record { has = refl; bears = refl; number = refl; path = refl; last = refl; start = refl; makes = refl; ready = refl; joined = refl } in
             let right : right_of x.body.start.context 0 ≡ Holds Write true = ap (λ (b : Body S). right_of b.start.context 0) same_body ∙ right0 in
-            let a = gives_keep S (Job S) IsJob P main first 5 k28 (v29 ∷ []) f 0 v29 v30 1 x1 x1 x1.body 2 r2 k30.states gave2 0 Write true (record {
+            let a = gives_keep S (Job S) IsJob P main first 7 k28 (v29 ∷ []) f 0 v29 v30 1 x1 x1 x1.body 2 r2 k30.states gave2 0 Write true (record {
               up = record {
                 entry = record {
                   with_job = record { sits = refl; job = step; alone = still_there };
@@ -395,9 +394,9 @@ module _ {S : Type 0} (P : Program S) (main : Start S) (first : List ℕ) (setti
               whole = refl;
             }
 
-        h9 : FieldAt P main first IsJob 5 net4 gave2 role3 k31 (v31 ∷ [])
+        h9 : FieldAt P main first IsJob 7 net4 gave2 role3 k31 (v31 ∷ [])
         h9 =
-            let a = last_links_keep S (Job S) IsJob P main first 5 k30 (v30 ∷ []) h8.field 0 v30 v31 2 k31.states (record {
+            let a = last_links_keep S (Job S) IsJob P main first 7 k30 (v30 ∷ []) h8.field 0 v30 v31 2 k31.states (record {
               sits = refl;
               word = subst (λ (n : Net). Rises n k30.states k31.states k30.infos 2 v30.words v31.words) (sym h8.same_net) risen;
               unlinked = ap (λ (n : Net). (k30.states (n.last 2)).linked) h8.same_net;
@@ -414,7 +413,7 @@ module _ {S : Type 0} (P : Program S) (main : Start S) (first : List ℕ) (setti
         and_false true = refl
         and_false false = refl
 
-        h10 : FieldAt P main first IsJob 5 net4 gave2 role3 k32 (v29 ∷ [])
+        h10 : FieldAt P main first IsJob 7 net4 gave2 role3 k32 (v29 ∷ [])
         h10 =
             let word : Delivers net4 k31.states k32.states k31.infos (record { entry = 2; flag = 1 }) [] v31.words v29.words = record {
               took = λ h. refl;
@@ -425,7 +424,7 @@ module _ {S : Type 0} (P : Program S) (main : Start S) (first : List ℕ) (setti
               sends = refl;
               whole = refl;
             } in
-            let a = deliveries_keep S (Job S) IsJob P main first 5 k31 (v31 ∷ []) h9.field 0 v31 v29 (record { entry = 2; flag = 1 }) [] k32.states (record {
+            let a = deliveries_keep S (Job S) IsJob P main first 7 k31 (v31 ∷ []) h9.field 0 v31 v29 (record { entry = 2; flag = 1 }) [] k32.states (record {
               sits = refl;
               word = subst (λ (n : Net). Delivers n k31.states k32.states k31.infos (record { entry = 2; flag = 1 }) [] v31.words v29.words) (sym h9.same_net) word;
               none = refl;

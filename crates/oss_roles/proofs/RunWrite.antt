@@ -1,4 +1,4 @@
--- A run: main makes a task that writes cell 0, which is opened. Each step is met by words and views, so none of the laws asks for what cannot be.
+-- A run: main makes a task that writes cell 0, or whose children may, which is opened. Each step is met by words and views, so none of the laws asks for what cannot be.
 -- When the first has ended and given up the cell, reads is delivered and the count goes to 0.
 use Rattle.std.proofs.Common.{◌≡◌, ◌≢◌, ◌⊎◌, inl, inr, sym, subst, refl, ◌∙◌, ap, ℕ, zero, suc, arith, Bool, true, false, List, [], ◌∷◌, Option, Some, None}
 use Rattle.std.specs.Prelude.{◌==◌, cond}
@@ -85,9 +85,9 @@ pub path_of_main : (role : ℕ → Option Role) → ((e : ℕ) → role e ≡ No
 path_of_main role none t p of_main = refl
 path_of_main role none t p (of_entry r is site path) = some_none r (sym (none t) ∙ is)
 
-module _ {S : Type 0} (P : Program S) (main : Start S) (first : List ℕ) (setting : Setting main first) (infos : ℕ → EntryInfo) (values cell_of : ℕ → ℕ) (o : Order S)
+module _ {S : Type 0} {strong : Bool} (P : Program S) (main : Start S) (first : List ℕ) (setting : Setting main first) (infos : ℕ → EntryInfo) (values cell_of : ℕ → ℕ) (o : Order S)
     (act0 : act_now P (record { start = main; found = [] }) ≡ Created o false)
-    (right0 : right_of (new_task P (record { start = main; found = [] }) o).body.start.context 0 ≡ Holds Write true)
+    (right0 : right_of (new_task P (record { start = main; found = [] }) o).body.start.context 0 ≡ Holds Write strong)
     (only0 : (c : ℕ) (m : Mode) (s : Bool) → right_of (new_task P (record { start = main; found = [] }) o).body.start.context c ≡ Holds m s → c ≡ 0) where
   abbrev pub b0 : Body S
   b0 = record { start = main; found = [] }
@@ -101,16 +101,16 @@ module _ {S : Type 0} (P : Program S) (main : Start S) (first : List ℕ) (setti
   abbrev pub v0 : Sight S
   v0 = first_sight
 
-  pub f0 : FieldAt P main first IsJob 5 bare (λ e. false) (λ e. None) k0 (v0 ∷ [])
-  f0 = start_field P main first IsJob setting 5 (omega (arith)) (omega (arith)) j0 infos values cell_of (record { task = refl; body = refl; last = λ y. refl })
+  pub f0 : FieldAt P main first IsJob 7 bare (λ e. false) (λ e. None) k0 (v0 ∷ [])
+  f0 = start_field P main first IsJob setting 7 (omega (arith)) (omega (arith)) j0 infos values cell_of (record { task = refl; body = refl; last = λ y. refl })
 
   -- the count of main is read
   abbrev pub v1 : Sight S
   v1 = record v0 { ready = 0 ∷ [] }
 
-  pub f1 : FieldAt P main first IsJob 5 bare (λ e. false) (λ e. None) k0 (v1 ∷ [])
+  pub f1 : FieldAt P main first IsJob 7 bare (λ e. false) (λ e. None) k0 (v1 ∷ [])
   f1 =
-      let g = count_reads_keep S (Job S) IsJob P main first 5 k0 (v0 ∷ []) f0.field 0 v0 v1 0 (record { sits = refl; inside = omega (arith); spent = refl; ready = refl; seen = refl; still = refl; same = record { words = refl; bears = refl; makes = refl; loaded = refl; joined = refl; owes = refl } }) in
+      let g = count_reads_keep S (Job S) IsJob P main first 7 k0 (v0 ∷ []) f0.field 0 v0 v1 0 (record { sits = refl; inside = omega (arith); spent = refl; ready = refl; seen = refl; still = refl; same = record { words = refl; bears = refl; makes = refl; loaded = refl; joined = refl; owes = refl } }) in
       record { field = g.field; same_net = g.same_net ∙ f0.same_net; same_gave = g.same_gave ∙ f0.same_gave; same_role = g.same_role ∙ f0.same_role }
 
   -- its job is taken
@@ -125,11 +125,11 @@ module _ {S : Type 0} (P : Program S) (main : Start S) (first : List ℕ) (setti
     pub body : d.body ≡ b0
     pub path : d.path ≡ []
     pub last : (y : Site) → d.last y ≡ None
-    pub rule : FieldAt P main first IsJob 5 bare (λ e. false) (λ e. None) k2 (v2 d ∷ [])
+    pub rule : FieldAt P main first IsJob 7 bare (λ e. false) (λ e. None) k2 (v2 d ∷ [])
 
   pub f2 : (d : Bearing S) × Taken d
   f2 =
-      let t = takes_keep S (Job S) IsJob P main first 5 k0 (v1 ∷ []) f1.field 0 v1 0 k2.bodies k2.jobs (record {
+      let t = takes_keep S (Job S) IsJob P main first 7 k0 (v1 ∷ []) f1.field 0 v1 0 k2.bodies k2.jobs (record {
         sits = refl;
         found = among_first refl;
         one = refl;
@@ -163,11 +163,11 @@ module _ {S : Type 0} (P : Program S) (main : Start S) (first : List ℕ) (setti
     pub act : act_now P d.body ≡ Created o false
     act = ap (λ (x : Body S). act_now P x) t.body ∙ act0
 
-    pub right_now : (c : ℕ) (m : Mode) (s : Bool) → right_of (new_task P d.body o).body.start.context c ≡ Holds m s → (0 ≡ c) × (Write ≡ m) × (true ≡ s)
+    pub right_now : (c : ℕ) (m : Mode) (s : Bool) → right_of (new_task P d.body o).body.start.context c ≡ Holds m s → (0 ≡ c) × (Write ≡ m) × (strong ≡ s)
     right_now c m s h =
         let h0 = subst (λ (x : Body S). right_of (new_task P x o).body.start.context c ≡ Holds m s) t.body h in
         let zero_is : c ≡ 0 = only0 c m s h0 in
-        let e : Holds Write true ≡ Holds m s = sym right0 ∙ ap (λ (x : ℕ). right_of (new_task P b0 o).body.start.context x) (sym zero_is) ∙ h0 in
+        let e : Holds Write strong ≡ Holds m s = sym right0 ∙ ap (λ (x : ℕ). right_of (new_task P b0 o).body.start.context x) (sym zero_is) ∙ h0 in
         (sym zero_is, cc, cc)
 
     -- the count of the new task is set: 1, since it has no cells
@@ -175,7 +175,7 @@ module _ {S : Type 0} (P : Program S) (main : Start S) (first : List ℕ) (setti
     r1 = record { path = created_now P d.body ∷ d.path; site = itself; task = 1; mode = Read; strong = false; counts = false }
 
     abbrev pub r2 : Role
-    r2 = record { path = created_now P d.body ∷ d.path; site = on 0; task = 1; mode = Write; strong = true; counts = false }
+    r2 = record { path = created_now P d.body ∷ d.path; site = on 0; task = 1; mode = Write; strong = strong; counts = false }
 
     abbrev pub role1 : ℕ → Option Role
     role1 e = cond (e == 1) (Some r1) (cond (e == 2) (Some r2) None)
@@ -233,11 +233,11 @@ module _ {S : Type 0} (P : Program S) (main : Start S) (first : List ℕ) (setti
           ];
         }
 
-    pub f3 : FieldAt P main first IsJob 5 bare (λ e. false) role1 k3 (v3 0 ∷ [])
+    pub f3 : FieldAt P main first IsJob 7 bare (λ e. false) role1 k3 (v3 0 ∷ [])
     f3 =
         let f = t.rule in
         let plans' = subst (λ (n : Net). Plans n f.field.role role1 1 (created_now P d.body ∷ d.path)) (sym f.same_net) (subst (λ (x : ℕ → Option Role). Plans bare x role1 1 (created_now P d.body ∷ d.path)) (sym f.same_role) plans) in
-        let g = plans_keep S (Job S) IsJob P main first 5 k2 (v2 d ∷ []) f.field 0 (v2 d) (v3 0) 0 d o 1 role1 (making 0) k3.counts (record {
+        let g = plans_keep S (Job S) IsJob P main first 7 k2 (v2 d ∷ []) f.field 0 (v2 d) (v3 0) 0 d o 1 role1 (making 0) k3.counts (record {
           sits = refl;
           has = refl;
           act = act;
@@ -279,7 +279,7 @@ module _ {S : Type 0} (P : Program S) (main : Start S) (first : List ℕ) (setti
     pub blank : (p : Place) → p ≡ apart → Blank p no_flags
     blank p h = record { linked = refl; headed = refl; left = refl; folds = refl; reads = refl; writes = refl; clear = refl }
 
-    pub fills : Fills 5 bare k3.states k4.states k3.infos k4.infos 1
+    pub fills : Fills 7 bare k3.states k4.states k3.infos k4.infos 1
     fills =
         record {
           inside = omega (arith);
@@ -294,10 +294,10 @@ module _ {S : Type 0} (P : Program S) (main : Start S) (first : List ℕ) (setti
           other_infos = λ j ne. else_ (j == 1) info1 (infos j) (apart_from j 1 ne);
         }
 
-    pub f4 : FieldAt P main first IsJob 5 bare (λ e. false) role1 k4 (v3 0 ∷ [])
+    pub f4 : FieldAt P main first IsJob 7 bare (λ e. false) role1 k4 (v3 0 ∷ [])
     f4 =
-        let fills' = subst (λ (n : Net). Fills 5 n k3.states k4.states k3.infos k4.infos 1) (sym f3.same_net) fills in
-        let g = fills_keep S (Job S) IsJob P main first 5 k3 (v3 0 ∷ []) f3.field 1 k4.states k4.infos k3.cell_of (record {
+        let fills' = subst (λ (n : Net). Fills 7 n k3.states k4.states k3.infos k4.infos 1) (sym f3.same_net) fills in
+        let g = fills_keep S (Job S) IsJob P main first 7 k3 (v3 0 ∷ []) f3.field 1 k4.states k4.infos k3.cell_of (record {
           fills = fills';
           cells = λ j ne. refl;
           flags = inr (λ r h. uncounted 1 r (sym (ap (λ (z : ℕ → Option Role). z 1) f3.same_role) ∙ h));
@@ -306,12 +306,12 @@ module _ {S : Type 0} (P : Program S) (main : Start S) (first : List ℕ) (setti
 
     -- and that of its cell
     abbrev pub info2 : EntryInfo
-    info2 = record { mode = Write; strong = true; depth = 1; parent = 0; task = 1 }
+    info2 = record { mode = Write; strong = strong; depth = 1; parent = 0; task = 1 }
 
     abbrev pub k4b : Parts (Job S)
     k4b = record k4 { states = λ e. cond (e == 2) open_flags (cond (e == 1) open_flags no_flags); infos = λ e. cond (e == 2) info2 (cond (e == 1) info1 (infos e)); cell_of = λ e. cond (e == 2) 0 (cell_of e) }
 
-    pub fills2 : Fills 5 bare k4.states k4b.states k4.infos k4b.infos 2
+    pub fills2 : Fills 7 bare k4.states k4b.states k4.infos k4b.infos 2
     fills2 =
         record {
           inside = omega (arith);
@@ -326,10 +326,10 @@ module _ {S : Type 0} (P : Program S) (main : Start S) (first : List ℕ) (setti
           other_infos = λ j ne. else_ (j == 2) info2 (k4.infos j) (apart_from j 2 ne);
         }
 
-    pub f4b : FieldAt P main first IsJob 5 bare (λ e. false) role1 k4b (v3 0 ∷ [])
+    pub f4b : FieldAt P main first IsJob 7 bare (λ e. false) role1 k4b (v3 0 ∷ [])
     f4b =
-        let fills' = subst (λ (n : Net). Fills 5 n k4.states k4b.states k4.infos k4b.infos 2) (sym f4.same_net) fills2 in
-        let g = fills_keep S (Job S) IsJob P main first 5 k4 (v3 0 ∷ []) f4.field 2 k4b.states k4b.infos k4b.cell_of (record {
+        let fills' = subst (λ (n : Net). Fills 7 n k4.states k4b.states k4.infos k4b.infos 2) (sym f4.same_net) fills2 in
+        let g = fills_keep S (Job S) IsJob P main first 7 k4 (v3 0 ∷ []) f4.field 2 k4b.states k4b.infos k4b.cell_of (record {
           fills = fills';
           cells = λ j ne. else_ (j == 2) 0 (cell_of j) (apart_from j 2 ne);
           flags = inr (λ r h. uncounted 2 r (sym (ap (λ (z : ℕ → Option Role). z 2) f4.same_role) ∙ h));
@@ -355,7 +355,7 @@ module _ {S : Type 0} (P : Program S) (main : Start S) (first : List ℕ) (setti
           how = first_of_main refl refl refl refl;
         }
 
-    pub begun : Begun 5 bare net1 k4b.states k4b.infos 1
+    pub begun : Begun 7 bare net1 k4b.states k4b.infos 1
     begun =
         record {
           adds = adds;
@@ -376,11 +376,11 @@ module _ {S : Type 0} (P : Program S) (main : Start S) (first : List ℕ) (setti
     pub first_making : (s : ℕ) → Among (making s) (v3 s).makes
     first_making s = among_first refl
 
-    pub f5 : FieldAt P main first IsJob 5 net1 (λ e. false) role1 k4b (v3 0 ∷ [])
+    pub f5 : FieldAt P main first IsJob 7 net1 (λ e. false) role1 k4b (v3 0 ∷ [])
     f5 =
         let f = f4b.field in
-        let begun' = subst (λ (n : Net). Begun 5 n net1 k4b.states k4b.infos 1) (sym f4b.same_net) begun in
-        let x = links_keep S (Job S) IsJob P main first 5 k4b (v3 0 ∷ []) f 0 (v3 0) (v3 0) 0 d (making 0) 1 r1 net1 k4b.states (record {
+        let begun' = subst (λ (n : Net). Begun 7 n net1 k4b.states k4b.infos 1) (sym f4b.same_net) begun in
+        let x = links_keep S (Job S) IsJob P main first 7 k4b (v3 0 ∷ []) f 0 (v3 0) (v3 0) 0 d (making 0) 1 r1 net1 k4b.states (record {
           sits = refl;
           has = refl;
           by = t.number;
@@ -414,7 +414,7 @@ module _ {S : Type 0} (P : Program S) (main : Start S) (first : List ℕ) (setti
           how = first_of_main refl refl refl refl;
         }
 
-    pub begun2 : Begun 5 net1 net2 k4b.states k4b.infos 2
+    pub begun2 : Begun 7 net1 net2 k4b.states k4b.infos 2
     begun2 =
         record {
           adds = adds2;
@@ -432,11 +432,11 @@ module _ {S : Type 0} (P : Program S) (main : Start S) (first : List ℕ) (setti
           clear = refl;
         }
 
-    pub f5b : FieldAt P main first IsJob 5 net2 (λ e. false) role1 k4b (v3 0 ∷ [])
+    pub f5b : FieldAt P main first IsJob 7 net2 (λ e. false) role1 k4b (v3 0 ∷ [])
     f5b =
         let f = f5.field in
-        let begun' = subst (λ (n : Net). Begun 5 n net2 k4b.states k4b.infos 2) (sym f5.same_net) begun2 in
-        let x = links_keep S (Job S) IsJob P main first 5 k4b (v3 0 ∷ []) f 0 (v3 0) (v3 0) 0 d (making 0) 2 r2 net2 k4b.states (record {
+        let begun' = subst (λ (n : Net). Begun 7 n net2 k4b.states k4b.infos 2) (sym f5.same_net) begun2 in
+        let x = links_keep S (Job S) IsJob P main first 7 k4b (v3 0 ∷ []) f 0 (v3 0) (v3 0) 0 d (making 0) 2 r2 net2 k4b.states (record {
           sits = refl;
           has = refl;
           by = t.number;
@@ -462,9 +462,9 @@ module _ {S : Type 0} (P : Program S) (main : Start S) (first : List ℕ) (setti
     abbrev pub k7 : Parts (Job S)
     k7 = record k4b { bodies = λ e. cond (e == 1) 1 (cond (e == 0) 2 0); jobs = λ e. cond (e == 1) (Some j1) None }
 
-    pub f6 : FieldAt P main first IsJob 5 net2 (λ e. false) role1 k6 (v3 1 ∷ [])
+    pub f6 : FieldAt P main first IsJob 7 net2 (λ e. false) role1 k6 (v3 1 ∷ [])
     f6 =
-        let x = first_puts_keep S (Job S) IsJob P main first 5 k4b (v3 0 ∷ []) f5b.field 0 (v3 0) (v3 1) 0 d o (making 0) (making 1) k6.bodies k6.jobs (record {
+        let x = first_puts_keep S (Job S) IsJob P main first 7 k4b (v3 0 ∷ []) f5b.field 0 (v3 0) (v3 1) 0 d o (making 0) (making 1) k6.bodies k6.jobs (record {
           sits = refl;
           has = refl;
           by = t.number;
@@ -483,9 +483,9 @@ module _ {S : Type 0} (P : Program S) (main : Start S) (first : List ℕ) (setti
         }) in
         record { field = x.field; same_net = x.same_net ∙ f5b.same_net; same_gave = x.same_gave ∙ f5b.same_gave; same_role = x.same_role ∙ f5b.same_role }
 
-    pub f7 : FieldAt P main first IsJob 5 net2 (λ e. false) role1 k7 (v3 2 ∷ [])
+    pub f7 : FieldAt P main first IsJob 7 net2 (λ e. false) role1 k7 (v3 2 ∷ [])
     f7 =
-        let x = first_puts_keep S (Job S) IsJob P main first 5 k6 (v3 1 ∷ []) f6.field 0 (v3 1) (v3 2) 0 d o (making 1) (making 2) k7.bodies k7.jobs (record {
+        let x = first_puts_keep S (Job S) IsJob P main first 7 k6 (v3 1 ∷ []) f6.field 0 (v3 1) (v3 2) 0 d o (making 1) (making 2) k7.bodies k7.jobs (record {
           sits = refl;
           has = refl;
           by = t.number;
@@ -514,11 +514,11 @@ module _ {S : Type 0} (P : Program S) (main : Start S) (first : List ℕ) (setti
     abbrev pub k8 : Parts (Job S)
     k8 = record k7 { counts = λ e. cond (e == 1) 0 (cond (e == 0) 0 18446744073709551615) }
 
-    pub f8 : FieldAt P main first IsJob 5 net2 (λ e. false) role1 k8 (v8 ∷ [])
+    pub f8 : FieldAt P main first IsJob 7 net2 (λ e. false) role1 k8 (v8 ∷ [])
     f8 =
         let f = f7.field in
         let role_at : (e : ℕ) (r : Role) → f.role e ≡ Some r → ((e ≡ 1) × (r1 ≡ r)) ⊎ ((e ≡ 2) × (r2 ≡ r)) = λ e r h. role_is e r (sym (ap (λ (z : ℕ → Option Role). z e) f7.same_role) ∙ h) in
-        let x = openings_keep S (Job S) IsJob P main first 5 k7 (v3 2 ∷ []) f 0 (v3 2) v8 0 d c (making 2) k8.counts (record {
+        let x = openings_keep S (Job S) IsJob P main first 7 k7 (v3 2 ∷ []) f 0 (v3 2) v8 0 d c (making 2) k8.counts (record {
           sits = refl;
           has = refl;
           by = t.number;
