@@ -34,6 +34,7 @@ pub mod RunLoad
 pub mod RunOn
 pub mod RunPair
 pub mod RunRelease
+pub mod RunRest
 pub mod RunSeats
 pub mod RunSibling
 pub mod RunStore
