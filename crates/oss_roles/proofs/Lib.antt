@@ -37,6 +37,7 @@ pub mod RunRelease
 pub mod RunRest
 pub mod RunSeats
 pub mod RunSibling
+pub mod RunStill
 pub mod RunStore
 pub mod RunTest
 pub mod RunWait

@@ -516,17 +516,17 @@ module _ {S : Type 0} (P : Program S) (main : Start S) (first : List ℕ) (setti
         let g = ready_field P main first IsJob 5 k8 (v8 ∷ []) f8.field 0 v8 v9 refl (record { words = refl; bears = refl; makes = refl; loaded = refl; joined = refl; owes = refl }) 1 r1.path (of_entry r1 is refl refl) refl refl refl refl in
         record { field = g.field; same_net = g.same_net ∙ f8.same_net; same_gave = g.same_gave ∙ f8.same_gave; same_role = g.same_role ∙ f8.same_role }
 
-    abbrev k10 : Parts (Job S)
+    abbrev pub k10 : Parts (Job S)
     k10 = record k8 { bodies = λ e. cond (e == 1) 2 (cond (e == 0) 2 0); jobs = λ e. None }
 
-    abbrev v10 : Bearing S → Sight S
+    abbrev pub v10 : Bearing S → Sight S
     v10 x = record v9 { bears = x ∷ c ∷ [] }
 
-    record Fetched (x : Bearing S) : Type 0 where
-      number : x.number ≡ 1
-      body : x.body ≡ (new_task P d.body o).body
-      path : x.path ≡ created_now P d.body ∷ d.path
-      rule : FieldAt P main first IsJob 5 net2 (λ e. false) role1 k10 (v10 x ∷ [])
+    pub record Fetched (x : Bearing S) : Type 0 where
+      pub number : x.number ≡ 1
+      pub body : x.body ≡ (new_task P d.body o).body
+      pub path : x.path ≡ created_now P d.body ∷ d.path
+      pub rule : FieldAt P main first IsJob 5 net2 (λ e. false) role1 k10 (v10 x ∷ [])
 
     f10 : (x : Bearing S) × Fetched x
     f10 =
