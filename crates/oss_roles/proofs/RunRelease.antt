@@ -15,7 +15,7 @@ use Rattle.oss_words.specs.declared.entry.EntryInfo.{EntryInfo}
 use Rattle.oss_words.specs.declared.entry.EntryState.{EntryState}
 use Rattle.oss_words.specs.Net.{Net, apart, top}
 use Rattle.oss_words.specs.Steps.{no_flags, Gives, GivesUp}
-use Rattle.oss_roles.specs.Alone.{IsOwnAct, with_answer}
+use Rattle.oss_roles.specs.Alone.{GoesAlone, IsOwnAct, with_answer}
 use Rattle.oss_roles.specs.Field.{FieldAt, Parts}
 use Rattle.oss_roles.specs.JobSteps.{released, at_once}
 use Rattle.oss_roles.specs.Passing.{MayGo, MayPass, still_there, went_on}
@@ -23,6 +23,7 @@ use Rattle.oss_roles.specs.Roles.{Role}
 use Rattle.oss_roles.specs.Sights.{Bearing, Sight}
 use Rattle.oss_roles.specs.Steps.{JobGoes}
 use Rattle.oss_roles.proofs.JobClaims.{gives_keep}
+use Rattle.oss_roles.proofs.WordClaims.{what_may_go_goes}
 use Rattle.oss_roles.proofs.RunStore as store
 use Rattle.oss_roles.proofs.RunWrite as run
 use Rattle.oss_roles.proofs.RunWrite.{Job, IsJob, else_, apart_from}
@@ -79,6 +80,10 @@ module _ {S : Type 0} (P : Program S) (main : Start S) (first : List ℕ) (setti
       goes =
           let once : MayGo P (v10 x) x (with_answer 0 x.body) = went_on still_there (subst IsOwnAct (sym ticks) tt) (subst (λ (a : Act S). MayPass (v10 x) x a) (sym ticks) tt) in
           went_on once (subst IsOwnAct (sym releases) tt) (subst (λ (a : Act S). MayPass (v10 x) x a) (sym releases) tt)
+
+      -- so they are a run of the machine
+      alone : GoesAlone P y.rule.field.state x.path x.body x2.body
+      alone = what_may_go_goes S (Job S) IsJob P main first 7 k10 (v10 x ∷ []) y.rule.field 0 0 (v10 x) x x2.body refl refl goes
 
       -- the cell is given up
       abbrev k11 : Parts (Job S)

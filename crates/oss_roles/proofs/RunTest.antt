@@ -9,7 +9,7 @@ use Rattle.oss_syntax.specs.declared.access.Mode.{Mode}
 use Rattle.oss_syntax.specs.declared.access.Mode.TheVariants.{Read, Write}
 use Rattle.oss_model.specs.Agreement.{Setting}
 use Rattle.oss_model.specs.Bodies.{Order, Program, Start, Act, Body}
-use Rattle.oss_model.specs.Bodies.Act.{Created, Waited}
+use Rattle.oss_model.specs.Bodies.Act.{Awaited, Created, Waited}
 use Rattle.oss_model.specs.Context.{right_of}
 use Rattle.oss_model.specs.Moves.{act_now, created_now, is_ended, new_task}
 use Rattle.oss_model.specs.Rights.{Holds}
@@ -20,7 +20,7 @@ use Rattle.oss_words.specs.Steps.{no_flags, Fills, Begun, Blank, Gives, GivesUp}
 use Rattle.oss_words.specs.Views.{Seen, Among, among_first, among_later}
 use Rattle.oss_roles.specs.Alone.{IsOwnAct, with_answer}
 use Rattle.oss_roles.specs.Field.{FieldAt, Parts, IsNumberOf, of_main, of_entry, going, is_put}
-use Rattle.oss_roles.specs.Passing.{MayPass, MayGo, still_there, went_on, last_done}
+use Rattle.oss_roles.specs.Passing.{MayPass, MayGo, still_there, went_on, last_done, newest_done}
 use Rattle.oss_roles.specs.Roles.{Role, Site, itself, on, Plans}
 use Rattle.oss_roles.specs.Sights.{Bearing, Making, Sight}
 use Rattle.oss_roles.specs.Starts.{first_sight}
@@ -494,6 +494,21 @@ module _ {S : Type 0} (P : Program S) (main : Start S) (first : List ℕ) (setti
           let f = f12.field in
           let act : act_now P c.body ≡ Waited = ap (λ (z : Body S). act_now P (with_answer 0 z)) t.body ∙ wait in
           let goes : MayGo P v12 c waited.body = went_on still_there (subst IsOwnAct (sym act) tt) (subst (λ (a : Act S). MayPass v12 c a) (sym act) (last_done read1 refl (among_first refl) refl refl)) in
+          let step : JobGoes v12 v13 1 c waited = record { has = refl; bears = refl; number = refl; path = refl; last = refl; start = refl; makes = refl; ready = refl; joined = refl } in
+          let g = own_acts_keep S (Job S) IsJob P main first 2 k11 (v12 ∷ []) f 0 v12 v13 1 c waited waited.body (record {
+            with_job = record { sits = refl; job = step; alone = goes };
+            same = record { words = refl; owes = refl; seen = refl; still = refl };
+            loaded = λ a h. elim h [ ];
+            body = refl;
+          }) in
+          record { field = g.field; same_net = g.same_net ∙ f12.same_net; same_gave = g.same_gave ∙ f12.same_gave; same_role = g.same_role ∙ f12.same_role }
+
+      -- or it may go on behind an undeferred task, which awaits that task alone
+      f14 : act_now P (with_answer 0 (record { start = main; found = [] })) ≡ Awaited → FieldAt P main first IsJob 2 net1 gave1 role1 k11 (v13 ∷ [])
+      f14 wait =
+          let f = f12.field in
+          let act : act_now P c.body ≡ Awaited = ap (λ (z : Body S). act_now P (with_answer 0 z)) t.body ∙ wait in
+          let goes : MayGo P v12 c waited.body = went_on still_there (subst IsOwnAct (sym act) tt) (subst (λ (a : Act S). MayPass v12 c a) (sym act) (newest_done read1 refl (among_first refl) refl)) in
           let step : JobGoes v12 v13 1 c waited = record { has = refl; bears = refl; number = refl; path = refl; last = refl; start = refl; makes = refl; ready = refl; joined = refl } in
           let g = own_acts_keep S (Job S) IsJob P main first 2 k11 (v12 ∷ []) f 0 v12 v13 1 c waited waited.body (record {
             with_job = record { sits = refl; job = step; alone = goes };

@@ -22,12 +22,12 @@ use Rattle.oss_roles.specs.Alone.{with_answer}
 use Rattle.oss_roles.specs.Field.{FieldAt, Parts, IsNumberOf, of_main, of_entry}
 use Rattle.oss_roles.specs.JobSteps.{ended, at_once, begins}
 use Rattle.oss_roles.specs.Passing.{still_there, last_done}
-use Rattle.oss_roles.specs.Roles.{Role, on}
+use Rattle.oss_roles.specs.Roles.{Role, itself, on, Filed}
 use Rattle.oss_roles.specs.Sights.{Bearing, Sight}
 use Rattle.oss_roles.specs.Steps.{JobGoes}
 use Rattle.oss_roles.proofs.JobClaims.{gives_keep, own_gives_keep}
 use Rattle.oss_roles.proofs.MakeClaims.{takes_keep}
-use Rattle.oss_roles.proofs.WordClaims.{count_reads_keep, count_downs_keep, deliveries_keep, last_links_keep, word_reads_keep}
+use Rattle.oss_roles.proofs.WordClaims.{count_reads_keep, count_downs_keep, creators_are_open, deliveries_keep, last_children_are_last, last_links_keep, parents_are_open, word_reads_keep}
 use Rattle.oss_roles.proofs.RunBelow as below
 use Rattle.oss_roles.proofs.RunStore as store
 use Rattle.oss_roles.proofs.RunWrite as run
@@ -41,6 +41,9 @@ module _ {S : Type 0} (P : Program S) (main : Start S) (first : List ℕ) (setti
   b0 = run.b0 P main first setting infos values cell_of o act0 right0 only0
 
   module _ (d : Bearing S) (t : run.Taken P main first setting infos values cell_of o act0 right0 only0 d) where
+    abbrev r1 : Role
+    r1 = run.r1 P main first setting infos values cell_of o act0 right0 only0 d t
+
     abbrev r2 : Role
     r2 = run.r2 P main first setting infos values cell_of o act0 right0 only0 d t
 
@@ -49,6 +52,9 @@ module _ {S : Type 0} (P : Program S) (main : Start S) (first : List ℕ) (setti
 
     abbrev k10 : Parts (Job S)
     k10 = store.k10 P main first setting infos values cell_of o act0 right0 only0 d t
+
+    abbrev v10 : Bearing S → Sight S
+    v10 = store.v10 P main first setting infos values cell_of o act0 right0 only0 d t
 
     module _ (x : Bearing S) (y : store.Fetched P main first setting infos values cell_of o act0 right0 only0 d t x) (o2 : Order S) (act1 : act_now P (new_task P (record { start = main; found = [] }) o).body ≡ Created o2 false)
         (right1 : right_of (new_task P (new_task P (record { start = main; found = [] }) o).body o2).body.start.context 0 ≡ Holds Write true)
@@ -88,6 +94,29 @@ module _ {S : Type 0} (P : Program S) (main : Start S) (first : List ℕ) (setti
 
       g12 : FieldAt P main first IsJob 7 net4 (λ e. false) role3 k22 (v22 ∷ [])
       g12 = below.g12 P main first setting infos values cell_of o act0 right0 only0 d t x y o2 act1 right1 only1
+
+      -- before the creation the first task's entries were not given up, and after it the child is the last one
+      act : act_now P x.body ≡ Created o2 false
+      act = ap (λ (z : Body S). act_now P z) same_body ∙ act1
+
+      cell_open : (k10.states 2).given ≡ false
+      cell_open =
+          let f = y.rule.field in
+          let up : Filed f.net f.role x.path (on 0) = record { entry = 2; it = r2; is = ap (λ (z : ℕ → Option Role). z 2) y.rule.same_role; hangs = λ h. (let z : top ≡ apart = ap (λ (n : Net). n.place 2) (sym y.rule.same_net) ∙ h in let bad : ⊥ = cc in bad); path = sym y.path; site = refl } in
+          let right : right_of (new_task P x.body o2).body.start.context 0 ≡ Holds Write true = ap (λ (z : Body S). right_of (new_task P z o2).body.start.context 0) same_body ∙ right1 in
+          parents_are_open S (Job S) IsJob P main first 7 k10 (v10 x ∷ []) f 0 0 (v10 x) x o2 0 Write true refl refl act right up
+
+      task_open : (k10.states 1).given ≡ false
+      task_open =
+          let f = y.rule.field in
+          let up : Filed f.net f.role x.path itself = record { entry = 1; it = r1; is = ap (λ (z : ℕ → Option Role). z 1) y.rule.same_role; hangs = λ h. (let z : top ≡ apart = ap (λ (n : Net). n.place 1) (sym y.rule.same_net) ∙ h in let bad : ⊥ = cc in bad); path = sym y.path; site = refl } in
+          creators_are_open S (Job S) IsJob P main first 7 k10 (v10 x ∷ []) f 0 0 (v10 x) x o2 refl refl act up
+
+      last_child : g12.field.net.last 1 ≡ 3
+      last_child =
+          let f = g12.field in
+          let up : Filed f.net f.role x1.path itself = record { entry = 1; it = r1; is = ap (λ (z : ℕ → Option Role). z 1) g12.same_role; hangs = λ h. (let z : top ≡ apart = ap (λ (n : Net). n.place 1) (sym g12.same_net) ∙ h in let bad : ⊥ = cc in bad); path = sym y.path; site = refl } in
+          last_children_are_last S (Job S) IsJob P main first 7 k22 (v22 ∷ []) f 0 0 v22 x1 itself 3 refl refl (λ a h. elim h [ ]) refl up
 
       -- the count down of the new task that is owed is made, and its count is read
       abbrev k23 : Parts (Job S)
