@@ -30,6 +30,7 @@ pub mod RestField
 pub mod RunBelow
 pub mod RunDraw
 pub mod RunFold
+pub mod RunJoin
 pub mod RunLoad
 pub mod RunOn
 pub mod RunPair

@@ -206,7 +206,7 @@ module _ {S : Type 0} (P : Program S) (main : Start S) (first : List ℕ) (setti
     abbrev k3 : Parts (Job S)
     k3 = record k2 { counts = λ e. cond (e == 1) 1 (cond (e == 0) 0 18446744073709551615) }
 
-    apart_sites : {A : Type 0} {c : ℕ} → itself ≡ on c → A
+    pub apart_sites : {A : Type 0} {c : ℕ} → itself ≡ on c → A
     apart_sites h = absurd (let bad : ⊥ = cc in bad)
 
     plans : Plans bare (λ e. None) role1 1 (created_now P d.body ∷ d.path)
@@ -526,6 +526,7 @@ module _ {S : Type 0} (P : Program S) (main : Start S) (first : List ℕ) (setti
       pub number : x.number ≡ 1
       pub body : x.body ≡ (new_task P d.body o).body
       pub path : x.path ≡ created_now P d.body ∷ d.path
+      pub last : (z : Site) → x.last z ≡ None
       pub rule : FieldAt P main first IsJob 5 net2 (λ e. false) role1 k10 (v10 x ∷ [])
 
     f10 : (x : Bearing S) × Fetched x
@@ -542,6 +543,7 @@ module _ {S : Type 0} (P : Program S) (main : Start S) (first : List ℕ) (setti
             number = y.2;
             body = sym y.4.body ∙ ap (λ (j : Job S). j.body) (sym same);
             path = path_one g.field.role (λ e r h. role_is e r (sym (ap (λ (z : ℕ → Option Role). z e) role) ∙ h)) x.number x.path y.2 mine.number;
+            last = λ z. sym (y.4.last z) ∙ ap (λ (j : Job S). j.last z) (sym same);
             rule = record { field = g.field; same_net = g.same_net ∙ f9.same_net; same_gave = g.same_gave ∙ f9.same_gave; same_role = role };
           },
         )
