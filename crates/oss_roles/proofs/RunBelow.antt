@@ -291,7 +291,7 @@ module _ {S : Type 0} (P : Program S) (main : Start S) (first : List ℕ) (setti
         | inr q ↦ never_first 2 j (sym (else_ (j == 3) (first_place 1) (net2.place j) q.0) ∙ h)
       ]
 
-      abbrev headed1 : EntryState
+      abbrev pub headed1 : EntryState
       headed1 = record open_flags { headed = true; child = 3 }
 
       abbrev pub headed2 : EntryState

@@ -1,5 +1,5 @@
--- The run of `RunStore` goes on: main makes a second task, with no cells, and passes a `taskwait on` the cell that the first task has given up. Of
--- neither task is the own entry given up then, so a `taskwait` could not be passed.
+-- The run of `RunStore` goes on: main makes a second task, with no cells, and passes a `taskwait on` two cells: the first task has given up the one,
+-- and no task has the other. Of neither task is the own entry given up then, so a `taskwait` could not be passed.
 use Rattle.std.proofs.Common.{◌≡◌, ◌≢◌, ◌⊎◌, inl, inr, sym, subst, refl, ◌∙◌, ap, ℕ, zero, suc, arith, Bool, true, false, List, [], ◌∷◌, Option, Some, None}
 use Rattle.std.specs.Prelude.{◌==◌, ◌&&◌, cond}
 use Rattle.std.proofs.lemmas.Bool.Decides.{eqb_tells}
@@ -22,7 +22,7 @@ use Rattle.oss_words.specs.Views.{Seen, first_view, Among, among_first}
 use Rattle.oss_roles.specs.Alone.{IsOwnAct, with_answer}
 use Rattle.oss_roles.specs.Field.{FieldAt, Parts, going, is_put}
 use Rattle.oss_roles.specs.MakeSteps.{after_last}
-use Rattle.oss_roles.specs.Passing.{AllDone, MayGo, MayPass, still_there, went_on, last_done}
+use Rattle.oss_roles.specs.Passing.{AllDone, MayGo, MayPass, still_there, went_on, last_done, no_child}
 use Rattle.oss_roles.specs.Roles.{Role, Site, itself, on, Plans}
 use Rattle.oss_roles.specs.Sights.{Bearing, Making, Sight}
 use Rattle.oss_roles.specs.Steps.{JobGoes}
@@ -77,10 +77,10 @@ module _ {S : Type 0} (P : Program S) (main : Start S) (first : List ℕ) (setti
       f13 : FieldAt P main first IsJob 7 net2 gave2 role1 k13 (v13 ∷ [])
       f13 = store.f13 P main first setting infos values cell_of o act0 right0 only0 d t x y stored act1 over nowait
 
-      -- main makes a second task, and stands before a taskwait on cell 0
+      -- main makes a second task, and stands before a taskwait on the cells 0 and 1
       module _ (o2 : Order S) (act2 : act_now P (with_answer 0 (record { start = main; found = [] })) ≡ Created o2 false)
           (cellless : (e : ℕ) (m : Mode) (s : Bool) → right_of (new_task P (with_answer 0 (record { start = main; found = [] })) o2).body.start.context e ≡ Holds m s → ⊥)
-          (named : List Access) (names : (e : ℕ) → in_clauses named e ≡ true → e ≡ 0)
+          (named : List Access) (names : (e : ℕ) → in_clauses named e ≡ true → (e ≡ 0) ⊎ (e ≡ 1))
           (act3 : act_now P (with_answer 0 (with_answer 0 (record { start = main; found = [] }))) ≡ WaitedOn named) where
         act : act_now P c.body ≡ Created o2 false
         act = ap (λ (z : Body S). act_now P (with_answer 0 z)) t.body ∙ act2
@@ -427,7 +427,8 @@ module _ {S : Type 0} (P : Program S) (main : Start S) (first : List ℕ) (setti
         g9 =
             let stands : act_now P c2.body ≡ WaitedOn named = ap (λ (z : Body S). act_now P (with_answer 0 (with_answer 0 z))) t.body ∙ act3 in
             let zero_done : AllDone v21 c2 (on 0) = last_done read2 refl (among_first refl) refl refl in
-            let met : MayPass v21 c2 (WaitedOn named) = λ e h. subst (λ (z : ℕ). AllDone v21 c2 (on z)) (sym (names e h)) zero_done in
+            let one_none : AllDone v21 c2 (on 1) = no_child refl in
+            let met : MayPass v21 c2 (WaitedOn named) = λ e h. elim (names e h) [ inl q ↦ subst (λ (z : ℕ). AllDone v21 c2 (on z)) (sym q) zero_done | inr q ↦ subst (λ (z : ℕ). AllDone v21 c2 (on z)) (sym q) one_none ] in
             let goes : MayGo P v21 c2 waited.body = went_on still_there (subst IsOwnAct (sym stands) tt) (subst (λ (a : Act S). MayPass v21 c2 a) (sym stands) met) in
             let step : JobGoes v21 v22 0 c2 waited = record { has = refl; bears = refl; number = refl; path = refl; last = refl; start = refl; makes = refl; ready = refl; joined = refl } in
             let g = own_acts_keep S (Job S) IsJob P main first 7 k20 (v21 ∷ []) g8.field 0 v21 v22 0 c2 waited waited.body (record {

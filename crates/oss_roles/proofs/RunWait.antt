@@ -1,5 +1,5 @@
 -- The run of `RunBelow` goes on: the task below the first one is taken and ends, and gives up its cell and itself. The first task has the clause wait;
--- its seat has read that its last child is done, and so it may give up its cell, in two steps, by the second of which the cell is done.
+-- its seat has read that its last child is done, and so it may give up its cell, and then itself: both in two steps, since both have a child.
 use Rattle.std.proofs.Common.{◌≡◌, ◌≢◌, inl, inr, sym, subst, refl, ◌∙◌, ap, ℕ, ◌+◌, arith, Bool, true, false, List, [], ◌∷◌, Option, Some, None}
 use Rattle.std.specs.Prelude.{◌==◌, ◌&&◌, cond}
 use Rattle.std.proofs.lemmas.Bool.Decides.{eqb_tells}
@@ -76,6 +76,9 @@ module _ {S : Type 0} (P : Program S) (main : Start S) (first : List ℕ) (setti
 
       abbrev clear_flag : EntryState
       clear_flag = below.clear_flag P main first setting infos values cell_of o act0 right0 only0 d t x y o2 act1 right1 only1
+
+      abbrev headed1 : EntryState
+      headed1 = below.headed1 P main first setting infos values cell_of o act0 right0 only0 d t x y o2 act1 right1 only1
 
       abbrev headed2 : EntryState
       headed2 = below.headed2 P main first setting infos values cell_of o act0 right0 only0 d t x y o2 act1 right1 only1
@@ -461,3 +464,96 @@ module _ {S : Type 0} (P : Program S) (main : Start S) (first : List ℕ) (setti
               same = record { bears = refl; makes = refl; ready = refl; loaded = refl; joined = refl; seen = refl; still = refl };
             }) in
             record { field = a.field; same_net = a.same_net ∙ h9.same_net; same_gave = a.same_gave ∙ h9.same_gave; same_role = a.same_role ∙ h9.same_role }
+
+        -- the word of its cell is read, and the first task gives up itself, in two steps too
+        abbrev done2 : EntryState
+        done2 = record headed2 { given = true; done = true }
+
+        abbrev v33 : Sight S
+        v33 = record v29 { seen = record { entry = 2; state = done2 } ∷ read3 ∷ read4 ∷ [] }
+
+        h11 : FieldAt P main first IsJob 7 net4 gave2 role3 k32 (v33 ∷ [])
+        h11 =
+            let a = word_reads_keep S (Job S) IsJob P main first 7 k32 (v29 ∷ []) h10.field 0 v29 v33 2 (record { sits = refl; ready = refl; seen = refl; still = inl refl; same = record { words = refl; bears = refl; makes = refl; loaded = refl; joined = refl; owes = refl } }) in
+            record { field = a.field; same_net = a.same_net ∙ h10.same_net; same_gave = a.same_gave ∙ h10.same_gave; same_role = a.same_role ∙ h10.same_role }
+
+        abbrev given1 : EntryState
+        given1 = record headed1 { given = true }
+
+        abbrev k34 : Parts (Job S)
+        k34 = record k32 { states = λ e. cond (e == 1) given1 (k32.states e) }
+
+        abbrev gave1 : ℕ → Bool
+        gave1 e = cond (e == 1) true (gave2 e)
+
+        abbrev v34 : Sight S
+        v34 = record v33 { words = record first_view { half = 1 ∷ [] } }
+
+        begun1 : Begins k32.states k34.states 1 v33.words v34.words
+        begun1 = record { empty = refl; full = refl; stays = refl; sets = refl; others = λ j ne. else_ (j == 1) given1 (k32.states j) (apart_from j 1 ne); sends = refl; whole = refl }
+
+        h12 : FieldAt P main first IsJob 7 net4 gave1 role3 k34 (v34 ∷ [])
+        h12 =
+            let f = h11.field in
+            let is : f.role 1 ≡ Some r1 = ap (λ (z : ℕ → Option Role). z 1) h11.same_role in
+            let is2 : f.role 2 ≡ Some r2 = ap (λ (z : ℕ → Option Role). z 2) h11.same_role in
+            let hangs : f.net.place 1 ≢ apart = λ h. let z : top ≡ apart = ap (λ (n : Net). n.place 1) (sym h11.same_net) ∙ h in let bad : ⊥ = cc in bad in
+            let hangs2 : f.net.place 2 ≢ apart = λ h. let z : top ≡ apart = ap (λ (n : Net). n.place 2) (sym h11.same_net) ∙ h in let bad : ⊥ = cc in bad in
+            let up : GivesUp f.gave gave1 1 = record { now = refl; same = λ j ne. else_ (j == 1) true (gave2 j) (apart_from j 1 ne) ∙ ap (λ (z : ℕ → Bool). z j) (sym h11.same_gave) } in
+            let step : JobGoes v33 v34 1 x1 x1 = record { has = refl; bears = refl; number = refl; path = refl; last = refl; start = refl; makes = refl; ready = refl; joined = refl } in
+            let a = own_gives_keep S (Job S) IsJob P main first 7 k32 (v33 ∷ []) f 0 v33 v34 1 x1 x1 x1.body 1 r1 k34.states gave1 (record {
+              up = record {
+                entry = record {
+                  with_job = record { sits = refl; job = step; alone = still_there };
+                  loaded = λ a h. elim h [ ];
+                  body = refl;
+                  is = is;
+                  path = sym y.path;
+                  owes = refl;
+                  none = refl;
+                  seen = refl;
+                };
+                hangs = hangs;
+                ungiven = refl;
+                gives = up;
+                word = begins refl begun1;
+                still = λ a h. elim h [ ];
+              };
+              site = refl;
+              ended = ap (λ (b : Body S). is_ended P (with_answer 0 b)) same_body ∙ over;
+              cells = λ e m s right. record {
+                it = record { entry = 2; state = done2 };
+                among = among_first refl;
+                given = refl;
+                role = r2;
+                is = is2;
+                hangs = hangs2;
+                path = sym y.path;
+                site = ap (λ (z : ℕ). on z) (sym (only0 e m s (subst (λ (z : Body S). right_of z.start.context e ≡ Holds m s) same_body right)));
+              };
+            }) in
+            record { field = a.field; same_net = a.same_net ∙ h11.same_net; same_gave = a.same_gave; same_role = a.same_role ∙ h11.same_role }
+
+        abbrev risen3 : EntryState
+        risen3 = record given4 { linked = true; next = 1 }
+
+        abbrev k35 : Parts (Job S)
+        k35 = record k34 { states = λ e. cond (e == 3) risen3 (k34.states e) }
+
+        abbrev v35 : Sight S
+        v35 = record v33 { words = record first_view { held = record { entry = 1; flag = 1 } ∷ [] } }
+
+        risen1 : Rises net4 k34.states k35.states k34.infos 1 v34.words v35.words
+        risen1 = record { full = refl; sets = refl; others = λ j ne. else_ (j == 3) risen3 (k34.states j) (apart_from j 3 ne); sends = refl; whole = refl }
+
+        h13 : FieldAt P main first IsJob 7 net4 gave1 role3 k35 (v35 ∷ [])
+        h13 =
+            let a = last_links_keep S (Job S) IsJob P main first 7 k34 (v34 ∷ []) h12.field 0 v34 v35 1 k35.states (record {
+              sits = refl;
+              word = subst (λ (n : Net). Rises n k34.states k35.states k34.infos 1 v34.words v35.words) (sym h12.same_net) risen1;
+              unlinked = ap (λ (n : Net). (k34.states (n.last 1)).linked) h12.same_net;
+              none = refl;
+              owes = refl;
+              same = record { bears = refl; makes = refl; ready = refl; loaded = refl; joined = refl; seen = refl; still = refl };
+            }) in
+            record { field = a.field; same_net = a.same_net ∙ h12.same_net; same_gave = a.same_gave ∙ h12.same_gave; same_role = a.same_role ∙ h12.same_role }
