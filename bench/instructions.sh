@@ -1,6 +1,6 @@
 #!/bin/sh
 # Counts the instructions of runs by waves of the built program, or of PROGRAM where one is handed over, over regions, and then of sequential runs, and prints a table: millions of instructions, those for twice the tasks, and their ratio. The
-# programs are those of regions.sh and of programs.sh. A count is the same whatever runs beside, where a clock is not, and takes minutes.
+# programs are those of regions.sh and of programs.sh, and for the last three rows an array loop, calls and folds. A count is the same whatever runs beside, where a clock is not, and takes minutes.
 # It wants `valgrind`.
 # usage: instructions.sh [PROGRAM]
 # shellcheck source=bench/built.sh
@@ -31,3 +31,18 @@ row '2,000 tasks on one cell of an array each, after 2,000 on the whole of it th
 compared 'soak 7 1000' "$(counted soak 7 1000)" "$(counted soak 7 2000)"
 growth_sources 1
 growth_rows sequentially
+for times in 1 2; do
+  array_source long %ld $((times * 300)) >"array_$times.c"
+  # (the calls of the next Fibonacci number are more, but not twice as many)
+  calls_source $((21 + times)) >"calls_$times.c"
+  cat >"folds_$times.c" <<PROGRAM
+long s;
+int main() {
+#pragma oss task reduction(+: s)
+  for (long i = 0; i < $((times * 300000)); i++) s += i;
+}
+PROGRAM
+done
+sequentially 'an array loop: 300,000 turns' array
+sequentially 'calls: those of the 22nd Fibonacci number, and of the 23rd' calls
+sequentially 'folds: 300,000 into a slot' folds
