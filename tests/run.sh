@@ -390,24 +390,20 @@ if [ -c /dev/full ]; then
   judge "a full error output" 5 ../nothing ../nothing $?
 fi
 
-# What stands around the program is tried by a script of its own. Its checks count here; one that does not come to its last line counts as one that failed.
-"$top/tests/share.sh" "$program" >"$work/share" 2>&1
-sed '$d' "$work/share"
-counts=$(sed -n '$s/^\([0-9]*\) passed, \([0-9]*\) failed$/\1 \2/p' "$work/share")
-[ -n "$counts" ] || tail -n 1 "$work/share"
-counts=${counts:-0 1}
-passed=$((passed + ${counts% *}))
-failed=$((failed + ${counts#* }))
-
-if [ "$all" = yes ]; then
-  "$top/tests/refused.sh" "$program" >"$work/refused" 2>&1
-  sed '$d' "$work/refused"
-  counts=$(sed -n '$s/^\([0-9]*\) passed, \([0-9]*\) failed$/\1 \2/p' "$work/refused")
-  [ -n "$counts" ] || tail -n 1 "$work/refused"
+# counted SCRIPT WORD..: a script of its own, whose checks count here; one that does not come to its last line counts as one that failed
+counted() {
+  "$@" >"$work/counted" 2>&1
+  sed '$d' "$work/counted"
+  counts=$(sed -n '$s/^\([0-9]*\) passed, \([0-9]*\) failed$/\1 \2/p' "$work/counted")
+  [ -n "$counts" ] || tail -n 1 "$work/counted"
   counts=${counts:-0 1}
   passed=$((passed + ${counts% *}))
   failed=$((failed + ${counts#* }))
-fi
+}
+
+# What stands around the program.
+counted "$top/tests/share.sh" "$program"
+[ "$all" = no ] || counted "$top/tests/refused.sh" "$program"
 
 echo "$passed passed, $failed failed"
 [ "$failed" = 0 ]
