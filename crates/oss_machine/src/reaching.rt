@@ -5,12 +5,11 @@ ghost use Rattle.oss_machine.specs.Runs.{IsCounted, IsRun, config_in, config_of}
 
 use crate::bodies::{Reach, Run, Still};
 use crate::settling::{begin, commit};
-use std::alloc::{AllocError, Global};
+use std::alloc::AllocError;
 
 /// What the body has gone on to takes the place of what stood: then the run is free. Otherwise nothing changes,
 /// nor where memory is wanting.
 pub(crate) fn land(
-    alloc: Global,
     still: &mut Still,
     run: &mut Run,
     reach: &mut Reach,
@@ -27,7 +26,7 @@ pub(crate) fn land(
     match *reach {
         Reach::Moved => {
             let count = run.open_count;
-            commit(alloc, still, run)?;
+            commit(still, run)?;
             *open_count = count;
             *reach = Reach::Unused;
             Ok(())

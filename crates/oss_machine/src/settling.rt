@@ -6,8 +6,8 @@ ghost use Rattle.oss_machine.specs.Runs.{IsCounted, IsRun, base_at, below_live, 
 
 use crate::activation::{Activation, Gathered};
 use crate::bodies::{Run, Still};
-use crate::first::{blank, continue_from};
-use std::alloc::{AllocError, Global};
+use crate::first::continue_from;
+use std::alloc::AllocError;
 use std::mem;
 
 /// A body begins to make silent steps: so far it stands as it did.
@@ -133,22 +133,22 @@ fn settle_lowest(still: &mut Still, live: usize, moved: &mut Activation) -> Resu
 }
 
 /// The functions that wait above the lowest of those that have moved, and the one that runs, come to stand
-/// above it. It takes no memory.
+/// above it. What is spare takes the place of the one that runs, so that its room is used again. It takes no memory.
 #[tactic(auto, using(crate::proofs::CommitLemmas::raised_callers))]
-fn raise(alloc: Global, still: &mut Still, run: &mut Run)
+fn raise(spare: Activation, still: &mut Still, run: &mut Run)
     requires { length still.old.callers.items + length run.old.waiting.items < vec_capacity still.old.callers }
     ensures frame { (config_of still.new).frame ≡ frame_on no_base run.old.work }
     ensures callers { (config_of still.new).callers ≡ stacked no_base run.old.waiting.items
         ((config_of still.old).frame ∷ (config_of still.old).callers) }
 {
-    let work = mem::replace(&mut run.work, blank(alloc));
+    let work = mem::replace(&mut run.work, spare);
     let lowest = mem::replace(&mut still.top, work);
     still.callers.push_reserved(lowest);
     let _raised = still.callers.append(&mut run.waiting);
 }
 
 /// What has moved takes the place of what stood. Where memory is wanting the body stays, and what has moved.
-pub(crate) fn commit(alloc: Global, still: &mut Still, run: &mut Run) -> Result<(), AllocError>
+pub(crate) fn commit(still: &mut Still, run: &mut Run) -> Result<(), AllocError>
     requires { IsRun still.old run.old }
     ensures ok { OnOk result (config_of still.new ≡ config_in still.old run.old) }
     ensures err { OnErr result (config_of still.new ≡ config_of still.old) }
@@ -158,7 +158,7 @@ pub(crate) fn commit(alloc: Global, still: &mut Still, run: &mut Run) -> Result<
     if run.waiting.is_empty() {
         return commit_alone(still, run);
     }
-    commit_waiting(alloc, still, run)
+    commit_waiting(still, run)
 }
 
 /// The same where no function that has moved waits.
@@ -176,12 +176,12 @@ fn commit_alone(still: &mut Still, run: &mut Run) -> Result<(), AllocError>
 }
 
 /// The lowest of the functions that wait takes the place of that which it continues, and those above that are
-/// gone. Where memory is wanting the body stays, and what has moved.
+/// gone. What it leaves is spare. Where memory is wanting the body stays, and what has moved.
 fn settle_first(
     still: &mut Still,
     live: usize,
     waiting: &mut Vec<Activation>,
-) -> Result<(), AllocError>
+) -> Result<Activation, AllocError>
     requires live { live ≤ length still.old.callers.items }
     requires some { 0 < length waiting.old.items }
     ensures frame { OnOk result ((d : Activation) →
@@ -198,13 +198,12 @@ fn settle_first(
 {
     let lowest = &mut waiting[0];
     settle_lowest(still, live, lowest)?;
-    let _settled = waiting.remove(0);
-    Ok(())
+    Ok(waiting.remove(0))
 }
 
 /// The same where one does.
 #[tactic(auto, using(crate::proofs::CommitLemmas::config_is, crate::proofs::CommitLemmas::removed_first, crate::proofs::CommitLemmas::kept_config, crate::proofs::CommitLemmas::kept_run))]
-fn commit_waiting(alloc: Global, still: &mut Still, run: &mut Run) -> Result<(), AllocError>
+fn commit_waiting(still: &mut Still, run: &mut Run) -> Result<(), AllocError>
     requires run { IsRun still.old run.old }
     requires some { 0 < length run.old.waiting.items }
     ensures ok { OnOk result (config_of still.new ≡ config_in still.old run.old) }
@@ -214,7 +213,7 @@ fn commit_waiting(alloc: Global, still: &mut Still, run: &mut Run) -> Result<(),
 {
     let count = run.waiting.len();
     still.callers.reserve(count)?;
-    settle_first(still, run.live, &mut run.waiting)?;
-    raise(alloc, still, run);
+    let spare = settle_first(still, run.live, &mut run.waiting)?;
+    raise(spare, still, run);
     Ok(())
 }

@@ -15,6 +15,6 @@ returns-clause-ok c =
     let roomy : Still = record { callers = c.reserve.new.self; top = still.top } in
     let base : base_at roomy run.live ≡ base_at still run.live = ap (λ (xs : List Activation). base_in (slice_index_or xs run.live still.top).gathered) c.reserve.ensures.items in
     let below : below_live roomy run.live ≡ below_live still run.live = ap (λ (xs : List Activation). stacked no_base (take run.live xs) []) c.reserve.ensures.items in
-    let first = c.in_ok-settle_first.ensures in
+    let first = c.in_ok-spare.ensures in
     raised_config roomy c.settle_first.new.still c.raise.new.still run c.settle_first.new.waiting.items c.requires.some first.frame first.callers first.rest c.raise.ensures.frame c.raise.ensures.callers
     ∙ kept_config still roomy run base below
