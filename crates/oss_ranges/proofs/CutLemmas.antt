@@ -7,10 +7,10 @@ use Rattle.oss_ranges.specs.Cells.{cut_at, inserted, IsCut, next_of, removed, Ri
 use Rattle.oss_ranges.specs.declared.piece.Piece.{Piece}
 
 module _ {T : Type 0} where
-  cut_here : (cell : ℕ) (p : Piece T) (rest : List (Piece T)) → p.lo < cell → cell < p.hi → cut_at cell (p ∷ rest) ≡ record p { hi = cell } ∷ record p { lo = cell } ∷ rest
+  pub cut_here : (cell : ℕ) (p : Piece T) (rest : List (Piece T)) → p.lo < cell → cell < p.hi → cut_at cell (p ∷ rest) ≡ record p { hi = cell } ∷ record p { lo = cell } ∷ rest
   cut_here cell p rest low high = grind (arith, nat_tests)
 
-  cut_past : (cell : ℕ) (p : Piece T) (rest : List (Piece T)) → p.hi ≤ cell → cut_at cell (p ∷ rest) ≡ p ∷ cut_at cell rest
+  pub cut_past : (cell : ℕ) (p : Piece T) (rest : List (Piece T)) → p.hi ≤ cell → cut_at cell (p ∷ rest) ≡ p ∷ cut_at cell rest
   cut_past cell p rest low = grind (arith, nat_tests)
 
   -- a piece before all others goes in front, and one behind the first is put among the others

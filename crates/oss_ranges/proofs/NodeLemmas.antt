@@ -1,9 +1,9 @@
 -- Nodes with their pieces.
-use Rattle.std.specs.Prelude.{◌≡◌, ◌≤◌, ◌<◌, ℕ, true, false, List, [], ◌∷◌, ◌++◌, Option, Some, None, refl, length, is_some}
-use Rattle.std.proofs.Common.{sym, ◌∙◌, ap, arith, append_assoc, length-append}
+use Rattle.std.specs.Prelude.{◌≡◌, ◌≤◌, ◌<◌, ℕ, Bool, true, false, nat_lt, List, [], ◌∷◌, ◌++◌, Option, Some, None, refl, length, is_some}
+use Rattle.std.proofs.Common.{sym, ◌∙◌, ap, subst, arith, append_assoc, length-append}
 use Rattle.std.proofs.lemmas.Bool.Decides.{nat_tests}
-use Rattle.oss_ranges.proofs.PieceLemmas.{inserted_left, inserted_right, next_first, next_later, next_left, next_none, next_right, removed_here, removed_left, removed_none, removed_past, removed_right, removed_rises, rises_apart, rises_back, rises_front, rises_order, rises_own, rises_wider}
-use Rattle.oss_ranges.specs.Cells.{inserted, next_of, removed, Rises}
+use Rattle.oss_ranges.proofs.PieceLemmas.{inserted_between, inserted_left, inserted_right, next_first, next_later, next_left, next_none, next_right, removed_here, removed_left, removed_none, removed_past, removed_right, removed_rises, rises_apart, rises_back, rises_front, rises_order, rises_own, rises_wider}
+use Rattle.oss_ranges.specs.Cells.{Begins, inserted, next_of, removed, Rises}
 use Rattle.oss_ranges.specs.Trees.{HasPiece, or_own, own}
 use Rattle.oss_ranges.specs.declared.piece.Piece.{Piece}
 use Rattle.oss_ranges.specs.declared.tree.Node.{Node}
@@ -121,3 +121,75 @@ module _ {T : Type 0} where
   -- a node whose left side has lost its first piece
   pub parted_left : (first o : Option (Piece T)) (rest r : List (Piece T)) → HasPiece first → Rises 0 ((own first ++ rest) ++ (own o ++ r)) 1048576 → Rises 0 (rest ++ (own o ++ r)) 1048576
   parted_left first o rest r has h = between_right [] rest r first o has h
+
+  -- one piece in place of the one that begins where it does: that stands in the left side
+  pub replaced_left : (all l r : List (Piece T)) (o : Option (Piece T)) (p q : Piece T) → l ++ (own o ++ r) ≡ all → o ≡ Some q → Rises 0 all 1048576 → Begins p.lo (next_of p.lo all)
+      → Rises 0 (inserted p (removed p.lo all)) 1048576 → p.lo < q.lo
+      → Begins p.lo (next_of p.lo l) × Rises 0 (inserted p (removed p.lo l)) 1048576 × (inserted p (removed p.lo l) ++ (own o ++ r) ≡ inserted p (removed p.lo all))
+  replaced_left all l r o p q e is h found fits low = by (next_of p.lo l) refl where
+    whole : l ++ (q ∷ r) ≡ all
+    whole = (rw is at e)
+
+    by : (n : Option (Piece T)) → next_of p.lo l ≡ n
+        → Begins p.lo n × Rises 0 (inserted p (removed p.lo l)) 1048576 × (inserted p (removed p.lo l) ++ (own o ++ r) ≡ inserted p (removed p.lo all))
+    by None f =
+        let all_rise : Rises 0 (l ++ (q ∷ r)) 1048576 = rw whole h in
+        let own_hi = rises_own 0 1048576 l q r all_rise in
+        let here : next_of p.lo all ≡ Some q = ap (next_of p.lo) (sym whole) ∙ next_right p.lo l (q ∷ r) f ∙ next_first p.lo q r (omega arith) in
+        let same : q.lo ≡ p.lo = subst (λ (n : Option (Piece T)). Begins p.lo n) here found in
+        absurd (omega arith)
+    by (Some x) f =
+        let here : next_of p.lo all ≡ Some x = ap (next_of p.lo) (sym whole) ∙ next_left p.lo l (q ∷ r) x f in
+        let begins : x.lo ≡ p.lo = subst (λ (n : Option (Piece T)). Begins p.lo n) here found in
+        let same : inserted p (removed p.lo l) ++ (q ∷ r) ≡ inserted p (removed p.lo all) =
+        sym (inserted_left p q (removed p.lo l) r low) ∙ ap (inserted p) (sym (removed_left p.lo l (q ∷ r) x f) ∙ ap (removed p.lo) whole) in
+        let rise : Rises 0 (inserted p (removed p.lo l) ++ (q ∷ r)) 1048576 = rw same fits in
+        let own_hi = rises_own 0 1048576 (inserted p (removed p.lo l)) q r rise in
+        let end = rises_order q.hi 1048576 r (rises_back 0 1048576 (inserted p (removed p.lo l)) q r rise) in
+        (begins, rises_wider 0 q.lo 0 1048576 (inserted p (removed p.lo l)) (omega arith) (omega arith) (rises_front 0 1048576 (inserted p (removed p.lo l)) q r rise), rw is same)
+
+  -- it stands in the right side
+  pub replaced_right : (all l r : List (Piece T)) (o : Option (Piece T)) (p q : Piece T) → l ++ (own o ++ r) ≡ all → o ≡ Some q → Rises 0 all 1048576 → Begins p.lo (next_of p.lo all)
+      → Rises 0 (inserted p (removed p.lo all)) 1048576 → q.lo < p.lo
+      → Begins p.lo (next_of p.lo r) × Rises 0 (inserted p (removed p.lo r)) 1048576 × (l ++ (own o ++ inserted p (removed p.lo r)) ≡ inserted p (removed p.lo all))
+  replaced_right all l r o p q e is h found fits low = by (nat_lt p.lo q.hi) refl where
+    whole : l ++ (q ∷ r) ≡ all
+    whole = (rw is at e)
+
+    all_rise : Rises 0 (l ++ (q ∷ r)) 1048576
+    all_rise = rw whole h
+
+    front : Rises 0 l q.lo
+    front = rises_front 0 1048576 l q r all_rise
+
+    none : next_of p.lo l ≡ None
+    none = next_none 0 q.lo p.lo l front (omega arith)
+
+    by : (t : Bool) → nat_lt p.lo q.hi ≡ t
+        → Begins p.lo (next_of p.lo r) × Rises 0 (inserted p (removed p.lo r)) 1048576 × (l ++ (own o ++ inserted p (removed p.lo r)) ≡ inserted p (removed p.lo all))
+    by true f =
+        let inside : p.lo < q.hi = grind (arith, nat_tests) in
+        let here : next_of p.lo all ≡ Some q = ap (next_of p.lo) (sym whole) ∙ next_right p.lo l (q ∷ r) none ∙ next_first p.lo q r inside in
+        let same : q.lo ≡ p.lo = subst (λ (n : Option (Piece T)). Begins p.lo n) here found in
+        absurd (omega arith)
+    by false f =
+        let past : q.hi ≤ p.lo = grind (arith, nat_tests) in
+        let here : next_of p.lo all ≡ next_of p.lo r = ap (next_of p.lo) (sym whole) ∙ next_right p.lo l (q ∷ r) none ∙ next_later p.lo q r past in
+        let begins = subst (λ (n : Option (Piece T)). Begins p.lo n) here found in
+        let left : removed p.lo all ≡ l ++ (q ∷ removed p.lo r) = ap (removed p.lo) (sym whole) ∙ removed_right p.lo l (q ∷ r) none ∙ ap (λ ys. l ++ ys) (removed_past p.lo q r past) in
+        let same : l ++ (q ∷ inserted p (removed p.lo r)) ≡ inserted p (removed p.lo all) = sym (ap (inserted p) left ∙ inserted_right 0 p q l (removed p.lo r) front (omega arith)) in
+        let rise : Rises 0 (l ++ (q ∷ inserted p (removed p.lo r))) 1048576 = rw same fits in
+        (begins, rises_wider q.hi 1048576 0 1048576 (inserted p (removed p.lo r)) (omega arith) (omega arith) (rises_back 0 1048576 l q (inserted p (removed p.lo r)) rise), rw is same)
+
+  -- it is the node's own one
+  pub replaced_own : (all l r : List (Piece T)) (o : Option (Piece T)) (p q : Piece T) → l ++ (own o ++ r) ≡ all → o ≡ Some q → Rises 0 all 1048576 → q.lo ≤ p.lo → p.lo ≤ q.lo
+      → l ++ (p ∷ r) ≡ inserted p (removed p.lo all)
+  replaced_own all l r o p q e is h low high =
+      let whole : l ++ (q ∷ r) ≡ all = (rw is at e) in
+      let all_rise : Rises 0 (l ++ (q ∷ r)) 1048576 = rw whole h in
+      let own_hi = rises_own 0 1048576 l q r all_rise in
+      let front = rises_front 0 1048576 l q r all_rise in
+      let none = next_none 0 q.lo p.lo l front (omega arith) in
+      let left : removed p.lo all ≡ l ++ r = ap (removed p.lo) (sym whole) ∙ removed_right p.lo l (q ∷ r) none ∙ ap (λ ys. l ++ ys) (removed_here p.lo q r (omega arith)) in
+      let before = rises_wider 0 q.lo 0 p.lo l (omega arith) (omega arith) front in
+      sym (ap (inserted p) left ∙ inserted_between 0 q.hi 1048576 p l r before (rises_back 0 1048576 l q r all_rise) (omega arith))

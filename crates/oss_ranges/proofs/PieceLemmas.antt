@@ -91,3 +91,12 @@ module _ {T : Type 0} where
 
   pub removed_past : (cell : ℕ) (p : Piece T) (rest : List (Piece T)) → p.hi ≤ cell → removed cell (p ∷ rest) ≡ p ∷ removed cell rest
   removed_past cell p rest low = grind (arith, nat_tests)
+
+  -- a piece between two lists of pieces goes between them
+  pub inserted_between : (a m b : ℕ) (p : Piece T) (xs ys : List (Piece T)) → Rises a xs p.lo → Rises m ys b → p.lo < m → inserted p (xs ++ ys) ≡ xs ++ p ∷ ys
+  inserted_between a m b p [] [] h k low = refl
+  inserted_between a m b p [] (y ∷ more) h k low = let e = k.0 in grind (arith, nat_tests)
+  inserted_between a m b p (x ∷ rest) ys h k low =
+      let ends = rises_order x.hi p.lo rest h.2 in
+      let own = h.1 in
+      grind (arith, nat_tests, inserted_between x.hi m b p rest ys h.2 k low)

@@ -138,3 +138,13 @@ IsMerged same (p ∷ rest) = IsApart same p rest × IsMerged same rest
 abbrev pub IsExactly : {T : Type 0} → ℕ → ℕ → Option (Piece T) → Type 0
 IsExactly lo hi None = ⊥
 IsExactly lo hi (Some p) = (p.lo ≡ lo) × (p.hi ≡ hi)
+
+-- a piece begins at this cell
+abbrev pub Begins : {T : Type 0} → ℕ → Option (Piece T) → Type 0
+Begins lo None = ⊥
+Begins lo (Some p) = p.lo ≡ lo
+
+-- The part of a piece before a range that the piece begins before and ends with: of `2..8 a` before `5..8` it is `2..5 a`.
+abbrev pub front_of : {T : Type 0} → ℕ → ℕ → Option (Piece T) → Option (Piece T)
+front_of lo hi None = None
+front_of lo hi (Some p) = if nat_lt p.lo lo && p.hi == hi then Some (record p { hi = lo }) else None

@@ -3,7 +3,7 @@
 
 ghost use Rattle.std.specs.Prelude.{◌≡◌, ◌≤◌, ◌<◌, ◌+◌, [], true, false, is_some, IfOk, IsOk, OnOk, length, vec_capacity};
 ghost use Rattle.std.specs.List.{insert};
-ghost use Rattle.oss_ranges.specs.Cells.{Rises, cut_at, inserted, next_of, outside, removed};
+ghost use Rattle.oss_ranges.specs.Cells.{Begins, Rises, cut_at, inserted, next_of, outside, removed};
 ghost use Rattle.oss_ranges.specs.Places.{place};
 
 use crate::piece::{Piece, begins_before};
@@ -113,9 +113,9 @@ impl<T: Copy> FlatMap<T> {
         clear_out(&mut self.pieces, lo, hi);
     }
 
-    /// Puts a piece in place of the first that ends behind its first cell.
+    /// Puts a piece in place of the one that begins where it does.
     pub(crate) fn replace(&mut self, piece: Piece<T>)
-        requires found { is_some (next_of piece.lo self.old.pieces) ≡ true }
+        requires found { Begins piece.lo (next_of piece.lo self.old.pieces) }
         requires rising { Rises 0 (inserted piece (removed piece.lo self.old.pieces)) 1048576 }
         ensures pieces { self.new.pieces ≡ inserted piece (removed piece.lo self.old.pieces) }
         ensures spares { self.new.spares ≡ self.old.spares }

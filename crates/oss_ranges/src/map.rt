@@ -2,7 +2,7 @@
 //! or not at all.
 
 ghost use Rattle.std.specs.Prelude.{◌≡◌, ◌≤◌, ◌<◌, ◌+◌, ◌*◌, ◌^◌, ◌⊎◌, [], ◌∷◌, ℕ, true, Some, None, is_some, IfOk, IsOk, OnOk, OnErr};
-ghost use Rattle.oss_ranges.specs.Cells.{Assigns, Cuts, CutsAround, EdgesFrom, IsEdge, IsExactly, IsMerged, Restricts, Rises, SameMap, cut_at, emptied, inserted, is_before, joined_at, next_of, outside, removed, union_of, value_at};
+ghost use Rattle.oss_ranges.specs.Cells.{Assigns, Begins, Cuts, CutsAround, EdgesFrom, IsEdge, IsExactly, IsMerged, Restricts, Rises, SameMap, cut_at, emptied, front_of, inserted, is_before, joined_at, next_of, outside, removed, union_of, value_at};
 ghost use Rattle.oss_ranges.specs.Stores.{kept_of};
 
 use crate::flat_map::FlatMap;
@@ -237,7 +237,8 @@ impl<T: Copy + Eq> RangeMap<T> {
     }
 
     /// Puts a piece with the cells of a range in place of what is there. It asks for room for one more where no cell
-    /// of the range has a value, and no memory where one piece has the cells of the range and no others.
+    /// of the range has a value or one piece ends with it, and no memory where one piece has the cells of the range
+    /// and no others.
     fn put(&mut self, range: Range, piece: Piece<T>) -> Result<(), AllocError>
         requires begins { piece.lo ≡ range.lo }
         requires ends { piece.hi ≡ range.hi }
@@ -249,7 +250,45 @@ impl<T: Copy + Eq> RangeMap<T> {
     {
         if self.is_piece(range) {
             self.replace(piece);
-        } else if self.has_within(range) {
+            return Ok(());
+        }
+        match self.front(range) {
+            Some(front) => self.put_behind(range, front, piece),
+            None => self.put_between(range, piece),
+        }
+    }
+
+    /// The same where a piece begins before the range and ends with it: that one keeps its front.
+    fn put_behind(
+        &mut self,
+        range: Range,
+        front: Piece<T>,
+        piece: Piece<T>,
+    ) -> Result<(), AllocError>
+        requires begins { piece.lo ≡ range.lo }
+        requires ends { piece.hi ≡ range.hi }
+        requires front { front_of range.lo range.hi (next_of range.lo self.old.pieces) ≡ Some front }
+        ensures pieces { OnOk result (self.new.pieces ≡ inserted piece (emptied range.lo range.hi self.old.pieces)) }
+        ensures refused { OnErr result (self.new.pieces ≡ self.old.pieces) }
+        ensures room { 3 ≤ self.old.spares → IsOk result }
+        ensures spares { self.old.spares ≤ self.new.spares + 3 }
+    {
+        self.prepare(1)?;
+        self.replace(front);
+        self.insert(piece);
+        Ok(())
+    }
+
+    /// The same where none does.
+    fn put_between(&mut self, range: Range, piece: Piece<T>) -> Result<(), AllocError>
+        requires begins { piece.lo ≡ range.lo }
+        requires ends { piece.hi ≡ range.hi }
+        ensures pieces { OnOk result (self.new.pieces ≡ inserted piece (emptied range.lo range.hi self.old.pieces)) }
+        ensures refused { OnErr result (self.new.pieces ≡ self.old.pieces) }
+        ensures room { 3 ≤ self.old.spares → IsOk result }
+        ensures spares { self.old.spares ≤ self.new.spares + 3 }
+    {
+        if self.has_within(range) {
             self.prepare(MORE)?;
             self.empty(range);
             self.insert(piece);
@@ -258,6 +297,23 @@ impl<T: Copy + Eq> RangeMap<T> {
             self.insert(piece);
         }
         Ok(())
+    }
+
+    /// The part before a range of the piece that begins before the range and ends with it, if there is one. It takes
+    /// no memory.
+    fn front(&self, range: Range) -> Option<Piece<T>>
+        ensures { result ≡ front_of range.lo range.hi (next_of range.lo self.now.pieces) }
+    {
+        let piece = self.next(range.lo)?;
+        if piece.lo < range.lo && piece.hi == range.hi {
+            Some(Piece {
+                lo: piece.lo,
+                hi: range.lo,
+                value: piece.value,
+            })
+        } else {
+            None
+        }
     }
 
     /// Whether one piece has the cells of a range and no others. It takes no memory.
@@ -271,9 +327,9 @@ impl<T: Copy + Eq> RangeMap<T> {
         }
     }
 
-    /// Puts a piece in place of the first that ends behind its first cell. It takes no memory.
+    /// Puts a piece in place of the one that begins where it does. It takes no memory.
     fn replace(&mut self, piece: Piece<T>)
-        requires found { is_some (next_of piece.lo self.old.pieces) ≡ true }
+        requires found { Begins piece.lo (next_of piece.lo self.old.pieces) }
         requires rising { Rises 0 (inserted piece (removed piece.lo self.old.pieces)) 1048576 }
         ensures pieces { self.new.pieces ≡ inserted piece (removed piece.lo self.old.pieces) }
         ensures spares { self.new.spares ≡ self.old.spares }

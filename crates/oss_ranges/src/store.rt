@@ -1,7 +1,7 @@
 //! Where a map keeps its pieces: in one block while they are few, and from then on in a balanced tree.
 
 ghost use Rattle.std.specs.Prelude.{◌≡◌, ◌≤◌, ◌<◌, ◌+◌, true, is_some, IfOk, IsOk, OnOk};
-ghost use Rattle.oss_ranges.specs.Cells.{Rises, cut_at, inserted, next_of, outside, removed};
+ghost use Rattle.oss_ranges.specs.Cells.{Begins, Rises, cut_at, inserted, next_of, outside, removed};
 ghost use Rattle.oss_ranges.specs.Stores.{kept_of};
 
 use crate::flat_map::FlatMap;
@@ -124,9 +124,9 @@ impl<T: Copy> Store<T> {
         }
     }
 
-    /// Puts a piece in place of the first that ends behind its first cell. It takes no memory.
+    /// Puts a piece in place of the one that begins where it does. It takes no memory.
     pub(crate) fn replace(&mut self, piece: Piece<T>)
-        requires found { is_some (next_of piece.lo (kept_of self.old).pieces) ≡ true }
+        requires found { Begins piece.lo (next_of piece.lo (kept_of self.old).pieces) }
         requires rising { Rises 0 (inserted piece (removed piece.lo (kept_of self.old).pieces)) 1048576 }
         ensures pieces { (kept_of self.new).pieces ≡ inserted piece (removed piece.lo (kept_of self.old).pieces) }
         ensures spares { (kept_of self.new).spares ≡ (kept_of self.old).spares }

@@ -2,7 +2,7 @@
 //! change takes memory.
 
 ghost use Rattle.std.specs.Prelude.{◌≡◌, ◌≤◌, ◌<◌, [], ◌∷◌, ◌++◌, Some, None, is_some};
-ghost use Rattle.oss_ranges.specs.Cells.{next_of, inserted, removed, Rises};
+ghost use Rattle.oss_ranges.specs.Cells.{Begins, next_of, inserted, removed, Rises};
 ghost use Rattle.oss_ranges.specs.Trees.{HasPiece, IsBetween, IsParted, IsTree, or_own, own, pieces_of};
 
 use crate::piece::Piece;
@@ -287,6 +287,29 @@ impl<T: Copy> Tree<T> {
                     balanced(left.with(piece, node), top, right)
                 } else {
                     balanced(left, top, right.with(piece, node))
+                }
+            }
+        }
+    }
+
+    /// The tree with this piece in place of the one that begins where it does. No side gets higher or lower.
+    pub(crate) fn replaced(self, piece: Piece<T>) -> Tree<T>
+        requires found { Begins piece.lo (next_of piece.lo self) }
+        requires rising { Rises 0 (inserted piece (removed piece.lo self)) 1048576 }
+        ensures { result ≡ inserted piece (removed piece.lo self) }
+    {
+        match self.into_root() {
+            Root::Leaf => unreachable!(),
+            Root::Fork(mut top) => {
+                let own = piece_of(&top);
+                let (left, right) = sides(&mut top);
+                if piece.lo < own.lo {
+                    over(left.replaced(piece), top, right)
+                } else if own.lo < piece.lo {
+                    over(left, top, right.replaced(piece))
+                } else {
+                    top.piece = Some(piece);
+                    over(left, top, right)
                 }
             }
         }

@@ -2,7 +2,7 @@
 //! all.
 
 ghost use Rattle.std.specs.Prelude.{◌≡◌, ◌≤◌, ◌<◌, ◌+◌, [], Some, true, is_some, IsOk, OnOk, length};
-ghost use Rattle.oss_ranges.specs.Cells.{Rises, cut_at, inserted, next_of, outside, removed};
+ghost use Rattle.oss_ranges.specs.Cells.{Begins, Rises, cut_at, inserted, next_of, outside, removed};
 
 use crate::piece::{Piece, begins_before};
 use crate::tree::{Node, Tree};
@@ -107,20 +107,14 @@ impl<T: Copy> TreeMap<T> {
         self.tree = without_range(mem::replace(&mut self.tree, Tree::new()), lo, hi);
     }
 
-    /// Puts a piece in place of the first that ends behind its first cell, in the node of that one.
+    /// Puts a piece in place of the one that begins where it does, in the node of that one.
     pub(crate) fn replace(&mut self, piece: Piece<T>)
-        requires found { is_some (next_of piece.lo self.old.pieces) ≡ true }
+        requires found { Begins piece.lo (next_of piece.lo self.old.pieces) }
         requires rising { Rises 0 (inserted piece (removed piece.lo self.old.pieces)) 1048576 }
         ensures pieces { self.new.pieces ≡ inserted piece (removed piece.lo self.old.pieces) }
         ensures spares { self.new.spares ≡ self.old.spares }
     {
-        let (node, rest) = mem::replace(&mut self.tree, Tree::new()).without(piece.lo);
-        match node {
-            Some(node) => {
-                self.tree = rest.with(piece, node);
-            }
-            None => unreachable!(),
-        }
+        self.tree = mem::replace(&mut self.tree, Tree::new()).replaced(piece);
     }
 
     /// Puts a piece in place of the two of which it is made, in the node of the first.
