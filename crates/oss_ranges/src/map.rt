@@ -248,13 +248,14 @@ impl<T: Copy + Eq> RangeMap<T> {
         ensures spares { self.old.spares ≤ self.new.spares + 3 }
         ensures rising { Rises 0 self.old.pieces 1048576 }
     {
-        if self.is_piece(range) {
+        let next = self.next(range.lo);
+        if is_exactly(next, range) {
             self.replace(piece);
             return Ok(());
         }
-        match self.front(range) {
+        match front(next, range) {
             Some(front) => self.put_behind(range, front, piece),
-            None => self.put_between(range, piece),
+            None => self.put_between(range, next, piece),
         }
     }
 
@@ -279,16 +280,23 @@ impl<T: Copy + Eq> RangeMap<T> {
         Ok(())
     }
 
-    /// The same where none does.
-    fn put_between(&mut self, range: Range, piece: Piece<T>) -> Result<(), AllocError>
+    /// The same where none does, and this is the first piece that ends behind the first cell of the range.
+    fn put_between(
+        &mut self,
+        range: Range,
+        next: Option<Piece<T>>,
+        piece: Piece<T>,
+    ) -> Result<(), AllocError>
         requires begins { piece.lo ≡ range.lo }
         requires ends { piece.hi ≡ range.hi }
+        requires next { next ≡ next_of range.lo self.old.pieces }
+        requires rising { Rises 0 self.old.pieces 1048576 }
         ensures pieces { OnOk result (self.new.pieces ≡ inserted piece (emptied range.lo range.hi self.old.pieces)) }
         ensures refused { OnErr result (self.new.pieces ≡ self.old.pieces) }
         ensures room { 3 ≤ self.old.spares → IsOk result }
         ensures spares { self.old.spares ≤ self.new.spares + 3 }
     {
-        if self.has_within(range) {
+        if begins_before(next, range.hi) {
             self.prepare(MORE)?;
             self.empty(range);
             self.insert(piece);
@@ -297,34 +305,6 @@ impl<T: Copy + Eq> RangeMap<T> {
             self.insert(piece);
         }
         Ok(())
-    }
-
-    /// The part before a range of the piece that begins before the range and ends with it, if there is one. It takes
-    /// no memory.
-    fn front(&self, range: Range) -> Option<Piece<T>>
-        ensures { result ≡ front_of range.lo range.hi (next_of range.lo self.now.pieces) }
-    {
-        let piece = self.next(range.lo)?;
-        if piece.lo < range.lo && piece.hi == range.hi {
-            Some(Piece {
-                lo: piece.lo,
-                hi: range.lo,
-                value: piece.value,
-            })
-        } else {
-            None
-        }
-    }
-
-    /// Whether one piece has the cells of a range and no others. It takes no memory.
-    fn is_piece(&self, range: Range) -> bool
-        ensures exactly { result ≡ true → IsExactly range.lo range.hi (next_of range.lo self.now.pieces) }
-        ensures rising { Rises 0 self.now.pieces 1048576 }
-    {
-        match self.next(range.lo) {
-            Some(piece) => piece.lo == range.lo && piece.hi == range.hi,
-            None => false,
-        }
     }
 
     /// Puts a piece in place of the one that begins where it does. It takes no memory.
@@ -392,6 +372,32 @@ impl<T: Copy + Eq> RangeMap<T> {
         ensures spares { self.new.spares ≡ self.old.spares }
     {
         self.store.remove(range.lo, range.hi);
+    }
+}
+
+/// Whether a piece has the cells of a range and no others.
+fn is_exactly<T: Copy>(piece: Option<Piece<T>>, range: Range) -> bool
+    ensures { result ≡ true → IsExactly range.lo range.hi piece }
+{
+    match piece {
+        Some(piece) => piece.lo == range.lo && piece.hi == range.hi,
+        None => false,
+    }
+}
+
+/// The part of a piece before a range that the piece begins before and ends with, if it does.
+fn front<T: Copy>(piece: Option<Piece<T>>, range: Range) -> Option<Piece<T>>
+    ensures { result ≡ front_of range.lo range.hi piece }
+{
+    let piece = piece?;
+    if piece.lo < range.lo && piece.hi == range.hi {
+        Some(Piece {
+            lo: piece.lo,
+            hi: range.lo,
+            value: piece.value,
+        })
+    } else {
+        None
     }
 }
 
