@@ -7,6 +7,10 @@ use crate::activation::{Activation, ClauseValues, Gathered};
 use oss_meaning::Value;
 use std::alloc::{AllocError, Global};
 
+/// A function has room for so many values more than stand on its stack at a time, and for so many locals more than it
+/// begins with: one that goes on in place asks for room for all that it may lay until its next ask.
+const MORE: usize = 4;
+
 /// Nothing gathered, which takes no memory.
 pub(crate) fn nothing_gathered(alloc: Global) -> Gathered
     ensures { base_in result ≡ no_base }
@@ -40,7 +44,7 @@ pub(crate) fn blank(alloc: Global) -> Activation
 }
 
 /// A function at its beginning with these values of the locals, or a creation with the line of its call, with
-/// room for so many values.
+/// room for so many values, and a few more.
 pub(crate) fn first_activation(
     alloc: Global,
     call_line: Option<u32>,
@@ -53,8 +57,8 @@ pub(crate) fn first_activation(
     Ok(Activation {
         at: entry,
         call_line,
-        stack: Vec::with_capacity(alloc, room)?,
-        locals: Vec::from_slice(alloc, locals)?,
+        stack: Vec::with_capacity(alloc, room.saturating_add(MORE))?,
+        locals: first_locals(alloc, locals)?,
         clauses: ClauseValues {
             when: true,
             last: false,
@@ -66,6 +70,15 @@ pub(crate) fn first_activation(
         adds_ranges: false,
         gathered: nothing_gathered(alloc),
     })
+}
+
+/// These values of locals, with room for a few more.
+fn first_locals(alloc: Global, locals: &[Value]) -> Result<Vec<Value>, AllocError>
+    ensures { IfOk result (λ copy. copy.items ≡ locals.now) }
+{
+    let mut copy = Vec::with_capacity(alloc, locals.len().saturating_add(MORE))?;
+    copy.extend_from_slice(locals)?;
+    Ok(copy)
 }
 
 /// Makes an activation one that continues this other one, which stays.
