@@ -4,7 +4,7 @@ use Rattle.std.proofs.Common.{sym, ◌∙◌, ap, subst, arith, append_assoc, le
 use Rattle.std.proofs.lemmas.Bool.Decides.{nat_tests}
 use Rattle.oss_ranges.proofs.PieceLemmas.{inserted_between, inserted_left, inserted_right, next_first, next_later, next_left, next_none, next_right, removed_here, removed_left, removed_none, removed_past, removed_right, removed_rises, rises_apart, rises_back, rises_front, rises_order, rises_own, rises_wider}
 use Rattle.oss_ranges.specs.Cells.{Begins, inserted, next_of, removed, Rises}
-use Rattle.oss_ranges.specs.Trees.{HasPiece, or_own, own}
+use Rattle.oss_ranges.specs.Trees.{HasPiece, or_found, own}
 use Rattle.oss_ranges.specs.declared.piece.Piece.{Piece}
 use Rattle.oss_ranges.specs.declared.tree.Node.{Node}
 
@@ -18,9 +18,9 @@ none_of (Some a) e = cc
 
 module _ {T : Type 0} where
   -- the search of a node whose piece ends behind the cell
-  pub next_here : (cell : ℕ) (xs ys : List (Piece T)) (p : Piece T) → cell < p.hi → or_own (next_of cell xs) p ≡ next_of cell (xs ++ p ∷ ys)
+  pub next_here : (cell : ℕ) (xs ys : List (Piece T)) (p : Piece T) → cell < p.hi → or_found (next_of cell xs) (Some p) ≡ next_of cell (xs ++ p ∷ ys)
   next_here cell xs ys p h = by (next_of cell xs) refl where
-    by : (o : Option (Piece T)) → next_of cell xs ≡ o → or_own o p ≡ next_of cell (xs ++ p ∷ ys)
+    by : (o : Option (Piece T)) → next_of cell xs ≡ o → or_found o (Some p) ≡ next_of cell (xs ++ p ∷ ys)
     by None e = grind (arith, nat_tests, next_right cell xs (p ∷ ys) e)
     by (Some q) e = sym (next_left cell xs (p ∷ ys) q e)
 
@@ -30,11 +30,23 @@ module _ {T : Type 0} where
       let own = rises_own a b xs p ys h in
       grind (arith, nat_tests, next_right cell xs (p ∷ ys) (next_none a p.lo cell xs (rises_front a b xs p ys h) (omega arith)))
 
-  pub node_next_here : (cell : ℕ) (n : Node T) (p : Piece T) → n.piece ≡ Some p → cell < p.hi → or_own (next_of cell n.left) p ≡ next_of cell (n.left ++ (own n.piece ++ n.right))
+  pub node_next_here : (cell : ℕ) (n : Node T) (p : Piece T) → n.piece ≡ Some p → cell < p.hi → or_found (next_of cell n.left) (Some p) ≡ next_of cell (n.left ++ (own n.piece ++ n.right))
   node_next_here cell n p e h = rw e (next_here cell n.left n.right p h)
 
   pub node_next_past : (cell : ℕ) (n : Node T) (p : Piece T) → n.piece ≡ Some p → Rises 0 (n.left ++ (own n.piece ++ n.right)) 1048576 → p.hi ≤ cell → next_of cell n.right ≡ next_of cell (n.left ++ (own n.piece ++ n.right))
   node_next_past cell n p e r h = rw e (next_past 0 1048576 cell n.left n.right p (rw e at r) h)
+
+  -- what is found in a tree or else before it, where the search goes on in the left side of its node, or in the right one
+  pub search_left : (cell : ℕ) (n : Node T) (p : Piece T) (found : Option (Piece T)) → n.piece ≡ Some p → cell < p.hi
+      → or_found (next_of cell n.left) (Some p) ≡ or_found (next_of cell (n.left ++ (own n.piece ++ n.right))) found
+  search_left cell n p found e h = by (next_of cell n.left) (node_next_here cell n p e h) where
+    by : (o : Option (Piece T)) → or_found o (Some p) ≡ next_of cell (n.left ++ (own n.piece ++ n.right)) → or_found o (Some p) ≡ or_found (next_of cell (n.left ++ (own n.piece ++ n.right))) found
+    by None f = rw (← f) refl
+    by (Some q) f = rw (← f) refl
+
+  pub search_right : (cell : ℕ) (n : Node T) (p : Piece T) (found : Option (Piece T)) → n.piece ≡ Some p → Rises 0 (n.left ++ (own n.piece ++ n.right)) 1048576 → p.hi ≤ cell
+      → or_found (next_of cell n.right) found ≡ or_found (next_of cell (n.left ++ (own n.piece ++ n.right))) found
+  search_right cell n p found e r h = ap (λ o. or_found o found) (node_next_past cell n p e r h)
 
   -- the parts of two pieces between three sides
   pub between_right : (a b d : List (Piece T)) (p q : Option (Piece T)) → HasPiece p → Rises 0 ((a ++ (own p ++ b)) ++ (own q ++ d)) 1048576 → Rises 0 (b ++ (own q ++ d)) 1048576

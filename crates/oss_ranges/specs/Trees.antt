@@ -33,10 +33,10 @@ IsTree root = IsWhole root × Rises 0 (pieces_of root) 1048576
 abbrev pub IsBetween : {T : Type 0} → List (Piece T) → Option (Piece T) → List (Piece T) → Type 0
 IsBetween left piece right = HasPiece piece × Rises 0 (left ++ (own piece ++ right)) 1048576
 
--- the first piece of the left side that is looked for, or the own one
-abbrev pub or_own : {T : Type 0} → Option (Piece T) → Piece T → Option (Piece T)
-or_own (Some first) p = Some first
-or_own None p = Some p
+-- the piece that was found first, or else the other one
+abbrev pub or_found : {T : Type 0} → Option (Piece T) → Option (Piece T) → Option (Piece T)
+or_found (Some first) other = Some first
+or_found None other = other
 
 -- pieces are parted in the first, which a node has, and the others; or there is none
 abbrev pub IsParted : {T : Type 0} → List (Piece T) → Option (Box (Node T)) → List (Piece T) → Type 0

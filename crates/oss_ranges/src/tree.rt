@@ -3,7 +3,7 @@
 
 ghost use Rattle.std.specs.Prelude.{◌≡◌, ◌≤◌, ◌<◌, [], ◌∷◌, ◌++◌, Some, None, is_some};
 ghost use Rattle.oss_ranges.specs.Cells.{Begins, next_of, inserted, removed, Rises};
-ghost use Rattle.oss_ranges.specs.Trees.{HasPiece, IsBetween, IsParted, IsTree, or_own, own, pieces_of};
+ghost use Rattle.oss_ranges.specs.Trees.{HasPiece, IsBetween, IsParted, IsTree, own, pieces_of};
 
 use crate::piece::Piece;
 use std::marker::Model;
@@ -86,27 +86,22 @@ impl<T: Copy> Tree<T> {
     pub(crate) fn next(&self, cell: u32) -> Option<Piece<T>>
         ensures { result ≡ next_of cell self.now }
     {
-        match &self.root {
-            Root::Leaf => None,
-            Root::Fork(node) => {
-                let own = piece_of(node);
-                if cell < own.hi {
-                    first_of(node.left.next(cell), own)
-                } else {
-                    node.right.next(cell)
+        let mut tree = self;
+        let mut found = None;
+        'nodes: loop {
+            match &tree.root {
+                Root::Leaf => return found,
+                Root::Fork(node) => {
+                    let own = piece_of(node);
+                    if cell < own.hi {
+                        found = Some(own);
+                        tree = &node.left;
+                    } else {
+                        tree = &node.right;
+                    }
                 }
             }
         }
-    }
-}
-
-/// The first piece of the left side, or the own one where that side has none.
-fn first_of<T: Copy>(first: Option<Piece<T>>, own: Piece<T>) -> Option<Piece<T>>
-    ensures { result ≡ or_own first own }
-{
-    match first {
-        Some(first) => Some(first),
-        None => Some(own),
     }
 }
 
