@@ -5,5 +5,6 @@ mod FollowLemmas
 mod FrameLemmas
 pub mod LeftLemmas
 mod Results
+pub mod SendLemmas
 mod SlotLemmas
 mod StackLemmas

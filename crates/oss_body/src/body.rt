@@ -2,6 +2,7 @@
 ghost use Rattle.std.specs.Prelude.{◌≡◌, ◌∷◌, ◌≤◌, ◌<◌, [], List as Items, ℕ, Bool, suc, length, true, false, IfOk, OnErr, OnOk};
 ghost use Rattle.oss_code.specs.declared.code.CodeParts.{CodeParts};
 ghost use Rattle.oss_judge.specs.Joined.{IsRising, held_mark, held_right};
+ghost use Rattle.oss_judge.specs.Seen.{right_seen};
 ghost use Rattle.oss_machine.specs.Asks.{meant_order, script_of};
 ghost use Rattle.oss_machine.specs.Frames.{CodeScript};
 ghost use Rattle.oss_machine.specs.Machines.{asks};
@@ -22,7 +23,7 @@ use crate::own::Own;
 use crate::place::Place;
 use crate::tasks::Tasks;
 use oss_code::{Code, TaskOrder};
-use oss_judge::Context;
+use oss_judge::{Context, Right};
 use oss_model::Point;
 use oss_syntax::{Access, List};
 use std::alloc::{AllocError, Global};
@@ -247,6 +248,14 @@ impl Body {
         ensures rising { IfOk result (λ accesses. IsRising accesses) }
     {
         self.own.context.accesses()
+    }
+
+    /// The right to a cell with which the task has started: a release changes it no more. It takes no memory.
+    pub fn right(&self, cell: u32) -> Right
+        ensures { (code : CodeParts) (start : Start CodeScript) (found : Items ℕ) →
+            IsBody code start found self.now → right_seen result ≡ right_of start.context cell }
+    {
+        self.own.context.right(cell)
     }
 
     /// What is in the slot of a cell of which the task has the right of a strong reduction: the fold of all

@@ -1,5 +1,5 @@
 -- Entries that are kept by ranges are the numbers of the cells that a task has, in rising order.
-use Rattle.std.proofs.Common.{◌≡◌, ◌≤◌, ◌<◌, ◌⊎◌, inl, inr, ℕ, zero, suc, ◌+◌, ◌-◌, refl, sym, ap, ◌∙◌, arith, Bool, true, false, List, [], ◌∷◌, Option, Some, None, if◌then◌else◌}
+use Rattle.std.proofs.Common.{◌≡◌, ◌≤◌, ◌<◌, ◌⊎◌, inl, inr, ℕ, zero, suc, ◌+◌, ◌-◌, refl, sym, subst, ap, ◌∙◌, arith, Bool, true, false, List, [], ◌∷◌, Option, Some, None, if◌then◌else◌}
 use Rattle.std.specs.Prelude.{◌||◌, min}
 use Rattle.std.proofs.lemmas.Bool.Decides.{nat_tests}
 use Rattle.oss_syntax.specs.declared.access.Access.{Access}
@@ -9,8 +9,8 @@ use Rattle.oss_judge.specs.Joined.{IsRising, held_right}
 use Rattle.oss_ranges.specs.Cells.{is_within}
 use Rattle.oss_words.specs.Sums.{below, num}
 use Rattle.oss_roles.specs.Numbers.{cells_below, entry_on, has_cell}
-use Rattle.oss_jobs.specs.Entries.{base_of, cells_in, entered, entry_told}
-use Rattle.oss_jobs.specs.Jobs.{or_else}
+use Rattle.oss_jobs.specs.Entries.{base_of, cells_in, entered, entry_told, moved}
+use Rattle.oss_jobs.specs.Jobs.{HasCells, or_else}
 
 below_or : (m n : ℕ) → (m < n) ⊎ (n ≤ m)
 below_or m n = grind arith
@@ -212,12 +212,49 @@ told_by xs own t c b e =
     ap (λ (u : Bool). if u then Some (t + 1 + cells_before xs c) else None) (e c)
     ∙ ap (λ (n : ℕ). if has_cell (own c) then Some (t + 1 + n) else None) (same_count xs own b e c)
 
--- the entries of a task whose rights accesses give
-pub entries_are : (xs : List Access) (own : ℕ → Right) (t c : ℕ) → IsRising xs → t + cells_in xs < 16777216 → ((d : ℕ) → right_from false xs d ≡ held_right (own d))
-    → entry_told (entered (t + 1) xs c None) c ≡ entry_on t own c
-entries_are xs own t c r few same =
-    entered_is xs 0 (t + 1) c None (rising_behind xs r) (omega (arith, few))
-    ∙ told_by xs own t c (rising_behind xs r) (λ d. sym (named_is xs 0 d (rising_behind xs r)) ∙ (ap has_cell (same d) ∙ held_has (own d)))
+-- of the cells that accesses name no more stand below one than there are
+before_few : (xs : List Access) (c : ℕ) → cells_before xs c ≤ cells_in xs
+before_few [] c = omega arith
+before_few (a ∷ rest) c = let o = a.range.ordered in let few = before_few rest c in omega (arith, o, few)
+
+-- and all of them below the last cell that there can be
+before_all : (xs : List Access) (c : ℕ) → 1048576 ≤ c → cells_before xs c ≡ cells_in xs
+before_all [] c l = refl
+before_all (a ∷ rest) c l = let o = a.range.ordered in let w = a.range.within in let all = before_all rest c l in omega (arith, o, w, all, l)
+
+moved_if : (x : Bool) (t n : ℕ) → t + (1 + n) ≤ 4294967295 → moved t (if x then Some (1 + n) else None) ≡ (if x then Some (t + 1 + n) else None)
+moved_if true t n few = ap (λ (m : ℕ). Some m) (omega (arith, few))
+moved_if false t n few = refl
+
+in_all : (xs : List Access) (own : ℕ → Right) → IsRising xs → ((d : ℕ) → right_from false xs d ≡ held_right (own d)) → (d : ℕ) → in_clauses xs d ≡ has_cell (own d)
+in_all xs own r same d = sym (named_is xs 0 d (rising_behind xs r)) ∙ (ap has_cell (same d) ∙ held_has (own d))
+
+-- the cells of a task whose rights accesses give
+pub cells_are : (xs : List Access) (own : ℕ → Right) → IsRising xs → ((d : ℕ) → right_from false xs d ≡ held_right (own d)) → HasCells (cells_in xs) own
+cells_are xs own r same = record {
+  few = λ c. subst (λ (n : ℕ). n ≤ cells_in xs) (same_count xs own (rising_behind xs r) (in_all xs own r same) c) (before_few xs c);
+  all = λ c l. sym (same_count xs own (rising_behind xs r) (in_all xs own r same) c) ∙ before_all xs c l;
+}
+
+-- the entries of a task whose rights accesses give, and whose number is 0
+pub entries_are : (xs : List Access) (own : ℕ → Right) (c : ℕ) → IsRising xs → cells_in xs < 16777216 → ((d : ℕ) → right_from false xs d ≡ held_right (own d))
+    → moved 0 (entry_told (entered 1 xs c None) c) ≡ entry_on 0 own c
+entries_are xs own c r few same =
+    ap (moved 0) (entered_is xs 0 1 c None (rising_behind xs r) (omega (arith, few)))
+    ∙ (moved_if (in_clauses xs c) 0 (cells_before xs c) (let b = before_few xs c in omega (arith, few, b))
+    ∙ told_by xs own 0 c (rising_behind xs r) (in_all xs own r same))
+
+-- entries of a task with a number are those of a task with another one, if all sums are small
+kept_if : (x : Bool) (t u n : ℕ) (e : Option ℕ) → t + 1 + n < 4294967295 → u + 1 + n ≤ 4294967295 → moved t e ≡ (if x then Some (t + 1 + n) else None)
+    → moved u e ≡ (if x then Some (u + 1 + n) else None)
+kept_if true t u n None few few' h = absurd (let bad : ⊥ = cc in bad)
+kept_if true t u n (Some e) few few' h = let q : min (t + e) 4294967295 ≡ t + 1 + n = cc in ap (λ (m : ℕ). Some m) (omega (arith, few, few', q))
+kept_if false t u n None few few' h = refl
+kept_if false t u n (Some e) few few' h = absurd (let bad : ⊥ = cc in bad)
+
+pub entries_move : (own : ℕ → Right) (t u cells c : ℕ) (e : Option ℕ) → cells_below own c ≤ cells → t + cells < 16777216 → u + cells < 16777216
+    → moved t e ≡ entry_on t own c → moved u e ≡ entry_on u own c
+entries_move own t u cells c e few ts us h = kept_if (has_cell (own c)) t u (cells_below own c) e (omega (arith, few, ts)) (omega (arith, few, us)) h
 
 -- the last children after a new one with these accesses
 pub lasts_are : (xs : List Access) (child c : ℕ) (kept : Option ℕ) → IsRising xs → child + cells_in xs < 16777216

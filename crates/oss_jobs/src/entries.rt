@@ -1,10 +1,10 @@
 //! Entries on cells, kept by ranges: the entries of one task on neighbouring cells follow each other, so one number
 //! tells them all.
 
-ghost use Rattle.std.specs.Prelude.{◌≡◌, ◌≤◌, ◌+◌, ◌*◌, ℕ, Some, IsOk, OnOk, OnErr, length};
+ghost use Rattle.std.specs.Prelude.{◌≡◌, ◌≤◌, ◌+◌, ◌*◌, ℕ, Some, IsOk, length};
 ghost use Rattle.oss_judge.specs.Joined.{IsRising};
 ghost use Rattle.oss_ranges.specs.Cells.{Assigns, value_at};
-ghost use Rattle.oss_jobs.specs.Entries.{base_of, cells_in, entered, entry_told, or_zero};
+ghost use Rattle.oss_jobs.specs.Entries.{base_of, cells_in, entered, entry_told, moved, or_zero};
 
 use oss_ranges::RangeMap;
 use oss_syntax::{Access, List, Range};
@@ -45,6 +45,16 @@ pub(crate) fn told(entries: &RangeMap<u32>, cell: u32) -> Option<u32>
     }
 }
 
+/// An entry of a task whose number is 0, if there is one, as that of the task with this number. It takes no memory.
+pub(crate) fn moved_by(task: u32, entry: Option<u32>) -> Option<u32>
+    ensures { result ≡ moved task entry }
+{
+    match entry {
+        Some(entry) => Some(task.saturating_add(entry)),
+        None => None,
+    }
+}
+
 /// An entry, or 0 if there is none.
 pub(crate) fn number_of(entry: Option<u32>) -> u32
     ensures { result ≡ or_zero entry }
@@ -55,25 +65,9 @@ pub(crate) fn number_of(entry: Option<u32>) -> u32
     }
 }
 
-/// Gives the cells of these accesses entries from this number on, in rising order. If it is out of memory, no entry has
-/// changed.
-pub(crate) fn enter(
-    entries: &mut RangeMap<u32>,
-    accesses: &[Access],
-    first: u32,
-) -> Result<(), AllocError>
-    requires { first + cells_in accesses.now ≤ 16777216 }
-    ensures ok { OnOk result ((cell : ℕ) → value_at entries.new.pieces cell ≡
-        entered first accesses.now cell (value_at entries.old.pieces cell)) }
-    ensures err { OnErr result (entries.new.pieces ≡ entries.old.pieces) }
-{
-    entries.reserve_all(accesses.len())?;
-    enter_reserved(entries, accesses, first);
-    Ok(())
-}
-
-/// The same in room that was reserved for it.
-fn enter_reserved(entries: &mut RangeMap<u32>, accesses: &[Access], first: u32)
+/// Gives the cells of these accesses entries from this number on, in rising order, in room that was reserved for it.
+/// It takes no memory.
+pub(crate) fn enter(entries: &mut RangeMap<u32>, accesses: &[Access], first: u32)
     requires numbers { first + cells_in accesses.now ≤ 16777216 }
     requires room { 3 * length accesses.now ≤ entries.old.spares }
     ensures { (cell : ℕ) → value_at entries.new.pieces cell ≡

@@ -1,6 +1,6 @@
 //! A job.
 
-ghost use Rattle.std.specs.Prelude.{◌≡◌, ◌<◌, ◌+◌, true, false, List as Items, ℕ, Option as Maybe, None, IfOk, OnErr, OnOk};
+ghost use Rattle.std.specs.Prelude.{◌≡◌, ◌<◌, ◌≤◌, ◌+◌, true, false, List as Items, ℕ, Option as Maybe, None, IfOk, OnErr, OnOk};
 ghost use Rattle.oss_body.specs.Acts.{act_seen, answer_to, goes_on};
 ghost use Rattle.oss_body.specs.Relation.{IsBody, is_over, pending_of};
 ghost use Rattle.oss_code.specs.declared.code.CodeParts.{CodeParts};
@@ -15,7 +15,7 @@ ghost use Rattle.oss_roles.specs.Roles.{Site, itself, on};
 ghost use Rattle.oss_segment.specs.Segments.{with_print};
 ghost use Rattle.oss_jobs.specs.Entries.{cells_in, or_zero};
 
-use crate::entries::{enter, number_of, told};
+use crate::entries::{count_cells, enter, moved_by, number_of, told};
 use crate::printing::add_print;
 use oss_body::Body;
 use oss_code::Code;
@@ -28,13 +28,16 @@ use std::alloc::{AllocError, Global};
 /// made, and for each cell the entry of the last child there.
 ///
 /// A task's entries follow each other: its own, whose number is the task's number, and then one for each of its cells,
-/// in rising order. Contracts say what holds for each task of the machine of which this is the job (`IsJob`).
+/// in rising order. Whoever makes a task takes all memory before its number: a new job has the number 0, and gets that
+/// of its task by `start`. Contracts say what holds for each task of the machine of which this is the job (`IsJob`).
 pub struct Job {
     alloc: Global,
     task: u32,
+    /// How many cells the task has.
+    cells: u32,
     body: Body,
     prints: Vec<Print>,
-    /// The task's entries on its cells.
+    /// The entries on its cells of a task whose number is 0.
     entries: RangeMap<u32>,
     /// The entries of the last children that were noted, and the last of all.
     lasts: RangeMap<u32>,
@@ -47,6 +50,7 @@ impl Drop for Job {
         let Job {
             alloc: _,
             task: _,
+            cells: _,
             body,
             prints,
             entries,
@@ -61,37 +65,50 @@ impl Drop for Job {
 }
 
 impl Job {
-    ghost use Rattle.oss_jobs.specs.Jobs.{IsJob, SameJob, SameBeside, body_of, entry_at, last_at, last_child_of, noted, prints_of, task_of};
+    ghost use Rattle.oss_jobs.specs.Jobs.{HasCells, HasRoom, IsJob, SameBeside, SameJob, SameLasts, body_of, cells_of, entry_at, last_at, last_child_of, noted, prints_of, task_of};
 
-    /// The job of a task with this body and this number, of which no child was noted. The accesses are those that
-    /// `Body::accesses` gives. Out of memory, the body is let go. Condition: the task's number and the number of its
-    /// cells are together below 16,777,216.
-    pub fn start(
-        alloc: Global,
-        body: Body,
-        task: u32,
-        accesses: &List<Access>,
-    ) -> Result<Job, AllocError>
+    /// The job of a task with this body, of which no child was noted. Its number is 0 until `start` gives it one. The
+    /// accesses are those that `Body::accesses` gives. Out of memory, the body is let go.
+    pub fn new(alloc: Global, body: Body, accesses: &List<Access>) -> Result<Job, AllocError>
         requires rising { IsRising accesses.now }
-        requires numbers { task + cells_in accesses.now < 16777216 }
         ensures job { IfOk result (λ job. (code : CodeParts) (start : Start CodeScript) (found : Items ℕ) →
             IsBody code start found body →
             ((c : ℕ) → right_from false accesses.now c ≡ held_right (right_of start.context c)) →
-            IsJob code found job task (record { start = start; found = found }) (λ y. None)) }
+            IsJob code found job 0 (record { start = start; found = found }) (λ y. None)) }
         ensures body { IfOk result (λ job. body_of job ≡ body) }
-        ensures task { IfOk result (λ job. task_of job ≡ task) }
+        ensures task { IfOk result (λ job. task_of job ≡ 0) }
+        ensures cells { IfOk result (λ job. cells_of job ≡ cells_in accesses.now) }
+        ensures few { IfOk result (λ job. cells_of job ≤ 1048576) }
     {
         let mut entries = RangeMap::new(alloc);
-        enter(&mut entries, accesses.as_slice(), task + 1)?;
+        entries.reserve_all(accesses.len())?;
+        let cells = count_cells(accesses);
+        enter(&mut entries, accesses.as_slice(), 1);
         Ok(Job {
             alloc,
-            task,
+            task: 0,
+            cells,
             body,
             prints: Vec::new(alloc),
             entries,
             lasts: RangeMap::new(alloc),
             last_child: None,
         })
+    }
+
+    /// The task of the job has this number from now on, and its entries follow it. It takes no memory. Condition: the
+    /// number and the number of the task's cells are together below 16,777,216.
+    pub fn start(&mut self, task: u32)
+        requires numbers { task + cells_of self.old < 16777216 }
+        ensures job { (code : CodeParts) (before : Items ℕ) (t : ℕ) (b : Meant CodeScript) (last : Site → Maybe ℕ) →
+            IsJob code before self.old t b last → IsJob code before self.new task b last }
+        ensures task { task_of self.new ≡ task }
+        ensures body { body_of self.new ≡ body_of self.old }
+        ensures prints { prints_of self.new ≡ prints_of self.old }
+        ensures cells { cells_of self.new ≡ cells_of self.old }
+        ensures lasts { SameLasts self.old self.new }
+    {
+        self.task = task;
     }
 
     /// The body. It takes no memory.
@@ -101,7 +118,16 @@ impl Job {
         &self.body
     }
 
-    /// The task's number, which is that of its own entry. It takes no memory.
+    /// How many cells the task has: it has one entry more. It takes no memory.
+    pub fn cells(&self) -> u32
+        ensures kept { result ≡ cells_of self.now }
+        ensures cells { (code : CodeParts) (before : Items ℕ) (t : ℕ) (b : Meant CodeScript) (last : Site → Maybe ℕ) →
+            IsJob code before self.now t b last → HasCells result (right_of b.start.context) }
+    {
+        self.cells
+    }
+
+    /// The task's number, which is that of its own entry; 0 if `start` gave it none. It takes no memory.
     pub fn task(&self) -> u32
         ensures kept { result ≡ task_of self.now }
     {
@@ -122,7 +148,7 @@ impl Job {
         ensures entry { (code : CodeParts) (before : Items ℕ) (t : ℕ) (b : Meant CodeScript) (last : Site → Maybe ℕ) →
             IsJob code before self.now t b last → result ≡ or_zero (entry_on t (right_of b.start.context) cell) }
     {
-        number_of(told(&self.entries, cell))
+        number_of(moved_by(self.task, told(&self.entries, cell)))
     }
 
     /// The entry of the last child on a cell. `None` exactly where no child was noted there. It takes no memory.
@@ -173,24 +199,32 @@ impl Job {
         }
     }
 
+    /// Makes room to note a child with these accesses. If it is out of memory, the job is as it was.
+    pub fn reserve(&mut self, accesses: &List<Access>) -> Result<(), AllocError>
+        ensures room { OnOk result (HasRoom accesses.now self.new) }
+        ensures stays { SameJob self.old self.new }
+    {
+        self.lasts.reserve_all(accesses.len())
+    }
+
     /// The task with this number is the last child from now on, and its entries are the last ones on its cells, which
-    /// these accesses name, as `Body::accesses` gives them. If it is out of memory, the job is as it was. Condition: the
-    /// child's number and the number of its cells are together below 16,777,216.
-    pub fn note(&mut self, child: u32, accesses: &List<Access>) -> Result<(), AllocError>
+    /// these accesses name, as `Body::accesses` gives them. It takes no memory. Conditions: there is room for it, as
+    /// `reserve` makes it, and the child's number and the number of its cells are together below 16,777,216.
+    pub fn note(&mut self, child: u32, accesses: &List<Access>)
         requires rising { IsRising accesses.now }
         requires numbers { child + cells_in accesses.now < 16777216 }
-        ensures ok { OnOk result ((code : CodeParts) (before : Items ℕ) (t : ℕ) (b : Meant CodeScript)
-            (last : Site → Maybe ℕ) → IsJob code before self.old t b last →
-            IsJob code before self.new t b (noted child (right_from false accesses.now) last)) }
+        requires room { HasRoom accesses.now self.old }
+        ensures job { (code : CodeParts) (before : Items ℕ) (t : ℕ) (b : Meant CodeScript) (last : Site → Maybe ℕ) →
+            IsJob code before self.old t b last →
+            IsJob code before self.new t b (noted child (right_from false accesses.now) last) }
         ensures body { body_of self.new ≡ body_of self.old }
         ensures prints { prints_of self.new ≡ prints_of self.old }
         ensures task { task_of self.new ≡ task_of self.old }
+        ensures cells { cells_of self.new ≡ cells_of self.old }
         ensures entries { (cell : ℕ) → entry_at self.new cell ≡ entry_at self.old cell }
-        ensures stays { OnErr result (SameJob self.old self.new) }
     {
-        enter(&mut self.lasts, accesses.as_slice(), child + 1)?;
+        enter(&mut self.lasts, accesses.as_slice(), child + 1);
         self.last_child = Some(child);
-        Ok(())
     }
 
     /// The body, and what the task has printed since the job was made.
@@ -201,6 +235,7 @@ impl Job {
         let Job {
             alloc: _,
             task: _,
+            cells: _,
             body,
             prints,
             entries,

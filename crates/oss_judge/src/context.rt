@@ -109,8 +109,8 @@ impl Context {
         })
     }
 
-    /// The right to a cell.
-    fn right(&self, cell: u32) -> Right
+    /// The right to a cell: nothing, nothing any more, or what the clauses of the task say. It takes no memory.
+    pub fn right(&self, cell: u32) -> Right
         ensures { right_seen result ≡ right_of self.now cell }
     {
         right::told(self.rights.get(cell))

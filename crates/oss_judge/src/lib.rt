@@ -17,3 +17,4 @@ mod touches;
 pub use context::Context;
 pub use given_rights::Given;
 pub use refused::JudgeRefused;
+pub use right::Right;

@@ -10,9 +10,12 @@ use oss_syntax::{Mode, Op};
 
 /// What a task may do with a cell: nothing; nothing any more, since it has released the cell; or what its clauses say.
 #[derive(Clone, Copy, PartialEq, Eq)]
-pub(crate) enum Right {
+pub enum Right {
+    /// The task never had a right to the cell.
     Nothing,
+    /// The task has released the cell.
     Released,
+    /// The joined mode of the clauses that name the cell, and whether one of them is strong.
     Holds(Mode, bool),
 }
 

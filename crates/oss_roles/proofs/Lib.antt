@@ -41,6 +41,8 @@ pub mod RunSibling
 pub mod RunStill
 pub mod RunStore
 pub mod RunTest
+pub mod RunTwo
+pub mod RunTwoEnds
 pub mod RunWait
 pub mod RunWeak
 pub mod RunWrite

@@ -1,4 +1,5 @@
-//! Jobs over a main worked by hand: what is told at the start, after acts, and after new children.
+//! Jobs over a main worked by hand: what is told at the start, after acts, here and on other threads, and after new
+//! children.
 
 ghost use Rattle.std.specs.Prelude.{◌≡◌, ◌<◌, IfOk};
 ghost use Rattle.oss_body.specs.Acts.{goes_on};
@@ -9,9 +10,12 @@ use oss_body::{Act, main_body};
 use oss_code::{Code, CodeParts, GlobalPlace, Instr};
 use oss_grammar::Piece;
 use oss_jobs::{Job, count_cells};
+use oss_judge::Right;
 use oss_syntax::{Access, Cells, List, Mode, Range};
 use std::alloc::{AllocError, Global};
 use std::process::Abort;
+use std::thread;
+use std::thread::Threads;
 
 /// A list of these numbers.
 fn numbers(rt: &(impl Abort + AllocGlobal), numbers: &[u32]) -> List<u32> {
@@ -59,8 +63,9 @@ fn job(alloc: Global, code: &Code, task: u32) -> Result<Job, AllocError>
     }
     let body = main_body(alloc, code, 100)?;
     let accesses = body.accesses()?;
-    let _cells = count_cells(&accesses);
-    Job::start(alloc, body, task, &accesses)
+    let mut job = Job::new(alloc, body, &accesses)?;
+    job.start(task);
+    Ok(job)
 }
 
 /// Whether a job can go on from an act: it is no fault.
@@ -111,7 +116,29 @@ fn note(alloc: Global, job: &mut Job, child: u32, range: Range) -> Result<(), Al
 {
     let accesses = written(alloc, range)?;
     let _cells = count_cells(&accesses);
-    job.note(child, &accesses)
+    job.reserve(&accesses)?;
+    job.note(child, &accesses);
+    Ok(())
+}
+
+/// The job after three acts, in each of which a load would find 0.
+fn advanced(job: Job, code: &Code) -> Result<Job, AllocError> {
+    let mut job = job;
+    for _act in 0..3 {
+        if !step(&mut job, code)? {
+            return Err(AllocError);
+        }
+    }
+    Ok(job)
+}
+
+/// The jobs after three acts each, every one on a thread of its own if one can be made.
+fn advanced_apart<R: Threads + Sync>(
+    rt: &R,
+    jobs: Vec<Job>,
+    code: &Code,
+) -> Result<Vec<Result<Job, AllocError>>, AllocError> {
+    thread::map_vec(rt, jobs, &|job| advanced(job, code))
 }
 
 /// Main has a number, and its entries stand behind it; no other cell has one, and there is no child.
@@ -122,6 +149,9 @@ fn numbers_the_entries_of_a_task(rt: HostRuntime) {
     assert!(rt; job.task() == 7 && !job.body().begun());
     assert!(rt; job.entry(0) == 8 && job.entry(1) == 9 && job.entry(2) == 10);
     assert!(rt; job.entry(3) == 0 && job.entry(4_294_967_295) == 0);
+    assert!(rt; job.cells() == 3);
+    assert!(rt; job.body().right(2) == Right::Holds(Mode::Write, true));
+    assert!(rt; job.body().right(3) == Right::Nothing);
     assert!(rt; job.last(0).is_none() && job.last_child().is_none());
     assert!(rt; job.prints().is_empty());
     drop(job);
@@ -160,5 +190,27 @@ fn notes_the_last_children(rt: HostRuntime) {
     assert!(rt; job.last(0) == Some(8) && job.last(1) == Some(11) && job.last(2) == Some(12));
     assert!(rt; job.entry(0) == 1 && job.entry(2) == 3);
     drop(job);
+    drop(code);
+}
+
+/// Jobs that go on in other threads come back with what they have printed there, and their entries are as they were.
+#[test]
+fn goes_on_in_another_thread(rt: HostRuntime) {
+    let code = code(&rt);
+    let first = job(rt.alloc(), &code, 7).expect(&rt, "memory");
+    let second = job(rt.alloc(), &code, 40).expect(&rt, "memory");
+    let jobs = vec![in rt.alloc(); first, second].expect(&rt, "memory");
+    let mut back = advanced_apart(&rt, jobs, &code).expect(&rt, "memory");
+    let second = back.pop().expect(&rt, "a job").expect(&rt, "memory");
+    let first = back.pop().expect(&rt, "a job").expect(&rt, "memory");
+    assert!(rt; back.is_empty() && first.task() == 7 && second.task() == 40);
+    assert!(rt; first.entry(1) == 9 && second.entry(1) == 42);
+    assert!(rt; first.body().ended() && second.body().ended());
+    assert!(rt; first.prints().len() == 2 && second.prints().len() == 2);
+    assert!(rt; second.prints()[0].text.as_slice() == b"x".as_slice());
+    assert!(rt; second.prints()[1].text.as_slice() == b"y".as_slice());
+    drop(first);
+    drop(second);
+    drop(back);
     drop(code);
 }

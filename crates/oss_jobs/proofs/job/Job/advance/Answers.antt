@@ -11,4 +11,4 @@ returns-in-Ok-clause-ok c =
     went_on c.args.code.now c.args.self.now _ (answer_to (act_seen (pending_of c.args.self.now.body)) c.args.loaded) c.requires.running c.in-Ok.ensures.ok
     (c.in_ok-add_print.ensures.prints ∙ ap (λ (a : Act). with_print a c.args.self.now.prints.items) c.pending.ensures.kept)
     (subst (λ (a : Act). IsKeyed a) c.pending.ensures.kept c.in_ok-add_print.ensures.keyed)
-    (record { task = refl; entries = λ cell. refl; lasts = λ cell. refl; last_child = refl })
+    (record { task = refl; cells = refl; entries = λ cell. refl; last = record { lasts = λ cell. refl; last_child = refl; room = λ accesses enough. enough } })

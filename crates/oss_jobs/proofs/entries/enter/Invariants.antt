@@ -1,7 +1,7 @@
 use Rattle.std.proofs.Common.{◌≡◌, ◌≤◌, ◌+◌, ◌*◌, ℕ, length, drop}
 use Rattle.oss_ranges.specs.Cells.{value_at}
 use Rattle.oss_jobs.specs.Entries.{cells_in, entered}
-use Rattle.oss_jobs.proofs.entries.enter_reserved.Given as goal
+use Rattle.oss_jobs.proofs.entries.enter.Given as goal
 
 -- there are numbers and room for the accesses that are left, and with them the map is what all accesses make of it
 abbrev pub invariant-loop-access : goal.invariant-loop-access
