@@ -18,6 +18,7 @@ pub mod BodyFacts
 pub mod ExactLemmas
 pub mod NeedLemmas
 pub mod CoreLemmas
+pub mod PartLemmas
 pub mod ActLemmas
 pub mod StepsLemmas
 pub mod GivesLemmas

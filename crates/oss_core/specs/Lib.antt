@@ -5,6 +5,7 @@ pub mod Telling
 pub mod Printing
 pub mod Putting
 pub mod Kept
+pub mod Parts
 pub mod Changes
 pub mod Going
 pub mod Giving

@@ -12,6 +12,7 @@ ghost use Rattle.oss_model.specs.Moves.{opening};
 ghost use Rattle.oss_tree.specs.Tasks.{HasPoint};
 
 use crate::fault::ApplyFault;
+use crate::parts::CoreParts;
 use oss_body::{Act, main_is_set};
 use oss_code::Code;
 use oss_deps::Deps;
@@ -80,6 +81,7 @@ impl<D: Deps> Core<D> {
     ghost use Rattle.oss_core.specs.Changes.{IsMade, IsMove, MayMove};
     ghost use Rattle.oss_core.specs.Cores.{kept_of};
     ghost use Rattle.oss_core.specs.Kept.{IsCore, IsRunning};
+    ghost use Rattle.oss_core.specs.Parts.{AreParts, kept_with};
 
     /// The machine at its beginning: main alone, which has done nothing, over the cells of its code. Want of
     /// memory is the one error. Condition: the code has at most 1,048,576 cells, and in the dependency system
@@ -206,6 +208,24 @@ impl<D: Deps> Core<D> {
             Ok(()) => Ok(()),
             Err(full) => Err(ApplyFault::Memory(full)),
         }
+    }
+
+    /// What the core keeps, and its dependency system. The parts are those of each state for which the core stands. It
+    /// takes no memory.
+    pub fn apart(self) -> (CoreParts, D)
+        ensures kept { kept_with (D.seen result.1) result.0 ≡ kept_of D.seen self }
+        ensures deps { result.1 ≡ self.deps }
+        ensures parts { (code : CodeParts) (main : Start CodeScript) (first : Items ℕ) (s : State CodeScript) →
+            IsCore code main first (kept_of D.seen self) s → AreParts code main first result.0 s }
+    {
+        let Core {
+            alloc: _,
+            tasks,
+            tree,
+            deps,
+            cells,
+        } = self;
+        (CoreParts { tasks, tree, cells }, deps)
     }
 
     /// The dependency system, as the moves have left it; all else is let go.
