@@ -12,7 +12,7 @@ use Rattle.oss_body.specs.Acts.{act_seen}
 use Rattle.oss_audit.specs.declared.begun.Begun.{Begun}
 use Rattle.oss_audit.specs.declared.unused.Unused.{Unused}
 use Rattle.oss_audit.specs.declared.watch.Watch.{Watch}
-use Rattle.oss_audit.specs.CellSets.{has}
+use Rattle.oss_pieces.specs.CellSets.{has}
 use Rattle.oss_audit.specs.Following.{AreOnWay, IsFollowing, IsOnWay, TellsTouched, at_child, at_main}
 use Rattle.oss_audit.specs.Trails.{Declared, Declares, Place, Touched, above, place_of, touches}
 use Rattle.oss_audit.specs.Unused.{Rises}

@@ -1,9 +1,8 @@
 -- The longest runs of cells, one more at a time.
 use Rattle.std.proofs.Common.{◌≡◌, ℕ, ◌<◌, ◌≤◌, ◌⊎◌, inl, inr, sym, subst, ap, ◌∙◌, List, [], ◌∷◌, ◌++◌, arith, Bool, true, false}
 use Rattle.oss_model.specs.Order.{IsIn, here}
-use Rattle.oss_audit.specs.declared.cells.CellSet.{CellSet}
 use Rattle.oss_audit.specs.declared.unused.Unused.{Unused}
-use Rattle.oss_audit.specs.CellSets.{is_left}
+use Rattle.oss_pieces.specs.CellSets.{SetOfCells, is_left}
 use Rattle.oss_audit.specs.Runs.{AddsRun, Covers, HasRuns, HasRunsBefore, IsRun}
 use Rattle.oss_audit.specs.Unused.{IsAhead}
 use Rattle.oss_audit.proofs.ListLemmas.{in_either, in_left, in_one, in_right, rises_both}
@@ -14,7 +13,7 @@ at_most m n = grind arith
 never : (b : Bool) → b ≡ true → b ≡ false → ⊥
 never b h k = let e : true ≡ false = sym h ∙ k in cc
 
-module _ (point : List ℕ) (declared touched : CellSet) where
+module _ (point : List ℕ) (declared touched : SetOfCells) where
   pub runs_first : (us : List Unused) → us ≡ [] → HasRunsBefore point declared touched 0 us
   runs_first us e = subst (λ (xs : List Unused). HasRunsBefore point declared touched 0 xs) (sym e) none
     where

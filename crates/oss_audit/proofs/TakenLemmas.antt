@@ -11,7 +11,7 @@ use Rattle.oss_model.specs.Rights.{in_access}
 use Rattle.oss_model.proofs.OrderLemmas.{suffix_drop}
 use Rattle.oss_audit.specs.declared.begun.Begun.{Begun}
 use Rattle.oss_audit.specs.declared.unused.Unused.{Unused}
-use Rattle.oss_audit.specs.CellSets.{has}
+use Rattle.oss_pieces.specs.CellSets.{has}
 use Rattle.oss_audit.specs.Following.{IsBelow, IsOnWay, TellsTouched}
 use Rattle.oss_audit.specs.Runs.{Covers}
 use Rattle.oss_audit.specs.Trails.{Declared, Declares, Place, Touched, place_of}

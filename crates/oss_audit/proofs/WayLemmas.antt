@@ -5,7 +5,7 @@ use Rattle.oss_model.specs.Bodies.{Act}
 use Rattle.oss_model.specs.Order.{IsSuffix, whole}
 use Rattle.oss_model.proofs.OrderLemmas.{suffix_drop, suffix_trans}
 use Rattle.oss_audit.specs.declared.begun.Begun.{Begun}
-use Rattle.oss_audit.specs.CellSets.{has}
+use Rattle.oss_pieces.specs.CellSets.{has}
 use Rattle.oss_audit.specs.Following.{AreOnWay, IsOnWay, TellsTouched, at_child, at_main}
 use Rattle.oss_audit.specs.Trails.{Declared, Declares, Touched, place_of, touches}
 use Rattle.oss_audit.proofs.PathLemmas.{one_way, not_below}

@@ -7,7 +7,7 @@ use Rattle.oss_model.specs.Order.{IsIn, IsSuffix, written}
 use Rattle.oss_audit.specs.declared.begun.Begun.{Begun}
 use Rattle.oss_audit.specs.declared.unused.Unused.{Unused}
 use Rattle.oss_audit.specs.declared.watch.Watch.{Watch}
-use Rattle.oss_audit.specs.CellSets.{has}
+use Rattle.oss_pieces.specs.CellSets.{has}
 use Rattle.oss_audit.specs.Trails.{Declared, Touched, place_of}
 use Rattle.oss_audit.specs.Unused.{IsTold, Rises}
 

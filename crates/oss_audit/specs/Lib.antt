@@ -1,6 +1,5 @@
 pub mod Unused
 pub mod Trails
-pub mod CellSets
 pub mod Runs
 pub mod Watches
 pub mod Following

@@ -2,9 +2,8 @@
 -- Read against: of the declared cells 0 to 9, 0 and 5 of which were touched, the runs before cell 6 are the one from 1 up to 5; those before all cells are that one and the one from 6 up to 10.
 use Rattle.std.specs.Prelude.{◌≡◌, ◌≤◌, ◌<◌, ℕ, true, List, [], ◌∷◌, ◌++◌}
 use Rattle.oss_model.specs.Order.{IsIn}
-use Rattle.oss_audit.specs.declared.cells.CellSet.{CellSet}
 use Rattle.oss_audit.specs.declared.unused.Unused.{Unused}
-use Rattle.oss_audit.specs.CellSets.{is_left}
+use Rattle.oss_pieces.specs.CellSets.{SetOfCells, is_left}
 use Rattle.oss_audit.specs.Unused.{Rises}
 
 -- The item has this point and the cells from one up to another.
@@ -26,13 +25,13 @@ pub record Covers (us : List Unused) (c : ℕ) : Type 0 where
   pub to : c < item.range.hi
 
 -- The list has the runs of the cells before this one that are left, each with this point; the last ends before the cell, or the cell is that behind all.
-pub record HasRuns (point : List ℕ) (declared touched : CellSet) (end : ℕ) (us : List Unused) : Type 0 where
+pub record HasRuns (point : List ℕ) (declared touched : SetOfCells) (end : ℕ) (us : List Unused) : Type 0 where
   pub rises : Rises us
   pub points : (u : Unused) → IsIn u us → u.point ≡ point
   pub only : (c : ℕ) → Covers us c → is_left declared touched c ≡ true
   pub all : (c : ℕ) → c < end → is_left declared touched c ≡ true → Covers us c
 
 -- The same, where no run ends at the cell, so that another may begin there.
-pub record HasRunsBefore (point : List ℕ) (declared touched : CellSet) (start : ℕ) (us : List Unused) : Type 0 where
+pub record HasRunsBefore (point : List ℕ) (declared touched : SetOfCells) (start : ℕ) (us : List Unused) : Type 0 where
   pub runs : HasRuns point declared touched start us
   pub before : (u : Unused) → IsIn u us → u.range.hi < start

@@ -9,7 +9,7 @@ use Rattle.oss_body.specs.declared.act.Act.TheVariants as acts
 use Rattle.oss_audit.specs.declared.begun.Begun.{Begun}
 use Rattle.oss_audit.specs.declared.unused.Unused.{Unused}
 use Rattle.oss_audit.specs.declared.watch.Watch.{Watch}
-use Rattle.oss_audit.specs.CellSets.{has}
+use Rattle.oss_pieces.specs.CellSets.{has}
 use Rattle.oss_audit.specs.Runs.{HasRuns}
 
 -- Main at the beginning.

@@ -2,9 +2,9 @@
 
 ghost use Rattle.std.specs.Prelude.{◌≡◌, ◌<◌, ℕ, length, IfOk, OnOk};
 ghost use Rattle.oss_model.specs.Context.{in_clauses};
-ghost use Rattle.oss_audit.specs.CellSets.{has};
+ghost use Rattle.oss_pieces.specs.CellSets.{has};
 
-use crate::cells::CellSet;
+use oss_pieces::CellSet;
 use crate::runs::unused_runs;
 use crate::unused::Unused;
 use oss_code::TaskOrder;

@@ -2,7 +2,6 @@
 #![tactic(auto)]
 
 mod begun;
-mod cells;
 mod lines;
 mod run;
 mod runs;

@@ -1,10 +1,10 @@
 //! The longest runs of cells that are declared and were not touched.
 
 ghost use Rattle.std.specs.Prelude.{◌≡◌, ◌≤◌, ◌<◌, ℕ, IfOk, OnOk};
-ghost use Rattle.oss_audit.specs.CellSets.{is_left};
+ghost use Rattle.oss_pieces.specs.CellSets.{is_left};
 ghost use Rattle.oss_audit.specs.Runs.{AddsRun, HasRuns};
 
-use crate::cells::{CELLS, CellSet};
+use oss_pieces::{CELLS, CellSet};
 use crate::unused::Unused;
 use oss_model::Point;
 use oss_syntax::Range;

@@ -14,6 +14,8 @@ mod judge_tests;
 #[cfg(test)]
 mod model_tests;
 #[cfg(test)]
+mod pieces_tests;
+#[cfg(test)]
 mod ranges_tests;
 #[cfg(test)]
 mod retire_tests;

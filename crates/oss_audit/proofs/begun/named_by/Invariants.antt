@@ -1,7 +1,7 @@
 use Rattle.std.proofs.Common.{◌≡◌, ℕ, drop}
 use Rattle.std.specs.Prelude.{◌||◌}
 use Rattle.oss_model.specs.Context.{in_clauses}
-use Rattle.oss_audit.specs.CellSets.{has}
+use Rattle.oss_pieces.specs.CellSets.{has}
 use Rattle.oss_audit.proofs.begun.named_by.Given as goal
 
 -- what the accesses so far name, and those that follow

@@ -1,5 +1,5 @@
 use Rattle.std.proofs.Common.{◌≡◌, ◌<◌, ◌≤◌, ◌-◌, ℕ, true}
-use Rattle.oss_audit.specs.CellSets.{is_left}
+use Rattle.oss_pieces.specs.CellSets.{is_left}
 use Rattle.oss_audit.specs.Runs.{HasRunsBefore}
 use Rattle.oss_audit.proofs.runs.unused_runs.Given as goal
 

@@ -1,6 +1,6 @@
 use Rattle.std.proofs.Common.{◌≤◌, ◌-◌}
-use Rattle.oss_audit.specs.CellSets.{IsAddedTo}
-use Rattle.oss_audit.proofs.cells.CellSet.add_all.Given as goal
+use Rattle.oss_pieces.specs.CellSets.{IsAddedTo}
+use Rattle.oss_pieces.proofs.cell_set.CellSet.add_all.Given as goal
 
 -- the cells before this one are added
 abbrev pub invariant-runs : goal.invariant-runs

@@ -1,0 +1,4 @@
+mod RunLemmas
+mod StepLemmas
+mod ItemLemmas
+pub mod OneListLemmas

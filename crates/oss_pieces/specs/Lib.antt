@@ -1,0 +1,5 @@
+pub mod CellSets
+pub mod Rows
+pub mod Pieces
+pub mod Names
+pub mod Claims

@@ -1,0 +1,16 @@
+//! Sets of cells, and how a set is told: as pieces of the globals, in the words of a clause.
+#![tactic(auto)]
+
+mod cell_set;
+mod finding;
+mod laws;
+mod names;
+mod piece;
+mod rows;
+mod shape;
+
+pub use cell_set::{CELLS, CellSet};
+pub use finding::pieces;
+pub use laws::a_set_has_one_list;
+pub use names::{add_cell_name, add_pieces};
+pub use piece::{Piece, Span};
