@@ -20,11 +20,11 @@ use Rattle.oss_core.proofs.CoreLeftLemmas.{left_is, memory_size}
 use Rattle.oss_core.proofs.TreeFacts.{core_agrees}
 
 -- the sequential run at its beginning
-abbrev begun : Start CodeScript → List ℕ → Running CodeScript
+abbrev pub begun : Start CodeScript → List ℕ → Running CodeScript
 begun main first = record { state = opening main first; active = []; printed = [] }
 
 -- where less is left in the state, less is left for the core
-falls_with : {code : CodeParts} {main : Start CodeScript} {first : List ℕ} {old new : Kept} {s n : State CodeScript} → IsCore code main first old s → IsCore code main first new n
+pub falls_with : {code : CodeParts} {main : Start CodeScript} {first : List ℕ} {old new : Kept} {s n : State CodeScript} → IsCore code main first old s → IsCore code main first new n
     → left (lively code) n < left (lively code) s → core_left code new < core_left code old
 falls_with {main = main} {old = old} {new = new} a b l =
     let x = left_is a in

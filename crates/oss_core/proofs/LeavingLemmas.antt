@@ -46,15 +46,15 @@ given_other : (tasks : List TreeTask) (v w : ℕ) (last : Bool) → (w ≡ v →
 given_other tasks v w false n = refl
 given_other tasks v w true n = changed_other given_task tasks v w n
 
-noted_other : (tasks : List TreeTask) (v w : ℕ) (over : Bool) → (w ≡ v → ⊥) → slice_get (noted v over tasks) w ≡ slice_get tasks w
+pub noted_other : (tasks : List TreeTask) (v w : ℕ) (over : Bool) → (w ≡ v → ⊥) → slice_get (noted v over tasks) w ≡ slice_get tasks w
 noted_other tasks v w false n = refl
 noted_other tasks v w true n = changed_other ended_task tasks v w n
 
-new_other : (accesses : List Access) (tasks : List TreeTask) (m w : ℕ) → (w ≡ m → ⊥) → slice_get (noted_new accesses m tasks) w ≡ slice_get tasks w
+pub new_other : (accesses : List Access) (tasks : List TreeTask) (m w : ℕ) → (w ≡ m → ⊥) → slice_get (noted_new accesses m tasks) w ≡ slice_get tasks w
 new_other [] tasks m w n = changed_other given_task tasks m w n
 new_other (a ∷ more) tasks m w n = refl
 
-grown_other : (tasks : List TreeTask) (v w : ℕ) (wait : Bool) (one : TreeTask) → (w ≡ v → ⊥) → slice_get tasks w ≡ Some one → slice_get (grown tasks v wait) w ≡ Some one
+pub grown_other : (tasks : List TreeTask) (v w : ℕ) (wait : Bool) (one : TreeTask) → (w ≡ v → ⊥) → slice_get tasks w ≡ Some one → slice_get (grown tasks v wait) w ≡ Some one
 grown_other tasks v w wait one n e = go (some_or_none (slice_get tasks v))
   where
     go : (slice_get tasks v ≡ None) ⊎ ((creator : TreeTask) × (slice_get tasks v ≡ Some creator)) → slice_get (grown tasks v wait) w ≡ Some one

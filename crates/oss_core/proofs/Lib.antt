@@ -55,3 +55,4 @@ pub mod FillLemmas
 pub mod MidwayLemmas
 pub mod NextLemmas
 pub mod WavingLemmas
+pub mod ActingLemmas

@@ -144,7 +144,7 @@ waved code before k new steppers bodies parts told are filled beside parts_are e
     wave_made code main first s before steppers told new (ends code main first s before (wave_begun code main first s before k steppers bodies parts core are filled beside.tree beside.seen beside.cells parts_are))
 
 -- tasks that keep their points are there
-points_more : (old new : List TreeTask) → KeepsPoints old new → length old ≤ length new
+pub points_more : (old new : List TreeTask) → KeepsPoints old new → length old ≤ length new
 points_more old new keeps = go (length old) refl
   where
     go : (n : ℕ) → length old ≡ n → n ≤ length new

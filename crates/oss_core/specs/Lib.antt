@@ -20,3 +20,4 @@ pub mod Steppers
 pub mod Awake
 pub mod Hindered
 pub mod Leaving
+pub mod Acting

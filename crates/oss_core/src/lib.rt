@@ -1,6 +1,7 @@
 //! The task machine: bodies, their tree, a dependency system and memory, moved by exactly the moves of the definitions.
 #![tactic(auto)]
 
+mod acting;
 mod answering;
 mod creating;
 mod fault;

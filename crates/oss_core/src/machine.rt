@@ -56,7 +56,7 @@ impl<D: Deps> Drop for Core<D> {
 }
 
 /// Whether an act creates a task of the machine.
-fn is_creation(act: &Act) -> bool
+pub(crate) fn is_creation(act: &Act) -> bool
     ensures { result ≡ creates act.now }
 {
     match act {

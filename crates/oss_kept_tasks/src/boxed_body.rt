@@ -170,6 +170,14 @@ impl BoxedBody {
         self.place.waits()
     }
 
+    /// The value of the clause `priority` of the task.
+    pub fn priority(&self) -> i64
+        ensures { (code : CodeParts) (start : Start CodeScript) (found : Items ℕ) →
+            IsBody code start found self.now → result ≡ start.order.priority }
+    {
+        self.place.priority()
+    }
+
     /// Whether an act of the body is done.
     pub fn begun(&self) -> bool
         ensures kept { result ≡ has_begun self.now }

@@ -64,7 +64,7 @@ module _ {S : Type 0} (P : Program S) where
       (λ k h. b.all k (place_forth same k (a.only k h))) (λ k h. a.all k (place_forth (same_back same) k (b.only k h)))
 
   -- acts of one task lead to one state
-  takes_same : {s n : State S} → IsSame s n → (p : List ℕ) (k : ℕ) {x y : State S} → Takes P p s k x → Takes P p n k y → IsSame x y
+  pub takes_same : {s n : State S} → IsSame s n → (p : List ℕ) (k : ℕ) {x y : State S} → Takes P p s k x → Takes P p n k y → IsSame x y
   takes_same same p zero takes_none takes_none = same
   takes_same {s = s} {n = n} same p (suc k) {x = x} {y = y} (takes_more {a = a} {t = t} r can step) (takes_more {a = b} {t = u} q could stepped) = on (takes_same same p k r q)
     where
@@ -124,11 +124,11 @@ module _ {S : Type 0} (P : Program S) where
       let e = places_one same a.places b.places a.places_are b.places_are in
       visits_one a.places same a.visits (subst (λ (ps : List Place). Visits P n ps ys y) (sym e) b.visits)
 
-  record OneWays (xs ys : List (List GivenUp)) (x y : State S) : Type 0 where
+  pub record OneWays (xs ys : List (List GivenUp)) (x y : State S) : Type 0 where
     pub done_ : xs ≡ ys
     pub same : IsSame x y
 
-  passes_one : {s n x y : State S} {xs ys : List (List GivenUp)} → IsSame s n → Passes P s xs x → Passes P n ys y → OneWays xs ys x y
+  pub passes_one : {s n x y : State S} {xs ys : List (List GivenUp)} → IsSame s n → Passes P s xs x → Passes P n ys y → OneWays xs ys x y
   passes_one same (idles a) (idles b) = record { done_ = refl; same = (pass_one same a b).same }
   passes_one same (idles a) (passes {first = g} {more = gs} b q) = let e : [] ≡ g ∷ gs = (pass_one same a b).done_ in cc
   passes_one same (passes {first = g} {more = gs} a r) (idles b) = let e : g ∷ gs ≡ [] = (pass_one same a b).done_ in cc

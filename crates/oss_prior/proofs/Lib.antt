@@ -1,0 +1,5 @@
+pub mod SteppingLemmas
+pub mod PassingLemmas
+pub mod ChoosingLemmas
+pub mod TurnLemmas
+pub mod RunLemmas

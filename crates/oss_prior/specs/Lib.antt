@@ -1,0 +1,4 @@
+pub mod SingleRuns
+pub mod Turning
+pub mod Stepping
+pub mod Choosing

@@ -1,0 +1,2 @@
+pub mod OneOrderLemmas
+pub mod TurnsLemmas

@@ -1,0 +1,28 @@
+-- What holds of runs by turns: a program has one, its states are those of the machine, and where it stops its answer is that of the sequential run.
+use Rattle.std.specs.Prelude.{◌≡◌, ℕ, List}
+use Rattle.oss_model.specs.declared.answer.Answer.{Answer}
+use Rattle.oss_model.specs.Bodies.{Program, Start}
+use Rattle.oss_model.specs.Machine.{State}
+use Rattle.oss_model.specs.Moves.{Reached}
+use Rattle.oss_model.specs.Agreement.{Setting}
+use Rattle.oss_model.specs.Answers.{IsAnswer, IsResult, IsStopped}
+use Rattle.oss_wave_laws.specs.Claims.{IsSame}
+use Rattle.oss_prior_laws.specs.Turns.{IsOrder, RunsByTurns}
+
+-- The text of a program settles its turns: which tasks begin, in which order, and the state to which they come.
+abbrev pub OneRunByTurns : Type 0 → Type 0
+OneRunByTurns S = (P : Program S) (main : Start S) (cells : List ℕ) (xs ys : List (List ℕ)) (n m : State S)
+    → RunsByTurns P main cells xs n → RunsByTurns P main cells ys m → (xs ≡ ys) × IsSame n m
+
+-- So it has one order.
+abbrev pub OneOrder : Type 0 → Type 0
+OneOrder S = (P : Program S) (main : Start S) (cells : List ℕ) (a b : List (List ℕ)) → IsOrder P main cells a → IsOrder P main cells b → a ≡ b
+
+-- Turns come to a state of a run of the machine. No move is left in it.
+abbrev pub TurnsStop : Type 0 → Type 0
+TurnsStop S = (P : Program S) (main : Start S) (cells : List ℕ) (begun : List (List ℕ)) (n : State S) → Setting main cells → RunsByTurns P main cells begun n → Reached P main cells n × IsStopped P n
+
+-- The answer there is the result of the sequential run.
+abbrev pub AnswerIsTheResult : Type 0 → Type 0
+AnswerIsTheResult S = (P : Program S) (main : Start S) (cells : List ℕ) (begun : List (List ℕ)) (n : State S) (a b : Answer)
+    → Setting main cells → RunsByTurns P main cells begun n → IsAnswer P n a → IsResult P main cells b → a ≡ b

@@ -1,0 +1,25 @@
+//! What holds of runs by turns, whatever the program is: laws, each carried by a function that does nothing. A
+//! crate above calls the function for its type of scripts, and then has the law.
+
+ghost use Rattle.oss_prior_laws.specs.Claims.{AnswerIsTheResult, OneOrder, OneRunByTurns, TurnsStop};
+
+/// A program has one run by turns: the tasks that begin, in their order, and the state to which the turns come, but
+/// for how it lists its tasks.
+pub fn one_run_by_turns<S>()
+    ensures { OneRunByTurns S }
+{}
+
+/// So it has one order.
+pub fn one_order<S>()
+    ensures { OneOrder S }
+{}
+
+/// Turns come to a state of a run of the machine in which no move is left.
+pub fn turns_stop<S>()
+    ensures { TurnsStop S }
+{}
+
+/// The answer there is the result of the sequential run.
+pub fn answer_is_the_result<S>()
+    ensures { AnswerIsTheResult S }
+{}
