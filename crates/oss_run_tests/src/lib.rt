@@ -1,4 +1,4 @@
-//! What no clause says of the machine, of audits, of parts, of jobs and of runs by waves, tried by their public calls
+//! What no clause says of the machine, of audits, of parts, of jobs, of runs by waves and by one worker, tried by their public calls
 //! over codes that were written by hand. The tests have a crate of their own, since a crate with tests is
 //! proved once without them and once with them.
 #![tactic(auto)]
@@ -11,5 +11,7 @@ mod job_tests;
 mod machine_tests;
 #[cfg(test)]
 mod part_tests;
+#[cfg(test)]
+mod single_tests;
 #[cfg(test)]
 mod waves_tests;
