@@ -1,2 +1,3 @@
 pub mod OneOrderLemmas
 pub mod TurnsLemmas
+pub mod ExistLemmas

@@ -6,6 +6,7 @@ use Rattle.oss_model.specs.Machine.{State}
 use Rattle.oss_model.specs.Moves.{Reached}
 use Rattle.oss_model.specs.Agreement.{Setting}
 use Rattle.oss_model.specs.Answers.{IsAnswer, IsResult, IsStopped}
+use Rattle.oss_model.specs.Termination.{IsLively}
 use Rattle.oss_wave_laws.specs.Claims.{IsSame}
 use Rattle.oss_prior_laws.specs.Turns.{IsOrder, RunsByTurns}
 
@@ -17,6 +18,10 @@ OneRunByTurns S = (P : Program S) (main : Start S) (cells : List ℕ) (xs ys : L
 -- So it has one order.
 abbrev pub OneOrder : Type 0 → Type 0
 OneOrder S = (P : Program S) (main : Start S) (cells : List ℕ) (a b : List (List ℕ)) → IsOrder P main cells a → IsOrder P main cells b → a ≡ b
+
+-- A lively program has an order.
+abbrev pub HasOrder : Type 0 → Type 0
+HasOrder S = (P : Program S) (main : Start S) (cells : List ℕ) → Setting main cells → IsLively P → (order : List (List ℕ)) × IsOrder P main cells order
 
 -- Turns come to a state of a run of the machine. No move is left in it.
 abbrev pub TurnsStop : Type 0 → Type 0

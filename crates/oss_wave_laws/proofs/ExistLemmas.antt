@@ -286,7 +286,7 @@ module _ {S : Type 0} (P : Program S) (main : Start S) (cells : List ℕ) (z : R
       go : Passed P s → ((m : State S) → Agrees P main cells z m → left lively m < fuel → AllPassed m) → AllPassed s
       go p f = by_done p.done_ p.state p.is f
 
-  all_passed : (s : State S) → Agrees P main cells z s → AllPassed s
+  pub all_passed : (s : State S) → Agrees P main cells z s → AllPassed s
   all_passed s agrees = passes_from (suc (left lively s)) s agrees (omega arith)
 
   pub record AllRounds (s : State S) : Type 0 where
