@@ -8,6 +8,8 @@ mod access_lists_tests;
 #[cfg(test)]
 mod code_tests;
 #[cfg(test)]
+mod crew_tests;
+#[cfg(test)]
 mod gen_tests;
 #[cfg(test)]
 mod judge_tests;
