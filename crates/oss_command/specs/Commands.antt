@@ -1,10 +1,13 @@
 -- The words of the command line, behind the name of the program: a command, its operands and its options, in any order behind the command. A word that begins
 -- with `--` is an option; an operand is not empty and does not begin with `-`. What is not listed for the command is refused, and so is an option that stands
 -- twice, by its name, or whose value is out of form.
--- Read against: no words, `run`, `run a.c b.c`, `run -a`, `run a.c --fuel=0`, `run a.c --fuel=01`, `run a.c --fuel=5 --fuel=5`, `run a.c --dump=1`, `run a.c --mode=workers` and `check
--- a.c --fuel=5` are refused; `run --dump a.c --workers=64` asks to run the file `a.c` by waves with a dump, 64 workers and fuel for 1,000,000 ticks a task. `run a.c --deps=plain` and
+-- Read against: no words, `run`, `run a.c b.c`, `run -a`, `run a.c --fuel=0`, `run a.c --fuel=01`, `run a.c --fuel=5 --fuel=5`, `run a.c --dump=1`, and `check a.c --fuel=5` are
+-- refused; `run --dump a.c --workers=64` asks to run the file `a.c` by waves with a dump, 64 workers and fuel for 1,000,000 ticks a task. `run a.c --deps=plain` and
 -- `run a.c --mode=serial` are runs by waves, over the plain lists, and one task after the other; both options together are refused, and so is `run a.c --deps=lists`.
 -- `trace a.c --deps=words` and `soak 7 9 --deps=words` are by waves, over words, and `soak 7 9 --mode=serial --deps=words` is refused.
+-- `run a.c --mode=workers --workers=1 --who --order` is a run by one worker, with lines that tell which worker began each task, and in which order they began. `run a.c --mode=workers` and
+-- `run a.c --mode=workers --workers=2` are refused, since more workers are not built yet, and so are `run a.c --who`, `run a.c --order --workers=1` and
+-- `run a.c --mode=workers --workers=1 --deps=plain`.
 -- And: `replay a.c s.txt` asks to replay the schedule in the file `s.txt` on the program in `a.c`, with fuel for 1,000,000 ticks a task, and `replay --fuel=5 a.c s.txt` with fuel for 5;
 -- `replay a.c`, `replay a.c s.txt t.txt`, `replay a.c s.txt --dump` and `replay a.c --fuel=0 s.txt` are refused.
 -- And: `trace a.c --fuel=5` asks for the trace of the run by waves of `a.c`, and `trace a.c --mode=waves`, `trace a.c --dump` and `trace a.c --workers=4` are refused. `soak 7 9` asks
@@ -118,7 +121,7 @@ number_by least most default again = None
 -- The mode of a run: by waves where nothing is said.
 abbrev pub mode_by : Standing → Option RunMode
 mode_by absent = Some mode.Waves
-mode_by (once v) = if bytes_eq v (codes "serial") then Some mode.Serial else if bytes_eq v (codes "waves") then Some mode.Waves else None
+mode_by (once v) = if bytes_eq v (codes "serial") then Some mode.Serial else if bytes_eq v (codes "waves") then Some mode.Waves else if bytes_eq v (codes "workers") then Some mode.Workers else None
 mode_by again = None
 
 -- The dependency system with this name.
@@ -126,18 +129,51 @@ abbrev pub system_by : List ℕ → Option DepsKind
 system_by v = if bytes_eq v (codes "regions") then Some deps.Regions else if bytes_eq v (codes "plain") then Some deps.Plain else if bytes_eq v (codes "words") then Some deps.Words else None
 
 -- The dependency system of a run in this mode: there is one, regions where nothing is said, and it may be named where the run is by waves.
-abbrev pub deps_by : Option RunMode → Standing → Option DepsKind
-deps_by (Some mode.Waves) (once v) = system_by v
-deps_by (Some mode.Serial) (once v) = None
-deps_by None (once v) = None
+abbrev pub deps_by : RunMode → Standing → Option DepsKind
+deps_by mode.Waves (once v) = system_by v
+deps_by mode.Serial (once v) = None
+deps_by mode.Workers (once v) = None
 deps_by m absent = Some deps.Regions
 deps_by m again = None
+
+-- one, and no other number
+abbrev pub one_alone : ℕ → Option ℕ
+one_alone n = if n == 1 then Some n else None
+
+-- The number of workers of a run in this mode, if they are so many: a run by workers has one, since no other is built yet.
+abbrev pub workers_by : RunMode → Option ℕ → Option ℕ
+workers_by mode.Workers (Some n) = one_alone n
+workers_by mode.Waves (Some n) = Some n
+workers_by mode.Serial (Some n) = Some n
+workers_by m None = None
 
 -- an option without a value: whether it stands
 abbrev pub flag_by : Standing → Option Bool
 flag_by absent = Some false
 flag_by (once v) = Some true
 flag_by again = None
+
+-- an option that may not stand
+abbrev pub no_flag_by : Standing → Option Bool
+no_flag_by absent = Some false
+no_flag_by (once v) = None
+no_flag_by again = None
+
+-- Whether it is told which worker began each task: this may be asked of a run by workers.
+abbrev pub who_by : RunMode → Standing → Option Bool
+who_by mode.Workers told = flag_by told
+who_by mode.Waves told = no_flag_by told
+who_by mode.Serial told = no_flag_by told
+
+-- an option without a value that only a run by one worker has
+abbrev pub flag_for_one_by : ℕ → Standing → Option Bool
+flag_for_one_by n told = if n == 1 then flag_by told else no_flag_by told
+
+-- Whether it is told in which order the tasks began: this may be asked of a run by one worker.
+abbrev pub order_by : RunMode → ℕ → Standing → Option Bool
+order_by mode.Workers n told = flag_for_one_by n told
+order_by mode.Waves n told = no_flag_by told
+order_by mode.Serial n told = no_flag_by told
 
 abbrev pub mode_name : List ℕ
 mode_name = codes "--mode="
@@ -154,9 +190,19 @@ fuel_name = codes "--fuel="
 abbrev pub dump_name : List ℕ
 dump_name = codes "--dump"
 
+abbrev pub who_name : List ℕ
+who_name = codes "--who"
+
+abbrev pub order_name : List ℕ
+order_name = codes "--order"
+
+-- an option without a value
+abbrev pub is_flag_word : List ℕ → Bool
+is_flag_word w = bytes_eq w dump_name || bytes_eq w who_name || bytes_eq w order_name
+
 -- a word that `run` may have
 abbrev pub is_listed : List ℕ → Bool
-is_listed w = is_operand w || is_there (behind mode_name w) || is_there (behind deps_name w) || is_there (behind workers_name w) || is_there (behind fuel_name w) || bytes_eq w dump_name
+is_listed w = is_operand w || is_there (behind mode_name w) || is_there (behind deps_name w) || is_there (behind workers_name w) || is_there (behind fuel_name w) || is_flag_word w
 
 -- a word that `trace` may have
 abbrev pub is_trace_word : List ℕ → Bool
@@ -170,11 +216,6 @@ is_soak_word w = is_operand w || is_there (behind mode_name w) || is_there (behi
 abbrev pub is_fuel_word : List ℕ → Bool
 is_fuel_word w = is_operand w || is_there (behind fuel_name w)
 
--- what the options say; none where one of them stands twice or has a value out of form
-abbrev pub options_by : Option RunMode → Option DepsKind → Option ℕ → Option ℕ → Option Bool → Option Options
-options_by (Some mode) (Some deps) (Some workers) (Some fuel) (Some dump) = Some (record { mode = mode; deps = deps; workers = workers; fuel = fuel; dump = dump })
-options_by _ _ _ _ _ = None
-
 -- the fuel of each task: for 1 to 1,000,000,000 ticks, and for 1,000,000 where nothing is said
 abbrev pub fuel_in : List (List ℕ) → Option ℕ
 fuel_in words = number_by 1 1000000000 1000000 (standing (values_of fuel_name words))
@@ -183,10 +224,29 @@ fuel_in words = number_by 1 1000000000 1000000 (standing (values_of fuel_name wo
 abbrev pub mode_in : List (List ℕ) → Option RunMode
 mode_in words = mode_by (standing (values_of mode_name words))
 
--- The options of a run: where nothing is said, it is by waves, over regions, with 4 workers, of 1 to 64, with fuel for 1,000,000 ticks a task, and without a dump.
+-- how the option of this name stands among words
+abbrev pub said : List ℕ → List (List ℕ) → Standing
+said name words = standing (values_of name words)
+
+-- What the options say, in this mode and with so many workers.
+abbrev pub options_with : RunMode → ℕ → Option DepsKind → Option ℕ → Option Bool → Option Bool → Option Bool → Option Options
+options_with mode workers (Some deps) (Some fuel) (Some dump) (Some who) (Some order) = Some (record { mode = mode; deps = deps; workers = workers; fuel = fuel; dump = dump; who = who; order = order })
+options_with mode workers _ _ _ _ _ = None
+
+-- The same of words, in which an option stands once at most, has a value in form, and may stand in this mode with so many workers.
+abbrev pub options_for : RunMode → Option ℕ → List (List ℕ) → Option Options
+options_for mode (Some workers) words = options_with mode workers (deps_by mode (said deps_name words)) (fuel_in words) (flag_by (said dump_name words)) (who_by mode (said who_name words)) (order_by mode workers (said order_name words))
+options_for mode None words = None
+
+-- The same in the mode that the words say.
+abbrev pub options_in_mode : Option RunMode → List (List ℕ) → Option Options
+options_in_mode (Some mode) words = options_for mode (workers_by mode (number_by 1 64 4 (said workers_name words))) words
+options_in_mode None words = None
+
+-- The options of a run: where nothing is said, it is by waves, over regions, with 4 workers, of 1 to 64, with fuel for 1,000,000 ticks a task, without a dump, and without lines that tell of
+-- workers or of the order.
 abbrev pub options_in : List (List ℕ) → Option Options
-options_in words = options_by (mode_in words) (deps_by (mode_in words) (standing (values_of deps_name words))) (number_by 1 64 4 (standing (values_of workers_name words))) (fuel_in words)
-    (flag_by (standing (values_of dump_name words)))
+options_in words = options_in_mode (mode_in words) words
 
 -- Commands
 
@@ -271,15 +331,42 @@ meant (told.Soak asked) = soak asked.number asked.size asked.options
 meant (told.Audit file fuel) = audit file.now fuel
 meant (told.Span file fuel) = span file.now fuel
 
--- A command that runs a program has a worker at least.
-abbrev pub HasWorkers : Command → Type 0
-HasWorkers (run file options) = 0 < options.workers
-HasWorkers (check file) = Unit {0}
-HasWorkers (trace file options) = 0 < options.workers
-HasWorkers (replay file schedule fuel) = Unit {0}
-HasWorkers (soak number size options) = 0 < options.workers
-HasWorkers (audit file fuel) = Unit {0}
-HasWorkers (span file fuel) = Unit {0}
+-- the mode is that of workers
+abbrev pub is_by_workers : RunMode → Bool
+is_by_workers mode.Serial = false
+is_by_workers mode.Waves = false
+is_by_workers mode.Workers = true
+
+-- the command runs a program by workers
+abbrev pub runs_by_workers : Command → Bool
+runs_by_workers (run file options) = is_by_workers options.mode
+runs_by_workers (check file) = false
+runs_by_workers (trace file options) = false
+runs_by_workers (replay file schedule fuel) = false
+runs_by_workers (soak number size options) = is_by_workers options.mode
+runs_by_workers (audit file fuel) = false
+runs_by_workers (span file fuel) = false
+
+-- A run in another mode has no lines that tell of workers or of the order.
+abbrev pub HasLinesFor : RunMode → Bool → Bool → Type 0
+HasLinesFor mode.Serial who order = (who ≡ false) × (order ≡ false)
+HasLinesFor mode.Waves who order = (who ≡ false) × (order ≡ false)
+HasLinesFor mode.Workers who order = Unit {0}
+
+-- There is a worker at least, and no lines are asked for that the mode has not.
+pub record AreFit (options : Options) : Type 0 where
+  pub some : 0 < options.workers
+  pub lines : HasLinesFor options.mode options.who options.order
+
+-- The options of a command fit each other.
+abbrev pub IsFit : Command → Type 0
+IsFit (run file options) = AreFit options
+IsFit (check file) = Unit {0}
+IsFit (trace file options) = AreFit options
+IsFit (replay file schedule fuel) = Unit {0}
+IsFit (soak number size options) = AreFit options
+IsFit (audit file fuel) = Unit {0}
+IsFit (span file fuel) = Unit {0}
 
 abbrev pub IsAskedBy : Option Command → Result Told WordsRefused → Type 0
 IsAskedBy command (Ok t) = command ≡ Some (meant t)

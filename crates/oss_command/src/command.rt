@@ -2,7 +2,7 @@
 
 ghost use Rattle.std.specs.Prelude.{◌≡◌, ◌≤◌, map, option_map, Some, IfOk, IfSome};
 ghost use Rattle.std.specs.String.{string_bytes};
-ghost use Rattle.oss_command.specs.Commands.{HasWorkers, IsAsked, IsAskedBy, asked_by, audit_asked, check_asked, file_and_fuel_in, file_of, meant, replay_asked, run_asked, soak_asked, soak_of, span_asked, trace_asked};
+ghost use Rattle.oss_command.specs.Commands.{IsFit, IsAsked, IsAskedBy, asked_by, audit_asked, check_asked, file_and_fuel_in, file_of, meant, replay_asked, run_asked, runs_by_workers, soak_asked, soak_of, span_asked, trace_asked};
 ghost use Rattle.oss_command.specs.Commands.Command.{soak};
 
 use crate::operands::{
@@ -59,7 +59,7 @@ pub enum WordsRefused {
 /// they are something else. It takes no memory.
 pub fn read_words(words: &[String]) -> Result<Command<'_>, WordsRefused>
     ensures asked { IsAsked (map string_bytes words.now) result }
-    ensures workers { IfOk result (λ told. HasWorkers (meant told)) }
+    ensures fit { IfOk result (λ told. IsFit (meant told)) }
 {
     match words {
         [] => Err(WordsRefused::Usage),
@@ -70,7 +70,7 @@ pub fn read_words(words: &[String]) -> Result<Command<'_>, WordsRefused>
 /// What a command asks for with the words behind it.
 fn command_on<'w>(command: &str, rest: &'w [String]) -> Result<Command<'w>, WordsRefused>
     ensures asked { IsAskedBy (asked_by command.now (map string_bytes rest.now)) result }
-    ensures workers { IfOk result (λ told. HasWorkers (meant told)) }
+    ensures fit { IfOk result (λ told. IsFit (meant told)) }
 {
     if command == "run" {
         return run_on(rest);
@@ -99,7 +99,7 @@ fn command_on<'w>(command: &str, rest: &'w [String]) -> Result<Command<'w>, Word
 /// What `run` asks for with the words behind it.
 fn run_on(rest: &[String]) -> Result<Command<'_>, WordsRefused>
     ensures asked { IsAskedBy (run_asked (map string_bytes rest.now)) result }
-    ensures workers { IfOk result (λ told. HasWorkers (meant told)) }
+    ensures fit { IfOk result (λ told. IsFit (meant told)) }
 {
     if !are_listed(rest) {
         return Err(WordsRefused::Usage);
@@ -116,7 +116,7 @@ fn run_on(rest: &[String]) -> Result<Command<'_>, WordsRefused>
 /// What `check` asks for with the words behind it.
 fn check_on(rest: &[String]) -> Result<Command<'_>, WordsRefused>
     ensures asked { IsAskedBy (check_asked (map string_bytes rest.now)) result }
-    ensures workers { IfOk result (λ told. HasWorkers (meant told)) }
+    ensures fit { IfOk result (λ told. IsFit (meant told)) }
 {
     if !are_operands(rest) {
         return Err(WordsRefused::Usage);
@@ -131,7 +131,7 @@ fn check_on(rest: &[String]) -> Result<Command<'_>, WordsRefused>
 /// What `trace` asks for with the words behind it.
 fn trace_on(rest: &[String]) -> Result<Command<'_>, WordsRefused>
     ensures asked { IsAskedBy (trace_asked (map string_bytes rest.now)) result }
-    ensures workers { IfOk result (λ told. HasWorkers (meant told)) }
+    ensures fit { IfOk result (λ told. IsFit (meant told)) }
 {
     if !are_trace_words(rest) {
         return Err(WordsRefused::Usage);
@@ -148,7 +148,7 @@ fn trace_on(rest: &[String]) -> Result<Command<'_>, WordsRefused>
 /// What `replay` asks for with the words behind it.
 fn replay_on(rest: &[String]) -> Result<Command<'_>, WordsRefused>
     ensures asked { IsAskedBy (replay_asked (map string_bytes rest.now)) result }
-    ensures workers { IfOk result (λ told. HasWorkers (meant told)) }
+    ensures fit { IfOk result (λ told. IsFit (meant told)) }
 {
     if !are_fuel_words(rest) {
         return Err(WordsRefused::Usage);
@@ -169,7 +169,7 @@ fn replay_on(rest: &[String]) -> Result<Command<'_>, WordsRefused>
 /// What `soak` asks for with the words behind it.
 fn soak_on(rest: &[String]) -> Result<Command<'_>, WordsRefused>
     ensures asked { IsAskedBy (soak_asked (map string_bytes rest.now)) result }
-    ensures workers { IfOk result (λ told. HasWorkers (meant told)) }
+    ensures fit { IfOk result (λ told. IsFit (meant told)) }
 {
     if !are_soak_words(rest) {
         return Err(WordsRefused::Usage);
@@ -186,7 +186,7 @@ fn soak_on(rest: &[String]) -> Result<Command<'_>, WordsRefused>
 /// What `span` asks for with the words behind it.
 fn span_on(rest: &[String]) -> Result<Command<'_>, WordsRefused>
     ensures asked { IsAskedBy (span_asked (map string_bytes rest.now)) result }
-    ensures workers { IfOk result (λ told. HasWorkers (meant told)) }
+    ensures fit { IfOk result (λ told. IsFit (meant told)) }
 {
     match file_and_fuel(rest) {
         Some((file, fuel)) => Ok(Command::Span(file, fuel)),
@@ -197,7 +197,7 @@ fn span_on(rest: &[String]) -> Result<Command<'_>, WordsRefused>
 /// What `audit` asks for with the words behind it.
 fn audit_on(rest: &[String]) -> Result<Command<'_>, WordsRefused>
     ensures asked { IsAskedBy (audit_asked (map string_bytes rest.now)) result }
-    ensures workers { IfOk result (λ told. HasWorkers (meant told)) }
+    ensures fit { IfOk result (λ told. IsFit (meant told)) }
 {
     match file_and_fuel(rest) {
         Some((file, fuel)) => Ok(Command::Audit(file, fuel)),
@@ -247,6 +247,21 @@ impl<'w> Command<'w> {
             Command::Soak(_) => None,
             Command::Audit(file, _) => Some(file),
             Command::Span(file, _) => Some(file),
+        }
+    }
+
+    /// Whether it runs a program by workers.
+    pub fn is_by_workers(self) -> bool
+        ensures { result ≡ runs_by_workers (meant self.entry) }
+    {
+        match self {
+            Command::Run(_, options) => options.mode.is_by_workers(),
+            Command::Soak(asked) => asked.options.mode.is_by_workers(),
+            Command::Check(_) => false,
+            Command::Trace(_, _) => false,
+            Command::Replay(_) => false,
+            Command::Audit(_, _) => false,
+            Command::Span(_, _) => false,
         }
     }
 }

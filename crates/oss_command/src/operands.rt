@@ -2,7 +2,7 @@
 
 ghost use Rattle.std.specs.Prelude.{◌≡◌, map, option_map};
 ghost use Rattle.std.specs.String.{string_bytes};
-ghost use Rattle.oss_command.specs.Commands.{all_by, is_listed, is_operand, is_fuel_word, is_soak_word, is_trace_word, operands_in, the_one, the_two};
+ghost use Rattle.oss_command.specs.Commands.{all_by, is_listed, is_operand, is_flag_word, is_fuel_word, is_soak_word, is_trace_word, operands_in, the_one, the_two};
 
 use crate::values::behind;
 
@@ -26,7 +26,14 @@ fn can_be_listed(word: &str) -> bool
         || behind(b"--deps=", bytes).is_some()
         || behind(b"--workers=", bytes).is_some()
         || behind(b"--fuel=", bytes).is_some()
-        || word == "--dump"
+        || is_flag(word)
+}
+
+/// Whether a word is an option without a value.
+fn is_flag(word: &str) -> bool
+    ensures { result ≡ is_flag_word word.now }
+{
+    word == "--dump" || word == "--who" || word == "--order"
 }
 
 /// Whether a word may stand behind `trace`.

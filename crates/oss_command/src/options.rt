@@ -2,7 +2,7 @@
 
 ghost use Rattle.std.specs.Prelude.{◌≡◌, ◌≤◌, ◌<◌, map, IfSome};
 ghost use Rattle.std.specs.String.{string_bytes};
-ghost use Rattle.oss_command.specs.Commands.{deps_by, flag_by, fuel_in, mode_by, number_by, options_in, system_by};
+ghost use Rattle.oss_command.specs.Commands.{AreFit, deps_by, flag_by, flag_for_one_by, fuel_in, is_by_workers, mode_by, no_flag_by, number_by, one_alone, options_in, order_by, system_by, who_by, workers_by};
 ghost use Rattle.oss_command.specs.Commands.Standing.{once};
 ghost use Rattle.oss_command.specs.Values.{stands};
 
@@ -16,6 +16,21 @@ pub enum RunMode {
     Serial,
     /// In waves: the tasks that may act do so side by side, and then give up what they can.
     Waves,
+    /// By workers that take ready tasks. With one worker the program runs in turns, by the priorities of its tasks.
+    Workers,
+}
+
+impl RunMode {
+    /// Whether it is that of workers.
+    pub(crate) fn is_by_workers(self) -> bool
+        ensures { result ≡ is_by_workers self }
+    {
+        match self {
+            RunMode::Serial => false,
+            RunMode::Waves => false,
+            RunMode::Workers => true,
+        }
+    }
 }
 
 /// How it is told what tasks wait for.
@@ -36,34 +51,39 @@ pub struct Options {
     pub mode: RunMode,
     /// `--deps=`, of a run by waves alone; regions where nothing is said.
     pub deps: DepsKind,
-    /// `--workers=`, 1 to 64; 4 where nothing is said. A serial run has one thread whatever is said.
+    /// `--workers=`, 1 to 64; 4 if nothing is said. A serial run has one thread whatever is said, and a run by workers has one worker for now.
     pub workers: u32,
     /// `--fuel=`, the ticks that a task may do, 1 to 1,000,000,000; 1,000,000 where nothing is said.
     pub fuel: u32,
     /// `--dump`: the values of the globals are told behind the output of a run that ends.
     pub dump: bool,
+    /// `--who`, of a run by workers alone: behind these it is told which worker began each task.
+    pub who: bool,
+    /// `--order`, of a run by one worker alone: behind all that it is told in which order the tasks began.
+    pub order: bool,
 }
 
 /// The options that the words behind a command say; none where one stands twice or has a value out of form.
 pub(crate) fn read_options(words: &[String]) -> Option<Options>
     ensures value { result ≡ options_in (map string_bytes words.now) }
-    ensures workers { IfSome result (λ options. 0 < options.workers) }
+    ensures fit { IfSome result AreFit }
 {
-    let mode = mode_of(value_of(b"--mode=", words));
-    let deps = deps_of(mode, value_of(b"--deps=", words));
-    let workers = number_of(value_of(b"--workers=", words), 1, 64, 4);
-    let fuel = read_fuel(words);
-    let dump = flag_of(value_of(b"--dump", words));
-    match (mode, deps, workers, fuel, dump) {
-        (Some(mode), Some(deps), Some(workers), Some(fuel), Some(dump)) => Some(Options {
-            mode,
-            deps,
-            workers,
-            fuel,
-            dump,
-        }),
-        _ => None,
-    }
+    let mode = mode_of(value_of(b"--mode=", words))?;
+    let deps = deps_of(mode, value_of(b"--deps=", words))?;
+    let workers = workers_of(mode, value_of(b"--workers=", words))?;
+    let fuel = read_fuel(words)?;
+    let dump = flag_of(value_of(b"--dump", words))?;
+    let who = who_of(mode, value_of(b"--who", words))?;
+    let order = order_of(mode, workers, value_of(b"--order", words))?;
+    Some(Options {
+        mode,
+        deps,
+        workers,
+        fuel,
+        dump,
+        who,
+        order,
+    })
 }
 
 /// The fuel that the words say, as ticks a task; none where it stands twice or is out of form.
@@ -94,11 +114,14 @@ fn mode_named(value: &[u8]) -> Option<RunMode>
     if value == b"waves".as_slice() {
         return Some(RunMode::Waves);
     }
+    if value == b"workers".as_slice() {
+        return Some(RunMode::Workers);
+    }
     None
 }
 
 /// The dependency system that an option gives in this mode.
-fn deps_of(mode: Option<RunMode>, told: Stands<'_>) -> Option<DepsKind>
+fn deps_of(mode: RunMode, told: Stands<'_>) -> Option<DepsKind>
     ensures { result ≡ deps_by mode (stands told.entry) }
 {
     match told {
@@ -108,14 +131,67 @@ fn deps_of(mode: Option<RunMode>, told: Stands<'_>) -> Option<DepsKind>
     }
 }
 
-/// The dependency system with this name, where the mode has it.
-fn deps_named(mode: Option<RunMode>, value: &[u8]) -> Option<DepsKind>
+/// The dependency system with this name, if the mode has one.
+fn deps_named(mode: RunMode, value: &[u8]) -> Option<DepsKind>
     ensures { result ≡ deps_by mode (once value.now) }
 {
     match mode {
-        Some(RunMode::Waves) => system_named(value),
-        Some(RunMode::Serial) => None,
-        None => None,
+        RunMode::Waves => system_named(value),
+        RunMode::Serial => None,
+        RunMode::Workers => None,
+    }
+}
+
+/// The number of workers that an option gives in this mode.
+fn workers_of(mode: RunMode, told: Stands<'_>) -> Option<u32>
+    ensures value { result ≡ workers_by mode (number_by 1 64 4 (stands told.entry)) }
+    ensures some { IfSome result (λ workers. 0 < workers) }
+{
+    let workers = number_of(told, 1, 64, 4)?;
+    match mode {
+        RunMode::Workers => one_worker(workers),
+        RunMode::Waves => Some(workers),
+        RunMode::Serial => Some(workers),
+    }
+}
+
+/// The number of workers of a run by workers: none but one has been built.
+fn one_worker(workers: u32) -> Option<u32>
+    ensures { result ≡ one_alone workers }
+{
+    if workers == 1 { Some(workers) } else { None }
+}
+
+/// Whether it is told which worker began each task, as an option says in this mode.
+fn who_of(mode: RunMode, told: Stands<'_>) -> Option<bool>
+    ensures { result ≡ who_by mode (stands told.entry) }
+{
+    match mode {
+        RunMode::Workers => flag_of(told),
+        RunMode::Waves => no_flag(told),
+        RunMode::Serial => no_flag(told),
+    }
+}
+
+/// Whether it is told in which order the tasks began, as an option says in this mode with so many workers.
+fn order_of(mode: RunMode, workers: u32, told: Stands<'_>) -> Option<bool>
+    ensures { result ≡ order_by mode workers (stands told.entry) }
+{
+    match mode {
+        RunMode::Workers => flag_for_one(workers, told),
+        RunMode::Waves => no_flag(told),
+        RunMode::Serial => no_flag(told),
+    }
+}
+
+/// Whether an option without a value stands, that only a run by one worker has.
+fn flag_for_one(workers: u32, told: Stands<'_>) -> Option<bool>
+    ensures { result ≡ flag_for_one_by workers (stands told.entry) }
+{
+    if workers == 1 {
+        flag_of(told)
+    } else {
+        no_flag(told)
     }
 }
 
@@ -157,6 +233,17 @@ fn flag_of(told: Stands<'_>) -> Option<bool>
     match told {
         Stands::Absent => Some(false),
         Stands::Once(_) => Some(true),
+        Stands::Again => None,
+    }
+}
+
+/// The same of an option that may not stand.
+fn no_flag(told: Stands<'_>) -> Option<bool>
+    ensures { result ≡ no_flag_by (stands told.entry) }
+{
+    match told {
+        Stands::Absent => Some(false),
+        Stands::Once(_) => None,
         Stands::Again => None,
     }
 }

@@ -8,7 +8,8 @@ use Rattle.oss_model.specs.Claims.{IsStoppedAs, ended, failed}
 use Rattle.oss_model.specs.History.{IsMade}
 use Rattle.oss_model.specs.Machine.{At, State, Task, find, same_path}
 use Rattle.oss_model.specs.Memory.{Event, Happened}
-use Rattle.oss_model.specs.Moves.{act_now}
+use Rattle.oss_model.specs.Answers.{IsStopped}
+use Rattle.oss_model.specs.Moves.{Reached, act_now}
 use Rattle.oss_model.specs.Sequence.{IsAtEnd, Running}
 use Rattle.oss_model.proofs.AgreementTheorem.{every_state_agrees}
 use Rattle.oss_model.proofs.AnswerTheorem.{every_stop_is_the_end}
@@ -105,10 +106,15 @@ module _ {S : Type 0} (P : Asks S) (main : Start S) (cells : List ℕ) where
       ∙ one_count ms.main_task s.tasks z.state.tasks (there_too P main s z.state ms mz same.back) (there_too P main z.state s mz ms same.forth))
   at_the_end s z end ms mz over (failed p t at_ least fault active same forth) = absurd (subst IsFault (ap (λ b. act_now P b) (sym same) ∙ over) fault)
 
+  -- in each state of a run in which no move is left
+  pub as_many_at : (s : State S) (o : Outcome) → Setting main cells → Reached P main cells s → IsStopped P s → IsOutcome P main cells o → IsDone o.answer → rounds.tasks_in s ≡ o.tasks
+  as_many_at s o setting reached stop (fails run end fault) done = absurd done
+  as_many_at s o setting reached stop (ends {z} run end over) done =
+      let agrees = every_state_agrees S P main cells z s setting run reached in
+      at_the_end s z end agrees.made (stands P main cells setting.starts z run).made over (every_stop_is_the_end S P main cells z end s setting run agrees stop)
+
+  -- and so at the end of a run by waves
   pub as_many_tasks : (trace : Trace) (o : Outcome) → Setting main cells → IsTrace P main cells trace → IsOutcome P main cells o → IsDone o.answer → trace.tasks ≡ o.tasks
-  as_many_tasks trace o setting t (fails run end fault) done = absurd done
-  as_many_tasks trace o setting t (ends {z} run end over) done =
+  as_many_tasks trace o setting t outcome done =
       let stop = rounds_stop S P main cells t.rounds t.state t.runs in
-      let agrees = every_state_agrees S P main cells z t.state setting run stop.0 in
-      ap (λ (r : Trace). r.tasks) t.trace_is
-      ∙ at_the_end t.state z end agrees.made (stands P main cells setting.starts z run).made over (every_stop_is_the_end S P main cells z end t.state setting run agrees stop.1)
+      ap (λ (r : Trace). r.tasks) t.trace_is ∙ as_many_at t.state o setting stop.0 stop.1 outcome done

@@ -1,4 +1,8 @@
+pub mod CallLemmas
 pub mod FormLemmas
+pub mod FoundLemmas
+pub mod LineLemmas
+pub mod TurnMoves
 pub mod KnownLemmas
 pub mod OrderLemmas
 pub mod CountLemmas

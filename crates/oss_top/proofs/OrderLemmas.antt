@@ -15,7 +15,7 @@ use Rattle.oss_meaning.specs.Results.{IsOutcome, Outcome, first_cells, main_of}
 use Rattle.oss_meaning.specs.Results.IsOutcome.{ends, fails}
 use Rattle.oss_lower_laws.proofs.TextPlaces.{accepted_setting}
 use Rattle.oss_top.specs.EveryOrder.{IsRunInEveryOrder}
-use Rattle.oss_top.specs.Forms.{answer_reply}
+use Rattle.oss_top.specs.Forms.{run_reply}
 
 -- the answer of an outcome is the result of the run
 result-of : {S : Type 0} (P : Asks S) (main : Start S) (cells : List ℕ) (o : Outcome) → IsOutcome P main cells o → IsResult P main cells o.answer
@@ -28,8 +28,10 @@ agrees {S} P main cells s setting reached z run = every_state_agrees S P main ce
 pub in-every-order : (text : List ℕ) → IsRunInEveryOrder text
 in-every-order text p accepts options reply told s reached stopped = record {
   some = (told.outcome.answer, every_result_is_the_answer TreeScript P main cells s told.outcome.answer setting same stopped result);
+  lines = told.lines;
+  are_lines = told.are_lines;
   each = λ a is.
-      told.is_reply ∙ ap (answer_reply options.dump (program_written p)) (sym (every_answer_is_the_result TreeScript P main cells s a told.outcome.answer setting same stopped is result));
+      told.is_reply ∙ ap (run_reply options.dump (program_written p) told.lines) (sym (every_answer_is_the_result TreeScript P main cells s a told.outcome.answer setting same stopped is result));
 }
   where
     P : Asks TreeScript

@@ -1,5 +1,5 @@
 -- Texts have one reply at most, and where nothing fails it is the one that comes.
-use Rattle.std.proofs.Common.{◌≡◌, ℕ, List, Option, Some, None, refl, sym, ap, ◌∙◌, subst, arith, ◌⊎◌, inl, inr}
+use Rattle.std.proofs.Common.{◌≡◌, ℕ, Bool, false, List, Option, Some, None, refl, sym, ap, ◌∙◌, subst, arith, ◌⊎◌, inl, inr}
 use Rattle.std.specs.Prelude.{IfSome}
 use Rattle.oss_io.specs.Spans.{ShelfSpan, ShelfFailed, SinkSpan, SinkFailed}
 use Rattle.oss_syntax.specs.declared.tree.program.Program.{Program}
@@ -31,10 +31,11 @@ use Rattle.oss_sched.proofs.OneReading.{read_once}
 use Rattle.oss_report.specs.Replays.{schedule_line}
 use Rattle.oss_top.specs.Audits.{IsAuditReply}
 use Rattle.oss_top.specs.Spans.{IsSpanReply}
-use Rattle.oss_top.specs.Forms.{answer_reply, error_reply, soak_reply, told_reply, too_large_line, trace_reply}
-use Rattle.oss_top.specs.OneReply.{AreSpansAlike, IsOfOneText, IsReplied, IsRepliedOnce, IsSpanned, nothing, numbers}
+use Rattle.oss_top.specs.Forms.{error_reply, run_reply, soak_reply, told_reply, too_large_line, trace_reply}
+use Rattle.oss_top.specs.OneReply.{AreSpansAlike, IsOfOneText, IsReplied, IsRepliedOnce, IsSpanned, TellsNoOrder, nothing, numbers}
 use Rattle.oss_top.specs.ProgramTexts.{Accepts, Refuses}
 use Rattle.oss_top.specs.ProgramTexts.Refuses.{by_grammar, by_rules}
+use Rattle.oss_top.proofs.LineLemmas.{lines_once}
 use Rattle.oss_top.proofs.ReplayLemmas.{replay_once}
 use Rattle.oss_top.proofs.SomeReply.{HasOneText, file_reply, files_reply}
 use Rattle.oss_top.specs.Replays.{IsFilesReply, IsReplayReply, IsScheduleReply, IsTextsReply}
@@ -65,9 +66,23 @@ outcome_once p fuel o q x y = outcomes_are_one p.items (main_of p.items fuel) (f
 traced_once : (p : Program) (fuel : ℕ) (t u : Trace) → IsTraceOf p fuel t → IsTraceOf p fuel u → t ≡ u
 traced_once p fuel t u x y = one_trace TreeScript (asks_of p.items) (main_of p.items fuel) (first_cells p.items) t u x y
 
-run_once : (options : Options) (p : Program) (reply other : Reply) → IsRunReply options p reply → IsRunReply options p other → reply ≡ other
-run_once options p reply other x y =
-    x.is_reply ∙ ap (λ (o : Outcome). answer_reply options.dump p o.answer) (outcome_once p options.fuel x.outcome y.outcome x.is_outcome y.is_outcome) ∙ sym y.is_reply
+run_once : (options : Options) (p : Program) (reply other : Reply) → options.who ≡ false → IsRunReply options p reply → IsRunReply options p other → reply ≡ other
+run_once options p reply other who x y =
+    x.is_reply ∙ ap (λ (t : List ℕ). run_reply options.dump p t x.outcome.answer) (lines_once options p x.lines y.lines who x.are_lines y.are_lines)
+    ∙ ap (λ (o : Outcome). run_reply options.dump p y.lines o.answer) (outcome_once p options.fuel x.outcome y.outcome x.is_outcome y.is_outcome) ∙ sym y.is_reply
+
+abbrev status_of : Reply → Status
+status_of reply = reply.status
+
+-- whatever lines there are, the status is that of the answer
+status_by_answer : (dump : Bool) (p : Program) (lines others : List ℕ) (a : Answer) → status_of (run_reply dump p lines a) ≡ status_of (run_reply dump p others a)
+status_by_answer dump p lines others (Done text cells) = refl
+status_by_answer dump p lines others (Fault kind line text) = refl
+
+run_alike : (options : Options) (p : Program) (reply other : Reply) → IsRunReply options p reply → IsRunReply options p other → status_of reply ≡ status_of other
+run_alike options p reply other x y =
+    ap status_of (x.is_reply ∙ ap (λ (o : Outcome). run_reply options.dump p x.lines o.answer) (outcome_once p options.fuel x.outcome y.outcome x.is_outcome y.is_outcome))
+    ∙ status_by_answer options.dump p x.lines y.lines y.outcome.answer ∙ sym (ap status_of y.is_reply)
 
 trace_once : (fuel : ℕ) (p : Program) (reply other : Reply) → IsTraceReply fuel p reply → IsTraceReply fuel p other → reply ≡ other
 trace_once fuel p reply other x y =
@@ -98,18 +113,15 @@ span_alike fuel p reply other x y =
 
 program_once : (c : Command) → IsOfOneText c → (p : Program) (reply other : Reply) → IsProgramReply c p reply → IsProgramReply c p other → reply ≡ other
 program_once c of p reply other (checked x) (checked y) = x ∙ sym y
-program_once c of p reply other (ran {options} x) (ran y) = run_once options p reply other x y
+program_once c of p reply other (ran {options} x) (ran y) = run_once options p reply other of x y
 program_once c of p reply other (traced {options} x) (traced y) = trace_once options.fuel p reply other x y
 program_once c of p reply other (soaked {options} x) (soaked y) = soak_once options p reply other x y
 program_once c of p reply other (audited {fuel} x) (audited y) = audit_once fuel p reply other x y
 program_once c of p reply other (spanned {fuel} x) (spanned y) = absurd of
 
-abbrev status_of : Reply → Status
-status_of reply = reply.status
-
 program_alike : (c : Command) (p : Program) (reply other : Reply) → IsProgramReply c p reply → IsProgramReply c p other → status_of reply ≡ status_of other
 program_alike c p reply other (checked x) (checked y) = ap status_of (x ∙ sym y)
-program_alike c p reply other (ran {options} x) (ran y) = ap status_of (run_once options p reply other x y)
+program_alike c p reply other (ran {options} x) (ran y) = run_alike options p reply other x y
 program_alike c p reply other (traced {options} x) (traced y) = ap status_of (trace_once options.fuel p reply other x y)
 program_alike c p reply other (soaked {options} x) (soaked y) = ap status_of (soak_once options p reply other x y)
 program_alike c p reply other (audited {fuel} x) (audited y) = ap status_of (audit_once fuel p reply other x y)
@@ -179,18 +191,18 @@ module _ (text schedule : List ℕ) (once : IsParsedOnce text) (fuel : ℕ) wher
   files_once reply other (fit few less x) (too_long few2 n y) = absurd (omega (arith, n, less))
   files_once reply other (fit few less x) (fit few2 less2 y) = texts_once reply other x y
 
--- a command whose reply is one has one text
-one_text : (c : Command) → IsOfOneText c → HasOneText c
-one_text (run file options) of = tt
-one_text (check file) of = tt
-one_text (trace file options) of = tt
-one_text (replay file schedule fuel) of = of
-one_text (audit file fuel) of = tt
-one_text (span file fuel) of = tt
-one_text (soak number size options) of = tt
+-- a command whose reply is one, and which does not tell of an order, has one text
+one_text : (c : Command) → IsOfOneText c → TellsNoOrder c → HasOneText c
+one_text (run file options) of none = (of, none)
+one_text (check file) of none = tt
+one_text (trace file options) of none = tt
+one_text (replay file schedule fuel) of none = of
+one_text (audit file fuel) of none = tt
+one_text (span file fuel) of none = tt
+one_text (soak number size options) of none = tt
 
 pub replied : (text : List ℕ) → IsReplied text
-replied text = record { some = λ c of. file_reply text c (one_text c of); one = λ c of. file_once text (parsed_once text) (λ (r s : Reply). r ≡ s) (λ line r s x y. x ∙ sym y) c (program_once c of) }
+replied text = record { some = λ c of none. file_reply text c (one_text c of none); one = λ c of. file_once text (parsed_once text) (λ (r s : Reply). r ≡ s) (λ line r s x y. x ∙ sym y) c (program_once c of) }
 
 pub spanned_text : (text : List ℕ) → IsSpanned text
 spanned_text text = record {

@@ -1,8 +1,9 @@
 -- A run of the code of a program gives what the program's own run gives.
-use Rattle.std.proofs.Common.{◌≡◌, ◌∙◌, ℕ, List, [], ◌∷◌, refl, sym, ap, subst}
+use Rattle.std.proofs.Common.{◌≡◌, ◌∙◌, ℕ, false, List, [], ◌∷◌, refl, sym, ap, subst}
 use Rattle.std.specs.Prelude.{map}
 use Rattle.oss_syntax.specs.declared.tree.program.Program.{Program}
 use Rattle.oss_model.specs.Agreement.{AreWords}
+use Rattle.oss_model.specs.Moves.{Reached}
 use Rattle.oss_model.specs.declared.answer.Answer.{Answer}
 use Rattle.oss_model.specs.declared.answer.Answer.TheVariants.{Done, Fault}
 use Rattle.oss_wave_laws.specs.Rounds.{trace_of}
@@ -10,7 +11,7 @@ use Rattle.oss_meaning.specs.Meaning.{asks_of}
 use Rattle.oss_meaning.specs.Results.{Outcome, first_cells, main_of}
 use Rattle.oss_code.specs.declared.code.CodeParts.{CodeParts}
 use Rattle.oss_lower_laws.specs.Programs.{IsCodeOf}
-use Rattle.oss_lower_laws.proofs.OutcomeLaws.{main_outcomes_alike, main_setting}
+use Rattle.oss_lower_laws.proofs.OutcomeLaws.{main_outcomes_alike, main_setting, start_is}
 use Rattle.oss_machine.specs.Machines.{asks}
 use Rattle.oss_body.specs.Mains.{code_main}
 use Rattle.oss_deps.specs.Seen.{Seen}
@@ -21,6 +22,7 @@ use Rattle.oss_sched.specs.declared.moves.WaveRecord.{WaveRecord}
 use Rattle.oss_sched.specs.declared.moves.TextMove.{TextMove}
 use Rattle.oss_sched.specs.declared.moves.TextMove.TheVariants.{Step, Let, Join}
 use Rattle.oss_waves.specs.WaveRuns.{IsWaveRun, line_of, lines_of, trace_in}
+use Rattle.oss_command.specs.Commands.{AreFit, is_by_workers}
 use Rattle.oss_command.specs.declared.options.Options.{Options}
 use Rattle.oss_audit.specs.Lines.{audit_text}
 use Rattle.oss_audit.specs.Reply.{IsAuditedOf}
@@ -29,14 +31,23 @@ use Rattle.oss_top.specs.Audits.{IsAuditReply}
 use Rattle.oss_top.specs.Spans.{IsSpanReply}
 use Rattle.oss_span.specs.Reply.{IsSpannedOf, span_text}
 use Rattle.oss_span.specs.declared.link.Link.{Link}
-use Rattle.oss_top.specs.Forms.{answer_reply, soak_reply, told_reply, trace_reply}
+use Rattle.oss_top.specs.Forms.{answer_reply, run_reply, soak_reply, told_reply, trace_reply}
 use Rattle.oss_top.specs.Reply.{IsRunReply}
 use Rattle.oss_top.specs.Runs.{AreWavesOf, IsDone, IsRanBy, IsRanOf}
 use Rattle.oss_top.specs.Soaks.{IsSoakReply}
 use Rattle.oss_top.specs.Traces.{IsTraceReply, move_of, record_of}
 use Rattle.oss_top.specs.declared.reply.Reply.{Reply}
-use Rattle.oss_span_laws.proofs.CodeMoves.{outcome_of}
-use Rattle.oss_top.proofs.CountLemmas.{as_many_tasks}
+use Rattle.oss_span_laws.proofs.CodeMoves.{codes_do_the_same, is_moved, outcome_of}
+use Rattle.oss_top.specs.Workers.{AreToldOf, IsSingleOf}
+use Rattle.oss_prior.specs.SingleRuns.{IsSingleRun}
+use Rattle.oss_same_acts_laws.specs.Alike.{turned}
+use Rattle.oss_same_acts_laws.proofs.AlikeTheorem.{run_too}
+use Rattle.oss_same_acts_laws.proofs.MayLemmas.{stopped_forth}
+use Rattle.oss_same_acts_laws.proofs.RoundLemmas.{tasks_alike}
+use Rattle.oss_same_acts_laws.proofs.TurnLemmas.{bisimulation_back}
+use Rattle.oss_top.proofs.CountLemmas.{as_many_at, as_many_tasks}
+use Rattle.oss_top.proofs.LineLemmas.{lines_by_one, no_lines, no_lines_asked, without_lines}
+use Rattle.oss_top.proofs.TurnMoves.{order_of_code}
 use Rattle.oss_top.proofs.TraceMoves.{traces_of_code}
 
 pub ran-of : (p : Program) (code : CodeParts) (fuel : ℕ) (ran : Ran) → IsCodeOf p.items code → AreWords code.first → IsRan code fuel ran → IsRanOf p.items fuel ran
@@ -103,9 +114,53 @@ ran_serially p fuel ran is = record { outcome = is.outcome; is_outcome = is.is_o
 pub ran_by_waves : (p : Program) (fuel : ℕ) (waves : WaveRecord) (ran : Ran) → AreWavesOf p fuel ran.answer waves → ran.tasks ≡ waves.tasks → IsRanBy p fuel ran
 ran_by_waves p fuel waves ran is same = record { outcome = is.outcome; is_outcome = is.is_outcome; answer = is.answer_is; tasks = λ done. same ∙ is.tasks done }
 
--- the reply to a run
-pub run_replies : (p : Program) (options : Options) (ran : Ran) (reply : Reply) → IsRanBy p options.fuel ran → reply ≡ answer_reply options.dump p ran.answer → IsRunReply options p reply
-run_replies p options ran reply is e = record { outcome = is.outcome; is_outcome = is.is_outcome; is_reply = e ∙ ap (answer_reply options.dump p) is.answer }
+-- what a run by one worker of the code gives, of the program
+pub single_of : (p : Program) (code : CodeParts) (fuel : ℕ) (answer : Answer) (order : List (List ℕ)) (tasks : ℕ) → IsCodeOf p.items code → AreWords code.first → IsSingleRun code fuel answer order tasks
+    → IsSingleOf p fuel answer order tasks
+single_of p code fuel answer order tasks of words run =
+    let o = outcome_of (asks code) (code_main code fuel) code.first answer run.result_is in
+    let of_program = (main_outcomes_alike p.items code of words fuel o.0).1 o.1 in
+    let there = bisimulation_back (codes_do_the_same p.items code of) in
+    let d = run_too (asks code) (asks_of p.items) (turned (is_moved p.items code of)) there (code_main code fuel) (main_of p.items fuel) (first_cells p.items) (start_is p.items code of fuel)
+    (subst (λ (cells : List ℕ). Reached (asks code) (code_main code fuel) cells run.state) of.first run.reached) in
+    record {
+      outcome = o.0;
+      is_outcome = of_program;
+      answer_is = sym o.2;
+      order_is = order_of_code p.items code of fuel order (record { begun = run.begun; state = run.state; runs = run.runs; order_is = run.order_is });
+      tasks_are = λ done.
+          run.tasks_are ∙ tasks_alike d.alike
+          ∙ as_many_at (asks_of p.items) (main_of p.items fuel) (first_cells p.items) d.state o.0 (main_setting p.items fuel (subst AreWords of.first words)) d.reached
+          (stopped_forth (asks code) (asks_of p.items) (turned (is_moved p.items code of)) there d.alike run.stopped) of_program done;
+    }
+
+-- and what it gives as each run does
+pub ran_by_one : (p : Program) (fuel : ℕ) (order : List (List ℕ)) (ran : Ran) → IsSingleOf p fuel ran.answer order ran.tasks → IsRanBy p fuel ran
+ran_by_one p fuel order ran is = record { outcome = is.outcome; is_outcome = is.is_outcome; answer = is.answer_is; tasks = is.tasks_are }
+
+-- the reply to a run by waves, or one task after the other
+pub run_replies : (p : Program) (options : Options) (ran : Ran) (reply : Reply) → AreFit options → is_by_workers options.mode ≡ false → IsRanBy p options.fuel ran → reply ≡ answer_reply options.dump p ran.answer
+    → IsRunReply options p reply
+run_replies p options ran reply fit other is e =
+    let none = no_lines_asked options fit other in
+    record {
+      outcome = is.outcome;
+      is_outcome = is.is_outcome;
+      lines = [];
+      are_lines = no_lines options p none.0 none.1;
+      is_reply = e ∙ ap (answer_reply options.dump p) is.answer ∙ without_lines options.dump p is.outcome.answer;
+    }
+
+-- and that to a run by one worker
+pub worked_replies : (p : Program) (options : Options) (answer : Answer) (order : List (List ℕ)) (tasks : ℕ) (lines : List ℕ) (reply : Reply) → AreFit options → IsSingleOf p options.fuel answer order tasks
+    → AreToldOf options order lines → reply ≡ run_reply options.dump p lines answer → IsRunReply options p reply
+worked_replies p options answer order tasks lines reply fit is told e = record {
+  outcome = is.outcome;
+  is_outcome = is.is_outcome;
+  lines = lines;
+  are_lines = lines_by_one options p order lines fit.some is.order_is told;
+  is_reply = e ∙ ap (run_reply options.dump p lines) is.answer_is;
+}
 
 -- the number of tasks is told where the program came to its end
 counts_alike : (a : Answer) (n m : ℕ) → (IsDone a → n ≡ m) → soak_reply n a ≡ soak_reply m a

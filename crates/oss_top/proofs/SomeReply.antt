@@ -36,7 +36,7 @@ use Rattle.oss_lower_laws.proofs.ProgramLemmas.{codes_ask_alike}
 use Rattle.oss_lower_laws.proofs.TextPlaces.{accepted_places, accepted_programs_have_one_outcome, accepted_setting}
 use Rattle.oss_top.specs.ProgramTexts.{Accepts, Refuses}
 use Rattle.oss_top.specs.ProgramTexts.Refuses.{by_grammar, by_rules}
-use Rattle.oss_top.specs.Forms.{accepted_line, answer_reply, done_reply, error_reply, most_bytes, soak_reply, too_large_line, trace_reply}
+use Rattle.oss_top.specs.Forms.{accepted_line, done_reply, error_reply, most_bytes, run_reply, soak_reply, too_large_line, trace_reply}
 use Rattle.oss_top.specs.Reply.{IsFileReply, IsTextReply, IsProgramReply}
 use Rattle.oss_top.specs.Reply.IsProgramReply.{audited, checked, ran, soaked, spanned, traced}
 use Rattle.oss_top.specs.Traces.{IsTraceOf, text_of}
@@ -48,6 +48,7 @@ use Rattle.oss_top.specs.Replays.IsScheduleReply.{replayed, wrong_line}
 use Rattle.oss_top.specs.Replays.IsTextsReply.{accepted as texts_accepted, refused_text as texts_refused}
 use Rattle.oss_top.specs.Replays.IsFilesReply.{fit, too_large as files_too_large, too_long}
 use Rattle.oss_top.specs.declared.reply.Reply.{Reply}
+use Rattle.oss_top.proofs.LineLemmas.{no_lines}
 use Rattle.oss_top.proofs.SomeAudit.{audit_reply}
 use Rattle.oss_top.proofs.SomeSpan.{span_reply}
 use Rattle.oss_top.proofs.SomeReplay.{LinesRead, lines_read, replay_reply}
@@ -100,9 +101,9 @@ some_trace text p a fuel =
     let code = programs_have_codes items (accepted_places text p a.is_text a.obeys) in
     has_trace TreeScript (asks_of items) (main_of items fuel) (first_cells items) (accepted_setting text p a.is_text a.obeys fuel) (programs_are_lively items code.0 (codes_ask_alike items code.0 code.1))
 
--- the command has the text of a program alone
+-- the command has the text of a program alone, and tells neither of workers nor of the order
 abbrev pub HasOneText : Command → Type 0
-HasOneText (run file options) = Unit {0}
+HasOneText (run file options) = (options.who ≡ false) × (options.order ≡ false)
 HasOneText (check file) = Unit {0}
 HasOneText (trace file options) = Unit {0}
 HasOneText (replay file schedule fuel) = ⊥
@@ -120,7 +121,7 @@ program_reply (span file fuel) of text p a =
     (reply, spanned told)
 program_reply (run file options) of text p a =
     let (o, is) = some_outcome text p a options.fuel in
-    (answer_reply options.dump (program_written p) o.answer, ran (record { outcome = o; is_outcome = is; is_reply = refl }))
+    (run_reply options.dump (program_written p) [] o.answer, ran (record { outcome = o; is_outcome = is; lines = []; are_lines = no_lines options (program_written p) of.0 of.1; is_reply = refl }))
 program_reply (trace file options) of text p a =
     let (o, is) = some_outcome text p a options.fuel in
     let (t, has) = some_trace text p a options.fuel in

@@ -14,14 +14,17 @@ use Rattle.oss_meaning.specs.Meaning.{asks_of}
 use Rattle.oss_meaning.specs.Results.{first_cells, main_of}
 use Rattle.oss_command.specs.declared.options.Options.{Options}
 use Rattle.oss_top.specs.ProgramTexts.{Accepts}
-use Rattle.oss_top.specs.Forms.{answer_reply}
+use Rattle.oss_top.specs.Forms.{run_reply}
 use Rattle.oss_top.specs.Reply.{IsRunReply}
+use Rattle.oss_top.specs.Workers.{AreLinesOf}
 use Rattle.oss_top.specs.declared.reply.Reply.{Reply}
 
--- the state has an answer, and each answer of it has this reply
+-- the state has an answer, and each answer of it has this reply, with the lines for which the options ask
 pub record HasReply (options : Options) (program : Program) (s : State TreeScript) (reply : Reply) : Type 0 where
   pub some : (a : Answer) × IsAnswer (asks_of program.items) s a
-  pub each : (a : Answer) → IsAnswer (asks_of program.items) s a → reply ≡ answer_reply options.dump program a
+  pub lines : List ℕ
+  pub are_lines : AreLinesOf options program lines
+  pub each : (a : Answer) → IsAnswer (asks_of program.items) s a → reply ≡ run_reply options.dump program lines a
 
 -- Each state to which moves lead from the beginning of this program, and in which no move is left, has the reply to its run.
 abbrev pub IsReplyInEveryOrder : Options → Program → Reply → Type 0

@@ -48,6 +48,11 @@ abbrev pub answer_reply : Bool → Program → Answer → Reply
 answer_reply dump program (Done text cells) = done_reply (text ++ dump_behind dump program cells)
 answer_reply dump program (Fault kind line text) = fault_reply text (fault_line kind line)
 
+-- the same with these lines behind the output, and the dump, of a program that came to its end
+abbrev pub run_reply : Bool → Program → List ℕ → Answer → Reply
+run_reply dump program lines (Done text cells) = done_reply ((text ++ dump_behind dump program cells) ++ lines)
+run_reply dump program lines (Fault kind line text) = fault_reply text (fault_line kind line)
+
 -- the reply to a trace with this text, of a program that has this answer
 abbrev pub trace_reply : List ℕ → Answer → Reply
 trace_reply trace (Done text cells) = done_reply trace

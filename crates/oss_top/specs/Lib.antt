@@ -1,7 +1,9 @@
 pub mod Audits
+pub mod Calls
 pub mod Spans
 pub mod EveryOrder
 pub mod Forms
+pub mod Founds
 pub mod OneReply
 pub mod ProgramTexts
 pub mod Reads
@@ -11,3 +13,4 @@ pub mod Runs
 pub mod Soaks
 pub mod Statuses
 pub mod Traces
+pub mod Workers

@@ -3,7 +3,7 @@
 -- Read against: a text is accepted as one program or refused for one reason, since its grammar leaves no choice; and a text that is
 -- too long is refused as that, whatever stands in it; and the sequential run of a program comes to its end, and to one, as its run by waves does. A schedule is one list of moves or has one first
 -- wrong line; and its moves lead to one state, or one of them is the first that is not enabled. Of two tasks that wait for nothing and have one tick each, either may stand in the chain of a span.
-use Rattle.std.specs.Prelude.{◌≡◌, ℕ, List, []}
+use Rattle.std.specs.Prelude.{◌≡◌, ℕ, false, List, []}
 use Rattle.oss_command.specs.Commands.{Command}
 use Rattle.oss_command.specs.Commands.Command.{audit, run, check, trace, replay, soak, span}
 use Rattle.oss_span.specs.Reply.{span_text}
@@ -12,9 +12,10 @@ use Rattle.oss_top.specs.Replays.{IsFilesReply}
 use Rattle.oss_top.specs.Reply.{IsFileReply}
 use Rattle.oss_top.specs.declared.reply.Reply.{Reply}
 
--- The command has the text of a program alone, read or generated, and its reply is one: status, output and error output.
+-- The command has the text of a program alone, read or generated, and its reply is one: status, output and error output. A run that tells which worker began each task is left out: which workers they
+-- are is free.
 abbrev pub IsOfOneText : Command → Type 0
-IsOfOneText (run file options) = Unit {0}
+IsOfOneText (run file options) = options.who ≡ false
 IsOfOneText (check file) = Unit {0}
 IsOfOneText (trace file options) = Unit {0}
 IsOfOneText (replay file schedule fuel) = ⊥
@@ -22,8 +23,19 @@ IsOfOneText (audit file fuel) = Unit {0}
 IsOfOneText (span file fuel) = ⊥
 IsOfOneText (soak number size options) = Unit {0}
 
+-- The command does not tell in which order tasks begin.
+abbrev pub TellsNoOrder : Command → Type 0
+TellsNoOrder (run file options) = options.order ≡ false
+TellsNoOrder (check file) = Unit {0}
+TellsNoOrder (trace file options) = Unit {0}
+TellsNoOrder (replay file schedule fuel) = Unit {0}
+TellsNoOrder (audit file fuel) = Unit {0}
+TellsNoOrder (span file fuel) = Unit {0}
+TellsNoOrder (soak number size options) = Unit {0}
+
+-- A text has a reply to each such command that does not tell of an order, and two replies to any such command are one.
 pub record IsReplied (text : List ℕ) : Type 0 where
-  pub some : (c : Command) → IsOfOneText c → (reply : Reply) × IsFileReply c text reply
+  pub some : (c : Command) → IsOfOneText c → TellsNoOrder c → (reply : Reply) × IsFileReply c text reply
   pub one : (c : Command) → IsOfOneText c → (reply other : Reply) → IsFileReply c text reply → IsFileReply c text other → reply ≡ other
 
 pub record IsRepliedOnce (text schedule : List ℕ) : Type 0 where

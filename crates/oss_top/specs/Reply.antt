@@ -24,21 +24,25 @@ use Rattle.oss_command.specs.Commands.Command.{audit, run, check, trace, replay,
 use Rattle.oss_command.specs.declared.options.Options.{Options}
 use Rattle.oss_gen.specs.Generated.{generated_text}
 use Rattle.oss_top.specs.Audits.{IsAuditReply}
-use Rattle.oss_top.specs.Forms.{accepted_line, answer_reply, done_reply, error_reply, most_bytes, too_large_line, unread_line}
+use Rattle.oss_top.specs.Forms.{accepted_line, done_reply, run_reply, error_reply, most_bytes, too_large_line, unread_line}
 use Rattle.oss_top.specs.ProgramTexts.{Accepts, Refuses}
 use Rattle.oss_top.specs.Replays.{IsFilesReply}
 use Rattle.oss_top.specs.Soaks.{IsSoakReply}
 use Rattle.oss_top.specs.Spans.{IsSpanReply}
 use Rattle.oss_top.specs.Statuses.{number_of}
 use Rattle.oss_top.specs.Traces.{IsTraceReply}
+use Rattle.oss_top.specs.Workers.{AreLinesOf}
 use Rattle.oss_top.specs.declared.reply.Reply.{Reply}
 use Rattle.oss_top.specs.declared.status.Status.TheVariants as status
 
--- The reply to a run of a program that breaks no rule, with these options: that of the answer of its sequential run, in which each task has so much fuel. It is the same in each mode.
+-- The reply to a run of a program that breaks no rule, with these options: that of the answer of its sequential run, in which each task has so much fuel. If the program comes to its end, lines follow
+-- that tell which worker began each task, and in which order they began, as far as they are asked for. All else is the same in each mode.
 pub record IsRunReply (options : Options) (program : Program) (reply : Reply) : Type 0 where
   pub outcome : Outcome
   pub is_outcome : IsOutcomeOf program.items options.fuel outcome
-  pub is_reply : reply ≡ answer_reply options.dump program outcome.answer
+  pub lines : List ℕ
+  pub are_lines : AreLinesOf options program lines
+  pub is_reply : reply ≡ run_reply options.dump program lines outcome.answer
 
 -- The reply of a command with one text to a program that breaks no rule: a check accepts it, a run runs it, a trace tells of its run by waves, a soak runs it and counts its tasks, an
 -- audit tells which cells its tasks name and never touch, and a span how parallel it can be at best.

@@ -3,6 +3,7 @@
 #![tactic(auto)]
 
 mod audit;
+mod found;
 mod known;
 mod laws;
 mod replay;
@@ -14,10 +15,11 @@ mod texts;
 mod top;
 mod trace;
 mod waved;
+mod worked;
 
 pub use laws::{a_replay_has_one_reply, a_text_has_one_reply, every_order_gives_the_reply};
 pub use oss_command::{
     Command, DepsKind, Options, Replay, RunMode, Soak, WordsRefused, read_words,
 };
 pub use status::Status;
-pub use top::{Sinks, nest6};
+pub use top::{Sinks, nest6, unwaited};

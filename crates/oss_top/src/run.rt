@@ -1,8 +1,9 @@
-//! The reply to a run of a program.
+//! The reply to a run of a program, by waves or one task after the other.
 
-ghost use Rattle.std.specs.Prelude.{◌≡◌, ◌<◌, ◌++◌, IfOk, OnOk};
+ghost use Rattle.std.specs.Prelude.{◌≡◌, ◌<◌, ◌++◌, false, IfOk, OnOk};
 ghost use Rattle.oss_model.specs.Agreement.{AreWords};
 ghost use Rattle.oss_model.specs.Texts.{fault_line as line_of_fault};
+ghost use Rattle.oss_command.specs.Commands.{AreFit, is_by_workers};
 ghost use Rattle.oss_top.specs.Forms.{answer_reply, dump_behind, fault_reply, soak_reply};
 ghost use Rattle.oss_top.specs.Reply.{IsRunReply};
 ghost use Rattle.oss_top.specs.Runs.{IsRanBy, IsRanOf};
@@ -23,7 +24,7 @@ use oss_syntax::{Bytes, Cells, Program};
 use std::alloc::{AllocError, Global};
 use std::thread::Threads;
 
-/// Runs a program that breaks no rule, in the mode that the options say.
+/// Runs a program that breaks no rule, in the mode that the options say. Condition: that is not the one by workers.
 pub(crate) fn reply_to_run<R: Threads + Sync, G: Gate>(
     rt: &R,
     alloc: Global,
@@ -31,14 +32,15 @@ pub(crate) fn reply_to_run<R: Threads + Sync, G: Gate>(
     options: Options,
     gate: &G,
 ) -> Result<Reply, AllocError>
-    requires { 0 < options.workers }
+    requires fit { AreFit options }
+    requires unwaited { is_by_workers options.mode ≡ false }
     ensures { IfOk result (λ reply. IsRunReply options known.now reply) }
 {
     let ran = run_by_mode(rt, alloc, known, options, gate)?;
     reply_to_answer(alloc, known.program(), options.dump, ran.answer)
 }
 
-/// Runs a generated program, in the mode that the options say, and counts its tasks.
+/// Runs a generated program, in the mode that the options say, and counts its tasks. Condition: that is not the one by workers.
 pub(crate) fn reply_to_generated<R: Threads + Sync, G: Gate>(
     rt: &R,
     alloc: Global,
@@ -46,14 +48,15 @@ pub(crate) fn reply_to_generated<R: Threads + Sync, G: Gate>(
     options: Options,
     gate: &G,
 ) -> Result<Reply, AllocError>
-    requires { 0 < options.workers }
+    requires fit { AreFit options }
+    requires unwaited { is_by_workers options.mode ≡ false }
     ensures { IfOk result (λ reply. IsSoakReply options known.now reply) }
 {
     let ran = run_by_mode(rt, alloc, known, options, gate)?;
     reply_to_counted(alloc, ran)
 }
 
-/// The run of a program in the mode that the options say.
+/// The run of a program in the mode that the options say, which is not the one by workers.
 fn run_by_mode<R: Threads + Sync, G: Gate>(
     rt: &R,
     alloc: Global,
@@ -61,12 +64,14 @@ fn run_by_mode<R: Threads + Sync, G: Gate>(
     options: Options,
     gate: &G,
 ) -> Result<Ran, AllocError>
-    requires { 0 < options.workers }
+    requires some { 0 < options.workers }
+    requires unwaited { is_by_workers options.mode ≡ false }
     ensures { IfOk result (λ ran. IsRanBy known.now options.fuel ran) }
 {
     match options.mode {
         RunMode::Serial => serial_run(alloc, known, options.fuel),
         RunMode::Waves => counted_waves(rt, alloc, known, options, gate),
+        RunMode::Workers => unreachable!(),
     }
 }
 
@@ -121,7 +126,7 @@ pub(crate) fn reply_to_answer(
 }
 
 /// The reply to the run of a generated program.
-fn reply_to_counted(alloc: Global, ran: Ran) -> Result<Reply, AllocError>
+pub(crate) fn reply_to_counted(alloc: Global, ran: Ran) -> Result<Reply, AllocError>
     ensures { IfOk result (λ reply. reply ≡ soak_reply ran.tasks ran.answer) }
 {
     let Ran { answer, tasks } = ran;
@@ -148,7 +153,7 @@ pub(crate) fn reply_to_fault(
 }
 
 /// Writes what the globals hold behind an output, where a dump is asked for.
-fn add_dump(
+pub(crate) fn add_dump(
     alloc: Global,
     program: &Program,
     dump: bool,

@@ -1,6 +1,7 @@
 //! The reply to a trace of a program.
 
-ghost use Rattle.std.specs.Prelude.{◌≡◌, ◌<◌, IfOk};
+ghost use Rattle.std.specs.Prelude.{◌≡◌, IfOk};
+ghost use Rattle.oss_command.specs.Commands.{AreFit};
 ghost use Rattle.oss_top.specs.Forms.{trace_reply};
 ghost use Rattle.oss_top.specs.Traces.{IsTraceReply};
 
@@ -24,7 +25,7 @@ pub(crate) fn reply_to_trace<R: Threads + Sync, G: Gate>(
     options: Options,
     gate: &G,
 ) -> Result<Reply, AllocError>
-    requires { 0 < options.workers }
+    requires { AreFit options }
     ensures { IfOk result (λ reply. IsTraceReply options.fuel known.now reply) }
 {
     let run = wave_run(rt, alloc, known, options, gate)?;

@@ -18,7 +18,7 @@ use std::alloc::{AllocError, Global};
 use std::thread::Threads;
 
 /// How many entries a net of words has at most; where a run needs more, plain lists go on in its place.
-const MOST_ENTRIES: u32 = 16_777_216;
+pub(crate) const MOST_ENTRIES: u32 = 16_777_216;
 
 /// What a run by waves gives of a program.
 #[derive(Drop)]
