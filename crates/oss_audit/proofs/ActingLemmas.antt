@@ -15,7 +15,7 @@ use Rattle.oss_model.proofs.StageLemmas.{no_inner_of_open, creating}
 use Rattle.oss_model.proofs.TreeLemmas.{at_same, path_found}
 use Rattle.oss_model.proofs.SequenceLemmas.{Stands, Turn, down, up, stay, turn}
 use Rattle.oss_audit.specs.Auditing.{place_in}
-use Rattle.oss_audit.specs.Unused.{acting}
+use Rattle.oss_body.specs.Acting.{acting}
 use Rattle.oss_audit.specs.Trails.{Place, above, place_next}
 use Rattle.oss_audit.proofs.PlaceLemmas.{place_within, place_first, place_last, settled_end}
 

@@ -38,7 +38,8 @@ use Rattle.oss_audit.specs.Auditing.{Follows, IsAuditing, IsEndAudited, IsFinish
 use Rattle.oss_audit.specs.Audits.{IsAuditOf}
 use Rattle.oss_audit.specs.Following.{AreOnWay, IsFollowing, IsOnWay, at_child, at_main}
 use Rattle.oss_audit.specs.Trails.{Place, place_of}
-use Rattle.oss_audit.specs.Unused.{AreUnused, IsAudited, IsTold, IsUnused, acting, ends, fails}
+use Rattle.oss_audit.specs.Unused.{AreUnused, IsAudited, IsTold, IsUnused, ends, fails}
+use Rattle.oss_body.specs.Acting.{acting}
 use Rattle.oss_audit.specs.Watches.{HasRoom, IsFirst, IsNoted}
 use Rattle.oss_audit.proofs.ActingLemmas.{alone_is}
 use Rattle.oss_audit.proofs.DepthLemmas.{acting_deep, acting_may}

@@ -13,7 +13,7 @@ use Rattle.oss_model.specs.Machine.{At, State, Task}
 use Rattle.oss_model.specs.Agreement.{MainStarts}
 use Rattle.oss_model.proofs.BodyLemmas.{judged_goes, settle_same}
 use Rattle.oss_model.proofs.TreeLemmas.{at_same}
-use Rattle.oss_audit.specs.Unused.{acting}
+use Rattle.oss_body.specs.Acting.{acting}
 
 -- the task stands as deep as its path is long
 abbrev IsDeep : {S : Type 0} → Frame S → Type 0

@@ -16,7 +16,8 @@ use Rattle.oss_model.proofs.MoveLemmas.{others_forth, which_path}
 use Rattle.oss_model.proofs.TreeLemmas.{at_same, path_found}
 use Rattle.oss_model.proofs.SequenceLemmas.{Stands, seq_event, event_back, opening_at, stands_on}
 use Rattle.oss_audit.specs.Auditing.{Follows, place_in}
-use Rattle.oss_audit.specs.Unused.{HasDeclared, HasTouched, acting}
+use Rattle.oss_audit.specs.Unused.{HasDeclared, HasTouched}
+use Rattle.oss_body.specs.Acting.{acting}
 use Rattle.oss_audit.specs.Trails.{Declared, Declares, Place, Touched, place_of, place_next, touches}
 use Rattle.oss_audit.proofs.PlaceLemmas.{place_first}
 use Rattle.oss_audit.proofs.ActingLemmas.{acting_next}

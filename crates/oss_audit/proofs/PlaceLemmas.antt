@@ -5,7 +5,7 @@ use Rattle.oss_model.specs.Bodies.{Order, Program, Act, Frame, Start, start_fram
 use Rattle.oss_model.specs.Bodies.Act.{Created, Awaited, Waited, WaitedOn, Over, Ticked, Load, Store, Folded, Releases, Printed, Ended, Fault}
 use Rattle.oss_model.proofs.BodyLemmas.{settle_same}
 use Rattle.oss_audit.specs.Auditing.{place_in}
-use Rattle.oss_audit.specs.Unused.{acting}
+use Rattle.oss_body.specs.Acting.{acting}
 use Rattle.oss_audit.specs.Trails.{Place, above, place_next}
 
 -- each included task is the last one that the task below it has created

@@ -20,7 +20,8 @@ use Rattle.oss_audit.specs.declared.unused.Unused.{Unused}
 use Rattle.oss_audit.specs.declared.watch.Watch.{Watch}
 use Rattle.oss_audit.specs.Following.{IsFollowing}
 use Rattle.oss_audit.specs.Trails.{Declared, Place, Touched, place_of}
-use Rattle.oss_audit.specs.Unused.{HasDeclared, HasTouched, IsAudited, acting}
+use Rattle.oss_audit.specs.Unused.{HasDeclared, HasTouched, IsAudited}
+use Rattle.oss_body.specs.Acting.{acting}
 
 -- Where a task stands: its path, and how many tasks it has created.
 abbrev pub place_in : {S : Type 0} → Frame S → Place

@@ -17,12 +17,9 @@ use Rattle.oss_model.specs.Rights.{Touch}
 use Rattle.oss_model.specs.Sequence.{IsAtEnd, Running, Sequential}
 use Rattle.oss_model.specs.declared.answer.Answer.{Answer}
 use Rattle.oss_model.specs.declared.answer.Answer.TheVariants as answers
+use Rattle.oss_body.specs.Acting.{acting}
 use Rattle.oss_meaning.specs.Results.{IsOutcome, Outcome}
 use Rattle.oss_audit.specs.declared.unused.Unused.{Unused}
-
--- The task that acts next in a body after these answers: its own, or one that is included.
-abbrev pub acting : {S : Type 0} → Program S → Start S → List ℕ → Frame S
-acting P b past = top_frame (stack_from P b past).base (stack_from P b past).inner
 
 -- The task at this path, or one below it, has touched the cell.
 pub record HasTouched {S : Type 0} (P : Program S) (s : State S) (q : List ℕ) (c : ℕ) : Type 0 where

@@ -31,7 +31,8 @@ use Rattle.oss_lower_laws.proofs.OutcomeLemmas.{run_has_one}
 use Rattle.oss_audit.specs.declared.unused.Unused.{Unused}
 use Rattle.oss_audit_laws.specs.Claims.{AuditsAlike}
 use Rattle.oss_audit.specs.Trails.{Declares, Place, touches}
-use Rattle.oss_audit.specs.Unused.{AreUnused, HasDeclared, HasTouched, IsAudited, acting, ends, fails}
+use Rattle.oss_audit.specs.Unused.{AreUnused, HasDeclared, HasTouched, IsAudited, ends, fails}
+use Rattle.oss_body.specs.Acting.{acting}
 use Rattle.oss_audit.proofs.FollowLemmas.{creation_of, of_creation, of_touch, touch_of}
 use Rattle.oss_audit_laws.proofs.OneAudit.{same_unused}
 

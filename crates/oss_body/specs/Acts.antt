@@ -11,6 +11,7 @@ use Rattle.oss_machine.specs.Asks.{meant_order}
 use Rattle.oss_machine.specs.Frames.{CodeScript}
 use Rattle.oss_body.specs.declared.act.Act.{Act}
 use Rattle.oss_body.specs.declared.act.Act.TheVariants as acts
+use Rattle.oss_body.specs.declared.act.Creation.{Creation}
 use Rattle.oss_body.specs.Places.{unwritten}
 
 -- An act of a body, as one of the definitions: `Store 2 5` is the store of 5 in cell 2.
@@ -27,6 +28,10 @@ act_seen (acts.Release clauses included) = Meant.Releases clauses included
 act_seen (acts.Print key text) = Meant.Printed (unwritten key) text
 act_seen acts.End = Meant.Ended
 act_seen (acts.Fault kind line key) = Meant.Fault kind line (unwritten key)
+
+-- The context in which the new task of a creation starts.
+abbrev pub context_of : Creation → Context
+context_of creation = creation.context
 
 -- Beside a creation stands the context in which the new task starts, which the task with this context creates. Beside
 -- no other act stands one.

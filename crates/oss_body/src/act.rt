@@ -1,15 +1,36 @@
 //! Acts of a body.
+ghost use Rattle.std.specs.Prelude.{◌≡◌, ℕ, false, IfOk};
+ghost use Rattle.oss_judge.specs.Joined.{IsRising, held_mark, held_right};
+ghost use Rattle.oss_model.specs.Context.{mark_of, right_of};
+ghost use Rattle.oss_model.specs.Rights.{mark_from, right_from};
 
 use oss_code::TaskOrder;
 use oss_judge::Context;
 use oss_model::{FaultKind, Point};
 use oss_syntax::{Access, Boxed, Bytes, List, Op, Range};
+use std::alloc::AllocError;
 
 /// A creation that the judge has let pass: what the new task is to run, and the context in which it starts.
 #[derive(Drop)]
 pub struct Creation {
     pub order: TaskOrder,
     pub(crate) context: Context,
+}
+
+impl Creation {
+    ghost use Rattle.oss_body.specs.Acts.{context_of};
+
+    /// The accesses of the new task, as it will start with them: they give its rights and the marks of the cells that it
+    /// may write, each cell once, in rising order and as few as can be. Out of memory is the one error.
+    pub fn accesses(&self) -> Result<List<Access>, AllocError>
+        ensures rights { IfOk result (λ accesses. (c : ℕ) →
+            right_from false accesses c ≡ held_right (right_of (context_of self.now) c)) }
+        ensures marks { IfOk result (λ accesses. (c : ℕ) →
+            mark_from false accesses c ≡ held_mark (right_of (context_of self.now) c) (mark_of (context_of self.now) c)) }
+        ensures rising { IfOk result (λ accesses. IsRising accesses) }
+    {
+        self.context.accesses()
+    }
 }
 
 /// What a body does next, once it is judged (OmpSs-2, execution model).

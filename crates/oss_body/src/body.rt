@@ -3,16 +3,17 @@ ghost use Rattle.std.specs.Prelude.{◌≡◌, ◌∷◌, ◌≤◌, ◌<◌, []
 ghost use Rattle.oss_code.specs.declared.code.CodeParts.{CodeParts};
 ghost use Rattle.oss_judge.specs.Joined.{IsRising, held_mark, held_right};
 ghost use Rattle.oss_judge.specs.Seen.{right_seen};
-ghost use Rattle.oss_machine.specs.Asks.{meant_order, script_of};
+ghost use Rattle.oss_machine.specs.Asks.{meant_ask, meant_order, script_of};
 ghost use Rattle.oss_machine.specs.Frames.{CodeScript};
 ghost use Rattle.oss_machine.specs.Machines.{asks};
-ghost use Rattle.oss_model.specs.Bodies.{Order, Start, Created, child_start, stack_from, stage_act, start_frame};
+ghost use Rattle.oss_model.specs.Bodies.{Order, Start, Created, ask_of, child_start, stack_from, stage_act, start_frame};
 ghost use Rattle.oss_model.specs.Context.{mark_of, right_of};
 ghost use Rattle.oss_model.specs.Moves.{slot_of};
 ghost use Rattle.oss_model.specs.Order.{written};
 ghost use Rattle.oss_model.specs.Rights.{Holds, is_released, mark_from, right_from};
 ghost use Rattle.oss_syntax.specs.declared.access.Mode.TheVariants.{Fold};
 ghost use Rattle.oss_syntax.specs.declared.access.Op.{Op};
+ghost use Rattle.oss_body.specs.Acting.{acting};
 ghost use Rattle.oss_body.specs.Acts.{act_seen, answer_to, creates, goes_on, passed};
 ghost use Rattle.oss_body.specs.Places.{IsKey};
 
@@ -24,6 +25,7 @@ use crate::place::Place;
 use crate::tasks::Tasks;
 use oss_code::{Code, TaskOrder};
 use oss_judge::{Context, Right};
+use oss_machine::Ask;
 use oss_model::Point;
 use oss_syntax::{Access, List};
 use std::alloc::{AllocError, Global};
@@ -248,6 +250,36 @@ impl Body {
         ensures rising { IfOk result (λ accesses. IsRising accesses) }
     {
         self.own.context.accesses()
+    }
+
+    /// The context of the task that acts: the body's own, or one that is included. Condition: the body has not ended. It
+    /// takes no memory.
+    pub fn acting(&self) -> &Context
+        requires running { is_over self.now ≡ false }
+        ensures { (code : CodeParts) (start : Start CodeScript) (found : Items ℕ) → IsBody code start found self.now →
+            result.now ≡ (acting (asks code) start found).context }
+    {
+        self.tasks.top.place().context()
+    }
+
+    /// What the task that acts asks next: what its pending act, or its fault, comes from. Condition: the body has not
+    /// ended. It takes no memory.
+    pub fn asked(&self) -> &Ask
+        requires running { is_over self.now ≡ false }
+        ensures { (code : CodeParts) (start : Start CodeScript) (found : Items ℕ) → IsBody code start found self.now →
+            meant_ask result.now ≡ (ask_of (asks code) (acting (asks code) start found)).ask }
+    {
+        self.tasks.top.ask()
+    }
+
+    /// The line to which a fault of that ask belongs, counted from 1; 0 if there is none. Condition: the body has not
+    /// ended. It takes no memory.
+    pub fn line(&self) -> u32
+        requires running { is_over self.now ≡ false }
+        ensures { (code : CodeParts) (start : Start CodeScript) (found : Items ℕ) → IsBody code start found self.now →
+            result ≡ (ask_of (asks code) (acting (asks code) start found)).line }
+    {
+        self.tasks.top.line()
     }
 
     /// The right to a cell with which the task has started: a release changes it no more. It takes no memory.

@@ -1,7 +1,7 @@
 //! One task of a body: its own, or one that is included.
 ghost use Rattle.std.specs.Prelude.{◌≡◌, ℕ, Bool, suc, true, false, IfOk, OnErr, OnOk, None, Some};
 ghost use Rattle.oss_model.specs.Rights.{Right};
-ghost use Rattle.oss_machine.specs.Asks.{meant_order, script_of};
+ghost use Rattle.oss_machine.specs.Asks.{meant_ask, meant_order, script_of};
 ghost use Rattle.oss_machine.specs.Frames.{CodeScript};
 ghost use Rattle.oss_machine.specs.Machines.{asks, machine_after, machine_start};
 ghost use Rattle.oss_model.specs.Bodies.{Frame as Meant, child_frame, frame_act, frame_after, including_frame, one_more_created, settled_frame};
@@ -16,7 +16,7 @@ use crate::looking::{Ahead, awaits_behind, fill, reach, reach_behind};
 use crate::place::Place;
 use oss_code::{Code, TaskOrder};
 use oss_judge::Context;
-use oss_machine::Machine;
+use oss_machine::{Ask, Machine};
 use oss_model::Point;
 use std::alloc::{AllocError, Global};
 use std::marker::Model;
@@ -80,6 +80,20 @@ impl Frame {
         ensures { result.now ≡ self.now.place }
     {
         &self.place
+    }
+
+    /// What the task asks next.
+    pub(crate) fn ask(&self) -> &Ask
+        ensures { meant_ask result.now ≡ self.now.machine.asked.ask }
+    {
+        self.machine.ask()
+    }
+
+    /// The line to which a fault of what it asks belongs, counted from 1; 0 if there is none.
+    pub(crate) fn line(&self) -> u32
+        ensures { result ≡ self.now.machine.asked.line }
+    {
+        self.machine.line()
     }
 
     /// Passes what is no act, and tells the act that stands next, or the fault. `own` has the rights with which

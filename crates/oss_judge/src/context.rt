@@ -176,8 +176,20 @@ impl Context {
         ensures some { from < result.1 }
         ensures within { result.1 ≤ to }
     {
+        let (right, end) = self.right_run(from, to);
+        (right.is_released(), end)
+    }
+
+    /// A run of cells from one on, up to another: the right to each of them, and where the run ends. It costs what the
+    /// ranges that the task has do, and takes no memory.
+    pub fn right_run(&self, from: u32, to: u32) -> (Right, u32)
+        requires { from < to }
+        ensures alike { (cell : ℕ) → from ≤ cell → cell < result.1 → right_of self.now cell ≡ right_seen result.0 }
+        ensures some { from < result.1 }
+        ensures within { result.1 ≤ to }
+    {
         let (right, end) = self.rights.run_from(from, to);
-        (right::told(right).is_released(), end)
+        (right::told(right), end)
     }
 
     /// Whether a cell is written already, or is none, so that marking it as written changes nothing. It takes
@@ -627,6 +639,13 @@ impl Context {
         ensures { result ≡ self.now.depth }
     {
         self.depth
+    }
+
+    /// How many ticks the task may make in all.
+    pub fn fuel(&self) -> u32
+        ensures { result ≡ self.now.fuel }
+    {
+        self.fuel
     }
 
     /// How many tasks this one has created.

@@ -19,7 +19,8 @@ use Rattle.oss_wave_laws.proofs.GatherLemmas.{Gathered, Sorted, gather, never_bo
 use Rattle.oss_wave_laws.proofs.SumLemmas.{in_cases, in_none, listed}
 use Rattle.oss_chain_laws.proofs.EventLemmas.{in_left, in_right}
 use Rattle.oss_chain_laws.proofs.WaitDecides.{is_suffix, suffix_cases, suffix_none}
-use Rattle.oss_audit.specs.Unused.{AreUnused, HasDeclared, HasTouched, IsAhead, IsTold, IsUnused, Rises, Tells, acting}
+use Rattle.oss_audit.specs.Unused.{AreUnused, HasDeclared, HasTouched, IsAhead, IsTold, IsUnused, Rises, Tells}
+use Rattle.oss_body.specs.Acting.{acting}
 use Rattle.oss_audit.specs.declared.unused.Unused.{Unused}
 use Rattle.oss_syntax.specs.declared.tree.program.Program.{Program}
 use Rattle.oss_meaning.specs.Meaning.{asks_of}
