@@ -6,6 +6,8 @@
 #[cfg(test)]
 mod audit_tests;
 #[cfg(test)]
+mod body_tests;
+#[cfg(test)]
 mod job_tests;
 #[cfg(test)]
 mod machine_tests;
