@@ -24,10 +24,17 @@ use std::marker::Model;
 
 /// A body in a box, so that it moves as one address from list to list. Contracts see the body in it, and its
 /// calls are those of the body.
-#[derive(Drop)]
 pub struct BoxedBody {
     alloc: Global,
     place: Box<Body>,
+}
+
+// By hand, so that who lets one go calls this, and does not take it apart at each exit.
+impl Drop for BoxedBody {
+    fn drop(self) {
+        let BoxedBody { alloc: _, place } = self;
+        drop(place);
+    }
 }
 
 impl Model for BoxedBody {
