@@ -37,7 +37,7 @@ use Rattle.oss_core.proofs.TreeFacts.{core_agrees, sizes}
 -- Main in a state of a run
 
 -- a task that starts as main and has given up nothing
-record IsWhole {S : Type 0} (main : Start S) (t : Task S) : Type 0 where
+pub record IsWhole {S : Type 0} (main : Start S) (t : Task S) : Type 0 where
   pub start : t.body.start ≡ main
   pub given : t.given ≡ []
 
@@ -45,7 +45,7 @@ module _ {S : Type 0} (P : Program S) (main : Start S) (cells : List ℕ) (setti
   no_join : (c : ℕ) (op : Op) → right_of main.context c ≡ Holds (Fold op) true → ⊥
   no_join c op e = let f : Fold op ≡ Write = setting.writes c (Fold op) true e in absurd cc
 
-  main_whole : {s : State S} → Reached P main cells s → (t : Task S) → At s [] t → IsWhole main t
+  pub main_whole : {s : State S} → Reached P main cells s → (t : Task S) → At s [] t → IsWhole main t
   main_whole opens t h =
       let e : t ≡ new_from main = at_same (opening main cells) [] t (new_from main) h (opening_main main cells setting.starts.path) in
       record { start = ap (λ (x : Task S). x.body.start) e; given = ap (λ (x : Task S). x.given) e }

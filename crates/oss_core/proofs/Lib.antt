@@ -19,6 +19,8 @@ pub mod ExactLemmas
 pub mod NeedLemmas
 pub mod CoreLemmas
 pub mod PartLemmas
+mod RetoldLemmas
+mod RegivenLemmas
 pub mod ActLemmas
 pub mod StepsLemmas
 pub mod GivesLemmas

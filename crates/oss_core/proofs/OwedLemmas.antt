@@ -15,12 +15,12 @@ use Rattle.oss_core.proofs.EntryLemmas.{bools}
 use Rattle.oss_core.proofs.KeepLemmas.{some_is}
 
 -- each access behind the first begins behind its end
-behind : (x : Access) (rest : List Access) (i : ℕ) (a : Access) → IsRising (x ∷ rest) → slice_get rest i ≡ Some a → x.range.hi ≤ a.range.lo
+pub behind : (x : Access) (rest : List Access) (i : ℕ) (a : Access) → IsRising (x ∷ rest) → slice_get rest i ≡ Some a → x.range.hi ≤ a.range.lo
 behind x [] i a r e = absurd cc
 behind x (y ∷ more) zero a r e = subst (λ (z : Access). x.range.hi ≤ z.range.lo) (some_is e) r.0.behind
 behind x (y ∷ more) (suc i) a r e = let h = behind y more i a r.1 e in let f = r.0.behind in let o = y.range.ordered in omega (arith, h, f, o)
 
-rising_rest : (x : Access) (rest : List Access) → IsRising (x ∷ rest) → IsRising rest
+pub rising_rest : (x : Access) (rest : List Access) → IsRising (x ∷ rest) → IsRising rest
 rising_rest x [] r = tt
 rising_rest x (y ∷ more) r = r.1
 

@@ -1,5 +1,5 @@
 -- Parts of a core with another dependency system, which was told the same.
-use Rattle.std.proofs.Common.{◌≡◌, ◌∙◌, ℕ, List, sym}
+use Rattle.std.proofs.Common.{◌≡◌, ◌∙◌, ℕ, List, length, sym, subst}
 use Rattle.oss_code.specs.declared.code.CodeParts.{CodeParts}
 use Rattle.oss_deps.specs.Seen.{Seen}
 use Rattle.oss_machine.specs.Frames.{CodeScript}
@@ -7,9 +7,13 @@ use Rattle.oss_machine.specs.Machines.{asks}
 use Rattle.oss_model.specs.Bodies.{Body, Start}
 use Rattle.oss_model.specs.Machine.{State}
 use Rattle.oss_core.specs.declared.parts.CoreParts.{CoreParts as Parts}
-use Rattle.oss_core.specs.Kept.{IsCore}
+use Rattle.oss_core.specs.Kept.{IsCore, own}
+use Rattle.oss_core.specs.Moving.{AreSound}
 use Rattle.oss_core.specs.Parts.{AreParts, IsToldOf, kept_with}
+use Rattle.oss_core.specs.Retelling.{AreGiven, AreSome, IsTold}
 use Rattle.oss_core.proofs.CoreLemmas.{held_same, known_same}
+use Rattle.oss_core.proofs.RegivenLemmas.{given_same}
+use Rattle.oss_core.proofs.RetoldLemmas.{told_all}
 
 pub told_again : (code : CodeParts) (main : Start CodeScript) (first : List ℕ) (p : Parts) (s : State CodeScript) (seen now : Seen)
     (core : IsCore code main first (kept_with seen p) s) → IsToldOf code core.bodies seen now → IsCore code main first (kept_with now p) s
@@ -32,3 +36,14 @@ told_again code main first p s seen now core told = record {
   are_prints = core.are_prints;
   prints_are = core.prints_are;
 }
+
+-- Parts with a system that was told anew of all tasks, and of all cells that they have given up.
+pub retold : (code : CodeParts) (main : Start CodeScript) (first : List ℕ) (p : Parts) (s : State CodeScript) (mid now : Seen) → AreParts code main first p s
+    → IsTold p.tasks.items p.tree.tasks (length p.tree.tasks) 0 mid → AreGiven p.tasks.items (length p.tree.tasks) mid now → IsCore code main first (kept_with now p) s
+retold code main first p s mid now parts told given =
+    let some : AreSome p.tasks.items p.tree = record { code = code; main = main; first = first; seen = parts.0; cells = p.cells.items; state = s; core = parts.1 } in
+    told_again code main first p s parts.0 now parts.1 (record {
+      sound = subst (λ os. AreSound (asks code) own (λ b. Unit {0}) parts.1.bodies os now.given) (sym given.opens)
+          (told_all p.tasks.items p.tree some mid told now.given (given_same p.tasks.items p.tree some mid told now given));
+      given = given_same p.tasks.items p.tree some mid told now given;
+    })

@@ -6,6 +6,7 @@ pub mod Printing
 pub mod Putting
 pub mod Kept
 pub mod Parts
+pub mod Retelling
 pub mod Changes
 pub mod Going
 pub mod Giving

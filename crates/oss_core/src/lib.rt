@@ -15,6 +15,7 @@ mod parts;
 mod passing;
 mod putting;
 mod ranges_given;
+mod retelling;
 mod steppers;
 mod stepping;
 mod told;

@@ -49,11 +49,19 @@ impl BoxedBody {
     ghost use Rattle.oss_body.specs.Relation.{IsBody, has_begun, has_wait, is_over, is_some, pending_of, released_by};
 
     /// The body, in a box. Want of memory is the one error, and then the body is let go.
-    fn of(alloc: Global, body: Body) -> Result<BoxedBody, AllocError>
+    pub fn of(alloc: Global, body: Body) -> Result<BoxedBody, AllocError>
         ensures { IfOk result (λ boxed. boxed ≡ body) }
     {
         let place = Box::new(alloc, body)?;
         Ok(BoxedBody { alloc, place })
+    }
+
+    /// The body, out of its box. It takes no memory.
+    pub fn into_body(self) -> Body
+        ensures { result ≡ self }
+    {
+        let BoxedBody { alloc: _, place } = self;
+        Box::into_inner(place)
     }
 
     /// The body of main at its start, with this fuel, as `main_body` gives it. Want of memory is the one error.

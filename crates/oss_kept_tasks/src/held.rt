@@ -1,6 +1,8 @@
 //! What is kept of a task beside its place in the tree and its entry in the dependency system: its body, and the
 //! cells that it still owes.
 
+ghost use Rattle.std.specs.Prelude.{◌≡◌};
+
 use crate::boxed_body::BoxedBody;
 use oss_ranges::RangeMap;
 use oss_syntax::Op;
@@ -28,5 +30,16 @@ impl Drop for Held {
         let Held { body, owed } = self;
         drop(body);
         drop(owed);
+    }
+}
+
+impl Held {
+    /// The body, and the cells that are still owed. It takes no memory.
+    pub fn into_parts(self) -> (BoxedBody, RangeMap<Owed>)
+        ensures body { result.0 ≡ self.body }
+        ensures owed { result.1 ≡ self.owed }
+    {
+        let Held { body, owed } = self;
+        (body, owed)
     }
 }

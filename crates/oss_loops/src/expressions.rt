@@ -1,5 +1,5 @@
 //! The expressions, assignments and locals of which a task loop written out is made. All that is made has one line.
-ghost use Rattle.std.specs.Prelude.{◌≡◌, [], ◌∷◌, ◌++◌, IfOk, OnOk};
+ghost use Rattle.std.specs.Prelude.{◌≡◌, [], ◌∷◌, ◌++◌, IfOk, OnErr, OnOk};
 ghost use Rattle.oss_grammar.specs.TaskLoops.{joined_at, long_at, name_at, number_at, set_at};
 ghost use Rattle.oss_loops.specs.LoopParts.{or_number};
 
@@ -114,14 +114,15 @@ fn set_to(alloc: Global, line: u32, name: Name, value: Boxed<Expr>) -> Result<St
     }
 }
 
-/// Adds a local of the type `long` with its initial value at the end. Where memory is wanting nothing is added.
+/// Adds a local of the type `long` with its initial value at the end. Out of memory, nothing is added.
 pub(crate) fn add_local(
     line: u32,
     name: Name,
     first: Expr,
     locals: &mut List<Local>,
 ) -> Result<(), AllocError>
-    ensures { OnOk result (locals.new ≡ locals.old ++ long_at line name first ∷ []) }
+    ensures ok { OnOk result (locals.new ≡ locals.old ++ long_at line name first ∷ []) }
+    ensures err { OnErr result (locals.new ≡ locals.old) }
 {
     locals.push(Local {
         name,

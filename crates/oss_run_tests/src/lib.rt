@@ -1,5 +1,5 @@
-//! What no clause says of the machine, of audits, of parts, of jobs, of runs by waves and by one worker, tried by their public calls
-//! over codes that were written by hand. The tests have a crate of their own, since a crate with tests is
+//! What no clause says of the machine, of bodies, of audits, of parts, of jobs, of cores, and of runs by waves and by one worker, tried by
+//! their public calls over codes that were written by hand. The tests have a crate of their own, since a crate with tests is
 //! proved once without them and once with them.
 #![tactic(auto)]
 
@@ -7,6 +7,8 @@
 mod audit_tests;
 #[cfg(test)]
 mod body_tests;
+#[cfg(test)]
+mod core_tests;
 #[cfg(test)]
 mod job_tests;
 #[cfg(test)]

@@ -47,7 +47,7 @@ fn print(rt: &(impl Abort + AllocGlobal), letter: u8) -> Instr {
 
 /// The code of `long x, y;` and a `main` that creates a task with `out(x)` that sets `x` to 5 and prints `a`,
 /// one with `out(y)` that sets `y` to 7 and prints `b`, and waits.
-fn code(rt: &(impl Abort + AllocGlobal)) -> Code {
+pub(crate) fn code(rt: &(impl Abort + AllocGlobal)) -> Code {
     let instrs = [
         Instr::Begin,
         Instr::Section(SectionBase::Global(0), SectionForm::Whole, OUT),
@@ -90,7 +90,7 @@ fn code(rt: &(impl Abort + AllocGlobal)) -> Code {
 }
 
 /// Whether this is the answer of a run that ended so.
-fn is_done(answer: &Answer, output: &[u8], cells: &[u64]) -> bool {
+pub(crate) fn is_done(answer: &Answer, output: &[u8], cells: &[u64]) -> bool {
     match answer {
         Answer::Done(printed, left) => printed.as_slice() == output && left.as_slice() == cells,
         Answer::Fault(_, _, _) => false,

@@ -1,6 +1,6 @@
 //! The acts of a task that stand at the end of the longest chain to its last one.
 
-ghost use Rattle.std.specs.Prelude.{◌≡◌, ◌≤◌, ◌<◌, ◌-◌, ◌^◌, ◌++◌, ◌∷◌, [], IfOk, OnOk, IfSome, length};
+ghost use Rattle.std.specs.Prelude.{◌≡◌, ◌≤◌, ◌<◌, ◌-◌, ◌^◌, ◌++◌, ◌∷◌, [], IfOk, OnErr, OnOk, IfSome, length};
 ghost use Rattle.oss_span.specs.Acts.{IsSealed, after_act};
 
 use crate::best::{Best, Mark};
@@ -45,9 +45,11 @@ impl Run {
         }
     }
 
-    /// The chain as a node. After want of memory all is as it was.
+    /// The chain as a node. Out of memory, all is as it was.
     pub(crate) fn seal(&mut self, task: usize, nodes: &mut List<Node>) -> Result<Best, AllocError>
-        ensures { IfOk result (λ best. IsSealed task self.old self.new nodes.old nodes.new best) }
+        ensures ok { IfOk result (λ best. IsSealed task self.old self.new nodes.old nodes.new best) }
+        ensures run { OnErr result (self.new ≡ self.old) }
+        ensures nodes { OnErr result (nodes.new ≡ nodes.old) }
     {
         if self.count == 0 {
             return Ok(Best {
