@@ -1,10 +1,10 @@
 -- Parts of a core with another dependency system, which was told the same.
-use Rattle.std.proofs.Common.{◌≡◌, ◌∙◌, ℕ, List, length, sym, subst}
+use Rattle.std.proofs.Common.{◌∙◌, ℕ, List, length, sym, subst}
 use Rattle.oss_code.specs.declared.code.CodeParts.{CodeParts}
 use Rattle.oss_deps.specs.Seen.{Seen}
 use Rattle.oss_machine.specs.Frames.{CodeScript}
 use Rattle.oss_machine.specs.Machines.{asks}
-use Rattle.oss_model.specs.Bodies.{Body, Start}
+use Rattle.oss_model.specs.Bodies.{Start}
 use Rattle.oss_model.specs.Machine.{State}
 use Rattle.oss_core.specs.declared.parts.CoreParts.{CoreParts as Parts}
 use Rattle.oss_core.specs.Kept.{IsCore, own}

@@ -1,15 +1,14 @@
 -- Cells that tasks of a core have given up are told anew.
-use Rattle.std.proofs.Common.{◌≡◌, ◌≤◌, ◌<◌, ◌+◌, ◌⊎◌, inl, inr, ℕ, zero, suc, refl, sym, subst, ap, ◌∙◌, arith, Bool, true, false, List, [], ◌∷◌, length, Result, Ok, Err, Option, Some, None}
-use Rattle.std.specs.Prelude.{OnOk, ◌||◌, ◌&&◌, ◌==◌, if◌then◌else◌, nat_le, nat_lt, slice_get, slice_index_or}
+use Rattle.std.proofs.Common.{◌≡◌, ◌≤◌, ◌<◌, ◌+◌, ◌⊎◌, inl, inr, ℕ, zero, suc, refl, sym, subst, ap, ◌∙◌, arith, Bool, true, false, List, [], ◌∷◌, length, Result, Ok, Err, Some, None}
+use Rattle.std.specs.Prelude.{OnOk, ◌&&◌, if◌then◌else◌, nat_le, nat_lt, slice_get, slice_index_or}
 use Rattle.std.proofs.lemmas.Option.{slice_get_within, slice_get-get_or}
-use Rattle.std.proofs.lemmas.Bool.Decides.{eqb_tells, nat_tests}
+use Rattle.std.proofs.lemmas.Bool.Decides.{nat_tests}
 use Rattle.oss_syntax.specs.declared.access.Access.{Access}
-use Rattle.oss_syntax.specs.declared.access.Range.{Range}
 use Rattle.oss_ranges.specs.Cells.{value_at}
 use Rattle.oss_ranges.specs.declared.piece.Piece.{Piece}
 use Rattle.oss_deps.specs.declared.opened.Open.{Open}
 use Rattle.oss_deps.specs.Opens.{HasOpened, access_at, names}
-use Rattle.oss_deps.specs.Seen.{Seen, in_range}
+use Rattle.oss_deps.specs.Seen.{Seen}
 use Rattle.oss_judge.specs.Joined as joined
 use Rattle.oss_kept_tasks.specs.declared.held.Held.{Held}
 use Rattle.oss_kept_tasks.specs.declared.held.Owed.{Owed}
@@ -40,37 +39,9 @@ on_ok (Err e) f p = tt
 below_or : (m n : ℕ) → (n < m) ⊎ (m ≤ n)
 below_or m n = grind arith
 
-or_cases : (a b : Bool) → (a || b) ≡ true → (a ≡ true) ⊎ (b ≡ true)
-or_cases true b h = inl refl
-or_cases false b h = inr h
-
-or_left : (a b : Bool) → a ≡ true → (a || b) ≡ true
-or_left true b h = refl
-or_left false b h = absurd (let bad : ⊥ = cc in bad)
-
-or_right : (a b : Bool) → b ≡ true → (a || b) ≡ true
-or_right true b h = refl
-or_right false b h = h
-
-and_cases : (a b : Bool) → (a && b) ≡ true → (a ≡ true) × (b ≡ true)
-and_cases true b h = (refl, h)
-and_cases false b h = absurd (let bad : ⊥ = cc in bad)
-
 and_both : (a b : Bool) → a ≡ true → b ≡ true → (a && b) ≡ true
 and_both true b h k = k
 and_both false b h k = absurd (let bad : ⊥ = cc in bad)
-
-ranged : (r : Range) (c : ℕ) → in_range r c ≡ true → (r.lo ≤ c) × (c < r.hi)
-ranged r c h = let w = and_cases (nat_le r.lo c) (nat_lt c r.hi) h in (let l = w.0 in grind (arith, nat_tests, l), let l = w.1 in grind (arith, nat_tests, l))
-
-in_range_is : (r : Range) (c : ℕ) → r.lo ≤ c → c < r.hi → in_range r c ≡ true
-in_range_is r c l h = and_both (nat_le r.lo c) (nat_lt c r.hi) (grind (arith, nat_tests, l)) (grind (arith, nat_tests, h))
-
-same_task : (a b : ℕ) → (a == b) ≡ true → a ≡ b
-same_task a b h = elim (eqb_tells a b) [ inl k ↦ k.1 | inr k ↦ (let z : false ≡ true = sym k.0 ∙ h in absurd (let bad : ⊥ = cc in bad)) ]
-
-task_same : (a : ℕ) → (a == a) ≡ true
-task_same a = elim (eqb_tells a a) [ inl k ↦ k.0 | inr k ↦ absurd (k.1 refl) ]
 
 false_or : (b : Bool) → (b ≡ true → ⊥) → b ≡ false
 false_or true f = absurd (f refl)
@@ -79,58 +50,12 @@ false_or false f = refl
 true_not : {b : Bool} {A : Type 0} → b ≡ false → b ≡ true → A
 true_not h k = let z : false ≡ true = sym h ∙ k in absurd (let bad : ⊥ = cc in bad)
 
-pub no_gaps : (task lo : ℕ) (owed : List (Piece Owed)) (s : Seen) → AreGaps task (Between lo lo) owed s s
-no_gaps task lo owed s = record { opens = refl; keeps = λ t c h. h; sound = λ t c h. inl h; full = λ c w none. let l = w.0 in let h = w.1 in absurd (omega (arith, l, h)) }
-
-module _ (task lo hi from end : ℕ) (owed : List (Piece Owed)) (old mid : Seen) (g : AreGaps task (Between lo from) owed old mid) (l : lo ≤ from) (e : from < end) (w : end ≤ hi) where
-  pub gaps_named : ((c : ℕ) → lo ≤ c → c < hi → HasOpened old.opens c task) → (c : ℕ) → from ≤ c → c < end → HasOpened mid.opens c task
-  gaps_named named c a b = subst (λ os. HasOpened os c task) (sym g.opens) (named c (omega (arith, l, a)) (omega (arith, b, w)))
-
-  pub gaps_held : ((c : ℕ) → lo ≤ c → c < hi → old.given task c ≡ false) → (c : ℕ) → from ≤ c → c < end → mid.given task c ≡ false
-  gaps_held held c a b = false_or (mid.given task c) (λ yes. elim (g.sound task c yes) [
-    | inl h ↦ true_not (held c (omega (arith, l, a)) (omega (arith, b, w))) h
-    | inr h ↦ (let m = h.1.1 in omega (arith, m, a))
-  ])
-
-  pub gaps_given : (r : Range) → r.lo ≡ from → r.hi ≡ end → (new : Seen) → new.opens ≡ mid.opens → ((t c : ℕ) → new.given t c ≡ (mid.given t c || ((task == t) && in_range r c)))
-      → ((c : ℕ) → from ≤ c → c < end → value_at owed c ≡ None) → AreGaps task (Between lo end) owed old new
-  gaps_given r low high new opens given none = record {
-    opens = opens ∙ g.opens;
-    keeps = λ t c h. given t c ∙ or_left (mid.given t c) ((task == t) && in_range r c) (g.keeps t c h);
-    sound = λ t c h. elim (or_cases (mid.given t c) ((task == t) && in_range r c) (sym (given t c) ∙ h)) [
-      | inl k ↦ elim (g.sound t c k) [ inl a ↦ inl a | inr a ↦ (let m = a.1.1 in inr (a.0, (a.1.0, omega (arith, m, e)), a.2)) ]
-      | inr k ↦
-          let both = and_cases (task == t) (in_range r c) k in
-          let x = ranged r c both.1 in
-          let a = x.0 in
-          let b = x.1 in
-          inr (sym (same_task task t both.0), (omega (arith, l, a, low), omega (arith, b, high)), none c (omega (arith, a, low)) (omega (arith, b, high)))
-    ];
-    full = λ c h un. elim (below_or from c) [
-      | inl b ↦ given task c ∙ or_left (mid.given task c) ((task == task) && in_range r c) (g.full c (h.0, b) un)
-      | inr b ↦
-          let m = h.1 in
-          given task c ∙ or_right (mid.given task c) ((task == task) && in_range r c) (and_both (task == task) (in_range r c) (task_same task) (in_range_is r c (omega (arith, b, low)) (omega (arith, m, high))))
-    ];
-  }
-
-  pub gaps_skip : ((c : ℕ) → from ≤ c → c < end → value_at owed c ≡ None → ⊥) → AreGaps task (Between lo end) owed old mid
-  gaps_skip some = record {
-    opens = g.opens;
-    keeps = g.keeps;
-    sound = λ t c h. elim (g.sound t c h) [ inl a ↦ inl a | inr a ↦ (let m = a.1.1 in inr (a.0, (a.1.0, omega (arith, m, e)), a.2)) ];
-    full = λ c h un. elim (below_or from c) [ inl b ↦ g.full c (h.0, b) un | inr b ↦ absurd (some c b h.1 un) ];
-  }
-
 -- accesses that rise name no cell twice
 rising_apart : (xs : List Access) (i j : ℕ) (a b : Access) → joined.IsRising xs → slice_get xs i ≡ Some a → slice_get xs j ≡ Some b → i < j → a.range.hi ≤ b.range.lo
 rising_apart [] i j a b r h k l = let z : None ≡ Some a = h in absurd (let bad : ⊥ = cc in bad)
 rising_apart (x ∷ rest) i zero a b r h k l = absurd (omega (arith, l))
 rising_apart (x ∷ rest) zero (suc j) a b r h k l = subst (λ (y : Access). y.range.hi ≤ b.range.lo) (some_is h) (behind x rest j b r k)
 rising_apart (x ∷ rest) (suc i) (suc j) a b r h k l = rising_apart rest i j a b (rising_rest x rest r) h k (omega (arith, l))
-
-pub none_named : (task : ℕ) (accesses : List Access) (owed : List (Piece Owed)) (s : Seen) → AreGaps task (Named 0 accesses) owed s s
-none_named task accesses owed s = record { opens = refl; keeps = λ t c h. h; sound = λ t c h. inl h; full = λ c w none. let l = w.2 in absurd (omega (arith, l)) }
 
 -- the cells of one access more
 module _ (task n : ℕ) (accesses : List Access) (a : Access) (owed : List (Piece Owed)) (old mid : Seen) (rising : joined.IsRising accesses) (is : slice_get accesses n ≡ Some a) (few : n < length accesses)

@@ -13,7 +13,6 @@ use Rattle.oss_machine.specs.Frames.{CodeScript}
 use Rattle.oss_machine.specs.Machines.{asks}
 use Rattle.oss_model.specs.Bodies.{Body, Start}
 use Rattle.oss_model.specs.Context.{Context, right_of}
-use Rattle.oss_model.specs.Machine.{State}
 use Rattle.oss_model.specs.Moves.{created_now}
 use Rattle.oss_model.specs.Order.{IsIn, here, there}
 use Rattle.oss_model.specs.Rights.{covers, right_from}
@@ -26,11 +25,11 @@ use Rattle.oss_tree.specs.declared.task.Task.{Task as TreeTask}
 use Rattle.oss_tree.specs.Tasks as tree
 use Rattle.oss_tree.specs.Tasks.{IsTree, number}
 use Rattle.oss_core.specs.Below.{MayOpen}
-use Rattle.oss_core.specs.Kept.{IsCore, Kept, own}
+use Rattle.oss_core.specs.Kept.{Kept, own}
 use Rattle.oss_core.specs.Moving.{AreSound}
 use Rattle.oss_core.specs.Retelling.{AreAccesses, AreSome, Comes, IsEntry, IsTold}
 use Rattle.oss_core.specs.Standing.{AreRightsOf, IsLinked}
-use Rattle.oss_core.proofs.ChildFacts.{EntryOf, entry_of_child, child_of_link}
+use Rattle.oss_core.proofs.ChildFacts.{EntryOf, entry_of_child}
 use Rattle.oss_core.proofs.EntryLemmas.{in_added, in_front, in_last, in_none, opens_added, precedes_in, precedes_in_last, rising_once, named_at}
 use Rattle.oss_core.proofs.KeepLemmas.{some_is}
 use Rattle.oss_core.proofs.MatchLemmas.{head_is, named_has}

@@ -23,7 +23,7 @@ use Rattle.oss_syntax.specs.declared.access.Access.{Access}
 use Rattle.oss_tree.specs.declared.task.Task.{Task as TreeTask}
 use Rattle.oss_tree.specs.Tasks as tree
 use Rattle.oss_tree.specs.Tasks.{number}
-use Rattle.oss_core.specs.Kept.{IsCore, Kept}
+use Rattle.oss_core.specs.Kept.{IsCore}
 
 -- These tasks and this tree are those of some core.
 pub record AreSome (tasks : List Held) (t : tree.Kept) : Type 0 where

@@ -44,7 +44,12 @@ fn again<R: Abort, D: Deps>(rt: &R, alloc: Global, core: Core<D>) -> Core<D>
 }
 
 /// The core, taken apart and put together over another dependency system, which was told nothing.
-fn anew<D: Deps, E: Deps>(alloc: Global, code: &Code, core: Core<D>, fresh: E) -> Result<Core<E>, AllocError>
+fn anew<D: Deps, E: Deps>(
+    alloc: Global,
+    code: &Code,
+    core: Core<D>,
+    fresh: E,
+) -> Result<Core<E>, AllocError>
     requires core { IsRunning code.now (kept_of D.seen core) }
     requires opens { (E.seen fresh).opens ≡ [] }
     requires given { (t c : ℕ) → (E.seen fresh).given t c ≡ false }
@@ -100,7 +105,12 @@ fn assert_again<R: Abort + AllocGlobal, D: Deps, E: Deps>(rt: &R, code: &Code, d
 #[test]
 fn goes_on_after_it_was_taken_apart(rt: HostRuntime) {
     let code = code(&rt);
-    assert_again(&rt, &code, PlainDeps::new(rt.alloc()), PlainDeps::new(rt.alloc()));
+    assert_again(
+        &rt,
+        &code,
+        PlainDeps::new(rt.alloc()),
+        PlainDeps::new(rt.alloc()),
+    );
     drop(code);
 }
 

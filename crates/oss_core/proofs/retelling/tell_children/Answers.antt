@@ -1,4 +1,3 @@
-use Rattle.std.proofs.Common.{◌+◌, arith}
 use Rattle.oss_core.proofs.RetoldLemmas.{child_at, child_there, may_tell, told_end, told_next}
 use Rattle.oss_core.proofs.retelling.tell_children.Goals as goal
 
