@@ -1,3 +1,4 @@
 pub mod OneOrderLemmas
 pub mod TurnsLemmas
 pub mod ExistLemmas
+pub mod CandidateLemmas

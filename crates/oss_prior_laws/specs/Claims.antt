@@ -1,5 +1,5 @@
 -- What holds of runs by turns: a program has one, its states are those of the machine, and where it stops its answer is that of the sequential run.
-use Rattle.std.specs.Prelude.{◌≡◌, ℕ, List}
+use Rattle.std.specs.Prelude.{◌≡◌, ◌≢◌, ℕ, List}
 use Rattle.oss_model.specs.declared.answer.Answer.{Answer}
 use Rattle.oss_model.specs.Bodies.{Program, Start}
 use Rattle.oss_model.specs.Machine.{State}
@@ -8,7 +8,7 @@ use Rattle.oss_model.specs.Agreement.{Setting}
 use Rattle.oss_model.specs.Answers.{IsAnswer, IsResult, IsStopped}
 use Rattle.oss_model.specs.Termination.{IsLively}
 use Rattle.oss_wave_laws.specs.Claims.{IsSame}
-use Rattle.oss_prior_laws.specs.Turns.{IsOrder, RunsByTurns}
+use Rattle.oss_prior_laws.specs.Turns.{Candidate, IsOrder, RunsByTurns, Turn}
 
 -- The text of a program settles its turns: which tasks begin, in which order, and the state to which they come.
 abbrev pub OneRunByTurns : Type 0 → Type 0
@@ -22,6 +22,11 @@ OneOrder S = (P : Program S) (main : Start S) (cells : List ℕ) (a b : List (Li
 -- A lively program has an order.
 abbrev pub HasOrder : Type 0 → Type 0
 HasOrder S = (P : Program S) (main : Start S) (cells : List ℕ) → Setting main cells → IsLively P → (order : List (List ℕ)) × IsOrder P main cells order
+
+-- A candidate of a state of a run stays one through the turn of another task.
+abbrev pub CandidatesStay : Type 0 → Type 0
+CandidatesStay S = (P : Program S) (main : Start S) (cells : List ℕ) (s n : State S) (p : List ℕ) (steps : ℕ) (q : List ℕ)
+    → Setting main cells → Reached P main cells s → Turn P s p steps n → q ≢ p → Candidate P s q → Candidate P n q
 
 -- Turns come to a state of a run of the machine. No move is left in it.
 abbrev pub TurnsStop : Type 0 → Type 0

@@ -1,7 +1,7 @@
 //! What holds of runs by turns, whatever the program is: laws, each carried by a function that does nothing. A
 //! crate above calls the function for its type of scripts, and then has the law.
 
-ghost use Rattle.oss_prior_laws.specs.Claims.{AnswerIsTheResult, HasOrder, OneOrder, OneRunByTurns, TurnsStop};
+ghost use Rattle.oss_prior_laws.specs.Claims.{AnswerIsTheResult, CandidatesStay, HasOrder, OneOrder, OneRunByTurns, TurnsStop};
 
 /// A program has one run by turns: the tasks that begin, in their order, and the state to which the turns come, but
 /// for how it lists its tasks.
@@ -17,6 +17,11 @@ pub fn one_order<S>()
 /// A lively program has an order.
 pub fn has_order<S>()
     ensures { HasOrder S }
+{}
+
+/// A task that can step can still do so after the turns of others, until its own.
+pub fn candidates_stay<S>()
+    ensures { CandidatesStay S }
 {}
 
 /// Turns come to a state of a run of the machine in which no move is left.
