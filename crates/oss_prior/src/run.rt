@@ -27,7 +27,8 @@ pub struct SingleRun {
     pub answer: Answer,
     /// The points of the tasks in the order of their first steps.
     pub order: List<Point>,
-    /// How many tasks there were: main and each that was created and not included. The count stays at its greatest value.
+    /// How many tasks there were: main and each that was created and not included. The count stays at its greatest
+    /// value.
     pub tasks: u64,
 }
 
