@@ -25,8 +25,8 @@
 #   links: follow         where the output goes on, behind what is told of it, with links of a chain, which has at least as many acts as the second line tells ticks
 #   end: no newline       where the newline at the end of the file does not belong to the program
 #   program:              what stands behind this line is the program, to the end of the file
-# It is called in a folder that holds nothing but the program, as p.c, and the schedule, where the case has one, as s.txt. A run without a mode is called in the mode
-# serial too, and a trace is made over the other dependency systems too, and replayed.
+# It is called in a folder that holds nothing but the program, as p.c, and the schedule, where the case has one, as s.txt. A run without a mode is called in the modes
+# serial and workers too, the latter with one worker where the case has no number of them, and a trace is made over the other dependency systems too, and replayed.
 top=$(CDPATH='' cd -- "$(dirname -- "$0")/.." && pwd) || exit 1
 all=no
 [ "${1:-}" != --all ] || {
@@ -225,6 +225,7 @@ for file in *.c; do
       expect "examples/$file, --mode=$mode --workers=$workers" "$status" "$out" "$err" run "$file" --mode="$mode" --workers="$workers"
     done
   done
+  expect "examples/$file, --mode=workers --workers=1" "$status" "$out" "$err" run "$file" --mode=workers --workers=1
   follow "${file%.c}"
 done
 for file in *.schedule; do
@@ -262,12 +263,19 @@ for file in "$top"/tests/cases/*/*.case; do
   # The words are parted here.
   # shellcheck disable=SC2086
   "$judged" "${file#"$top"/}" "$status" "$work/wanted_out" "$work/wanted_err" $words
-  # A run by waves says what a run of one task after the other says, and the trace of a run is a schedule that leads to the same answer.
+  # A run by waves says what a run of one task after the other and one by a worker say, and the trace of a run is a schedule that leads to the same answer.
   case $status$words in
     2* | *--mode* | *--deps*) ;;
     *' run '*)
       # shellcheck disable=SC2086
       expect "${file#"$top"/} in serial mode" "$status" "$work/wanted_out" "$work/wanted_err" $words --mode=serial
+      case $words in
+        *--workers*) ;;
+        *)
+          # shellcheck disable=SC2086
+          expect "${file#"$top"/} in workers mode" "$status" "$work/wanted_out" "$work/wanted_err" $words --mode=workers --workers=1
+          ;;
+      esac
       ;;
     [01]' trace p.c')
       replay_trace "${file#"$top"/}"

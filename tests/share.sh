@@ -237,7 +237,7 @@ try_completion() {
   check "commands" offers 'audit check replay run soak span trace ' nest6 ''
   check "commands with s" offers 'soak span ' nest6 s
   check "no option as a command" offers '' nest6 --mode =
-  check "options of run" offers '--deps= --dump --fuel= --mode= --workers= ' nest6 run --
+  check "options of run" offers '--deps= --dump --fuel= --mode= --order --who --workers= ' nest6 run --
   check "options of trace" offers '--deps= --fuel= ' nest6 trace -
   check "options of replay" offers '--fuel= ' nest6 replay --
   check "options of soak" offers '--deps= --mode= --workers= ' nest6 soak --
@@ -246,11 +246,14 @@ try_completion() {
   check "check has no options" offers '' nest6 check --
   check "options of no command" offers '' nest6 walk --
   check "an option that is begun" offers '--deps= --dump ' nest6 run --d
-  check "an option stands once" offers '--deps= --fuel= --mode= --workers= ' nest6 run --dump a.c --
-  check "an option with a value stands once" offers '--deps= --dump --fuel= --mode= ' nest6 run --workers = 4 a.c --
+  check "an option stands once" offers '--deps= --fuel= --mode= --order --who --workers= ' nest6 run --dump a.c --
+  check "an option with a value stands once" offers '--deps= --dump --fuel= --mode= --order --who ' nest6 run --workers = 4 a.c --
   check "no --deps in the mode serial" offers '--dump --fuel= --workers= ' nest6 run --mode = serial --
   check "--deps in the mode waves" offers '--deps= --dump --fuel= --workers= ' nest6 run --mode = waves --
-  check "modes" offers 'serial waves ' nest6 run --mode =
+  check "no --deps in the mode workers" offers '--dump --fuel= --order --who --workers= ' nest6 run --mode = workers --
+  check "no --deps beside --who" offers '--dump --fuel= --mode= --order --workers= ' nest6 run --who --
+  check "the mode beside --order" offers 'workers ' nest6 run --order --mode =
+  check "modes" offers 'serial waves workers ' nest6 run --mode =
   check "modes with s" offers 'serial ' nest6 soak --mode = s
   check "the mode beside --deps" offers 'waves ' nest6 run --deps = plain --mode =
   check "dependency systems" offers 'plain regions words ' nest6 trace a.c --deps =
@@ -290,7 +293,8 @@ try_agreement() {
   for option in --mode --deps; do
     offered=$(completions nest6 run "$option" =)
     for value in serial waves workers regions plain words lists; do
-      check "run with $option=$value" agrees "$(has "$offered" "$value")" run none.c "$option=$value"
+      # There is one worker in the mode workers for now.
+      check "run with $option=$value" agrees "$(has "$offered" "$value")" run none.c --workers=1 "$option=$value"
     done
   done
 }

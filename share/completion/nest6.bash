@@ -8,7 +8,7 @@ _nest6_commands='check run trace replay soak span audit'
 # The options of a command. One that ends with = has a value.
 _nest6_options() {
   case $1 in
-    run) echo '--mode= --deps= --fuel= --workers= --dump' ;;
+    run) echo '--mode= --deps= --fuel= --workers= --dump --who --order' ;;
     trace) echo '--deps= --fuel=' ;;
     soak) echo '--mode= --deps= --workers=' ;;
     replay | span | audit) echo '--fuel=' ;;
@@ -18,7 +18,7 @@ _nest6_options() {
 # The values of an option that has a list of them. The others are numbers.
 _nest6_values() {
   case $1 in
-    --mode=) echo 'serial waves' ;;
+    --mode=) echo 'serial waves workers' ;;
     --deps=) echo 'regions plain words' ;;
   esac
 }
@@ -38,21 +38,30 @@ _nest6_words() {
   done
 }
 
-# Whether the option may stand beside the words that are there: once, and `--deps` not in the serial mode.
+# Whether two options exclude each other: `--deps` is of runs by waves, and `--who` and `--order` are of runs by workers.
+_nest6_exclude() {
+  case $1,$2 in
+    --deps=*,--mode=serial | --deps=*,--mode=workers | --deps=*,--who | --deps=*,--order) return 0 ;;
+    --who,--mode=serial | --who,--mode=waves | --who,--deps=*) return 0 ;;
+    --order,--mode=serial | --order,--mode=waves | --order,--deps=*) return 0 ;;
+  esac
+  return 1
+}
+
+# Whether the option may stand beside the words that are there: once, and not beside one that excludes it.
 _nest6_may_stand() {
   local word
   for word in "${words[@]:2:${#words[@]}-3}"; do
     [[ $word != "$1"* ]] || return 1
-    [[ $1 != --deps= || $word != --mode=serial ]] || return 1
+    ! _nest6_exclude "$1" "$word" || return 1
   done
 }
 
-# Whether the value may stand behind its option: `--mode=serial` not beside `--deps`.
+# Whether the value may stand behind its option: a mode not beside an option that excludes it.
 _nest6_may_be() {
   local word
-  [[ $1 == serial ]] || return 0
   for word in "${words[@]:2:${#words[@]}-3}"; do
-    [[ $word != --deps=* ]] || return 1
+    ! _nest6_exclude "$word" "--mode=$1" || return 1
   done
 }
 

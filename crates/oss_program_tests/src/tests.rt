@@ -18,3 +18,4 @@ mod schedules;
 mod turns;
 mod waves;
 mod words;
+mod workers;

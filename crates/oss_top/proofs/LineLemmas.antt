@@ -97,3 +97,20 @@ lines_once options p lines others who x y =
     let none : x.who ≡ [] = subst (λ (b : Bool). IsAsked b (IsWhoText p options.fuel options.workers) x.who) who x.who_is in
     let nothing : y.who ≡ [] = subst (λ (b : Bool). IsAsked b (IsWhoText p options.fuel options.workers) y.who) who y.who_is in
     x.lines_are ∙ ap (λ (t : List ℕ). t ++ x.order) (none ∙ sym nothing) ∙ ap (λ (t : List ℕ). y.who ++ t) (order_texts_once p options.fuel options.order x.order y.order x.order_is y.order_is) ∙ sym y.lines_are
+
+-- the text of an order, if it is asked for
+order_text_for : (p : Program) (fuel : ℕ) (order : List (List ℕ)) → IsOrderOf p fuel order → (b : Bool) → (text : List ℕ) × IsAsked b (IsOrderText p fuel) text
+order_text_for p fuel order is false = ([], refl)
+order_text_for p fuel order is true = (order_text order, record { order = order; is_order = is; text_is = refl })
+
+-- so there are lines that do not tell of workers
+pub lines_of_order : (options : Options) (p : Program) → options.who ≡ false → (order : List (List ℕ)) → IsOrderOf p options.fuel order → (lines : List ℕ) × AreLinesOf options p lines
+lines_of_order options p who order is =
+    let (text, told) = order_text_for p options.fuel order is options.order in
+    (text, record {
+      who = [];
+      order = text;
+      who_is = subst (λ (b : Bool). IsAsked b (IsWhoText p options.fuel options.workers) []) (sym who) refl;
+      order_is = told;
+      lines_are = refl;
+    })

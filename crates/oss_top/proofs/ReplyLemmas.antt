@@ -32,7 +32,7 @@ use Rattle.oss_report.specs.Replays.{schedule_line}
 use Rattle.oss_top.specs.Audits.{IsAuditReply}
 use Rattle.oss_top.specs.Spans.{IsSpanReply}
 use Rattle.oss_top.specs.Forms.{error_reply, run_reply, soak_reply, told_reply, too_large_line, trace_reply}
-use Rattle.oss_top.specs.OneReply.{AreSpansAlike, IsOfOneText, IsReplied, IsRepliedOnce, IsSpanned, TellsNoOrder, nothing, numbers}
+use Rattle.oss_top.specs.OneReply.{AreSpansAlike, IsOfOneText, IsReplied, IsRepliedOnce, IsSpanned, nothing, numbers}
 use Rattle.oss_top.specs.ProgramTexts.{Accepts, Refuses}
 use Rattle.oss_top.specs.ProgramTexts.Refuses.{by_grammar, by_rules}
 use Rattle.oss_top.proofs.LineLemmas.{lines_once}
@@ -191,18 +191,18 @@ module _ (text schedule : List ℕ) (once : IsParsedOnce text) (fuel : ℕ) wher
   files_once reply other (fit few less x) (too_long few2 n y) = absurd (omega (arith, n, less))
   files_once reply other (fit few less x) (fit few2 less2 y) = texts_once reply other x y
 
--- a command whose reply is one, and which does not tell of an order, has one text
-one_text : (c : Command) → IsOfOneText c → TellsNoOrder c → HasOneText c
-one_text (run file options) of none = (of, none)
-one_text (check file) of none = tt
-one_text (trace file options) of none = tt
-one_text (replay file schedule fuel) of none = of
-one_text (audit file fuel) of none = tt
-one_text (span file fuel) of none = tt
-one_text (soak number size options) of none = tt
+-- a command whose reply is one has one text
+one_text : (c : Command) → IsOfOneText c → HasOneText c
+one_text (run file options) of = of
+one_text (check file) of = tt
+one_text (trace file options) of = tt
+one_text (replay file schedule fuel) of = of
+one_text (audit file fuel) of = tt
+one_text (span file fuel) of = tt
+one_text (soak number size options) of = tt
 
 pub replied : (text : List ℕ) → IsReplied text
-replied text = record { some = λ c of none. file_reply text c (one_text c of none); one = λ c of. file_once text (parsed_once text) (λ (r s : Reply). r ≡ s) (λ line r s x y. x ∙ sym y) c (program_once c of) }
+replied text = record { some = λ c of. file_reply text c (one_text c of); one = λ c of. file_once text (parsed_once text) (λ (r s : Reply). r ≡ s) (λ line r s x y. x ∙ sym y) c (program_once c of) }
 
 pub spanned_text : (text : List ℕ) → IsSpanned text
 spanned_text text = record {

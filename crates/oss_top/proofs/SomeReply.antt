@@ -48,7 +48,9 @@ use Rattle.oss_top.specs.Replays.IsScheduleReply.{replayed, wrong_line}
 use Rattle.oss_top.specs.Replays.IsTextsReply.{accepted as texts_accepted, refused_text as texts_refused}
 use Rattle.oss_top.specs.Replays.IsFilesReply.{fit, too_large as files_too_large, too_long}
 use Rattle.oss_top.specs.declared.reply.Reply.{Reply}
-use Rattle.oss_top.proofs.LineLemmas.{no_lines}
+use Rattle.oss_prior_laws.proofs.ExistLemmas.{has_order}
+use Rattle.oss_top.specs.Workers.{IsOrderOf}
+use Rattle.oss_top.proofs.LineLemmas.{lines_of_order}
 use Rattle.oss_top.proofs.SomeAudit.{audit_reply}
 use Rattle.oss_top.proofs.SomeSpan.{span_reply}
 use Rattle.oss_top.proofs.SomeReplay.{LinesRead, lines_read, replay_reply}
@@ -101,9 +103,16 @@ some_trace text p a fuel =
     let code = programs_have_codes items (accepted_places text p a.is_text a.obeys) in
     has_trace TreeScript (asks_of items) (main_of items fuel) (first_cells items) (accepted_setting text p a.is_text a.obeys fuel) (programs_are_lively items code.0 (codes_ask_alike items code.0 code.1))
 
--- the command has the text of a program alone, and tells neither of workers nor of the order
+-- and so one worker begins its tasks in an order
+some_order : (text : List ℕ) (p : Program) → Accepts text p → (fuel : ℕ) → (order : List (List ℕ)) × IsOrderOf (program_written p) fuel order
+some_order text p a fuel =
+    let items = (program_written p).items in
+    let code = programs_have_codes items (accepted_places text p a.is_text a.obeys) in
+    has_order TreeScript (asks_of items) (main_of items fuel) (first_cells items) (accepted_setting text p a.is_text a.obeys fuel) (programs_are_lively items code.0 (codes_ask_alike items code.0 code.1))
+
+-- the command has the text of a program alone, and does not tell of workers
 abbrev pub HasOneText : Command → Type 0
-HasOneText (run file options) = (options.who ≡ false) × (options.order ≡ false)
+HasOneText (run file options) = options.who ≡ false
 HasOneText (check file) = Unit {0}
 HasOneText (trace file options) = Unit {0}
 HasOneText (replay file schedule fuel) = ⊥
@@ -121,7 +130,8 @@ program_reply (span file fuel) of text p a =
     (reply, spanned told)
 program_reply (run file options) of text p a =
     let (o, is) = some_outcome text p a options.fuel in
-    (run_reply options.dump (program_written p) [] o.answer, ran (record { outcome = o; is_outcome = is; lines = []; are_lines = no_lines options (program_written p) of.0 of.1; is_reply = refl }))
+    let (lines, are) = lines_of_order options (program_written p) of (some_order text p a options.fuel).0 (some_order text p a options.fuel).1 in
+    (run_reply options.dump (program_written p) lines o.answer, ran (record { outcome = o; is_outcome = is; lines = lines; are_lines = are; is_reply = refl }))
 program_reply (trace file options) of text p a =
     let (o, is) = some_outcome text p a options.fuel in
     let (t, has) = some_trace text p a options.fuel in

@@ -23,19 +23,9 @@ IsOfOneText (audit file fuel) = Unit {0}
 IsOfOneText (span file fuel) = ⊥
 IsOfOneText (soak number size options) = Unit {0}
 
--- The command does not tell in which order tasks begin.
-abbrev pub TellsNoOrder : Command → Type 0
-TellsNoOrder (run file options) = options.order ≡ false
-TellsNoOrder (check file) = Unit {0}
-TellsNoOrder (trace file options) = Unit {0}
-TellsNoOrder (replay file schedule fuel) = Unit {0}
-TellsNoOrder (audit file fuel) = Unit {0}
-TellsNoOrder (span file fuel) = Unit {0}
-TellsNoOrder (soak number size options) = Unit {0}
-
--- A text has a reply to each such command that does not tell of an order, and two replies to any such command are one.
+-- A text has a reply to each such command, and two are one.
 pub record IsReplied (text : List ℕ) : Type 0 where
-  pub some : (c : Command) → IsOfOneText c → TellsNoOrder c → (reply : Reply) × IsFileReply c text reply
+  pub some : (c : Command) → IsOfOneText c → (reply : Reply) × IsFileReply c text reply
   pub one : (c : Command) → IsOfOneText c → (reply other : Reply) → IsFileReply c text reply → IsFileReply c text other → reply ≡ other
 
 pub record IsRepliedOnce (text schedule : List ℕ) : Type 0 where

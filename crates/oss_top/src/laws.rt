@@ -5,7 +5,7 @@ ghost use Rattle.oss_top.specs.OneReply.{IsReplied, IsRepliedOnce, IsSpanned};
 
 /// A law, with nothing to run: a text has one reply to a check, to a run, to a trace, to an audit and, as the
 /// text that a soak makes, to a soak, and no other. So status, output and error output of each of these are
-/// settled by the text.
+/// settled by the text. A run that tells which worker began each task is left out: those workers are free.
 pub fn a_text_has_one_reply(text: &[u8])
     ensures { IsReplied text.now }
 {}
@@ -25,7 +25,7 @@ pub fn a_replay_has_one_reply(text: &[u8], schedule: &[u8])
 /// A law, with nothing to run: in whatever order the tasks of an accepted text run, as far as the moves of the
 /// machine of tasks allow it, the answer is that of the reply to its run. Moves lead from the beginning of its
 /// program to a state in which no move is left; such a state has an answer, and status, output and error output
-/// of a run are those of this answer.
+/// of a run are those of this answer, with the lines behind it for which the run's options ask.
 pub fn every_order_gives_the_reply(text: &[u8])
     ensures { IsRunInEveryOrder text.now }
 {}

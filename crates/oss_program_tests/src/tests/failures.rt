@@ -6,6 +6,7 @@ use oss_io::{MemoryShelf, MemorySink, NoGate};
 use oss_top::{Sinks, nest6};
 use std::alloc::{AllocError, Global};
 use std::test::Fail;
+use std::sync::Wait;
 use std::thread::Threads;
 
 const PROGRAM: &str = "int main() { printf(\"%d\\n\", 0 - 12); }";
@@ -37,7 +38,7 @@ fn shelf_with(alloc: Global, text: &str) -> Result<MemoryShelf, AllocError> {
 }
 
 /// One call of the program with these words, where each task passes the gate at once.
-fn call<R: Threads + Sync>(
+fn call<R: Threads + Wait + Sync>(
     rt: &R,
     alloc: Global,
     words: &[&str],
@@ -100,7 +101,7 @@ fn an_output_that_fails_holds_a_prefix(rt: HostRuntime) -> Result<(), Fail> {
 }
 
 /// What these words tell where the error output takes pieces of this size and fails at this call.
-fn with_failing_errors<R: Threads + Sync>(
+fn with_failing_errors<R: Threads + Wait + Sync>(
     rt: &R,
     alloc: Global,
     words: &[&str],

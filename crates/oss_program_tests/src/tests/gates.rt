@@ -4,6 +4,7 @@
 use oss_io::{Gate, MemoryShelf, MemorySink};
 use oss_top::{Sinks, nest6};
 use std::process::Abort;
+use std::sync::Wait;
 use std::sync::atomic::{AtomicU64, Ordering};
 use std::thread;
 use std::thread::Threads;
@@ -118,11 +119,11 @@ impl Gate for Numbering {
     }
 }
 
-/// Runs a program with an option, behind a gate: it ends, and this is its output.
-fn assert_run<R: Abort + AllocGlobal + Threads + Sync, G: Gate>(
+/// Runs a program with these options, behind a gate: it ends, and this is its output.
+fn assert_run<R: Abort + AllocGlobal + Threads + Wait + Sync, G: Gate>(
     rt: &R,
     text: &str,
-    option: &str,
+    options: &[&str],
     gate: &G,
     wanted: &str,
 ) {
@@ -130,7 +131,7 @@ fn assert_run<R: Abort + AllocGlobal + Threads + Sync, G: Gate>(
     let mut shelf = MemoryShelf::new(alloc);
     shelf.put("p.c", text.as_bytes()).expect(rt, "memory");
     let mut words = Vec::new(alloc);
-    for word in ["run", "p.c", option] {
+    for word in ["run", "p.c"].iter().chain(options) {
         let word = String::from_str(alloc, word).expect(rt, "memory");
         words.push(word).expect(rt, "memory");
     }
@@ -147,7 +148,7 @@ fn assert_run<R: Abort + AllocGlobal + Threads + Sync, G: Gate>(
 #[test]
 fn two_tasks_of_a_wave_meet_on_two_workers(rt: HostRuntime) {
     let gate = Meeting::new(&rt);
-    assert_run(&rt, PAIR, "--workers=2", &gate, "7\n");
+    assert_run(&rt, PAIR, &["--workers=2"], &gate, "7\n");
     assert_eq!(rt; gate.met.load(Ordering::SeqCst), 2);
     assert_eq!(rt; gate.passes.load(Ordering::SeqCst), 3);
 }
@@ -156,7 +157,7 @@ fn two_tasks_of_a_wave_meet_on_two_workers(rt: HostRuntime) {
 #[test]
 fn two_tasks_do_not_meet_on_one_worker(rt: HostRuntime) {
     let gate = Meeting::new(&rt);
-    assert_run(&rt, PAIR, "--workers=1", &gate, "7\n");
+    assert_run(&rt, PAIR, &["--workers=1"], &gate, "7\n");
     assert_eq!(rt; gate.met.load(Ordering::SeqCst), 1);
     assert_eq!(rt; gate.passes.load(Ordering::SeqCst), 3);
 }
@@ -164,34 +165,35 @@ fn two_tasks_do_not_meet_on_one_worker(rt: HostRuntime) {
 #[test]
 fn no_task_passes_the_gate_in_a_serial_run(rt: HostRuntime) {
     let gate = Meeting::new(&rt);
-    assert_run(&rt, PAIR, "--mode=serial", &gate, "7\n");
+    assert_run(&rt, PAIR, &["--mode=serial"], &gate, "7\n");
     assert_eq!(rt; gate.met.load(Ordering::SeqCst), 0);
     assert_eq!(rt; gate.passes.load(Ordering::SeqCst), 0);
 }
 
-/// A run of the program with 49 tasks, on workers as this option says.
-fn assert_counted<R: Abort + AllocGlobal + Threads + Sync>(rt: &R, option: &str) {
+/// A run of the program with 49 tasks, on workers as these options say.
+fn assert_counted<R: Abort + AllocGlobal + Threads + Wait + Sync>(rt: &R, options: &[&str]) {
     let gate = Counting {
         passes: AtomicU64::new(0),
     };
-    assert_run(rt, BLOCKS, option, &gate, "1572352\n");
+    assert_run(rt, BLOCKS, options, &gate, "1572352\n");
     assert_eq!(rt; gate.passes.load(Ordering::SeqCst), 49);
 }
 
 #[test]
 fn each_of_49_tasks_passes_the_gate_once(rt: HostRuntime) {
-    assert_counted(&rt, "--workers=1");
-    assert_counted(&rt, "--workers=4");
-    assert_counted(&rt, "--workers=64");
+    assert_counted(&rt, &["--workers=1"]);
+    assert_counted(&rt, &["--workers=4"]);
+    assert_counted(&rt, &["--workers=64"]);
+    assert_counted(&rt, &["--mode=workers", "--workers=1"]);
 }
 
 /// The greatest number of a worker that the gate is told in a run of the program with 49 tasks, on workers as
-/// this option says.
-fn greatest_told<R: Abort + AllocGlobal + Threads + Sync>(rt: &R, option: &str) -> u64 {
+/// these options say.
+fn greatest_told<R: Abort + AllocGlobal + Threads + Wait + Sync>(rt: &R, options: &[&str]) -> u64 {
     let gate = Numbering {
         greatest: AtomicU64::new(0),
     };
-    assert_run(rt, BLOCKS, option, &gate, "1572352\n");
+    assert_run(rt, BLOCKS, options, &gate, "1572352\n");
     gate.greatest.load(Ordering::SeqCst)
 }
 
@@ -200,6 +202,16 @@ fn greatest_told<R: Abort + AllocGlobal + Threads + Sync>(rt: &R, option: &str) 
 #[test]
 fn workers_have_the_numbers_below_how_many_there_are(rt: HostRuntime) {
     for (option, last) in [("--workers=1", 0), ("--workers=2", 1), ("--workers=4", 3)] {
-        assert_eq!(rt; greatest_told(&rt, option), last, "{option}");
+        assert_eq!(rt; greatest_told(&rt, &[option]), last, "{option}");
     }
+    assert_eq!(rt; greatest_told(&rt, &["--mode=workers", "--workers=1"]), 0);
+}
+
+/// One worker begins the first of the two tasks, which sees nobody, and then the second, which sees that the first has come.
+#[test]
+fn two_tasks_do_not_meet_in_turns(rt: HostRuntime) {
+    let gate = Meeting::new(&rt);
+    assert_run(&rt, PAIR, &["--mode=workers", "--workers=1"], &gate, "7\n");
+    assert_eq!(rt; gate.met.load(Ordering::SeqCst), 1);
+    assert_eq!(rt; gate.passes.load(Ordering::SeqCst), 3);
 }
