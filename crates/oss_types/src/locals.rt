@@ -1,5 +1,5 @@
 //! The locals in scope.
-ghost use Rattle.std.specs.Prelude.{◌≡◌, ◌∷◌, ◌++◌, ◌≤◌, List, [], length, take, IfOk, OnErr, OnOk};
+ghost use Rattle.std.specs.Prelude.{◌≡◌, ◌∷◌, ◌++◌, ◌≤◌, List, [], length, take, IfOk, OnOk};
 ghost use Rattle.std.specs.Str.{bytes_eq};
 ghost use Rattle.oss_syntax.specs.declared.tree.program.Item.{Item};
 ghost use Rattle.oss_grammar.specs.Scopes.{hidden_local, local_kind, is_local_again};
@@ -173,20 +173,18 @@ impl<'p> Locals<'p> {
         is_among(self.locals.as_slice(), start, name)
     }
 
-    /// Adds a local. Out of memory, they are as they were.
+    /// Adds a local. Where memory is wanting they stay.
     pub fn add(&mut self, local: &'p Local) -> Result<(), AllocError>
-        ensures ok { OnOk result (self.new ≡ self.old ++ local.now ∷ []) }
-        ensures err { OnErr result (self.new ≡ self.old) }
+        ensures { OnOk result (self.new ≡ self.old ++ local.now ∷ []) }
     {
         self.names = None;
         self.locals.push(Visible::of(local))?;
         Ok(())
     }
 
-    /// Adds a local that no text can name. Out of memory, they are as they were.
+    /// Adds a local that no text can name. Where memory is wanting they stay.
     pub fn add_hidden(&mut self) -> Result<(), AllocError>
-        ensures ok { OnOk result (self.new ≡ self.old ++ hidden_local ∷ []) }
-        ensures err { OnErr result (self.new ≡ self.old) }
+        ensures { OnOk result (self.new ≡ self.old ++ hidden_local ∷ []) }
     {
         self.names = None;
         self.locals.push(Visible::hidden())?;

@@ -62,7 +62,7 @@ loop-item-preserved c =
           let rest = drop (i + 1) xs in
           let none : first (global_rules xs p n g) ≡ None = ap (λ all. first (global_rules all p n g)) (sym c.in-Ok.ensures) ∙ sym w.refusal_of_global.ensures ∙ w.in-None.is in
           let more : c.match-item.cells ≡ n + size = w.cells-is ∙ w.behind-cells.ensures in
-          let bounds : c.match-item.bounds.items ≡ old ++ n ∷ [] = ap (λ b. b.items) w.bounds-is ∙ w.in-Ok-note.ensures.ok in
+          let bounds : c.match-item.bounds.items ≡ old ++ n ∷ [] = ap (λ b. b.items) w.bounds-is ∙ w.in-Ok-note.ensures in
           record {
             same = ap (λ k. first (items_rules xs (p + 1) k rest)) more
                 ∙ part-whole whole left (first (global_rules xs p n g)) (first (items_rules xs (p + 1) (n + size) rest)) c.loop-item.invariant.same (global-left xs xs p n i item within at g w.in-Global.is) none;
