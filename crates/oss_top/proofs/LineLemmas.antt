@@ -106,11 +106,13 @@ order_text_for p fuel order is true = (order_text order, record { order = order;
 -- so there are lines that do not tell of workers
 pub lines_of_order : (options : Options) (p : Program) → options.who ≡ false → (order : List (List ℕ)) → IsOrderOf p options.fuel order → (lines : List ℕ) × AreLinesOf options p lines
 lines_of_order options p who order is =
-    let (text, told) = order_text_for p options.fuel order is options.order in
-    (text, record {
-      who = [];
-      order = text;
-      who_is = subst (λ (b : Bool). IsAsked b (IsWhoText p options.fuel options.workers) []) (sym who) refl;
-      order_is = told;
-      lines_are = refl;
-    })
+    let (text, told) = order_text_for p options.fuel order is options.order in (
+      text,
+      record {
+        who = [];
+        order = text;
+        who_is = subst (λ (b : Bool). IsAsked b (IsWhoText p options.fuel options.workers) []) (sym who) refl;
+        order_is = told;
+        lines_are = refl;
+      },
+    )

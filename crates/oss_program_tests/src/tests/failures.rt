@@ -5,8 +5,8 @@ ghost use Rattle.std.specs.Prelude.{◌<◌};
 use oss_io::{MemoryShelf, MemorySink, NoGate};
 use oss_top::{Sinks, nest6};
 use std::alloc::{AllocError, Global};
-use std::test::Fail;
 use std::sync::Wait;
+use std::test::Fail;
 use std::thread::Threads;
 
 const PROGRAM: &str = "int main() { printf(\"%d\\n\", 0 - 12); }";

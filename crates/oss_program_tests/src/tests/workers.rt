@@ -79,7 +79,14 @@ fn a_run_by_workers_is_left_alone(rt: HostRuntime) -> Result<(), Fail> {
     shelf.fail_at(1)?;
     let words = words_of(alloc, BY_ONE, "--who")?;
     let mut sinks = sinks(alloc)?;
-    let answer = unwaited(&rt, alloc, words.as_slice(), &mut shelf, &mut sinks, &NoGate);
+    let answer = unwaited(
+        &rt,
+        alloc,
+        words.as_slice(),
+        &mut shelf,
+        &mut sinks,
+        &NoGate,
+    );
     assert!(rt; answer.is_none());
     assert!(rt; sinks.out.bytes().is_empty() && sinks.err.bytes().is_empty());
     Ok(())
@@ -93,7 +100,14 @@ fn all_else_is_done_without_waiting(rt: HostRuntime) -> Result<(), Fail> {
     shelf.put("p.c", THREE.as_bytes())?;
     let words = words_of(alloc, &["run", "p.c"], "--mode=serial")?;
     let mut sinks = sinks(alloc)?;
-    let answer = unwaited(&rt, alloc, words.as_slice(), &mut shelf, &mut sinks, &NoGate);
+    let answer = unwaited(
+        &rt,
+        alloc,
+        words.as_slice(),
+        &mut shelf,
+        &mut sinks,
+        &NoGate,
+    );
     assert!(rt; answer == Some(0));
     assert!(rt; sinks.out.bytes() == b"a\n".as_slice());
     Ok(())
