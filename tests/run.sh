@@ -413,6 +413,7 @@ counted() {
 
 # What stands around the program.
 counted "$top/tests/share.sh" "$program"
+counted "$top/tests/little.sh" "$program"
 [ "$all" = no ] || counted "$top/tests/refused.sh" "$program"
 
 echo "$passed passed, $failed failed"

@@ -29,8 +29,35 @@ pub(crate) struct Waved {
     pub(crate) waves: WaveRecord,
 }
 
-/// The run by waves of a program, by its code.
+/// The run by waves of a program, by its code. Threads take memory: a run that is out of memory on several is made anew on
+/// one.
 pub(crate) fn wave_run<R: Threads + Sync, G: Gate>(
+    rt: &R,
+    alloc: Global,
+    known: &Known,
+    options: Options,
+    gate: &G,
+) -> Result<Waved, AllocError>
+    requires { 0 < options.workers }
+    ensures { IfOk result (λ run. AreWavesOf known.now options.fuel run.answer run.waves) }
+{
+    match wave_run_on(rt, alloc, known, options, gate) {
+        Ok(run) => Ok(run),
+        Err(full) => {
+            if options.workers == 1 {
+                return Err(full);
+            }
+            let alone = Options {
+                workers: 1,
+                ..options
+            };
+            wave_run_on(rt, alloc, known, alone, gate)
+        }
+    }
+}
+
+/// The same on as many workers as the options say.
+fn wave_run_on<R: Threads + Sync, G: Gate>(
     rt: &R,
     alloc: Global,
     known: &Known,
