@@ -4,11 +4,11 @@ ghost use Rattle.std.specs.Prelude.{◌≡◌, ◌<◌, ℕ, length, IfOk, OnOk}
 ghost use Rattle.oss_model.specs.Context.{in_clauses};
 ghost use Rattle.oss_pieces.specs.CellSets.{has};
 
-use oss_pieces::CellSet;
 use crate::runs::unused_runs;
 use crate::unused::Unused;
 use oss_code::TaskOrder;
 use oss_model::Point;
+use oss_pieces::CellSet;
 use oss_syntax::{Access, List};
 use std::alloc::{AllocError, Global};
 

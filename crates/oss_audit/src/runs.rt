@@ -4,9 +4,9 @@ ghost use Rattle.std.specs.Prelude.{◌≡◌, ◌≤◌, ◌<◌, ℕ, IfOk, On
 ghost use Rattle.oss_pieces.specs.CellSets.{is_left};
 ghost use Rattle.oss_audit.specs.Runs.{AddsRun, HasRuns};
 
-use oss_pieces::{CELLS, CellSet};
 use crate::unused::Unused;
 use oss_model::Point;
+use oss_pieces::{CELLS, CellSet};
 use oss_syntax::Range;
 use std::alloc::{AllocError, Global};
 
