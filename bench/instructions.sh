@@ -1,5 +1,5 @@
 #!/bin/sh
-# Counts the instructions of runs by waves of the built program, or of PROGRAM where one is handed over, over regions, and then of sequential runs, and prints a table: millions of instructions, those for twice the tasks, and their ratio. The
+# Counts the instructions of runs by waves of the built program, or of PROGRAM where one is handed over, over regions, then by one worker with priorities, and then of sequential runs, and prints a table: millions of instructions, those for twice the tasks, and their ratio. The
 # programs are those of regions.sh and of programs.sh, and for the last three rows an array loop, calls and folds. A count is the same whatever runs beside, where a clock is not, and takes minutes.
 # It wants `valgrind`.
 # usage: instructions.sh [PROGRAM]
@@ -29,6 +29,11 @@ echo 'what | millions of instructions | for twice the tasks | ratio'
 dependency_rows
 row '2,000 tasks on one cell of an array each, after 2,000 on the whole of it that are done' cuts
 compared 'soak 7 1000' "$(counted soak 7 1000)" "$(counted soak 7 2000)"
+for times in 1 2; do ranked_source $((times * 30000)) >"ranked_$times.c"; done
+# working NAME: the instructions of the run of NAME.c by one worker
+working() { counted run --mode=workers --workers=1 "$1.c"; }
+compared 'apart by one worker with priorities: 30,000 ready tasks of 1,000' "$(working ranked_1)" "$(working ranked_2)"
+sequentially 'the same one after the other' ranked
 growth_sources 1
 growth_rows sequentially
 for times in 1 2; do

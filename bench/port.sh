@@ -1,15 +1,15 @@
 #!/bin/sh
 # Counts what runs cost by the present sources, before anything is proved: it strips the contracts from the crates, compiles what is left over a stand-in
 # for the library of the kit (bench/port), which takes seconds, and prints a table: the instructions of a turn, a cell, a call and a task of sequential runs,
-# and of a task by waves over regions with one worker, each as the difference of a run with a piece of work and one with twice that piece, divided by the
+# of a task by waves over regions with one worker, and of one by one worker with priorities, each as the difference of a run with a piece of work and one with twice that piece, divided by the
 # work. The programs are those of instructions.sh and programs.sh, with a tenth of the work. With the name of a row it prints after the table what
 # the instructions of that row are spent on, by function of the sources.
 # It wants `rustc`, `python3` and `valgrind`, and proves nothing.
-# usage: port.sh [turns|array|cells|calls|tasks|lent|nested|chain|apart]
+# usage: port.sh [turns|array|cells|calls|tasks|lent|nested|chain|apart|ranked]
 top=$(CDPATH='' cd -- "$(dirname -- "$0")/.." && pwd) || exit 1
 asked=${1:-}
 case $asked in
-  '' | turns | array | cells | calls | tasks | lent | nested | chain | apart) ;;
+  '' | turns | array | cells | calls | tasks | lent | nested | chain | apart | ranked) ;;
   *)
     echo "port.sh: no row is named $asked" >&2
     exit 1
@@ -21,7 +21,7 @@ cd "$work" || exit 1
 # shellcheck source=bench/sources.sh
 . "$top/bench/sources.sh"
 
-python3 "$top/bench/port/strip.py" "$top" port oss_parse oss_names oss_lower oss_serial oss_regions oss_waves || exit 1
+python3 "$top/bench/port/strip.py" "$top" port oss_parse oss_names oss_lower oss_serial oss_regions oss_waves oss_prior || exit 1
 # In many units, as rustc does unless told otherwise: in one unit it puts more functions into others in place than the kit does, so that a turn costs
 # a fifth less.
 rustc --edition 2021 -C opt-level=3 -C debuginfo=1 -o port/program port/src/main.rs || exit 1
@@ -34,6 +34,7 @@ for times in 1 2; do
   calls_source $((19 + times)) >"calls_$times.c"
   chain_source $((times * 2000)) >"chain_$times.c"
   apart_source $((times * 2000)) 4000 >"apart_$times.c"
+  ranked_source $((times * 2000)) >"ranked_$times.c"
 done
 
 # counted MODE NAME: the instructions of the run of NAME.c; the file NAME.counted tells what they are spent on
@@ -59,4 +60,5 @@ row 'a task on a lent cell of its own' serial lent 3000
 row 'a nested task' serial nested 2550
 row 'by waves, a task of a chain on one cell' waves chain 2000
 row 'by waves, a task on a cell of its own' waves apart 2000
+row 'by one worker with priorities, a task on a cell of its own' worker ranked 2000
 [ -z "$asked" ] || python3 "$top/bench/port/by_function.py" "$work/port/src" "${asked}_1.counted" "${asked}_2.counted" "$units"

@@ -21,6 +21,9 @@ chain_source() { tasks_source x "$1" 'inout(x)' 'x = x + 1;'; }
 # apart_source COUNT CELLS: tasks that each write a cell of their own, of so many
 apart_source() { tasks_source "x[$2]" "$1" 'out(x[i])' 'x[i] = i;'; }
 
+# ranked_source COUNT: the same, each with one of 1,000 priorities
+ranked_source() { tasks_source "x[$1]" "$1" 'out(x[i]) priority(i * 7 % 1000)' 'x[i] = i;'; }
+
 # ranges_source COUNT: tasks that each name 64 neighbouring cells, at random
 ranges_source() {
   cat <<PROGRAM

@@ -6,8 +6,8 @@ use prelude::{Global, NoGate};
 /// The ticks that a sequential run may take, and each task of a run by waves.
 const FUEL: u32 = 1_000_000_000;
 
-/// Called as `program serial FILE` or `program waves FILE`: reads the program in the file, runs it one act after the other, or by waves over regions
-/// with one worker, and prints what it prints.
+/// Called as `program serial FILE`, `program waves FILE` or `program worker FILE`: reads the program in the file, runs it one act after the other, by
+/// waves over regions with one worker, or over regions by one worker with priorities, and prints what it prints.
 fn main() {
     let mut words = std::env::args().skip(1);
     let (Some(mode), Some(file)) = (words.next(), words.next()) else {
@@ -31,6 +31,13 @@ fn main() {
         "waves" => {
             let regions = Regions::new(Global);
             match oss_waves::waves(&Global, Global, &code, FUEL, regions, 1, &NoGate) {
+                Ok(ran) => print_answer(&ran.answer),
+                Err(_) => panic!("out of memory"),
+            }
+        }
+        "worker" => {
+            let regions = Regions::new(Global);
+            match oss_prior::single(Global, &code, FUEL, regions, &NoGate) {
                 Ok(ran) => print_answer(&ran.answer),
                 Err(_) => panic!("out of memory"),
             }

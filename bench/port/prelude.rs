@@ -310,6 +310,35 @@ impl<K: Hash + Eq, V> IndexMap<K, V> {
     }
 }
 
+/// A set in the order of its items, which tells want of memory; Rust's own does not, so none is told.
+pub struct BTreeSet<K> {
+    items: std::collections::BTreeSet<K>,
+}
+
+impl<K: Ord> BTreeSet<K> {
+    pub fn new(_: Global) -> BTreeSet<K> {
+        BTreeSet {
+            items: std::collections::BTreeSet::new(),
+        }
+    }
+
+    pub fn contains(&self, item: &K) -> bool {
+        self.items.contains(item)
+    }
+
+    pub fn insert(&mut self, item: K) -> Result<bool, AllocError> {
+        Ok(self.items.insert(item))
+    }
+
+    pub fn remove(&mut self, item: &K) -> bool {
+        self.items.remove(item)
+    }
+
+    pub fn first(&self) -> Option<&K> {
+        self.items.first()
+    }
+}
+
 // --- numbers ---
 
 /// What the prover is to show of constants: here the compiler looks.

@@ -50,6 +50,7 @@ COLLECT = re.compile(r"\.collect\((?=\w)")
 # What the prelude stands for: libraries of the kit, and the crate of files and streams, of which runs know the gate alone.
 STOOD_FOR = {
     "std::alloc": "crate::prelude",
+    "std::collections": "crate::prelude",
     "std::thread": "crate::prelude::thread",
     "indexmap": "crate::prelude",
     "oss_io": "crate::prelude",

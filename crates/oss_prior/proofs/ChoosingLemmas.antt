@@ -1,10 +1,10 @@
--- The best of some tasks, one after the other, and that it is the next.
-use Rattle.std.proofs.Common.{◌≡◌, ◌≢◌, ℕ, zero, suc, ◌+◌, ◌<◌, ◌↔◌, ◌⊎◌, inl, inr, refl, sym, ap, ◌∙◌, subst, arith, List, [], ◌∷◌, ◌++◌, append_assoc, length, get_or, Bool, true, false, Option, Some, None}
-use Rattle.std.specs.Prelude.{ℤ, ◌<ℤ◌, IsTrue, not, slice_get, slice_set}
-use Rattle.std.proofs.lemmas.List.{length-set}
-use Rattle.std.proofs.lemmas.Int.{ints}
+-- The tasks that can step, in their order, and which of them is the next.
+use Rattle.std.proofs.Common.{◌≡◌, ◌≢◌, ℕ, zero, suc, ◌<◌, ◌↔◌, ◌⊎◌, inl, inr, refl, sym, ap, ◌∙◌, subst, arith, List, [], ◌∷◌, ◌++◌, length, get_or, false, Option, Some, None}
+use Rattle.std.specs.Prelude.{ℤ, ◌<ℤ◌, IsTrue, slice_get}
+use Rattle.std.specs.BTreeSet.{BTreeSet}
+use Rattle.std.specs.Ordering.{is_gt}
 use Rattle.std.proofs.lemmas.Option.{slice_get_within}
-use Rattle.oss_model.specs.Bodies.{Start}
+use Rattle.oss_model.specs.Bodies.{Program, Start}
 use Rattle.oss_model.specs.Machine.{State, Task, At}
 use Rattle.oss_model.specs.Moves.{CanStep}
 use Rattle.oss_model.specs.Order.{IsBefore, IsEarlierKey, IsIn, here, less, same, there, written}
@@ -12,106 +12,26 @@ use Rattle.oss_model.specs.declared.task_no.TaskNo.{TaskNo}
 use Rattle.oss_code.specs.declared.code.CodeParts.{CodeParts}
 use Rattle.oss_machine.specs.Frames.{CodeScript}
 use Rattle.oss_machine.specs.Machines.{asks}
-use Rattle.oss_tree.specs.declared.task.Task.{Task as TreeTask}
+use Rattle.oss_body.specs.declared.body.Body.{Body as Known}
+use Rattle.oss_body.specs.Relation.{IsBody}
+use Rattle.oss_kept_tasks.specs.declared.held.Held.{Held}
 use Rattle.oss_tree.specs.Tasks.{HasPoint, number}
-use Rattle.oss_tree.proofs.ListLemmas.{get_added, get_set_other, get_set_same, longer_by, there_is, which}
+use Rattle.oss_tree.proofs.ListLemmas.{some_is, which}
 use Rattle.oss_enabled_moves.specs.Enabled.{MayStep}
-use Rattle.oss_core.specs.Kept.{IsCore, Kept}
-use Rattle.oss_core.specs.PointOrder.{AreInPointOrder}
-use Rattle.oss_core.specs.Steppers.{AreSteppers}
+use Rattle.oss_core.specs.Kept.{IsCore, IsRunning, Kept}
 use Rattle.oss_core.specs.Turns.{KeepsTasks}
 use Rattle.oss_core.proofs.CoreLemmas.{held_at}
 use Rattle.oss_core.proofs.ExactLemmas.{step_tells, step_told}
 use Rattle.oss_core.proofs.SteppersLemmas.{in_cases, in_either, in_front, in_rest}
-use Rattle.oss_core.proofs.TreeFacts.{path_of_point, point_of_path, point_unique, sizes, at_place}
+use Rattle.oss_core.proofs.TreeFacts.{at_place, one_path, path_of_point, point_of_path, point_unique, sizes}
+use Rattle.oss_wakeups.specs.Asides.{AreFree, CanAct, StoodAside}
 use Rattle.oss_prior_laws.specs.Turns.{Candidate, GoesBefore, IsNext, Successor, is_candidate, is_successor, priority_of}
-use Rattle.oss_prior.specs.declared.choosing.Chosen.{Chosen}
-use Rattle.oss_prior.specs.declared.choosing.Rank.{Rank}
-use Rattle.oss_prior.specs.Choosing.{AreFlags, IsBest, IsBestOf, IsBetter, IsLower, IsNotHigher, IsOutranked, IsPriority, IsRank, option_task}
+use Rattle.oss_prior.specs.declared.choosing.Before.{Before}
+use Rattle.oss_prior.specs.declared.ready.Ready.{Ready}
+use Rattle.oss_prior.specs.Choosing.{AddsSuccessor, AreAdded, AreReady, AreSuccessors, Has, HasWaited, IsChosen, IsPriority, IsTask, KeepsOthers, by_turn}
 use Rattle.oss_prior.specs.Turning.{IsNextTask}
-use Rattle.oss_prior.proofs.SteppingLemmas.{path_is, path_of}
-
--- ranks
-
-never : {b : Bool} → b ≡ true → b ≡ false → ⊥
-never {b = b} e f = let g : true ≡ false = sym e ∙ f in cc
-
-flag : (b : Bool) → (b ≡ true) ⊎ (b ≡ false)
-flag true = inl refl
-flag false = inr refl
-
-pub lower_then : (a b c : Rank) → IsLower a b → IsLower b c → IsLower a c
-lower_then a b c (inl h) (inl k) = absurd (never h.1 k.0)
-lower_then a b c (inl h) (inr k) = inl (h.0, sym k.0 ∙ h.1)
-lower_then a b c (inr h) (inl k) = inl (h.0 ∙ k.0, k.1)
-lower_then a b c (inr h) (inr k) = inr (h.0 ∙ k.0, less_then a.priority b.priority c.priority h.1 k.1)
-  where
-    less_then : (x y z : ℤ) → x <ℤ y → y <ℤ z → x <ℤ z
-    less_then x y z f g = grind (arith, ints)
-
--- a rank that is not higher than one is lower than each that is higher than that one
-pub not_higher_then : (a b c : Rank) → (IsLower b a → ⊥) → IsLower b c → IsLower a c
-not_higher_then a b c n k = go (flag a.successor) (flag b.successor) k
-  where
-    under : (x y z : ℤ) → (y <ℤ x → ⊥) → y <ℤ z → x <ℤ z
-    under x y z f g = grind (arith, ints, f)
-
-    go : (a.successor ≡ true) ⊎ (a.successor ≡ false) → (b.successor ≡ true) ⊎ (b.successor ≡ false) → IsLower b c → IsLower a c
-    go (inl e) (inl f) (inl h) = absurd (never f h.0)
-    go (inl e) (inl f) (inr h) = inr (e ∙ (sym f ∙ h.0), under a.priority b.priority c.priority (λ l. n (inr (f ∙ sym e, l))) h.1)
-    go (inl e) (inr f) h = absurd (n (inl (f, e)))
-    go (inr e) (inl f) (inl h) = absurd (never f h.0)
-    go (inr e) (inl f) (inr h) = inl (e, sym h.0 ∙ f)
-    go (inr e) (inr f) (inl h) = inl (e, h.1)
-    go (inr e) (inr f) (inr h) = inr (e ∙ (sym f ∙ h.0), under a.priority b.priority c.priority (λ l. n (inr (f ∙ sym e, l))) h.1)
-
--- one more task
-pub best_more : (k : Kept) (flags : List Bool) (list : List TaskNo) (best : Option Chosen) (one result : Chosen) → IsBestOf k flags list best → IsRank k flags one.task.0 one.rank → IsBetter best one result → IsBest k flags (list ++ one.task ∷ []) result
-best_more k flags list None one result e rank better = subst (λ (c : Chosen). IsBest k flags (list ++ one.task ∷ []) c) (sym better) (record {
-  front = [];
-  back = [];
-  split = ap (λ (xs : List TaskNo). xs ++ one.task ∷ []) e;
-  rank = rank;
-  before = λ w i. elim i [ ];
-  after = λ w i. elim i [ ];
-})
-best_more k flags list (Some best) one result h rank (inl (lower, e)) = subst (λ (c : Chosen). IsBest k flags (list ++ one.task ∷ []) c) (sym e) (record {
-  front = list;
-  back = [];
-  split = refl;
-  rank = rank;
-  before = λ w i. out w (in_either h.front (best.task ∷ h.back) (subst (IsIn w) h.split i));
-  after = λ w i. elim i [ ];
-})
-  where
-    own : (w : TaskNo) → (w ≡ best.task) ⊎ IsIn w h.back → IsOutranked k flags one.rank w
-    own w (inl f) = (best.rank, subst (λ (t : TaskNo). IsRank k flags t.0 best.rank) (sym f) h.rank, lower)
-    own w (inr i) = let x = h.after w i in (x.0, x.1, not_higher_then x.0 best.rank one.rank x.2 lower)
-
-    out : (w : TaskNo) → IsIn w h.front ⊎ IsIn w (best.task ∷ h.back) → IsOutranked k flags one.rank w
-    out w (inl i) = let x = h.before w i in (x.0, x.1, lower_then x.0 best.rank one.rank x.2 lower)
-    out w (inr i) = own w (in_cases i)
-best_more k flags list (Some best) one result h rank (inr (not_lower, e)) = subst (λ (c : Chosen). IsBest k flags (list ++ one.task ∷ []) c) (sym e) (record {
-  front = h.front;
-  back = h.back ++ one.task ∷ [];
-  split = ap (λ (xs : List TaskNo). xs ++ one.task ∷ []) h.split ∙ append_assoc h.front (best.task ∷ h.back) (one.task ∷ []);
-  rank = h.rank;
-  before = h.before;
-  after = λ w i. out w (in_either h.back (one.task ∷ []) i);
-})
-  where
-    last : (w : TaskNo) → (w ≡ one.task) ⊎ IsIn w [] → IsNotHigher k flags best.rank w
-    last w (inl f) = (one.rank, subst (λ (t : TaskNo). IsRank k flags t.0 one.rank) (sym f) rank, not_lower)
-    last w (inr i) = elim i [ ]
-
-    out : (w : TaskNo) → IsIn w h.back ⊎ IsIn w (one.task ∷ []) → IsNotHigher k flags best.rank w
-    out w (inl i) = h.after w i
-    out w (inr i) = last w (in_cases i)
-
--- tasks in point order
-ordered_before : (tasks : List TreeTask) (front back : List TaskNo) (v w : TaskNo) → AreInPointOrder tasks (front ++ v ∷ back) → IsIn w back → (p q : List ℕ) → HasPoint tasks v.0 p → HasPoint tasks w.0 q → IsBefore p q
-ordered_before tasks [] back v w o i p q a b = o.0 w i p q a b
-ordered_before tasks (x ∷ front) back v w o i p q a b = ordered_before tasks front back v w o.1 i p q a b
+use Rattle.oss_prior.proofs.ReadyLemmas.{none_has, order_told, ready_is}
+use Rattle.oss_prior.proofs.SteppingLemmas.{path_is, path_of, point_is}
 
 earlier : (p q : List ℕ) → IsBefore (written p) (written q) → IsEarlierKey p q
 earlier p q (less l) = absurd (omega (arith, l))
@@ -153,198 +73,187 @@ module _ {code : CodeParts} {main : Start CodeScript} {first : List ℕ} {k : Ke
       none : v ≡ 0 → ⊥
       none e = let f : j ∷ p ≡ [] = path_is (subst (λ (n : ℕ). HasPoint k.tree.tasks n (written (j ∷ p))) e h) main_point in cc
 
-module _ {code : CodeParts} {main : Start CodeScript} {first : List ℕ} (old new : Kept) (s n : State CodeScript) (was : IsCore code main first old s) (core : IsCore code main first new n) (keeps : KeepsTasks old.tree.tasks new.tree.tasks)
-    (able now : List TaskNo) (were : AreSteppers old able) (are : AreSteppers new now) (flags : List Bool) (are_flags : AreFlags (length old.tree.tasks) able flags) where
-  abbrev P : Rattle.oss_model.specs.Bodies.Program CodeScript
+-- a task has one point and one priority
+pub task_unique : {code : CodeParts} {main : Start CodeScript} {first : List ℕ} {k : Kept} {s : State CodeScript} (core : IsCore code main first k s) (v : ℕ) (x y : Ready) → IsTask k v x → IsTask k v y → x ≡ y
+task_unique {k = k} {s = s} core v x y a b =
+    let p = path_of core v (slice_get_within k.tree.tasks v a.point.task a.point.at_) in
+    let t = task_at core v p.0 p.1 in
+    ready_is x y (priority_is core v p.0 t.0 x.priority p.1 t.1 a.priority ∙ sym (priority_is core v p.0 t.0 y.priority p.1 t.1 b.priority)) (point_is a.point b.point) (a.number ∙ sym b.number)
+
+-- a task of which the body stays is kept
+pub task_stays : {code : CodeParts} {main : Start CodeScript} {first : List ℕ} {k : Kept} {s : State CodeScript} (core : IsCore code main first k s) (new : Kept) (task v : ℕ) (one : Ready) → (v ≡ task → ⊥) → KeepsTasks k.tree.tasks new.tree.tasks → KeepsOthers task k new → IsTask k v one → IsTask new v one
+task_stays {k = k} core new task v one n keeps others is = record { number = is.number; point = keeps.points v one.point is.point; priority = record { main = is.priority.main; clause = clause } }
+  where
+    held : (h : Held) × (slice_get k.tasks v ≡ Some h)
+    held = at_place k.tasks v (subst (λ (m : ℕ). v < m) (sizes core) (slice_get_within k.tree.tasks v is.point.task is.point.at_))
+
+    clause : (v ≡ 0 → ⊥) → (code : CodeParts) (start : Start CodeScript) (found : List ℕ) (after : Held) → slice_get new.tasks v ≡ Some after → IsBody code start found after.body → one.priority ≡ start.order.priority
+    clause z code start found after e body =
+        let o = others.body v held.0 n held.1 in
+        let f : after.body ≡ held.0.body = ap (λ (h : Held). h.body) (some_is e o.1) ∙ o.2 in
+        is.priority.clause z code start found held.0 held.1 (subst (λ (b : Known). IsBody code start found b) f body)
+
+module _ {code : CodeParts} {main : Start CodeScript} {first : List ℕ} (old new : Kept) (s n : State CodeScript) (was : IsCore code main first old s) (core : IsCore code main first new n) (keeps : KeepsTasks old.tree.tasks new.tree.tasks) (task : TaskNo) (others : KeepsOthers task.0 old new)
+    (stay : (v : ℕ) → StoodAside old task.0 v → CanAct new v) (before : Before) (count_is : before.count ≡ length old.tree.tasks) (task_is : before.task ≡ task) (first_queue queue later successors : BTreeSet Ready) (ready : AreReady old first_queue) (own : Ready) (own_is : IsTask old task.0 own)
+    (able : IsTrue before.able ↔ Has first_queue own) (left : (x : Ready) → Has queue x ↔ (Has first_queue x × (x ≡ own → ⊥))) (free : List TaskNo) (are_free : AreFree new free) (all : (v : ℕ) → CanAct new v → IsIn (number v) free ⊎ StoodAside old task.0 v)
+    (are : AreSuccessors new before queue free successors) (added : AreAdded new free queue later) where
+  abbrev P : Program CodeScript
   P = asks code
 
-  -- a flag that is down is that of a successor
-  waits : (v : ℕ) (q : List ℕ) → HasPoint new.tree.tasks v (written q) → Candidate P n q → slice_get flags v ≡ Some false → Successor P s n q
-  waits v q has c down = record { candidate = c; before = t.0; was = t.1; waited = λ d. up d }
+  -- a task of the first queue with the number of the turn's task is that
+  own_one : (x : Ready) → Has first_queue x → x.number ≡ task.0 → x ≡ own
+  own_one x h e = task_unique was task.0 x own (subst (λ (v : ℕ). IsTask old v x) e (ready.only x h).0) own_is
+
+  not_own : (x : Ready) (v : ℕ) → x.number ≡ v → (v ≡ task.0 → ⊥) → x ≡ own → ⊥
+  not_own x v e ne f = ne (sym e ∙ (ap (λ (r : Ready). r.number) f ∙ own_is.number))
+
+  -- the queue has those that can step now
+  pub ready_now : AreReady new later
+  ready_now = record { only = λ one h. only one (added.only one h); all = λ v can. every v (all v can) }
     where
-      l : v < length old.tree.tasks
-      l = subst (λ (m : ℕ). v < m) are_flags.size (slice_get_within flags v false down)
+      only : (one : Ready) → Has queue one ⊎ ((v : TaskNo) × IsIn v free × IsTask new v.0 one) → IsTask new one.number one × CanAct new one.number
+      only one (inl h) =
+          let l = (left one).0 h in
+          let r = ready.only one l.0 in
+          let ne : one.number ≡ task.0 → ⊥ = λ e. l.1 (own_one one l.0 e) in
+          (task_stays was new task.0 one.number one ne keeps others r.0, stay one.number (r.1, ne))
+      only one (inr (v, i, is)) = (subst (λ (m : ℕ). IsTask new m one) (sym is.number) is, subst (CanAct new) (sym is.number) (are_free v i))
 
-      p : (r : List ℕ) × HasPoint old.tree.tasks v (written r)
-      p = path_of was v l
+      every : (v : ℕ) → IsIn (number v) free ⊎ StoodAside old task.0 v → (one : Ready) × Has later one × (one.number ≡ v)
+      every v (inl i) = added.all (number v) i
+      every v (inr a) =
+          let r = ready.all v a.0 in
+          (r.0, added.kept r.0 ((left r.0).1 (r.1, not_own r.0 v r.2 a.1)), r.2)
 
-      path : p.0 ≡ q
-      path = path_is (keeps.points v (written p.0) p.1) has
+  -- who waited is a successor
+  waited : (one : Ready) (v : ℕ) (q : List ℕ) → HasPoint new.tree.tasks v (written q) → HasPoint old.tree.tasks v (written q) → IsTask new v one → HasWaited before queue v one → Candidate P s q → ⊥
+  waited one v q has had is w c = go (which v task.0)
+    where
+      r : (x : Ready) × Has first_queue x × (x.number ≡ v)
+      r = ready.all v (candidate_tells was v q had c)
 
-      there_ : HasPoint old.tree.tasks v (written q)
-      there_ = subst (λ (r : List ℕ). HasPoint old.tree.tasks v (written r)) path p.1
+      go : (v ≡ task.0) ⊎ (v ≡ task.0 → ⊥) → ⊥
+      go (inl e) = w.other (able.1 (subst (Has first_queue) (own_one r.0 r.1 (r.2 ∙ e)) r.1)) (e ∙ sym (ap (λ (t : TaskNo). t.0) task_is))
+      go (inr ne) =
+          let known = task_stays was new task.0 v r.0 ne keeps others (subst (λ (m : ℕ). IsTask old m r.0) r.2 (ready.only r.0 r.1).0) in
+          w.apart (subst (Has queue) (task_unique core v r.0 one known is) ((left r.0).1 (r.1, not_own r.0 v r.2 ne)))
+
+  told_at : (one : Ready) (v : TaskNo) (q : List ℕ) → IsIn v free → IsTask new v.0 one → HasWaited before queue v.0 one → HasPoint new.tree.tasks v.0 (written q) → Successor P s n q
+  told_at one v q i is w has = record { candidate = candidate_told core v.0 q has (are_free v i); before = t.0; was = t.1; waited = waited one v.0 q has had is w }
+    where
+      p : (r : List ℕ) × HasPoint old.tree.tasks v.0 (written r)
+      p = path_of was v.0 (subst (λ (m : ℕ). v.0 < m) count_is w.there_)
+
+      had : HasPoint old.tree.tasks v.0 (written q)
+      had = let e : p.0 ≡ q = path_is (keeps.points v.0 (written p.0) p.1) has in subst (λ (r : List ℕ). HasPoint old.tree.tasks v.0 (written r)) e p.1
 
       t : (u : Task CodeScript) × At s q u
-      t = task_at was v q there_
+      t = task_at was v.0 q had
 
-      up : Candidate P s q → ⊥
-      up d =
-          let e : Some true ≡ Some false = sym ((are_flags.told v l).1 (were.all v (candidate_tells was v q there_ d))) ∙ down in
-          cc
+  -- a task that was told of
+  record IsTold (one : Ready) : Type 0 where
+    pub v : TaskNo
+    pub listed : IsIn v free
+    pub is : IsTask new v.0 one
+    pub waits : HasWaited before queue v.0 one
 
-  -- and the flag of a successor is down
-  waited : (v : ℕ) (q : List ℕ) → HasPoint new.tree.tasks v (written q) → Successor P s n q → slice_get flags v ≡ Some false
-  waited v q has x = go b.0 b.1
+  told : (one : Ready) → Has successors one → IsTold one
+  told one h = let x = are.only one h in record { v = x.0; listed = x.1; is = x.2; waits = x.3 }
+
+  succeeds : (one : Ready) → Has successors one → (q : List ℕ) → HasPoint new.tree.tasks one.number (written q) → Successor P s n q
+  succeeds one h q has = let x = told one h in told_at one x.v q x.listed x.is x.waits (subst (λ (m : ℕ). HasPoint new.tree.tasks m (written q)) x.is.number has)
+
+  successor_is : (one : Ready) → Has successors one → IsTask new one.number one
+  successor_is one h = let x = told one h in subst (λ (m : ℕ). IsTask new m one) (sym x.is.number) x.is
+
+  -- and a successor waited
+  listed : (q : List ℕ) (v : ℕ) → HasPoint new.tree.tasks v (written q) → Successor P s n q → (one : Ready) × Has successors one × (one.number ≡ v)
+  listed q v has x = go (all v (candidate_tells core v q has x.candidate))
     where
       w : (u : ℕ) × HasPoint old.tree.tasks u (written q)
       w = number_at was q x.before x.was
 
-      one : w.0 ≡ v
-      one = point_unique core w.0 v (written q) (keeps.points w.0 (written q) w.1) has
+      had : HasPoint old.tree.tasks v (written q)
+      had = subst (λ (u : ℕ). HasPoint old.tree.tasks u (written q)) (point_unique core w.0 v (written q) (keeps.points w.0 (written q) w.1) has) w.1
 
-      there_ : HasPoint old.tree.tasks v (written q)
-      there_ = subst (λ (u : ℕ). HasPoint old.tree.tasks u (written q)) one w.1
+      never : CanAct old v → ⊥
+      never can = x.waited (candidate_told was v q had can)
 
-      l : v < length old.tree.tasks
-      l = slice_get_within old.tree.tasks v there_.task there_.at_
+      waits : (one : Ready) → IsTask new v one → HasWaited before queue v one
+      waits one is = record {
+        there_ = subst (λ (m : ℕ). v < m) (sym count_is) (slice_get_within old.tree.tasks v had.task had.at_);
+        apart = λ h. never (subst (CanAct old) is.number (ready.only one ((left one).0 h).0).1);
+        other = λ a e. never (subst (CanAct old) (own_is.number ∙ (sym (ap (λ (t : TaskNo). t.0) task_is) ∙ sym e)) (ready.only own (able.0 a)).1);
+      }
 
-      b : (f : Bool) × (slice_get flags v ≡ Some f)
-      b = there_is flags v (subst (λ (m : ℕ). v < m) (sym are_flags.size) l)
+      go : IsIn (number v) free ⊎ StoodAside old task.0 v → (one : Ready) × Has successors one × (one.number ≡ v)
+      go (inl i) = are.all (number v) i waits
+      go (inr a) = absurd (never a.0)
 
-      go : (f : Bool) → slice_get flags v ≡ Some f → slice_get flags v ≡ Some false
-      go false e = e
-      go true e = absurd (x.waited (candidate_told was v q there_ (were.may (number v) ((are_flags.told v l).0 e))))
+  -- the first of some goes before the others
+  goes : (x y : Ready) (q r : List ℕ) → IsTask new x.number x → IsTask new y.number y → HasPoint new.tree.tasks x.number (written q) → HasPoint new.tree.tasks y.number (written r) → r ≢ q → is_gt (by_turn x y) ≡ false → GoesBefore n q r
+  goes x y q r a b hq hr ne e t u at_q at_r = go (order_told x y e)
+    where
+      pq : x.priority ≡ priority_of q t
+      pq = priority_is core x.number q t x.priority hq at_q a.priority
 
-  -- a candidate by its number, among those that may step
-  record Numbered (r : List ℕ) : Type 0 where
-    pub at_ : ℕ
-    pub has : HasPoint new.tree.tasks at_ (written r)
-    pub listed : IsIn (number at_) now
+      pr : y.priority ≡ priority_of r u
+      pr = priority_is core y.number r u y.priority hr at_r b.priority
 
-  numbered : (r : List ℕ) → Candidate P n r → Numbered r
-  numbered r c =
-      let w = number_at core r c.task c.can.at_ in
-      record { at_ = w.0; has = w.1; listed = are.all w.0 (candidate_tells core w.0 r w.1 c) }
+      wq : x.point ≡ written q
+      wq = point_is a.point hq
 
-  module _ (one : Chosen) (h : IsBest new flags now one) (q : List ℕ) (has : HasPoint new.tree.tasks one.task.0 (written q)) where
-    -- where another may stand
-    data Placed (w : TaskNo) : Type 0 where
-      outranked : IsOutranked new flags one.rank w → Placed w
-      itself : w ≡ one.task → Placed w
-      behind : IsNotHigher new flags one.rank w → ((r : List ℕ) → HasPoint new.tree.tasks w.0 (written r) → IsEarlierKey q r) → Placed w
+      wr : y.point ≡ written r
+      wr = point_is b.point hr
 
-    placed : (w : TaskNo) → IsIn w now → Placed w
-    placed w i = go (in_either h.front (one.task ∷ h.back) (subst (IsIn w) h.split i))
-      where
-        own : (w ≡ one.task) ⊎ IsIn w h.back → Placed w
-        own (inl e) = itself e
-        own (inr j) = behind (h.after w j) (λ r x. earlier q r (ordered_before new.tree.tasks h.front h.back one.task w (subst (AreInPointOrder new.tree.tasks) h.split are.ordered) j (written q) (written r) has x))
+      place : IsBefore x.point y.point ⊎ (x.point ≡ y.point) → IsEarlierKey q r
+      place (inl l) = earlier q r (subst (λ (z : List ℕ). IsBefore (written q) z) wr (subst (λ (z : List ℕ). IsBefore z y.point) wq l))
+      place (inr f) = absurd (ne (one_path r q (sym wr ∙ (sym f ∙ wq))))
 
-        go : IsIn w h.front ⊎ IsIn w (one.task ∷ h.back) → Placed w
-        go (inl j) = outranked (h.before w j)
-        go (inr j) = own (in_cases j)
+      go : (y.priority <ℤ x.priority) ⊎ ((x.priority ≡ y.priority) × (IsBefore x.point y.point ⊎ (x.point ≡ y.point))) → (priority_of r u <ℤ priority_of q t) ⊎ ((priority_of q t ≡ priority_of r u) × IsEarlierKey q r)
+      go (inl l) = inl (subst (λ (z : ℤ). priority_of r u <ℤ z) pq (subst (λ (z : ℤ). z <ℤ x.priority) pr l))
+      go (inr (f, o)) = inr (sym pq ∙ (f ∙ pr), place o)
 
-    -- a task with a priority that is less goes behind
-    less_goes : (r : List ℕ) (v : ℕ) (x : ℤ) → HasPoint new.tree.tasks v (written r) → IsPriority new v x → x <ℤ one.rank.priority → GoesBefore n q r
-    less_goes r v x there_ is l t u a b =
-        inl (subst (λ (y : ℤ). y <ℤ priority_of q t) (priority_is core v r u x there_ b is) (subst (λ (y : ℤ). x <ℤ y) (priority_is core one.task.0 q t one.rank.priority has a h.rank.priority) l))
+  -- its path
+  path_at : (x : Ready) → IsTask new x.number x → (q : List ℕ) × HasPoint new.tree.tasks x.number (written q)
+  path_at x a = path_of core x.number (slice_get_within new.tree.tasks x.number a.point.task a.point.at_)
 
-    -- and so does one with a priority that is not greater, further on
-    same_goes : (r : List ℕ) (v : ℕ) (x : ℤ) → HasPoint new.tree.tasks v (written r) → IsPriority new v x → (one.rank.priority <ℤ x → ⊥) → IsEarlierKey q r → GoesBefore n q r
-    same_goes r v x there_ is least e t u a b = go (compared x one.rank.priority least)
-      where
-        compared : (y z : ℤ) → (z <ℤ y → ⊥) → (y <ℤ z) ⊎ (y ≡ z)
-        compared y z f = grind (arith, ints, f)
+  first_successor : (x : Ready) → Has successors x → ((y : Ready) → Has successors y → is_gt (by_turn x y) ≡ false) → (q : List ℕ) → HasPoint new.tree.tasks x.number (written q) → IsNext P s n q
+  first_successor x h least q has = is_successor (succeeds x h q has, λ r sr ne. before_it r sr ne)
+    where
+      before_it : (r : List ℕ) → Successor P s n r → r ≢ q → GoesBefore n q r
+      before_it r sr ne =
+          let w = number_at core r sr.candidate.task sr.candidate.can.at_ in
+          let y = listed r w.0 w.1 sr in
+          goes x y.0 q r (successor_is x h) (successor_is y.0 y.1) has (subst (λ (m : ℕ). HasPoint new.tree.tasks m (written r)) (sym y.2) w.1) ne (least y.0 y.1)
 
-        go : (x <ℤ one.rank.priority) ⊎ (x ≡ one.rank.priority) → (priority_of r u <ℤ priority_of q t) ⊎ ((priority_of q t ≡ priority_of r u) × IsEarlierKey q r)
-        go (inl l) = less_goes r v x there_ is l t u a b
-        go (inr f) = inr (sym (priority_is core one.task.0 q t one.rank.priority has a h.rank.priority) ∙ (sym f ∙ priority_is core v r u x there_ b is), e)
+  none_listed : ((x : Ready) → Has successors x → ⊥) → (r : List ℕ) → Successor P s n r → ⊥
+  none_listed none r sr =
+      let w = number_at core r sr.candidate.task sr.candidate.can.at_ in
+      let y = listed r w.0 w.1 sr in
+      none y.0 y.1
 
-    -- of two tasks of one kind the chosen one goes before the other
-    goes_before : (r : List ℕ) → r ≢ q → Candidate P n r → ((v : ℕ) (other : Rank) → HasPoint new.tree.tasks v (written r) → IsRank new flags v other → other.successor ≡ one.rank.successor) → GoesBefore n q r
-    goes_before r ne c alike = go (placed (number w.at_) w.listed)
-      where
-        w : Numbered r
-        w = numbered r c
+  first_candidate : ((x : Ready) → Has successors x → ⊥) → (x : Ready) → Has later x → ((y : Ready) → Has later y → is_gt (by_turn x y) ≡ false) → (q : List ℕ) → HasPoint new.tree.tasks x.number (written q) → IsNext P s n q
+  first_candidate none x h least q has = is_candidate (none_listed none) (candidate_told core x.number q has (ready_now.only x h).1, λ r c ne. before_it r c ne)
+    where
+      before_it : (r : List ℕ) → Candidate P n r → r ≢ q → GoesBefore n q r
+      before_it r c ne =
+          let w = number_at core r c.task c.can.at_ in
+          let y = ready_now.all w.0 (candidate_tells core w.0 r w.1 c) in
+          goes x y.0 q r (ready_now.only x h).0 (ready_now.only y.0 y.1).0 has (subst (λ (m : ℕ). HasPoint new.tree.tasks m (written r)) (sym y.2) w.1) ne (least y.0 y.1)
 
-        out : (other : Rank) → IsRank new flags w.at_ other → IsLower other one.rank → GoesBefore n q r
-        out other is (inl (f, g)) = absurd (never (alike w.at_ other w.has is ∙ g) f)
-        out other is (inr (f, l)) = less_goes r w.at_ other.priority w.has is.priority l
-
-        go : Placed (number w.at_) → GoesBefore n q r
-        go (outranked x) = out x.0 x.1 x.2
-        go (itself e) = absurd (ne (path_is (subst (λ (t : TaskNo). HasPoint new.tree.tasks t.0 (written r)) e w.has) has))
-        go (behind x order) = same_goes r w.at_ x.0.priority w.has x.1.priority (λ l. x.2 (inr (sym (alike w.at_ x.0 w.has x.1), l))) (order r w.has)
-
-    chosen : Candidate P n q
-    chosen = candidate_told core one.task.0 q has (are.may one.task (subst (IsIn one.task) (sym h.split) (in_rest h.front (one.task ∷ h.back) here)))
-
-    is_next : IsNext P s n q
-    is_next = go (flag one.rank.successor)
-      where
-        down : (v : ℕ) (r : List ℕ) (other : Rank) → HasPoint new.tree.tasks v (written r) → IsRank new flags v other → Successor P s n r → other.successor ≡ true
-        down v r other there_ is x = is.successor.1 (waited v r there_ x)
-
-        none : one.rank.successor ≡ false → (r : List ℕ) → Successor P s n r → ⊥
-        none f r x = never_placed (placed (number w.at_) w.listed)
-          where
-            w : Numbered r
-            w = numbered r x.candidate
-
-            lower : (other : Rank) → IsRank new flags w.at_ other → IsLower other one.rank → ⊥
-            lower other is (inl (g, e)) = never e f
-            lower other is (inr (g, l)) = never (sym g ∙ down w.at_ r other w.has is x) f
-
-            never_placed : Placed (number w.at_) → ⊥
-            never_placed (outranked y) = lower y.0 y.1 y.2
-            never_placed (itself e) = never (down w.at_ r one.rank w.has (subst (λ (t : TaskNo). IsRank new flags t.0 one.rank) (sym e) h.rank) x) f
-            never_placed (behind y order) = y.2 (inl (f, down w.at_ r y.0 w.has y.1 x))
-
-        go : (one.rank.successor ≡ true) ⊎ (one.rank.successor ≡ false) → IsNext P s n q
-        go (inl e) = is_successor (waits one.task.0 q has chosen (h.rank.successor.0 e), λ r x ne. goes_before r ne x.candidate (λ v other there_ is. down v r other there_ is x ∙ sym e))
-        go (inr f) = is_candidate (none f) (chosen, λ r c ne. goes_before r ne c (λ v other there_ is. up v r other there_ is c ∙ sym f))
-          where
-            up : (v : ℕ) (r : List ℕ) (other : Rank) → HasPoint new.tree.tasks v (written r) → IsRank new flags v other → Candidate P n r → other.successor ≡ false
-            up v r other there_ is c = pick (flag other.successor)
-              where
-                pick : (other.successor ≡ true) ⊎ (other.successor ≡ false) → other.successor ≡ false
-                pick (inl e) = absurd (none f r (waits v r there_ c (is.successor.0 e)))
-                pick (inr e) = e
-
-  -- the best is the next, and without one there is no candidate
-  pub best_next : (best : Option Chosen) → IsBestOf new flags now best → IsNextTask (option_task best) P new.tree.tasks s n
-  best_next None e = λ q c. let w = numbered q c in elim (subst (IsIn (number w.at_)) e w.listed) [ ]
-  best_next (Some one) h =
-      let t = step_told core one.task.0 (are.may one.task (subst (IsIn one.task) (sym h.split) (in_rest h.front (one.task ∷ h.back) here))) in
-      (t.0, t.2, is_next one h t.0 t.2)
-
--- flags
-
--- a flag more, which is down
-pub flag_more : (n : ℕ) (flags : List Bool) → AreFlags n [] flags → AreFlags (n + 1) [] (flags ++ false ∷ [])
-flag_more n flags f = record { size = let l = longer_by flags false in let s = f.size in omega (arith, l, s); told = λ v l. (λ e. absurd (down v l (get_added flags false v true e)), λ i. elim i [ ]) }
-  where
-    down : (v : ℕ) → v < n + 1 → (slice_get flags v ≡ Some true) ⊎ ((v ≡ length flags) × (true ≡ false)) → ⊥
-    down v l (inl e) = let i = (f.told v (let m = slice_get_within flags v true e in let s = f.size in omega (arith, m, s))).0 e in elim i [ ]
-    down v l (inr e) = let g : true ≡ false = e.1 in cc
-
--- the flag of one more task goes up
-pub flag_up : (n : ℕ) (able : List TaskNo) (task : TaskNo) (flags : List Bool) → task.0 < n → AreFlags n able flags → AreFlags n (able ++ task ∷ []) (slice_set flags task.0 true)
-flag_up n able task flags l f = record { size = size ∙ f.size; told = λ v m. told v m (which v task.0) }
-  where
-    size : length (slice_set flags task.0 true) ≡ length flags
-    size = length-set flags task.0 true
-
-    was : (b : Bool) × (slice_get flags task.0 ≡ Some b)
-    was = there_is flags task.0 (subst (λ (k : ℕ). task.0 < k) (sym f.size) l)
-
-    own : slice_get (slice_set flags task.0 true) task.0 ≡ Some true
-    own = get_set_same flags task.0 was.0 true was.1
-
-    last : (v : ℕ) → (number v ≡ task) ⊎ IsIn (number v) [] → v ≡ task.0
-    last v (inl e) = ap (λ (t : TaskNo). t.0) e
-    last v (inr i) = elim i [ ]
-
-    told : (v : ℕ) → v < n → (v ≡ task.0) ⊎ (v ≡ task.0 → ⊥) → (slice_get (slice_set flags task.0 true) v ≡ Some true) ↔ IsIn (number v) (able ++ task ∷ [])
-    told v m (inl e) = (
-      λ h. in_rest able (task ∷ []) (subst (λ (t : TaskNo). IsIn t (task ∷ [])) (ap number (sym e)) here),
-      λ i. subst (λ (k : ℕ). slice_get (slice_set flags task.0 true) k ≡ Some true) (sym e) own,
-    )
-    told v m (inr ne) = (λ h. in_front able (task ∷ []) ((f.told v m).0 (sym (get_set_other flags task.0 v true ne) ∙ h)), λ i. other (in_either able (task ∷ []) i))
-      where
-        other : IsIn (number v) able ⊎ IsIn (number v) (task ∷ []) → slice_get (slice_set flags task.0 true) v ≡ Some true
-        other (inl i) = get_set_other flags task.0 v true ne ∙ (f.told v m).1 i
-        other (inr i) = absurd (ne (last v (in_cases i)))
+  -- the one that is chosen is the next, and without one there is no candidate
+  pub chosen_next : (next : Option TaskNo) → IsChosen successors later next → IsNextTask next P new.tree.tasks s n
+  chosen_next None (a, b) = λ q c.
+      let w = number_at core q c.task c.can.at_ in
+      let y = ready_now.all w.0 (candidate_tells core w.0 q w.1 c) in
+      b y.0 y.1
+  chosen_next (Some t) (inl (x, e, h, least)) =
+      let p = path_at x (successor_is x h) in
+      (p.0, subst (λ (m : ℕ). HasPoint new.tree.tasks m (written p.0)) e p.1, first_successor x h least p.0 p.1)
+  chosen_next (Some t) (inr (none, (x, e, h, least))) =
+      let p = path_at x (ready_now.only x h).0 in
+      (p.0, subst (λ (m : ℕ). HasPoint new.tree.tasks m (written p.0)) e p.1, first_candidate none x h least p.0 p.1)
 
 -- a member of a list by its place
 pub in_list : (list : List TaskNo) (i : ℕ) (d : TaskNo) → i < length list → IsIn (get_or list i d) list
@@ -352,30 +261,87 @@ in_list [] i d l = absurd (omega (arith, l))
 in_list (x ∷ list) zero d l = here
 in_list (x ∷ list) (suc i) d l = there (in_list list i d (omega (arith, l)))
 
--- a flag that is down, as it is read
-pub waited_told : (flags : List Bool) (v : ℕ) (b : Bool) → slice_get flags v ≡ Some b → (IsTrue (not b) ↔ (slice_get flags v ≡ Some false))
-waited_told flags v true e = (λ t. absurd cc, λ f. let g : Some true ≡ Some false = sym e ∙ f in cc)
-waited_told flags v false e = (λ t. e, λ f. refl)
+-- the successors, one after the other
 
-pub lower_told : (a b : Rank) (test : Bool) → a.successor ≡ b.successor → (IsTrue test ↔ (a.priority <ℤ b.priority)) → (IsTrue test ↔ IsLower a b)
-lower_told a b test e is = (λ t. inr (e, is.0 t), λ h. go h)
+-- nobody as yet
+pub no_successors : (k : Kept) (before : Before) (queue empty : BTreeSet Ready) → empty.keys ≡ [] → AreSuccessors k before queue [] empty
+no_successors k before queue empty e = record { only = λ one h. absurd (none_has empty e one h); all = λ v i. elim i [ ] }
+
+-- one more task is looked at
+pub more_successors : (k : Kept) (before : Before) (queue : BTreeSet Ready) (free : List TaskNo) (task : TaskNo) (old new : BTreeSet Ready) → AreSuccessors k before queue free old → AddsSuccessor k before queue task old new → AreSuccessors k before queue (free ++ task ∷ []) new
+more_successors k before queue free task old new are (one, is, inr (none, unchanged)) = subst (λ (s : BTreeSet Ready). AreSuccessors k before queue (free ++ task ∷ []) s) (sym unchanged) (record {
+  only = λ x h. let y = are.only x h in (y.0, in_front free (task ∷ []) y.1, y.2, y.3);
+  all = λ v i waits. every v (in_either free (task ∷ []) i) waits;
+})
   where
-    go : IsLower a b → IsTrue test
-    go (inl x) = absurd (never (e ∙ x.1) x.0)
-    go (inr x) = is.1 x.1
+    last : (v : TaskNo) → (v ≡ task) ⊎ IsIn v [] → ((x : Ready) → IsTask k v.0 x → HasWaited before queue v.0 x) → ⊥
+    last v (inl e) waits = none (subst (λ (t : TaskNo). HasWaited before queue t.0 one) e (waits one (subst (λ (t : TaskNo). IsTask k t.0 one) (sym e) is)))
+    last v (inr i) waits = elim i [ ]
 
-pub lower_apart : (a b : Rank) → a.successor ≢ b.successor → (IsTrue b.successor ↔ IsLower a b)
-lower_apart a b ne = go a.successor b.successor refl refl
+    every : (v : TaskNo) → IsIn v free ⊎ IsIn v (task ∷ []) → ((x : Ready) → IsTask k v.0 x → HasWaited before queue v.0 x) → (x : Ready) × Has old x × (x.number ≡ v.0)
+    every v (inl i) waits = are.all v i waits
+    every v (inr i) waits = absurd (last v (in_cases i) waits)
+more_successors k before queue free task old new are (one, is, inl (waits, added)) = record { only = λ x h. only x ((added x).0 h); all = λ v i w. every v (in_either free (task ∷ []) i) w }
   where
-    go : (x y : Bool) → x ≡ a.successor → y ≡ b.successor → (IsTrue b.successor ↔ IsLower a b)
-    go true true e f = absurd (ne (sym e ∙ f))
-    go false false e f = absurd (ne (sym e ∙ f))
-    go false true e f = (λ t. inl (sym e, sym f), λ h. sym f)
-    go true false e f = (λ t. absurd (never t (sym f)), λ h. absurd (neither h))
-      where
-        neither : IsLower a b → ⊥
-        neither (inl x) = never (sym e) x.0
-        neither (inr x) = ne x.0
+    only : (x : Ready) → (x ≡ one) ⊎ Has old x → (v : TaskNo) × IsIn v (free ++ task ∷ []) × IsTask k v.0 x × HasWaited before queue v.0 x
+    only x (inl e) = (task, in_rest free (task ∷ []) here, subst (λ (y : Ready). IsTask k task.0 y) (sym e) is, subst (λ (y : Ready). HasWaited before queue task.0 y) (sym e) waits)
+    only x (inr h) = let y = are.only x h in (y.0, in_front free (task ∷ []) y.1, y.2, y.3)
 
-pub no_flags : AreFlags 0 [] []
-no_flags = record { size = refl; told = λ v l. absurd (omega (arith, l)) }
+    last : (v : TaskNo) → (v ≡ task) ⊎ IsIn v [] → (x : Ready) × Has new x × (x.number ≡ v.0)
+    last v (inl e) = (one, (added one).1 (inl refl), is.number ∙ sym (ap (λ (t : TaskNo). t.0) e))
+    last v (inr i) = elim i [ ]
+
+    every : (v : TaskNo) → IsIn v free ⊎ IsIn v (task ∷ []) → ((x : Ready) → IsTask k v.0 x → HasWaited before queue v.0 x) → (x : Ready) × Has new x × (x.number ≡ v.0)
+    every v (inl i) w = let y = are.all v i w in (y.0, (added y.0).1 (inr y.1), y.2)
+    every v (inr i) w = last v (in_cases i)
+
+-- the queue, one after the other
+
+pub none_added : (k : Kept) (queue : BTreeSet Ready) → AreAdded k [] queue queue
+none_added k queue = record { only = λ one h. inl h; kept = λ one h. h; all = λ v i. elim i [ ] }
+
+pub more_added : (k : Kept) (free : List TaskNo) (task : TaskNo) (one : Ready) (first old new : BTreeSet Ready) → AreAdded k free first old → IsTask k task.0 one → ((x : Ready) → Has new x ↔ ((x ≡ one) ⊎ Has old x)) → AreAdded k (free ++ task ∷ []) first new
+more_added k free task one first old new are is added = record { only = λ x h. only x ((added x).0 h); kept = λ x h. (added x).1 (inr (are.kept x h)); all = λ v i. every v (in_either free (task ∷ []) i) }
+  where
+    before_ : (x : Ready) → Has first x ⊎ ((v : TaskNo) × IsIn v free × IsTask k v.0 x) → Has first x ⊎ ((v : TaskNo) × IsIn v (free ++ task ∷ []) × IsTask k v.0 x)
+    before_ x (inl h) = inl h
+    before_ x (inr (v, i, t)) = inr (v, in_front free (task ∷ []) i, t)
+
+    only : (x : Ready) → (x ≡ one) ⊎ Has old x → Has first x ⊎ ((v : TaskNo) × IsIn v (free ++ task ∷ []) × IsTask k v.0 x)
+    only x (inl e) = inr (task, in_rest free (task ∷ []) here, subst (λ (y : Ready). IsTask k task.0 y) (sym e) is)
+    only x (inr h) = before_ x (are.only x h)
+
+    last : (v : TaskNo) → (v ≡ task) ⊎ IsIn v [] → (x : Ready) × Has new x × (x.number ≡ v.0)
+    last v (inl e) = (one, (added one).1 (inl refl), is.number ∙ sym (ap (λ (t : TaskNo). t.0) e))
+    last v (inr i) = elim i [ ]
+
+    every : (v : TaskNo) → IsIn v free ⊎ IsIn v (task ∷ []) → (x : Ready) × Has new x × (x.number ≡ v.0)
+    every v (inl i) = let y = are.all v i in (y.0, (added y.0).1 (inr y.1), y.2)
+    every v (inr i) = last v (in_cases i)
+
+-- the first queue
+
+-- a core without tasks, in which nobody can act
+abbrev pub without_tasks : Kept → Kept
+without_tasks k = record { tasks = []; tree = k.tree; seen = k.seen; cells = k.cells }
+
+pub nobody_acts : (k : Kept) (v : ℕ) → CanAct (without_tasks k) v → ⊥
+nobody_acts k v can = let e = can.is in cc
+
+pub first_ready : (k from : Kept) → ((v : ℕ) → CanAct from v → ⊥) → (free : List TaskNo) (empty queue : BTreeSet Ready) → empty.keys ≡ [] → AreFree k free → ((v : ℕ) → CanAct k v → IsIn (number v) free ⊎ StoodAside from 0 v) → AreAdded k free empty queue → AreReady k queue
+first_ready k from nobody free empty queue e are_free all added = record { only = λ one h. only one (added.only one h); all = λ v can. every v (all v can) }
+  where
+    only : (one : Ready) → Has empty one ⊎ ((v : TaskNo) × IsIn v free × IsTask k v.0 one) → IsTask k one.number one × CanAct k one.number
+    only one (inl h) = absurd (none_has empty e one h)
+    only one (inr (v, i, is)) = (subst (λ (m : ℕ). IsTask k m one) (sym is.number) is, subst (CanAct k) (sym is.number) (are_free v i))
+
+    every : (v : ℕ) → IsIn (number v) free ⊎ StoodAside from 0 v → (one : Ready) × Has queue one × (one.number ≡ v)
+    every v (inl i) = added.all (number v) i
+    every v (inr a) = absurd (nobody v a.0)
+
+-- those that can act are tasks of the core
+pub free_there : {code : CodeParts} {k : Kept} → IsRunning code k → (free : List TaskNo) → AreFree k free → (v : TaskNo) → IsIn v free → v.0 < length k.tree.tasks
+free_there {k = k} running free are v i = let m = are v i in subst (λ (n : ℕ). v.0 < n) (sym (sizes running.core)) (slice_get_within k.tasks v.0 m.held m.is)
+
+pub free_held : (k : Kept) (free : List TaskNo) → AreFree k free → (v : TaskNo) → IsIn v free → v.0 < length k.tasks
+free_held k free are v i = let m = are v i in slice_get_within k.tasks v.0 m.held m.is

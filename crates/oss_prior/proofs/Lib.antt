@@ -3,3 +3,4 @@ pub mod PassingLemmas
 pub mod ChoosingLemmas
 pub mod TurnLemmas
 pub mod RunLemmas
+pub mod ReadyLemmas

@@ -1,5 +1,5 @@
 -- Passes, one after the other.
-use Rattle.std.proofs.Common.{◌≡◌, ℕ, zero, suc, ◌<◌, ◌↔◌, ◌⊎◌, inl, inr, refl, sym, ap, subst, arith, List, [], ◌∷◌, ◌++◌, length, Bool, true, false, Some, append_assoc}
+use Rattle.std.proofs.Common.{◌≡◌, ℕ, zero, suc, ◌<◌, ◌↔◌, ◌⊎◌, inl, inr, refl, sym, ap, ◌∙◌, subst, arith, List, [], ◌∷◌, ◌++◌, length, Bool, true, false, Some, append_assoc}
 use Rattle.std.specs.Prelude.{◌==◌, not, slice_get}
 use Rattle.std.proofs.lemmas.Bool.Decides.{nat_tests}
 use Rattle.std.proofs.lemmas.List.{append-nil}
@@ -21,8 +21,9 @@ use Rattle.oss_core.specs.Turns.{KeepsTasks}
 use Rattle.oss_core.proofs.ExactLemmas.{let_told}
 use Rattle.oss_core.proofs.FallLemmas.{core_passes_fall}
 use Rattle.oss_core.proofs.PassLemmas.{idle_pass, none_told}
-use Rattle.oss_wakeups.specs.declared.watch.Watch.{Watch}
-use Rattle.oss_wakeups.specs.Watches.{HasNoLet, IsBehindPass, IsWatch}
+use Rattle.oss_kept_tasks.specs.declared.held.Held.{Held}
+use Rattle.oss_wakeups.specs.Watches.{HasNoLet, IsPassOf}
+use Rattle.oss_prior.specs.Choosing.{KeepsBodies, KeepsOthers}
 use Rattle.oss_prior.specs.Turning.{HasMadePass, HasMadePasses, HavePassesGone, IsAtRest}
 
 -- where nothing is told nothing was given up
@@ -151,9 +152,27 @@ passed_running code old new told running passed =
     let p = passed running.main running.first running.state running.core in
     record { main = running.main; first = running.first; state = p.0; core = p.4 }
 
--- and it was right before who is awake
-pub behind_pass : (code : CodeParts) (old new : Kept) (told : List Passed) (w : Watch) → IsRunning code old → IsWatch old w → HaveGivenUp told old new → HaveGiven old.tree.tasks new.tree.tasks → IsBehindPass told new w
-behind_pass code old new told w running watch given tasks = record { code = code; before = old; ran = running; watch = watch; pass = record { given_up = given; tasks = tasks } }
+-- a pass leaves each body as it is
+pub pass_of : (old new : Kept) (told : List Passed) → HaveGivenUp told old new → HaveGiven old.tree.tasks new.tree.tasks → IsPassOf told old new
+pass_of old new told given tasks = record { given_up = given; tasks = tasks }
+
+pub given_bodies : (old new : Kept) (told : List Passed) → HaveGivenUp told old new → KeepsBodies old new
+given_bodies old new told given v held e = let g = given.held v held e in (g.0, g.1, g.2.body)
+
+pub bodies_stay : (k : Kept) → KeepsBodies k k
+bodies_stay k v held e = (held, e, refl)
+
+pub bodies_then : (old mid new : Kept) → KeepsBodies old mid → KeepsBodies mid new → KeepsBodies old new
+bodies_then old mid new a b v held e =
+    let x = a v held e in
+    let y = b v x.0 x.1 in
+    (y.0, y.1, y.2 ∙ x.2)
+
+pub others_then : (task : ℕ) (old mid new : Kept) → KeepsOthers task old mid → KeepsBodies mid new → KeepsOthers task old new
+others_then task old mid new a b = record { body = λ v held n e. go v held (a.body v held n e) }
+  where
+    go : (v : ℕ) (held : Held) → (x : Held) × (slice_get mid.tasks v ≡ Some x) × (x.body ≡ held.body) → (after : Held) × (slice_get new.tasks v ≡ Some after) × (after.body ≡ held.body)
+    go v held (x, e, f) = let y = b v x e in (y.0, y.1, y.2 ∙ f)
 
 -- at rest no cell may be given up by a let
 pub rest_quiet : (code : CodeParts) (old new : Kept) → IsRunning code old → HasMadePasses code old new → HasNoLet new

@@ -6,7 +6,7 @@ use Rattle.std.proofs.lemmas.Option.{slice_get_within}
 use Rattle.oss_model.specs.declared.answer.Answer.{Answer}
 use Rattle.oss_model.specs.Answers.{IsAnswer, IsResult}
 use Rattle.oss_model.specs.Bodies.{Start}
-use Rattle.oss_model.specs.Machine.{State}
+use Rattle.oss_model.specs.Machine.{At, State, Task, find}
 use Rattle.oss_model.specs.Moves.{opening}
 use Rattle.oss_model.specs.Order.{written}
 use Rattle.oss_model.specs.Sequence as sequence
@@ -22,8 +22,10 @@ use Rattle.oss_tree.specs.Tasks.{number}
 use Rattle.oss_core.specs.CoreLeft.{core_left}
 use Rattle.oss_core.specs.Kept.{IsCore, IsRunning, Kept}
 use Rattle.oss_core.proofs.CoreLeftLemmas.{tasks_counted}
+use Rattle.oss_core.proofs.ExactLemmas.{let_told}
 use Rattle.oss_core.proofs.FallLemmas.{begun, falls_with}
 use Rattle.oss_core.proofs.TreeFacts.{core_agrees}
+use Rattle.oss_wakeups.specs.Watches.{HasNoLet}
 use Rattle.oss_prior_laws.specs.Turns.{Turns, begun_by, ends, goes_on}
 use Rattle.oss_prior_laws.proofs.OneOrderLemmas.{next_candidate}
 use Rattle.oss_prior_laws.proofs.TurnsLemmas.{answer_is_the_result, turns_stop}
@@ -156,3 +158,12 @@ none_left (Some x) n = absurd (n x refl)
 -- main is there
 pub main_there : {code : CodeParts} {main : Start CodeScript} {first : List ℕ} {k : Kept} {s : State CodeScript} → IsCore code main first k s → 0 < length k.tree.tasks
 main_there {k = k} core = let p = main_point core in slice_get_within k.tree.tasks 0 p.task p.at_
+
+-- at the beginning no cell may be given up
+main_only : (main : Start CodeScript) (first p : List ℕ) (t : Task CodeScript) → main.path ≡ [] → At (opening main first) p t → p ≡ []
+unfolding find
+main_only main first [] t e a = refl
+main_only main first (j ∷ p) t e a = let b = rw e at a in absurd cc
+
+pub first_quiet : (code : CodeParts) (fuel : ℕ) (k : Kept) → IsCore code (code_main code fuel) code.first k (opening (code_main code fuel) code.first) → HasNoLet k
+first_quiet code fuel k core v c may = let l = let_told core v c may in l.3.not_main (main_only (code_main code fuel) code.first l.0 l.1 refl l.3.at_)

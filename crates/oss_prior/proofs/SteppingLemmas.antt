@@ -1,5 +1,5 @@
 -- The steps of one task, one after the other.
-use Rattle.std.proofs.Common.{◌≡◌, ℕ, zero, suc, ◌+◌, ◌-◌, ◌^◌, ◌<◌, refl, sym, ap, ◌∙◌, subst, arith, List, [], ◌∷◌, ◌++◌, append_assoc, length, min, true, false}
+use Rattle.std.proofs.Common.{◌≡◌, ℕ, zero, suc, ◌+◌, ◌-◌, ◌^◌, ◌<◌, ◌⊎◌, inl, inr, refl, sym, ap, ◌∙◌, subst, arith, List, [], ◌∷◌, ◌++◌, append_assoc, length, min, true, false}
 use Rattle.std.specs.Prelude.{slice_get}
 use Rattle.std.proofs.lemmas.List.{append-nil}
 use Rattle.std.proofs.lemmas.Option.{slice_get_within}
@@ -13,9 +13,10 @@ use Rattle.oss_code.specs.declared.code.CodeParts.{CodeParts}
 use Rattle.oss_machine.specs.Frames.{CodeScript}
 use Rattle.oss_machine.specs.Machines.{asks}
 use Rattle.oss_tree.specs.declared.task.Task.{Task as TreeTask}
-use Rattle.oss_tree.specs.Tasks.{HasPoint}
+use Rattle.oss_tree.specs.Tasks.{HasPoint, number}
 use Rattle.oss_tree.proofs.ListLemmas.{there_is}
 use Rattle.oss_enabled_moves.specs.Enabled.{MayStep}
+use Rattle.oss_core.specs.Awake.{IsStill}
 use Rattle.oss_core.specs.Acting.{HasActed, HasActedAlone}
 use Rattle.oss_core.specs.CoreLeft.{core_left}
 use Rattle.oss_core.specs.Kept.{IsCore, IsRunning, Kept}
@@ -25,7 +26,9 @@ use Rattle.oss_core.proofs.FallLemmas.{core_moves_fall}
 use Rattle.oss_core.proofs.KeepLemmas.{some_is}
 use Rattle.oss_core.proofs.TreeFacts.{at_number, one_path, sizes}
 use Rattle.oss_wakeups.specs.declared.watch.Watch.{Watch}
-use Rattle.oss_wakeups.specs.Watches.{IsBehindWave, IsWatch, IsWaveOf}
+use Rattle.oss_wakeups.specs.Asides.{CanAct, IsSetAside, IsWatchBut, StoodAside}
+use Rattle.oss_wakeups.specs.Watches.{IsWaveOf, MaySleep}
+use Rattle.oss_prior.specs.Choosing.{KeepsOthers}
 use Rattle.oss_prior.specs.Stepping.{HaveStepsLeft}
 use Rattle.oss_prior.specs.Turning.{HasMadeSteps, HaveStepsGone}
 
@@ -159,8 +162,26 @@ one_turn task acts turn old new e l left = record {
     first x here = refl
     first x (there i) = absurd (none x i)
 
-pub behind_steps : (code : CodeParts) (task : TaskNo) (acts : ℕ) (turn : Turn) (old new : Kept) (w : Watch) → turn.task.0 ≡ task.0 → 0 < acts → IsRunning code old → IsWatch old w → HaveStepsLeft task.0 acts old new → IsBehindWave (turn ∷ []) new w
-behind_steps code task acts turn old new w e l running watch left = record { code = code; before = old; ran = running; watch = watch; wave = one_turn task acts turn old new e l left }
+-- where no step was made none could be
+pub idle_steps : (code : CodeParts) (task : TaskNo) (old mid new : Kept) (acts : ℕ) → HaveStepsLeft task.0 acts old mid → HasActed false code task mid new → acts ≡ 0 → CanAct old task.0 → ⊥
+idle_steps code task old mid new acts left (none, same) e can = none (subst (λ (k : Kept). CanAct k task.0) (sym (left.still e)) can)
+
+-- and nothing is otherwise
+pub nothing_taken : (task : TaskNo) (acts : ℕ) (old new : Kept) (w : Watch) → acts ≡ 0 → HaveStepsLeft task.0 acts old new → (acts ≡ 0 → CanAct old task.0 → ⊥) → IsSetAside old w → IsWatchBut (StoodAside old task.0) new w
+nothing_taken task acts old new w e left idle was = subst (λ (k : Kept). IsWatchBut (StoodAside old task.0) k w) (sym (left.still e)) (record { apart = was.watch.apart; size = was.watch.size; ordered = was.watch.ordered; all = λ v l. go v (was.watch.all v l) })
+  where
+    go : (v : ℕ) → IsIn (number v) w.awake.items ⊎ (MaySleep old w v ⊎ (CanAct old v × IsStill old v)) → IsIn (number v) w.awake.items ⊎ (MaySleep old w v ⊎ (StoodAside old task.0 v × IsStill old v))
+    go v (inl i) = inl i
+    go v (inr (inl s)) = inr (inl s)
+    go v (inr (inr (can, s))) = inr (inr ((can, λ f. idle e (subst (CanAct old) f can)), s))
+
+-- a task that makes a step stood aside
+pub stood_aside : (task : TaskNo) (acts : ℕ) (old new : Kept) (w : Watch) → 0 < acts → HaveStepsLeft task.0 acts old new → IsSetAside old w → IsIn task w.awake.items → ⊥
+stood_aside task acts old new w l left was i = was.idle task i (left.may l)
+
+-- the bodies of the others stay
+pub alone_others : (v : ℕ) (old new : Kept) → HasActedAlone v old new → KeepsOthers v old new
+alone_others v old new alone = record { body = λ w held n e. (held, alone.held w (slice_get_within old.tasks w held e) n ∙ e, refl) }
 
 -- it is there
 pub still_there : (task : TaskNo) (acts : ℕ) (old new : Kept) → task.0 < length old.tree.tasks → HaveStepsLeft task.0 acts old new → task.0 < length new.tree.tasks

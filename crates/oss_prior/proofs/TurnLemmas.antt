@@ -1,6 +1,7 @@
 -- A turn: its steps, and the passes behind them.
-use Rattle.std.proofs.Common.{◌≡◌, ℕ, zero, suc, ◌<◌, inl, inr, refl, sym, ap, ◌∙◌, subst, arith, List, [], ◌∷◌, ◌++◌, length, Bool, false, Option, Some}
+use Rattle.std.proofs.Common.{◌≡◌, ℕ, zero, suc, ◌<◌, ◌⊎◌, inl, inr, refl, sym, ap, ◌∙◌, subst, arith, List, [], ◌∷◌, ◌++◌, length, Bool, false, Option, Some}
 use Rattle.std.specs.Prelude.{◌↔◌, IsTrue, map, slice_get}
+use Rattle.std.specs.BTreeSet.{BTreeSet}
 use Rattle.std.proofs.lemmas.List.{append-nil}
 use Rattle.std.proofs.lemmas.Option.{slice_get_within}
 use Rattle.oss_model.specs.Bodies.{Program}
@@ -14,20 +15,23 @@ use Rattle.oss_machine.specs.Frames.{CodeScript}
 use Rattle.oss_machine.specs.Machines.{asks}
 use Rattle.oss_body.specs.Relation.{has_begun}
 use Rattle.oss_body.specs.Relation as relation
+use Rattle.oss_tree.specs.Tasks.{HasPoint, number}
 use Rattle.oss_kept_tasks.specs.declared.held.Held.{Held}
 use Rattle.oss_enabled_moves.specs.Enabled.{MayStep}
-use Rattle.oss_core.specs.Kept.{IsCore, IsRunning, Kept}
-use Rattle.oss_core.specs.Steppers.{AreSteppers}
+use Rattle.oss_core.specs.Kept.{IsRunning, Kept}
 use Rattle.oss_core.specs.Turns.{KeepsTasks}
 use Rattle.oss_core.proofs.CoreLemmas.{held_at}
 use Rattle.oss_core.proofs.ExactLemmas.{step_tells}
-use Rattle.oss_core.proofs.TreeFacts.{at_place, sizes}
+use Rattle.oss_core.proofs.TreeFacts.{at_place, point_unique, sizes}
+use Rattle.oss_wakeups.specs.Asides.{AreFree, CanAct, StoodAside}
+use Rattle.oss_prior_laws.proofs.CandidateLemmas.{candidates_stay}
 use Rattle.oss_prior_laws.specs.Turns.{answers_of, begun_by, first_step}
-use Rattle.oss_prior.specs.declared.choosing.Chosen.{Chosen}
-use Rattle.oss_prior.specs.Choosing.{AreFlags, IsBestOf, option_task}
+use Rattle.oss_prior.specs.declared.choosing.Before.{Before}
+use Rattle.oss_prior.specs.declared.ready.Ready.{Ready}
+use Rattle.oss_prior.specs.Choosing.{AreAdded, AreReady, AreSuccessors, Has, IsChosen, IsTask, KeepsOthers}
 use Rattle.oss_prior.specs.Stepping.{HasNoted, MayBegin}
 use Rattle.oss_prior.specs.Turning.{HasMadePasses, HasMadeSteps, HasMadeTurn, HasTakenTurn, PassesMade, StepsGo, StepsMade}
-use Rattle.oss_prior.proofs.ChoosingLemmas.{best_next, candidate_told, task_at}
+use Rattle.oss_prior.proofs.ChoosingLemmas.{candidate_tells, candidate_told, chosen_next, ready_now, task_at}
 use Rattle.oss_prior.proofs.SteppingLemmas.{path_of, point_is}
 
 -- no steps leave the state as it is
@@ -118,18 +122,37 @@ turn_running code task old new before after running l made =
     let t = made running.main running.first running.state p.0 running.core p.1 in
     record { main = running.main; first = running.first; state = t.state; core = t.core }
 
--- a turn, and whose the next is
-pub turn_taken : (code : CodeParts) (task : TaskNo) (old mid new : Kept) (before after : List (List ℕ)) (able now : List TaskNo) (count : ℕ) (flags : List Bool) (best : Option Chosen) → HasMadeTurn code task old mid before after → new ≡ mid
-    → KeepsTasks old.tree.tasks mid.tree.tasks → AreSteppers old able → AreSteppers mid now → count ≡ length old.tree.tasks → AreFlags count able flags → IsBestOf new flags now best → HasTakenTurn code task old new before after (option_task best)
-turn_taken code task old mid new before after able now count flags best made same keeps were are count_is are_flags is_best main first s p core point =
-    let t = made main first s p core point in
-    let there_ : IsCore code main first new t.state = subst (λ (k : Kept). IsCore code main first k t.state) (sym same) t.core in
-    record {
-      made = record { state = t.state; steps = t.steps; turn = t.turn; core = there_; noted = t.noted };
-      next_is = best_next old new s t.state core there_ (subst (λ (k : Kept). KeepsTasks old.tree.tasks k.tree.tasks) (sym same) keeps) able now were (subst (λ (k : Kept). AreSteppers k now) (sym same) are) flags
-          (subst (λ (n : ℕ). AreFlags n able flags) count_is are_flags) best is_best;
-    }
+-- who stood aside can act behind the turn
+pub stays_able : (code : CodeParts) (task : TaskNo) (old new : Kept) (before after : List (List ℕ)) → IsRunning code old → task.0 < length old.tree.tasks → HasMadeTurn code task old new before after → KeepsTasks old.tree.tasks new.tree.tasks → (v : ℕ) → StoodAside old task.0 v → CanAct new v
+stays_able code task old new before after running l made keeps v (can, ne) =
+    let main = running.main in
+    let first = running.first in
+    let p = path_of running.core task.0 l in
+    let t = made main first running.state p.0 running.core p.1 in
+    let q = path_of running.core v (subst (λ (n : ℕ). v < n) (sym (sizes running.core)) (slice_get_within old.tasks v can.held can.is)) in
+    let c = candidate_told running.core v q.0 q.1 can in
+    let other : q.0 ≡ p.0 → ⊥ = λ e. ne (point_unique running.core v task.0 (written p.0) (subst (λ (r : List ℕ). HasPoint old.tree.tasks v (written r)) e q.1) p.1) in
+    let d = candidates_stay CodeScript (asks code) main first running.state t.state p.0 t.steps q.0 running.core.setting running.core.reached t.turn other c in
+    candidate_tells t.core v q.0 (keeps.points v (written q.0) q.1) d
 
--- the tasks that may step are there
-pub steppers_there : (k : Kept) (list : List TaskNo) → AreSteppers k list → (v : TaskNo) → IsIn v list → v.0 < length k.tasks
-steppers_there k list are v i = let m = are.may v i in slice_get_within k.tasks v.0 m.held m.is
+-- a turn, and whose the next is
+module _ (code : CodeParts) (task : TaskNo) (old new : Kept) (running : IsRunning code old) (l : task.0 < length old.tree.tasks) (before after : List (List ℕ)) (made : HasMadeTurn code task old new before after) (keeps : KeepsTasks old.tree.tasks new.tree.tasks) (others : KeepsOthers task.0 old new)
+    (stood : Before) (count_is : stood.count ≡ length old.tree.tasks) (task_is : stood.task ≡ task) (first_queue queue later successors : BTreeSet Ready) (ready : AreReady old first_queue) (own : Ready) (own_is : IsTask old task.0 own)
+    (able : IsTrue stood.able ↔ Has first_queue own) (left : (x : Ready) → Has queue x ↔ (Has first_queue x × (x ≡ own → ⊥))) (free : List TaskNo) (are_free : AreFree new free) (all : (v : ℕ) → CanAct new v → IsIn (number v) free ⊎ StoodAside old task.0 v)
+    (are : AreSuccessors new stood queue free successors) (added : AreAdded new free queue later) where
+  stay : (v : ℕ) → StoodAside old task.0 v → CanAct new v
+  stay = stays_able code task old new before after running l made keeps
+
+  pub turn_taken : (next : Option TaskNo) → IsChosen successors later next → HasTakenTurn code task old new before after next
+  turn_taken next chosen main first s p core point =
+      let t = made main first s p core point in
+      record {
+        made = t;
+        next_is = chosen_next old new s t.state core t.core keeps task others stay stood count_is task_is first_queue queue later successors ready own own_is able left free are_free all are added next chosen;
+      }
+
+  pub turn_ready : AreReady new later
+  turn_ready =
+      let p = path_of running.core task.0 l in
+      let t = made running.main running.first running.state p.0 running.core p.1 in
+      ready_now old new running.state t.state running.core t.core keeps task others stay stood count_is task_is first_queue queue later successors ready own own_is able left free are_free all are added

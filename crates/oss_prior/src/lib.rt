@@ -3,6 +3,7 @@
 
 mod choosing;
 mod passing;
+mod ready;
 mod run;
 mod stepping;
 mod turning;

@@ -4,7 +4,8 @@ ghost use Rattle.std.specs.Prelude.{◌≡◌, ◌<◌, ℕ, length, IfOk, OnOk}
 ghost use Rattle.oss_core.specs.Cores.{kept_of, tasks_in};
 ghost use Rattle.oss_core.specs.Kept.{IsRunning};
 ghost use Rattle.oss_core.specs.Turns.{KeepsTasks};
-ghost use Rattle.oss_wakeups.specs.Watches.{IsWatch};
+ghost use Rattle.oss_wakeups.specs.Asides.{CanAct, IsSetAside, IsWatchBut, StoodAside};
+ghost use Rattle.oss_prior.specs.Choosing.{KeepsOthers};
 ghost use Rattle.oss_prior.specs.Stepping.{HaveStepsLeft};
 ghost use Rattle.oss_prior.specs.Turning.{HasMadeSteps};
 
@@ -24,6 +25,7 @@ fn steps<D: Deps>(core: &mut Core<D>, code: &Code, task: TaskNo) -> Result<u64, 
         core.new) acts) }
     ensures left { IfOk result (λ acts. HaveStepsLeft task.0 acts (kept_of D.seen core.old) (kept_of D.seen
         core.new)) }
+    ensures idle { IfOk result (λ acts. acts ≡ 0 → CanAct (kept_of D.seen core.old) task.0 → ⊥) }
 {
     let mut acts: u64 = 0;
     'steps: loop {
@@ -34,8 +36,8 @@ fn steps<D: Deps>(core: &mut Core<D>, code: &Code, task: TaskNo) -> Result<u64, 
     }
 }
 
-/// A task makes steps as long as it can, and those that waited for its end are awake then. After out of memory the
-/// core is given up.
+/// A task makes steps as long as it can; then it is awake, and so are those that waited for its end. Condition: each
+/// task that can step stands aside. After out of memory the core is given up.
 pub(crate) fn step_all<D: Deps>(
     core: &mut Core<D>,
     code: &Code,
@@ -43,18 +45,18 @@ pub(crate) fn step_all<D: Deps>(
     task: TaskNo,
 ) -> Result<(), AllocError>
     requires running { IsRunning code.now (kept_of D.seen core.old) }
-    requires watch { IsWatch (kept_of D.seen core.old) watch.old }
+    requires watch { IsSetAside (kept_of D.seen core.old) watch.old }
     requires there { task.0 < length (tasks_in core.old) }
     ensures made { OnOk result ((acts : ℕ) × HasMadeSteps code.now task (kept_of D.seen core.old) (kept_of D.seen
         core.new) acts) }
-    ensures watch { OnOk result (IsWatch (kept_of D.seen core.new) watch.new) }
+    ensures watch { OnOk result (IsWatchBut (StoodAside (kept_of D.seen core.old) task.0) (kept_of D.seen core.new)
+        watch.new) }
     ensures keeps { OnOk result (KeepsTasks (tasks_in core.old) (tasks_in core.new)) }
+    ensures others { OnOk result (KeepsOthers task.0 (kept_of D.seen core.old) (kept_of D.seen core.new)) }
 {
     let acts = steps(core, code, task)?;
     if acts == 0 {
         return Ok(());
     }
-    let turns = [Turn { task, acts }];
-    watch.after_wave(core, &turns)?;
-    Ok(())
+    watch.after_turn(core, Turn { task, acts })
 }

@@ -5,7 +5,9 @@ ghost use Rattle.oss_code.specs.declared.code.CodeParts.{CodeParts};
 ghost use Rattle.oss_core.specs.Cores.{kept_of, tasks_in};
 ghost use Rattle.oss_core.specs.Kept.{IsRunning};
 ghost use Rattle.oss_core.specs.Turns.{KeepsTasks};
-ghost use Rattle.oss_wakeups.specs.Watches.{IsWatch};
+ghost use Rattle.oss_wakeups.specs.Asides.{IsSetAside, IsWatchBut, StoodAside};
+ghost use Rattle.oss_wakeups.specs.Watches.{HasNoLet};
+ghost use Rattle.oss_prior.specs.Choosing.{KeepsOthers};
 ghost use Rattle.oss_prior.specs.Stepping.{HasNoted, MayBegin};
 ghost use Rattle.oss_prior.specs.Turning.{HasMadeTurn};
 
@@ -55,8 +57,8 @@ fn begin<D: Deps, G: Gate>(
 }
 
 /// A turn of a task: it makes steps as long as it can, and then what may be given up is given up, until a pass gives
-/// nothing up. Its point is noted where it makes its first step. Condition: each task that may do something is
-/// awake. After out of memory the core is given up.
+/// nothing up. Its point is noted where it makes its first step. Condition: each task that can step stands
+/// aside. After out of memory the core is given up.
 pub(crate) fn turn<D: Deps, G: Gate>(
     core: &mut Core<D>,
     code: &Code,
@@ -66,15 +68,17 @@ pub(crate) fn turn<D: Deps, G: Gate>(
     order: &mut List<Point>,
 ) -> Result<(), AllocError>
     requires running { IsRunning code.now (kept_of D.seen core.old) }
-    requires watch { IsWatch (kept_of D.seen core.old) watch.old }
+    requires watch { IsSetAside (kept_of D.seen core.old) watch.old }
     requires there { task.0 < length (tasks_in core.old) }
     ensures made { OnOk result (HasMadeTurn code.now task (kept_of D.seen core.old) (kept_of D.seen core.new)
         order.old order.new) }
-    ensures watch { OnOk result (IsWatch (kept_of D.seen core.new) watch.new) }
+    ensures watch { OnOk result (IsWatchBut (StoodAside (kept_of D.seen core.old) task.0) (kept_of D.seen core.new)
+        watch.new) }
+    ensures quiet { OnOk result (HasNoLet (kept_of D.seen core.new)) }
     ensures keeps { OnOk result (KeepsTasks (tasks_in core.old) (tasks_in core.new)) }
+    ensures others { OnOk result (KeepsOthers task.0 (kept_of D.seen core.old) (kept_of D.seen core.new)) }
 {
     begin(core, gate, task, order)?;
     step_all(core, code, watch, task)?;
-    pass_all(core, code, watch)?;
-    watch.rest(core)
+    pass_all(core, code, watch)
 }

@@ -7,3 +7,4 @@ pub mod RestLemmas
 pub mod RoundLemmas
 pub mod SleepLemmas
 pub mod AboveLemmas
+pub mod AsideLemmas

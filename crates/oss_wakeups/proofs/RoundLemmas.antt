@@ -62,7 +62,7 @@ has_givers k w a = record { ordered = a.ordered; there = λ v i. subst (λ (n : 
     go v (inr s) = inr (asleep v s)
 
 -- lists in another order
-sorted_apart : (tasks : List TreeTask) (old new : Watch) → HasSorted tasks old new → length old.asleep.items ≡ length tasks → IsApart old → IsApart new
+pub sorted_apart : (tasks : List TreeTask) (old new : Watch) → HasSorted tasks old new → length old.asleep.items ≡ length tasks → IsApart old → IsApart new
 sorted_apart tasks old new h size a = record {
   sizes = ap length h.watchers ∙ (a.sizes ∙ sym (ap length h.asleep));
   once = once_in_order tasks new.awake.items (λ v i. subst (λ (n : ℕ). v.0 < n) size (a.there v (h.awake.only v i))) h.awake.ordered;
@@ -70,10 +70,10 @@ sorted_apart tasks old new h size a = record {
   up = λ v i s. a.up v (h.awake.only v i) (sym (ap (λ (bs : List Bool). slice_get bs v.0) h.asleep) ∙ s);
 }
 
-slept_sorted : (tasks : List TreeTask) (old new : Watch) → HasSorted tasks old new → (v : ℕ) → IsAsleep old v → IsAsleep new v
+pub slept_sorted : (tasks : List TreeTask) (old new : Watch) → HasSorted tasks old new → (v : ℕ) → IsAsleep old v → IsAsleep new v
 slept_sorted tasks old new h v s = ap (λ (bs : List Bool). slice_get bs v) h.asleep ∙ s
 
-watching_sorted : (tasks : List TreeTask) (old new : Watch) → HasSorted tasks old new → (v u : ℕ) → IsWatching old v u → IsWatching new v u
+pub watching_sorted : (tasks : List TreeTask) (old new : Watch) → HasSorted tasks old new → (v u : ℕ) → IsWatching old v u → IsWatching new v u
 watching_sorted tasks old new h v u w = record { list = w.list; at_ = ap (λ (ls : List (Vec TaskNo Global)). slice_get ls u) h.watchers ∙ w.at_; listed = w.listed }
 
 -- nobody is awake where nobody is known

@@ -28,7 +28,11 @@ impl Watch {
     }
 
     /// Lets a task go that does nothing any more, lets one sleep that waits for another, or keeps it awake.
-    fn rest_one<D: Deps>(&mut self, core: &mut Core<D>, task: TaskNo) -> Result<(), AllocError>
+    pub(crate) fn rest_one<D: Deps>(
+        &mut self,
+        core: &mut Core<D>,
+        task: TaskNo,
+    ) -> Result<(), AllocError>
         requires running { (code : CodeParts) × IsRunning code (kept_of D.seen core.old) }
         requires there { task.0 < length (tasks_in core.old) }
         requires asleep { length self.old.asleep.items ≡ length (tasks_in core.old) }

@@ -28,7 +28,7 @@ impl Watch {
     }
 
     /// Those that are awake stand in point order.
-    fn sort<D: Deps>(&mut self, core: &Core<D>) -> Result<(), AllocError>
+    pub(crate) fn sort<D: Deps>(&mut self, core: &Core<D>) -> Result<(), AllocError>
         requires running { (code : CodeParts) × IsRunning code (kept_of D.seen core.now) }
         requires apart { IsApart self.old }
         requires size { length self.old.asleep.items ≡ length (tasks_in core.now) }

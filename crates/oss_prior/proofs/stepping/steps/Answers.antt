@@ -1,7 +1,7 @@
 use Rattle.std.proofs.Common.{subst, Bool}
 use Rattle.oss_core.specs.Acting.{HasActed}
 use Rattle.oss_core.specs.Cores.{kept_of}
-use Rattle.oss_prior.proofs.SteppingLemmas.{no_steps, nothing_left, step_falls, step_gone, step_left, steps_left, steps_made, steps_running}
+use Rattle.oss_prior.proofs.SteppingLemmas.{idle_steps, no_steps, nothing_left, step_falls, step_gone, step_left, steps_left, steps_made, steps_running}
 use Rattle.oss_prior.proofs.stepping.steps.Goals as goal
 
 pub steps-init : goal.steps-init
@@ -32,4 +32,9 @@ returns-then-not-branch-clause-made g c =
 pub returns-then-not-branch-clause-left : goal.returns-then-not-branch-clause-left
 returns-then-not-branch-clause-left g c =
     steps_left c.args.code.now c.args.task (kept_of g.D.Deps.seen c.args.core.now) (kept_of g.D.Deps.seen c.steps.core) (kept_of g.D.Deps.seen c.act.new.self) c.steps.acts c.steps.invariant.left
+    (subst (λ (b : Bool). HasActed b c.args.code.now c.args.task (kept_of g.D.Deps.seen c.steps.core) (kept_of g.D.Deps.seen c.act.new.self)) c.if-not-branch.true c.in_ok-act.ensures)
+
+pub returns-then-not-branch-clause-idle : goal.returns-then-not-branch-clause-idle
+returns-then-not-branch-clause-idle g c =
+    idle_steps c.args.code.now c.args.task (kept_of g.D.Deps.seen c.args.core.now) (kept_of g.D.Deps.seen c.steps.core) (kept_of g.D.Deps.seen c.act.new.self) c.steps.acts c.steps.invariant.left
     (subst (λ (b : Bool). HasActed b c.args.code.now c.args.task (kept_of g.D.Deps.seen c.steps.core) (kept_of g.D.Deps.seen c.act.new.self)) c.if-not-branch.true c.in_ok-act.ensures)

@@ -1,51 +1,93 @@
-use Rattle.std.proofs.Common.{◌∙◌, ◌<◌, length, subst, sym, Bool, List, Option, ℕ}
+use Rattle.std.proofs.Common.{◌<◌, refl, subst, sym, List, ℕ}
 use Rattle.oss_model.specs.Order.{IsIn}
 use Rattle.oss_model.specs.declared.task_no.TaskNo.{TaskNo}
-use Rattle.oss_core.specs.Awake.{HaveSteppers}
 use Rattle.oss_core.specs.Cores.{kept_of}
-use Rattle.oss_core.specs.Kept.{Kept}
-use Rattle.oss_core.specs.Steppers.{AreSteppers}
+use Rattle.oss_core.specs.Kept.{IsRunning, Kept}
 use Rattle.oss_core.specs.Turns.{KeepsTasks}
 use Rattle.oss_core.proofs.TreeFacts.{sizes}
-use Rattle.oss_wakeups.specs.Watches.{IsWatch}
-use Rattle.oss_wakeups.proofs.RoundLemmas.{has_steppers}
-use Rattle.oss_prior.specs.Choosing.{AreFlags, IsBestOf}
-use Rattle.oss_prior.specs.Turning.{HasTakenTurn}
-use Rattle.oss_prior.proofs.TurnLemmas.{steppers_there, turn_running, turn_taken}
+use Rattle.oss_wakeups.specs.Asides.{AreFree, CanAct, IsSetAside}
+use Rattle.oss_prior.specs.Choosing.{AreAdded, AreSuccessors, KeepsOthers}
+use Rattle.oss_prior.specs.Turning.{HasMadeTurn}
+use Rattle.oss_prior.proofs.ChoosingLemmas.{free_held, free_there}
+use Rattle.oss_prior.proofs.TurnLemmas.{stays_able, turn_ready, turn_running, turn_taken}
 use Rattle.oss_prior.proofs.turns.take_turn.Goals as goal
 
-pub flags_of-requires : goal.flags_of-requires
-flags_of-requires g c = λ v i.
-    subst (λ (n : ℕ). v.0 < n) (sym (sizes c.requires.running.core) ∙ sym c.count.ensures)
-    (steppers_there (kept_of g.D.Deps.seen c.args.core.now) c.args.able.now.items c.requires.able v (subst (λ (xs : List TaskNo). IsIn v xs) c.as_slice.ensures.value i))
+pub ready_of-requires-clause-held : goal.ready_of-requires-clause-held
+ready_of-requires-clause-held g c = subst (λ (n : ℕ). c.args.task.0 < n) (sizes c.requires.running.core) c.requires.there
 
-pub steppers-requires-clause-running : goal.steppers-requires-clause-running
-steppers-requires-clause-running g c = (c.args.code.now, turn_running c.args.code.now c.args.task (kept_of g.D.Deps.seen c.args.core.now) (kept_of g.D.Deps.seen c.turn.new.core) c.args.order.now c.turn.new.order c.requires.running c.requires.there c.in_ok-turn.ensures.made)
+pub set_aside-requires-clause-running : goal.set_aside-requires-clause-running
+set_aside-requires-clause-running g c = (c.args.code.now, turn_running c.args.code.now c.args.task (kept_of g.D.Deps.seen c.args.core.now) (kept_of g.D.Deps.seen c.turn.new.core) c.args.order.now c.turn.new.order c.requires.running c.requires.there c.in_ok-turn.ensures.made)
 
-pub steppers-requires-clause-asked : goal.steppers-requires-clause-asked
-steppers-requires-clause-asked g c =
-    subst (λ (ts : List TaskNo). HaveSteppers (kept_of g.D.Deps.seen c.turn.new.core) ts) (sym c.awake.ensures)
-    (has_steppers (turn_running c.args.code.now c.args.task (kept_of g.D.Deps.seen c.args.core.now) (kept_of g.D.Deps.seen c.turn.new.core) c.args.order.now c.turn.new.order c.requires.running c.requires.there c.in_ok-turn.ensures.made) c.turn.new.watch c.in_ok-turn.ensures.watch)
+pub set_aside-requires-clause-watch : goal.set_aside-requires-clause-watch
+set_aside-requires-clause-watch g c = (kept_of g.D.Deps.seen c.args.core.now, c.args.task.0, c.in_ok-turn.ensures.watch)
 
-pub best_of-requires : goal.best_of-requires
-best_of-requires g c = λ v i.
-    subst (λ (k : Kept). v.0 < length k.tasks) (sym c.steppers.ensures.same)
-    (steppers_there (kept_of g.D.Deps.seen c.turn.new.core) c.in_ok-able.field-0.items c.in_ok-able.ensures.steppers v (subst (λ (xs : List TaskNo). IsIn v xs) c.as_slice-3.ensures.value i))
+pub successors_of-requires-clause-there : goal.successors_of-requires-clause-there
+successors_of-requires-clause-there g c = λ v i.
+    let o = kept_of g.D.Deps.seen c.args.core.now in
+    let n = kept_of g.D.Deps.seen c.set_aside.new.core in
+    let e = c.set_aside.ensures.same in
+    let free = c.in_ok-free.free.items in
+    free_there (subst (λ (k : Kept). IsRunning c.args.code.now k) (sym e) (turn_running c.args.code.now c.args.task (kept_of g.D.Deps.seen c.args.core.now) (kept_of g.D.Deps.seen c.turn.new.core) c.args.order.now c.turn.new.order c.requires.running c.requires.there c.in_ok-turn.ensures.made)) free (subst (λ (k : Kept). AreFree k free) (sym e) c.in_ok-free.ensures.free) v (subst (λ (xs : List TaskNo). IsIn v xs) c.as_slice.ensures.value i)
+
+pub successors_of-requires-clause-held : goal.successors_of-requires-clause-held
+successors_of-requires-clause-held g c = λ v i.
+    let o = kept_of g.D.Deps.seen c.args.core.now in
+    let n = kept_of g.D.Deps.seen c.set_aside.new.core in
+    let e = c.set_aside.ensures.same in
+    let free = c.in_ok-free.free.items in
+    free_held n free (subst (λ (k : Kept). AreFree k free) (sym e) c.in_ok-free.ensures.free) v (subst (λ (xs : List TaskNo). IsIn v xs) c.as_slice.ensures.value i)
+
+pub admit-requires-clause-there : goal.admit-requires-clause-there
+admit-requires-clause-there g c = λ v i.
+    let o = kept_of g.D.Deps.seen c.args.core.now in
+    let n = kept_of g.D.Deps.seen c.set_aside.new.core in
+    let e = c.set_aside.ensures.same in
+    let free = c.in_ok-free.free.items in
+    free_there (subst (λ (k : Kept). IsRunning c.args.code.now k) (sym e) (turn_running c.args.code.now c.args.task (kept_of g.D.Deps.seen c.args.core.now) (kept_of g.D.Deps.seen c.turn.new.core) c.args.order.now c.turn.new.order c.requires.running c.requires.there c.in_ok-turn.ensures.made)) free (subst (λ (k : Kept). AreFree k free) (sym e) c.in_ok-free.ensures.free) v (subst (λ (xs : List TaskNo). IsIn v xs) c.as_slice-2.ensures.value i)
+
+pub admit-requires-clause-held : goal.admit-requires-clause-held
+admit-requires-clause-held g c = λ v i.
+    let o = kept_of g.D.Deps.seen c.args.core.now in
+    let n = kept_of g.D.Deps.seen c.set_aside.new.core in
+    let e = c.set_aside.ensures.same in
+    let free = c.in_ok-free.free.items in
+    free_held n free (subst (λ (k : Kept). AreFree k free) (sym e) c.in_ok-free.ensures.free) v (subst (λ (xs : List TaskNo). IsIn v xs) c.as_slice-2.ensures.value i)
 
 pub returns-clause-taken : goal.returns-clause-taken
 returns-clause-taken g c =
-    subst (λ (next : Option TaskNo). HasTakenTurn c.args.code.now c.args.task (kept_of g.D.Deps.seen c.args.core.now) (kept_of g.D.Deps.seen c.steppers.new.self) c.args.order.now c.turn.new.order next) (sym c.task_of.ensures)
-    (turn_taken c.args.code.now c.args.task (kept_of g.D.Deps.seen c.args.core.now) (kept_of g.D.Deps.seen c.turn.new.core) (kept_of g.D.Deps.seen c.steppers.new.self) c.args.order.now c.turn.new.order c.args.able.now.items c.in_ok-able.field-0.items
-    c.count.result c.in_ok-flags.flags.items c.best_of.result c.in_ok-turn.ensures.made c.steppers.ensures.same c.in_ok-turn.ensures.keeps c.requires.able c.in_ok-able.ensures.steppers c.count.ensures
-    (subst (λ (xs : List TaskNo). AreFlags c.count.result xs c.in_ok-flags.flags.items) c.as_slice.ensures.value c.in_ok-flags.ensures)
-    (subst (λ (xs : List TaskNo). IsBestOf (kept_of g.D.Deps.seen c.steppers.new.self) c.in_ok-flags.flags.items xs c.best_of.result) c.as_slice-3.ensures.value
-    (subst (λ (fs : List Bool). IsBestOf (kept_of g.D.Deps.seen c.steppers.new.self) fs c.as_slice-3.result.now c.best_of.result) c.as_slice-2.ensures.value c.best_of.ensures)))
+    let o = kept_of g.D.Deps.seen c.args.core.now in
+    let n = kept_of g.D.Deps.seen c.set_aside.new.core in
+    let e = c.set_aside.ensures.same in
+    let free = c.in_ok-free.free.items in
+    turn_taken c.args.code.now c.args.task o n c.requires.running c.requires.there c.args.order.now c.turn.new.order
+    (subst (λ (k : Kept). HasMadeTurn c.args.code.now c.args.task o k c.args.order.now c.turn.new.order) (sym e) c.in_ok-turn.ensures.made) (subst (λ (k : Kept). KeepsTasks c.args.core.now.tree.tasks k.tree.tasks) (sym e) c.in_ok-turn.ensures.keeps)
+    (subst (λ (k : Kept). KeepsOthers c.args.task.0 o k) (sym e) c.in_ok-turn.ensures.others) (record { count = c.count-count.result; task = c.args.task; able = c.take_out-able.result }) c.count-count.ensures refl c.args.queue.now c.take_out-able.new.queue c.admit.new.queue
+    c.in_ok-successors.successors c.requires.queue c.in_ok-own.own c.in_ok-own.ensures c.take_out-able.ensures.was c.take_out-able.ensures.left free (subst (λ (k : Kept). AreFree k free) (sym e) c.in_ok-free.ensures.free)
+    (λ v can. c.in_ok-free.ensures.all o c.args.task.0 v c.in_ok-turn.ensures.watch (subst (λ (k : Kept). CanAct k v) e can))
+    (subst (λ (xs : List TaskNo). AreSuccessors n (record { count = c.count-count.result; task = c.args.task; able = c.take_out-able.result }) c.take_out-able.new.queue xs c.in_ok-successors.successors) c.as_slice.ensures.value c.in_ok-successors.ensures)
+    (subst (λ (xs : List TaskNo). AreAdded n xs c.take_out-able.new.queue c.admit.new.queue) c.as_slice-2.ensures.value c.in_ok-admit.ensures) c.next_of.result c.next_of.ensures
 
 pub returns-clause-watch : goal.returns-clause-watch
-returns-clause-watch g c = subst (λ (k : Kept). IsWatch k c.turn.new.watch) (sym c.steppers.ensures.same) c.in_ok-turn.ensures.watch
+returns-clause-watch g c =
+    let o = kept_of g.D.Deps.seen c.args.core.now in
+    let m = kept_of g.D.Deps.seen c.turn.new.core in
+    subst (λ (k : Kept). IsSetAside k c.set_aside.new.self) (sym c.set_aside.ensures.same)
+    (c.in_ok-free.ensures.watch o c.args.task.0 c.in_ok-turn.ensures.watch
+    (stays_able c.args.code.now c.args.task o m c.args.order.now c.turn.new.order c.requires.running c.requires.there c.in_ok-turn.ensures.made c.in_ok-turn.ensures.keeps))
 
-pub returns-clause-able : goal.returns-clause-able
-returns-clause-able g c = subst (λ (k : Kept). AreSteppers k c.in_ok-able.field-0.items) (sym c.steppers.ensures.same) c.in_ok-able.ensures.steppers
+pub returns-clause-queue : goal.returns-clause-queue
+returns-clause-queue g c =
+    let o = kept_of g.D.Deps.seen c.args.core.now in
+    let n = kept_of g.D.Deps.seen c.set_aside.new.core in
+    let e = c.set_aside.ensures.same in
+    let free = c.in_ok-free.free.items in
+    turn_ready c.args.code.now c.args.task o n c.requires.running c.requires.there c.args.order.now c.turn.new.order
+    (subst (λ (k : Kept). HasMadeTurn c.args.code.now c.args.task o k c.args.order.now c.turn.new.order) (sym e) c.in_ok-turn.ensures.made) (subst (λ (k : Kept). KeepsTasks c.args.core.now.tree.tasks k.tree.tasks) (sym e) c.in_ok-turn.ensures.keeps)
+    (subst (λ (k : Kept). KeepsOthers c.args.task.0 o k) (sym e) c.in_ok-turn.ensures.others) (record { count = c.count-count.result; task = c.args.task; able = c.take_out-able.result }) c.count-count.ensures refl c.args.queue.now c.take_out-able.new.queue c.admit.new.queue
+    c.in_ok-successors.successors c.requires.queue c.in_ok-own.own c.in_ok-own.ensures c.take_out-able.ensures.was c.take_out-able.ensures.left free (subst (λ (k : Kept). AreFree k free) (sym e) c.in_ok-free.ensures.free)
+    (λ v can. c.in_ok-free.ensures.all o c.args.task.0 v c.in_ok-turn.ensures.watch (subst (λ (k : Kept). CanAct k v) e can))
+    (subst (λ (xs : List TaskNo). AreSuccessors n (record { count = c.count-count.result; task = c.args.task; able = c.take_out-able.result }) c.take_out-able.new.queue xs c.in_ok-successors.successors) c.as_slice.ensures.value c.in_ok-successors.ensures)
+    (subst (λ (xs : List TaskNo). AreAdded n xs c.take_out-able.new.queue c.admit.new.queue) c.as_slice-2.ensures.value c.in_ok-admit.ensures)
 
 pub returns-clause-keeps : goal.returns-clause-keeps
-returns-clause-keeps g c = subst (λ (k : Kept). KeepsTasks c.args.core.now.tree.tasks k.tree.tasks) (sym c.steppers.ensures.same) c.in_ok-turn.ensures.keeps
+returns-clause-keeps g c = subst (λ (k : Kept). KeepsTasks c.args.core.now.tree.tasks k.tree.tasks) (sym c.set_aside.ensures.same) c.in_ok-turn.ensures.keeps

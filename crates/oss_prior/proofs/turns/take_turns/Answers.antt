@@ -1,39 +1,25 @@
 use Rattle.std.proofs.Common.{length, subst, sym, ◌<◌, List, Option, ℕ}
 use Rattle.oss_model.specs.declared.task_no.TaskNo.{TaskNo}
 use Rattle.oss_tree.specs.Tasks.{number}
-use Rattle.oss_core.specs.Awake.{HaveSteppers}
 use Rattle.oss_core.specs.Cores.{kept_of}
 use Rattle.oss_core.specs.Kept.{IsRunning, Kept}
-use Rattle.oss_core.specs.Steppers.{AreSteppers}
-use Rattle.oss_wakeups.specs.Watches.{IsWatch}
-use Rattle.oss_wakeups.proofs.RoundLemmas.{has_steppers}
 use Rattle.oss_prior.specs.Turning.{HasTakenTurn, HaveTurnsGone}
 use Rattle.oss_prior.proofs.RunLemmas.{first_turn, gone_running, main_there, next_there, next_turn, none_left, turn_falls, turns_made}
 use Rattle.oss_prior.proofs.turns.take_turns.Goals as goal
 
-pub steppers-requires-clause-asked : goal.steppers-requires-clause-asked
-steppers-requires-clause-asked g c =
-    subst (λ (ts : List TaskNo). HaveSteppers (kept_of g.D.Deps.seen c.args.core.now) ts) (sym c.awake.ensures) (has_steppers c.requires.running c.in_ok-watch.watch c.in_ok-watch.ensures)
-
 pub take_turn-requires-clause-running : goal.take_turn-requires-clause-running
-take_turn-requires-clause-running g c κs within = subst (λ (k : Kept). IsRunning c.args.code.now k) (sym c.steppers.ensures.same) c.requires.running
-
-pub take_turn-requires-clause-watch : goal.take_turn-requires-clause-watch
-take_turn-requires-clause-watch g c κs within = subst (λ (k : Kept). IsWatch k c.in_ok-watch.watch) (sym c.steppers.ensures.same) c.in_ok-watch.ensures
-
-pub take_turn-requires-clause-able : goal.take_turn-requires-clause-able
-take_turn-requires-clause-able g c κs within = subst (λ (k : Kept). AreSteppers k c.in_ok-able.able.items) (sym c.steppers.ensures.same) c.in_ok-able.ensures.steppers
+take_turn-requires-clause-running g c κs within = subst (λ (k : Kept). IsRunning c.args.code.now k) (sym c.in_ok-queue.ensures.same) c.requires.running
 
 pub take_turn-requires-clause-there : goal.take_turn-requires-clause-there
-take_turn-requires-clause-there g c κs within = subst (λ (k : Kept). 0 < length k.tree.tasks) (sym c.steppers.ensures.same) (main_there c.requires.running.core)
+take_turn-requires-clause-there g c κs within = subst (λ (k : Kept). 0 < length k.tree.tasks) (sym c.in_ok-queue.ensures.same) (main_there c.requires.running.core)
 
 pub turns-init : goal.turns-init
 turns-init g c = record {
   gone = first_turn c.args.code.now (kept_of g.D.Deps.seen c.args.core.now) (kept_of g.D.Deps.seen c.take_turn.new.core) c.take_turn.new.order c.in_ok-next.next
       (subst (λ (xs : List (List ℕ)). HasTakenTurn c.args.code.now (number 0) (kept_of g.D.Deps.seen c.args.core.now) (kept_of g.D.Deps.seen c.take_turn.new.core) xs c.take_turn.new.order c.in_ok-next.next) c.new-order.ensures
-      (subst (λ (k : Kept). HasTakenTurn c.args.code.now (number 0) k (kept_of g.D.Deps.seen c.take_turn.new.core) c.new-order.result c.take_turn.new.order c.in_ok-next.next) c.steppers.ensures.same c.in_ok-next.ensures.taken));
+      (subst (λ (k : Kept). HasTakenTurn c.args.code.now (number 0) k (kept_of g.D.Deps.seen c.take_turn.new.core) c.new-order.result c.take_turn.new.order c.in_ok-next.next) c.in_ok-queue.ensures.same c.in_ok-next.ensures.taken));
   watch = c.in_ok-next.ensures.watch;
-  able = c.in_ok-next.ensures.able;
+  queue = c.in_ok-next.ensures.queue;
 }
 
 pub take_turn-requires-in-Some-clause-running : goal.take_turn-requires-in-Some-clause-running
@@ -54,7 +40,7 @@ turns-preserved g c = record {
   gone = next_turn c.args.code.now (kept_of g.D.Deps.seen c.args.core.now) (kept_of g.D.Deps.seen c.turns.core) (kept_of g.D.Deps.seen c.take_turn-in-Some.new.core) c.turns.order c.take_turn-in-Some.new.order c.in-Some.task c.in_ok-next-2.next
       (subst (λ (o : Option TaskNo). HaveTurnsGone c.args.code.now (kept_of g.D.Deps.seen c.args.core.now) (kept_of g.D.Deps.seen c.turns.core) c.turns.order o) c.in-Some.is c.turns.invariant.gone) c.in_ok-next-2.ensures.taken;
   watch = c.in_ok-next-2.ensures.watch;
-  able = c.in_ok-next-2.ensures.able;
+  queue = c.in_ok-next-2.ensures.queue;
 }
 
 pub returns : goal.returns

@@ -1,16 +1,16 @@
 use Rattle.oss_core.specs.CoreLeft.{core_left}
 use Rattle.oss_core.specs.Cores.{kept_of}
-use Rattle.oss_core.specs.Steppers.{AreSteppers}
-use Rattle.oss_wakeups.specs.Watches.{IsWatch}
+use Rattle.oss_wakeups.specs.Asides.{IsSetAside}
+use Rattle.oss_prior.specs.Choosing.{AreReady}
 use Rattle.oss_prior.specs.Turning.{HaveTurnsGone}
 use Rattle.oss_prior.proofs.turns.take_turns.Given as goal
 
--- so far turns were made, each task that may do something is awake, and these may step
+-- so far turns were made, each task that can step stands aside, and the queue has just these
 abbrev pub invariant-turns : goal.invariant-turns
 invariant-turns g l = record {
   gone : HaveTurnsGone l.code (kept_of g.D.Deps.seen l.fn.core) (kept_of g.D.Deps.seen l.core) l.order l.next;
-  watch : IsWatch (kept_of g.D.Deps.seen l.core) l.watch;
-  able : AreSteppers (kept_of g.D.Deps.seen l.core) l.able.items;
+  watch : IsSetAside (kept_of g.D.Deps.seen l.core) l.watch;
+  queue : AreReady (kept_of g.D.Deps.seen l.core) l.queue;
 }
 
 -- what is left to do falls with each turn
