@@ -1,0 +1,20 @@
+//! Why a program comes to a fault: the explanation, and its text.
+//!
+//! What stands here is what an explanation holds, what it means that it is one of a program's sequential run, and the
+//! text, sentence by sentence. The call that follows a run and finds its explanation is not in this crate yet. An
+//! explanation has no labels of tasks, and of a shift and of a place outside of its global it has no numbers.
+#![tactic(auto)]
+
+mod chain;
+mod deed;
+mod explained;
+mod holds;
+mod lent;
+mod names;
+mod reason;
+mod rules;
+mod text;
+mod uncovered;
+
+pub use explained::{Deed, Explained, Failing, Held, Later, Link, Reason, Touching, Use, Word};
+pub use text::explain_text;
