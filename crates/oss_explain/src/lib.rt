@@ -9,6 +9,7 @@ mod chain;
 mod deed;
 mod explained;
 mod holds;
+mod laws;
 mod lent;
 mod names;
 mod reason;
@@ -17,4 +18,7 @@ mod text;
 mod uncovered;
 
 pub use explained::{Deed, Explained, Failing, Held, Later, Link, Reason, Touching, Use, Word};
+pub use laws::{
+    an_ask_is_told_in_one_way, what_fails_is_told_in_one_way, what_is_held_is_told_in_one_way,
+};
 pub use text::explain_text;
