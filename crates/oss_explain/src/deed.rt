@@ -152,7 +152,8 @@ fn add_all_failing(
     cells: &[Piece],
     text: &mut Vec<u8>,
 ) -> Result<(), AllocError>
-    ensures { OnOk result (text.new.items ≡ text.old.items ++ (are_words are ++ cells_text program.now.items cells.now ++ stop)) }
+    ensures { OnOk result (text.new.items ≡ text.old.items
+        ++ (are_words are ++ cells_text program.now.items cells.now ++ stop)) }
 {
     add(text, words(are))?;
     add_cells(alloc, program, cells, text)?;

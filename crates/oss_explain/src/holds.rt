@@ -23,7 +23,8 @@ pub(crate) fn add_has(
     word: Word,
     text: &mut Vec<u8>,
 ) -> Result<(), AllocError>
-    ensures { OnOk result (text.new.items ≡ text.old.items ++ has_text (who_text task.now) (cell_name program.now.items cell) word) }
+    ensures { OnOk result (text.new.items ≡ text.old.items
+        ++ has_text (who_text task.now) (cell_name program.now.items cell) word) }
 {
     add_who(alloc, task, text)?;
     add(text, b" has ")?;
@@ -101,7 +102,8 @@ pub(crate) fn add_all_held(
     holds: &[Held],
     text: &mut Vec<u8>,
 ) -> Result<(), AllocError>
-    ensures { OnOk result (text.new.items ≡ text.old.items ++ all_held_text program.now.items (who_text task.now) has.now holds.now) }
+    ensures { OnOk result (text.new.items ≡ text.old.items
+        ++ all_held_text program.now.items (who_text task.now) has.now holds.now) }
 {
     for held in holds {
         add_held(alloc, program, task, has, held, text)?;
@@ -118,7 +120,8 @@ fn add_held(
     held: &Held,
     text: &mut Vec<u8>,
 ) -> Result<(), AllocError>
-    ensures { OnOk result (text.new.items ≡ text.old.items ++ held_text program.now.items (who_text task.now) has.now held.now) }
+    ensures { OnOk result (text.new.items ≡ text.old.items
+        ++ held_text program.now.items (who_text task.now) has.now held.now) }
 {
     add_who(alloc, task, text)?;
     add(text, has)?;

@@ -24,7 +24,8 @@ pub(crate) fn add_holder(
     word: Word,
     text: &mut Vec<u8>,
 ) -> Result<(), AllocError>
-    ensures { OnOk result (text.new.items ≡ text.old.items ++ has_text (who_text child.now) (cell_name program.now.items cell) word ++ stop) }
+    ensures { OnOk result (text.new.items ≡ text.old.items
+        ++ has_text (who_text child.now) (cell_name program.now.items cell) word ++ stop) }
 {
     add_has(alloc, program, child, cell, word, text)?;
     add(text, b".\n")
@@ -73,7 +74,8 @@ pub(crate) fn add_later(alloc: Global, later: &Later, text: &mut Vec<u8>) -> Res
 
 /// Adds one later child.
 fn add_one(alloc: Global, child: &Point, text: &mut Vec<u8>) -> Result<(), AllocError>
-    ensures { OnOk result (text.new.items ≡ text.old.items ++ codes "1 later child hinders it too: " ++ task_text child.now ++ stop) }
+    ensures { OnOk result (text.new.items ≡ text.old.items
+        ++ codes "1 later child hinders it too: " ++ task_text child.now ++ stop) }
 {
     add(text, b"1 later child hinders it too: ")?;
     add_task(alloc, child, text)?;
@@ -88,7 +90,9 @@ fn add_several(
     last: &Point,
     text: &mut Vec<u8>,
 ) -> Result<(), AllocError>
-    ensures { OnOk result (text.new.items ≡ text.old.items ++ decimal count ++ codes " later children hinder it too: " ++ task_text first.now ++ codes " to " ++ task_text last.now ++ stop) }
+    ensures { OnOk result (text.new.items ≡ text.old.items
+        ++ decimal count ++ codes " later children hinder it too: " ++ task_text first.now ++ codes " to "
+        ++ task_text last.now ++ stop) }
 {
     add_number(alloc, count, text)?;
     add(text, b" later children hinder it too: ")?;

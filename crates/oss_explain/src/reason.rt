@@ -24,7 +24,8 @@ pub(crate) fn add_reason(
     reason: &Reason,
     text: &mut Vec<u8>,
 ) -> Result<(), AllocError>
-    ensures { OnOk result (text.new.items ≡ text.old.items ++ reason_text program.now.items task.now next.now reason.now) }
+    ensures { OnOk result (text.new.items ≡ text.old.items
+        ++ reason_text program.now.items task.now next.now reason.now) }
 {
     match reason {
         Reason::OutOfFuel(fuel) => add_fuel(alloc, *fuel, text),
@@ -89,7 +90,8 @@ fn add_lack_for_child(
     cells: &Failing,
     text: &mut Vec<u8>,
 ) -> Result<(), AllocError>
-    ensures { OnOk result (text.new.items ≡ text.old.items ++ (uncovered_text program.now.items task.now held cells.now ++ child_rule word.named)) }
+    ensures { OnOk result (text.new.items ≡ text.old.items
+        ++ (uncovered_text program.now.items task.now held cells.now ++ child_rule word.named)) }
 {
     add_uncovered(alloc, program, task, held, cells, text)?;
     add_child_rule(word.named, text)
@@ -105,7 +107,8 @@ fn add_lack_for_release(
     cells: &Failing,
     text: &mut Vec<u8>,
 ) -> Result<(), AllocError>
-    ensures { OnOk result (text.new.items ≡ text.old.items ++ (uncovered_text program.now.items task.now held cells.now ++ release_rule word.named)) }
+    ensures { OnOk result (text.new.items ≡ text.old.items
+        ++ (uncovered_text program.now.items task.now held cells.now ++ release_rule word.named)) }
 {
     add_uncovered(alloc, program, task, held, cells, text)?;
     add_release_rule(word.named, text)
@@ -133,7 +136,8 @@ fn add_mixed(
     cells: &Failing,
     text: &mut Vec<u8>,
 ) -> Result<(), AllocError>
-    ensures { OnOk result (text.new.items ≡ text.old.items ++ mixed_text program.now.items next.now words.now cells.now) }
+    ensures { OnOk result (text.new.items ≡ text.old.items
+        ++ mixed_text program.now.items next.now words.now cells.now) }
 {
     add_mixed_words(alloc, program, next, words, cells.first, text)?;
     add_failing(alloc, program, Are::Mixed, cells, text)?;

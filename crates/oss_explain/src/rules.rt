@@ -45,7 +45,8 @@ fn add_wants(touch: Touching, text: &mut Vec<u8>) -> Result<(), AllocError>
 
 /// Adds what a fold wants.
 fn add_fold_wants(op: Op, text: &mut Vec<u8>) -> Result<(), AllocError>
-    ensures { OnOk result (text.new.items ≡ text.old.items ++ codes "A fold by " ++ op_text op ++ codes "= wants reduction(" ++ op_text op
+    ensures { OnOk result (text.new.items ≡ text.old.items
+        ++ codes "A fold by " ++ op_text op ++ codes "= wants reduction(" ++ op_text op
         ++ codes "), out or inout.\n") }
 {
     add(text, b"A fold by ")?;

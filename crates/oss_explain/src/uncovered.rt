@@ -36,7 +36,8 @@ pub(crate) fn add_released(
     word: Word,
     text: &mut Vec<u8>,
 ) -> Result<(), AllocError>
-    ensures { OnOk result (text.new.items ≡ text.old.items ++ (codes "It releases " ++ named_text program.now.items cell word)) }
+    ensures { OnOk result (text.new.items ≡ text.old.items
+        ++ (codes "It releases " ++ named_text program.now.items cell word)) }
 {
     add(text, b"It releases ")?;
     add_named(alloc, program, cell, word, text)
@@ -67,7 +68,8 @@ pub(crate) fn add_uncovered(
     cells: &Failing,
     text: &mut Vec<u8>,
 ) -> Result<(), AllocError>
-    ensures { OnOk result (text.new.items ≡ text.old.items ++ uncovered_text program.now.items task.now held cells.now) }
+    ensures { OnOk result (text.new.items ≡ text.old.items
+        ++ uncovered_text program.now.items task.now held cells.now) }
 {
     add_lack(alloc, program, task, cells.first, held, text)?;
     add_failing(alloc, program, Are::NotCovered, cells, text)
