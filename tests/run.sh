@@ -23,7 +23,6 @@
 #   err: LINE             the one line of the error output; none where it is empty
 #   schedule: LINE        a line of the schedule; each such line is one more
 #   links: follow         where the output goes on, behind what is told of it, with links of a chain, which has at least as many acts as the second line tells ticks
-#   turns: left out       where the program has so many tasks that a run by one worker would take minutes
 #   end: no newline       where the newline at the end of the file does not belong to the program
 #   program:              what stands behind this line is the program, to the end of the file
 # It is called in a folder that holds nothing but the program, as p.c, and the schedule, where the case has one, as s.txt. A run without a mode is called in the modes
@@ -91,9 +90,9 @@ replay_trace() {
   expect "$1, replayed" $? "$work/run_out" "$work/run_err" replay p.c t.txt
 }
 
-# leaves the program of a case in p.c, its schedule in s.txt, and what is said of them in `words`, `status`, `out_text`, `err_text`, `turns` and `judged`
+# leaves the program of a case in p.c, its schedule in s.txt, and what is said of them in `words`, `status`, `out_text`, `err_text` and `judged`
 read_case() {
-  words='' status='' out_text='' err_text='' end='' turns=yes judged=expect
+  words='' status='' out_text='' err_text='' end='' judged=expect
   rm -f s.txt
   {
     while IFS= read -r line; do
@@ -107,7 +106,6 @@ read_case() {
         'schedule:') echo >>s.txt ;;
         'links: follow') judged=expect_chain ;;
         'end: no newline') end=cut ;;
-        'turns: left out') turns=no ;;
         '# '*) ;;
         *) status="a number; this line is unknown: $line" ;;
       esac
@@ -271,8 +269,8 @@ for file in "$top"/tests/cases/*/*.case; do
     *' run '*)
       # shellcheck disable=SC2086
       expect "${file#"$top"/} in serial mode" "$status" "$work/wanted_out" "$work/wanted_err" $words --mode=serial
-      case $turns$words in
-        no* | *--workers*) ;;
+      case $words in
+        *--workers*) ;;
         *)
           # shellcheck disable=SC2086
           expect "${file#"$top"/} in workers mode" "$status" "$work/wanted_out" "$work/wanted_err" $words --mode=workers --workers=1
