@@ -1,7 +1,8 @@
 #!/bin/sh
 # Little memory, small stacks, few files, outputs that take nothing, and a reader that goes away: as a user meets them. Each program of examples/ is run with so little
-# memory, and with so small a stack. Each call ends with its own answer, or with status 6 and nothing on either output, and never by a signal. If status 6 comes
-# although one worker has the memory that it needs, the call fails: a run that can be made on fewer threads is made on these.
+# memory, and with so small a stack. Each call ends with its own answer, or with status 6 and nothing on either output, and never by a signal. A run that is out of
+# memory on several threads is made anew on one; but the C library keeps the stacks of threads that have ended, so that this may be out of memory too. From 32 MB on it is not: there a call
+# fails that ends with status 6 although one worker has the memory that it needs.
 # The last line counts the calls; the status is 0 only if none failed. `tests/little.sh PROGRAM` tries another program than the one of this repository.
 top=$(CDPATH='' cd -- "$(dirname -- "$0")/.." && pwd) || exit 1
 program=${1:-$top/crates/nest6/out/nest6}
@@ -64,7 +65,7 @@ for file in *.c; do
     is 6 nothing nothing
     wanting=$?
     within "run $file --workers=4" -v "$size"
-    is "$own" own.out own.err || { is 6 nothing nothing && [ "$wanting" = 0 ]; }
+    is "$own" own.out own.err || { is 6 nothing nothing && { [ "$wanting" = 0 ] || [ "$size" -lt 32000 ]; }; }
     tell $? "run $file --workers=4 with $size KiB of memory: status $status"
   done
   # KiB of stack

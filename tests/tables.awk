@@ -628,10 +628,19 @@ function row_option(   option, i, bounds, low, high) {
     try_words("run a.c " option sprintf("%.0f", high + 1), 2)
     return
   }
-  # What stands behind a semicolon says with what the option does not go together.
+  # What stands after a semicolon says with what the option does not go together, or with what alone it does.
   read_parts(cell[2])
+  if (cell[2] ~ /^only with/) {
+    try_words("run a.c " option, 2)
+    try_words("run a.c " option " " part[2], 0)
+    return
+  }
   for (i = 2; i <= parts; i += 2) {
     if (part[i - 1] ~ /not with/) try_words("run a.c " option part[2] " " part[i], 2)
+    else if (part[i - 1] ~ /only with/) {
+      try_words("run a.c " option part[i - 2], 2)
+      try_words("run a.c " option part[i - 2] " " part[i], 0)
+    } else if (part[i + 1] ~ /only with/) continue
     else try_words("run a.c " option part[i], 0)
   }
   try_words("run a.c " option "none", 2)
