@@ -1,4 +1,4 @@
-//! What no clause says of the machine, of bodies, of audits, of parts, of jobs, of cores, and of runs by waves and by one worker, tried by
+//! What no clause says of the machine, of bodies, of audits, of explanations, of parts, of jobs, of cores, and of runs by waves and by one worker, tried by
 //! their public calls over codes that were written by hand. The tests have a crate of their own, since a crate with tests is
 //! proved once without them and once with them.
 #![tactic(auto)]
@@ -9,6 +9,8 @@ mod audit_tests;
 mod body_tests;
 #[cfg(test)]
 mod core_tests;
+#[cfg(test)]
+mod explain_tests;
 #[cfg(test)]
 mod job_tests;
 #[cfg(test)]
