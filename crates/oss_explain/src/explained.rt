@@ -21,10 +21,17 @@ pub struct Word {
 }
 
 /// The cells that a task has by one word.
-#[derive(Drop)]
 pub struct Held {
     pub word: Word,
     pub cells: List<Piece>,
+}
+
+// By hand, so that who lets one go calls this, and does not take it apart at each exit.
+impl Drop for Held {
+    fn drop(self) {
+        let Held { word: _, cells } = self;
+        drop(cells);
+    }
 }
 
 /// What the task was about to do.
@@ -51,10 +58,17 @@ pub enum Deed {
 }
 
 /// The cells of a directive that fail: the one with the lowest number, and all of them.
-#[derive(Drop)]
 pub struct Failing {
     pub first: u32,
     pub all: List<Piece>,
+}
+
+// By hand, so that who lets one go calls this, and does not take it apart at each exit.
+impl Drop for Failing {
+    fn drop(self) {
+        let Failing { first: _, all } = self;
+        drop(all);
+    }
 }
 
 /// The holders of a cell that were created after the first one.
@@ -113,7 +127,6 @@ pub enum Reason {
 }
 
 /// How a task on the way to the one that acts came to be.
-#[derive(Drop)]
 pub struct Link {
     pub task: Point,
     /// The line of its creation.
@@ -122,8 +135,19 @@ pub struct Link {
     pub included: bool,
 }
 
+// By hand, so that who lets one go calls this, and does not take it apart at each exit.
+impl Drop for Link {
+    fn drop(self) {
+        let Link {
+            task,
+            line: _,
+            included: _,
+        } = self;
+        drop(task);
+    }
+}
+
 /// The explanation of a fault.
-#[derive(Drop)]
 pub struct Explained {
     /// The task that acts: an included one too.
     pub task: Point,
@@ -139,4 +163,27 @@ pub struct Explained {
     pub holds: List<Held>,
     /// What the new task would have by its clauses, where that is of use: a word each.
     pub wants: List<Held>,
+}
+
+// By hand, so that who lets one go calls this, and does not take it apart at each exit.
+impl Drop for Explained {
+    fn drop(self) {
+        let Explained {
+            task,
+            next,
+            line: _,
+            deed,
+            reason,
+            chain,
+            holds,
+            wants,
+        } = self;
+        drop(task);
+        drop(next);
+        drop(deed);
+        drop(reason);
+        drop(chain);
+        drop(holds);
+        drop(wants);
+    }
 }
