@@ -2,7 +2,7 @@
 -- Read against: with x and y, of `task out(x, y) .. taskwait on(x) task inout(x) ..` main has two children; after them child 1 is the holder of x, since the wait came before it, and child 0
 -- is that of y. A child of a false `if`, and one that is included, hold nothing. A child with `in` hinders a write and no read.
 use Rattle.std.specs.Prelude.{◌≡◌, ◌<◌, ℕ, Bool, true, false, List, [], ◌∷◌, length, Option, None}
-use Rattle.oss_model.specs.Bodies.{Act, Asked, Frame, Order, Program, ask_of, stage_act}
+use Rattle.oss_model.specs.Bodies.{Act, Frame, Order, Program, ask_of, stage_act}
 use Rattle.oss_model.specs.Bodies.Act.{Created, Releases, Waited, WaitedOn}
 use Rattle.oss_model.specs.Context.{Context, child_context, in_clauses, right_of}
 use Rattle.oss_model.specs.Machine.{State}
