@@ -1,8 +1,8 @@
 #!/bin/sh
 # What the gate costs, in processor seconds, user and system. A command, `.ci/run` where none is given, runs in a clean clone of what is committed: the
 # whole gate, from nothing where the toolchain has kept nothing. `rt ci --anew` keeps those that keep what they have proved from taking it. Told are the seconds of all its processes, and the rows of
-# docs/GATE.md: of each crate its proof, its proof with its tests, and the checks of its wrong bodies. These are read off the processes every second,
-# so that each may lack a second. From nothing it takes more than an hour, in which nothing else is to run.
+# docs/GATE.md: of each crate its proof, its proof with its tests, and the checks of its wrong bodies. These are read every second off the processes of this script's session,
+# so that each may lack a second, and what runs in other sessions does not count. From nothing it takes half an hour and more, in which nothing else is to run.
 top=$(cd "$(dirname -- "$0")/.." && pwd) || exit 1
 [ "$#" != 0 ] || set -- .ci/run
 room=$(mktemp -d) || exit 1
@@ -17,8 +17,9 @@ cd "$room/clone" || exit 1
 ) &
 running=$!
 begun=$(date +%s)
+session=$(ps -o sid= -p "$running" | tr -d ' ')
 while kill -s 0 "$running" 2>/dev/null; do
-  ps -eo pid=,cputimes=,args= 2>/dev/null | awk '/\/rattle (build|check) / {
+  ps -s "$session" -o pid=,cputimes=,args= 2>/dev/null | awk '/\/rattle (build|check) / {
     kind = / --test / ? "tests" : $4 == "check" ? "wrong" : "proof"
     for (i = 5; i < NF; i++) if ($i == "--crate-name") print $1, $(i + 1), kind, $2
   }' >>"$room/seen"
