@@ -1,5 +1,5 @@
 #!/bin/sh
-# Little memory, small stacks, few files, outputs that take nothing, and a reader that goes away: as a user meets them. Each program of examples/ is run with so little
+# Little memory, small stacks, few files, no threads, outputs that take nothing, and a reader that goes away: as a user meets them. Each program of examples/ is run with so little
 # memory, and with so small a stack. Each call ends with its own answer, or with status 6 and nothing on either output, and never by a signal. A run that is out of
 # memory on several threads is made anew on one; but the C library keeps the stacks of threads that have ended, so that this may be out of memory too. From 32 MB on it is not: there a call
 # fails that ends with status 6 although one worker has the memory that it needs.
@@ -122,6 +122,42 @@ echo 0 >first
 status=$(cat ended)
 is 5 first nothing
 tell $? "a reader that goes away: status $status"
+
+# No thread can be made: a user who may have no more of them. The first worker then does everything, of a run and of a crew: the tests of the crew are those that the
+# gate has built. A user who may do anything has no such limit, so he calls the program as nobody.
+as_nobody() {
+  if [ "$(id -u)" = 0 ]; then
+    setpriv --reuid=65534 --regid=65534 --clear-groups prlimit --nproc=1 "$@"
+  else
+    prlimit --nproc=1 "$@"
+  fi
+}
+crew=$top/crates/oss_base_tests/out/oss_base_tests_tests
+if command -v setpriv >/dev/null && command -v prlimit >/dev/null; then
+  chmod 755 "$work"
+  cp "$program" "$work/nest6"
+  for file in *.c; do
+    "$program" run "$file" --mode=serial >own.out 2>own.err
+    own=$?
+    as_nobody ./nest6 run "$file" --workers=4 >out 2>err
+    status=$?
+    is "$own" own.out own.err
+    tell $? "run $file --workers=4 without threads: status $status"
+  done
+  if [ -x "$crew" ]; then
+    cp "$crew" "$work/crew"
+    as_nobody ./crew without_threads_the_first_does_everything >out 2>err
+    status=$?
+    tell "$status" "a crew without threads: status $status"
+    # (two that wait for each other do not meet, so no thread was made above either)
+    if as_nobody ./crew two_workers_meet >out 2>err; then status=1; else status=0; fi
+    tell "$status" 'two workers met where no thread can be made'
+  else
+    echo "little.sh: $crew is not there, so no crew was tried without threads"
+  fi
+else
+  echo 'little.sh: setpriv and prlimit are not there, so nothing was tried without threads'
+fi
 
 echo "$passed passed, $failed failed"
 [ "$failed" = 0 ]

@@ -2,13 +2,14 @@
 use Rattle.std.specs.Prelude.{◌≡◌, ◌≢◌, ℕ, List}
 use Rattle.oss_model.specs.declared.answer.Answer.{Answer}
 use Rattle.oss_model.specs.Bodies.{Program, Start}
-use Rattle.oss_model.specs.Machine.{State}
+use Rattle.oss_model.specs.Machine.{At, State, Task}
+use Rattle.oss_model.specs.Order.{IsIn}
 use Rattle.oss_model.specs.Moves.{Reached}
 use Rattle.oss_model.specs.Agreement.{Setting}
-use Rattle.oss_model.specs.Answers.{IsAnswer, IsResult, IsStopped}
+use Rattle.oss_model.specs.Answers.{IsAnswer, IsFinished, IsResult, IsStopped}
 use Rattle.oss_model.specs.Termination.{IsLively}
 use Rattle.oss_wave_laws.specs.Claims.{IsSame}
-use Rattle.oss_prior_laws.specs.Turns.{Candidate, IsOrder, RunsByTurns, Turn}
+use Rattle.oss_prior_laws.specs.Turns.{AreOnce, Candidate, IsOrder, RunsByTurns, Turn}
 
 -- The text of a program settles its turns: which tasks begin, in which order, and the state to which they come.
 abbrev pub OneRunByTurns : Type 0 → Type 0
@@ -36,3 +37,9 @@ TurnsStop S = (P : Program S) (main : Start S) (cells : List ℕ) (begun : List 
 abbrev pub AnswerIsTheResult : Type 0 → Type 0
 AnswerIsTheResult S = (P : Program S) (main : Start S) (cells : List ℕ) (begun : List (List ℕ)) (n : State S) (a b : Answer)
     → Setting main cells → RunsByTurns P main cells begun n → IsAnswer P n a → IsResult P main cells b → a ≡ b
+
+-- The tasks that begin are tasks of the state at the end, each once; and each task of it, where all are complete.
+abbrev pub EachBeginsOnce : Type 0 → Type 0
+EachBeginsOnce S = (P : Program S) (main : Start S) (cells : List ℕ) (begun : List (List ℕ)) (n : State S)
+    → Setting main cells → RunsByTurns P main cells begun n
+    → AreOnce begun × ((q : List ℕ) → IsIn q begun → (t : Task S) × At n q t) × (IsFinished P n → (q : List ℕ) (t : Task S) → At n q t → IsIn q begun)

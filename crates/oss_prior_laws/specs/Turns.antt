@@ -7,7 +7,7 @@
 -- is its successor, and goes before 0.1, whatever their priorities: the order is 0, 0.0, 0.2, 0.1, 0.3. Where main's first act is a fault, the first turn has no step, no task is a candidate
 -- behind it, and the order is empty.
 use Rattle.std.specs.Prelude.{◌≡◌, ◌≢◌, ◌⊎◌, ℕ, zero, suc, ℤ, pos, ◌<ℤ◌, List, [], ◌∷◌, ◌++◌, map, Option, Some, None}
-use Rattle.oss_model.specs.Order.{IsEarlierKey, written}
+use Rattle.oss_model.specs.Order.{IsEarlierKey, IsIn, written}
 use Rattle.oss_model.specs.Bodies.{Program, Start}
 use Rattle.oss_model.specs.Machine.{Task, State, At, find}
 use Rattle.oss_model.specs.Moves.{CanStep, opening}
@@ -81,3 +81,8 @@ pub record IsOrder {S : Type 0} (P : Program S) (main : Start S) (cells : List �
   pub state : State S
   pub runs : RunsByTurns P main cells begun state
   pub order_is : order ≡ map written begun
+
+-- Each stands in the list once.
+abbrev pub AreOnce : List (List ℕ) → Type 0
+AreOnce [] = Unit {0}
+AreOnce (q ∷ rest) = (IsIn q rest → ⊥) × AreOnce rest

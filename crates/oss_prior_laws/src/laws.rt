@@ -1,7 +1,7 @@
 //! What holds of runs by turns, whatever the program is: laws, each carried by a function that does nothing. A
 //! crate above calls the function for its type of scripts, and then has the law.
 
-ghost use Rattle.oss_prior_laws.specs.Claims.{AnswerIsTheResult, CandidatesStay, HasOrder, OneOrder, OneRunByTurns, TurnsStop};
+ghost use Rattle.oss_prior_laws.specs.Claims.{AnswerIsTheResult, CandidatesStay, EachBeginsOnce, HasOrder, OneOrder, OneRunByTurns, TurnsStop};
 
 /// A program has one run by turns: the tasks that begin, in their order, and the state to which the turns come, but
 /// for how it lists its tasks.
@@ -32,4 +32,9 @@ pub fn turns_stop<S>()
 /// The answer there is the result of the sequential run.
 pub fn answer_is_the_result<S>()
     ensures { AnswerIsTheResult S }
+{}
+
+/// The tasks that begin are tasks of the state at the end, each once; and each task of it, if all are complete.
+pub fn each_begins_once<S>()
+    ensures { EachBeginsOnce S }
 {}
