@@ -1,5 +1,5 @@
 -- The tasks that begin in a run by turns: each that has begun at its end, and each once.
-use Rattle.std.proofs.Common.{◌≡◌, ◌≢◌, ℕ, zero, suc, ◌<◌, ◌⊎◌, inl, inr, refl, sym, subst, ap, ◌∙◌, arith, List, [], ◌∷◌, ◌++◌, Bool, true, false, Some, None, Option}
+use Rattle.std.proofs.Common.{◌≡◌, ◌≢◌, ℕ, zero, suc, ◌<◌, ◌⊎◌, inl, inr, refl, sym, subst, ap, ◌∙◌, arith, List, [], ◌∷◌, ◌++◌, Bool, true, false, if◌then◌else◌, Some, None, Option}
 use Rattle.oss_syntax.specs.declared.access.Op.{Op}
 use Rattle.oss_model.specs.Order.{IsIn, here, there}
 use Rattle.oss_model.specs.Bodies.{Order, Program, Start, stack_from}
@@ -35,6 +35,7 @@ in_either {q = q} (x ∷ xs) ys (there i) = go (in_either xs ys i)
     go (inr j) = inr j
 
 in_front : {q : List ℕ} (xs ys : List (List ℕ)) → IsIn q xs → IsIn q (xs ++ ys)
+in_front {q = q} [] ys i = elim i [ ]
 in_front (x ∷ xs) ys here = here
 in_front (x ∷ xs) ys (there i) = there (in_front xs ys i)
 
@@ -235,20 +236,32 @@ module _ {S : Type 0} (P : Program S) (main : Start S) (cells : List ℕ) (z : R
       let h = behind_turn p k agrees a in
       subst (λ (xs : List (List ℕ)). Begin s n xs) (sym e) (both_begin (begun_by s p k) later (turn_begins p k h) (turns_begin h.agrees more))
 
+true_false : false ≡ true → ⊥
+true_false e = cc
+
 -- at the beginning no task has begun
 none_begun : {S : Type 0} (main : Start S) (cells : List ℕ) (q : List ℕ) → HasBegun (opening main cells) q → ⊥
-none_begun {S = S} main cells q b = go (same_path main.path q) refl
-  where
-    go : (is : Bool) → same_path main.path q ≡ is → ⊥
-    go true e = b.some (grind (b.at_, e))
-    go false e = grind (b.at_, e)
 unfolding find
+none_begun {S = S} main cells q b = go (same_path main.path q) b.at_
+  where
+    alone : Task S
+    alone = record { body = record { start = main; found = [] }; given = [] }
+
+    some_one : (t u : Task S) → Some t ≡ Some u → t ≡ u
+    some_one t u e = cc
+
+    nobody : (u : Task S) → None ≡ Some u → ⊥
+    nobody u e = cc
+
+    go : (is : Bool) → (if is then Some alone else None) ≡ Some b.task → ⊥
+    go true e = b.some (ap (λ (u : Task S). u.body.found) (sym (some_one alone b.task e)))
+    go false e = nobody b.task e
 
 -- what has ended has found an answer
 ended_begun : {S : Type 0} (P : Program S) (start : Start S) (xs : List ℕ) → (stack_from P start xs).ended ≡ true → xs ≢ []
-ended_begun P start [] e f = cc
-ended_begun P start (x ∷ xs) e f = cc
 unfolding stack_from
+ended_begun P start [] e f = true_false e
+ended_begun P start (x ∷ xs) e f = cc
 
 complete_begun : {S : Type 0} (P : Program S) (s : State S) (q : List ℕ) → IsComplete P s q → HasBegun s q
 complete_begun P s q (complete {t = t} at_ over given below) = record { task = t; at_ = at_; some = ended_begun P t.body.start t.body.found over }
@@ -257,7 +270,7 @@ pub each_begins_once : (S : Type 0) → EachBeginsOnce S
 each_begins_once S P main cells begun n set_ r =
     let first : Running S = record { state = opening main cells; active = []; printed = [] } in
     let b = turns_begin P main cells first set_ sequence.opens (opening_agrees P main cells first set_ sequence.opens) r in
-    (b.once, (λ q i. let h = b.are q i in (h.task, h.at_), λ finished q t at_. in_begun q (b.only q (complete_begun P n q (finished q t at_)))))
+    (b.once, λ q i. let h = b.are q i in (h.task, h.at_), λ finished q t at_. in_begun q (b.only q (complete_begun P n q (finished q t at_))))
   where
     in_begun : (q : List ℕ) → HasBegun (opening main cells) q ⊎ IsIn q begun → IsIn q begun
     in_begun q (inl h) = absurd (none_begun main cells q h)
