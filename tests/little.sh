@@ -146,11 +146,11 @@ if command -v setpriv >/dev/null && command -v prlimit >/dev/null; then
   done
   if [ -x "$crew" ]; then
     cp "$crew" "$work/crew"
-    as_nobody ./crew without_threads_the_first_does_everything >out 2>err
+    as_nobody ./crew crew_tests::without_threads_the_first_does_everything >out 2>err
     status=$?
     tell "$status" "a crew without threads: status $status"
     # (two that wait for each other do not meet, so no thread was made above either)
-    if as_nobody ./crew two_workers_meet >out 2>err; then status=1; else status=0; fi
+    if as_nobody ./crew crew_tests::two_workers_meet >out 2>err; then status=1; else status=0; fi
     tell "$status" 'two workers met where no thread can be made'
   else
     echo "little.sh: $crew is not there, so no crew was tried without threads"
