@@ -1,5 +1,5 @@
 //! The rules on whole programs.
-ghost use Rattle.std.specs.Prelude.{◌≡◌, ◌∷◌, ◌++◌, ◌+◌, ◌≤◌, [], IfOk, OnOk};
+ghost use Rattle.std.specs.Prelude.{◌≡◌, ◌∷◌, ◌++◌, ◌+◌, ◌≤◌, [], IfOk, OnErr, OnOk};
 ghost use Rattle.oss_grammar.specs.Broken.{first};
 ghost use Rattle.oss_grammar.specs.Layout.{cells_of};
 ghost use Rattle.oss_grammar.specs.ProgramRules.{body_around, function_rules, global_rules, has_main, is_wrong_function, mark_rules, passes_cells, returns_int, returns_nothing};
@@ -58,7 +58,8 @@ pub(crate) fn check(alloc: Global, program: &Program) -> Result<Vec<u32>, Refusa
 
 /// Adds a bound at the end. Where memory is wanting they stay.
 fn note(bounds: &mut Vec<u32>, bound: u32) -> Result<(), AllocError>
-    ensures { OnOk result (bounds.new.items ≡ bounds.old.items ++ bound ∷ []) }
+    ensures added { OnOk result (bounds.new.items ≡ bounds.old.items ++ bound ∷ []) }
+    ensures stays { OnErr result (bounds.new.items ≡ bounds.old.items) }
 {
     bounds.push(bound)?;
     Ok(())

@@ -1,5 +1,5 @@
 //! The locals in scope.
-ghost use Rattle.std.specs.Prelude.{◌≡◌, ◌∷◌, ◌++◌, ◌≤◌, List, [], length, take, IfOk, OnOk};
+ghost use Rattle.std.specs.Prelude.{◌≡◌, ◌∷◌, ◌++◌, ◌≤◌, List, [], length, take, IfOk, OnErr, OnOk};
 ghost use Rattle.std.specs.Str.{bytes_eq};
 ghost use Rattle.oss_syntax.specs.declared.tree.program.Item.{Item};
 ghost use Rattle.oss_grammar.specs.Scopes.{hidden_local, local_kind, is_local_again};
@@ -175,7 +175,8 @@ impl<'p> Locals<'p> {
 
     /// Adds a local. Where memory is wanting they stay.
     pub fn add(&mut self, local: &'p Local) -> Result<(), AllocError>
-        ensures { OnOk result (self.new ≡ self.old ++ local.now ∷ []) }
+        ensures added { OnOk result (self.new ≡ self.old ++ local.now ∷ []) }
+        ensures stays { OnErr result (self.new ≡ self.old) }
     {
         self.names = None;
         self.locals.push(Visible::of(local))?;
@@ -184,7 +185,8 @@ impl<'p> Locals<'p> {
 
     /// Adds a local that no text can name. Where memory is wanting they stay.
     pub fn add_hidden(&mut self) -> Result<(), AllocError>
-        ensures { OnOk result (self.new ≡ self.old ++ hidden_local ∷ []) }
+        ensures added { OnOk result (self.new ≡ self.old ++ hidden_local ∷ []) }
+        ensures stays { OnErr result (self.new ≡ self.old) }
     {
         self.names = None;
         self.locals.push(Visible::hidden())?;

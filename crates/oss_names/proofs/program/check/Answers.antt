@@ -62,7 +62,7 @@ loop-item-preserved c =
           let rest = drop (i + 1) xs in
           let none : first (global_rules xs p n g) ≡ None = ap (λ all. first (global_rules all p n g)) (sym c.in-Ok.ensures) ∙ sym w.refusal_of_global.ensures ∙ w.in-None.is in
           let more : c.match-item.cells ≡ n + size = w.cells-is ∙ w.behind-cells.ensures in
-          let bounds : c.match-item.bounds.items ≡ old ++ n ∷ [] = ap (λ b. b.items) w.bounds-is ∙ w.in-Ok-note.ensures in
+          let bounds : c.match-item.bounds.items ≡ old ++ n ∷ [] = ap (λ b. b.items) w.bounds-is ∙ w.in-Ok-note.ensures.added in
           record {
             same = ap (λ k. first (items_rules xs (p + 1) k rest)) more
                 ∙ part-whole whole left (first (global_rules xs p n g)) (first (items_rules xs (p + 1) (n + size) rest)) c.loop-item.invariant.same (global-left xs xs p n i item within at g w.in-Global.is) none;
@@ -103,5 +103,5 @@ returns-in-Ok-note-2 c =
     let well : first (items_rules q.items 0 0 q.items) ≡ None =
     ap (λ ys. first (items_rules ys 0 0 ys)) (sym c.as_slice-items.ensures) ∙ sym c.loop-item.invariant.same ∙ ap (λ ys. first (items_rules xs c.loop-item.place c.loop-item.cells ys)) none in (
       all-well q well (ap has_main (sym c.as_slice-items.ensures) ∙ sym c.has_a_main.ensures ∙ c.if-not-has_a_main.false),
-      c.in-Ok-note-2.ensures ∙ ap (λ ys. c.loop-item.bounds.items ++ bounds_of c.loop-item.cells (sizes_of ys)) (sym none) ∙ c.loop-item.invariant.lie ∙ ap (λ ys. bounds_of 0 (sizes_of ys)) c.as_slice-items.ensures,
+      c.in-Ok-note-2.ensures.added ∙ ap (λ ys. c.loop-item.bounds.items ++ bounds_of c.loop-item.cells (sizes_of ys)) (sym none) ∙ c.loop-item.invariant.lie ∙ ap (λ ys. bounds_of 0 (sizes_of ys)) c.as_slice-items.ensures,
     )

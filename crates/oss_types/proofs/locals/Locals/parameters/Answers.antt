@@ -19,7 +19,7 @@ loop-param-preserved c =
     elim c.if-is_none.branch [
       | then-is_none+in_ok-add+in_ok-add-2 w ↦
           let fresh : is_local_again 0 ls d.name ≡ false = sym known ∙ c.is_none.ensures ∙ ap not w.if-is_none.true in
-          let locals : c.if-is_none.locals ≡ ls ++ d ∷ [] = w.locals-is ∙ w.in_ok-add-2.ensures in
+          let locals : c.if-is_none.locals ≡ ls ++ d ∷ [] = w.locals-is ∙ w.in_ok-add-2.ensures.added in
           let names : c.if-is_none.names ≡ c.loop-param.names ++ d.name ∷ [] = w.names-is ∙ w.in_ok-add.ensures.added ∙ ap (λ name. c.loop-param.names ++ name ∷ []) w.as_slice-then-is_none.ensures in
           let size : length c.loop-param.names ≡ length ls = ap length c.loop-param.invariant.named ∙ names-many ls in
           let new : is_some (place_among c.loop-param.names d.name) ≡ false = ap (λ ns. is_some (place_among ns d.name)) c.loop-param.invariant.named ∙ again-by-table ls d.name ∙ fresh in
