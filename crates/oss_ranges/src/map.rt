@@ -183,16 +183,15 @@ impl<T: Copy + Eq> RangeMap<T> {
         self.prepare(MORE * calls as usize)
     }
 
-    /// The same for any number of calls. More calls than memory can have room for want memory.
+    /// The same for any number of calls. So many that their room is no number of 64 bits want memory.
     pub fn reserve_all(&mut self, calls: usize) -> Result<(), AllocError>
         ensures same { self.new.pieces ≡ self.old.pieces }
         ensures room { OnOk result (3 * calls ≤ self.new.spares) }
+        ensures enough { 3 * calls < 2 ^ 64 → 3 * calls ≤ self.old.spares → IsOk result }
         ensures spares { self.old.spares ≤ self.new.spares }
     {
-        match calls.checked_mul(MORE) {
-            Some(more) => self.prepare(more),
-            None => Err(AllocError),
-        }
+        let more = room_of(calls)?;
+        self.prepare(more)
     }
 
     /// Joins the pieces that end and begin at this cell, where they have one value, so that they are one piece.
@@ -451,5 +450,17 @@ fn union<T: Copy + Eq>(
             }
         }
         _ => None,
+    }
+}
+
+/// How many more pieces so many calls may need room for, where that is a number of 64 bits. It takes no memory, and any other
+/// number is told as want of it.
+fn room_of(calls: usize) -> Result<usize, AllocError>
+    ensures room { IfOk result (λ room. room ≡ 3 * calls) }
+    ensures fits { 3 * calls < 2 ^ 64 → IsOk result }
+{
+    match calls.checked_mul(MORE) {
+        Some(room) => Ok(room),
+        None => Err(AllocError),
     }
 }
