@@ -169,15 +169,38 @@ impl Context {
     }
 
     /// A run of cells from one on, up to another: whether the task has released each of them, or none, and
-    /// where the run ends. It costs what the ranges that the task has do, and takes no memory.
+    /// where the run ends, which is at the other one or where that changes. It costs what the ranges that the task has
+    /// do, and takes no memory.
     pub fn released_run(&self, from: u32, to: u32) -> (bool, u32)
         requires { from < to }
         ensures alike { (cell : ℕ) → from ≤ cell → cell < result.1 → is_released (right_of self.now cell) ≡ result.0 }
         ensures some { from < result.1 }
         ensures within { result.1 ≤ to }
+        ensures whole { result.1 < to → is_released (right_of self.now result.1) ≡ result.0 → ⊥ }
     {
         let (right, end) = self.right_run(from, to);
-        (right.is_released(), end)
+        let released = right.is_released();
+        (released, self.end_of_run(released, end, to))
+    }
+
+    /// The first cell from one on, up to another, that the task has released where `released` is false, or has not
+    /// where it is true; the other one where there is none.
+    fn end_of_run(&self, released: bool, from: u32, to: u32) -> u32
+        requires { from ≤ to }
+        ensures alike { (cell : ℕ) → from ≤ cell → cell < result → is_released (right_of self.now cell) ≡ released }
+        ensures some { from ≤ result }
+        ensures within { result ≤ to }
+        ensures whole { result < to → is_released (right_of self.now result) ≡ released → ⊥ }
+    {
+        let mut end = from;
+        while end < to {
+            let (right, next) = self.right_run(end, to);
+            if right.is_released() != released {
+                return end;
+            }
+            end = next;
+        }
+        end
     }
 
     /// A run of cells from one on, up to another: the right to each of them, and where the run ends. It costs what the
