@@ -1,6 +1,6 @@
 //! The system itself: words tell whether something may go on, and plain lists tell who stands in the way.
 
-ghost use Rattle.std.specs.Prelude.{◌≡◌, ◌<◌, ◌≤◌, ◌↔◌, ℕ, IfOk, IfSome, IsTrue, OnOk, Some, None};
+ghost use Rattle.std.specs.Prelude.{◌≡◌, ◌<◌, ◌≤◌, ◌↔◌, ℕ, IfOk, IfSome, IsTrue, OnOk, Some, None, min};
 ghost use Rattle.oss_deps.specs.Seen.{IsNew, Seen};
 ghost use Rattle.oss_word_deps.specs.Booked.{IsBooked};
 ghost use Rattle.oss_word_deps.specs.Shelved.{AreRight, Shelved};
@@ -59,6 +59,7 @@ fn first_words(alloc: Global, most: u32) -> Result<Option<Words>, AllocError>
     requires { most ≤ 16777216 }
     ensures booked { IfOk result (λ made. IfSome made (λ w. (s : Seen) → IsNew s → IsBooked s w.ledger)) }
     ensures size { IfOk result (λ made. IfSome made (λ w. w.size ≤ most)) }
+    ensures first { IfOk result (λ made. IfSome made (λ w. w.size ≡ min most 65536)) }
 {
     if most < 2 {
         Ok(None)
@@ -71,11 +72,14 @@ fn first_words(alloc: Global, most: u32) -> Result<Option<Words>, AllocError>
 
 impl WordDeps {
     /// No task is opened. `most` is from 1 to 16,777,216: so many entries its net has at most, of which one
-    /// stands for main. It is an error where memory is wanted.
+    /// stands for main, and the first 65,536 of them where those are fewer. It is an error where memory is wanted. That
+    /// there is a net tests ask (`entries`) and no clause says: entries of a net are drawn, and who draws cannot know
+    /// that enough are left.
     pub fn new(alloc: Global, most: u32) -> Result<WordDeps, AllocError>
         requires { (0 < most) × (most ≤ 16777216) }
         ensures new { IfOk result (λ deps. IsNew (seen_by deps)) }
         ensures entries { IfOk result (λ deps. IfSome deps.entries (λ n. n ≤ most)) }
+        ensures first { IfOk result (λ deps. IfSome deps.entries (λ n. n ≡ min most 65536)) }
     {
         let words = first_words(alloc, most)?;
         Ok(WordDeps {
