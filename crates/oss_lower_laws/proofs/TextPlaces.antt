@@ -1,6 +1,6 @@
 -- The globals of an accepted program have their places: the numbers of its tokens have 64 bits, and the rules ask for the rest.
-use Rattle.std.proofs.Common.{◌≡◌, ◌<◌, ℕ, zero, suc, ◌+◌, ◌*◌, List, [], ◌∷◌, ◌++◌, map, Option, Some, None, sym, ap, subst, arith}
-use Rattle.std.proofs.Math.Nat.{mod-lt}
+use Rattle.std.proofs.Common.{◌≡◌, ◌<◌, ◌≤◌, ℕ, zero, suc, ◌+◌, ◌*◌, Bool, true, false, List, [], ◌∷◌, ◌++◌, map, Option, Some, None, sym, ap, subst, arith}
+use Rattle.std.proofs.Math.Nat.{mod-lt, suc-mul}
 use Rattle.std.specs.Option.{ForSome}
 use Rattle.std.specs.Prelude.{◌-◌, ◌^◌, if◌then◌else◌, nat_lt}
 use Rattle.oss_syntax.specs.declared.token.Token.{Token}
@@ -32,7 +32,7 @@ use Rattle.oss_model.specs.Agreement.{Setting}
 use Rattle.oss_meaning.specs.Results.{first_cells, main_of}
 use Rattle.oss_names.proofs.Parts.{append-left, append-right}
 use Rattle.oss_names.proofs.ProgramLemmas.{global-cells}
-use Rattle.oss_lower_laws.specs.Programs.{AcceptedProgramsHaveOneOutcome, HavePlaces}
+use Rattle.oss_lower_laws.specs.Programs.{AcceptedPlacesAreTold, AcceptedProgramsHaveOneOutcome, AreTold, HavePlaces}
 use Rattle.oss_lower_laws.proofs.OneResult.{IsSomething, value_or}
 use Rattle.oss_lower_laws.proofs.OutcomeLaws.{a_program_has_one_outcome, main_setting, words_from}
 
@@ -88,18 +88,19 @@ fit_right (x ∷ xs) ys h = fit_right xs ys h.1
 
 -- Globals
 
--- it begins with a number of 64 bits, and where it has a cell, so has a row of it
+-- it begins with a number of 64 bits, and where it has a cell, a row of it has one and no more than it
 record IsWellSized (d : GlobalDef) : Type 0 where
   word : d.first < 2 ^ 64
   wide : 0 < cells_of d.cells → ForSome d.columns (λ columns. 0 < columns)
+  narrow : 0 < cells_of d.cells → ForSome d.columns (λ columns. columns ≤ cells_of d.cells)
 
 abbrev AreWellSized : List Item → Type 0
 AreWellSized [] = Unit {0}
 AreWellSized (items.Global d ∷ rest) = IsWellSized d × AreWellSized rest
 AreWellSized (items.Function f ∷ rest) = AreWellSized rest
 
-no_columns : ForSome None (λ columns. 0 < columns)
-no_columns columns e = absurd (subst IsSomething (sym e) tt)
+no_columns : (P : ℕ → Type 0) → ForSome None P
+no_columns P columns e = absurd (subst IsSomething (sym e) tt)
 
 value_fits : (ts : List Token) (value : ℕ) → IsFirstValue ts value → AllFit ts → value < 2 ^ 64
 value_fits ts value (plain_value t v unsigned split is) h = subst Fits is (subst AllFit split h).0
@@ -113,13 +114,32 @@ wide_row : (rows columns : ℕ) → 0 < cells_of_rows rows columns → 0 < colum
 wide_row rows zero h = absurd (omega (arith, h, no_row rows))
 wide_row rows (suc columns) h = omega arith
 
+at_most : (fits : Bool) (cells columns : ℕ) → columns ≤ cells → columns < 2 ^ 64 → columns ≤ (if fits then cells else 2 ^ 64 - 1)
+at_most true cells columns few word = few
+at_most false cells columns few word = omega arith
+
+narrow_row : (rows columns : ℕ) → columns < 2 ^ 64 → 0 < cells_of_rows rows columns → columns ≤ cells_of_rows rows columns
+unfolding cells_of_rows
+narrow_row zero columns word some =
+    let none : 0 * columns ≡ 0 = omega arith in
+    let least : (if nat_lt (0 * columns) (2 ^ 64) then 0 * columns else 2 ^ 64 - 1) ≡ 0 = ap (λ n. if nat_lt n (2 ^ 64) then n else 2 ^ 64 - 1) none in
+    absurd (omega (arith, some, least))
+narrow_row (suc rows) columns word some =
+    let more : suc rows * columns ≡ rows * columns + columns = suc-mul rows columns in
+    at_most (nat_lt (suc rows * columns) (2 ^ 64)) (suc rows * columns) columns (omega (arith, more)) word
+
 global_sized : {numbers : NumKind} (ts : List Token) (d : GlobalDef) → IsGlobal numbers ts d → AllFit ts → IsWellSized d
-global_sized ts d (scalar_global t word split named) h = record { word = omega arith; wide = λ some. no_columns }
+global_sized ts d (scalar_global t word split named) h = record { word = omega arith; wide = λ some. no_columns _; narrow = λ some. no_columns _ }
 global_sized ts d (first_global {value = value} t word mark back split named equals is_value) h =
-    record { word = value_fits back value is_value (subst AllFit split h).1.1; wide = λ some. no_columns }
-global_sized ts d (array_global t word opened number cells unsigned closed split named opens is_number closes) h = record { word = omega arith; wide = λ some. no_columns }
+    record { word = value_fits back value is_value (subst AllFit split h).1.1; wide = λ some. no_columns _; narrow = λ some. no_columns _ }
+global_sized ts d (array_global t word opened number cells unsigned closed split named opens is_number closes) h = record { word = omega arith; wide = λ some. no_columns _; narrow = λ some. no_columns _ }
 global_sized ts d (grid_global t word opened number rows unsigned closed again second columns second_unsigned ended split named opens is_rows closes reopens is_columns ends) h =
-    record { word = omega arith; wide = λ some n e. subst (λ k. 0 < k) (ap (λ o. value_or o n) e) (wide_row rows columns some) }
+    let fits : columns < 2 ^ 64 = subst Fits is_columns (subst AllFit split h).1.1.1.1.1.0 in
+    record {
+      word = omega arith;
+      wide = λ some n e. subst (λ k. 0 < k) (ap (λ o. value_or o n) e) (wide_row rows columns some);
+      narrow = λ some n e. subst (λ k. k ≤ cells_of_rows rows columns) (ap (λ o. value_or o n) e) (narrow_row rows columns fits some);
+    }
 
 globals_sized : {numbers : NumKind} (ts : List Token) (gs : List GlobalDef) → IsGlobals numbers ts gs → AllFit ts → AreWellSized (map items.Global gs)
 globals_sized ts gs (last_global {g = g} is) h = (global_sized ts g is h, tt)
@@ -157,6 +177,19 @@ places_by all at start (items.Global d ∷ rest) none h =
 places_by all at start (items.Function f ∷ rest) none h =
     places_by all (at + 1) start rest (append-right (function_rules all at f) (items_rules all (at + 1) start rest) none) h
 
+told_by : (all : List Item) (at start : ℕ) (xs : List Item) → first (items_rules all at start xs) ≡ None → AreWellSized xs → HavePlaces start xs → AreTold start xs
+told_by all at start [] none h places = tt
+told_by all at start (items.Global d ∷ rest) none h places =
+    let there = append-right (global_rules all at start d) (items_rules all (at + 1) (start + cells_of d.cells) rest) none in
+    (record { place = places.0; narrow = h.0.narrow places.0.some }, told_by all (at + 1) (start + cells_of d.cells) rest there h.1 places.1)
+told_by all at start (items.Function f ∷ rest) none h places =
+    told_by all (at + 1) start rest (append-right (function_rules all at f) (items_rules all (at + 1) start rest) none) h places
+
+told_written : (start : ℕ) (xs : List Item) → AreTold start xs → AreTold start (map item_written xs)
+told_written start [] h = tt
+told_written start (items.Global d ∷ rest) h = (h.0, told_written (start + cells_of d.cells) rest h.1)
+told_written start (items.Function f ∷ rest) h = told_written start rest h
+
 places_written : (start : ℕ) (xs : List Item) → HavePlaces start xs → HavePlaces start (map item_written xs)
 places_written start [] h = tt
 places_written start (items.Global d ∷ rest) h = (h.0, places_written (start + cells_of d.cells) rest h.1)
@@ -175,3 +208,9 @@ accepted_setting text p is obeys fuel =
 
 pub accepted_programs_have_one_outcome : AcceptedProgramsHaveOneOutcome
 accepted_programs_have_one_outcome text p is obeys fuel = a_program_has_one_outcome (program_written p).items (accepted_places text p is obeys) fuel
+
+pub accepted_places_are_told : AcceptedPlacesAreTold
+accepted_places_are_told text p is obeys =
+    let none = append-left (items_rules p.items 0 0 p.items) _ (ap first obeys) in
+    let sized = program_sized is.tokens p is.is_program (all_fit is.tokens is.are_tokens) in
+    told_written 0 p.items (told_by p.items 0 0 p.items none sized (places_by p.items 0 0 p.items none sized))

@@ -133,6 +133,22 @@ HavePlaces start [] = Unit {0}
 HavePlaces start (items.Global d ∷ rest) = HasPlace start d × HavePlaces (start + cells_of d.cells) rest
 HavePlaces start (items.Function f ∷ rest) = HavePlaces start rest
 
+-- The place can be told in numbers of 32 bits: no row has more cells than the global.
+-- Read against: `long m[3][2];` has rows of 2 cells, and 6 cells; a tree could say rows of 4,294,967,296 cells of it, and no text does.
+pub record IsTold (start : ℕ) (d : GlobalDef) : Type 0 where
+  pub place : HasPlace start d
+  pub narrow : ForSome d.columns (λ columns. columns ≤ cells_of d.cells)
+
+-- those of all globals among these items can, the first of them from this cell on
+abbrev pub AreTold : ℕ → List Item → Type 0
+AreTold start [] = Unit {0}
+AreTold start (items.Global d ∷ rest) = IsTold start d × AreTold (start + cells_of d.cells) rest
+AreTold start (items.Function f ∷ rest) = AreTold start rest
+
+-- So can those of the globals of a program as which a text is accepted, each task loop in it written out.
+abbrev pub AcceptedPlacesAreTold : Type 0
+AcceptedPlacesAreTold = (text : List ℕ) (p : Tree) → IsProgramText text p → program_rules p ≡ [] → AreTold 0 (program_written p).items
+
 -- A program whose globals have their places has a code.
 abbrev pub ProgramsHaveCodes : Type 0
 ProgramsHaveCodes = (all : List Item) → HavePlaces 0 all → (code : CodeParts) × IsLowered all code

@@ -1,7 +1,7 @@
 //! What holds of the code of every program, accepted or not: laws, each carried by a function that does
 //! nothing. A crate above calls the function, and then has the law.
 
-ghost use Rattle.oss_lower_laws.specs.Programs.{AProgramHasOneOutcome, AcceptedProgramsHaveOneOutcome, BoundsAreEnough, CodesAreSound, CodesAskAlike, MainOutcomesAlike, OutcomesAlike, OutcomesAreOne, ProgramsAreLively, ProgramsHaveCodes, ProgramsHaveOneOutcome};
+ghost use Rattle.oss_lower_laws.specs.Programs.{AProgramHasOneOutcome, AcceptedPlacesAreTold, AcceptedProgramsHaveOneOutcome, BoundsAreEnough, CodesAreSound, CodesAskAlike, MainOutcomesAlike, OutcomesAlike, OutcomesAreOne, ProgramsAreLively, ProgramsHaveCodes, ProgramsHaveOneOutcome};
 
 /// The code that a program becomes is a code of it: each body of the program has a place in the code, and the
 /// body at that place asks for the same, on the same lines, after any answers. `main` is at the first
@@ -60,4 +60,10 @@ pub fn a_program_has_one_outcome()
 /// So has that of a program as which a text is accepted, each task loop in it written out.
 pub fn accepted_programs_have_one_outcome()
     ensures { AcceptedProgramsHaveOneOutcome }
+{}
+
+/// Each global of a program as which a text is accepted, each task loop in it written out, has a place, and that
+/// can be told in numbers of 32 bits. So what is asked where a global lies refuses no such program.
+pub fn accepted_places_are_told()
+    ensures { AcceptedPlacesAreTold }
 {}
