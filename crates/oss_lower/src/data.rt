@@ -1,9 +1,10 @@
 //! The cells at the start, and where the globals lie.
-ghost use Rattle.std.specs.Prelude.{◌≡◌, ◌++◌, ◌+◌, IfOk, OnOk, replicate};
+ghost use Rattle.std.specs.Prelude.{◌≡◌, ◌++◌, ◌+◌, IfOk, IsOk, OnOk, replicate};
 ghost use Rattle.oss_grammar.specs.Layout.{cells_of};
 ghost use Rattle.oss_meaning.specs.Pointers.{extents_of};
 ghost use Rattle.oss_meaning.specs.Results.{first_cells};
 ghost use Rattle.oss_code.specs.Globals.{extent_of, extents_in};
+ghost use Rattle.oss_lower_laws.specs.Programs.{IsTold};
 
 use oss_code::GlobalPlace;
 use oss_syntax::{GlobalDef, Item, Range};
@@ -70,11 +71,13 @@ pub(crate) fn places(alloc: Global, items: &[Item]) -> Result<Vec<GlobalPlace>, 
     Ok(places)
 }
 
-/// Where a global lies whose first cell is this one.
+/// Where a global lies whose first cell is this one. It takes no memory, and is told as want of it where the place
+/// cannot be told in numbers of 32 bits, as it can of each program of a text (`accepted_places_are_told`).
 fn place_from(start: u32, global: &GlobalDef) -> Result<GlobalPlace, AllocError>
     ensures extent { IfOk result (λ place. extent_of place ≡
         (record { start = start; count = cells_of global.now.cells; columns = global.now.columns })) }
     ensures end { IfOk result (λ place. place.range.hi ≡ start + cells_of global.now.cells) }
+    ensures fits { IsTold start global.now → IsOk result }
 {
     let count = count_of(global);
     if count == 0 || count > 1048576 || start > 1048576 - count as u32 {

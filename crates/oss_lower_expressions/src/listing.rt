@@ -1,5 +1,5 @@
 //! The instructions that are written so far.
-ghost use Rattle.std.specs.Prelude.{◌≡◌, ◌+◌, ◌<◌, ◌∷◌, ◌++◌, List, [], length, take, IfOk, OnOk};
+ghost use Rattle.std.specs.Prelude.{◌≡◌, ◌+◌, ◌<◌, ◌^◌, ◌∷◌, ◌++◌, List, [], length, take, IfOk, IsOk, OnOk};
 ghost use Rattle.oss_lower_laws.specs.declared.lined.Lined.{Lined as Written};
 ghost use Rattle.oss_lower_laws.specs.ExpressionCode.{one};
 ghost use Rattle.oss_lower_expressions.specs.Jumps.{jump_by};
@@ -84,13 +84,15 @@ impl Listing {
         Ok(())
     }
 
-    /// Lets the jump at a place pass all instructions that are written behind it, and so many more.
+    /// Lets the jump at a place pass all instructions that are written behind it, and so many more. It takes no memory,
+    /// and succeeds where there are fewer than 4,294,967,296 instructions with those.
     #[tactic(auto, using(crate::proofs::ListingLemmas::put))]
     pub fn fill(&mut self, at: usize, jump: Jump, more: u32) -> Result<(), AllocError>
         requires { at < length self.old }
-        ensures { OnOk result ((before after : List Written) (l : Written) → self.old ≡ before ++ (l ∷ after) →
+        ensures filled { OnOk result ((before after : List Written) (l : Written) → self.old ≡ before ++ (l ∷ after) →
             at ≡ length before → self.new ≡ before ++
             (one l.line l.depth (jump_by jump (length after + more)) ++ after)) }
+        ensures fits { length self.old + more < 2 ^ 32 → IsOk result }
     {
         let passed = deeper(narrow(self.code.len() - (at + 1))?, more)?;
         self.code[at].what = jump_by(jump, passed);

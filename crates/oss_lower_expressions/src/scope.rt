@@ -1,5 +1,5 @@
 //! The locals in scope.
-ghost use Rattle.std.specs.Prelude.{◌≡◌, ◌∷◌, ◌++◌, ◌≤◌, ◌<◌, [], length, take, IfOk, OnOk, map};
+ghost use Rattle.std.specs.Prelude.{◌≡◌, ◌∷◌, ◌++◌, ◌≤◌, ◌<◌, [], length, take, IfOk, OnErr, OnOk, map};
 ghost use Rattle.oss_meaning.specs.Names.{local_from};
 
 use oss_meaning::Found;
@@ -47,7 +47,8 @@ impl<'p> Scope<'p> {
 
     /// Declares a local. Where memory is wanting they stay.
     pub fn declare(&mut self, local: &'p Local) -> Result<(), AllocError>
-        ensures { OnOk result (self.new ≡ self.old ++ local.now ∷ []) }
+        ensures declared { OnOk result (self.new ≡ self.old ++ local.now ∷ []) }
+        ensures stays { OnErr result (self.new ≡ self.old) }
     {
         if self.locals.len() >= 4294967295 {
             return Err(AllocError);

@@ -54,9 +54,9 @@ choice-returns-clause-code t c =
     choice-written a all c.args.line c.args.test.now (stmt_code all c.args.side.now) other scope
     c.args.out.now c.push.new.self c.value.new.out c.push-2.new.self c.inside.new.out c.push-3.new.self o6 c.inside_part.new.out c.fill-2.new.self
     c.requires c.in_ok-push.ensures c.in_ok-value.ensures.code c.in_ok-push-2.ensures c.in_ok-inside.ensures.code c.in_ok-push-3.ensures
-    (λ before after l is at. c.in_ok-fill.ensures before after l is (c.len-test_at.ensures ∙ at))
+    (λ before after l is at. c.in_ok-fill.ensures.filled before after l is (c.len-test_at.ensures ∙ at))
     (c.in_ok-inside_part.ensures.code ∙ ap (λ q. o6 ++ part_code other (spot_at a q (length o6))) same)
-    (λ before after l is at. c.in_ok-fill-2.ensures before after l is (c.len-end_at.ensures ∙ at))
+    (λ before after l is at. c.in_ok-fill-2.ensures.filled before after l is (c.len-end_at.ensures ∙ at))
 
 pub for_loop-returns-clause-code : goal.for_loop-returns-clause-code
 for_loop-returns-clause-code t c =
@@ -97,10 +97,10 @@ turns-returns-clause-code t c =
     (c.of_loop.ensures ∙ ap (λ n. record { result = a.result; stop = n; again = start - 3 }) stop ∙ ap (λ n. record { result = a.result; stop = length o0 + 1; again = n }) again)
     c.passed.new.out c.in_ok-test_at.test_at c.in_ok-passed.ensures.some c.in_ok-passed.ensures.none
     test c.in_ok-test_at.ensures.place e1 c.in_ok-test_at.ensures.code c.in_ok-inside.ensures.code
-    (λ before after l is at. c.in_ok-fill.ensures before after l is (next ∙ at))
+    (λ before after l is at. c.in_ok-fill.ensures.filled before after l is (next ∙ at))
     (c.in_ok-inside_part.ensures.code ∙ ap (λ q. o4 ++ part_code last (spot_at a q (length o4))) same)
-    (c.in_ok-push.ensures ∙ ap (λ n. o5 ++ one line 0 (i.Again n)) (c.in_ok-back.ensures ∙ ap (λ n. n - start) c.len-written.ensures ∙ ap (λ n. length o5 - n) begins))
-    (λ before after l is at. c.in_ok-fill-2.ensures before after l is (leave ∙ at))
+    (c.in_ok-push.ensures ∙ ap (λ n. o5 ++ one line 0 (i.Again n)) (c.in_ok-back.ensures.same ∙ ap (λ n. n - start) c.len-written.ensures ∙ ap (λ n. length o5 - n) begins))
+    (λ before after l is at. c.in_ok-fill-2.ensures.filled before after l is (leave ∙ at))
 
 pub turns-inside_part-requires : goal.turns-inside_part-requires
 turns-inside_part-requires t c =
@@ -110,7 +110,7 @@ turns-inside_part-requires t c =
     let m2 = ap length c.in_ok-test_at.ensures.code ∙ length-append c.pads.new.out _ in
     let m3 = ap length c.in_ok-inside.ensures.code ∙ length-append c.tested.new.out _ in
     let before : start - 2 < length c.inside.new.out = omega arith in
-    let m4 = fill-size jump.Always 0 (start - 2) c.inside.new.out c.fill.new.self before c.in_ok-fill.ensures in
+    let m4 = fill-size jump.Always 0 (start - 2) c.inside.new.out c.fill.new.self before c.in_ok-fill.ensures.filled in
     let more : length c.args.out.now ≤ length c.fill.new.self = omega arith in
     (omega arith, still-behind c.args.around (length c.args.out.now) (length c.fill.new.self) c.requires more)
 
@@ -122,7 +122,7 @@ turns-overflow_sub-written t c =
     let m2 = ap length c.in_ok-test_at.ensures.code ∙ length-append c.pads.new.out _ in
     let m3 = ap length c.in_ok-inside.ensures.code ∙ length-append c.tested.new.out _ in
     let before : start - 2 < length c.inside.new.out = omega arith in
-    let m4 = fill-size jump.Always 0 (start - 2) c.inside.new.out c.fill.new.self before c.in_ok-fill.ensures in
+    let m4 = fill-size jump.Always 0 (start - 2) c.inside.new.out c.fill.new.self before c.in_ok-fill.ensures.filled in
     let m5 = ap length c.in_ok-inside_part.ensures.code ∙ length-append c.fill.new.self _ in
     let m6 = c.len-written.ensures in
     omega arith
@@ -135,7 +135,7 @@ turns-fill-requires-2 t c =
     let m2 = ap length c.in_ok-test_at.ensures.code ∙ length-append c.pads.new.out _ in
     let m3 = ap length c.in_ok-inside.ensures.code ∙ length-append c.tested.new.out _ in
     let before : start - 2 < length c.inside.new.out = omega arith in
-    let m4 = fill-size jump.Always 0 (start - 2) c.inside.new.out c.fill.new.self before c.in_ok-fill.ensures in
+    let m4 = fill-size jump.Always 0 (start - 2) c.inside.new.out c.fill.new.self before c.in_ok-fill.ensures.filled in
     let m5 = ap length c.in_ok-inside_part.ensures.code ∙ length-append c.fill.new.self _ in
     let m6 = ap length c.in_ok-push.ensures ∙ length-append c.inside_part.new.out _ in
     omega arith
@@ -148,11 +148,11 @@ turns-passed-requires t c =
     let m2 = ap length c.in_ok-test_at.ensures.code ∙ length-append c.pads.new.out _ in
     let m3 = ap length c.in_ok-inside.ensures.code ∙ length-append c.tested.new.out _ in
     let before : start - 2 < length c.inside.new.out = omega arith in
-    let m4 = fill-size jump.Always 0 (start - 2) c.inside.new.out c.fill.new.self before c.in_ok-fill.ensures in
+    let m4 = fill-size jump.Always 0 (start - 2) c.inside.new.out c.fill.new.self before c.in_ok-fill.ensures.filled in
     let m5 = ap length c.in_ok-inside_part.ensures.code ∙ length-append c.fill.new.self _ in
     let m6 = ap length c.in_ok-push.ensures ∙ length-append c.inside_part.new.out _ in
     let before_that : start - 4 < length c.push.new.self = omega arith in
-    let m7 = fill-size jump.Always 0 (start - 4) c.push.new.self c.fill-2.new.self before_that c.in_ok-fill-2.ensures in
+    let m7 = fill-size jump.Always 0 (start - 4) c.push.new.self c.fill-2.new.self before_that c.in_ok-fill-2.ensures.filled in
     let all = c.args.names.now in
     let line = c.args.line in
     let scope = c.args.scope.now in
