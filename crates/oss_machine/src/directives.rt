@@ -1,5 +1,5 @@
 //! What the clauses of a directive give, and the asks of directives.
-ghost use Rattle.std.specs.Prelude.{◌≡◌, ◌+◌, ℕ, IfOk, Ok, drop, slice_get, true};
+ghost use Rattle.std.specs.Prelude.{◌≡◌, ◌<◌, ◌^◌, ◌+◌, ℕ, IfOk, IsOk, Ok, drop, slice_get, true};
 ghost use Rattle.oss_grammar.specs.SectionCells.{signed};
 ghost use Rattle.oss_model.specs.Bodies.Ask.{Create, Release, WaitOn};
 ghost use Rattle.oss_meaning.specs.Clauses.{holds, order_of};
@@ -72,10 +72,11 @@ pub(crate) fn priority(frame: &mut Activation) -> Result<(), AllocError>
     Ok(())
 }
 
-/// The entry so many instructions behind the next one. A code with an entry that no number of 32 bits tells has
-/// no room.
+/// The entry so many instructions behind the next one, where a number of 32 bits tells it. It takes no memory, and any
+/// other entry is told as want of it.
 fn entry_behind(at: usize, passed: u32) -> Result<u32, AllocError>
-    ensures { IfOk result (λ to. to ≡ at + 1 + passed) }
+    ensures entry { IfOk result (λ to. to ≡ at + 1 + passed) }
+    ensures fits { at + 1 + passed < 2 ^ 32 → IsOk result }
 {
     match u32::try_from(place_behind(at, passed)?) {
         Ok(entry) => Ok(entry),

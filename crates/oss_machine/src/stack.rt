@@ -1,5 +1,5 @@
 //! Values on the stack of a function.
-ghost use Rattle.std.specs.Prelude.{◌≡◌, ◌+◌, ◌-◌, ◌∷◌, ◌++◌, [], IfOk, OnOk, drop, reverse, take};
+ghost use Rattle.std.specs.Prelude.{◌≡◌, ◌<◌, ◌^◌, ◌+◌, ◌-◌, ◌∷◌, ◌++◌, [], IfOk, IsOk, OnOk, drop, reverse, take};
 ghost use Rattle.oss_meaning.specs.Expressions.{value_at};
 ghost use Rattle.oss_machine.specs.Outcomes.{IsMoved};
 ghost use Rattle.oss_machine.specs.Steps.{ahead, onward};
@@ -8,11 +8,12 @@ use crate::activation::Activation;
 use oss_meaning::Value;
 use std::alloc::AllocError;
 
-/// The place so many instructions behind the next one. A code with a place that no number tells has no room in
-/// any memory.
+/// The place so many instructions behind the next one, where a number of 64 bits tells it, as it does of each place of a
+/// code. It takes no memory, and any other place is told as want of it.
 #[inline(always)]
 pub(crate) fn place_behind(at: usize, passed: u32) -> Result<usize, AllocError>
-    ensures { IfOk result (λ to. to ≡ at + 1 + passed) }
+    ensures place { IfOk result (λ to. to ≡ at + 1 + passed) }
+    ensures fits { at + 1 + passed < 2 ^ 64 → IsOk result }
 {
     match at.checked_add(1 + passed as usize) {
         Some(to) => Ok(to),
