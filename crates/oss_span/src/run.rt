@@ -1,6 +1,6 @@
 //! The acts of a task that stand at the end of the longest chain to its last one.
 
-ghost use Rattle.std.specs.Prelude.{◌≡◌, ◌≤◌, ◌<◌, ◌-◌, ◌^◌, ◌++◌, ◌∷◌, [], IfOk, OnErr, OnOk, IfSome, length};
+ghost use Rattle.std.specs.Prelude.{◌≡◌, ◌≤◌, ◌<◌, ◌-◌, ◌^◌, ◌++◌, ◌∷◌, [], IfOk, OnErr, OnOk, IfSome, IsSome, length};
 ghost use Rattle.oss_span.specs.Acts.{IsSealed, after_act};
 
 use crate::best::{Best, Mark};
@@ -22,10 +22,11 @@ pub(crate) struct Run {
 impl Run {
     /// The chain to the next act, which is a tick or none: behind the last one, or behind another event that it
     /// waits for and to which a longer chain leads. `None` where the task has done 18,446,744,073,709,551,615
-    /// acts.
+    /// acts, and not before: at the end of a chain stand no more acts than the task has done.
     pub(crate) fn after(self, other: Best, is_tick: bool) -> Option<Run>
         ensures run { IfSome result (λ run. run ≡ after_act other is_tick self) }
         ensures counted { IfSome result (λ run. self.acts < 2 ^ 64 - 1) }
+        ensures fits { self.count ≤ self.acts → self.acts < 2 ^ 64 - 1 → IsSome result }
     {
         let acts = self.acts.checked_add(1)?;
         if self.ticks < other.mark.ticks {

@@ -1,6 +1,6 @@
 //! What is kept beside the sequential run.
 
-ghost use Rattle.std.specs.Prelude.{◌≡◌, ◌<◌, ◌+◌, [], List as Items, IfOk, OnOk};
+ghost use Rattle.std.specs.Prelude.{◌≡◌, ◌<◌, ◌+◌, ◌^◌, [], List as Items, IfOk, IsOk, OnOk};
 ghost use Rattle.oss_span_check.specs.Following.{IsDown, IsFollowed, IsOn, IsStill, IsUp, IsWhatOf, with_note};
 
 use crate::note::{Made, Note, What};
@@ -162,9 +162,10 @@ impl Watch {
     }
 }
 
-/// One more. Where the number does not fit, no memory would hold what is to be kept.
+/// One more, where the number fits. It takes no memory, and tells of want of it at 18,446,744,073,709,551,615 alone.
 fn more(n: u64) -> Result<u64, AllocError>
-    ensures { IfOk result (λ more. more ≡ n + 1) }
+    ensures more { IfOk result (λ more. more ≡ n + 1) }
+    ensures fits { n + 1 < 2 ^ 64 → IsOk result }
 {
     match n.checked_add(1) {
         Some(more) => Ok(more),
