@@ -166,12 +166,13 @@ impl BoxedBody {
     }
 
     /// A run of cells from one on, up to another: whether the task has released each of them, or none, and where the
-    /// run ends. It takes no memory.
+    /// run ends, which is at the other one or where that changes. It takes no memory.
     pub fn released_run(&self, from: u32, to: u32) -> (bool, u32)
         requires { from < to }
         ensures alike { (cell : ℕ) → from ≤ cell → cell < result.1 → released_by self.now cell ≡ result.0 }
         ensures some { from < result.1 }
         ensures within { result.1 ≤ to }
+        ensures whole { result.1 < to → released_by self.now result.1 ≡ result.0 → ⊥ }
     {
         self.place.released_run(from, to)
     }
