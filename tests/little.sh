@@ -1,8 +1,8 @@
 #!/bin/sh
 # Little memory, small stacks, few files, no threads, outputs that take nothing, and a reader that goes away: as a user meets them. Each program of examples/ is run with so little
 # memory, and with so small a stack. Each call ends with its own answer, or with status 6 and nothing on either output, and never by a signal. A run that is out of
-# memory on several threads is made anew on one; but the C library keeps the stacks of threads that have ended, so that this may be out of memory too. From 32 MB on it is not: there a call
-# fails that ends with status 6 although one worker has the memory that it needs.
+# memory on several threads is made anew on one, for which some is kept back: so it fails if a call on four threads ends with status 6 although one worker has the memory
+# that it needs.
 # The last line counts the calls; the status is 0 only if none failed. `tests/little.sh PROGRAM` tries another program than the one of this repository.
 top=$(CDPATH='' cd -- "$(dirname -- "$0")/.." && pwd) || exit 1
 program=${1:-$top/crates/nest6/out/nest6}
@@ -57,7 +57,7 @@ for file in *.c; do
   "$program" run "$file" --mode=serial >own.out 2>own.err
   own=$?
   # KiB of memory
-  for size in 4000 6000 8000 12000 20000 32000 64000; do
+  for size in 4000 6000 8000 12000 16000 20000 24000 28000 32000 64000; do
     within "run $file --mode=serial" -v "$size"
     is "$own" own.out own.err || is 6 nothing nothing
     tell $? "run $file --mode=serial with $size KiB of memory: status $status"
@@ -65,7 +65,7 @@ for file in *.c; do
     is 6 nothing nothing
     wanting=$?
     within "run $file --workers=4" -v "$size"
-    is "$own" own.out own.err || { is 6 nothing nothing && { [ "$wanting" = 0 ] || [ "$size" -lt 32000 ]; }; }
+    is "$own" own.out own.err || { is 6 nothing nothing && [ "$wanting" = 0 ]; }
     tell $? "run $file --workers=4 with $size KiB of memory: status $status"
   done
   # KiB of stack

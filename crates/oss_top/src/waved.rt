@@ -1,6 +1,7 @@
 //! The run by waves of a program.
 
-ghost use Rattle.std.specs.Prelude.{◌≡◌, ◌<◌, [], ℕ, false, IfOk};
+ghost use Rattle.std.specs.Prelude.{◌≡◌, ◌<◌, ◌≤◌, [], ℕ, false, IfOk};
+ghost use Rattle.std.specs.Vec.{vec_capacity};
 ghost use Rattle.oss_top.specs.Runs.{AreWavesOf};
 
 use crate::run::are_words;
@@ -20,6 +21,9 @@ use std::thread::Threads;
 /// How many entries a net of words has at most; where a run needs more, plain lists go on in its place.
 pub(crate) const MOST_ENTRIES: u32 = 16_777_216;
 
+/// So many bytes are kept back while a run is made on several threads.
+const KEPT_BACK: usize = 16_777_216;
+
 /// What a run by waves gives of a program.
 #[derive(Drop)]
 pub(crate) struct Waved {
@@ -29,8 +33,9 @@ pub(crate) struct Waved {
     pub(crate) waves: WaveRecord,
 }
 
-/// The run by waves of a program, by its code. Threads take memory: a run that is out of memory on several is made anew on
-/// one.
+/// The run by waves of a program, by its code. Threads take memory, of which the C library keeps some when they have ended: so
+/// a run that is out of memory on several is made anew on one, and some memory is kept back for that. Where that is not to be
+/// had, the run is made on one at once.
 pub(crate) fn wave_run<R: Threads + Sync, G: Gate>(
     rt: &R,
     alloc: Global,
@@ -41,19 +46,32 @@ pub(crate) fn wave_run<R: Threads + Sync, G: Gate>(
     requires { 0 < options.workers }
     ensures { IfOk result (λ run. AreWavesOf known.now options.fuel run.answer run.waves) }
 {
-    match wave_run_on(rt, alloc, known, options, gate) {
-        Ok(run) => Ok(run),
-        Err(full) => {
-            if options.workers == 1 {
-                return Err(full);
-            }
-            let alone = Options {
-                workers: 1,
-                ..options
-            };
-            wave_run_on(rt, alloc, known, alone, gate)
-        }
+    let alone = Options {
+        workers: 1,
+        ..options
+    };
+    if options.workers == 1 {
+        return wave_run_on(rt, alloc, known, alone, gate);
     }
+    match kept_back(alloc) {
+        Ok(room) => {
+            let run = wave_run_on(rt, alloc, known, options, gate);
+            drop(room);
+            match run {
+                Ok(run) => Ok(run),
+                Err(_) => wave_run_on(rt, alloc, known, alone, gate),
+            }
+        }
+        Err(_) => wave_run_on(rt, alloc, known, alone, gate),
+    }
+}
+
+/// Memory into which nothing is put. It is taken in a call of its own, so that no compiler leaves it out.
+#[inline(never)]
+fn kept_back(alloc: Global) -> Result<Vec<u8>, AllocError>
+    ensures { IfOk result (λ room. 16777216 ≤ vec_capacity room) }
+{
+    Vec::with_capacity(alloc, KEPT_BACK)
 }
 
 /// The same on as many workers as the options say.
