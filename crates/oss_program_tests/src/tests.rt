@@ -4,9 +4,7 @@
 mod chains;
 mod counts;
 mod draws;
-mod failures;
 mod fault_words;
-mod gates;
 mod layout;
 mod looping;
 mod lowering;
@@ -18,4 +16,3 @@ mod schedules;
 mod turns;
 mod waves;
 mod words;
-mod workers;
