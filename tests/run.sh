@@ -2,7 +2,7 @@
 # Runs the built program on the programs of examples/, on the cases of tests/cases/ and on bad words, files and bytes, and
 # compares its output, its error output and its status with what is stored. The last line counts; the status is 0 only where
 # nothing failed. `tests/run.sh PROGRAM` runs another program than the one of this repository. With `--all` as the first word it then refuses memory
-# to the program too, one piece after the other (tests/refused.sh), which takes some minutes more.
+# to the program too, one piece after the other (tests/refused.sh), which takes hours more.
 #
 # In examples/, NAME.c is run; NAME.out is its output, NAME.err its error output (empty where there is none), NAME.status its
 # status (0 where there is none). It is run in each mode and with several numbers of workers, and its trace is replayed; NAME.trace is that
