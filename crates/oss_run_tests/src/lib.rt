@@ -20,4 +20,6 @@ mod part_tests;
 #[cfg(test)]
 mod single_tests;
 #[cfg(test)]
+mod wanting_tests;
+#[cfg(test)]
 mod waves_tests;
