@@ -9,6 +9,7 @@ pub mod Measures
 pub mod RangeLemmas
 pub mod RunLemmas
 pub mod RunSteps
+pub mod RushLemmas
 pub mod SettleLemmas
 pub mod SlideLemmas
 pub mod StackLemmas

@@ -7,6 +7,7 @@ pub mod Machines
 pub mod Outcomes
 pub mod Reaches
 pub mod Runs
+pub mod Rushes
 pub mod Slides
 pub mod Steps
 pub mod Turnings
