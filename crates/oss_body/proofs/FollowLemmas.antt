@@ -23,12 +23,12 @@ use Rattle.oss_body.proofs.Results.{if_ok}
 use Rattle.oss_body.proofs.StackLemmas.{some_task, tasks_of}
 
 -- a body whose task that acts is this one
-abbrev with_top : Meant CodeScript → Meant CodeScript → List (Meant CodeScript) → Stack CodeScript
+abbrev pub with_top : Meant CodeScript → Meant CodeScript → List (Meant CodeScript) → Stack CodeScript
 with_top g base [] = record { base = g; inner = []; ended = false }
 with_top g base (f ∷ fs) = record { base = base; inner = g ∷ fs; ended = false }
 
 -- no task is below exactly where the body's own task acts
-abbrev is_alone : List (Meant CodeScript) → Bool
+abbrev pub is_alone : List (Meant CodeScript) → Bool
 is_alone [] = true
 is_alone (f ∷ fs) = false
 
@@ -41,7 +41,7 @@ nil_rest code base [] = refl
 nil_rest code base (f ∷ fs) = some_is (all_of code base fs) (some_task code base fs)
 
 -- an act that leaves the task that acts the one that does
-stack_on : (a : MeantAct CodeScript) (v : ℕ) (base : Meant CodeScript) (inner : List (Meant CodeScript)) → stays_on a (is_alone inner) ≡ true → stack_after a v base inner ≡ with_top (frame_after a v (top_frame base inner)) base inner
+pub stack_on : (a : MeantAct CodeScript) (v : ℕ) (base : Meant CodeScript) (inner : List (Meant CodeScript)) → stays_on a (is_alone inner) ≡ true → stack_after a v base inner ≡ with_top (frame_after a v (top_frame base inner)) base inner
 stack_on (Created o true) v base inner h = cc
 stack_on (Created o false) v base [] h = refl
 stack_on (Created o false) v base (f ∷ fs) h = cc

@@ -5,6 +5,7 @@ mod FollowLemmas
 mod FrameLemmas
 pub mod LeftLemmas
 mod Results
+mod RushLemmas
 pub mod SendLemmas
 mod SlotLemmas
 mod StackLemmas

@@ -8,6 +8,8 @@ pub mod Left
 pub mod Mains
 pub mod Places
 pub mod Relation
+pub mod Rushed
 pub mod Silent
 pub mod Slots
 pub mod Stacks
+pub mod Touches

@@ -69,6 +69,7 @@ impl Drop for Body {
 impl Body {
     ghost use Rattle.oss_body.specs.Kept.{kept};
     ghost use Rattle.oss_body.specs.Relation.{HasStarted, IsBody, has_begun, has_wait, is_over, is_some, pending_of, released_by};
+    ghost use Rattle.oss_body.specs.Rushed.{HasRushed};
 
     /// The body of a task at its start: with this order, in this context, at this point. The code is the one in
     /// which the order was asked for. Condition: the point has one number more than there are tasks above the
@@ -195,6 +196,29 @@ impl Body {
         drop(mem::replace(&mut self.key, key));
         self.begun = true;
         Ok(())
+    }
+
+    /// Goes on by ticks, loads and stores, at most so many, where nothing wants memory: each happens to the cells as soon
+    /// as it stands next. This tells how many acts these were. The rush stops before every other act, before a fault,
+    /// before a store that marks its cell anew, and where the machine cannot go on in place; it may stop at once. The
+    /// code is the one with which the body was started. Condition: the body has not ended. It takes no memory.
+    pub fn rush(&mut self, code: &Code, cells: &mut Vec<u64>, most: u64) -> u64
+        requires running { is_over self.old ≡ false }
+        ensures rushed { (start : Start CodeScript) (found : Items ℕ) → IsBody code.now start found self.old →
+            HasRushed code.now start found cells.old.items result self.new cells.new.items }
+        ensures running { is_over self.new ≡ false }
+    {
+        if self.key.is_none() {
+            return 0;
+        }
+        let count = self.tasks.top.rush(code, cells, most);
+        if count == 0 {
+            return 0;
+        }
+        let act = self.tasks.top.quick_act(&mut self.key);
+        let_go(mem::replace(&mut self.act, act));
+        self.begun = true;
+        count
     }
 
     /// The end of the body's own task is done.

@@ -1,15 +1,18 @@
 //! One task of a body: its own, or one that is included.
-ghost use Rattle.std.specs.Prelude.{◌≡◌, ℕ, Bool, suc, true, false, IfOk, OnErr, OnOk, None, Some};
+ghost use Rattle.std.specs.Prelude.{◌≡◌, ◌<◌, ℕ, Bool, suc, true, false, IfOk, OnErr, OnOk, None, Some};
 ghost use Rattle.oss_model.specs.Rights.{Right};
 ghost use Rattle.oss_machine.specs.Asks.{meant_ask, meant_order, script_of};
 ghost use Rattle.oss_machine.specs.Frames.{CodeScript};
+ghost use Rattle.oss_machine.specs.Hastes.{is_quick_ask};
 ghost use Rattle.oss_machine.specs.Machines.{asks, machine_after, machine_start};
-ghost use Rattle.oss_model.specs.Bodies.{Frame as Meant, child_frame, frame_act, frame_after, including_frame, one_more_created, settled_frame};
+ghost use Rattle.oss_machine.specs.Rushes.{Rushes};
+ghost use Rattle.oss_model.specs.Bodies.{Frame as Meant, act_of_ask, child_frame, frame_act, frame_after, including_frame, one_more_created, settled_frame};
 ghost use Rattle.oss_model.specs.Context.{child_context, create_fault, made, right_of};
 ghost use Rattle.oss_body.specs.Acts.{HasContext, act_seen, answer_to, passed};
 ghost use Rattle.oss_body.specs.Behind.{IsLight};
 ghost use Rattle.oss_body.specs.Kept.{kept};
-ghost use Rattle.oss_body.specs.Places.{IsKey};
+ghost use Rattle.oss_body.specs.Places.{IsKey, key_at, place_of};
+ghost use Rattle.oss_body.specs.Touches.{IsMade};
 
 use crate::act::{Act, Creation};
 use crate::looking::{Ahead, awaits_behind, fill, reach, reach_behind};
@@ -185,6 +188,38 @@ impl Frame {
             self.place
                 .judged_at_once(self.machine.ask(), self.machine.line(), key),
         )
+    }
+
+    /// Goes on by ticks, loads and stores, at most so many, each of which happens to the cells of memory as soon as the
+    /// task asks for it, where nothing wants memory. This tells how many have happened. A store that marks its cell
+    /// anew is not made.
+    #[inline(always)]
+    pub(crate) fn rush(&mut self, code: &Code, cells: &mut Vec<u64>, most: u64) -> u64
+        ensures rushes { Rushes IsMade code.now self.old.machine self.old.place cells.old result
+            self.new.machine self.new.place cells.new }
+        ensures awaits { self.new.awaits ≡ self.old.awaits }
+        ensures calm { 0 < result → self.old.awaits ≡ false }
+    {
+        if self.awaits {
+            return 0;
+        }
+        self.machine.rush(code, &mut self.place, cells, most)
+    }
+
+    /// The act that stands next, or the fault, if the task asks for a tick, a load or a store, or has ended or failed.
+    /// A fault takes the key, which is that at which the task acts.
+    #[inline(always)]
+    pub(crate) fn quick_act(&self, key: &mut Option<Point>) -> Act
+        requires quick { is_quick_ask self.now.machine.asked.ask ≡ true }
+        requires key { key.old ≡ Some (key_at self.now.place) }
+        ensures act { (slots : ℕ → Right) (included : Bool) (f : Meant CodeScript) → self.now.place ≡ place_of f →
+            act_seen result ≡ act_of_ask slots included f self.now.machine.asked.ask self.now.machine.asked.line }
+        ensures passed { passed result self.now.place.context ≡ true }
+        ensures child { HasContext self.now.place.context result }
+        ensures key { IsKey key.new self.now.place }
+    {
+        self.place
+            .judged_at_once(self.machine.ask(), self.machine.line(), key)
     }
 
     /// The act has happened, which leaves the task the one that acts, and a load found this value: the task

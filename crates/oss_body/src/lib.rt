@@ -14,6 +14,7 @@ mod mains;
 pub mod memory;
 mod own;
 mod place;
+mod rushing;
 mod tasks;
 
 pub use act::{Act, Creation};
