@@ -1,3 +1,4 @@
 pub mod CountLemmas
+mod RushLemmas
 pub mod TurnLemmas
 pub mod StageLemmas

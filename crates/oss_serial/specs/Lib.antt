@@ -1,3 +1,4 @@
 pub mod Turns
 pub mod Stages
 pub mod Runs
+pub mod Rushings

@@ -31,6 +31,7 @@ pub fn serial(alloc: Global, code: &Code, fuel: u32) -> Result<Ran, AllocError>
 {
     let mut stage = begin(alloc, code, fuel)?;
     'turns: loop {
+        stage.rush(code);
         match stage.turn(code)? {
             Turned::On => {}
             Turned::Ended => return Ok(stage.done()),

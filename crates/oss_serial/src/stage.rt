@@ -40,7 +40,19 @@ pub enum Turned {
 
 impl Stage {
     ghost use Rattle.oss_model.specs.declared.answer.Answer.TheVariants as answers;
+    ghost use Rattle.oss_serial.specs.Rushings.{IsFurther};
     ghost use Rattle.oss_serial.specs.Stages.{IsDown, IsStage, IsTurned, IsUp};
+
+    /// As many ticks, loads and stores of the body that runs as it makes at once: each is a turn, of which nothing is told.
+    /// There may be none. Condition: the body has not ended. It takes no memory.
+    pub(crate) fn rush(&mut self, code: &Code)
+        requires running { is_over self.old.current ≡ false }
+        ensures further { (main : Start CodeScript) (first : Items ℕ) → IsStage code.now main first self.old →
+            IsFurther code.now main first self.old self.new }
+        ensures running { is_over self.new.current ≡ false }
+    {
+        self.current.rush(code, &mut self.cells, u64::MAX);
+    }
 
     /// One act of the body that runs. An end goes up to the creator, and a creation down to the new task.
     /// Condition: the body has not ended. After want of memory the run is given up.
