@@ -26,7 +26,7 @@ use Rattle.oss_serial.specs.declared.stage.Stage.{Stage}
 use Rattle.oss_serial.specs.declared.stage.Turned.{Turned}
 use Rattle.oss_serial.specs.declared.stage.Turned.TheVariants as turned
 use Rattle.oss_serial.specs.declared.turn.Turn.TheVariants as turns
-use Rattle.oss_serial.specs.Stages.{AreBodies, IsFirstStage, IsNext, IsStage, IsTurned, IsUp, bodies_left, left_at, turn_of}
+use Rattle.oss_serial.specs.Stages.{AreBodies, IsFirstStage, IsNext, IsStage, IsTurned, IsUp, StandsBeforeFault, bodies_left, left_at, turn_of}
 use Rattle.oss_body.specs.Mains.{code_main}
 use Rattle.oss_serial.specs.Turns.{Begins, Ends, Goes, answered}
 use Rattle.oss_serial.proofs.TurnLemmas.{begins, creates_less, ends_all, goes_down, goes_less, goes_on as runs_on, goes_up, more_tasks, stops}
@@ -288,13 +288,13 @@ module _ (code : CodeParts) (main : Start CodeScript) (first : List ℕ) where
               let w = bodies_left_last code s.above after in
               omega (arith, l, x, y, z, u, w)
 
-    pub turn_stops : (k : FaultKind) (l : ℕ) → turns.Stops k l ≡ turn_of a s.cells.items → n.tasks ≡ s.tasks
-        → (entries : ℕ) × IsOutcome (asks code) main first (record { answer = answers.Fault k l n.output.items; tasks = n.tasks; entries = entries })
-    turn_stops k l told t =
+    pub turn_stops : (k : FaultKind) (l : ℕ) → turns.Stops k l ≡ turn_of a s.cells.items → n.tasks ≡ s.tasks → n.current ≡ s.current
+        → ((entries : ℕ) × IsOutcome (asks code) main first (record { answer = answers.Fault k l n.output.items; tasks = n.tasks; entries = entries })) × ((n.current ≡ s.current) × StandsBeforeFault code main first s st k l)
+    turn_stops k l told t same =
         let f = shown_stops a s.cells.items k l told in
         let r = stops (asks code) main first st.current st.above s.cells.items s.output.items s.tasks k l f.0 st.stands (sym seen ∙ f.1) in
         let e : n.output.items ≡ s.output.items = output_is ∙ fault_output (act_seen a) k l f.0 s.output.items f.1 in
-        (r.0, rw (e, t) r.1)
+        ((r.0, rw (e, t) r.1), (same, record { key = f.0; fault = sym seen ∙ f.1 }))
 
 -- the body that runs has not ended
 pub runs_still : (code : CodeParts) (main : Start CodeScript) (first : List ℕ) (s : Stage) → IsStage code main first s → is_over s.current ≡ false

@@ -3,11 +3,12 @@
 -- that stands before a creation waits for the new task.
 use Rattle.std.specs.Prelude.{◌≡◌, ◌<◌, ℕ, ◌+◌, ◌-◌, ◌^◌, min, false, List, [], ◌∷◌, ◌++◌, slice_index}
 use Rattle.oss_model.specs.Bodies.{Body, Order, Start, child_start, stack_from, stage_act}
-use Rattle.oss_model.specs.Bodies.Act.{Created}
-use Rattle.oss_model.specs.Moves.{opening}
+use Rattle.oss_model.specs.Bodies.Act.{Created, Fault}
+use Rattle.oss_model.specs.Moves.{act_now, opening}
 use Rattle.oss_model.specs.Sequence.{RunsOn}
 use Rattle.oss_model.specs.declared.answer.Answer.TheVariants as answers
 use Rattle.oss_meaning.specs.Results.{IsOutcome}
+use Rattle.oss_syntax.specs.declared.fault.FaultKind.{FaultKind}
 use Rattle.oss_code.specs.declared.code.CodeParts.{CodeParts}
 use Rattle.oss_machine.specs.Frames.{CodeScript}
 use Rattle.oss_machine.specs.Machines.{asks}
@@ -67,12 +68,17 @@ pub record IsNext (code : CodeParts) (main : Start CodeScript) (first : List ℕ
   pub runs : RunsOn (asks code) was.stands.stage stage.stands.stage
   pub less : left_at code new < left_at code old
 
--- What a turn makes of a stage: the next one; or an act of the run leads to its end, where this is what it has; or a fault stops the run, and this is what it gives.
+-- The body that runs at the stage stands before a fault of this kind, on this line.
+pub record StandsBeforeFault (code : CodeParts) (main : Start CodeScript) (first : List ℕ) (s : Stage) (is : IsStage code main first s) (kind : FaultKind) (line : ℕ) : Type 0 where
+  pub key : List ℕ
+  pub fault : act_now (asks code) is.current ≡ Fault kind line key
+
+-- What a turn makes of a stage: the next one; or an act of the run leads to its end, where this is what it has; or the stage stands before a fault that stops the run, this is what it gives, and the body that runs stays.
 abbrev pub IsTurned : (code : CodeParts) (main : Start CodeScript) (first : List ℕ) (old : Stage) → IsStage code main first old → Stage → Turned → Type 0
 IsTurned code main first old was new turned.On = IsNext code main first old was new
 IsTurned code main first old was new turned.Ended = Ends (asks code) main first was.stands.stage new.cells.items new.output.items new.tasks
 IsTurned code main first old was new (turned.Failed kind line) =
-    (entries : ℕ) × IsOutcome (asks code) main first (record { answer = answers.Fault kind line new.output.items; tasks = new.tasks; entries = entries })
+    ((entries : ℕ) × IsOutcome (asks code) main first (record { answer = answers.Fault kind line new.output.items; tasks = new.tasks; entries = entries })) × ((new.current ≡ old.current) × StandsBeforeFault code main first old was kind line)
 
 -- All but the bodies is as it was.
 pub record IsBeside (old new : Stage) : Type 0 where

@@ -50,4 +50,4 @@ returns-in-Failed c =
     let on = c.rush.ensures.further main first c.turns.invariant.1 in
     let r = subst (λ t. IsTurned c.args.code.now main first c.rush.new.self on.stage c.turn.new.self t) c.in-Failed.is
     (c.in_ok-turn.ensures main first c.turns.invariant.0 on.stage) in
-    (r.0, rw (c.failed.ensures.answer, c.failed.ensures.tasks) r.1)
+    (r.0.0, rw (c.failed.ensures.answer, c.failed.ensures.tasks) r.0.1)

@@ -39,4 +39,4 @@ pub returns-in-Failed : goal.returns-in-Failed
 returns-in-Failed c =
     fails_beside c.args.code.now c.args.fuel c.in-Failed.kind c.in-Failed.line c.turn.new.self.output.items c.turn.new.self.tasks
     (subst (λ t. IsTurned c.args.code.now (code_main c.args.code.now c.args.fuel) c.args.code.now.first c.turns.stage c.turns.invariant.is_stage c.turn.new.self t) c.in-Failed.is
-    (c.in_ok-turn.ensures (code_main c.args.code.now c.args.fuel) c.args.code.now.first c.turns.invariant.setting c.turns.invariant.is_stage))
+    (c.in_ok-turn.ensures (code_main c.args.code.now c.args.fuel) c.args.code.now.first c.turns.invariant.setting c.turns.invariant.is_stage)).0

@@ -37,4 +37,4 @@ pub returns-in-Failed : goal.returns-in-Failed
 returns-in-Failed c =
     let h = subst (λ t. IsTurned c.args.code.now (code_main c.args.code.now c.args.fuel) c.args.code.now.first c.turns.stage c.turns.invariant.is_stage c.turn.new.self t) c.in-Failed.is
     (c.in_ok-turn.ensures (code_main c.args.code.now c.args.fuel) c.args.code.now.first c.turns.invariant.setting c.turns.invariant.is_stage) in
-    record { kind = c.in-Failed.field-0; line = c.in-Failed.field-1; output = c.turn.new.self.output.items; tasks = c.turn.new.self.tasks; entries = h.0; outcome = h.1 }
+    record { kind = c.in-Failed.field-0; line = c.in-Failed.field-1; output = c.turn.new.self.output.items; tasks = c.turn.new.self.tasks; entries = h.0.0; outcome = h.0.1 }

@@ -34,4 +34,4 @@ returns-in-Stops c = λ main first setting st.
     turn_stops c.args.code.now main first c.args.self.now
     (record { current = c.args.self.now.current; above = c.args.self.now.above; cells = c.happen.new.cells; output = c.happen.new.output; tasks = c.args.self.now.tasks })
     c.pending.result.now st (c.pending.ensures.act c.args.code.now st.current.start st.current.found st.is_current)
-    c.in_ok-loaded.ensures.cells c.in_ok-loaded.ensures.output c.in-Stops.kind c.in-Stops.line (sym c.in-Stops.is ∙ c.in_ok-loaded.ensures.turn) refl
+    c.in_ok-loaded.ensures.cells c.in_ok-loaded.ensures.output c.in-Stops.kind c.in-Stops.line (sym c.in-Stops.is ∙ c.in_ok-loaded.ensures.turn) refl refl
