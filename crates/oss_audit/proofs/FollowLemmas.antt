@@ -102,7 +102,7 @@ module _ {S : Type 0} (P : Program S) where
 
   module _ (main : Start S) (ms : MainStarts main) (z y : Running S) (st : Stands P main z) (r : RunsOn P z y) where
     -- what has happened stays
-    stays_happened : (e : Event S) → Happened z.state e → Happened y.state e
+    pub stays_happened : (e : Event S) → Happened z.state e → Happened y.state e
     stays_happened e h = go (which_path e.start.path z.active)
       where
         go : (e.start.path ≡ z.active) ⊎ (e.start.path ≡ z.active → ⊥) → Happened y.state e
@@ -117,10 +117,10 @@ module _ {S : Type 0} (P : Program S) where
             }
         go (inr ne) = record { task = h.task; at_ = others_forth P main z.state y.state z.active r.task (found_by (act_now P r.task.body) z.state.cells) st.made r.at_ r.goes r.tasks e.start.path h.task ne h.at_; start = h.start; found = h.found }
 
-    abbrev ev : Event S
+    abbrev pub ev : Event S
     ev = seq_event P main z y ms st r
 
-    ev_happened : Happened y.state ev
+    pub ev_happened : Happened y.state ev
     ev_happened =
         let q = path_found z.state.tasks z.active r.task r.at_ in
         record { task = after_answer (found_by (act_now P r.task.body) z.state.cells) r.task; at_ = subst (λ (p : List ℕ). At y.state p (after_answer (found_by (act_now P r.task.body) z.state.cells) r.task)) (sym q) r.tasks.own; start = refl; found = whole }

@@ -1,2 +1,10 @@
 pub mod TextLemmas
 pub mod OneLemmas
+pub mod EventLemmas
+pub mod ReleasedLemmas
+pub mod HinderingLemmas
+pub mod NotingLemmas
+pub mod WayLemmas
+pub mod FollowingLemmas
+pub mod HoldingLemmas
+pub mod SearchLemmas

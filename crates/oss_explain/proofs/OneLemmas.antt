@@ -11,7 +11,7 @@ use Rattle.oss_explain.specs.declared.explained.Failing.{Failing}
 use Rattle.oss_explain.specs.declared.explained.Held.{Held}
 use Rattle.oss_explain.specs.declared.explained.Word.{Word}
 use Rattle.oss_explain.specs.Explanations.{IsDeed}
-use Rattle.oss_explain.specs.Explanations.IsDeed.{begins, calls, creates, divides, folds, misses, reads, releases, shifts, ticks, waits_on, writes}
+use Rattle.oss_explain.specs.Explanations.IsDeed.{awaits, begins, calls, creates, divides, folds, misses, reads, releases, shifts, ticks, waits_on, writes}
 use Rattle.oss_explain.specs.Held.{AreFailing, AreHeld, is_word}
 use Rattle.oss_explain.specs.Held.AreHeld.{no_cell, none, some}
 
@@ -28,7 +28,14 @@ one_deed all _ _ _ (waits_on {named = named} {ps = ps} a) (waits_on {ps = qs} b)
 one_deed all _ _ _ calls calls = refl
 one_deed all _ _ _ divides divides = refl
 one_deed all _ _ _ shifts shifts = refl
-one_deed all _ _ _ misses misses = refl
+one_deed all _ _ _ (misses m) (misses n) = refl
+one_deed all _ _ _ awaits awaits = refl
+one_deed all _ _ _ calls (misses m) = absurd m
+one_deed all _ _ _ (misses m) calls = absurd m
+one_deed all _ _ _ divides (misses m) = absurd m
+one_deed all _ _ _ (misses m) divides = absurd m
+one_deed all _ _ _ shifts (misses m) = absurd m
+one_deed all _ _ _ (misses m) shifts = absurd m
 
 -- two numbers, neither of which is below the other
 level : (m n : ℕ) → m ≤ n → n ≤ m → m ≡ n

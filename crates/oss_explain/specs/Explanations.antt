@@ -3,6 +3,8 @@
 -- y, by `out`; child 0 has no access to it. `task inout(x) { task in(y) ; }`: the task 0.0 asks for a creation, which is NotCovered; y is the one cell that fails, 0.0 has no word for it, and
 -- the new task, 0.0.0, would have it by `in`. A task with `out(x)` alone that begins with `x = x + 1` is told by the word `out` with which it was created.
 -- What a division, a shift and a place outside of its global have for numbers is no part of what a body asks, and so none of an explanation.
+-- No code of a program fails by itself by another kind than a division, a shift, a call too many or a place outside of its global, and none awaits a task before it goes on to the next act. Bodies are
+-- defined for every program all the same, so what is told of such asks is set down too.
 use Rattle.std.specs.Prelude.{◌≡◌, ℕ, ◌==◌, Bool, true, false, ◌&&◌, ◌||◌, List, [], ◌∷◌, Option, Some, None}
 use Rattle.oss_syntax.specs.declared.access.Access.{Access}
 use Rattle.oss_syntax.specs.declared.access.Mode.TheVariants.{Fold as Folding}
@@ -10,7 +12,7 @@ use Rattle.oss_syntax.specs.declared.access.Op.{Op}
 use Rattle.oss_syntax.specs.declared.fault.FaultKind.{FaultKind}
 use Rattle.oss_syntax.specs.declared.fault.FaultKind.TheVariants as fault
 use Rattle.oss_syntax.specs.declared.tree.program.Item.{Item}
-use Rattle.oss_model.specs.Bodies.{Ask, Begin, Create, Fails, Fold, Frame, Order, Program, Read, Release, Start, Tick, WaitOn, Write, ask_of}
+use Rattle.oss_model.specs.Bodies.{Ask, Await, Begin, Create, Fails, Fold, Frame, Order, Program, Read, Release, Start, Tick, WaitOn, Write, ask_of}
 use Rattle.oss_model.specs.Bodies.Act.{Fault}
 use Rattle.oss_model.specs.Context.{Context, child_context, in_clauses, lacks_right, right_of}
 use Rattle.oss_model.specs.Machine.{State}
@@ -33,6 +35,13 @@ use Rattle.oss_explain.specs.declared.explained.Word.{Word}
 use Rattle.oss_explain.specs.Held.{AreFailing, AreHeld, all_words, clause_words, once, word_in, word_of}
 use Rattle.oss_explain.specs.Lives.{AreHolders, HasWords, IsChain, IsReleased, told_later}
 
+-- The failure is neither a call too many nor a division nor a shift.
+abbrev pub IsMiss : FaultKind → Type 0
+IsMiss fault.TooDeep = ⊥
+IsMiss fault.DivideByZero = ⊥
+IsMiss fault.ShiftRange = ⊥
+IsMiss _ = Unit {0}
+
 -- What is told of an ask. (A failure of the program's own meaning is told by its kind.)
 pub data IsDeed {S : Type 0} (all : List Item) : Ask S → Deed → Type 0 where
   ticks : IsDeed all Tick deed.Ticks
@@ -40,13 +49,14 @@ pub data IsDeed {S : Type 0} (all : List Item) : Ask S → Deed → Type 0 where
   writes : {c v : ℕ} → IsDeed all (Write c v) (deed.Writes c)
   folds : {c : ℕ} {o : Op} {v : ℕ} → IsDeed all (Fold c o v) (deed.Folds c o)
   begins : IsDeed all Begin deed.Begins
+  awaits : IsDeed all Await deed.Begins
   creates : {o : Order S} → IsDeed all (Create o) deed.Creates
   releases : {clauses : List Access} {ps : List Piece} → ArePieces (in_clauses clauses) all 0 0 ps → IsDeed all (Release clauses) (deed.Releases ps)
   waits_on : {named : List Access} {ps : List Piece} → ArePieces (in_clauses named) all 0 0 ps → IsDeed all (WaitOn named) (deed.WaitsOn ps)
   calls : IsDeed all (Fails fault.TooDeep) deed.Calls
   divides : IsDeed all (Fails fault.DivideByZero) deed.Divides
   shifts : IsDeed all (Fails fault.ShiftRange) deed.Shifts
-  misses : IsDeed all (Fails fault.OutOfRange) deed.Misses
+  misses : {kind : FaultKind} → IsMiss kind → IsDeed all (Fails kind) deed.Misses
 
 -- The ask is such a touch of the cell.
 pub data AsksTouch {S : Type 0} : Ask S → ℕ → Touch → Type 0 where
@@ -77,9 +87,10 @@ pub data IsReason {S : Type 0} (P : Program S) (s : State S) (all : List Item) (
   deep_before : IsReason P s all f own fault.TooDeep Begin reason.TooDeep
   deep_after : {o : Order S} → IsReason P s all f own fault.TooDeep (Create o) reason.TooDeep
   many_before : IsReason P s all f own fault.TooManyTasks Begin reason.TooManyTasks
+  many_awaited : IsReason P s all f own fault.TooManyTasks Await reason.TooManyTasks
   many_after : {o : Order S} → IsReason P s all f own fault.TooManyTasks (Create o) reason.TooManyTasks
   division : IsReason P s all f own fault.DivideByZero (Fails fault.DivideByZero) reason.Plain
-  place : IsReason P s all f own fault.OutOfRange (Fails fault.OutOfRange) reason.Plain
+  place : {kind : FaultKind} → IsMiss kind → IsReason P s all f own kind (Fails kind) reason.Plain
   shift : IsReason P s all f own fault.ShiftRange (Fails fault.ShiftRange) reason.ShiftRange
   mixed : {o : Order S} {cells : Failing} → AreFailing all (is_mixed (f.context.final || o.last) o.clauses) cells
       → IsReason P s all f own fault.MixedAccess (Create o) (reason.MixedAccess (once [] (clause_words (f.context.final || o.last) o.clauses cells.first)) cells)
@@ -87,7 +98,7 @@ pub data IsReason {S : Type 0} (P : Program S) (s : State S) (all : List Item) (
       → IsReason P s all f own fault.Released ask (reason.Released line cells)
   no_right : {ask : Ask S} {c : ℕ} {touch : Touch} → AsksTouch ask c touch → IsReason P s all f own fault.NoRight ask (reason.NoRight c (touch_told touch) (own c))
   creation : {o : Order S} {w : Word} {cells : Failing} → AreFailing all (λ c. holds_uncovered (right_of f.context c) (right_from (f.context.final || o.last) o.clauses c)) cells
-      → word_in (child_context f.context o.clauses o.last) cells.first ≡ Some w
+      → word_of (right_from (f.context.final || o.last) o.clauses cells.first) (mark_from (f.context.final || o.last) o.clauses cells.first) ≡ Some w
       → IsReason P s all f own fault.NotCovered (Create o) (reason.CreationNotCovered w (own cells.first) cells)
   release : {clauses : List Access} {w : Word} {cells : Failing} → AreFailing all (λ c. holds_uncovered (right_of f.context c) (right_from false clauses c)) cells
       → word_of (right_from false clauses cells.first) (mark_from false clauses cells.first) ≡ Some w

@@ -5,3 +5,10 @@ pub mod Held
 pub mod Lives
 pub mod Explanations
 pub mod Claims
+pub mod Endings
+pub mod Ledgers
+pub mod Noting
+pub mod Owned
+pub mod Joining
+pub mod Failures
+pub mod Reasons
