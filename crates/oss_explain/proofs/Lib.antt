@@ -1,5 +1,7 @@
 pub mod TextLemmas
 pub mod OneLemmas
+pub mod LendingLemmas
+pub mod HolderLemmas
 pub mod EventLemmas
 pub mod ReleasedLemmas
 pub mod HinderingLemmas
