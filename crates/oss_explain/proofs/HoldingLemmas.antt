@@ -1,6 +1,6 @@
 -- What a task has, by the accesses with which it started.
 use Rattle.std.proofs.Common.{◌≡◌, ℕ, ◌+◌, ◌<◌, ◌≤◌, refl, sym, subst, ap, ◌∙◌, List, [], ◌∷◌, ◌++◌, arith, Bool, true, false, Option}
-use Rattle.std.specs.Prelude.{◌&&◌, ◌||◌, nat_le, nat_lt, if◌then◌else◌}
+use Rattle.std.specs.Prelude.{◌&&◌, ◌||◌, nat_le, nat_lt, if◌then◌else◌, Err, IfOk, Ok, Result}
 use Rattle.std.proofs.lemmas.Bool.Decides.{nat_tests}
 use Rattle.oss_syntax.specs.declared.access.Access.{Access}
 use Rattle.oss_syntax.specs.declared.access.Mode.{Mode}
@@ -117,3 +117,8 @@ seven (x ∷ xs) a b c d e f g = ap (λ ys. x ∷ ys) (seven xs a b c d e f g)
 pub seven_held : (all : List Item) (words : ℕ → Option Word) {hs : List Held} (ws : List Word) (a b c d e f g : Word) → AreHeld all words (((((((ws ++ a ∷ []) ++ b ∷ []) ++ c ∷ []) ++ d ∷ []) ++ e ∷ []) ++ f ∷ []) ++ g ∷ []) hs
     → AreHeld all words (ws ++ a ∷ b ∷ c ∷ d ∷ e ∷ f ∷ g ∷ []) hs
 seven_held all words {hs = hs} ws a b c d e f g h = subst (λ (vs : List Word). AreHeld all words vs hs) (seven ws a b c d e f g) h
+
+-- what holds of an answer that is Ok
+pub if_ok_as : {A E : Type 0} {F G : A → Type 0} (r : Result A E) → ((x : A) → F x → G x) → IfOk r F → IfOk r G
+if_ok_as (Ok x) f h = f x h
+if_ok_as (Err e) f h = h

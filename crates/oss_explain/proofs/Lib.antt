@@ -10,3 +10,5 @@ pub mod WayLemmas
 pub mod FollowingLemmas
 pub mod HoldingLemmas
 pub mod SearchLemmas
+pub mod EndLemmas
+pub mod DeedLemmas

@@ -1,5 +1,5 @@
 -- Searches in lists, and runs of cells.
-use Rattle.std.proofs.Common.{◌≡◌, ◌≢◌, ℕ, zero, suc, ◌+◌, ◌<◌, ◌≤◌, ◌⊎◌, inl, inr, refl, sym, subst, ap, ◌∙◌, List, [], ◌∷◌, length, drop, arith, Bool, true, false, Option, None, Some, if◌then◌else◌}
+use Rattle.std.proofs.Common.{◌≡◌, ◌≢◌, ℕ, zero, suc, ◌+◌, ◌<◌, ◌≤◌, ◌⊎◌, inl, inr, refl, sym, subst, ap, ◌∙◌, List, [], ◌∷◌, length, drop, reverse, take, arith, Bool, true, false, Option, None, Some, if◌then◌else◌}
 use Rattle.std.specs.Prelude.{◌&&◌, ◌||◌}
 use Rattle.oss_syntax.specs.declared.access.Access.{Access}
 use Rattle.oss_syntax.specs.declared.access.Mode.{Mode}
@@ -9,8 +9,10 @@ use Rattle.oss_model.specs.Rights.{Holds, NoRight, Released, Right, in_access, i
 use Rattle.oss_ranges.specs.Cells.{is_within, value_at}
 use Rattle.oss_ranges.specs.declared.piece.Piece.{Piece}
 use Rattle.oss_pieces.specs.CellSets.{SetOfCells, has}
+use Rattle.oss_explain.specs.declared.begun.Begun.{Begun}
 use Rattle.oss_explain.specs.declared.begun.ReleasedAt.{ReleasedAt}
 use Rattle.oss_explain.specs.Failures.{is_uncovered_by}
+use Rattle.oss_explain.specs.Ways.{links_to}
 use Rattle.oss_explain.specs.Joining.{AreJoined, AreMixed, JoinsMixed, JoinsModes, joined_held, mode_held}
 
 -- what stands in what is left of a list stands in it
@@ -75,3 +77,23 @@ mixed_more a rest modes old new joined before now final c =
     now c ∙ ap (λ (b : Bool). b || (is_within a.range.lo a.range.hi c && is_no_join (joined_held a.mode (value_at modes c)))) (before final c)
     ∙ ap (λ (v : Option Mode). is_mixed final rest c || (is_within a.range.lo a.range.hi c && is_no_join (joined_held a.mode v))) (joined final c)
     ∙ ap (λ (b : Bool). is_mixed final rest c || (is_within a.range.lo a.range.hi c && b)) (mixed_same a.mode (right_from final rest c))
+
+-- Of one task nothing is told.
+
+few_taken : (xs : List Begun) (n : ℕ) → n ≤ 1 → (take n xs ≡ []) ⊎ ((b : Begun) × (take n xs ≡ b ∷ []))
+few_taken [] zero l = inl refl
+few_taken [] (suc n) l = inl refl
+few_taken (b ∷ xs) zero l = inl refl
+few_taken (b ∷ xs) (suc n) l = inr (b, ap (λ (ys : List Begun). b ∷ ys) (none_taken xs n (omega (arith, l))))
+  where
+    none_taken : (ys : List Begun) (k : ℕ) → k ≡ 0 → take k ys ≡ []
+    none_taken [] zero e = refl
+    none_taken (y ∷ ys) zero e = refl
+    none_taken ys (suc k) e = absurd (omega (arith, e))
+
+pub few_links : (xs : List Begun) (n : ℕ) → n ≤ 1 → links_to (reverse (take n xs)) ≡ []
+few_links xs n l = go (few_taken xs n l)
+  where
+    go : (take n xs ≡ []) ⊎ ((b : Begun) × (take n xs ≡ b ∷ [])) → links_to (reverse (take n xs)) ≡ []
+    go (inl e) = ap (λ (ys : List Begun). links_to (reverse ys)) e
+    go (inr (b, e)) = ap (λ (ys : List Begun). links_to (reverse ys)) e

@@ -12,3 +12,4 @@ pub mod Owned
 pub mod Joining
 pub mod Failures
 pub mod Reasons
+pub mod Ways

@@ -1,24 +1,28 @@
 -- What is found at a fault of a task, told by its context and by what is noted of it.
 -- Read against: a task whose read of a cell is Lent has lent the cell for writing, and a child is noted that hinders the read; one that touches a cell which it has released has a note of the release.
-use Rattle.std.specs.Prelude.{◌≡◌, ◌⊎◌, ◌||◌, ℕ, Bool, true, List, [], Some}
+use Rattle.std.specs.Prelude.{◌≡◌, ◌⊎◌, ◌||◌, ℕ, ◌++◌, Bool, true, List, [], ◌∷◌, Some, map}
 use Rattle.oss_syntax.specs.declared.fault.FaultKind.{FaultKind}
 use Rattle.oss_syntax.specs.declared.fault.FaultKind.TheVariants as fault
 use Rattle.oss_syntax.specs.declared.tree.program.Item.{Item}
-use Rattle.oss_model.specs.Bodies.{Ask, Await, Begin, Create, Fails, Fold, Frame, Program, Read, Release, Tick, WaitOn, Write}
+use Rattle.oss_model.specs.Bodies.{Ask, Await, Begin, Create, End, Fails, Fold, Frame, Print, Program, Read, Release, Tick, Wait, WaitOn, Write}
 use Rattle.oss_model.specs.Context.{Context, create_fault, creation_fault, in_clauses, lent_of, mark_of, release_fault, right_of, tick_fault, wait_on_fault}
 use Rattle.oss_model.specs.Machine.{State}
-use Rattle.oss_model.specs.Order.{IsIn}
+use Rattle.oss_model.specs.Order.{IsIn, written}
 use Rattle.oss_model.specs.Rights.{Folds, Reads, Touch, Writes, is_released, touch_fault}
 use Rattle.oss_machine.specs.Frames.{CodeScript}
 use Rattle.oss_explain.specs.declared.begun.Begun.{Begun}
+use Rattle.oss_explain.specs.declared.begun.Child.{Child}
 use Rattle.oss_explain.specs.declared.begun.ReleasedAt.{ReleasedAt}
 use Rattle.oss_explain.specs.declared.explained.Failing.{Failing}
+use Rattle.oss_explain.specs.declared.explained.Later.{Later}
 use Rattle.oss_explain.specs.declared.explained.Reason.{Reason}
 use Rattle.oss_explain.specs.declared.explained.Reason.TheVariants as reasons
 use Rattle.oss_explain.specs.declared.explained.Touching.{Touching}
 use Rattle.oss_explain.specs.declared.explained.Touching.TheVariants as touching
+use Rattle.oss_explain.specs.declared.explained.Word.{Word}
 use Rattle.oss_explain.specs.Explanations.{IsReason}
 use Rattle.oss_explain.specs.Held.{AreFailing}
+use Rattle.oss_explain.specs.Lives.{told_later}
 use Rattle.oss_explain.specs.Noting.{IsRight, hindering}
 use Rattle.oss_explain.specs.Owned.{own_of}
 
@@ -67,3 +71,25 @@ pub record IsReleasedOf (all : List Item) (test : ℕ → Bool) (rs : List Relea
   pub is : reason ≡ reasons.Released line cells
   pub failing : AreFailing all test cells
   pub on_line : IsReleasedOn rs cells.first line
+
+-- the number of a child
+abbrev pub number_of : Child → ℕ
+number_of k = k.number
+
+-- The reason is that the first of these children has the cell, and those after it, of a task at this point.
+pub record IsLentTo (cell : ℕ) (point : List ℕ) (ks : List Child) (reason : Reason) : Type 0 where
+  pub first : Child
+  pub others : List Child
+  pub are : ks ≡ first ∷ others
+  pub word : Word
+  pub word_is : own_of first.accesses cell ≡ Some word
+  pub later : Later
+  pub later_is : (path : List ℕ) → point ≡ written path → later ≡ told_later path (map number_of others)
+  pub is : reason ≡ reasons.Lent cell (point ++ first.number ∷ []) first.line word later
+
+-- An ask that may come to a fault: each but a taskwait, a print and the end.
+abbrev pub MayFail : {S : Type 0} → Ask S → Type 0
+MayFail Wait = ⊥
+MayFail (Print text) = ⊥
+MayFail End = ⊥
+MayFail _ = Unit {0}

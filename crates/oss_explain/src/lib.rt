@@ -7,10 +7,12 @@
 //! outside of its global it has no numbers.
 #![tactic(auto)]
 
+mod asked_cells;
 mod at_cell;
 mod begun;
 mod chain;
 mod deed;
+mod deeds;
 mod ending;
 mod explained;
 mod failing;
@@ -28,6 +30,7 @@ mod rules;
 mod run;
 mod text;
 mod uncovered;
+mod who;
 mod words_of;
 
 pub use ending::Ending;
