@@ -1,0 +1,140 @@
+-- The table after a step of one seat: what a law of `oss_roles` gives for the words as functions is so of the words where they lie.
+use Rattle.std.proofs.Common.{◌≡◌, ◌⊎◌, inl, inr, sym, subst, refl, ◌∙◌, ap, ℕ, zero, suc, ◌<◌, ◌≤◌, Bool, List, [], ◌∷◌, length, set}
+use Rattle.std.specs.Prelude.{slice_index, Option, None}
+use mathlib.Core.Option as maybe
+use lib.ListN.{get_elem?}
+use Rattle.std.proofs.lemmas.List.{set-get_or}
+use Rattle.std.proofs.Math.Seq.{map-set}
+use Rattle.atomic_table.specs.Table.{State, Me, Allows, keeps}
+use Rattle.atomic_table.proofs.Lists.{at_set, at_map, set_again}
+use Rattle.oss_body.specs.Mains.{code_main}
+use Rattle.oss_code.specs.declared.code.CodeParts.{CodeParts}
+use Rattle.oss_machine.specs.Frames.{CodeScript}
+use Rattle.oss_machine.specs.Machines.{asks}
+use Rattle.oss_words.specs.declared.entry.EntryState.{EntryState}
+use Rattle.oss_model.specs.Bodies.{Start}
+use Rattle.oss_words.specs.Bits.{state_at, state_word}
+use Rattle.oss_words.specs.Net.{Net}
+use Rattle.oss_words.specs.Views.{View, Among, among_first, among_later}
+use Rattle.oss_roles.specs.Drawing.{AreDrawn, IsFree}
+use Rattle.oss_roles.specs.Field.{FieldAt, Parts, Sits, words_of}
+use Rattle.oss_roles.specs.Roles.{Role}
+use Rattle.oss_roles.specs.Sights.{Sight, Telling}
+use Rattle.oss_roles.proofs.DrawLaw.{draws_keep}
+use Rattle.oss_roles.proofs.OtherLaw.{words_set}
+use Rattle.std.specs.Global.{Box}
+use Rattle.oss_jobs.specs.declared.job.Job.{Job}
+use Rattle.oss_field.specs.declared.view.SeatView.{SeatView}
+use Rattle.oss_field.specs.Known.{Holding, Known, sight_of}
+use Rattle.oss_field.specs.Layout.{words_in, cell_word, state_word_of, body_word_of, parts_of}
+use Rattle.oss_field.specs.Steps.{Steps}
+use Rattle.oss_field.specs.Table.{Slot, is_job_of, sights_of, Neat, AreSeats, Stands}
+
+-- what is in a list, and in one of which a member was changed
+pub among_at : {A : Type 0} (l : List A) (i : ℕ) (a : A) → get_elem? l i ≡ maybe.some a → Among a l
+among_at [] i a h = absurd (maybe.some-ne-none a (sym h))
+among_at (x ∷ l) zero a h = among_first (maybe.some-injective x a h)
+among_at (x ∷ l) (suc i) a h = among_later (among_at l i a h)
+
+pub among_set : {A : Type 0} (l : List A) (i : ℕ) (a z : A) → Among z (set l i a) → (a ≡ z) ⊎ Among z l
+among_set [] i a z h = inr h
+among_set (x ∷ l) zero a z h = elim h [ among_first p ↦ inl p | among_later r ↦ inr (among_later r) ]
+among_set (x ∷ l) (suc i) a z h = elim h [
+  | among_first p ↦ inr (among_first p)
+  | among_later r ↦ elim (among_set l i a z r) [ inl e ↦ inl e | inr q ↦ inr (among_later q) ]
+]
+
+-- a seat of the table, as the rule of the laws has it
+pub sits_at : (views : List SeatView) (id : ℕ) (v : SeatView) → get_elem? views id ≡ maybe.some v → Sits (sights_of views) id (sight_of v.known)
+sits_at views id v at = at_map (λ (z : SeatView). sight_of z.known) views id v at
+
+-- the views after a step of one seat
+pub sights_set : (views : List SeatView) (id : ℕ) (l : Known) → sights_of (set views id (record { known = l })) ≡ set (sights_of views) id (sight_of l)
+sights_set views id l = map-set (λ (z : SeatView). sight_of z.known) views id (record { known = l })
+
+-- what is free stays free, if the seat that steps draws nothing
+pub free_stays : (role : ℕ → Option Role) (sights : List (Sight CodeScript)) (id : ℕ) (v w : Sight CodeScript) → Sits sights id v → w.drawn ≡ v.drawn → (e : ℕ) → IsFree role sights e → IsFree role (set sights id w) e
+free_stays role sights id v w at drawn e free = record {
+  none = free.none;
+  undrawn = λ j x sits a. elim (at_set sights id j w x sits) [
+    | inl h ↦ free.undrawn id v at (subst (λ (l : List ℕ). Among e l) drawn (subst (λ (z : Sight CodeScript). Among e z.drawn) (sym h.1) a))
+    | inr h ↦ free.undrawn j x h.1 a
+  ];
+}
+
+-- a law's rule after another's
+pub then_at : (code : CodeParts) {main : Start CodeScript} {first : List ℕ} {is_job : Telling CodeScript (Box Job)} {n : ℕ} {net : Net} {gave : ℕ → Bool} {role : ℕ → Option Role} {k k' : Parts (Box Job)} {sights sights' : List (Sight CodeScript)}
+    (g : FieldAt (asks code) main first is_job n net gave role k sights) → FieldAt (asks code) main first is_job n g.field.net g.field.gave g.field.role k' sights' → FieldAt (asks code) main first is_job n net gave role k' sights'
+then_at code g h = record { field = h.field; same_net = h.same_net ∙ g.same_net; same_gave = h.same_gave ∙ g.same_gave; same_role = h.same_role ∙ g.same_role }
+
+-- a law's rule, named as the table's own
+pub chained : {code : CodeParts} {fuel n : ℕ} {ws : List ℕ} {homes : List (maybe.Option Slot)} {views : List SeatView} (stands : Stands code fuel n ws homes views)
+    {k : Parts (Box Job)} {sights : List (Sight CodeScript)}
+    → FieldAt (asks code) (code_main code fuel) code.first (is_job_of code stands.before) n stands.rule.field.net stands.rule.field.gave stands.rule.field.role k sights
+    → FieldAt (asks code) (code_main code fuel) code.first (is_job_of code stands.before) n stands.net stands.gave stands.role k sights
+chained stands g = record { field = g.field; same_net = g.same_net ∙ stands.rule.same_net; same_gave = g.same_gave ∙ stands.rule.same_gave; same_role = g.same_role ∙ stands.rule.same_role }
+
+-- the table after a step that leaves the state words, the draw word, the roles and what the seat has drawn
+module _ (code : CodeParts) (fuel n : ℕ) (ws : List ℕ) (homes : List (maybe.Option Slot)) (views : List SeatView) (stands : Stands code fuel n ws homes views)
+    (id : ℕ) (v : SeatView) (l : Known) (at : get_elem? views id ≡ maybe.some v) (words : l.words ≡ v.known.words) (drawn : l.drawn ≡ v.known.drawn)
+    (told : (h : Holding) → Among h l.bears → stands.before h.number ≡ h.before) where
+  abbrev m : ℕ
+  m = length code.first
+
+  abbrev views' : List SeatView
+  views' = set views id (record { known = l })
+
+  views_stay : words_of (sights_of views') ≡ words_of (sights_of views)
+  views_stay =
+      ap (λ (z : List (Sight CodeScript)). words_of z) (sights_set views id l)
+      ∙ (words_set (sights_of views) id (sight_of l)
+      ∙ (ap (λ (z : View). set (words_of (sights_of views)) id z) words
+      ∙ set_again (words_of (sights_of views)) id v.known.words (at_map (λ (z : Sight CodeScript). z.words) (sights_of views) id (sight_of v.known) (sits_at views id v at))))
+
+  pub next_stands : (ws' : List ℕ) (homes' : List (maybe.Option Slot)) (cells' : List ℕ) → length ws' ≡ words_in (length code.first) n → length homes' ≡ n → length cells' ≡ length code.first
+      → ((c : ℕ) → c < length code.first → slice_index ws' (cell_word c) ≡ slice_index cells' c)
+      → ((e : ℕ) → e < n → slice_index ws' (body_word_of (length code.first) e) ≡ 0 → get_elem? homes' e ≡ maybe.some (maybe.some None))
+      → ((e : ℕ) → slice_index ws' (state_word_of (length code.first) e) ≡ slice_index ws (state_word_of (length code.first) e))
+      → slice_index ws' 0 ≡ slice_index ws 0
+      → FieldAt (asks code) (code_main code fuel) code.first (is_job_of code stands.before) n stands.net stands.gave stands.role (parts_of (length code.first) ws' homes' cells') (set (sights_of views) id (sight_of l))
+      → Stands code fuel n ws' homes' (set views id (record { known = l }))
+  next_stands ws' homes' cells' size slots sized cell_words empty same draw rule = record {
+    net = stands.net;
+    gave = stands.gave;
+    role = stands.role;
+    before = stands.before;
+    cells = cells';
+    size = size;
+    slots = slots;
+    sized = sized;
+    cell_words = cell_words;
+    empty = empty;
+    whole = λ e. subst (λ (z : ℕ). z ≡ state_word (state_at z)) (sym (same e)) (stands.whole e);
+    neat = λ e. subst (λ (z : ℕ). Neat (state_at z)) (sym (same e)) (stands.neat e);
+    rule = subst (λ (z : List (Sight CodeScript)). FieldAt (asks code) (code_main code fuel) code.first (is_job_of code stands.before) n stands.net stands.gave stands.role (parts_of m ws' homes' cells') z) (sym (sights_set views id l)) rule;
+    told = λ j x sits h among. elim (at_set views id j (record { known = l }) x sits) [
+      | inl e ↦ told h (subst (λ (z : SeatView). Among h z.known.bears) (sym e.1) among)
+      | inr e ↦ stands.told j x e.1 h among
+    ];
+    drawn = subst (λ (z : List (Sight CodeScript)). AreDrawn stands.role z) (sym (sights_set views id l))
+        (draws_keep CodeScript stands.role (sights_of views) id (sight_of v.known) (sight_of l) (sits_at views id v at) (λ e a. inl (subst (λ (z : List ℕ). Among e z) drawn a)) stands.drawn);
+    undrawn = λ e high. subst (λ (z : List (Sight CodeScript)). IsFree stands.role z e) (sym (sights_set views id l))
+        (free_stays stands.role (sights_of views) id (sight_of v.known) (sight_of l) (sits_at views id v at) drawn e (stands.undrawn e (subst (λ (z : ℕ). z ≤ e) draw high)));
+    seats = subst (λ (z : List View). AreSeats n stands.net (λ e. state_at (slice_index ws' (state_word_of m e))) (slice_index ws' 0) z) (sym views_stay)
+        (subst (λ (z : ℕ). AreSeats n stands.net (λ e. state_at (slice_index ws' (state_word_of m e))) z (words_of (sights_of views))) (sym draw)
+        (subst (λ (g : ℕ → EntryState). AreSeats n stands.net g (slice_index ws 0) (words_of (sights_of views))) (λ i e. state_at (sym (same e) i)) stands.seats));
+  }
+
+  -- the same, if no word and no slot changes
+  pub quiet_stands : FieldAt (asks code) (code_main code fuel) code.first (is_job_of code stands.before) n stands.net stands.gave stands.role (parts_of (length code.first) ws homes stands.cells) (set (sights_of views) id (sight_of l))
+      → Stands code fuel n ws homes (set views id (record { known = l }))
+  quiet_stands rule = next_stands ws homes stands.cells stands.size stands.slots stands.sized stands.cell_words stands.empty (λ e. refl) refl rule
+
+-- a word that was read is as it was
+pub read_stands : (code : CodeParts) (fuel n i : ℕ) (ws : List ℕ) (homes : List (maybe.Option Slot)) (views : List SeatView) → Stands code fuel n ws homes views → Stands code fuel n (set ws i (slice_index ws i)) homes views
+read_stands code fuel n i ws homes views stands = subst (λ (z : List ℕ). Stands code fuel n z homes views) (sym (set-get_or ws i 0)) stands
+
+-- what the table asks of a step that takes no slot
+pub allowed : (code : CodeParts) (fuel n slots id i : ℕ) (me : Me Slot SeatView) (f : ℕ → ℕ) (tells : ℕ → Known → Type 0) → Steps code fuel n id me.0 i f tells
+    → Allows (λ (z : State Slot SeatView). Stands code fuel n z.words z.homes z.views) slots id me i f (λ found w. (w.1 ≡ me.1) × tells found w.0.known)
+allowed code fuel n slots id i me f tells h z stands size at small = let r = h z.words z.homes z.views stands at small in (record { known = r.0 }, keeps, tt, r.1, (refl, r.2))

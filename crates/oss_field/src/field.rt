@@ -1,0 +1,151 @@
+//! A field.
+
+ghost use Rattle.std.specs.Prelude.{◌≡◌, ◌<◌, ◌≤◌, ◌+◌, ◌*◌, [], length, None, IfNone, IfOk, IfSome, box_value};
+ghost use Rattle.oss_body.specs.Mains.{code_main};
+ghost use Rattle.oss_field.specs.Asks.{IsLoaded, IsStored, MayLoad, MayStore};
+ghost use Rattle.oss_field.specs.Known.{Holding, first_known};
+ghost use Rattle.oss_field.specs.Layout.{words_in};
+ghost use Rattle.oss_field.specs.Standing.{Fielded};
+ghost use Rattle.oss_field.specs.Taking.{IsMissing, IsPut, IsTaken, MayPut, after_count, after_take};
+ghost use Rattle.oss_jobs.specs.Jobs.{IsJob};
+
+use crate::cells::{load_cell, store_cell};
+use crate::key::FieldKey;
+use crate::seat::FieldSeat;
+use crate::slots::{put_slot, take_job};
+use crate::start::{FieldTable, first_slots, first_words, open_table};
+use oss_body::main_is_set;
+use oss_code::Code;
+use oss_jobs::Job;
+use std::alloc::{AllocError, Global};
+use std::marker::Model;
+use std::snapshot::Snapshot;
+
+/// A table of access words, counts, cells and jobs, which many threads share. It is seen as its table, its number of
+/// entries, the code of its jobs and the fuel of each task. Each call is made by a seat, takes no memory and waits for
+/// nobody, unless it says otherwise.
+///
+/// Whatever the threads do, and however their steps interleave, the words, slots and seats stand for one state of the
+/// machine, which a run from the start of main can reach. What is here so far: a field in which main alone begins, and
+/// the touches of cells by a job that a seat holds.
+#[derive(Drop)]
+pub struct Field {
+    /// The words and slots.
+    table: FieldTable,
+    /// How many entries there are, main's among them.
+    entries: u32,
+    /// How many cells.
+    cells: u32,
+}
+
+impl Model for Field {
+    ghost Value = { Fielded };
+
+    ghost view = { λ w. record {
+      table = w.table.shared.table_id;
+      entries = w.entries;
+      code = w.table.shared.key.code.value;
+      fuel = w.table.shared.key.fuel;
+    } };
+
+    ghost invariant = { λ w. (w.table.shared.key.entries ≡ w.entries) ×
+        (w.cells ≡ length w.table.shared.key.code.value.first) ×
+        (w.table.shared.table_id.words ≡ words_in w.cells w.entries) × (w.table.shared.table_id.slots ≡ w.entries) ×
+        (0 < w.entries) × (w.entries ≤ 16777216) × (w.cells ≤ 1048576) };
+}
+
+impl Field {
+    /// A field of so many entries, from 1 to 16,777,216, in which main alone stands at its beginning, and the seat
+    /// with which it is made, which holds nothing. The job is that of main, which has done nothing. It is an error
+    /// if memory is wanted: the job is let go then. It takes memory.
+    pub fn new(
+        alloc: Global,
+        code: &Code,
+        fuel: u32,
+        entries: u32,
+        job: Box<Job>,
+    ) -> Result<(Field, FieldSeat), AllocError>
+        requires entries { (0 < entries) × (entries ≤ 16777216) }
+        requires cells { length code.now.first ≤ 1048576 }
+        requires main { IsJob code.now [] (box_value job) 0 (record { start = code_main code.now fuel; found = [] })
+            (λ y. None) }
+        ensures field { IfOk result (λ r. (r.0.entries ≡ entries) × (r.0.code ≡ code.now) × (r.0.fuel ≡ fuel)) }
+        ensures seat { IfOk result (λ r. (r.1.field ≡ r.0.table) × (r.1.id ≡ 0) × (r.1.known ≡ first_known)) }
+    {
+        main_is_set(code, fuel);
+        let slots = first_slots(alloc, job, entries)?;
+        let words = match first_words(alloc, code.first().as_slice(), entries) {
+            Ok(words) => words,
+            Err(why) => {
+                drop(slots);
+                return Err(why);
+            }
+        };
+        let key = FieldKey {
+            entries,
+            fuel,
+            code: Snapshot::of(code),
+        };
+        let (table, place) = open_table(alloc, words.as_slice(), slots, &key)?;
+        let field = Field {
+            table,
+            entries,
+            cells: code.first().len() as u32,
+        };
+        Ok((field, FieldSeat { place }))
+    }
+
+    /// What a cell is, for the load that stands next in a job that the seat holds, or for the fold into the cell that
+    /// stands next. Since the seat's last call with the job it was advanced by that call's act, and else by its own
+    /// acts alone, and by waits that the seat has seen to be met. After it the body that the seat knows has the
+    /// answer of the load; for a fold the seat keeps what was found, until the fold is stored.
+    pub fn load(&self, seat: &mut FieldSeat, job: &Job, cell: u32) -> u64
+        requires field { seat.old.field ≡ self.now.table }
+        requires may { MayLoad self.now.code job.now cell seat.old.known }
+        ensures same { (seat.new.field ≡ seat.old.field) × (seat.new.id ≡ seat.old.id) }
+        ensures loaded { IsLoaded self.now.code job.now cell result seat.old.known seat.new.known }
+    {
+        load_cell(&self.table.shared, &mut seat.place, job, cell)
+    }
+
+    /// Writes a cell, for the store that stands next in a job that the seat holds, or for the fold into the cell that
+    /// stands next: then the value is what the fold makes of what the last `load` with this job found. After it the
+    /// body that the seat knows has done the act.
+    pub fn store(&self, seat: &mut FieldSeat, job: &Job, cell: u32, value: u64)
+        requires field { seat.old.field ≡ self.now.table }
+        requires may { MayStore self.now.code job.now cell value seat.old.known }
+        ensures same { (seat.new.field ≡ seat.old.field) × (seat.new.id ≡ seat.old.id) }
+        ensures stored { IsStored self.now.code job.now cell value seat.old.known seat.new.known }
+    {
+        store_cell(&self.table.shared, &mut seat.place, job, cell, value)
+    }
+
+    /// Takes the job of a task out of its slot. The first step reads the task's count, and the second takes the job.
+    /// `None` exactly if the first found another count than 0, or the second found no job in the slot: none was ever
+    /// put there, or some seat holds it. Else the seat holds the job that was last put, with its acts, its prints and
+    /// its last children, and the task is ready.
+    pub fn take_body(&self, seat: &mut FieldSeat, task: u32) -> Option<Box<Job>>
+        requires field { seat.old.field ≡ self.now.table }
+        requires inside { task < self.now.entries }
+        ensures same { (seat.new.field ≡ seat.old.field) × (seat.new.id ≡ seat.old.id) }
+        ensures some { IfSome result (λ job. (h : Holding) × IsTaken self.now.code self.now.fuel task (box_value job) h ×
+            (seat.new.known ≡ after_take (length self.now.code.first) task h
+            (after_count (length self.now.code.first) task 0 seat.old.known))) }
+        ensures none { IfNone result (IsMissing (length self.now.code.first) task seat.old.known seat.new.known) }
+    {
+        take_job(&self.table.shared, &mut seat.place, self.cells, task)
+    }
+
+    /// Puts the job that the seat took last back into its slot. Since the seat's last call with the job it was advanced
+    /// by that call's act, and else by its own acts alone, and by waits that the seat has seen to be met; and the seat
+    /// is making no task by it. The seat does not hold it any more, and forgets what it loaded for a fold of it.
+    pub fn put_body(&self, seat: &mut FieldSeat, job: Box<Job>)
+        requires field { seat.old.field ≡ self.now.table }
+        requires may { MayPut self.now.code (box_value job) seat.old.known }
+        ensures same { (seat.new.field ≡ seat.old.field) × (seat.new.id ≡ seat.old.id) }
+        ensures put { IsPut self.now.code (box_value job) (length self.now.code.first) seat.old.known
+            seat.new.known }
+    {
+        put_slot(&self.table.shared, &mut seat.place, self.cells, job)
+    }
+}

@@ -1,0 +1,17 @@
+//! A table of access words, counts, cells and jobs, which many threads share: whatever they do, it stands for one
+//! state of the machine.
+#![tactic(auto)]
+
+mod cells;
+mod field;
+mod key;
+mod places;
+mod rule;
+mod seat;
+mod slots;
+mod start;
+mod view;
+mod words;
+
+pub use field::Field;
+pub use seat::FieldSeat;

@@ -1,0 +1,25 @@
+//! Where the words of a field lie.
+
+ghost use Rattle.std.specs.Prelude.{◌≡◌};
+ghost use Rattle.oss_field.specs.Layout.{body_word_of, cell_word, count_word_of};
+
+/// The number of the word of a cell.
+pub(crate) fn cell_place(cell: u32) -> usize
+    ensures { result ≡ cell_word cell }
+{
+    1 + cell as usize
+}
+
+/// The number of the count word of a task, in a field of so many cells.
+pub(crate) fn count_place(cells: u32, task: u32) -> usize
+    ensures { result ≡ count_word_of cells task }
+{
+    1 + cells as usize + 6 * task as usize + 4
+}
+
+/// The number of its body word.
+pub(crate) fn body_place(cells: u32, task: u32) -> usize
+    ensures { result ≡ body_word_of cells task }
+{
+    1 + cells as usize + 6 * task as usize + 5
+}
