@@ -22,6 +22,7 @@ import os
 import pathlib
 import signal
 import sys
+import tempfile
 
 from interpreter import Answer, Answers, TooLong, deeply
 from rules import judge
@@ -79,6 +80,7 @@ class Comparison:
         self.other = other
         self.all_fuels = all_fuels
         self.caller = Caller()
+        self.schedule = tempfile.NamedTemporaryFile(suffix=".schedule")
         self.files = self.left_out = self.differences = self.faults = 0
 
     def same(self, file, words, found, wanted, *parts):
@@ -157,11 +159,9 @@ class Comparison:
                 self.same(file.name, words, found, known)
 
     def replay(self, file, trace, wanted):
-        schedule = file.with_suffix(".schedule")
-        schedule.write_text(trace, "latin-1")
+        pathlib.Path(self.schedule.name).write_text(trace, "latin-1")
         words = ["replay", f"--fuel={AMPLE}"]
-        self.same(file.name, words, self.call(*words, str(file), str(schedule)), wanted)
-        schedule.unlink()
+        self.same(file.name, words, self.call(*words, str(file), self.schedule.name), wanted)
 
     # With another build
 
