@@ -1,3 +1,4 @@
+pub mod Compacts
 pub mod Globals
 pub mod Rooms
 pub mod Shapes

@@ -2,14 +2,17 @@
 #![tactic(auto)]
 
 mod code;
+mod compact;
 mod global;
 mod instr;
+mod joining;
 mod order;
 mod rooms;
 mod sound;
 mod ways;
 
 pub use code::{Code, CodeParts};
+pub use compact::Compact;
 pub use global::GlobalPlace;
 pub use instr::{Direction, Indices, Instr, Operator, PartForm, SectionBase, SectionForm};
 pub use order::TaskOrder;
