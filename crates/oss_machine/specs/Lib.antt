@@ -3,6 +3,7 @@ pub mod Asks
 pub mod Frames
 pub mod Hastes
 pub mod Laws
+pub mod Leaps
 pub mod Machines
 pub mod Outcomes
 pub mod Reaches

@@ -16,6 +16,7 @@ mod hasten;
 mod judge;
 mod jumps;
 mod laws;
+mod leaping;
 mod locals;
 mod machine;
 mod moving;
