@@ -18,6 +18,8 @@ mod machine_tests;
 #[cfg(test)]
 mod part_tests;
 #[cfg(test)]
+mod rush_tests;
+#[cfg(test)]
 mod single_tests;
 #[cfg(test)]
 mod wanting_tests;
