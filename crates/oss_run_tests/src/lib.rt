@@ -22,6 +22,4 @@ mod rush_tests;
 #[cfg(test)]
 mod single_tests;
 #[cfg(test)]
-mod wanting_tests;
-#[cfg(test)]
 mod waves_tests;
