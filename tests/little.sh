@@ -123,8 +123,8 @@ status=$(cat ended)
 is 5 first nothing
 tell $? "a reader that goes away: status $status"
 
-# No thread can be made: a user who may have no more of them. The first worker then does everything, of a run and of a crew: the tests of the crew are those that the
-# gate has built. A user who may do anything has no such limit, so he calls the program as nobody.
+# No thread can be made: a user who may have no more of them. A run by waves then makes all parts on one. A user who may do anything has no such limit, so he calls
+# the program as nobody.
 as_nobody() {
   if [ "$(id -u)" = 0 ]; then
     setpriv --reuid=65534 --regid=65534 --clear-groups prlimit --nproc=1 "$@"
@@ -132,7 +132,6 @@ as_nobody() {
     prlimit --nproc=1 "$@"
   fi
 }
-crew=$top/crates/oss_base_tests/out/oss_base_tests_tests
 if command -v setpriv >/dev/null && command -v prlimit >/dev/null; then
   chmod 755 "$work"
   cp "$program" "$work/nest6"
@@ -144,17 +143,6 @@ if command -v setpriv >/dev/null && command -v prlimit >/dev/null; then
     is "$own" own.out own.err
     tell $? "run $file --workers=4 without threads: status $status"
   done
-  if [ -x "$crew" ]; then
-    cp "$crew" "$work/crew"
-    as_nobody ./crew crew_tests::without_threads_the_first_does_everything >out 2>err
-    status=$?
-    tell "$status" "a crew without threads: status $status"
-    # (two that wait for each other do not meet, so no thread was made above either)
-    if as_nobody ./crew crew_tests::two_workers_meet >out 2>err; then status=1; else status=0; fi
-    tell "$status" 'two workers met where no thread can be made'
-  else
-    echo "little.sh: $crew is not there, so no crew was tried without threads"
-  fi
 else
   echo 'little.sh: setpriv and prlimit are not there, so nothing was tried without threads'
 fi

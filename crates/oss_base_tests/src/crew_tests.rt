@@ -224,25 +224,6 @@ fn a_number_waits_for_another(rt: HostRuntime) -> Result<(), Fail> {
     Ok(())
 }
 
-/// Whether a thread can be made.
-fn can_make_threads<R: Threads>(rt: &R) -> bool {
-    match thread::spawn(rt, || 0u64) {
-        Ok(child) => child.join(rt) == 0,
-        Err(_) => false,
-    }
-}
-
-/// If no thread can be made, the first of three workers takes 0 and 1, which waits, then 2, and 1 again. tests/little.sh runs it so; where threads can be made, all that
-/// is to be done is done by somebody.
-#[test]
-fn without_threads_the_first_does_everything(rt: HostRuntime) -> Result<(), Fail> {
-    let three = Three::new(&rt, 3, Kind::Follow);
-    let first = worked(&rt, rt.alloc(), &three)?;
-    assert_eq!(rt; three.done.load(Ordering::SeqCst), 3);
-    assert!(rt; first == 4 || can_make_threads(&rt));
-    Ok(())
-}
-
 /// The one worker takes 0 and 1, which waits, then 2, and 1 again.
 #[test]
 fn one_worker_does_everything(rt: HostRuntime) -> Result<(), Fail> {
