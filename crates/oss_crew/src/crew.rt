@@ -17,7 +17,7 @@ use std::thread;
 use std::thread::Threads;
 
 /// Works on these ready numbers and all that become ready meanwhile, with one worker for each seat, until nothing is queued or in hand, or a stretch says that
-/// everybody is to go home. A worker has a thread of its own if one can be made. Else workers follow one another, and the first does everything. The seats come
+/// everybody is to go home. A worker has a thread of its own if one can be made. Else workers follow one another, and whoever is first does all. The seats come
 /// back in their order, each at rest, with its mark as it was. Want of memory is the one error, also that of a stretch: everybody then goes home, and all seats are
 /// given up.
 pub fn run_crew<R: Threads + Wait + Sync, S: Send + Drop, W: Shift<S> + Sync>(
