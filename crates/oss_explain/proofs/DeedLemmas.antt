@@ -9,9 +9,9 @@ use Rattle.oss_model.specs.Context.{in_clauses}
 use Rattle.oss_machine.specs.Frames.{CodeScript}
 use Rattle.oss_pieces.specs.declared.piece.Piece.{Piece}
 use Rattle.oss_pieces.specs.Pieces.{ArePieces}
-use Rattle.oss_explain.specs.declared.explained.Deed.TheVariants as deed
-use Rattle.oss_explain.specs.Explanations.{IsDeed, IsMiss}
-use Rattle.oss_explain.specs.Explanations.IsDeed.{releases, waits_on}
+use Rattle.oss_explanation.specs.declared.explained.Deed.TheVariants as deed
+use Rattle.oss_explanation.specs.Explanations.{IsDeed, IsMiss}
+use Rattle.oss_explanation.specs.Explanations.IsDeed.{releases, waits_on}
 
 pub released_deed : (all : List Item) (xs ys : List Access) (ps : List Piece) → xs ≡ ys → ArePieces (in_clauses xs) all 0 0 ps → IsDeed {S = CodeScript} all (Release ys) (deed.Releases ps)
 released_deed all xs ys ps e h = subst (λ (zs : List Access). IsDeed {S = CodeScript} all (Release zs) (deed.Releases ps)) e (releases h)

@@ -23,13 +23,13 @@ use Rattle.oss_body.specs.declared.body.Body.{Body as Kept}
 use Rattle.oss_serial.specs.Turns.{whole_task}
 use Rattle.oss_explain.specs.declared.begun.Begun.{Begun}
 use Rattle.oss_explain.specs.declared.begun.Child.{Child}
-use Rattle.oss_explain.specs.declared.explained.Word.{Word}
+use Rattle.oss_explanation.specs.declared.explained.Word.{Word}
 use Rattle.oss_explain.specs.declared.ledger.Ledger.{Ledger}
-use Rattle.oss_explain.specs.Held.{word_in, word_of}
+use Rattle.oss_explanation.specs.Held.{word_in, word_of}
 use Rattle.oss_explain.specs.Ledgers.{AreAccesses}
-use Rattle.oss_explain.specs.Lives.{HasWords, IsChain}
-use Rattle.oss_explain.specs.Lives.HasWords.{of_child, of_main}
-use Rattle.oss_explain.specs.Lives.IsChain.{at_child as chain_goes, at_main as chain_ends}
+use Rattle.oss_explanation.specs.Lives.{HasWords, IsChain}
+use Rattle.oss_explanation.specs.Lives.HasWords.{of_child, of_main}
+use Rattle.oss_explanation.specs.Lives.IsChain.{at_child as chain_goes, at_main as chain_ends}
 use Rattle.oss_explain.specs.Noting.{AreOnWay, IsRight, StandsBefore, at_child, at_main, hindering}
 use Rattle.oss_explain.specs.Owned.{own_of}
 use Rattle.oss_explain.specs.Reasons.{IsAccounted, IsFaultOf, IsNotedReleased}

@@ -13,7 +13,7 @@ use Rattle.oss_model.proofs.StageLemmas.{creating, no_inner_of_open}
 use Rattle.oss_model.proofs.TreeLemmas.{at_same, task_above}
 use Rattle.oss_audit.proofs.PathLemmas.{rest_same, suffix_split}
 use Rattle.oss_body.specs.Acting.{acting}
-use Rattle.oss_explain.specs.Lives.{IsEventOf, actor}
+use Rattle.oss_explanation.specs.Lives.{IsEventOf, actor}
 
 -- The task that acts in a body stands at or below the body's own
 pub acting_below : {S : Type 0} (P : Program S) (b : Start S) (past : List ℕ) → IsSuffix b.path (acting P b past).path

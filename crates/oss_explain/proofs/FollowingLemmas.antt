@@ -38,7 +38,7 @@ use Rattle.oss_explain.specs.declared.begun.Noted.{Noted}
 use Rattle.oss_explain.specs.declared.begun.ReleasedAt.{ReleasedAt}
 use Rattle.oss_explain.specs.declared.ledger.Ledger.{Ledger}
 use Rattle.oss_explain.specs.Ledgers.{HasRoom, IsFirst, IsNoted}
-use Rattle.oss_explain.specs.Lives.{IsEventOf, IsHolder, IsReleased}
+use Rattle.oss_explanation.specs.Lives.{IsEventOf, IsHolder, IsReleased}
 use Rattle.oss_explain.specs.Noting.{AreHeldBy, AreOnWay, IsFollowing, IsRight, RiseTo, StandsBefore, acts_at, at_child, at_main, hindering}
 use Rattle.oss_explain.proofs.WayLemmas.{note_next}
 

@@ -5,7 +5,7 @@ use Rattle.oss_model.specs.Rights.{Folds, Holds, NoRight, Reads, Released, Right
 use Rattle.oss_judge.specs.Joined.{held_right}
 use Rattle.oss_explain.specs.declared.begun.Child.{Child}
 use Rattle.oss_explain.specs.declared.begun.Noted.{Noted}
-use Rattle.oss_explain.specs.Lives.{hinders}
+use Rattle.oss_explanation.specs.Lives.{hinders}
 use Rattle.oss_explain.specs.Noting.{RiseTo, hindering, hindering_after, hindering_from}
 
 pub hindering_more : (c : ℕ) (touch : Touch) (ks : List Child) (ns : List Noted) (n : Noted) → hindering_from c touch ks (ns ++ n ∷ []) ≡ hindering_after c touch (hindering_from c touch ks ns) n

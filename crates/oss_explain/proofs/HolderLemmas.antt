@@ -12,7 +12,7 @@ use Rattle.oss_model.proofs.KeyLemmas.{key_form}
 use Rattle.oss_model.proofs.StageLemmas.{creating, no_inner_of_open}
 use Rattle.oss_model.proofs.TreeLemmas.{at_same, path_found, task_above}
 use Rattle.oss_body.specs.Acting.{acting}
-use Rattle.oss_explain.specs.Lives.{IsEventOf, IsHolder, actor, born_with, hinders, line_at, waits_for}
+use Rattle.oss_explanation.specs.Lives.{IsEventOf, IsHolder, actor, born_with, hinders, line_at, waits_for}
 use Rattle.oss_explain.proofs.LendingLemmas.{Hindered, LendsNothing, LentAt, child_lends_nothing, final_lends_nothing, lent_at, lent_still, not_free}
 
 -- A child hinders the touch of the cell by the task at this path.

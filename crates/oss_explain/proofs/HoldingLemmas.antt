@@ -11,11 +11,11 @@ use Rattle.oss_model.specs.Context.{in_clauses}
 use Rattle.oss_model.specs.Rights.{Holds, NoRight, Right, first_mark, in_access, is_fresh, joined_right, right_from}
 use Rattle.oss_pieces.specs.declared.piece.Piece.{Piece}
 use Rattle.oss_pieces.specs.Pieces.{ArePieces}
-use Rattle.oss_explain.specs.declared.explained.Held.{Held}
-use Rattle.oss_explain.specs.declared.explained.Use.{Use}
-use Rattle.oss_explain.specs.declared.explained.Word.{Word}
-use Rattle.oss_explain.specs.Held.{AreHeld, clause_word, is_word, mark_for, use_of, word_eq, word_of}
-use Rattle.oss_explain.specs.Held.AreHeld.{no_cell, none, some}
+use Rattle.oss_explanation.specs.declared.explained.Held.{Held}
+use Rattle.oss_explanation.specs.declared.explained.Use.{Use}
+use Rattle.oss_explanation.specs.declared.explained.Word.{Word}
+use Rattle.oss_explanation.specs.Held.{AreHeld, clause_word, is_word, mark_for, use_of, word_eq, word_of}
+use Rattle.oss_explanation.specs.Held.AreHeld.{no_cell, none, some}
 use Rattle.oss_explain.specs.Owned.{AddsWords, is_by, own_of}
 
 -- functions that agree are one

@@ -17,7 +17,7 @@ use Rattle.oss_model.proofs.ContextLemmas.{made_lent, tabled_at, tabled_past, wr
 use Rattle.oss_model.proofs.LendLemmas.{Cleared, Clears, LentFor, created_lends, lent_or_cleared, stage_lent}
 use Rattle.oss_model.proofs.OrderLemmas.{suffix_length}
 use Rattle.oss_model.proofs.StageLemmas.{creating, no_inner_of_open}
-use Rattle.oss_explain.specs.Lives.{hinders, waits_for}
+use Rattle.oss_explanation.specs.Lives.{hinders, waits_for}
 
 -- What is lent
 

@@ -1,5 +1,3 @@
-pub mod TextLemmas
-pub mod OneLemmas
 pub mod LendingLemmas
 pub mod HolderLemmas
 pub mod EventLemmas

@@ -22,7 +22,7 @@ use Rattle.oss_explain.specs.declared.begun.Begun.{Begun}
 use Rattle.oss_explain.specs.declared.begun.Child.{Child}
 use Rattle.oss_explain.specs.declared.begun.ReleasedAt.{ReleasedAt}
 use Rattle.oss_explain.specs.Ledgers.{AreAccesses}
-use Rattle.oss_explain.specs.Lives.{IsCreated, IsEventOf, IsHolder, IsReleased, actor, act_at, born_with, hinders, line_at, waits_for}
+use Rattle.oss_explanation.specs.Lives.{IsCreated, IsEventOf, IsHolder, IsReleased, actor, act_at, born_with, hinders, line_at, waits_for}
 use Rattle.oss_explain.specs.Noting.{AreHeldBy, AreOnWay, IsBorn, IsHeldBy, IsRight, RiseTo, at_child, at_main, hindering}
 use Rattle.oss_explain.proofs.EventLemmas.{one_body}
 

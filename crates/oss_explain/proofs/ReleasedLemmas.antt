@@ -14,7 +14,7 @@ use Rattle.oss_model.proofs.BodyLemmas.{settle_same}
 use Rattle.oss_model.proofs.ContextLemmas.{entry_cases, made_right, same_right, wrote_right}
 use Rattle.oss_model.proofs.TreeLemmas.{at_same, path_found}
 use Rattle.oss_body.specs.Acting.{acting}
-use Rattle.oss_explain.specs.Lives.{IsReleased, actor, line_at}
+use Rattle.oss_explanation.specs.Lives.{IsReleased, actor, line_at}
 
 -- Contexts
 

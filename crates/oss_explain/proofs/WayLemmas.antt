@@ -30,7 +30,7 @@ use Rattle.oss_explain.specs.declared.begun.Noted.TheVariants as notes
 use Rattle.oss_explain.specs.declared.begun.ReleasedAt.{ReleasedAt}
 use Rattle.oss_explain.specs.declared.ledger.Ledger.{Ledger}
 use Rattle.oss_explain.specs.Ledgers.{AreAccesses, IsBegun, IsChild, IsEnded, IsLent, IsLentWhen, IsNoted, lends, with_noted}
-use Rattle.oss_explain.specs.Lives.{IsCreated, IsEventOf, IsHolder, IsReleased, hinders, waits_for}
+use Rattle.oss_explanation.specs.Lives.{IsCreated, IsEventOf, IsHolder, IsReleased, hinders, waits_for}
 use Rattle.oss_explain.specs.Noting.{AreHeldBy, AreOnWay, IsBorn, IsRight, RiseTo, at_child, at_main, hindering, in_ranges, may_hinder}
 use Rattle.oss_explain.proofs.HinderingLemmas.{hindering_more, hinders_held, rise_more, rise_up}
 use Rattle.oss_explain.proofs.NotingLemmas as notings

@@ -12,8 +12,8 @@ use Rattle.oss_machine.specs.Machines.{asks}
 use Rattle.oss_body.specs.Mains.{code_main}
 use Rattle.oss_explain.specs.declared.ending.Ending.{Ending}
 use Rattle.oss_explain.specs.declared.ending.Ending.TheVariants as ending
-use Rattle.oss_explain.specs.declared.explained.Explained.{Explained}
-use Rattle.oss_explain.specs.Explanations.{IsExplained}
+use Rattle.oss_explanation.specs.declared.explained.Explained.{Explained}
+use Rattle.oss_explanation.specs.Explanations.{IsExplained}
 
 -- The sequential run of the program, over these globals, ends so: it is done; or it comes to a fault of this kind on this line, and this explains it.
 pub data IsEnding {S : Type 0} (P : Program S) (main : Start S) (first : List ℕ) (all : List Item) : Ending → Type 0 where

@@ -1,10 +1,3 @@
-pub mod Words
-pub mod Sentences
-pub mod Text
-pub mod Held
-pub mod Lives
-pub mod Explanations
-pub mod Claims
 pub mod Endings
 pub mod Ledgers
 pub mod Noting

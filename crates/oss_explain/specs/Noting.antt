@@ -37,7 +37,7 @@ use Rattle.oss_explain.specs.declared.ledger.Ledger.{Ledger}
 use Rattle.oss_explain.specs.declared.run.End.{End}
 use Rattle.oss_explain.specs.declared.run.End.TheVariants as end
 use Rattle.oss_explain.specs.Ledgers.{AreAccesses}
-use Rattle.oss_explain.specs.Lives.{IsCreated, IsEventOf, IsHolder, IsReleased, hinders}
+use Rattle.oss_explanation.specs.Lives.{IsCreated, IsEventOf, IsHolder, IsReleased, hinders}
 
 -- Children that hinder
 

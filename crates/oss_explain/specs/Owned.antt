@@ -4,9 +4,9 @@ use Rattle.std.specs.Prelude.{◌≡◌, ℕ, ◌&&◌, ◌||◌, Bool, false, L
 use Rattle.oss_syntax.specs.declared.access.Access.{Access}
 use Rattle.oss_syntax.specs.declared.tree.program.Item.{Item}
 use Rattle.oss_model.specs.Rights.{in_access, mark_from, right_from}
-use Rattle.oss_explain.specs.declared.explained.Held.{Held}
-use Rattle.oss_explain.specs.declared.explained.Word.{Word}
-use Rattle.oss_explain.specs.Held.{AreHeld, clause_word, word_eq, word_of}
+use Rattle.oss_explanation.specs.declared.explained.Held.{Held}
+use Rattle.oss_explanation.specs.declared.explained.Word.{Word}
+use Rattle.oss_explanation.specs.Held.{AreHeld, clause_word, word_eq, word_of}
 
 -- the word that clauses give to a cell of a task that is final or not
 abbrev pub word_from : Bool → List Access → ℕ → Option Word

@@ -13,16 +13,16 @@ use Rattle.oss_machine.specs.Frames.{CodeScript}
 use Rattle.oss_explain.specs.declared.begun.Begun.{Begun}
 use Rattle.oss_explain.specs.declared.begun.Child.{Child}
 use Rattle.oss_explain.specs.declared.begun.ReleasedAt.{ReleasedAt}
-use Rattle.oss_explain.specs.declared.explained.Failing.{Failing}
-use Rattle.oss_explain.specs.declared.explained.Later.{Later}
-use Rattle.oss_explain.specs.declared.explained.Reason.{Reason}
-use Rattle.oss_explain.specs.declared.explained.Reason.TheVariants as reasons
-use Rattle.oss_explain.specs.declared.explained.Touching.{Touching}
-use Rattle.oss_explain.specs.declared.explained.Touching.TheVariants as touching
-use Rattle.oss_explain.specs.declared.explained.Word.{Word}
-use Rattle.oss_explain.specs.Explanations.{IsReason}
-use Rattle.oss_explain.specs.Held.{AreFailing}
-use Rattle.oss_explain.specs.Lives.{told_later}
+use Rattle.oss_explanation.specs.declared.explained.Failing.{Failing}
+use Rattle.oss_explanation.specs.declared.explained.Later.{Later}
+use Rattle.oss_explanation.specs.declared.explained.Reason.{Reason}
+use Rattle.oss_explanation.specs.declared.explained.Reason.TheVariants as reasons
+use Rattle.oss_explanation.specs.declared.explained.Touching.{Touching}
+use Rattle.oss_explanation.specs.declared.explained.Touching.TheVariants as touching
+use Rattle.oss_explanation.specs.declared.explained.Word.{Word}
+use Rattle.oss_explanation.specs.Explanations.{IsReason}
+use Rattle.oss_explanation.specs.Held.{AreFailing}
+use Rattle.oss_explanation.specs.Lives.{told_later}
 use Rattle.oss_explain.specs.Noting.{IsRight, hindering}
 use Rattle.oss_explain.specs.Owned.{own_of}
 

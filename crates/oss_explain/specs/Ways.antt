@@ -2,7 +2,7 @@
 -- Read against: of main alone nothing is told; of a task that main created there is one link, with its point.
 use Rattle.std.specs.Prelude.{List, [], ◌∷◌}
 use Rattle.oss_explain.specs.declared.begun.Begun.{Begun}
-use Rattle.oss_explain.specs.declared.explained.Link.{Link}
+use Rattle.oss_explanation.specs.declared.explained.Link.{Link}
 
 -- how a task came to be
 abbrev pub link_of : Begun → Link

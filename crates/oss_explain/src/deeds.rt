@@ -7,11 +7,11 @@ ghost use Rattle.oss_machine.specs.Frames.{CodeScript};
 ghost use Rattle.oss_model.specs.Bodies.{Fails};
 ghost use Rattle.oss_model.specs.Context.{in_clauses};
 ghost use Rattle.oss_pieces.specs.Pieces.{ArePieces};
-ghost use Rattle.oss_explain.specs.Explanations.{IsDeed};
+ghost use Rattle.oss_explanation.specs.Explanations.{IsDeed};
 ghost use Rattle.oss_explain.specs.Reasons.{MayFail};
 
 use crate::asked_cells::accesses_on;
-use crate::explained::Deed;
+use oss_explanation::Deed;
 use crate::failing::cells_named;
 use oss_machine::Ask;
 use oss_pieces::{Piece, pieces};

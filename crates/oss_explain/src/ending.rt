@@ -1,6 +1,6 @@
 //! How a run comes to its end, with the explanation of its fault.
 
-use crate::explained::Explained;
+use oss_explanation::Explained;
 use oss_syntax::FaultKind;
 
 /// How a run comes to its end.

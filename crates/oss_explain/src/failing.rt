@@ -6,11 +6,11 @@ ghost use Rattle.oss_model.specs.Context.{in_clauses, right_of};
 ghost use Rattle.oss_model.specs.Rights.{covers};
 ghost use Rattle.oss_pieces.specs.CellSets.{has};
 ghost use Rattle.oss_judge.specs.Seen.{right_seen};
-ghost use Rattle.oss_explain.specs.Held.{AreFailing};
+ghost use Rattle.oss_explanation.specs.Held.{AreFailing};
 ghost use Rattle.oss_explain.specs.Failures.{HasCell, passes, is_uncovered_by};
 ghost use Rattle.oss_ranges.specs.Cells.{value_at};
 
-use crate::explained::Failing;
+use oss_explanation::Failing;
 use crate::modes::Modes;
 use crate::words_of::same_op;
 use oss_judge::{Context, Right};

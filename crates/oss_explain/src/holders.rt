@@ -2,13 +2,13 @@
 
 ghost use Rattle.std.specs.Prelude.{◌≡◌, false, map, IfOk};
 ghost use Rattle.oss_model.specs.Rights.{right_from};
-ghost use Rattle.oss_explain.specs.Lives.{hinders};
+ghost use Rattle.oss_explanation.specs.Lives.{hinders};
 ghost use Rattle.oss_explain.specs.Noting.{hindering, in_ranges};
 ghost use Rattle.oss_explain.specs.Reasons.{touch_seen};
 
 use crate::at_cell::right_at;
 use crate::begun::{Child, Noted};
-use crate::explained::Touching;
+use oss_explanation::Touching;
 use oss_judge::Right;
 use oss_syntax::{Access, Mode, Range};
 use std::alloc::{AllocError, Global};

@@ -4,10 +4,10 @@ ghost use Rattle.std.specs.Prelude.{◌≡◌, ◌≤◌, ◌∷◌, [], ℕ, If
 ghost use Rattle.oss_grammar.specs.Layout.{cells_in};
 ghost use Rattle.oss_judge.specs.Joined.{IsRising};
 ghost use Rattle.oss_pieces.specs.CellSets.{has};
-ghost use Rattle.oss_explain.specs.Held.{AreHeld, all_words, words_so};
+ghost use Rattle.oss_explanation.specs.Held.{AreHeld, all_words, words_so};
 ghost use Rattle.oss_explain.specs.Owned.{AddsWords, is_by, own_of};
 
-use crate::explained::{Held, Use, Word};
+use oss_explanation::{Held, Use, Word};
 use crate::words_of::{clause_word, same_word};
 use oss_pieces::{CellSet, pieces};
 use oss_syntax::{Access, List, Op, Program};

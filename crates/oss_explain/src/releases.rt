@@ -9,7 +9,7 @@ ghost use Rattle.oss_explain.specs.Reasons.{IsNotedReleased, IsReleasedOf, IsRel
 
 use crate::at_cell::has;
 use crate::begun::ReleasedAt;
-use crate::explained::Reason;
+use oss_explanation::Reason;
 use crate::failing::failing;
 use oss_pieces::CellSet;
 use oss_syntax::{Access, Program};

@@ -4,7 +4,7 @@ ghost use Rattle.std.specs.Prelude.{◌≡◌, ◌<◌, ◌++◌, ◌∷◌, [],
 ghost use Rattle.oss_explain.specs.Ways.{links_to};
 
 use crate::begun::Begun;
-use crate::explained::Link;
+use oss_explanation::Link;
 use crate::ledger::Ledger;
 use oss_model::Point;
 use oss_syntax::List;

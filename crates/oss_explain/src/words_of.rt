@@ -1,10 +1,10 @@
 //! By which words accesses name a cell.
 
 ghost use Rattle.std.specs.Prelude.{◌≡◌};
-ghost use Rattle.oss_explain.specs.Held.{alike, clause_word, mark_for, use_eq, use_of, word_eq};
+ghost use Rattle.oss_explanation.specs.Held.{alike, clause_word, mark_for, use_eq, use_of, word_eq};
 ghost use Rattle.oss_model.specs.Rights.{op_eq};
 
-use crate::explained::{Use, Word};
+use oss_explanation::{Use, Word};
 use oss_syntax::{Access, Mode, Op};
 
 /// The word of a clause; of a final task all are strong.

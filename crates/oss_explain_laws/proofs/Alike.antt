@@ -13,17 +13,17 @@ use Rattle.oss_model.specs.Machine.{State, find}
 use Rattle.oss_model.specs.Memory.{Event, Happened}
 use Rattle.oss_model.specs.Order.{written}
 use Rattle.oss_model.specs.Rights.{Touch, holds_uncovered, is_mixed, is_released, mark_from, right_from}
-use Rattle.oss_explain.specs.declared.explained.Deed.{Deed}
-use Rattle.oss_explain.specs.declared.explained.Explained.{Explained}
-use Rattle.oss_explain.specs.declared.explained.Link.{Link}
+use Rattle.oss_explanation.specs.declared.explained.Deed.{Deed}
+use Rattle.oss_explanation.specs.declared.explained.Explained.{Explained}
+use Rattle.oss_explanation.specs.declared.explained.Link.{Link}
 use Rattle.oss_syntax.specs.declared.fault.FaultKind.TheVariants as faults
-use Rattle.oss_explain.specs.declared.explained.Failing.{Failing}
-use Rattle.oss_explain.specs.declared.explained.Reason.{Reason}
-use Rattle.oss_explain.specs.declared.explained.Reason.TheVariants as reason
-use Rattle.oss_explain.specs.declared.explained.Word.{Word}
-use Rattle.oss_explain.specs.Explanations.{AsksTouch, Explains, IsDeed, IsReason, names, wanted}
-use Rattle.oss_explain.specs.Lives.{AreHolders, HasWords, IsChain, IsCreated, IsEventOf, IsHolder, IsReleased, act_at, actor, at_child, at_main, born_with, hinders, line_at, of_child, of_main, waits_for}
-use Rattle.oss_explain.specs.Held.{AreFailing, AreHeld, all_words, clause_words, once, word_in, word_of}
+use Rattle.oss_explanation.specs.declared.explained.Failing.{Failing}
+use Rattle.oss_explanation.specs.declared.explained.Reason.{Reason}
+use Rattle.oss_explanation.specs.declared.explained.Reason.TheVariants as reason
+use Rattle.oss_explanation.specs.declared.explained.Word.{Word}
+use Rattle.oss_explanation.specs.Explanations.{AsksTouch, Explains, IsDeed, IsReason, names, wanted}
+use Rattle.oss_explanation.specs.Lives.{AreHolders, HasWords, IsChain, IsCreated, IsEventOf, IsHolder, IsReleased, act_at, actor, at_child, at_main, born_with, hinders, line_at, of_child, of_main, waits_for}
+use Rattle.oss_explanation.specs.Held.{AreFailing, AreHeld, all_words, clause_words, once, word_in, word_of}
 
 -- The orders say the same of a task.
 pub record OrdersAlike {S T : Type 0} (o : Order S) (u : Order T) : Type 0 where

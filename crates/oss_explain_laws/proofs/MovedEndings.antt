@@ -31,11 +31,11 @@ use Rattle.oss_lower_laws.proofs.OneResult.{Same, one_end}
 use Rattle.oss_lower_laws.proofs.OutcomeLaws.{main_setting, start_is}
 use Rattle.oss_lower_laws.proofs.OutcomeLemmas.{run_has_one}
 use Rattle.oss_explain.specs.declared.ending.Ending.{Ending}
-use Rattle.oss_explain.specs.declared.explained.Explained.{Explained}
+use Rattle.oss_explanation.specs.declared.explained.Explained.{Explained}
 use Rattle.oss_explain.specs.Endings.{IsEnding}
 use Rattle.oss_explain.specs.Endings.IsEnding.{done, fault}
-use Rattle.oss_explain.specs.Explanations.{Explains, IsExplained}
-use Rattle.oss_explain.specs.Lives.{actor, line_at}
+use Rattle.oss_explanation.specs.Explanations.{Explains, IsExplained}
+use Rattle.oss_explanation.specs.Lives.{actor, line_at}
 use Rattle.oss_explain_laws.specs.Claims.{EndingsAlike}
 use Rattle.oss_explain_laws.proofs.Alike.{ActsAlike, AsksAlike, EventsAlike, Matched, OrdersAlike, StatesAlike, ask_self, explains_there, listed_alike, turned}
 

@@ -18,13 +18,13 @@ use Rattle.oss_body.specs.Acting.{acting}
 use Rattle.oss_lower_laws.proofs.OneResult.{one_end}
 use Rattle.oss_explain.specs.declared.ending.Ending.{Ending}
 use Rattle.oss_explain.specs.declared.ending.Ending.TheVariants as ending
-use Rattle.oss_explain.specs.declared.explained.Explained.{Explained}
-use Rattle.oss_explain.specs.declared.explained.Word.{Word}
+use Rattle.oss_explanation.specs.declared.explained.Explained.{Explained}
+use Rattle.oss_explanation.specs.declared.explained.Word.{Word}
 use Rattle.oss_explain.specs.Endings.{IsEnding}
 use Rattle.oss_explain.specs.Endings.IsEnding.{done, fault}
-use Rattle.oss_explain.specs.Explanations.{Explains, IsExplained, IsReason, wanted}
-use Rattle.oss_explain.specs.Held.{AreHeld, all_words}
-use Rattle.oss_explain.proofs.OneLemmas.{one_deed, one_held}
+use Rattle.oss_explanation.specs.Explanations.{Explains, IsExplained, IsReason, wanted}
+use Rattle.oss_explanation.specs.Held.{AreHeld, all_words}
+use Rattle.oss_explanation.proofs.OneLemmas.{one_deed, one_held}
 use Rattle.oss_explain_laws.specs.Claims.{EndingsAreOne}
 use Rattle.oss_explain_laws.proofs.Alike.{ask_self, explains_there, listed_alike}
 use Rattle.oss_explain_laws.proofs.OneReason.{one_chain, one_reason, one_words}

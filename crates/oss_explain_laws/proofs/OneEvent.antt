@@ -19,7 +19,7 @@ use Rattle.oss_model.proofs.OrderLemmas.{before_child, before_not, before_number
 use Rattle.oss_model.proofs.StageLemmas.{creating, frame_after_created, no_inner_of_open}
 use Rattle.oss_model.proofs.TreeLemmas.{at_same, next_of, path_found, task_above}
 use Rattle.oss_body.specs.Acting.{acting}
-use Rattle.oss_explain.specs.Lives.{IsCreated, IsEventOf, IsHolder, IsReleased, act_at, actor, born_with, line_at}
+use Rattle.oss_explanation.specs.Lives.{IsCreated, IsEventOf, IsHolder, IsReleased, act_at, actor, born_with, line_at}
 
 suffix_split : {q r : List ℕ} → IsSuffix q r → (q ≡ r) ⊎ ((j : ℕ) × IsSuffix (j ∷ q) r)
 suffix_split whole = inl refl

@@ -14,15 +14,15 @@ use Rattle.oss_model.specs.Machine.{At, State, Task}
 use Rattle.oss_model.specs.Order.{IsIn, here, there, written}
 use Rattle.oss_model.specs.Rights.{Holds, NoRight, Released, Right, Touch, holds_uncovered, is_mixed, is_released, mark_from, right_from}
 use Rattle.oss_body.specs.Acting.{acting}
-use Rattle.oss_explain.specs.declared.explained.Failing.{Failing}
-use Rattle.oss_explain.specs.declared.explained.Link.{Link}
-use Rattle.oss_explain.specs.declared.explained.Reason.{Reason}
-use Rattle.oss_explain.specs.declared.explained.Reason.TheVariants as reason
-use Rattle.oss_explain.specs.declared.explained.Word.{Word}
-use Rattle.oss_explain.specs.Explanations.{AsksTouch, IsMiss, IsReason, names, touch_told}
-use Rattle.oss_explain.specs.Held.{AreFailing, clause_words, once, word_in, word_of}
-use Rattle.oss_explain.specs.Lives.{AreHolders, HasWords, IsChain, IsHolder, IsReleased, RisesFrom, at_child, at_main, of_child, of_main, told_later}
-use Rattle.oss_explain.proofs.OneLemmas.{one_failing}
+use Rattle.oss_explanation.specs.declared.explained.Failing.{Failing}
+use Rattle.oss_explanation.specs.declared.explained.Link.{Link}
+use Rattle.oss_explanation.specs.declared.explained.Reason.{Reason}
+use Rattle.oss_explanation.specs.declared.explained.Reason.TheVariants as reason
+use Rattle.oss_explanation.specs.declared.explained.Word.{Word}
+use Rattle.oss_explanation.specs.Explanations.{AsksTouch, IsMiss, IsReason, names, touch_told}
+use Rattle.oss_explanation.specs.Held.{AreFailing, clause_words, once, word_in, word_of}
+use Rattle.oss_explanation.specs.Lives.{AreHolders, HasWords, IsChain, IsHolder, IsReleased, RisesFrom, at_child, at_main, of_child, of_main, told_later}
+use Rattle.oss_explanation.proofs.OneLemmas.{one_failing}
 use Rattle.oss_explain_laws.proofs.OneEvent.{one_created, one_holder}
 use Rattle.oss_explain_laws.proofs.OneRelease.{one_released}
 

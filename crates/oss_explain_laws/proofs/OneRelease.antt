@@ -19,7 +19,7 @@ use Rattle.oss_model.proofs.JudgeLemmas.{any_cell_none}
 use Rattle.oss_model.proofs.KeyLemmas.{key_grows}
 use Rattle.oss_model.proofs.OrderLemmas.{before_child, suffix_drop}
 use Rattle.oss_body.specs.Acting.{acting}
-use Rattle.oss_explain.specs.Lives.{IsEventOf, IsReleased, act_at, actor, line_at}
+use Rattle.oss_explanation.specs.Lives.{IsEventOf, IsReleased, act_at, actor, line_at}
 use Rattle.oss_explain_laws.proofs.OneEvent.{Compared, after, before, compared, key_is, not_before, one, one_place, own_at, then_up}
 
 le_or : (m n : ℕ) → (m < n) ⊎ (n ≤ m)

@@ -1,7 +1,7 @@
 //! The texts of explanations. The globals are `long x, y, b, a[10], m[6][6], s;`. Each text is that of one of the worked
 //! examples, which were written by hand from the rules of the text.
 
-use oss_explain::{
+use oss_explanation::{
     Deed, Explained, Failing, Held, Later, Link, Reason, Touching, Use, Word, explain_text,
 };
 use oss_model::{Point, read_point};

@@ -2,7 +2,7 @@ use Rattle.std.proofs.Common.{◌∙◌, List, ap}
 use Rattle.oss_syntax.specs.declared.access.Range.{Range}
 use Rattle.oss_meaning.specs.Clauses.{waited_for}
 use Rattle.oss_meaning.specs.Sections.{declared_on}
-use Rattle.oss_explain.specs.Explanations.IsDeed.{awaits, begins, creates, folds, reads, ticks, writes}
+use Rattle.oss_explanation.specs.Explanations.IsDeed.{awaits, begins, creates, folds, reads, ticks, writes}
 use Rattle.oss_explain.proofs.DeedLemmas.{released_deed, waited_deed}
 use Rattle.oss_explain.proofs.deeds.deed_of.Goals as goal
 

@@ -1,4 +1,4 @@
-use Rattle.oss_explain.specs.Explanations.IsDeed.{calls, divides, misses, shifts}
+use Rattle.oss_explanation.specs.Explanations.IsDeed.{calls, divides, misses, shifts}
 use Rattle.oss_explain.proofs.DeedLemmas.{is_miss}
 use Rattle.oss_explain.proofs.deeds.failure_deed.Goals as goal
 

@@ -2,9 +2,9 @@ use Rattle.std.proofs.Common.{◌≡◌, ◌∷◌, ◌++◌, [], ℕ, List, Boo
 use Rattle.oss_pieces.specs.CellSets.{has}
 use Rattle.oss_pieces.specs.declared.piece.Piece.{Piece}
 use Rattle.oss_pieces.specs.Pieces.{ArePieces}
-use Rattle.oss_explain.specs.declared.explained.Held.{Held}
-use Rattle.oss_explain.specs.declared.explained.Word.{Word}
-use Rattle.oss_explain.specs.Held.{AreHeld, is_word}
+use Rattle.oss_explanation.specs.declared.explained.Held.{Held}
+use Rattle.oss_explanation.specs.declared.explained.Word.{Word}
+use Rattle.oss_explanation.specs.Held.{AreHeld, is_word}
 use Rattle.oss_explain.specs.Owned.{own_of}
 use Rattle.oss_explain.proofs.HoldingLemmas.{ext, held_none, held_some, own_is_by}
 use Rattle.oss_explain.proofs.holding.add_word.Goals as goal

@@ -1,9 +1,9 @@
 use Rattle.std.proofs.Common.{◌∷◌, []}
 use Rattle.oss_syntax.specs.declared.access.Op.TheVariants.{Add, And, Or, Xor}
 use Rattle.oss_audit.proofs.ResultLemmas.{on_ok}
-use Rattle.oss_explain.specs.declared.explained.Use.{Use}
-use Rattle.oss_explain.specs.declared.explained.Use.TheVariants as uses
-use Rattle.oss_explain.specs.declared.explained.Word.{Word}
+use Rattle.oss_explanation.specs.declared.explained.Use.{Use}
+use Rattle.oss_explanation.specs.declared.explained.Use.TheVariants as uses
+use Rattle.oss_explanation.specs.declared.explained.Word.{Word}
 use Rattle.oss_explain.specs.Owned.{own_of}
 use Rattle.oss_explain.proofs.HoldingLemmas.{seven_held}
 use Rattle.oss_explain.proofs.holding.add_words.Goals as goal

@@ -1,7 +1,7 @@
 use Rattle.std.proofs.Common.{sym, subst, List, [], true, false}
-use Rattle.oss_explain.specs.declared.explained.Held.{Held}
-use Rattle.oss_explain.specs.Held.{AreHeld, all_words, words_so}
-use Rattle.oss_explain.specs.Held.AreHeld.{none}
+use Rattle.oss_explanation.specs.declared.explained.Held.{Held}
+use Rattle.oss_explanation.specs.Held.{AreHeld, all_words, words_so}
+use Rattle.oss_explanation.specs.Held.AreHeld.{none}
 use Rattle.oss_explain.specs.Owned.{own_of}
 use Rattle.oss_explain.proofs.holding.held_by.Goals as goal
 

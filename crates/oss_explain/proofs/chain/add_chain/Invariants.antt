@@ -1,8 +1,0 @@
-use Rattle.std.proofs.Common.{◌≡◌, ◌++◌, drop}
-use Rattle.std.specs.List.{flat_map}
-use Rattle.oss_explain.specs.Text.{link_text}
-use Rattle.oss_explain.proofs.chain.add_chain.Given as goal
-
--- what is left goes behind what is written
-abbrev pub invariant-loop-link : goal.invariant-loop-link
-invariant-loop-link l = l.text.items ++ flat_map link_text (drop l.link-index l.chain) ≡ l.initial.text.items ++ flat_map link_text l.chain

@@ -1,5 +1,0 @@
-use Rattle.oss_explain.proofs.OneLemmas.{one_held}
-use Rattle.oss_explain.proofs.laws.what_is_held_is_told_in_one_way.Goals as goal
-
-pub returns : goal.returns
-returns c = λ all words ws hs gs a b. one_held all words ws hs gs a b

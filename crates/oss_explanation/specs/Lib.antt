@@ -1,0 +1,7 @@
+pub mod Words
+pub mod Sentences
+pub mod Text
+pub mod Held
+pub mod Lives
+pub mod Explanations
+pub mod Claims

@@ -1,0 +1,23 @@
+//! What explains why a program comes to a fault: what an explanation holds, what it means that it is one of a program's
+//! sequential run, and its text, sentence by sentence.
+//!
+//! An explanation has no labels of tasks, and of a shift and of a place outside of its global it has no numbers.
+#![tactic(auto)]
+
+mod chain;
+mod deed;
+mod explained;
+mod holds;
+mod laws;
+mod lent;
+mod names;
+mod reason;
+mod rules;
+mod text;
+mod uncovered;
+
+pub use explained::{Deed, Explained, Failing, Held, Later, Link, Reason, Touching, Use, Word};
+pub use laws::{
+    an_ask_is_told_in_one_way, what_fails_is_told_in_one_way, what_is_held_is_told_in_one_way,
+};
+pub use text::explain_text;
