@@ -1,11 +1,12 @@
-//! Crews at work on made-up numbers: two workers that meet, a number that waits for another, and a worker that does everything. Each test ends by itself: a worker
-//! that looks for another gives up in the end.
+//! Crews at work on made-up numbers: two workers that meet, a number that waits for another, and a worker that does everything, alone or since no thread can be
+//! made. Each test ends by itself: a worker that looks for another gives up in the end.
 
 ghost use Rattle.std.specs.Prelude.{◌≡◌, ◌≤◌, ◌<◌, length, IfOk};
 ghost use Rattle.oss_crew.specs.Numbers.{AllBelow};
 
 use oss_crew::{Ending, News, Shift, Stretch, run_crew};
 use std::alloc::{AllocError, Global};
+use std::env;
 use std::process::Abort;
 use std::sync::Wait;
 use std::sync::atomic::{AtomicU64, Ordering};
@@ -188,19 +189,36 @@ fn chairs(alloc: Global, count: u64) -> Result<Vec<Chair>, AllocError>
     Ok(all)
 }
 
-/// Works the shift with its crew, which all come home; how many numbers the first worker has had in hand.
+/// How many numbers workers have had in hand: the busiest of them, and all together.
+#[derive(Clone, Copy)]
+struct Taken {
+    most: u64,
+    all: u64,
+}
+
+/// Works the shift with its crew, which all come home; how many numbers they have had in hand.
 fn worked<R: Abort + Threads + Wait + Sync>(
     rt: &R,
     alloc: Global,
     three: &Three<'_>,
-) -> Result<u64, Fail>
+) -> Result<Taken, Fail>
     requires { three.now.crew ≤ 64 }
 {
     let seats = chairs(alloc, three.crew)?;
     let back = run_crew(rt, alloc, three, seats, &[0], LIMIT)?;
-    match back.as_slice() {
-        [first, ..] => Ok(first.taken),
-        [] => Ok(0),
+    let mut taken = Taken { most: 0, all: 0 };
+    for chair in back.as_slice() {
+        taken.most = taken.most.max(chair.taken);
+        taken.all = taken.all.saturating_add(chair.taken);
+    }
+    Ok(taken)
+}
+
+/// Whether who runs the tests says that no thread can be made, as `tests/crew.sh` does.
+fn is_without_threads(rt: &HostRuntime) -> bool {
+    match env::var(rt, "NEST6_THREADS") {
+        Ok(said) => said.as_str() == "none",
+        Err(_) => false,
     }
 }
 
@@ -228,7 +246,23 @@ fn a_number_waits_for_another(rt: HostRuntime) -> Result<(), Fail> {
 #[test]
 fn one_worker_does_everything(rt: HostRuntime) -> Result<(), Fail> {
     let three = Three::new(&rt, 1, Kind::Follow);
-    assert_eq!(rt; worked(&rt, rt.alloc(), &three)?, 4);
+    assert_eq!(rt; worked(&rt, rt.alloc(), &three)?.all, 4);
+    assert_eq!(rt; three.done.load(Ordering::SeqCst), 3);
+    Ok(())
+}
+
+/// Four workers take 0, 1 and 2, and 1 once more if it had to wait. Where no thread can be made, one of them takes all, as a worker that is alone does.
+#[test]
+fn four_workers_take_each_number(rt: HostRuntime) -> Result<(), Fail> {
+    let three = Three::new(&rt, 4, Kind::Follow);
+    let taken = worked(&rt, rt.alloc(), &three)?;
+    if is_without_threads(&rt) {
+        assert_eq!(rt; taken.most, 4);
+        assert_eq!(rt; taken.all, 4);
+    } else {
+        assert_eq!(rt; taken.all == 3 || taken.all == 4, true);
+        assert_eq!(rt; taken.most <= taken.all, true);
+    }
     assert_eq!(rt; three.done.load(Ordering::SeqCst), 3);
     Ok(())
 }
