@@ -1,5 +1,9 @@
 //! What a body shows of the task that acts: its context, what it asks, and the accesses of a task that it is about to
-//! create. Over a main that was written by hand, which creates a task with `out` of three cells in line 3.
+//! create; and that a body for which memory is wanting stays as it was. Over a main that was written by hand, which
+//! creates a task with `out` of three cells in line 3.
+
+ghost use Rattle.std.specs.Prelude.{◌≡◌, false};
+ghost use Rattle.oss_body.specs.Relation.{is_over};
 
 use oss_body::{Act, Body, main_body};
 use oss_code::{Code, CodeParts, GlobalPlace, Instr, SectionBase, SectionForm};
@@ -95,6 +99,62 @@ fn a_body_shows_what_is_asked(rt: HostRuntime) {
         }
         _ => panic!(rt; "main creates a task"),
     }
+    drop(body);
+    drop(code);
+}
+
+/// How many bytes the first pieces of a hoard have.
+const LARGEST: usize = 17_179_869_184;
+
+/// How many pieces a hoard has at most.
+const MOST: usize = 262_144;
+
+/// All memory that there is, in smaller and smaller pieces.
+fn hoard(rt: &(impl Abort + AllocGlobal)) -> Vec<Vec<u8>> {
+    let mut pieces = Vec::with_capacity(rt.alloc(), MOST).expect(rt, "memory");
+    let mut size = LARGEST;
+    while size >= 16 {
+        for _ in 0..MOST {
+            match Vec::with_capacity(rt.alloc(), size) {
+                Ok(piece) => pieces.push(piece).expect(rt, "room"),
+                Err(_) => break,
+            }
+        }
+        size /= 2;
+    }
+    pieces
+}
+
+/// The body is about to create the task, in line 3.
+fn creates_out_of_three(rt: &(impl Abort + AllocGlobal), body: &Body) -> bool
+    requires { is_over body.now ≡ false }
+{
+    match body.pending() {
+        Act::Create { creation, .. } => {
+            let accesses = creation.get().accesses().expect(rt, "memory");
+            body.line() == 3 && is_out_of_three(accesses.as_slice())
+        }
+        _ => false,
+    }
+}
+
+#[test]
+fn a_body_without_memory_stays(rt: HostRuntime) {
+    let code = code(&rt);
+    let mut body = begun(&rt, &code, 100);
+    assert!(rt; !body.ended());
+    assert!(rt; creates_out_of_three(&rt, &body));
+    assert!(rt; !matches!(body.pending(), Act::Fault(..)));
+    let all = hoard(&rt);
+    let wanting = body.advance(&code, 0).is_err();
+    drop(all);
+    assert!(rt; wanting);
+    assert!(rt; !body.ended());
+    assert!(rt; creates_out_of_three(&rt, &body));
+    assert!(rt; !matches!(body.pending(), Act::Fault(..)));
+    body.advance(&code, 0).expect(&rt, "memory");
+    assert!(rt; !body.ended());
+    assert!(rt; !matches!(body.pending(), Act::Create { .. }));
     drop(body);
     drop(code);
 }
