@@ -1,10 +1,11 @@
 #!/bin/sh
-# Refuses memory to the program, one piece after the other: each call is to end with its own answer, or with the status 6 and nothing on either output. It tries the programs
+# Refuses memory to the program, one piece at a time: each time it is to end with its own answer, or with the status 6 and nothing on either output. It tries the programs
 # of tests/refused/, one for each kind of statement and of clause, and those of examples/, in each mode and over each dependency system, and the other commands. In each
-# row, and so in each mode, the status 6 has to come at least once. A row is a call: how many pieces it asks for, and how its calls ended with one of them refused.
+# row, and so in each mode, the status 6 has to come at least once. A row is a call: how many pieces it asks for, and how it ended with one of them refused.
 # The last line counts the rows; the status is 0 only where none failed. `tests/refused.sh PROGRAM` tries another program than the one of this repository, and
 # `tests/refused.sh PROGRAM PART..` these parts alone: a part is a program, by its name without `.c`, or one of `commands`, `replays` and `soaks`.
-# It needs a C compiler, and all parts take hours, since a call that asks for N pieces is made N times; tests/run.sh calls it where its first word is --all.
+# It needs a C compiler. A call that makes no thread is copied at each piece (tests/refused/refuse.c). One that makes threads and asks for N pieces is made N times, which takes most of
+# the time; tests/run.sh calls this script if its first word is --all.
 top=$(CDPATH='' cd -- "$(dirname -- "$0")/.." && pwd) || exit 1
 program=${1:-$top/crates/nest6/out/nest6}
 [ $# = 0 ] || shift
