@@ -113,16 +113,21 @@ const MOST: usize = 262_144;
 fn hoard(rt: &(impl Abort + AllocGlobal)) -> Vec<Vec<u8>> {
     let mut pieces = Vec::with_capacity(rt.alloc(), MOST).expect(rt, "memory");
     let mut size = LARGEST;
-    while size >= 16 {
-        for _ in 0..MOST {
-            match Vec::with_capacity(rt.alloc(), size) {
-                Ok(piece) => pieces.push(piece).expect(rt, "room"),
-                Err(_) => break,
-            }
-        }
+    for _ in 0..32 {
+        take_all(rt, size, &mut pieces);
         size /= 2;
     }
     pieces
+}
+
+/// Takes pieces of this size until there is none.
+fn take_all(rt: &(impl Abort + AllocGlobal), size: usize, pieces: &mut Vec<Vec<u8>>) {
+    for _ in 0..MOST {
+        match Vec::with_capacity(rt.alloc(), size) {
+            Ok(piece) => pieces.push(piece).expect(rt, "room"),
+            Err(_) => return,
+        }
+    }
 }
 
 /// The body is about to create the task, in line 3.
@@ -144,14 +149,14 @@ fn a_body_without_memory_stays(rt: HostRuntime) {
     let mut body = begun(&rt, &code, 100);
     assert!(rt; !body.ended());
     assert!(rt; creates_out_of_three(&rt, &body));
-    assert!(rt; !matches!(body.pending(), Act::Fault(..)));
+    assert!(rt; !matches!(body.pending(), Act::Fault { .. }));
     let all = hoard(&rt);
     let wanting = body.advance(&code, 0).is_err();
     drop(all);
     assert!(rt; wanting);
     assert!(rt; !body.ended());
     assert!(rt; creates_out_of_three(&rt, &body));
-    assert!(rt; !matches!(body.pending(), Act::Fault(..)));
+    assert!(rt; !matches!(body.pending(), Act::Fault { .. }));
     body.advance(&code, 0).expect(&rt, "memory");
     assert!(rt; !body.ended());
     assert!(rt; !matches!(body.pending(), Act::Create { .. }));
