@@ -1,5 +1,5 @@
 -- What is promised of explanations beside what the calls say: what is told of an ask, of the cells that fail and of the words of a task is one. (That the whole explanation of a run is one is
--- no law yet.)
+-- a law of `oss_explain_laws`.)
 -- Read against: of a release of `a[1:3]` over `long a[10];` no other deed is told than that with the one piece `a[1:3]`; and with the cells of `a[1:3]` failing no other first cell than that of `a[1]`.
 use Rattle.std.specs.Prelude.{◌≡◌, ℕ, Bool, List, Option}
 use Rattle.oss_syntax.specs.declared.tree.program.Item.{Item}

@@ -3,8 +3,7 @@
 -- y, by `out`; child 0 has no access to it. `task inout(x) { task in(y) ; }`: the task 0.0 asks for a creation, which is NotCovered; y is the one cell that fails, 0.0 has no word for it, and
 -- the new task, 0.0.0, would have it by `in`. A task with `out(x)` alone that begins with `x = x + 1` is told by the word `out` with which it was created.
 -- What a division, a shift and a place outside of its global have for numbers is no part of what a body asks, and so none of an explanation.
--- It was not proved that no code of a program fails by itself by another kind than a division, a shift, a call too many or a place outside of its global, or at an await. So what is told of such asks is
--- set down too.
+-- A code fails by itself at a division, a shift, a call too many or a place outside of its global. That it never fails otherwise, or at an await, is not proved; so what is told of those is defined too.
 use Rattle.std.specs.Prelude.{◌≡◌, ℕ, ◌==◌, Bool, true, false, ◌&&◌, ◌||◌, List, [], ◌∷◌, Option, Some, None}
 use Rattle.oss_syntax.specs.declared.access.Access.{Access}
 use Rattle.oss_syntax.specs.declared.access.Mode.TheVariants.{Fold as Folding}

@@ -16,7 +16,7 @@ use Rattle.oss_explanation.specs.declared.explained.Use.{Use}
 use Rattle.oss_explanation.specs.declared.explained.Use.TheVariants as uses
 use Rattle.oss_explanation.specs.declared.explained.Word.{Word}
 
--- What a mode says: a cell that a task may write and that has no value for it at first was named by `out` alone.
+-- What a mode says: a cell that a task may write and that has no value for it at first was named by `out` or `weakout` alone.
 abbrev pub use_of : Mode → Mark → Use
 use_of Read mark = uses.In
 use_of Write Unwritten = uses.Out
@@ -96,7 +96,7 @@ pub data AreHeld (all : List Item) (words : ℕ → Option Word) : List Word →
       → AreHeld all words (w ∷ ws) (h ∷ hs)
   no_cell : {w : Word} {ws : List Word} {hs : List Held} → ArePieces (λ c. is_word (words c) w) all 0 0 [] → AreHeld all words ws hs → AreHeld all words (w ∷ ws) hs
 
--- The cells that fail a test: there is one, and the first is the one with the lowest number.
+-- The cells of which the test holds: these fail. There is one, and the first is the one with the lowest number.
 pub record AreFailing (all : List Item) (test : ℕ → Bool) (f : Failing) : Type 0 where
   pub fails : test f.first ≡ true
   pub least : (c : ℕ) → test c ≡ true → f.first ≤ c

@@ -115,7 +115,7 @@ pub enum Reason {
     WaitNotCovered(Failing),
     /// The task has the cell by a reduction with this operator.
     BadReduction(u32, Op),
-    /// This child, created on this line, has the cell by this word, and those later ones have it too.
+    /// This child, created on this line, has the cell by this word, and those later ones hinder the touch too.
     Lent {
         cell: u32,
         child: Point,
@@ -161,7 +161,7 @@ pub struct Explained {
     pub chain: List<Link>,
     /// What the task has by its clauses, a word each; main has none.
     pub holds: List<Held>,
-    /// What the new task would have by its clauses, where that is of use: a word each.
+    /// What the new task would have, a word each, if its clauses name a cell that is released or not covered.
     pub wants: List<Held>,
 }
 
