@@ -1,0 +1,5 @@
+pub mod SizeForms
+pub mod TextExpressions
+pub mod TextPrograms
+pub mod TextStatements
+pub mod TokenCounts
