@@ -1,5 +1,13 @@
+pub mod CountedLocals
+pub mod FittingNumbers
+pub mod ShortCode
+pub mod ShortExpressions
+pub mod ShortPrograms
+pub mod ShortSections
+pub mod ShortStatements
 pub mod SizeForms
 pub mod TextExpressions
 pub mod TextPrograms
 pub mod TextStatements
 pub mod TokenCounts
+pub mod WrittenSizes

@@ -26,6 +26,7 @@ use Rattle.oss_lower_bounds.specs.Sizes.{item_size, items_size, locals_size, mar
 use Rattle.oss_lower_bounds.proofs.TextExpressions.{closed_by, pragma_few, tokens}
 use Rattle.oss_lower_bounds.proofs.TextStatements.{declared_some, items_few}
 use Rattle.oss_lower_bounds.proofs.TokenCounts.{tokens_few}
+use Rattle.oss_lower_bounds.proofs.WrittenSizes.{items_written}
 
 global_some : {numbers : NumKind} {ts : List Token} {g : GlobalDef} → IsGlobal numbers ts g → 1 ≤ length ts
 global_some (scalar_global t word split is) = omega (arith, tokens split)
@@ -75,4 +76,4 @@ program_few : {ts : List Token} {p : Program} → IsProgram ts p → items_size 
 program_few (program d) = all_few d
 
 pub texts_are_small : TextsAreSmall
-texts_are_small text p is = omega (arith, program_few is.is_program, tokens_few is.tokens is.are_tokens)
+texts_are_small text p is = omega (arith, items_written p.items, program_few is.is_program, tokens_few is.tokens is.are_tokens)

@@ -1,8 +1,44 @@
--- A program of a text has no more size than four times the bytes of the text.
-use Rattle.std.specs.Prelude.{◌≤◌, ◌*◌, ℕ, List, length}
+-- The code of a program is no longer and no deeper than the program is large, and a program of a text is no larger than the text is long. So
+-- each number that is asked for where the code is made is below 2^32, and no program of a text is refused for one.
+-- Read against: `int main() { return 7; }` has 24 bytes and the size 3, and its code 14 instructions, before which there are at most one value.
+use Rattle.std.specs.Prelude.{ℕ, ◌+◌, ◌*◌, ◌<◌, ◌≤◌, ◌^◌, All, List, length}
+use Rattle.oss_syntax.specs.declared.tree.program.Item.{Item}
 use Rattle.oss_syntax.specs.declared.tree.program.Program.{Program as Tree}
 use Rattle.oss_grammar.specs.Parsing.{IsProgramText}
-use Rattle.oss_lower_bounds.specs.Sizes.{items_size}
+use Rattle.oss_grammar.specs.TaskLoops.{program_written}
+use Rattle.oss_meaning.specs.Names.{functions_of}
+use Rattle.oss_lower_laws.specs.Lowered.{bodies_from, entries_from, first_entry, program_code}
+use Rattle.oss_lower_bounds.specs.Sizes.{function_locals, items_size}
 
+-- A code of this size: it has at most sixteen instructions for each part of the program and three more, and before none of them there are more
+-- values on the stack than there are parts, and one more.
+pub record IsShort (all : List Item) : Type 0 where
+  pub short : length (program_code all) ≤ 16 * items_size all + 3
+  pub shallow : All (λ l. l.depth ≤ items_size all + 1) (program_code all)
+
+-- The code of a program is short, whatever the program is.
+abbrev pub CodesAreShort : Type 0
+CodesAreShort = (all : List Item) → IsShort all
+
+-- A program as which a text is read, each task loop in it written out, has at most four times as much size as the text has bytes.
 abbrev pub TextsAreSmall : Type 0
-TextsAreSmall = (text : List ℕ) (p : Tree) → IsProgramText text p → items_size p.items ≤ 4 * length text
+TextsAreSmall = (text : List ℕ) (p : Tree) → IsProgramText text p → items_size (program_written p).items ≤ 4 * length text
+
+-- The numbers that are asked for where the code of a program is made: how many instructions there are, with the two that a jump may pass behind
+-- those that are written; how many values there are on the stack before each; where functions and their bodies begin; how many globals and
+-- functions there are; and how many locals a function has, with the variable of a multidependency.
+pub record FitsNumbers (all : List Item) : Type 0 where
+  pub instructions : length (program_code all) + 2 < 2 ^ 32
+  pub depths : All (λ l. l.depth < 2 ^ 32) (program_code all)
+  pub functions : All (λ entry. entry < 2 ^ 32) (entries_from all first_entry (functions_of all))
+  pub bodies : All (λ entry. entry < 2 ^ 32) (bodies_from all first_entry (functions_of all))
+  pub items : length all < 2 ^ 32
+  pub locals : All (λ f. function_locals f + 1 < 2 ^ 32) (functions_of all)
+
+-- the most bytes of a program text
+abbrev pub most_bytes : ℕ
+most_bytes = 1048576
+
+-- Those of a program as which a text of no more bytes is read, each task loop in it written out, are all below 2^32.
+abbrev pub TextsFitNumbers : Type 0
+TextsFitNumbers = (text : List ℕ) (p : Tree) → length text ≤ most_bytes → IsProgramText text p → FitsNumbers (program_written p).items

@@ -1,7 +1,7 @@
 -- How much of a program there is: each expression, section, clause, local, statement and item counts for one more than its parts. A task loop
 -- counts for what it is written out as, too.
 -- Read against: `x + 1` has the size 3, `f(x, 1)` too, and `x` 1; `if (x) y = 1;` has 5, which is 1, 1 of `x` and 3 of the assignment; `long x, a[3];` has 2.
-use Rattle.std.specs.Prelude.{ℕ, ◌+◌, List, [], ◌∷◌, map, Option, Some, None}
+use Rattle.std.specs.Prelude.{ℕ, ◌+◌, List, [], ◌∷◌, length, map, Option, Some, None}
 use Rattle.oss_syntax.specs.declared.tree.expr.Expr.{Expr}
 use Rattle.oss_syntax.specs.declared.tree.expr.ExprKind.TheOpen.{ExprKind-F, Expr-F}
 use Rattle.oss_syntax.specs.declared.tree.expr.ExprKind.TheOpen as open_expr
@@ -156,3 +156,23 @@ item_size (items.Function f) = function_size f
 abbrev pub items_size : List Item → ℕ
 items_size [] = 0
 items_size (x ∷ rest) = item_size x + items_size rest
+
+-- Locals
+
+-- how many locals a statement declares, from those of the statements in it
+abbrev pub declared_counts : StmtKind-F (ℕ → ℕ) ℕ → ℕ → ℕ
+declared_counts (open_stmt.Block body) line = total body
+declared_counts (open_stmt.Declare ls) line = length ls
+declared_counts (open_stmt.If e side other) line = side + if_any other
+declared_counts (open_stmt.While e body) line = body
+declared_counts (open_stmt.For first test last body) line = if_any first + (if_any last + body)
+declared_counts (open_stmt.Task mark body) line = body
+declared_counts _ line = 0
+
+-- how many locals a statement declares in all
+abbrev pub stmt_locals : Stmt → ℕ
+stmt_locals = fold-Stmt (ℕ → ℕ) ℕ declared_counts (λ s. s.what s.line)
+
+-- how many a function has: at no place of it are more in scope, but for the variable of a multidependency
+abbrev pub function_locals : Function → ℕ
+function_locals f = length f.params + total (map stmt_locals f.body)

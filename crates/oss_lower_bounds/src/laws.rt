@@ -1,8 +1,23 @@
-//! Laws, each carried by a function that does nothing. A crate above calls the function, and then has the law.
+//! What holds of every code and every text: laws, each carried by a function that does nothing. A crate above
+//! calls the function, and then has the law.
 
-ghost use Rattle.oss_lower_bounds.specs.Bounds.{TextsAreSmall};
+ghost use Rattle.oss_lower_bounds.specs.Bounds.{CodesAreShort, TextsAreSmall, TextsFitNumbers};
 
-/// A program of a text has at most four times the size that the text has bytes.
+/// The code of a program has at most sixteen instructions for each part of the program and three more, and none
+/// of them stands behind more values than there are parts, and one more.
+pub fn codes_are_short()
+    ensures { CodesAreShort }
+{}
+
+/// A program as which a text is read, each task loop in it written out, has at most four times as much size as
+/// the text has bytes.
 pub fn texts_are_small()
     ensures { TextsAreSmall }
+{}
+
+/// The numbers that are asked for where the code of a program is made are below 2^32 for each program as which a
+/// text of at most 1,048,576 bytes is read, each task loop in it written out. So no such program is refused for
+/// one of them.
+pub fn texts_fit_numbers()
+    ensures { TextsFitNumbers }
 {}

@@ -1,6 +1,6 @@
-//! Bounds of the code of a program: laws that its places and depths are numbers of 32 bits.
+//! Bounds of codes: the code of a program of a text has its places and depths in numbers of 32 bits.
 #![tactic(auto)]
 
 mod laws;
 
-pub use laws::texts_are_small;
+pub use laws::{codes_are_short, texts_are_small, texts_fit_numbers};
