@@ -1,5 +1,5 @@
 -- A function has no more locals than its size, and one less.
-use Rattle.std.proofs.Common.{ℕ, zero, suc, ◌+◌, ◌≤◌, List, [], ◌∷◌, length, map, Some, None, arith}
+use Rattle.std.proofs.Common.{ℕ, zero, suc, ◌+◌, ◌≤◌, List, [], ◌∷◌, length, map, Some, None, arith, length-append}
 use Rattle.std.specs.Prelude.{All}
 use Rattle.oss_syntax.specs.declared.tree.program.Function.{Function}
 use Rattle.oss_syntax.specs.declared.tree.program.Item.{Item}
@@ -12,6 +12,8 @@ use Rattle.oss_meaning.specs.Names.{functions_of}
 use Rattle.oss_lower_laws.proofs.ExpressionFolds.{Pair}
 use Rattle.oss_lower_laws.proofs.StatementFolds as folds
 use Rattle.oss_lower_laws.proofs.StatementFolds.{AtLines, Keeps}
+use Rattle.oss_lower_laws.specs.StatementCode.{StmtCode, stmt_code_step}
+use Rattle.oss_lower_bounds.specs.Bounds.{ScopesAreCounted}
 use Rattle.oss_lower_bounds.specs.Sizes.{body_size, declared_counts, function_locals, function_size, items_size, locals_size, stmt_counts, stmt_locals, stmt_size, total}
 
 abbrev IsAtMost : ℕ → ℕ → Type 0
@@ -77,3 +79,34 @@ pub items_few : (xs : List Item) → length xs ≤ items_size xs
 items_few [] = omega arith
 items_few (items.Global g ∷ xs) = omega (arith, items_few xs)
 items_few (items.Function f ∷ xs) = omega (arith, items_few xs)
+
+-- The locals in scope behind a statement
+
+abbrev Leaves : StmtCode → ℕ → Type 0
+Leaves c n = (scope : List Local) → length (c.scope scope) ≤ length scope + n
+
+-- each kind of statement leaves no more than it declares
+leaves : (all : List Item) (z : StmtKind-F (Pair (AtLines Leaves)) (Pair Leaves)) → Keeps Leaves (stmt_code_step all) declared_counts z
+leaves all (open_stmt.Block ps) line scope = omega arith
+leaves all open_stmt.Empty line scope = omega arith
+leaves all (open_stmt.Declare ls) line scope = omega (arith, length-append scope ls)
+leaves all (open_stmt.Assign t o e) line scope = omega arith
+leaves all (open_stmt.Call name es) line scope = omega arith
+leaves all (open_stmt.Print format es) line scope = omega arith
+leaves all (open_stmt.If e side None) line scope = omega arith
+leaves all (open_stmt.If e side (Some other)) line scope = omega arith
+leaves all (open_stmt.While e body) line scope = omega arith
+leaves all (open_stmt.For None test None body) line scope = omega arith
+leaves all (open_stmt.For None test (Some last) body) line scope = omega arith
+leaves all (open_stmt.For (Some first) test None body) line scope = omega arith
+leaves all (open_stmt.For (Some first) test (Some last) body) line scope = omega arith
+leaves all (open_stmt.Return e) line scope = omega arith
+leaves all open_stmt.Break line scope = omega arith
+leaves all open_stmt.Continue line scope = omega arith
+leaves all (open_stmt.Task mark body) line scope = omega arith
+leaves all (open_stmt.TaskLoop head body) line scope = omega arith
+leaves all (open_stmt.TaskWait sections) line scope = omega arith
+leaves all (open_stmt.Release clauses) line scope = omega arith
+
+pub scopes_are_counted : ScopesAreCounted
+scopes_are_counted all = folds.both Leaves (stmt_code_step all) declared_counts (leaves all)

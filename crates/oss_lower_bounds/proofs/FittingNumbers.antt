@@ -1,10 +1,9 @@
 -- The numbers of the code of a program of a text are below 2^32.
-use Rattle.std.proofs.Common.{ℕ, ◌+◌, ◌*◌, ◌<◌, ◌≤◌, List, length, arith}
+use Rattle.std.proofs.Common.{◌+◌, ◌*◌, ◌≤◌, List, length, arith}
 use Rattle.oss_syntax.specs.declared.tree.program.Item.{Item}
-use Rattle.oss_syntax.specs.declared.tree.program.Program.{Program}
 use Rattle.oss_grammar.specs.TaskLoops.{program_written}
 use Rattle.oss_meaning.specs.Names.{functions_of}
-use Rattle.oss_lower_laws.specs.Lowered.{first_entry, function_codes, program_code}
+use Rattle.oss_lower_laws.specs.Lowered.{first_entry, function_codes}
 use Rattle.oss_lower_bounds.specs.Bounds.{FitsNumbers, TextsFitNumbers}
 use Rattle.oss_lower_bounds.specs.Sizes.{items_size}
 use Rattle.oss_lower_bounds.proofs.CountedLocals.{items_few, locals_within}

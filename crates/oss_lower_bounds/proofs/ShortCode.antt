@@ -1,5 +1,5 @@
 -- Lists of instructions: how many they are, and behind how many values they stand.
-use Rattle.std.proofs.Common.{◌≡◌, ℕ, ◌+◌, ◌≤◌, List, [], ◌∷◌, ◌++◌, length, arith, length-append}
+use Rattle.std.proofs.Common.{ℕ, ◌+◌, ◌≤◌, List, [], ◌∷◌, ◌++◌, length, arith, length-append}
 use Rattle.oss_code.specs.declared.instr.Instr.{Instr}
 use Rattle.oss_lower_laws.specs.declared.lined.Lined.{Lined}
 use Rattle.oss_lower_laws.specs.ExpressionCode.{Pushes, one, then_one, then_two}

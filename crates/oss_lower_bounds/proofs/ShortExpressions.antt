@@ -1,6 +1,5 @@
 -- The instructions of an expression are at most sixteen for each of its parts, and none of them stands behind more values than it has parts.
-use Rattle.std.proofs.Common.{◌≡◌, ℕ, ◌+◌, ◌*◌, ◌≤◌, Bool, true, false, List, [], ◌∷◌, ◌++◌, length, map, arith}
-use Rattle.std.proofs.lemmas.List.{length-map}
+use Rattle.std.proofs.Common.{ℕ, ◌+◌, ◌*◌, ◌≤◌, List, [], ◌∷◌, length, map, arith}
 use Rattle.std.specs.Prelude.{slice_get}
 use Rattle.oss_syntax.specs.declared.tree.expr.BinOp.{BinOp}
 use Rattle.oss_syntax.specs.declared.tree.expr.BinOp.TheVariants as op
@@ -19,7 +18,7 @@ use Rattle.oss_meaning.specs.Expressions.{is_task_function}
 use Rattle.oss_meaning.specs.Names.{found, functions_of, item_found}
 use Rattle.oss_code.specs.declared.instr.Direction.TheVariants as direction
 use Rattle.oss_code.specs.declared.instr.Instr.TheVariants as i
-use Rattle.oss_lower_laws.specs.ExpressionCode.{ExprCode, Pushes, and_code, arguments_code, binary_code, call_code, call_instr, expr_code, expr_code_step, index_indexed_code, index_place_code, index_value_code, name_place_code, name_value_code, no_place_code, one, operator_by, or_code, prefix_place_code, prefix_value_code, then_one, then_two}
+use Rattle.oss_lower_laws.specs.ExpressionCode.{ExprCode, Pushes, and_code, arguments_code, binary_code, call_code, call_instr, expr_code, expr_code_step, index_indexed_code, index_place_code, index_value_code, name_place_code, name_value_code, no_place_code, operator_by, or_code, prefix_place_code, prefix_value_code, then_one, then_two}
 use Rattle.oss_lower_laws.proofs.ExpressionFolds as folds
 use Rattle.oss_lower_laws.proofs.ExpressionFolds.{Keeps, Pair}
 use Rattle.oss_lower_bounds.specs.Sizes.{expr_counts, expr_size, total}

@@ -1,6 +1,6 @@
 -- The code of a program is not long, and its places and depths are no great numbers.
-use Rattle.std.proofs.Common.{◌≡◌, ℕ, zero, suc, ◌+◌, ◌*◌, ◌<◌, ◌≤◌, List, [], ◌∷◌, ◌++◌, length, Option, Some, None, arith, length-append}
-use Rattle.std.specs.Prelude.{All, ◌-◌, ◌^◌}
+use Rattle.std.proofs.Common.{ℕ, zero, suc, ◌+◌, ◌*◌, ◌≤◌, List, [], ◌∷◌, ◌++◌, length, Option, Some, None, arith, length-append}
+use Rattle.std.specs.Prelude.{All, ◌-◌}
 use Rattle.oss_syntax.specs.declared.tree.pragma.TaskMark.{TaskMark}
 use Rattle.oss_syntax.specs.declared.tree.program.Function.{Function}
 use Rattle.oss_syntax.specs.declared.tree.program.Item.{Item}
@@ -10,7 +10,7 @@ use Rattle.oss_meaning.specs.Meaning.{main_number}
 use Rattle.oss_meaning.specs.Names.{functions_of}
 use Rattle.oss_code.specs.declared.instr.Instr.TheVariants as i
 use Rattle.oss_lower_laws.specs.declared.lined.Lined.{Lined}
-use Rattle.oss_lower_laws.specs.Lowered.{bodies_from, body_code, body_place, bound_code, entered_code, entries_from, first_entry, function_code, function_codes, function_spot, head_code, program_code}
+use Rattle.oss_lower_laws.specs.Lowered.{bodies_from, body_code, body_place, bound_code, entered_code, entries_from, function_code, function_codes, function_spot, head_code, program_code}
 use Rattle.oss_lower_laws.specs.StatementCode.{enclosed_code, end_code, end_length}
 use Rattle.oss_lower_bounds.specs.Bounds.{CodesAreShort}
 use Rattle.oss_lower_bounds.specs.Sizes.{body_size, clauses_size, function_size, items_size, locals_size, mark_size}
@@ -75,8 +75,12 @@ module _ (all : List Item) where
   pub bodies_within : (fs : List Function) (at : ℕ) → All (λ entry. entry ≤ at + length (function_codes all fs)) (bodies_from all at fs)
   bodies_within [] at k d less = absurd (omega (arith, less))
   bodies_within (f ∷ fs) at zero d less =
-      omega (arith, length-append (function_code all f) (function_codes all fs), length-append (head_code all f) (enclosed_code f.line f.result (body_code all f)),
-      length-append (end_code f.line f.result) (body_code all f ++ end_code f.line f.result))
+      omega (
+        arith,
+        length-append (function_code all f) (function_codes all fs),
+        length-append (head_code all f) (enclosed_code f.line f.result (body_code all f)),
+        length-append (end_code f.line f.result) (body_code all f ++ end_code f.line f.result),
+      )
   bodies_within (f ∷ fs) at (suc k) d less =
       omega (arith, bodies_within fs (at + length (function_code all f)) k d (omega (arith, less)), length-append (function_code all f) (function_codes all fs))
 

@@ -20,10 +20,10 @@ use Rattle.oss_code.specs.declared.instr.Instr.TheVariants as i
 use Rattle.oss_code.specs.declared.instr.SectionBase.{SectionBase}
 use Rattle.oss_lower_laws.specs.declared.lined.Lined.{Lined}
 use Rattle.oss_lower_laws.specs.ExpressionCode.{arguments_code, expr_code, one}
-use Rattle.oss_lower_laws.specs.SectionCode.{base_code, clause_code, clauses_code, created_code, form_code, index_count, indices_code, many_code, optional_code, plain_code, section_code, sections_code, turn_code}
+use Rattle.oss_lower_laws.specs.SectionCode.{base_code, clause_code, clauses_code, created_code, form_code, indices_code, many_code, optional_code, plain_code, section_code, sections_code, turn_code}
 use Rattle.oss_lower_bounds.specs.Sizes.{clause_size, clauses_size, expr_size, form_size, inner_size, optional_size, sections_size, total}
 use Rattle.oss_lower_bounds.proofs.ShortCode.{IsShort, deeper, short_as, short_none, short_one, short_then}
-use Rattle.oss_lower_bounds.proofs.ShortExpressions.{AreShortArguments, expr_some, value_short, values_short}
+use Rattle.oss_lower_bounds.proofs.ShortExpressions.{expr_some, value_short, values_short}
 
 -- The expressions of a section
 

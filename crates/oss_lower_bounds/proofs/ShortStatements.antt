@@ -1,6 +1,5 @@
 -- The instructions of a statement are at most sixteen for each of its parts, and none of them stands behind more values than it has parts.
-use Rattle.std.proofs.Common.{◌≡◌, ℕ, ◌+◌, ◌*◌, ◌≤◌, List, [], ◌∷◌, ◌++◌, length, map, Option, Some, None, arith, length-append}
-use Rattle.std.proofs.lemmas.List.{length-map}
+use Rattle.std.proofs.Common.{ℕ, ◌+◌, ◌*◌, ◌≤◌, List, [], ◌∷◌, ◌++◌, length, map, Option, Some, None, arith}
 use Rattle.oss_syntax.specs.declared.access.Op.{Op}
 use Rattle.oss_syntax.specs.declared.tree.expr.BinOp.{BinOp}
 use Rattle.oss_syntax.specs.declared.tree.expr.Expr.{Expr}
@@ -21,13 +20,12 @@ use Rattle.oss_meaning.specs.Names.{item_found}
 use Rattle.oss_meaning.specs.Statements.{folded_by}
 use Rattle.oss_code.specs.declared.instr.Instr.TheVariants as i
 use Rattle.oss_lower_laws.specs.declared.lined.Lined.{Lined}
-use Rattle.oss_lower_laws.specs.ExpressionCode.{ExprCode, arguments_code, call_code, expr_code, one, operator_by}
-use Rattle.oss_lower_laws.specs.SectionCode.{clauses_code, created_code, sections_code}
+use Rattle.oss_lower_laws.specs.ExpressionCode.{ExprCode, expr_code, one, operator_by}
 use Rattle.oss_lower_laws.specs.StatementCode.{Codes, Spot, StmtCode, assigned_code, assignment_code, behind, call_done_code, cell_assigned_code, cell_changed_code, choice_codes, codes_in_order, declared_code, enclosed_code, enclosed_spot, end_code, end_length, first_code, first_instr, for_codes, given_code, in_scope, last_spot, local_assigned_code, loop_body, loop_code, loop_last, loop_spot, no_code, other_spot, part_code, pieces_in, print_code, release_code, returned_code, side_spot, stmt_code, stmt_code_step, stmt_codes, task_codes, test_code, ticked_code, wait_code}
 use Rattle.oss_lower_laws.proofs.ExpressionFolds.{Pair}
 use Rattle.oss_lower_laws.proofs.StatementFolds as folds
 use Rattle.oss_lower_laws.proofs.StatementFolds.{AtLines, Keeps}
-use Rattle.oss_lower_bounds.specs.Sizes.{body_size, clauses_size, expr_size, if_any, locals_size, loop_size, optional_size, sections_size, stmt_counts, stmt_size, total, waits_size}
+use Rattle.oss_lower_bounds.specs.Sizes.{body_size, clauses_size, expr_size, locals_size, loop_size, optional_size, sections_size, stmt_counts, stmt_size, total, waits_size}
 use Rattle.oss_lower_bounds.proofs.ShortCode.{IsShort, deeper, short_as, short_none, short_one, short_then}
 use Rattle.oss_lower_bounds.proofs.ShortExpressions.{call_short, expr_short, expr_some, value_short, values_short}
 use Rattle.oss_lower_bounds.proofs.ShortSections.{clauses_short, created_short, exprs_size, first_value, first_values, sections_short, values_few}
@@ -278,8 +276,11 @@ module _ (all : List Item) where
   keeps (open_stmt.Print format es) line = record { some = omega arith; code = ticked line (print_code all line format es) (16 * exprs_size es + 1) (1 + exprs_size es) (print_short line format es) (omega arith) }
   keeps (open_stmt.If e side None) line = record { some = omega arith; code = ticked line (choice_codes all line e side.left None) (16 * expr_size e + (1 + (16 * side.right + (1 + 16 * 0)))) (1 + (expr_size e + (side.right + 0))) (choice_short line e side None) (omega arith) }
   keeps (open_stmt.If e side (Some other)) line = record { some = omega arith; code = ticked line (choice_codes all line e side.left (Some other.left)) (16 * expr_size e + (1 + (16 * side.right + (1 + 16 * other.right)))) (1 + (expr_size e + (side.right + other.right))) (choice_short line e side (Some other)) (omega arith) }
-  keeps (open_stmt.While e body) line = record { some = omega arith; code = ticked line (for_codes all line None (Some e) None body.left) (16 * (0 + (expr_size e + (0 + body.right))) + 9) (1 + (expr_size e + body.right))
-      (λ spot. deeper _ (1 + (0 + (expr_size e + (0 + body.right)))) (1 + (expr_size e + body.right)) (for_short line None (Some e) None body spot) (omega arith)) (omega arith) }
+  keeps (open_stmt.While e body) line = record {
+    some = omega arith;
+    code = ticked line (for_codes all line None (Some e) None body.left) (16 * (0 + (expr_size e + (0 + body.right))) + 9) (1 + (expr_size e + body.right))
+        (λ spot. deeper _ (1 + (0 + (expr_size e + (0 + body.right)))) (1 + (expr_size e + body.right)) (for_short line None (Some e) None body spot) (omega arith)) (omega arith);
+  }
   keeps (open_stmt.For None test None body) line = record { some = omega arith; code = for_kept line None test None body }
   keeps (open_stmt.For None test (Some last) body) line = record { some = omega arith; code = for_kept line None test (Some last) body }
   keeps (open_stmt.For (Some first) test None body) line = record { some = omega arith; code = for_kept line (Some first) test None body }

@@ -1,5 +1,5 @@
 -- A program of a text has no more than four times as much size as the text has bytes.
-use Rattle.std.proofs.Common.{◌≡◌, ℕ, ◌+◌, ◌*◌, ◌≤◌, List, [], ◌∷◌, ◌++◌, length, map, Option, Some, None, arith, length-append}
+use Rattle.std.proofs.Common.{◌≡◌, ◌+◌, ◌*◌, ◌≤◌, List, [], ◌∷◌, ◌++◌, length, map, Option, arith, length-append}
 use Rattle.oss_syntax.specs.declared.token.Token.{Token}
 use Rattle.oss_syntax.specs.declared.tree.pragma.TaskMark.{TaskMark}
 use Rattle.oss_syntax.specs.declared.tree.program.Function.{Function}
@@ -9,7 +9,6 @@ use Rattle.oss_syntax.specs.declared.tree.program.Item.TheVariants as items
 use Rattle.oss_syntax.specs.declared.tree.program.Local.{Local}
 use Rattle.oss_syntax.specs.declared.tree.program.NumKind.{NumKind}
 use Rattle.oss_syntax.specs.declared.tree.program.Program.{Program}
-use Rattle.oss_grammar.specs.Parsing.{IsProgramText}
 use Rattle.oss_grammar.specs.Programs.{IsFunction, IsGlobal, IsGlobals, IsItem, IsMark, IsParameter, IsParameterList, IsParameters, IsProgram, IsProgramItems}
 use Rattle.oss_grammar.specs.Programs.IsFunction.{function}
 use Rattle.oss_grammar.specs.Programs.IsGlobal.{array_global, first_global, grid_global, scalar_global}
@@ -56,9 +55,17 @@ mark_few (some_mark d) = omega (arith, pragma_few d)
 
 function_few : {ts : List Token} {f : Function} → IsFunction ts f → item_size (items.Function f) ≤ 4 * length ts
 function_few (function marked front t word opened inner closed begins within ends split d is1 is2 is3 f is4 is5 g is6) =
-    omega (arith, tokens split, length-append marked (front ++ (t ∷ opened ∷ (inner ++ (closed ∷ begins ∷ (within ++ (ends ∷ [])))))),
-    length-append front (t ∷ opened ∷ (inner ++ (closed ∷ begins ∷ (within ++ (ends ∷ []))))), length-append inner (closed ∷ begins ∷ (within ++ (ends ∷ []))),
-    closed_by within ends, mark_few d, parameters_few f, items_few g)
+    omega (
+      arith,
+      tokens split,
+      length-append marked (front ++ (t ∷ opened ∷ (inner ++ (closed ∷ begins ∷ (within ++ (ends ∷ [])))))),
+      length-append front (t ∷ opened ∷ (inner ++ (closed ∷ begins ∷ (within ++ (ends ∷ []))))),
+      length-append inner (closed ∷ begins ∷ (within ++ (ends ∷ []))),
+      closed_by within ends,
+      mark_few d,
+      parameters_few f,
+      items_few g,
+    )
 
 item_few : {ts : List Token} {xs : List Item} → IsItem ts xs → items_size xs ≤ 4 * length ts
 item_few (globals front middle mark split is1 d is2) = omega (arith, tokens split, length-append front (middle ++ (mark ∷ [])), closed_by middle mark, globals_few d)

@@ -1,7 +1,6 @@
 -- Statements of a text have no more than four times as much size as tokens.
 use Rattle.std.proofs.Common.{◌≡◌, ℕ, ◌+◌, ◌*◌, ◌≤◌, Bool, false, List, [], ◌∷◌, ◌++◌, length, map, Option, Some, None, option_map, arith, length-append}
 use Rattle.oss_syntax.specs.declared.token.Token.{Token}
-use Rattle.oss_syntax.specs.declared.tree.expr.BinOp.{BinOp}
 use Rattle.oss_syntax.specs.declared.tree.expr.Expr.{Expr}
 use Rattle.oss_syntax.specs.declared.tree.expr.UnOp.TheVariants as prefix
 use Rattle.oss_syntax.specs.declared.tree.pragma.TaskMark.{TaskMark}
@@ -33,7 +32,7 @@ use Rattle.oss_grammar.specs.Statements.IsStmt.{block, break_jump, continue_jump
 use Rattle.oss_grammar.specs.Statements.IsTested.{tested}
 use Rattle.oss_lower_bounds.specs.Sizes.{body_size, clauses_size, expr_size, if_any, locals_size, optional_size, stmt_size, total}
 use Rattle.oss_lower_bounds.proofs.SizeForms.{size-assign, size-block, size-break, size-call, size-continue, size-declare, size-empty, size-for, size-if, size-index, size-name, size-number, size-print, size-release, size-return, size-task, size-task_loop, size-unary, size-wait, size-while}
-use Rattle.oss_lower_bounds.proofs.TextExpressions.{arguments_few, closed_by, directive_size, expr_few, list_few, pragma_few, tokens}
+use Rattle.oss_lower_bounds.proofs.TextExpressions.{arguments_few, closed_by, expr_few, list_few, pragma_few, tokens}
 
 -- Assignments, calls and declarations
 
@@ -46,8 +45,17 @@ target_few (name_target t word split is) = omega (arith, tokens split, size-name
 target_few (element_target {at = e} t word opened inner closed split is1 is2 is3 d) =
     omega (arith, tokens split, closed_by inner closed, size-index t.line (named t word) e, size-name t.line word, expr_few d)
 target_few (grid_target {row = e} {column = f} t word opened first closed again second ended split is1 is2 is3 is4 is5 d g) =
-    omega (arith, tokens split, length-append first (closed ∷ again ∷ (second ++ (ended ∷ []))), closed_by second ended,
-    size-index t.line (element_of (named t word) e) f, size-index t.line (named t word) e, size-name t.line word, expr_few d, expr_few g)
+    omega (
+      arith,
+      tokens split,
+      length-append first (closed ∷ again ∷ (second ++ (ended ∷ []))),
+      closed_by second ended,
+      size-index t.line (element_of (named t word) e) f,
+      size-index t.line (named t word) e,
+      size-name t.line word,
+      expr_few d,
+      expr_few g,
+    )
 target_few (pointer_target star t word split is1 is2) = omega (arith, tokens split, size-unary star.line prefix.Deref (named t word), size-name t.line word)
 target_few (pointed_target {e = e} star opened inner closed split is1 is2 is3 d) = omega (arith, tokens split, closed_by inner closed, size-unary star.line prefix.Deref e, expr_few d)
 
@@ -111,9 +119,20 @@ stepped_few (stepped_by t twice word split is1 is2) = tokens split
 
 head_few : {mark : TaskMark} {ts : List Token} {head : LoopHead} → IsLoopHead mark ts head → 12 + (optional_size head.variable.first + expr_size head.end) ≤ length ts
 head_few (loop_head front set start ended test limit other step closed split is1 is2 d is3 is4 f is5 is6 is7) =
-    omega (arith, tokens split, length-append front (set ∷ (start ++ (ended ∷ (test ++ (limit ++ (other ∷ (step ++ closed ∷ []))))))),
-    length-append start (ended ∷ (test ++ (limit ++ (other ∷ (step ++ closed ∷ []))))), length-append test (limit ++ (other ∷ (step ++ closed ∷ []))),
-    length-append limit (other ∷ (step ++ closed ∷ [])), closed_by step closed, variable_few is1, tested_few is4, stepped_few is6, expr_few d, expr_few f)
+    omega (
+      arith,
+      tokens split,
+      length-append front (set ∷ (start ++ (ended ∷ (test ++ (limit ++ (other ∷ (step ++ closed ∷ []))))))),
+      length-append start (ended ∷ (test ++ (limit ++ (other ∷ (step ++ closed ∷ []))))),
+      length-append test (limit ++ (other ∷ (step ++ closed ∷ []))),
+      length-append limit (other ∷ (step ++ closed ∷ [])),
+      closed_by step closed,
+      variable_few is1,
+      tested_few is4,
+      stepped_few is6,
+      expr_few d,
+      expr_few f,
+    )
 
 head_mark : {mark : TaskMark} {ts : List Token} {head : LoopHead} → IsLoopHead mark ts head → clauses_size head.mark.clauses ≡ clauses_size mark.clauses
 head_mark (loop_head front set start ended test limit other step closed split is1 is2 d is3 is4 f is5 is6 is7) = omega arith
@@ -132,8 +151,18 @@ mutual
   stmt_few (while_loop {test = e} {s = s} t opened inner closed back split is1 is2 is3 d f) =
       omega (arith, tokens split, length-append inner (closed ∷ back), size-while t.line e s, expr_few d, stmt_few f)
   stmt_few (for_loop {first = first} {test = e} {last = last} {s = s} t opened start mark middle other end closed back split is1 is2 is3 is4 is5 d f g h) =
-      omega (arith, tokens split, length-append start (mark ∷ (middle ++ (other ∷ (end ++ (closed ∷ back))))), length-append middle (other ∷ (end ++ (closed ∷ back))),
-      length-append end (closed ∷ back), size-for t.line first e last s, first_few d, maybe_few f, last_few g, stmt_few h)
+      omega (
+        arith,
+        tokens split,
+        length-append start (mark ∷ (middle ++ (other ∷ (end ++ (closed ∷ back))))),
+        length-append middle (other ∷ (end ++ (closed ∷ back))),
+        length-append end (closed ∷ back),
+        size-for t.line first e last s,
+        first_few d,
+        maybe_few f,
+        last_few g,
+        stmt_few h,
+      )
   stmt_few (return_jump {value = e} t inner mark split is1 is2 d) = omega (arith, tokens split, closed_by inner mark, size-return t.line e, maybe_few d)
   stmt_few (break_jump t mark split is1 is2) = omega (arith, tokens split, size-break t.line)
   stmt_few (continue_jump t mark split is1 is2) = omega (arith, tokens split, size-continue t.line)

@@ -4,10 +4,8 @@ use Rattle.oss_syntax.specs.declared.tree.expr.BinOp.TheVariants as op
 use Rattle.oss_syntax.specs.declared.tree.expr.Expr.{Expr}
 use Rattle.oss_syntax.specs.declared.tree.pragma.Clause.{Clause}
 use Rattle.oss_syntax.specs.declared.tree.pragma.Clause.TheVariants as clause
-use Rattle.oss_syntax.specs.declared.tree.pragma.TaskMark.{TaskMark}
 use Rattle.oss_syntax.specs.declared.tree.program.Item.{Item}
 use Rattle.oss_syntax.specs.declared.tree.program.Item.TheVariants as items
-use Rattle.oss_syntax.specs.declared.tree.program.Local.{Local}
 use Rattle.oss_syntax.specs.declared.tree.stmt.LoopHead.{LoopHead}
 use Rattle.oss_syntax.specs.declared.tree.stmt.Stmt.{Stmt}
 use Rattle.oss_syntax.specs.declared.tree.stmt.StmtKind.TheOpen.{StmtKind-F}
@@ -32,8 +30,15 @@ module _ (line : ℕ) (head : LoopHead) (body : Stmt) where
       let one = number_at head.for_line 1 in
       let tests = joined_at head.for_line op.Less variable (name_at head.for_line stop_name) in
       let step : Stmt = stmt_at head.for_line (stmts.Assign variable (Some op.Add) one) in
-      omega (arith, size-for head.for_line None (Some tests) (Some step) body, size-binary head.for_line op.Less variable (name_at head.for_line stop_name),
-      size-assign head.for_line variable (Some op.Add) one, size-name head.for_line head.variable.name, size-name head.for_line stop_name, size-number head.for_line 1 false)
+      omega (
+        arith,
+        size-for head.for_line None (Some tests) (Some step) body,
+        size-binary head.for_line op.Less variable (name_at head.for_line stop_name),
+        size-assign head.for_line variable (Some op.Add) one,
+        size-name head.for_line head.variable.name,
+        size-name head.for_line stop_name,
+        size-number head.for_line 1 false,
+      )
 
   task_size : stmt_size (task_of line head body) ≡ 8 + (clauses_size (task_clauses head.mark.clauses) + stmt_size body)
   task_size =
@@ -48,10 +53,22 @@ module _ (line : ℕ) (head : LoopHead) (body : Stmt) where
       let shorter : Stmt = stmt_at line (stmts.If tests (set_at line stop_name more) None) in
       let declared : Stmt = stmt_at line (stmts.Declare locals) in
       let last = set_at line begin_name (name_at line stop_name) in
-      omega (arith, size-block line (declared ∷ shorter ∷ task_of line head body ∷ last ∷ []), size-declare line locals,
-      size-if line tests (set_at line stop_name more) None, size-binary line op.More left (name_at line grain_name), size-binary line op.Sub (name_at line end_name) (name_at line begin_name),
-      set_size line stop_name more, size-binary line op.Add (name_at line begin_name) (name_at line grain_name), task_size, set_size line begin_name (name_at line stop_name),
-      size-name line begin_name, size-name line end_name, size-name line grain_name, size-name line stop_name)
+      omega (
+        arith,
+        size-block line (declared ∷ shorter ∷ task_of line head body ∷ last ∷ []),
+        size-declare line locals,
+        size-if line tests (set_at line stop_name more) None,
+        size-binary line op.More left (name_at line grain_name),
+        size-binary line op.Sub (name_at line end_name) (name_at line begin_name),
+        set_size line stop_name more,
+        size-binary line op.Add (name_at line begin_name) (name_at line grain_name),
+        task_size,
+        set_size line begin_name (name_at line stop_name),
+        size-name line begin_name,
+        size-name line end_name,
+        size-name line grain_name,
+        size-name line stop_name,
+      )
 
   first_size : (o : Option Expr) → expr_size (first_of line o) ≤ 1 + optional_size o
   first_size None = omega (arith, size-number line 0 false)
@@ -75,10 +92,23 @@ module _ (line : ℕ) (head : LoopHead) (body : Stmt) where
       let declared : Stmt = stmt_at line (stmts.Declare locals) in
       let raised : Stmt = stmt_at line (stmts.If low (set_at line grain_name (number_at line 1)) None) in
       let turning : Stmt = stmt_at line (stmts.While tests (round_of line head body)) in
-      omega (arith, size-block line (declared ∷ raised ∷ turning ∷ []), size-declare line locals, size-if line low (set_at line grain_name (number_at line 1)) None,
-      size-binary line op.Less (name_at line grain_name) (number_at line 1), set_size line grain_name (number_at line 1), size-number line 1 false,
-      size-while line tests (round_of line head body), size-binary line op.Less (name_at line begin_name) (name_at line end_name), round_size,
-      first_size head.variable.first, grain_size head.mark.clauses, size-name line begin_name, size-name line end_name, size-name line grain_name)
+      omega (
+        arith,
+        size-block line (declared ∷ raised ∷ turning ∷ []),
+        size-declare line locals,
+        size-if line low (set_at line grain_name (number_at line 1)) None,
+        size-binary line op.Less (name_at line grain_name) (number_at line 1),
+        set_size line grain_name (number_at line 1),
+        size-number line 1 false,
+        size-while line tests (round_of line head body),
+        size-binary line op.Less (name_at line begin_name) (name_at line end_name),
+        round_size,
+        first_size head.variable.first,
+        grain_size head.mark.clauses,
+        size-name line begin_name,
+        size-name line end_name,
+        size-name line grain_name,
+      )
 
 -- Statements
 

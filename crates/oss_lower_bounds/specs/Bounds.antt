@@ -1,14 +1,17 @@
 -- The code of a program is no longer and no deeper than the program is large, and a program of a text is no larger than the text is long. So
 -- each number that is asked for where the code is made is below 2^32, and no program of a text is refused for one.
--- Read against: `int main() { return 7; }` has 24 bytes and the size 3, and its code 14 instructions, before which there are at most one value.
+-- Read against: `int main() { return 7; }` has 24 bytes and the size 3, and its code 14 instructions, before each of which there is at most one value.
 use Rattle.std.specs.Prelude.{ℕ, ◌+◌, ◌*◌, ◌<◌, ◌≤◌, ◌^◌, All, List, length}
 use Rattle.oss_syntax.specs.declared.tree.program.Item.{Item}
+use Rattle.oss_syntax.specs.declared.tree.program.Local.{Local}
 use Rattle.oss_syntax.specs.declared.tree.program.Program.{Program as Tree}
+use Rattle.oss_syntax.specs.declared.tree.stmt.Stmt.{Stmt}
 use Rattle.oss_grammar.specs.Parsing.{IsProgramText}
 use Rattle.oss_grammar.specs.TaskLoops.{program_written}
 use Rattle.oss_meaning.specs.Names.{functions_of}
 use Rattle.oss_lower_laws.specs.Lowered.{bodies_from, entries_from, first_entry, program_code}
-use Rattle.oss_lower_bounds.specs.Sizes.{function_locals, items_size}
+use Rattle.oss_lower_laws.specs.StatementCode.{stmt_code}
+use Rattle.oss_lower_bounds.specs.Sizes.{function_locals, items_size, stmt_locals}
 
 -- A code of this size: it has at most sixteen instructions for each part of the program and three more, and before none of them there are more
 -- values on the stack than there are parts, and one more.
@@ -34,6 +37,12 @@ pub record FitsNumbers (all : List Item) : Type 0 where
   pub bodies : All (λ entry. entry < 2 ^ 32) (bodies_from all first_entry (functions_of all))
   pub items : length all < 2 ^ 32
   pub locals : All (λ f. function_locals f + 1 < 2 ^ 32) (functions_of all)
+
+-- A statement leaves at most as many locals more in scope as it declares. So at no place of a function are more in scope than it has, but for the
+-- variable of a multidependency.
+-- Read against: `long y, z;` leaves two more, and `{ long y, z; }` none.
+abbrev pub ScopesAreCounted : Type 0
+ScopesAreCounted = (all : List Item) (s : Stmt) (scope : List Local) → length ((stmt_code all s).scope scope) ≤ length scope + stmt_locals s
 
 -- the most bytes of a program text
 abbrev pub most_bytes : ℕ

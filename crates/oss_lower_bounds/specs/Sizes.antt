@@ -173,6 +173,6 @@ declared_counts _ line = 0
 abbrev pub stmt_locals : Stmt → ℕ
 stmt_locals = fold-Stmt (ℕ → ℕ) ℕ declared_counts (λ s. s.what s.line)
 
--- how many a function has: at no place of it are more in scope, but for the variable of a multidependency
+-- how many locals a function has: its parameters, and those that its statements declare
 abbrev pub function_locals : Function → ℕ
 function_locals f = length f.params + total (map stmt_locals f.body)

@@ -1,7 +1,7 @@
 //! What holds of every code and every text: laws, each carried by a function that does nothing. A crate above
 //! calls the function, and then has the law.
 
-ghost use Rattle.oss_lower_bounds.specs.Bounds.{CodesAreShort, TextsAreSmall, TextsFitNumbers};
+ghost use Rattle.oss_lower_bounds.specs.Bounds.{CodesAreShort, ScopesAreCounted, TextsAreSmall, TextsFitNumbers};
 
 /// The code of a program has at most sixteen instructions for each part of the program and three more, and none
 /// of them stands behind more values than there are parts, and one more.
@@ -13,6 +13,11 @@ pub fn codes_are_short()
 /// the text has bytes.
 pub fn texts_are_small()
     ensures { TextsAreSmall }
+{}
+
+/// A statement leaves at most as many locals more in scope as it declares.
+pub fn scopes_are_counted()
+    ensures { ScopesAreCounted }
 {}
 
 /// The numbers that are asked for where the code of a program is made are below 2^32 for each program as which a

@@ -3,4 +3,4 @@
 
 mod laws;
 
-pub use laws::{codes_are_short, texts_are_small, texts_fit_numbers};
+pub use laws::{codes_are_short, scopes_are_counted, texts_are_small, texts_fit_numbers};
