@@ -92,6 +92,6 @@ all_shallow most more (l ∷ ls) le h (suc k) d less = all_shallow most more ls 
 
 pub codes_are_short : CodesAreShort
 codes_are_short all = record {
-  short = (program_short all).few;
+  short = omega (arith, (program_short all).few);
   shallow = all_shallow (items_size all + 1) (items_size all + 1) (program_code all) (omega arith) (program_short all).shallow;
 }
