@@ -6,6 +6,8 @@ pub mod ShortPrograms
 pub mod ShortSections
 pub mod ShortStatements
 pub mod SizeForms
+pub mod StandingLocals
+pub mod TaskEntries
 pub mod TextExpressions
 pub mod TextPrograms
 pub mod TextStatements

@@ -1,20 +1,24 @@
--- The code of a program is no longer and no deeper than the program is large, and a program of a text is no larger than the text is long. So
--- each number that is asked for where the code is made is below 2^32, and no program of a text is refused for one.
+-- The code of a program has at most so many instructions for each part of the program, and a program of a text so many parts for each byte. So each
+-- number that is asked for where the code is made is below 2^32, and no program of a text is refused for one.
 -- Read against: `int main() { return 7; }` has 24 bytes and the size 3, and its code 14 instructions, before each of which there is at most one value.
-use Rattle.std.specs.Prelude.{ℕ, ◌+◌, ◌*◌, ◌<◌, ◌≤◌, ◌^◌, All, List, length}
+use Rattle.std.specs.Prelude.{◌≡◌, ℕ, ◌+◌, ◌*◌, ◌<◌, ◌≤◌, ◌^◌, All, List, length, Some, slice_get}
+use Rattle.oss_syntax.specs.declared.tree.program.Function.{Function}
 use Rattle.oss_syntax.specs.declared.tree.program.Item.{Item}
 use Rattle.oss_syntax.specs.declared.tree.program.Local.{Local}
 use Rattle.oss_syntax.specs.declared.tree.program.Program.{Program as Tree}
 use Rattle.oss_syntax.specs.declared.tree.stmt.Stmt.{Stmt}
 use Rattle.oss_grammar.specs.Parsing.{IsProgramText}
+use Rattle.oss_grammar.specs.Places.{Stands}
 use Rattle.oss_grammar.specs.TaskLoops.{program_written}
 use Rattle.oss_meaning.specs.Names.{functions_of}
-use Rattle.oss_lower_laws.specs.Lowered.{bodies_from, entries_from, first_entry, program_code}
+use Rattle.oss_code.specs.declared.code.CodeParts.{CodeParts}
+use Rattle.oss_code.specs.declared.instr.Instr.TheVariants as i
+use Rattle.oss_lower_laws.specs.Lowered.{IsLowered, bodies_from, entries_from, first_entry, program_code}
 use Rattle.oss_lower_laws.specs.StatementCode.{stmt_code}
 use Rattle.oss_lower_bounds.specs.Sizes.{function_locals, items_size, stmt_locals}
 
--- A code of this size: it has at most sixteen instructions for each part of the program and three more, and before none of them there are more
--- values on the stack than there are parts, and one more.
+-- The code has at most sixteen instructions for each part of the program and three more, and none of them stands behind more values on the stack than
+-- there are parts, and one more.
 pub record IsShort (all : List Item) : Type 0 where
   pub short : length (program_code all) ≤ 16 * items_size all + 3
   pub shallow : All (λ l. l.depth ≤ items_size all + 1) (program_code all)
@@ -38,11 +42,17 @@ pub record FitsNumbers (all : List Item) : Type 0 where
   pub items : length all < 2 ^ 32
   pub locals : All (λ f. function_locals f + 1 < 2 ^ 32) (functions_of all)
 
--- A statement leaves at most as many locals more in scope as it declares. So at no place of a function are more in scope than it has, but for the
--- variable of a multidependency.
+-- A statement leaves at most as many locals more in scope as it declares.
 -- Read against: `long y, z;` leaves two more, and `{ long y, z; }` none.
 abbrev pub ScopesAreCounted : Type 0
 ScopesAreCounted = (all : List Item) (s : Stmt) (scope : List Local) → length ((stmt_code all s).scope scope) ≤ length scope + stmt_locals s
+
+-- Where a statement stands in a program, the locals in scope there and those that it declares are no more than its function has. So at no place
+-- of a function are more in scope, but for the variable of a multidependency.
+-- Read against: in `void f(long n) { { long x; } long y, z; }` the second declaration stands where `n` is in scope, and declares two: three of the
+-- four that `f` has.
+abbrev pub PlacesAreCounted : Type 0
+PlacesAreCounted = (p : Tree) (f : Function) (visible : List Local) (t : Stmt) → Stands p f visible t → length visible + stmt_locals t ≤ function_locals f
 
 -- the most bytes of a program text
 abbrev pub most_bytes : ℕ
@@ -51,3 +61,7 @@ most_bytes = 1048576
 -- Those of a program as which a text of no more bytes is read, each task loop in it written out, are all below 2^32.
 abbrev pub TextsFitNumbers : Type 0
 TextsFitNumbers = (text : List ℕ) (p : Tree) → length text ≤ most_bytes → IsProgramText text p → FitsNumbers (program_written p).items
+
+-- So is, in the code of a program whose numbers are, the place where the body of a task begins that is created.
+abbrev pub TaskEntriesFit : Type 0
+TaskEntriesFit = (all : List Item) (code : CodeParts) → FitsNumbers all → IsLowered all code → (at passed : ℕ) → slice_get code.instrs at ≡ Some (i.Create passed) → at + 1 + passed < 2 ^ 32

@@ -159,7 +159,7 @@ items_size (x ∷ rest) = item_size x + items_size rest
 
 -- Locals
 
--- how many locals a statement declares, from those of the statements in it
+-- how many locals a statement declares, from those of the statements in it; a task loop has its variable, and four that no text names
 abbrev pub declared_counts : StmtKind-F (ℕ → ℕ) ℕ → ℕ → ℕ
 declared_counts (open_stmt.Block body) line = total body
 declared_counts (open_stmt.Declare ls) line = length ls
@@ -167,6 +167,7 @@ declared_counts (open_stmt.If e side other) line = side + if_any other
 declared_counts (open_stmt.While e body) line = body
 declared_counts (open_stmt.For first test last body) line = if_any first + (if_any last + body)
 declared_counts (open_stmt.Task mark body) line = body
+declared_counts (open_stmt.TaskLoop head body) line = 5 + body
 declared_counts _ line = 0
 
 -- how many locals a statement declares in all

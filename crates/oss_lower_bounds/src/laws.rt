@@ -1,7 +1,7 @@
 //! What holds of every code and every text: laws, each carried by a function that does nothing. A crate above
 //! calls the function, and then has the law.
 
-ghost use Rattle.oss_lower_bounds.specs.Bounds.{CodesAreShort, ScopesAreCounted, TextsAreSmall, TextsFitNumbers};
+ghost use Rattle.oss_lower_bounds.specs.Bounds.{CodesAreShort, PlacesAreCounted, ScopesAreCounted, TaskEntriesFit, TextsAreSmall, TextsFitNumbers};
 
 /// The code of a program has at most sixteen instructions for each part of the program and three more, and none
 /// of them stands behind more values than there are parts, and one more.
@@ -20,9 +20,21 @@ pub fn scopes_are_counted()
     ensures { ScopesAreCounted }
 {}
 
+/// Where a statement stands in a program, the locals in scope there and those that it declares are no more than
+/// its function has.
+pub fn places_are_counted()
+    ensures { PlacesAreCounted }
+{}
+
 /// The numbers that are asked for where the code of a program is made are below 2^32 for each program as which a
 /// text of at most 1,048,576 bytes is read, each task loop in it written out. So no such program is refused for
 /// one of them.
 pub fn texts_fit_numbers()
     ensures { TextsFitNumbers }
+{}
+
+/// In the code of a program whose numbers are below 2^32, so is the place where the body of a task begins that is
+/// created. So no creation is told as want of memory for its place.
+pub fn task_entries_fit()
+    ensures { TaskEntriesFit }
 {}

@@ -3,4 +3,7 @@
 
 mod laws;
 
-pub use laws::{codes_are_short, scopes_are_counted, texts_are_small, texts_fit_numbers};
+pub use laws::{
+    codes_are_short, places_are_counted, scopes_are_counted, task_entries_fit, texts_are_small,
+    texts_fit_numbers,
+};
