@@ -34,6 +34,7 @@ use Rattle.oss_explain.specs.Noting.{AreOnWay, IsRight, StandsBefore, at_child, 
 use Rattle.oss_explain.specs.Owned.{own_of}
 use Rattle.oss_explain.specs.Reasons.{IsAccounted, IsFaultOf, IsNotedReleased}
 use Rattle.oss_explain.specs.Ways.{link_of, links_to}
+use Rattle.oss_explain.proofs.BoundLemmas.{bounded_before}
 use Rattle.oss_explain.proofs.HolderLemmas.{HasHolder, lent_is_held}
 use Rattle.oss_explain.proofs.HoldingLemmas.{ext}
 use Rattle.oss_explain.proofs.LendingLemmas.{lent_is_hindered, main_lends_nothing}
@@ -58,7 +59,7 @@ module _ {S : Type 0} (P : Program S) (s : State S) where
     pub words : HasWords P s q own
     pub same : own_of b.accesses ≡ own
 
-  held_same : (r : Right) (m : Mark) → word_of (held_right r) (held_mark r m) ≡ word_of r m
+  pub held_same : (r : Right) (m : Mark) → word_of (held_right r) (held_mark r m) ≡ word_of r m
   held_same NoRight m = refl
   held_same Released m = refl
   held_same (Holds Reading strong) m = refl
@@ -160,7 +161,14 @@ module _ (code : CodeParts) (fuel : ℕ) (kept : Kept) (l : Ledger) (kind : Faul
   released_is (Holds m strong) h = absurd cc
 
   pub accounted_here : IsAccounted f.context l.top
-  accounted_here = record { released = λ c h. released c (released_is (right_of f.context c) h); lent = λ c touch h e. lent c touch e (holder c touch h) }
+  accounted_here =
+      let bounds = bounded_before code fuel kept l kind line st right_here in
+      record {
+        released = λ c h. released c (released_is (right_of f.context c) h);
+        lent = λ c touch h e. lent c touch e (holder c touch h);
+        few = bounds.few;
+        short = bounds.short;
+      }
     where
       released : (c : ℕ) → right_of f.context c ≡ Released → IsNotedReleased l.top.released c
       released c h =

@@ -8,5 +8,6 @@ pub mod WayLemmas
 pub mod FollowingLemmas
 pub mod HoldingLemmas
 pub mod SearchLemmas
+pub mod BoundLemmas
 pub mod EndLemmas
 pub mod DeedLemmas

@@ -1,6 +1,6 @@
 -- What is found at a fault of a task, told by its context and by what is noted of it.
 -- Read against: a task whose read of a cell is Lent has lent the cell for writing, and a child is noted that hinders the read; one that touches a cell which it has released has a note of the release.
-use Rattle.std.specs.Prelude.{◌≡◌, ◌⊎◌, ◌||◌, ℕ, ◌++◌, Bool, true, List, [], ◌∷◌, Some, map}
+use Rattle.std.specs.Prelude.{◌≡◌, ◌≤◌, ◌<◌, ◌⊎◌, ◌||◌, ℕ, ◌++◌, Bool, true, List, [], ◌∷◌, length, Some, map}
 use Rattle.oss_syntax.specs.declared.fault.FaultKind.{FaultKind}
 use Rattle.oss_syntax.specs.declared.fault.FaultKind.TheVariants as fault
 use Rattle.oss_syntax.specs.declared.tree.program.Item.{Item}
@@ -50,10 +50,12 @@ IsFaultOf x _ kind = ⊥
 abbrev pub IsNotedReleased : List ReleasedAt → ℕ → Type 0
 IsNotedReleased rs c = (r : ReleasedAt) × (IsIn r rs × (in_clauses r.clauses c ≡ true))
 
--- What a task with this context has released is noted, and who has what it has lent.
+-- What a task with this context has released is noted, and who has what it has lent. No more children hinder a touch than a task may create, and the point of the task is one of a task.
 pub record IsAccounted (x : Context) (b : Begun) : Type 0 where
   pub released : (c : ℕ) → is_released (right_of x c) ≡ true → IsNotedReleased b.released c
   pub lent : (c : ℕ) (touch : Touch) → touch_fault (right_of x c) (lent_of x c) (mark_of x c) touch ≡ Some fault.Lent → hindering c touch b.noted ≡ [] → ⊥
+  pub few : (c : ℕ) (touch : Touch) → length (hindering c touch b.noted) ≤ 65535
+  pub short : length b.point < 66
 
 -- This is the reason, wherever a task with this context asks this, of which what is noted is right.
 abbrev pub IsReasonOf : List Item → Context → Begun → FaultKind → Ask CodeScript → Reason → Type 0
