@@ -5,9 +5,9 @@ ghost use Rattle.oss_judge.specs.Seen.{right_seen};
 ghost use Rattle.oss_model.specs.Rights.{in_access, is_fresh, joined_right, right_from};
 ghost use Rattle.oss_explain.specs.Owned.{word_from};
 
-use oss_explanation::Word;
 use crate::modes::joined_modes;
 use crate::words_of::use_of;
+use oss_explanation::Word;
 use oss_judge::Right;
 use oss_syntax::{Access, Mode};
 

@@ -11,8 +11,8 @@ ghost use Rattle.oss_explanation.specs.Explanations.{IsDeed};
 ghost use Rattle.oss_explain.specs.Reasons.{MayFail};
 
 use crate::asked_cells::accesses_on;
-use oss_explanation::Deed;
 use crate::failing::cells_named;
+use oss_explanation::Deed;
 use oss_machine::Ask;
 use oss_pieces::{Piece, pieces};
 use oss_syntax::{Access, FaultKind, List, Program};

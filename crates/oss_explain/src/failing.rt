@@ -10,9 +10,9 @@ ghost use Rattle.oss_explanation.specs.Held.{AreFailing};
 ghost use Rattle.oss_explain.specs.Failures.{HasCell, passes, is_uncovered_by};
 ghost use Rattle.oss_ranges.specs.Cells.{value_at};
 
-use oss_explanation::Failing;
 use crate::modes::Modes;
 use crate::words_of::same_op;
+use oss_explanation::Failing;
 use oss_judge::{Context, Right};
 use oss_pieces::{CELLS, CellSet, pieces};
 use oss_syntax::{Access, Mode, Program, Range};

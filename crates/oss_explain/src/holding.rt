@@ -7,8 +7,8 @@ ghost use Rattle.oss_pieces.specs.CellSets.{has};
 ghost use Rattle.oss_explanation.specs.Held.{AreHeld, all_words, words_so};
 ghost use Rattle.oss_explain.specs.Owned.{AddsWords, is_by, own_of};
 
-use oss_explanation::{Held, Use, Word};
 use crate::words_of::{clause_word, same_word};
+use oss_explanation::{Held, Use, Word};
 use oss_pieces::{CellSet, pieces};
 use oss_syntax::{Access, List, Op, Program};
 use std::alloc::{AllocError, Global};

@@ -9,8 +9,8 @@ ghost use Rattle.oss_explain.specs.Reasons.{IsNotedReleased, IsReleasedOf, IsRel
 
 use crate::at_cell::has;
 use crate::begun::ReleasedAt;
-use oss_explanation::Reason;
 use crate::failing::failing;
+use oss_explanation::Reason;
 use oss_pieces::CellSet;
 use oss_syntax::{Access, Program};
 use std::alloc::{AllocError, Global};

@@ -4,8 +4,8 @@ ghost use Rattle.std.specs.Prelude.{◌≡◌, ◌<◌, ◌++◌, ◌∷◌, [],
 ghost use Rattle.oss_explain.specs.Ways.{links_to};
 
 use crate::begun::Begun;
-use oss_explanation::Link;
 use crate::ledger::Ledger;
+use oss_explanation::Link;
 use oss_model::Point;
 use oss_syntax::List;
 use std::alloc::{AllocError, Global};
