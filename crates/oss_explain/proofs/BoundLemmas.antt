@@ -10,8 +10,8 @@ use Rattle.oss_model.specs.Machine.{At, State, Task}
 use Rattle.oss_model.specs.Moves.{act_now}
 use Rattle.oss_model.specs.Order.{IsIn, here, there, written}
 use Rattle.oss_model.specs.Rights.{Touch}
-use Rattle.oss_model.specs.Sequence.{Running, RunsOn, Sequential, opens, runs_on}
-use Rattle.oss_model.proofs.SequenceLemmas.{Stands, opening_at, stands, stands_on}
+use Rattle.oss_model.specs.Sequence.{Running, Sequential, opens, runs_on}
+use Rattle.oss_model.proofs.SequenceLemmas.{opening_at, stands, stands_on}
 use Rattle.oss_audit.specs.Auditing.{place_in}
 use Rattle.oss_audit.specs.Trails.{Place, above, place_next}
 use Rattle.oss_audit.proofs.ActingLemmas.{acting_next}
@@ -92,7 +92,7 @@ module _ {S : Type 0} (P : Program S) (main : Start S) (cells : List ℕ) (ms : 
   acts_low z opens t h =
       let body = (opening_at main cells [] t ms.path h).1 in
       let place : place_in (acting P t.body.start t.body.found) ≡ record { path = []; created = 0 } =
-          ap (λ (u : Task S). place_in (acting P u.body.start u.body.found)) body ∙ place_first P main ∙ (λ i. record { path = ms.path i; created = ms.created i }) in
+      ap (λ (u : Task S). place_in (acting P u.body.start u.body.found)) body ∙ place_first P main ∙ (λ i. record { path = ms.path i; created = ms.created i }) in
       subst (λ (p : Place). length p.path ≤ 64) (sym place) (omega arith)
   acts_low z (runs_on {z = w} run step) t h =
       let st = stands P main cells ms w run in

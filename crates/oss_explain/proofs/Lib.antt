@@ -11,3 +11,5 @@ pub mod SearchLemmas
 pub mod BoundLemmas
 pub mod EndLemmas
 pub mod DeedLemmas
+pub mod TouchLemmas
+pub mod LentLemmas

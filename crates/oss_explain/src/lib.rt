@@ -14,6 +14,7 @@ mod failing;
 mod holders;
 mod holding;
 mod ledger;
+mod lending;
 mod modes;
 mod releases;
 mod run;
