@@ -13,3 +13,4 @@ pub mod EndLemmas
 pub mod DeedLemmas
 pub mod TouchLemmas
 pub mod LentLemmas
+pub mod FindingLemmas

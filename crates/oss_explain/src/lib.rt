@@ -11,6 +11,7 @@ mod begun;
 mod deeds;
 mod ending;
 mod failing;
+mod finding;
 mod holders;
 mod holding;
 mod ledger;
