@@ -16,7 +16,7 @@ use Rattle.oss_words.specs.declared.entry.EntryState.{EntryState}
 use Rattle.oss_words.specs.Bits.{state_at, state_word}
 use Rattle.oss_words.specs.Net.{bare}
 use Rattle.oss_words.specs.Steps.{no_flags}
-use Rattle.oss_words.specs.Views.{Among}
+use Rattle.oss_words.specs.Views.{View, Among}
 use Rattle.oss_roles.specs.Field.{Sits}
 use Rattle.oss_roles.specs.Sights.{Sight}
 use Rattle.oss_roles.proofs.DrawLaw.{nothing_is_drawn}
@@ -160,6 +160,10 @@ module _ (code : CodeParts) (fuel n : ℕ) (low : 0 < n) (high : n ≤ 16777216)
   only_view zero v h = maybe.some-injective (record { known = first_known }) v h
   only_view (suc j) v h = absurd (maybe.some-ne-none v (sym h))
 
+  only_words : (j : ℕ) (v : View) → get_elem? (first_known.words ∷ []) j ≡ maybe.some v → first_known.words ≡ v
+  only_words zero v h = maybe.some-injective first_known.words v h
+  only_words (suc j) v h = absurd (maybe.some-ne-none v (sym h))
+
   no_holding : (h : Holding) → Among h [] → ⊥
   no_holding h a = elim a [ ]
 
@@ -202,7 +206,15 @@ module _ (code : CodeParts) (fuel n : ℕ) (low : 0 < n) (high : n ≤ 16777216)
       none = refl;
       undrawn = λ j x sits a. nothing e (subst (λ (z : Sight CodeScript). Among e z.drawn) (sym (only j x sits)) a);
     };
-    seats = record { main_drawn = omega arith; drawn = omega arith; parts = refl; work = omega arith };
+    seats = record {
+      main_drawn = omega arith;
+      drawn = omega arith;
+      failed = λ j v at. subst (λ (z : View). z.failed ≤ 1) (only_words j v at) (omega arith);
+      split = λ v at. subst (λ (z : View). 1 ≡ 1 + z.splits) (only_words 0 v at) refl;
+      few = omega arith;
+      parts = refl;
+      work = omega arith;
+    };
   }
     where
       none_there : (e : ℕ) → e < n → slice_index ws (body_word_of (length cells) e) ≡ 0 → get_elem? homes e ≡ maybe.some (maybe.some None)

@@ -19,7 +19,7 @@ use Rattle.oss_words.specs.Bits.{state_at, state_word}
 use Rattle.oss_words.specs.Net.{Net}
 use Rattle.oss_words.specs.Seats.{came}
 use Rattle.oss_words.specs.Sums.{total}
-use Rattle.oss_words.specs.Views.{View, Among}
+use Rattle.oss_words.specs.Views.{View, Among, At}
 use Rattle.oss_roles.specs.Drawing.{AreDrawn, IsFree}
 use Rattle.oss_roles.specs.Field.{FieldAt, words_of}
 use Rattle.oss_roles.specs.Roles.{Role}
@@ -46,10 +46,13 @@ pub record Neat (c : EntryState) : Type 0 where
   pub child : c.headed ≡ false → (c.child ≡ 0) × (c.child_folds ≡ false) × (c.child_same ≡ false)
 
 -- What the views tell of seats and of the draw word: a draw adds at most 16,777,216, and a seat draws no more once it was joined to another or found
--- too few; the parts of all seats are 65,537; and no more was delivered than has come to the entries.
+-- too few; the first seat was split as often as there are others, and there are at most 65,537; the parts of all are 65,537; and no more was delivered than has come to the entries.
 pub record AreSeats (n : ℕ) (net : Net) (states : ℕ → EntryState) (draw : ℕ) (views : List View) : Type 0 where
   pub main_drawn : 0 < draw
   pub drawn : draw ≤ 16777216 * (1 + total (λ (v : View). v.failed) views)
+  pub failed : (id : ℕ) (v : View) → At views id v → v.failed ≤ 1
+  pub split : (v : View) → At views 0 v → length views ≡ 1 + v.splits
+  pub few : length views ≤ 65537
   pub parts : total (λ (v : View). v.parts) views ≡ 65537
   pub work : total (λ (v : View). v.delivered) views ≤ came n net.place states
 

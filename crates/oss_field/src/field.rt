@@ -1,15 +1,20 @@
 //! A field.
 
-ghost use Rattle.std.specs.Prelude.{◌≡◌, ◌<◌, ◌≤◌, ◌+◌, ◌*◌, [], length, None, IfNone, IfOk, IfSome, box_value};
+ghost use Rattle.std.specs.Prelude.{◌≡◌, ◌<◌, ◌≤◌, ◌+◌, ◌*◌, ℕ, [], length, None, IfNone, IfOk, IfSome, box_value};
 ghost use Rattle.oss_body.specs.Mains.{code_main};
 ghost use Rattle.oss_field.specs.Asks.{IsLoaded, IsStored, MayLoad, MayStore};
+ghost use Rattle.oss_field.specs.Drawing.{IsAboveAll, drew, missed};
 ghost use Rattle.oss_field.specs.Known.{Holding, first_known};
 ghost use Rattle.oss_field.specs.Layout.{words_in};
+ghost use Rattle.oss_field.specs.Moves.{touched};
+ghost use Rattle.oss_field.specs.Reading.{after_flags};
 ghost use Rattle.oss_field.specs.Standing.{Fielded};
 ghost use Rattle.oss_field.specs.Taking.{IsMissing, IsPut, IsTaken, MayPut, after_count, after_take};
 ghost use Rattle.oss_jobs.specs.Jobs.{IsJob};
 
 use crate::cells::{load_cell, store_cell};
+use crate::drawing::add_draw;
+use crate::flags::read_flags;
 use crate::key::FieldKey;
 use crate::seat::FieldSeat;
 use crate::slots::{put_slot, take_job};
@@ -26,8 +31,8 @@ use std::snapshot::Snapshot;
 /// nobody, unless it says otherwise.
 ///
 /// Whatever the threads do, and however their steps interleave, the words, slots and seats stand for one state of the
-/// machine, which a run from the start of main can reach. What is here so far: a field in which main alone begins, and
-/// the touches of cells by a job that a seat holds.
+/// machine, which a run from the start of main can reach. What is here so far: a field in which main alone begins, the
+/// touches of cells by a job that a seat holds, draws of entries, and the flags of an entry.
 #[derive(Drop)]
 pub struct Field {
     /// The words and slots.
@@ -95,6 +100,27 @@ impl Field {
         Ok((field, FieldSeat { place }))
     }
 
+    /// So many new entries, from 1 to 16,777,216: the first of them; the others follow it. No other seat gets one of them,
+    /// and all are above the number and the last children of each task whose job the seat holds. `None` exactly if
+    /// fewer were left at its step, and then none are left, and the seat draws no more.
+    pub fn draw(&self, seat: &mut FieldSeat, count: u32) -> Option<u32>
+        requires field { seat.old.field ≡ self.now.table }
+        requires first { seat.old.known.words.failed ≡ 0 }
+        requires most { (0 < count) × (count ≤ 16777216) }
+        ensures same { (seat.new.field ≡ seat.old.field) × (seat.new.id ≡ seat.old.id) }
+        ensures some { IfSome result (λ e. (e + count ≤ self.now.entries) × IsAboveAll e seat.old.known ×
+            (seat.new.known ≡ touched 0 e (drew count e seat.old.known))) }
+        ensures none { IfNone result ((n : ℕ) × (self.now.entries < n + count) ×
+            (seat.new.known ≡ touched 0 n (missed seat.old.known))) }
+    {
+        let found = add_draw(&self.table.shared, &mut seat.place, self.entries, count);
+        if found + count as u64 <= self.entries as u64 {
+            Some(found as u32)
+        } else {
+            None
+        }
+    }
+
     /// What a cell is, for the load that stands next in a job that the seat holds, or for the fold into the cell that
     /// stands next. Since the seat's last call with the job it was advanced by that call's act, and else by its own
     /// acts alone, and by waits that the seat has seen to be met. After it the body that the seat knows has the
@@ -147,5 +173,16 @@ impl Field {
             seat.new.known }
     {
         put_slot(&self.table.shared, &mut seat.place, self.cells, job)
+    }
+    /// The state word of an entry, as it stands at this step. All its flags stand from then on. If the entry is one of
+    /// the task of a job that the seat holds, the flag of a value that is left stays as it was found, and so does, but
+    /// for a strong reduction, that of an entry that is given up: until the seat sets it itself, or puts the job.
+    pub fn flags(&self, seat: &mut FieldSeat, entry: u32) -> u64
+        requires field { seat.old.field ≡ self.now.table }
+        requires inside { entry < self.now.entries }
+        ensures same { (seat.new.field ≡ seat.old.field) × (seat.new.id ≡ seat.old.id) }
+        ensures found { seat.new.known ≡ after_flags (length self.now.code.first) entry result seat.old.known }
+    {
+        read_flags(&self.table.shared, &mut seat.place, self.cells, entry)
     }
 }

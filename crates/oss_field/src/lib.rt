@@ -3,7 +3,9 @@
 #![tactic(auto)]
 
 mod cells;
+mod drawing;
 mod field;
+mod flags;
 mod key;
 mod places;
 mod rule;

@@ -1,13 +1,20 @@
 //! Where the words of a field lie.
 
 ghost use Rattle.std.specs.Prelude.{◌≡◌};
-ghost use Rattle.oss_field.specs.Layout.{body_word_of, cell_word, count_word_of};
+ghost use Rattle.oss_field.specs.Layout.{body_word_of, cell_word, count_word_of, state_word_of};
 
 /// The number of the word of a cell.
 pub(crate) fn cell_place(cell: u32) -> usize
     ensures { result ≡ cell_word cell }
 {
     1 + cell as usize
+}
+
+/// The number of the state word of an entry, in a field of so many cells.
+pub(crate) fn state_place(cells: u32, entry: u32) -> usize
+    ensures { result ≡ state_word_of cells entry }
+{
+    1 + cells as usize + 6 * entry as usize
 }
 
 /// The number of the count word of a task, in a field of so many cells.

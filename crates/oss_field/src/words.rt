@@ -1,7 +1,7 @@
 //! Single atomic steps on the words of a field's table, whatever a step is for. What a step tells is picked by its
 //! caller, and with it what the caller owes: that the step keeps the rule.
 
-ghost use Rattle.std.specs.Prelude.{◌≡◌, ◌<◌, ◌==◌, ℕ};
+ghost use Rattle.std.specs.Prelude.{◌≡◌, ◌<◌, ◌==◌, ◌+◌, ◌%◌, ◌^◌, ℕ};
 ghost use prog.Atomic.{either};
 ghost use Rattle.atomic_table.specs.Table.{Allows, Me};
 ghost use Rattle.oss_field.specs.Known.{Known};
@@ -41,7 +41,7 @@ impl<T: Tells> Play<Option<Box<Job>>, SeatView> for Told<T> {
     ghost then = { λ s v n w. (w.1 ≡ v.1) × T.tells n v.0.known w.0.known };
 }
 
-/// Reads a word of a task, in a field of so many cells.
+/// Reads a word of a task or an entry, in a field of so many cells.
 pub(crate) fn read_word<T: Tells>(
     words: &Words,
     seat: &mut Place,
@@ -94,6 +94,25 @@ pub(crate) fn write_for<T: Tells>(
     ensures told { T.tells value seat.old.me.0.known seat.new.me.0.known }
 {
     words.store::<Told<T>>(seat, word, value);
+}
+
+/// Adds to a word, for a draw of so many entries in a field of so many: the word as it was.
+pub(crate) fn add_word<T: Tells>(
+    words: &Words,
+    seat: &mut Place,
+    word: usize,
+    by: u64,
+    _entries: u32,
+    _count: u32,
+) -> u64
+    requires table { seat.old.table_id ≡ words.now.table_id }
+    requires inside { word < words.now.table_id.words }
+    requires keeps { Steps words.now.key.code.value words.now.key.fuel words.now.key.entries seat.old.id
+        seat.old.me.0 word (λ n. (n + by) % 2 ^ 64) (λ n l. T.tells n seat.old.me.0.known l) }
+    ensures stays { Stays seat.old seat.new }
+    ensures told { T.tells result seat.old.me.0.known seat.new.me.0.known }
+{
+    words.fetch_add::<Told<T>>(seat, word, by)
 }
 
 /// What a step tells that may take a slot or give one back.

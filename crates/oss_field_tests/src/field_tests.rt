@@ -1,4 +1,4 @@
-//! A field in which main alone stores and loads.
+//! A field in which main alone stores and loads, and entries that are drawn in it.
 
 use crate::trials::{main_job, touch_once};
 use oss_code::{Code, CodeParts, GlobalPlace, Instr};
@@ -55,6 +55,30 @@ fn a_load_finds_what_was_stored(rt: HostRuntime) {
     assert!(rt; found == Some(9));
     let over = touch_once(&field, &mut seat, &code, 0).expect(&rt, "memory");
     assert!(rt; over.is_none());
+    drop(seat);
+    drop(field);
+    drop(code);
+}
+
+/// Entries are drawn one after the other, and whoever finds too few gets none. A word that nobody has used has no flag.
+#[test]
+fn entries_are_drawn_in_turn(rt: HostRuntime) {
+    let code = code(&rt);
+    if code.first().len() > 1_048_576 {
+        return;
+    }
+    let job = main_job(rt.alloc(), &code, 100).expect(&rt, "memory");
+    let (field, mut seat) = Field::new(rt.alloc(), &code, 100, 4, job).expect(&rt, "memory");
+    match field.draw(&mut seat, 2) {
+        Some(entry) => {
+            assert!(rt; entry == 1);
+            let too_many = field.draw(&mut seat, 2);
+            assert!(rt; too_many.is_none());
+        }
+        None => panic!(rt; "two entries are left"),
+    }
+    let flags = field.flags(&mut seat, 2);
+    assert!(rt; flags == 0);
     drop(seat);
     drop(field);
     drop(code);
