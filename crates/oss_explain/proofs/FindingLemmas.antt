@@ -1,5 +1,5 @@
 -- What is found at a fault is the reason of it.
-use Rattle.std.proofs.Common.{◌≡◌, ℕ, ◌+◌, ◌⊎◌, inl, inr, refl, sym, subst, ap, ◌∙◌, List, [], ◌∷◌, ◌++◌, map, Bool, true, false, Option, Some}
+use Rattle.std.proofs.Common.{◌≡◌, ℕ, ◌⊎◌, inl, inr, refl, sym, subst, ap, ◌∙◌, List, [], ◌∷◌, ◌++◌, map, Bool, true, false, Option, Some}
 use Rattle.std.specs.Prelude.{◌&&◌, ◌==◌}
 use Rattle.oss_syntax.specs.declared.access.Mode.TheVariants.{Fold as Folding}
 use Rattle.oss_syntax.specs.declared.access.Op.{Op}

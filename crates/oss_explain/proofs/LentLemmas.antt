@@ -1,5 +1,5 @@
 -- How the children are told that hinder a touch.
-use Rattle.std.proofs.Common.{◌≡◌, ℕ, ◌+◌, ◌⊎◌, inl, inr, refl, sym, subst, ap, ◌∙◌, List, [], ◌∷◌, ◌++◌, length, map, arith, Bool, true, false, Bor, None, if◌then◌else◌}
+use Rattle.std.proofs.Common.{◌≡◌, ℕ, ◌⊎◌, inl, inr, refl, sym, subst, ap, ◌∙◌, List, [], ◌∷◌, ◌++◌, length, map, arith, Bool, true, false, Bor, None, if◌then◌else◌}
 use Rattle.oss_model.specs.Order.{IsIn, here, written}
 use Rattle.oss_model.specs.Rights.{Folds, Holds, Mark, NoRight, Reads, Released, Right, Touch, Writes, mark_from, right_from}
 use Rattle.oss_audit.proofs.ListLemmas.{in_either, in_one}
