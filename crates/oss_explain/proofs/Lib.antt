@@ -14,3 +14,4 @@ pub mod DeedLemmas
 pub mod TouchLemmas
 pub mod LentLemmas
 pub mod FindingLemmas
+pub mod DirectiveLemmas

@@ -6,3 +6,4 @@ pub mod Joining
 pub mod Failures
 pub mod Reasons
 pub mod Ways
+pub mod Directives

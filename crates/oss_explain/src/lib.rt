@@ -9,6 +9,7 @@ mod asked_cells;
 mod at_cell;
 mod begun;
 mod deeds;
+mod directives;
 mod ending;
 mod failing;
 mod finding;
