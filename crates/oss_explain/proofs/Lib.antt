@@ -15,3 +15,4 @@ pub mod TouchLemmas
 pub mod LentLemmas
 pub mod FindingLemmas
 pub mod DirectiveLemmas
+pub mod WantingLemmas

@@ -20,6 +20,7 @@ mod lending;
 mod modes;
 mod releases;
 mod run;
+mod wanting;
 mod who;
 mod words_of;
 
