@@ -11,6 +11,7 @@ pub mod SearchLemmas
 pub mod BoundLemmas
 pub mod EndLemmas
 pub mod DeedLemmas
+pub mod FaultLemmas
 pub mod TouchLemmas
 pub mod LentLemmas
 pub mod FindingLemmas

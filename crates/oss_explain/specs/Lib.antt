@@ -6,4 +6,5 @@ pub mod Joining
 pub mod Failures
 pub mod Reasons
 pub mod Ways
+pub mod Telling
 pub mod Directives

@@ -1,8 +1,7 @@
 //! Why a program comes to a fault, found beside its sequential run.
 //!
-//! What follows a run act by act notes what may bear on its fault, and of what finds the explanation these parts: the
-//! words of a task, the cells that fail, who has a lent cell, and where a cell was released. The call itself is not in
-//! this crate yet.
+//! What follows a run act by act notes what may bear on its fault. At the fault this is searched: for the words of the
+//! task that acts, the cells that fail, who has a lent cell, and where a cell was released.
 #![tactic(auto)]
 
 mod asked_cells;
@@ -12,6 +11,7 @@ mod deeds;
 mod directives;
 mod ending;
 mod failing;
+mod fault;
 mod finding;
 mod holders;
 mod holding;
@@ -20,8 +20,10 @@ mod lending;
 mod modes;
 mod releases;
 mod run;
+mod told;
 mod wanting;
 mod who;
 mod words_of;
 
 pub use ending::Ending;
+pub use run::explain;

@@ -1,13 +1,17 @@
 //! The explanation of the fault to which a code comes.
 
-ghost use Rattle.std.specs.Prelude.{IfOk};
+ghost use Rattle.std.specs.Prelude.{◌≤◌, length, IfOk};
+ghost use Rattle.oss_grammar.specs.Layout.{cells_in};
+ghost use Rattle.oss_explain.specs.Endings.{IsEndingOf};
 ghost use Rattle.oss_explain.specs.Noting.{IsEndReached, IsFollowing};
 
+use crate::ending::Ending;
+use crate::fault::explain_fault;
 use crate::ledger::Ledger;
 use oss_code::Code;
-use oss_serial::{Stage, Turned};
-use oss_syntax::FaultKind;
-use std::alloc::AllocError;
+use oss_serial::{Stage, Turned, begin};
+use oss_syntax::{FaultKind, Program};
+use std::alloc::{AllocError, Global};
 
 /// How a run comes to its end.
 #[derive(Clone, Copy)]
@@ -16,6 +20,62 @@ enum End {
     Done,
     /// A fault stopped it, on this line.
     Fault(FaultKind, u32),
+}
+
+/// Runs a code sequentially, each task with fuel for so many ticks, and explains the fault to which the run comes, if it
+/// comes to one: by its kind and line, what the task that acts was about to do, why it may not, how the task came to be,
+/// and what the clauses name. The output of the run is not kept. Beside the run it costs little for each act, what the
+/// accesses of a new task cost at its creation, and at the fault a walk over what was noted. Cells are told over the
+/// globals of the program. Out of memory is the one other answer. Condition: the code has at most 1,048,576 cells, and
+/// the globals have so many.
+pub fn explain(
+    alloc: Global,
+    program: &Program,
+    code: &Code,
+    fuel: u32,
+) -> Result<Ending, AllocError>
+    requires cells { length code.now.first ≤ 1048576 }
+    requires layout { cells_in program.now.items ≤ 1048576 }
+    ensures { IfOk result (λ ending. IsEndingOf code.now fuel program.now.items ending) }
+{
+    let mut ledger = Ledger::new(alloc)?;
+    match begin(alloc, code, fuel) {
+        Ok(mut stage) => explain_from(alloc, program, code, fuel, &mut stage, &mut ledger),
+        Err(error) => Err(error),
+    }
+}
+
+/// The same from the beginning of the run on.
+fn explain_from(
+    alloc: Global,
+    program: &Program,
+    code: &Code,
+    fuel: u32,
+    stage: &mut Stage,
+    ledger: &mut Ledger,
+) -> Result<Ending, AllocError>
+    requires layout { cells_in program.now.items ≤ 1048576 }
+    requires follows { IsFollowing code.now fuel stage.old ledger.old }
+    ensures { IfOk result (λ ending. IsEndingOf code.now fuel program.now.items ending) }
+{
+    match follow(code, fuel, stage, ledger)? {
+        End::Done => Ok(Ending::Done),
+        End::Fault(kind, line) => {
+            match explain_fault(
+                alloc,
+                program,
+                code,
+                fuel,
+                &stage.current,
+                ledger,
+                kind,
+                line,
+            ) {
+                Ok(found) => Ok(Ending::Fault(kind, line, found)),
+                Err(full) => Err(full),
+            }
+        }
+    }
 }
 
 /// Follows the run to its end.
