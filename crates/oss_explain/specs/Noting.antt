@@ -97,7 +97,7 @@ pub record IsBorn {S : Type 0} (P : Program S) (s : State S) (q : List ℕ) (b :
   pub created : IsCreated P s q b.included b.line context
   pub accesses : AreAccesses b.accesses context
 
--- What is noted of the task at this path, which has created so many, and of those above it, the innermost first. Each but the first has created the one before it last.
+-- What is noted of the task at this path, which has created so many, and of those above it, the innermost first. The last task that each but the first has created is the one before it.
 pub data AreOnWay {S : Type 0} (P : Program S) (s : State S) : List ℕ → ℕ → List Begun → Type 0 where
   at_main : {count : ℕ} {b : Begun} → IsRight P s [] count b → b.accesses ≡ [] → AreOnWay P s [] count (b ∷ [])
   at_child : {k : ℕ} {q : List ℕ} {count : ℕ} {b : Begun} {rest : List Begun} → IsRight P s (k ∷ q) count b → IsBorn P s (k ∷ q) b → AreOnWay P s q (k + 1) rest

@@ -57,7 +57,7 @@ pub record IsAccounted (x : Context) (b : Begun) : Type 0 where
   pub few : (c : ℕ) (touch : Touch) → length (hindering c touch b.noted) ≤ 65535
   pub short : length b.point < 66
 
--- This is the reason, wherever a task with this context asks this, of which what is noted is right.
+-- This is the reason of each task with this context that asks this, if what is noted of the task is right.
 abbrev pub IsReasonOf : List Item → Context → Begun → FaultKind → Ask CodeScript → Reason → Type 0
 IsReasonOf all x b kind ask reason =
     (P : Program CodeScript) (s : State CodeScript) (f : Frame CodeScript) (count : ℕ) → f.context ≡ x → IsRight P s f.path count b → IsReason P s all f (own_of b.accesses) kind ask reason

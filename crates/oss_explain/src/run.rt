@@ -25,9 +25,10 @@ enum End {
 /// Runs a code sequentially, each task with fuel for so many ticks, and explains the fault to which the run comes, if it
 /// comes to one: by its kind and line, what the task that acts was about to do, why it may not, how the task came to be,
 /// and what the clauses name. The output of the run is not kept. Beside the run it costs little for each act, what the
-/// accesses of a new task cost at its creation, and at the fault a walk over what was noted. Cells are told over the
-/// globals of the program. Out of memory is the one other answer. Condition: the code has at most 1,048,576 cells, and
-/// the globals have so many.
+/// accesses of a new task cost at its creation, and at the fault a walk over what was noted: of each task on the way its
+/// releases, and its children and each `taskwait on` since its last `taskwait`. Cells are told over the globals of the
+/// program. Out of memory is the one other answer. Condition: the code has at most 1,048,576 cells, and so have the
+/// globals.
 pub fn explain(
     alloc: Global,
     program: &Program,
