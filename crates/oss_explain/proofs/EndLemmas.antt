@@ -1,18 +1,17 @@
 -- What is known of a run that stands before a fault, of which what is noted is right.
-use Rattle.std.proofs.Common.{◌≡◌, ◌≢◌, ℕ, ◌+◌, ◌<◌, ◌≤◌, ◌⊎◌, inl, inr, refl, sym, subst, ap, ◌∙◌, List, [], ◌∷◌, length, reverse, arith, Bool, true, false, Option, None, Some}
-use Rattle.std.proofs.lemmas.List.{length-reverse}
+use Rattle.std.proofs.Common.{◌≡◌, ℕ, ◌<◌, ◌≤◌, ◌⊎◌, inl, inr, refl, sym, subst, ap, ◌∙◌, List, [], ◌∷◌, length, reverse, arith, Bool, true, false, Option, None, Some}
 use Rattle.oss_syntax.specs.declared.access.Mode.TheVariants.{Fold as Folding, Read as Reading, Write as Writing}
 use Rattle.oss_syntax.specs.declared.fault.FaultKind.{FaultKind}
 use Rattle.oss_syntax.specs.declared.fault.FaultKind.TheVariants as fault
-use Rattle.oss_model.specs.Bodies.{Act, Ask, Body, Frame, Order, Program, Start, act_of, act_of_ask, ask_of, frame_act, judged_act, key_of, stack_act, stack_from, stage_act, top_frame}
-use Rattle.oss_model.specs.Bodies.Act.{Awaited, Created, Ended, Fault, Folded, Load, Over, Printed, Releases, Store, Ticked, Waited, WaitedOn}
-use Rattle.oss_model.specs.Context.{Context, Entry, create_fault, creation_fault, lent_of, main_context, mark_of, no_entry, release_fault, right_of, tick_fault, wait_on_fault}
+use Rattle.oss_model.specs.Bodies.{Act, Ask, Frame, Program, Start, act_of, act_of_ask, ask_of, frame_act, judged_act, key_of, stack_act, stack_from, stage_act, top_frame}
+use Rattle.oss_model.specs.Bodies.Act.{Fault, Load, Ticked}
+use Rattle.oss_model.specs.Context.{Entry, create_fault, creation_fault, lent_of, main_context, mark_of, no_entry, release_fault, right_of, tick_fault, wait_on_fault}
 use Rattle.oss_model.specs.History.{IsMade}
-use Rattle.oss_model.specs.Machine.{State, Task}
-use Rattle.oss_model.specs.Order.{IsIn, written}
-use Rattle.oss_model.specs.Rights.{Folds, Free, Holds, Mark, NoRight, Reads, Released, Right, Touch, Unwritten, Writes, Written, is_fold, is_released, touch_fault}
+use Rattle.oss_model.specs.Machine.{State}
+use Rattle.oss_model.specs.Order.{IsIn}
+use Rattle.oss_model.specs.Rights.{Folds, Free, Holds, Mark, NoRight, Reads, Released, Right, Touch, Writes, Written, is_released, touch_fault}
 use Rattle.oss_model.proofs.ContextLemmas.{tabled_at, tabled_past}
-use Rattle.oss_model.proofs.SequenceLemmas.{Stands, stands}
+use Rattle.oss_model.proofs.SequenceLemmas.{stands}
 use Rattle.oss_judge.specs.Joined.{held_mark, held_right}
 use Rattle.oss_code.specs.declared.code.CodeParts.{CodeParts}
 use Rattle.oss_machine.specs.Frames.{CodeScript}
@@ -26,7 +25,6 @@ use Rattle.oss_explain.specs.declared.begun.Child.{Child}
 use Rattle.oss_explanation.specs.declared.explained.Word.{Word}
 use Rattle.oss_explain.specs.declared.ledger.Ledger.{Ledger}
 use Rattle.oss_explanation.specs.Held.{word_in, word_of}
-use Rattle.oss_explain.specs.Ledgers.{AreAccesses}
 use Rattle.oss_explanation.specs.Lives.{HasWords, IsChain}
 use Rattle.oss_explanation.specs.Lives.HasWords.{of_child, of_main}
 use Rattle.oss_explanation.specs.Lives.IsChain.{at_child as chain_goes, at_main as chain_ends}

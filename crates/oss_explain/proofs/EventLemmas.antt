@@ -1,10 +1,10 @@
 -- All acts of one task lie in one body.
-use Rattle.std.proofs.Common.{◌≡◌, ℕ, ◌<◌, ◌≤◌, ◌⊎◌, inl, inr, refl, sym, subst, ap, ◌∙◌, List, [], ◌∷◌, length, arith, Bool, true, false}
-use Rattle.oss_model.specs.Bodies.{Frame, Program, Start, stack_from, stage_act, stage_key, top_frame}
+use Rattle.std.proofs.Common.{◌≡◌, ℕ, ◌≤◌, ◌⊎◌, inl, inr, sym, subst, ap, ◌∙◌, List, ◌∷◌, length, arith, false}
+use Rattle.oss_model.specs.Bodies.{Frame, Program, Start, stack_from, stage_key, top_frame}
 use Rattle.oss_model.specs.History.{IsMade}
 use Rattle.oss_model.specs.Machine.{At, State, Task}
 use Rattle.oss_model.specs.Memory.{Event}
-use Rattle.oss_model.specs.Order.{IsSuffix, longer, whole}
+use Rattle.oss_model.specs.Order.{IsSuffix}
 use Rattle.oss_model.proofs.BodyLemmas.{stack_ok}
 use Rattle.oss_model.proofs.KeyLemmas.{key_form}
 use Rattle.oss_model.proofs.OrderLemmas.{suffix_linear, suffix_trans}
@@ -13,7 +13,7 @@ use Rattle.oss_model.proofs.StageLemmas.{creating, no_inner_of_open}
 use Rattle.oss_model.proofs.TreeLemmas.{at_same, task_above}
 use Rattle.oss_audit.proofs.PathLemmas.{rest_same, suffix_split}
 use Rattle.oss_body.specs.Acting.{acting}
-use Rattle.oss_explanation.specs.Lives.{IsEventOf, actor}
+use Rattle.oss_explanation.specs.Lives.{IsEventOf}
 
 -- The task that acts in a body stands at or below the body's own
 pub acting_below : {S : Type 0} (P : Program S) (b : Start S) (past : List ℕ) → IsSuffix b.path (acting P b past).path

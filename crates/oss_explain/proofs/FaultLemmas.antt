@@ -1,5 +1,5 @@
 -- What is found at a fault before which a run stands explains it.
-use Rattle.std.proofs.Common.{◌≡◌, ℕ, refl, sym, subst, ap, ◌∙◌, List, [], ◌∷◌, reverse, Bool, false, Option}
+use Rattle.std.proofs.Common.{◌≡◌, ℕ, refl, sym, subst, ap, ◌∙◌, List, [], ◌∷◌, reverse, false, Option}
 use Rattle.std.proofs.lemmas.List.{reverse-reverse}
 use Rattle.oss_syntax.specs.declared.fault.FaultKind.{FaultKind}
 use Rattle.oss_syntax.specs.declared.tree.program.Item.{Item}
@@ -8,7 +8,6 @@ use Rattle.oss_model.specs.Bodies.{Act, Ask, Frame, IsHalt, Program, Start, ask_
 use Rattle.oss_model.specs.Bodies.Act.{Fault}
 use Rattle.oss_model.specs.Context.{Context}
 use Rattle.oss_model.specs.Machine.{State}
-use Rattle.oss_model.specs.Moves.{act_now}
 use Rattle.oss_model.specs.Order.{written}
 use Rattle.oss_model.specs.Points.{IsPoint}
 use Rattle.oss_model.specs.Sequence.{IsAtEnd}
@@ -27,7 +26,7 @@ use Rattle.oss_body.specs.Relation.{is_over}
 use Rattle.oss_serial.specs.Turns.{whole_task}
 use Rattle.oss_explanation.specs.declared.explained.Link.{Link}
 use Rattle.oss_explanation.specs.declared.explained.Word.{Word}
-use Rattle.oss_explanation.specs.Explanations.{Explains, IsExplained, IsReason, wanted}
+use Rattle.oss_explanation.specs.Explanations.{Explains, IsExplained, IsReason}
 use Rattle.oss_explanation.specs.Held.{AreHeld, all_words}
 use Rattle.oss_explanation.specs.Lives.{IsChain}
 use Rattle.oss_explain.specs.declared.begun.Begun.{Begun}
@@ -40,7 +39,6 @@ use Rattle.oss_explain.specs.Endings.IsEnding.{fault as comes_to}
 use Rattle.oss_explain.specs.Noting.{AreOnWay, StandsBefore, at_child, at_main}
 use Rattle.oss_explain.specs.Reasons.{IsAccounted, IsFaultOf, MayFail}
 use Rattle.oss_explain.specs.Telling.{IsKeyOf, IsToldOf, IsWho, explained_by}
-use Rattle.oss_explain.specs.Ways.{links_to}
 use Rattle.oss_explain.proofs.EndLemmas.{HasOwn, accounted_here, chain_here, fault_here, right_here, words_here}
 
 -- an ask that comes to a fault is one that may

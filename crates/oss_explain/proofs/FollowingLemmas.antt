@@ -1,13 +1,12 @@
 -- What is noted follows the sequential run of a code.
-use Rattle.std.proofs.Common.{◌≡◌, ℕ, ◌+◌, ◌<◌, ◌≤◌, refl, sym, subst, ap, ◌∙◌, List, [], ◌∷◌, length, reverse, arith, Bool, true, false}
+use Rattle.std.proofs.Common.{◌≡◌, ℕ, ◌<◌, refl, sym, subst, ap, ◌∙◌, List, [], ◌∷◌, length, reverse, arith, Bool}
 use Rattle.std.proofs.lemmas.List.{length-reverse}
 use Rattle.oss_syntax.specs.declared.fault.FaultKind.{FaultKind}
 use Rattle.oss_model.specs.Agreement.{MainStarts, Setting}
 use Rattle.oss_model.specs.Bodies.{Act, Body, Frame, Order, Program, Start, ask_of, stage_act}
 use Rattle.oss_model.specs.Bodies.Act.{Created, Fault}
-use Rattle.oss_model.specs.Context.{Context}
 use Rattle.oss_model.specs.Machine.{At, State, Task}
-use Rattle.oss_model.specs.Memory.{Event, Happened}
+use Rattle.oss_model.specs.Memory.{Event}
 use Rattle.oss_model.specs.Moves.{act_now, opening}
 use Rattle.oss_model.specs.Order.{IsIn, IsSuffix, written}
 use Rattle.oss_model.specs.Rights.{Touch}
@@ -28,17 +27,16 @@ use Rattle.oss_body.specs.Acting.{acting}
 use Rattle.oss_body.specs.Acts.{HasContext, act_seen}
 use Rattle.oss_body.specs.Mains.{code_main}
 use Rattle.oss_serial.specs.declared.stage.Stage.{Stage}
-use Rattle.oss_serial.specs.Stages.{IsFirstStage, IsNext, IsStage, StandsBeforeFault}
+use Rattle.oss_serial.specs.Stages.{IsFirstStage, IsNext, StandsBeforeFault}
 use Rattle.oss_serial.specs.Turns.{whole_task}
 use Rattle.oss_body.specs.Relation.{IsBody}
 use Rattle.oss_body.specs.declared.body.Body.{Body as Kept}
 use Rattle.oss_explain.specs.declared.begun.Begun.{Begun}
-use Rattle.oss_explain.specs.declared.begun.Child.{Child}
 use Rattle.oss_explain.specs.declared.begun.Noted.{Noted}
 use Rattle.oss_explain.specs.declared.begun.ReleasedAt.{ReleasedAt}
 use Rattle.oss_explain.specs.declared.ledger.Ledger.{Ledger}
 use Rattle.oss_explain.specs.Ledgers.{HasRoom, IsFirst, IsNoted}
-use Rattle.oss_explanation.specs.Lives.{IsEventOf, IsHolder, IsReleased}
+use Rattle.oss_explanation.specs.Lives.{IsEventOf}
 use Rattle.oss_explain.specs.Noting.{AreHeldBy, AreOnWay, IsFollowing, IsRight, RiseTo, StandsBefore, acts_at, at_child, at_main, hindering}
 use Rattle.oss_explain.proofs.WayLemmas.{note_next}
 

@@ -1,12 +1,11 @@
 -- The children that hinder a touch, behind one note more.
-use Rattle.std.proofs.Common.{◌≡◌, ℕ, ◌<◌, ◌≤◌, refl, sym, ap, ◌∙◌, List, [], ◌∷◌, ◌++◌, arith, Bool, true, false}
-use Rattle.oss_syntax.specs.declared.access.Mode.TheVariants.{Fold, Read, Write}
+use Rattle.std.proofs.Common.{◌≡◌, ℕ, ◌<◌, ◌≤◌, refl, List, [], ◌∷◌, ◌++◌, arith}
 use Rattle.oss_model.specs.Rights.{Folds, Holds, NoRight, Reads, Released, Right, Touch, Writes}
 use Rattle.oss_judge.specs.Joined.{held_right}
 use Rattle.oss_explain.specs.declared.begun.Child.{Child}
 use Rattle.oss_explain.specs.declared.begun.Noted.{Noted}
 use Rattle.oss_explanation.specs.Lives.{hinders}
-use Rattle.oss_explain.specs.Noting.{RiseTo, hindering, hindering_after, hindering_from}
+use Rattle.oss_explain.specs.Noting.{RiseTo, hindering_after, hindering_from}
 
 pub hindering_more : (c : ℕ) (touch : Touch) (ks : List Child) (ns : List Noted) (n : Noted) → hindering_from c touch ks (ns ++ n ∷ []) ≡ hindering_after c touch (hindering_from c touch ks ns) n
 hindering_more c touch ks [] n = refl

@@ -1,22 +1,21 @@
 -- What a task has, by the accesses with which it started.
-use Rattle.std.proofs.Common.{◌≡◌, ℕ, ◌+◌, ◌<◌, ◌≤◌, refl, sym, subst, ap, ◌∙◌, List, [], ◌∷◌, ◌++◌, arith, Bool, true, false, Option}
+use Rattle.std.proofs.Common.{◌≡◌, ℕ, ◌<◌, refl, subst, ap, ◌∙◌, List, [], ◌∷◌, ◌++◌, arith, Bool, true, false, Option}
 use Rattle.std.specs.Prelude.{◌&&◌, ◌||◌, nat_le, nat_lt, if◌then◌else◌, Err, IfOk, Ok, Result}
 use Rattle.std.proofs.lemmas.Bool.Decides.{nat_tests}
 use Rattle.oss_syntax.specs.declared.access.Access.{Access}
 use Rattle.oss_syntax.specs.declared.access.Mode.{Mode}
 use Rattle.oss_syntax.specs.declared.access.Mode.TheVariants.{Fold, Read, Write}
 use Rattle.oss_syntax.specs.declared.tree.program.Item.{Item}
-use Rattle.oss_judge.specs.Joined.{Follows, IsRising}
+use Rattle.oss_judge.specs.Joined.{IsRising}
 use Rattle.oss_model.specs.Context.{in_clauses}
 use Rattle.oss_model.specs.Rights.{Holds, NoRight, Right, first_mark, in_access, is_fresh, joined_right, right_from}
-use Rattle.oss_pieces.specs.declared.piece.Piece.{Piece}
 use Rattle.oss_pieces.specs.Pieces.{ArePieces}
 use Rattle.oss_explanation.specs.declared.explained.Held.{Held}
 use Rattle.oss_explanation.specs.declared.explained.Use.{Use}
 use Rattle.oss_explanation.specs.declared.explained.Word.{Word}
 use Rattle.oss_explanation.specs.Held.{AreHeld, clause_word, is_word, mark_for, use_of, word_eq, word_of}
 use Rattle.oss_explanation.specs.Held.AreHeld.{no_cell, none, some}
-use Rattle.oss_explain.specs.Owned.{AddsWords, is_by, own_of}
+use Rattle.oss_explain.specs.Owned.{is_by, own_of}
 
 -- functions that agree are one
 pub ext : {A : Type 0} {f g : ℕ → A} → ((c : ℕ) → f c ≡ g c) → f ≡ g

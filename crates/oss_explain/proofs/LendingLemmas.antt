@@ -5,10 +5,9 @@ use Rattle.std.proofs.lemmas.List.{get_or_past}
 use Rattle.oss_syntax.specs.declared.access.Access.{Access}
 use Rattle.oss_syntax.specs.declared.access.Mode.{Mode}
 use Rattle.oss_syntax.specs.declared.access.Mode.TheVariants.{Read, Write, Fold}
-use Rattle.oss_syntax.specs.declared.access.Op.{Op}
 use Rattle.oss_syntax.specs.declared.fault.FaultKind.TheVariants as fault
 use Rattle.oss_model.specs.Bodies.{Act, Frame, Order, Program, Start, act_of, base_after, inner_after, lent_when, one_more_created, settled_frame, settled_parts, stack_act, stack_after, stack_from, stage_act, start_frame, top_frame}
-use Rattle.oss_model.specs.Bodies.Act.{Awaited, Created, Ended, Fault, Folded, Load, Over, Printed, Releases, Store, Ticked, Waited, WaitedOn}
+use Rattle.oss_model.specs.Bodies.Act.{Created, Ended, Folded, Releases, Store, Waited, WaitedOn}
 use Rattle.oss_model.specs.Context.{Context, Entry, child_context, in_clauses, lend, lend_cell, lent_of, made, main_context, mark_of, no_entry, right_of, waited_on, with_entries}
 use Rattle.oss_model.specs.Order.{IsSuffix, longer, whole}
 use Rattle.oss_model.specs.Rights.{Folds, Free, Holds, Lending, Mark, NoRight, Reading, Reads, Released, Right, Touch, Unwritten, Writes, Writing, Written, mark_from, op_eq, right_from, touch_fault}

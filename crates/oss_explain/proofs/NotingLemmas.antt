@@ -2,13 +2,13 @@
 use Rattle.std.proofs.Common.{◌≡◌, ℕ, ◌+◌, ◌<◌, ◌≤◌, ◌⊎◌, inl, inr, refl, sym, subst, ap, ◌∙◌, List, [], ◌∷◌, ◌++◌, length, arith, Bool, true, false}
 use Rattle.oss_syntax.specs.declared.access.Access.{Access}
 use Rattle.oss_model.specs.Agreement.{MainStarts}
-use Rattle.oss_model.specs.Bodies.{Act, Frame, Order, Program, Start, ask_of, stage_act}
+use Rattle.oss_model.specs.Bodies.{Act, Frame, Order, Program, Start, ask_of}
 use Rattle.oss_model.specs.Bodies.Act.{Created, Releases}
 use Rattle.oss_model.specs.Context.{Context, child_context, in_clauses, right_of}
 use Rattle.oss_model.specs.Machine.{At, Task}
 use Rattle.oss_model.specs.Memory.{Event, Happened}
 use Rattle.oss_model.specs.Moves.{act_now}
-use Rattle.oss_model.specs.Order.{IsIn, IsSuffix, longer, whole, written}
+use Rattle.oss_model.specs.Order.{IsIn, IsSuffix}
 use Rattle.oss_model.specs.Rights.{Touch}
 use Rattle.oss_model.specs.Sequence.{Running, RunsOn}
 use Rattle.oss_model.proofs.OrderLemmas.{suffix_drop, suffix_length}

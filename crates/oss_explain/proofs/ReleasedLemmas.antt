@@ -1,10 +1,10 @@
 -- What a task has released, it has released by an act of its own.
-use Rattle.std.proofs.Common.{◌≡◌, ℕ, ◌+◌, ◌⊎◌, inl, inr, refl, sym, subst, ap, ◌∙◌, List, [], ◌∷◌, Bool, true, false}
+use Rattle.std.proofs.Common.{◌≡◌, ℕ, ◌⊎◌, inl, inr, refl, sym, subst, ap, ◌∙◌, List, [], ◌∷◌, Bool, true, false}
 use Rattle.std.specs.Prelude.{◌||◌, if◌then◌else◌}
 use Rattle.oss_syntax.specs.declared.access.Access.{Access}
 use Rattle.oss_model.specs.Bodies.{Act, Frame, Order, Program, Start, act_of, base_after, child_frame, child_start, frame_after, including_frame, inner_after, lent_when, one_more_created, settled_frame, settled_parts, stack_act, stack_after, stack_from, stage_act, start_frame, top_frame}
 use Rattle.oss_model.specs.Bodies.Act.{Awaited, Created, Ended, Fault, Folded, Load, Over, Printed, Releases, Store, Ticked, Waited, WaitedOn}
-use Rattle.oss_model.specs.Context.{Context, Entry, child_context, in_clauses, lend, lend_cell, lent_of, made, main_context, mark_of, release, right_of, waited, waited_on, with_entries}
+use Rattle.oss_model.specs.Context.{Context, child_context, in_clauses, lend_cell, lent_of, mark_of, release, right_of, waited, waited_on}
 use Rattle.oss_model.specs.History.{IsMade}
 use Rattle.oss_model.specs.Machine.{At, State, Task}
 use Rattle.oss_model.specs.Memory.{Event}
@@ -14,7 +14,7 @@ use Rattle.oss_model.proofs.BodyLemmas.{settle_same}
 use Rattle.oss_model.proofs.ContextLemmas.{entry_cases, made_right, same_right, wrote_right}
 use Rattle.oss_model.proofs.TreeLemmas.{at_same, path_found}
 use Rattle.oss_body.specs.Acting.{acting}
-use Rattle.oss_explanation.specs.Lives.{IsReleased, actor, line_at}
+use Rattle.oss_explanation.specs.Lives.{IsReleased, line_at}
 
 -- Contexts
 

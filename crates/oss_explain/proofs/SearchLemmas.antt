@@ -1,14 +1,14 @@
 -- Searches in lists, and runs of cells.
-use Rattle.std.proofs.Common.{◌≡◌, ◌≢◌, ℕ, zero, suc, ◌+◌, ◌<◌, ◌≤◌, ◌⊎◌, inl, inr, refl, sym, subst, ap, ◌∙◌, List, [], ◌∷◌, length, drop, reverse, take, arith, Bool, true, false, Option, None, Some, if◌then◌else◌}
+use Rattle.std.proofs.Common.{◌≡◌, ℕ, zero, suc, ◌<◌, ◌≤◌, ◌⊎◌, inl, inr, refl, sym, ap, ◌∙◌, List, [], ◌∷◌, length, drop, reverse, take, arith, Bool, true, false, Option, None, Some, if◌then◌else◌}
 use Rattle.std.specs.Prelude.{◌&&◌, ◌||◌}
 use Rattle.oss_syntax.specs.declared.access.Access.{Access}
 use Rattle.oss_syntax.specs.declared.access.Mode.{Mode}
 use Rattle.oss_model.specs.Context.{in_clauses}
 use Rattle.oss_model.specs.Order.{IsIn, here, there}
-use Rattle.oss_model.specs.Rights.{Holds, NoRight, Released, Right, in_access, is_mixed, is_no_join, is_unjoinable, joined_mode, joined_right, right_from, right_held}
+use Rattle.oss_model.specs.Rights.{Holds, NoRight, Released, Right, is_mixed, is_no_join, is_unjoinable, joined_mode, joined_right, right_from, right_held}
 use Rattle.oss_ranges.specs.Cells.{is_within, value_at}
 use Rattle.oss_ranges.specs.declared.piece.Piece.{Piece}
-use Rattle.oss_pieces.specs.CellSets.{SetOfCells, has}
+use Rattle.oss_pieces.specs.CellSets.{SetOfCells}
 use Rattle.oss_explain.specs.declared.begun.Begun.{Begun}
 use Rattle.oss_explain.specs.declared.begun.ReleasedAt.{ReleasedAt}
 use Rattle.oss_explain.specs.Failures.{is_uncovered_by}

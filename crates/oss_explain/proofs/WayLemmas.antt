@@ -1,15 +1,15 @@
 -- What is noted by an act is right at the stage behind it.
-use Rattle.std.proofs.Common.{◌≡◌, ℕ, ◌+◌, ◌<◌, ◌≤◌, ◌⊎◌, inl, inr, refl, sym, subst, ap, ◌∙◌, List, [], ◌∷◌, ◌++◌, length, reverse, arith, Bool, true, false}
+use Rattle.std.proofs.Common.{◌≡◌, ℕ, ◌+◌, ◌≤◌, ◌⊎◌, inl, inr, refl, sym, subst, ap, ◌∙◌, List, [], ◌∷◌, ◌++◌, reverse, arith, Bool, true, false}
 use Rattle.std.specs.Prelude.{◌&&◌, if◌then◌else◌, not}
 use Rattle.std.proofs.lemmas.List.{reverse-append}
 use Rattle.oss_syntax.specs.declared.access.Access.{Access}
 use Rattle.oss_syntax.specs.declared.access.Range.{Range}
 use Rattle.oss_model.specs.Agreement.{MainStarts}
 use Rattle.oss_model.specs.Bodies.{Act, Frame, Order, Program, Start, ask_of}
-use Rattle.oss_model.specs.Bodies.Act.{Created, Ended, Releases, Waited, WaitedOn}
+use Rattle.oss_model.specs.Bodies.Act.{Created, Ended, Releases, Waited}
 use Rattle.oss_model.specs.Context.{Context, child_context, right_of}
 use Rattle.oss_model.specs.Memory.{Event}
-use Rattle.oss_model.specs.Order.{IsIn, IsSuffix, longer, whole}
+use Rattle.oss_model.specs.Order.{IsIn, IsSuffix, whole}
 use Rattle.oss_model.specs.Rights.{Touch}
 use Rattle.oss_model.specs.Sequence.{Running, RunsOn}
 use Rattle.oss_model.proofs.OrderLemmas.{suffix_drop}
@@ -29,8 +29,8 @@ use Rattle.oss_explain.specs.declared.begun.Noted.{Noted}
 use Rattle.oss_explain.specs.declared.begun.Noted.TheVariants as notes
 use Rattle.oss_explain.specs.declared.begun.ReleasedAt.{ReleasedAt}
 use Rattle.oss_explain.specs.declared.ledger.Ledger.{Ledger}
-use Rattle.oss_explain.specs.Ledgers.{AreAccesses, IsBegun, IsChild, IsEnded, IsLent, IsLentWhen, IsNoted, lends, with_noted}
-use Rattle.oss_explanation.specs.Lives.{IsCreated, IsEventOf, IsHolder, IsReleased, hinders, waits_for}
+use Rattle.oss_explain.specs.Ledgers.{AreAccesses, IsBegun, IsEnded, IsLentWhen, IsNoted, lends}
+use Rattle.oss_explanation.specs.Lives.{IsCreated, IsEventOf, hinders, waits_for}
 use Rattle.oss_explain.specs.Noting.{AreHeldBy, AreOnWay, IsBorn, IsRight, RiseTo, at_child, at_main, hindering, in_ranges, may_hinder}
 use Rattle.oss_explain.proofs.HinderingLemmas.{hindering_more, hinders_held, rise_more, rise_up}
 use Rattle.oss_explain.proofs.NotingLemmas as notings

@@ -1,6 +1,6 @@
 -- The joined modes of clauses, and the cells of which two of them cannot be joined.
 -- Read against: `in(0..2)` and `inout(1..3)` give the cell 0 the mode to read, and 1 and 2 that to write. `in(0..2)` and `reduction(+: 1..3)` give no mode to 1, which is mixed.
-use Rattle.std.specs.Prelude.{◌≡◌, ℕ, ◌&&◌, ◌||◌, Bool, true, false, if◌then◌else◌, List, [], ◌∷◌, Option, Some, None}
+use Rattle.std.specs.Prelude.{◌≡◌, ℕ, ◌&&◌, ◌||◌, Bool, if◌then◌else◌, List, Option, Some, None}
 use Rattle.oss_syntax.specs.declared.access.Access.{Access}
 use Rattle.oss_syntax.specs.declared.access.Mode.{Mode}
 use Rattle.oss_model.specs.Rights.{Holds, Right, is_mixed, is_no_join, joined_mode, right_from}

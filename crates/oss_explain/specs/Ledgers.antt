@@ -15,7 +15,6 @@ use Rattle.oss_explain.specs.declared.begun.Begun.{Begun}
 use Rattle.oss_explain.specs.declared.begun.Child.{Child}
 use Rattle.oss_explain.specs.declared.begun.Noted.{Noted}
 use Rattle.oss_explain.specs.declared.begun.Noted.TheVariants as noted
-use Rattle.oss_explain.specs.declared.begun.ReleasedAt.{ReleasedAt}
 use Rattle.oss_explain.specs.declared.ledger.Ledger.{Ledger}
 
 -- The accesses are those with which a task starts that has this context then.

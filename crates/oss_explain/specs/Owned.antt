@@ -1,6 +1,6 @@
 -- By which words a task has its cells, told by the accesses with which it started.
 -- Read against: by the accesses `in` of 0..5, `inout` of 5..8 and `in` of 8..10 the cells 0 to 4, 8 and 9 are held by `in`, and 5 to 7 by `inout`.
-use Rattle.std.specs.Prelude.{◌≡◌, ℕ, ◌&&◌, ◌||◌, Bool, false, List, [], ◌∷◌, ◌++◌, Option}
+use Rattle.std.specs.Prelude.{ℕ, ◌&&◌, ◌||◌, Bool, false, List, [], ◌∷◌, ◌++◌, Option}
 use Rattle.oss_syntax.specs.declared.access.Access.{Access}
 use Rattle.oss_syntax.specs.declared.tree.program.Item.{Item}
 use Rattle.oss_model.specs.Rights.{in_access, mark_from, right_from}

@@ -1,7 +1,4 @@
-use Rattle.std.proofs.Common.{◌≡◌, ℕ, Bool, Result, subst}
-use Rattle.std.specs.declared.alloc.AllocError.{AllocError}
-use Rattle.oss_model.specs.Context.{in_clauses}
-use Rattle.oss_pieces.specs.CellSets.{has}
+use Rattle.std.proofs.Common.{ℕ, Bool, subst}
 use Rattle.oss_pieces.specs.Pieces.{ArePieces}
 use Rattle.oss_explain.proofs.HoldingLemmas.{ext, if_ok_as}
 use Rattle.oss_explain.proofs.deeds.pieces_named.Goals as goal

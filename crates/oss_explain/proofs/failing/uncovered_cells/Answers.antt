@@ -1,4 +1,4 @@
-use Rattle.std.proofs.Common.{◌≡◌, ◌≤◌, ◌∙◌, ℕ, sym, arith}
+use Rattle.std.proofs.Common.{◌∙◌, ℕ, sym, arith}
 use Rattle.oss_judge.specs.Seen.{right_seen}
 use Rattle.oss_model.specs.Context.{right_of}
 use Rattle.oss_pieces.specs.CellSets.{has}

@@ -2,7 +2,7 @@ use Rattle.std.proofs.Common.{subst, sym}
 use Rattle.oss_machine.specs.Asks.{meant_ask}
 use Rattle.oss_explain.specs.declared.ending.Ending.TheVariants as ending
 use Rattle.oss_explain.specs.Endings.{IsEndingOf}
-use Rattle.oss_explain.proofs.FaultLemmas.{asked_here, ending_here, halts_here, noted_here, rising_here, runs_here}
+use Rattle.oss_explain.proofs.FaultLemmas.{asked_here, ending_here, noted_here, runs_here}
 use Rattle.oss_explain.proofs.fault.explain_fault.Goals as goal
 
 pub pending-requires : goal.pending-requires

@@ -1,4 +1,3 @@
-use Rattle.std.proofs.Common.{◌∷◌, []}
 use Rattle.oss_syntax.specs.declared.access.Op.TheVariants.{Add, And, Or, Xor}
 use Rattle.oss_audit.proofs.ResultLemmas.{on_ok}
 use Rattle.oss_explanation.specs.declared.explained.Use.{Use}

@@ -1,4 +1,4 @@
-use Rattle.std.proofs.Common.{sym, subst, List, [], true, false}
+use Rattle.std.proofs.Common.{sym, subst, List, [], true}
 use Rattle.oss_explanation.specs.declared.explained.Held.{Held}
 use Rattle.oss_explanation.specs.Held.{AreHeld, all_words, words_so}
 use Rattle.oss_explanation.specs.Held.AreHeld.{none}

@@ -1,4 +1,4 @@
-use Rattle.std.proofs.Common.{◌≡◌, ◌∷◌, ◌<◌, ◌+◌, ℕ, suc, refl, sym, ap, ◌∙◌, subst, length, drop, List, arith}
+use Rattle.std.proofs.Common.{◌≡◌, ◌∷◌, ◌+◌, ℕ, suc, refl, sym, ap, ◌∙◌, subst, drop, List, arith}
 use Rattle.std.proofs.Math.Seq.{drop-cons}
 use Rattle.oss_syntax.specs.declared.access.Access.{Access}
 use Rattle.oss_model.specs.Context.{in_clauses}

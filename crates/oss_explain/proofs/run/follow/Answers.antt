@@ -1,4 +1,4 @@
-use Rattle.std.proofs.Common.{refl, sym, subst, ap, ◌∙◌}
+use Rattle.std.proofs.Common.{sym, subst, ap, ◌∙◌}
 use Rattle.oss_body.specs.Mains.{code_main}
 use Rattle.oss_body.specs.Acts.{HasContext}
 use Rattle.oss_serial.specs.Stages.{IsTurned}

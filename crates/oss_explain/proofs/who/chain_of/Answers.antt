@@ -1,7 +1,6 @@
-use Rattle.std.proofs.Common.{◌≡◌, ◌≤◌, ◌++◌, ◌∷◌, List, reverse, take, sym, ap, ◌∙◌, arith}
+use Rattle.std.proofs.Common.{◌++◌, List, sym, ap, ◌∙◌, arith}
 use Rattle.std.proofs.lemmas.List.{append-nil}
 use Rattle.oss_explanation.specs.declared.explained.Link.{Link}
-use Rattle.oss_explain.specs.Ways.{links_to}
 use Rattle.oss_explain.proofs.SearchLemmas.{few_links}
 use Rattle.oss_explain.proofs.who.chain_of.Goals as goal
 
