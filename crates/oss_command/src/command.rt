@@ -2,7 +2,7 @@
 
 ghost use Rattle.std.specs.Prelude.{◌≡◌, ◌≤◌, map, option_map, Some, IfOk, IfSome};
 ghost use Rattle.std.specs.String.{string_bytes};
-ghost use Rattle.oss_command.specs.Commands.{IsFit, IsAsked, IsAskedBy, asked_by, audit_asked, check_asked, file_and_fuel_in, file_of, meant, replay_asked, run_asked, runs_by_workers, soak_asked, soak_of, span_asked, trace_asked};
+ghost use Rattle.oss_command.specs.Commands.{IsFit, IsAsked, IsAskedBy, asked_by, audit_asked, check_asked, explain_asked, file_and_fuel_in, file_of, meant, replay_asked, run_asked, runs_by_workers, soak_asked, soak_of, span_asked, trace_asked};
 ghost use Rattle.oss_command.specs.Commands.Command.{soak};
 
 use crate::operands::{
@@ -45,6 +45,9 @@ pub enum Command<'w> {
     /// To tell how parallel the program in a file can be at best, where a task may do so many ticks, 1 to
     /// 1,000,000,000; 1,000,000 where nothing is said.
     Span(&'w str, u32),
+    /// To explain the fault of the program in a file, where a task may do so many ticks, 1 to 1,000,000,000;
+    /// 1,000,000 where nothing is said.
+    Explain(&'w str, u32),
 }
 
 /// Why words are refused.
@@ -92,6 +95,9 @@ fn command_on<'w>(command: &str, rest: &'w [String]) -> Result<Command<'w>, Word
     }
     if command == "audit" {
         return audit_on(rest);
+    }
+    if command == "explain" {
+        return explain_on(rest);
     }
     Err(WordsRefused::Usage)
 }
@@ -205,8 +211,19 @@ fn audit_on(rest: &[String]) -> Result<Command<'_>, WordsRefused>
     }
 }
 
-/// The file and the fuel that `audit` and `span` take from the words behind them; none where the words are
-/// something else.
+/// What `explain` asks for with the words behind it.
+fn explain_on(rest: &[String]) -> Result<Command<'_>, WordsRefused>
+    ensures asked { IsAskedBy (explain_asked (map string_bytes rest.now)) result }
+    ensures fit { IfOk result (λ told. IsFit (meant told)) }
+{
+    match file_and_fuel(rest) {
+        Some((file, fuel)) => Ok(Command::Explain(file, fuel)),
+        None => Err(WordsRefused::Usage),
+    }
+}
+
+/// The file and the fuel that `audit`, `span` and `explain` take from the words behind them; none where the words
+/// are something else.
 fn file_and_fuel(rest: &[String]) -> Option<(&str, u32)>
     ensures { option_map (λ asked. (asked.0.now, asked.1)) result ≡ file_and_fuel_in (map string_bytes rest.now) }
 {
@@ -247,6 +264,7 @@ impl<'w> Command<'w> {
             Command::Soak(_) => None,
             Command::Audit(file, _) => Some(file),
             Command::Span(file, _) => Some(file),
+            Command::Explain(file, _) => Some(file),
         }
     }
 
@@ -262,6 +280,7 @@ impl<'w> Command<'w> {
             Command::Replay(_) => false,
             Command::Audit(_, _) => false,
             Command::Span(_, _) => false,
+            Command::Explain(_, _) => false,
         }
     }
 }
