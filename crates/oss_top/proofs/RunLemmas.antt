@@ -28,6 +28,8 @@ use Rattle.oss_audit.specs.Lines.{audit_text}
 use Rattle.oss_audit.specs.Reply.{IsAuditedOf}
 use Rattle.oss_audit.specs.declared.unused.Unused.{Unused}
 use Rattle.oss_top.specs.Audits.{IsAuditReply}
+use Rattle.oss_top.specs.Explained.{IsEndingOfProgram, IsExplainReply, ending_reply}
+use Rattle.oss_explain.specs.declared.ending.Ending.{Ending}
 use Rattle.oss_top.specs.Spans.{IsSpanReply}
 use Rattle.oss_span.specs.Reply.{IsSpannedOf, span_text}
 use Rattle.oss_span.specs.declared.link.Link.{Link}
@@ -192,3 +194,7 @@ audit_replies p fuel answer us text reply is e f = record { answer = answer; tex
 pub span_replies : (p : Program) (fuel : ℕ) (answer : Answer) (work span : ℕ) (chain : List Link) (text : List ℕ) (reply : Reply) → IsSpannedOf p.items fuel answer work span chain → text ≡ span_text work span chain
     → reply ≡ told_reply text answer → IsSpanReply fuel p reply
 span_replies p fuel answer work span chain text reply is e f = record { answer = answer; text = text; told = record { work = work; span = span; chain = chain; spanned = is; text_is = e }; is_reply = f }
+
+-- the reply that explains a fault
+pub explain_replies : (p : Program) (fuel : ℕ) (ending : Ending) (reply : Reply) → IsEndingOfProgram fuel p ending → reply ≡ ending_reply p ending → IsExplainReply fuel p reply
+explain_replies p fuel ending reply is e = record { ending = ending; is_ending = is; is_reply = e }

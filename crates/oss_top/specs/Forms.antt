@@ -20,6 +20,9 @@ most_bytes = 1048576
 abbrev pub accepted_line : List ℕ
 accepted_line = codes "ok" ++ 10 ∷ []
 
+abbrev pub no_fault_line : List ℕ
+no_fault_line = codes "no fault" ++ 10 ∷ []
+
 abbrev pub too_large_line : List ℕ
 too_large_line = refusal_line refused.TooLarge 1
 

@@ -8,6 +8,7 @@ ghost use Rattle.oss_top.specs.Forms.{accepted_line, done_reply, error_reply, fa
 ghost use Rattle.oss_top.specs.Reply.{IsProgramReply, IsShelfReply};
 
 use crate::audit::reply_to_audit;
+use crate::explain::reply_to_explain;
 use crate::found::{Found, found_for};
 use crate::run::{reply_to_generated, reply_to_run};
 use crate::span::reply_to_span;
@@ -113,6 +114,7 @@ fn reply_to_program<R: Threads + Sync, G: Gate>(
         Command::Soak(asked) => reply_to_generated(rt, alloc, known, asked.options, gate),
         Command::Audit(_, fuel) => reply_to_audit(alloc, fuel, known),
         Command::Span(_, fuel) => reply_to_span(alloc, fuel, known),
+        Command::Explain(_, fuel) => reply_to_explain(alloc, fuel, known),
     }
 }
 

@@ -2,7 +2,7 @@
 
 ghost use Rattle.std.specs.Prelude.{◌≡◌, ◌++◌, IfOk};
 ghost use Rattle.oss_command.specs.Commands.{usage_line};
-ghost use Rattle.oss_top.specs.Forms.{accepted_line, tasks_line, unread_line};
+ghost use Rattle.oss_top.specs.Forms.{accepted_line, no_fault_line, tasks_line, unread_line};
 
 use oss_syntax::Bytes;
 use std::alloc::{AllocError, Global};
@@ -32,6 +32,13 @@ pub(crate) fn accepted(alloc: Global) -> Result<Bytes, AllocError>
     ensures { IfOk result (λ line. line ≡ accepted_line) }
 {
     Bytes::from_slice(alloc, b"ok\n")
+}
+
+/// `no fault`
+pub(crate) fn no_fault(alloc: Global) -> Result<Bytes, AllocError>
+    ensures { IfOk result (λ line. line ≡ no_fault_line) }
+{
+    Bytes::from_slice(alloc, b"no fault\n")
 }
 
 /// `tasks T`, and the output behind it.

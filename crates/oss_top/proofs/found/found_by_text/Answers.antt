@@ -30,6 +30,11 @@ returns-in-Span g c =
     if_ok c.found_in_text-in-Span.result
     (λ found is. found_of_text (meant c.args.command) (rw (ap meant c.in-Span.is) tt) c.args.text.now (shelf_span g.S.Shelf.held g.S.Shelf.faults g.S.Shelf.last c.args.shelf.now c.args.shelf.now) found refl is) c.found_in_text-in-Span.ensures
 
+pub returns-in-Explain : goal.returns-in-Explain
+returns-in-Explain g c =
+    if_ok c.found_in_text-in-Explain.result
+    (λ found is. found_of_text (meant c.args.command) (rw (ap meant c.in-Explain.is) tt) c.args.text.now (shelf_span g.S.Shelf.held g.S.Shelf.faults g.S.Shelf.last c.args.shelf.now c.args.shelf.now) found refl is) c.found_in_text-in-Explain.ensures
+
 pub returns-in-Soak : goal.returns-in-Soak
 returns-in-Soak g c =
     let asked = c.in-Soak.asked in

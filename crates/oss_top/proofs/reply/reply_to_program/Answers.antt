@@ -1,6 +1,6 @@
 use Rattle.std.proofs.Common.{ap}
 use Rattle.oss_command.specs.Commands.{meant}
-use Rattle.oss_top.specs.Reply.IsProgramReply.{audited, checked, ran, soaked, spanned, traced}
+use Rattle.oss_top.specs.Reply.IsProgramReply.{audited, checked, explained, ran, soaked, spanned, traced}
 use Rattle.oss_top.proofs.FormLemmas.{if_ok}
 use Rattle.oss_top.proofs.reply.reply_to_program.Goals as goal
 
@@ -21,3 +21,6 @@ returns-in-Audit g c = if_ok c.reply_to_audit.result (λ reply is. rw (ap meant 
 
 pub returns-in-Span : goal.returns-in-Span
 returns-in-Span g c = if_ok c.reply_to_span.result (λ reply is. rw (ap meant c.in-Span.is) (spanned is)) c.reply_to_span.ensures
+
+pub returns-in-Explain : goal.returns-in-Explain
+returns-in-Explain g c = if_ok c.reply_to_explain.result (λ reply is. rw (ap meant c.in-Explain.is) (explained is)) c.reply_to_explain.ensures

@@ -1,0 +1,21 @@
+use Rattle.std.proofs.Common.{◌≤◌, ◌∙◌, ap, length, subst, sym}
+use Rattle.oss_grammar.specs.Layout.{cells_in}
+use Rattle.oss_model.specs.Agreement.{AreWords}
+use Rattle.oss_lower_laws.proofs.OutcomeLaws.{cells_are}
+use Rattle.oss_explain.specs.Endings.{IsEndingOf}
+use Rattle.oss_top.proofs.FormLemmas.{if_ok}
+use Rattle.oss_top.proofs.explain.ended.Goals as goal
+
+-- a code has as many cells as its program
+pub explain-requires-clause-layout : goal.explain-requires-clause-layout
+explain-requires-clause-layout c =
+    subst (λ p. cells_in p.items ≤ 1048576) (sym c.program.ensures.same)
+    (subst (λ n. n ≤ 1048576) (ap length c.in_ok-code.ensures.code_of.first ∙ cells_are c.args.known.now.items) c.in_ok-code.ensures.few)
+
+pub returns : goal.returns
+returns c =
+    if_ok c.explain.result
+    (λ ending is.
+    (c.endings_alike.ensures c.args.known.now.items c.in_ok-code.code c.in_ok-code.ensures.code_of (subst AreWords (c.as_slice.ensures ∙ c.first.ensures) c.are_words.ensures) c.args.fuel ending).1
+    (subst (λ p. IsEndingOf c.in_ok-code.code c.args.fuel p.items ending) c.program.ensures.same is))
+    c.explain.ensures

@@ -1,0 +1,12 @@
+use Rattle.std.proofs.Common.{◌≡◌, subst}
+use Rattle.oss_top.specs.Explained.{ending_reply}
+use Rattle.oss_top.proofs.FormLemmas.{if_ok}
+use Rattle.oss_top.proofs.RunLemmas.{explain_replies}
+use Rattle.oss_top.proofs.explain.reply_to_explain.Goals as goal
+
+pub returns : goal.returns
+returns c =
+    if_ok c.reply_to_ending.result
+    (λ reply is.
+    explain_replies c.args.known.now c.args.fuel c.in_ok-ending.ending reply c.in_ok-ending.ensures (subst (λ p. reply ≡ ending_reply p c.in_ok-ending.ending) c.program.ensures.same is))
+    c.reply_to_ending.ensures
