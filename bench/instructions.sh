@@ -51,3 +51,22 @@ done
 sequentially 'an array loop: 300,000 turns' array
 sequentially 'calls: those of the 22nd Fibonacci number, and of the 23rd' calls
 sequentially 'folds: 300,000 into a slot' folds
+# Tasks with three clauses each, for which main never waits, and a fault behind them: what its explanation keeps on the way.
+for times in 1 2; do
+  cat >"explained_$times.c" <<PROGRAM
+long a[60], b[60], c[60];
+int main() {
+  for (long i = 0; i < $((times * 30000)); i++)
+#pragma oss task in(a[i % 60]) inout(b[i % 60]) out(c[i % 60])
+    c[i % 60] = a[i % 60] + b[i % 60];
+  printf("%ld\\n", c[0]);
+}
+PROGRAM
+done
+for times in 1 2; do
+  counted explain "explained_$times.c" >"explained_$times.count"
+  sequential "explained_$times" >"sequential_$times.count"
+done
+compared 'the explanation of a fault behind 30,000 tasks with three clauses each' "$(cat explained_1.count)" "$(cat explained_2.count)"
+compared 'their run one after the other' "$(cat sequential_1.count)" "$(cat sequential_2.count)"
+awk -v a="$(cat explained_2.count)" -v b="$(cat sequential_2.count)" 'BEGIN { printf "so the explanation takes %.0f instructions more for each of 60,000 tasks\n", (a - b) / 60000 }'

@@ -7,7 +7,8 @@
 # In examples/, NAME.c is run; NAME.out is its output, NAME.err its error output (empty where there is none), NAME.status its
 # status (0 where there is none). It is run in each mode and with several numbers of workers, and its trace is replayed; NAME.trace is that
 # trace, where there is such a file. Each NAME.schedule leads NAME.c to its end. Where gcc is there, it compiles each NAME.c without a
-# warning, and what it compiles has the same output where the run has no fault.
+# warning, and what it compiles has the same output where the run has no fault. NAME.explained is the explanation of the fault of NAME.c; where the
+# run has no fault, that is what is told.
 #
 # In README.md and docs/GUIDE.md, each block `c` is the program of examples/ that the line before it names, and each block `console` is what
 # its commands, the lines that begin with `$ `, write where they are given one after the other; so the blocks `console` of docs/COMMANDS.md. tests/tables.sh tries the
@@ -227,6 +228,14 @@ for file in *.c; do
   done
   expect "examples/$file, --mode=workers --workers=1" "$status" "$out" "$err" run "$file" --mode=workers --workers=1
   follow "${file%.c}"
+done
+echo 'no fault' >"$work/no_fault"
+for file in *.c; do
+  describe "${file%.c}"
+  case $status in
+    0) expect "examples/$file, explained" 0 "$work/no_fault" "$work/nothing" explain "$file" ;;
+    1) expect "examples/$file, explained" 1 "${file%.c}.explained" "$err" explain "$file" ;;
+  esac
 done
 for file in *.schedule; do
   describe "${file%.schedule}"

@@ -30,6 +30,7 @@ BEGIN {
   explains("docs/LANGUAGE.md", "statement | its acts, in this order")
   explains("docs/LANGUAGE.md", "clause | right to its cells")
   explains("docs/LANGUAGE.md", "the fault is in | its line")
+  explains("docs/COMMANDS.md", "in an explanation | stands")
 
   tries("docs/LANGUAGE.md", "command | what it does with a text", "command")
   tries("docs/LANGUAGE.md", "topic | crate | definitions", "definitions")
@@ -283,6 +284,7 @@ function row_command(   words) {
   begin_try(words, words, 0)
   if (part_of(cell[3], 2) == "tasks T") want_line("^tasks [0-9]+$")
   if (cell[3] ~ /^`ok` and a newline/) want_out("ok\n")
+  if (cell[3] ~ /or `no fault` and a newline/) want_out("no fault\n")
   put("")
 }
 
@@ -656,7 +658,7 @@ function call_of(command) {
 function row_status(   status, message, list, count, i, command, command_list, text, schedule, words, line) {
   status = cell[1]
   if (status == 5 || status == 6) { give_up("status " status); return }
-  if (cell[3] ~ /^all/) list = "check run trace replay span audit"
+  if (cell[3] ~ /^all/) list = "check run trace replay span audit explain"
   else list = cell[3] == "" ? "run" : replaced(replaced(cell[3], "`", ""), ",", "")
   count = split(list, command_list, / /)
   message = cell[5] == "nothing" ? "" : cell[5] == "the usage line" ? usage : text_of(cell[5])
