@@ -6,14 +6,13 @@ ghost use Rattle.oss_crew.specs.Numbers.{AllBelow};
 
 use oss_crew::{Ending, News, Shift, Stretch, run_crew};
 use std::alloc::{AllocError, Global};
-use std::env;
 use std::process::Abort;
 use std::sync::Wait;
 use std::sync::atomic::{AtomicU64, Ordering};
 use std::test::Fail;
-use std::thread;
 use std::thread::Threads;
 use std::time::Duration;
+use std::{env, thread};
 
 /// A worker looks for another so often at most, each time a millisecond later.
 const LOOKS: u32 = 2000;
