@@ -1,13 +1,10 @@
 -- The body of a task that is created begins at an instruction of the code, so its place is below the number of instructions.
-use Rattle.std.proofs.Common.{◌≡◌, ◌∙◌, ℕ, ◌+◌, ◌<◌, length, Some, ap, arith, get_or}
-use Rattle.std.proofs.lemmas.List.{length-map}
+use Rattle.std.proofs.Common.{◌≡◌, ℕ, ◌+◌, ◌<◌, length, Some, arith, get_or}
 use Rattle.std.proofs.lemmas.Option.{slice_get-get_or, slice_get_within}
 use Rattle.std.specs.Prelude.{slice_get}
 use Rattle.oss_code.specs.Soundness.{IsSound}
 use Rattle.oss_code.specs.declared.code.CodeParts.{CodeParts}
 use Rattle.oss_code.specs.declared.instr.Instr.TheVariants as i
-use Rattle.oss_lower_laws.specs.Lowered.{program_code}
-use Rattle.oss_lower_laws.proofs.SoundPrograms.{codes_are_sound}
 use Rattle.oss_lower_bounds.specs.Bounds.{TaskEntriesFit}
 
 entry_within : (code : CodeParts) → IsSound code → (at passed : ℕ) → slice_get code.instrs at ≡ Some (i.Create passed) → at + 1 + passed < length code.instrs
@@ -18,6 +15,4 @@ entry_within code sound at passed is =
     omega (arith, sound.deep, slice_get_within code.depths (at + 1 + passed) 0 entered)
 
 pub task_entries_fit : TaskEntriesFit
-task_entries_fit all code fits low at passed is =
-    let many : length code.instrs ≡ length (program_code all) = ap (λ l. length l) low.instrs ∙ length-map (program_code all) _ in
-    omega (arith, many, fits.instructions, entry_within code (codes_are_sound all code low) at passed is)
+task_entries_fit code sound few at passed is = omega (arith, few, entry_within code sound at passed is)

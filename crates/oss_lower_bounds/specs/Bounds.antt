@@ -13,7 +13,8 @@ use Rattle.oss_grammar.specs.TaskLoops.{program_written}
 use Rattle.oss_meaning.specs.Names.{functions_of}
 use Rattle.oss_code.specs.declared.code.CodeParts.{CodeParts}
 use Rattle.oss_code.specs.declared.instr.Instr.TheVariants as i
-use Rattle.oss_lower_laws.specs.Lowered.{IsLowered, bodies_from, entries_from, first_entry, program_code}
+use Rattle.oss_code.specs.Soundness.{IsSound}
+use Rattle.oss_lower_laws.specs.Lowered.{bodies_from, entries_from, first_entry, program_code}
 use Rattle.oss_lower_laws.specs.StatementCode.{stmt_code}
 use Rattle.oss_lower_bounds.specs.Sizes.{function_locals, items_size, stmt_locals}
 
@@ -62,6 +63,6 @@ most_bytes = 1048576
 abbrev pub TextsFitNumbers : Type 0
 TextsFitNumbers = (text : List ℕ) (p : Tree) → length text ≤ most_bytes → IsProgramText text p → FitsNumbers (program_written p).items
 
--- So is, in the code of a program whose numbers are, the place where the body of a task begins that is created.
+-- In a sound code of fewer than 2^32 instructions, the body of a task that is created begins at a place below 2^32.
 abbrev pub TaskEntriesFit : Type 0
-TaskEntriesFit = (all : List Item) (code : CodeParts) → FitsNumbers all → IsLowered all code → (at passed : ℕ) → slice_get code.instrs at ≡ Some (i.Create passed) → at + 1 + passed < 2 ^ 32
+TaskEntriesFit = (code : CodeParts) → IsSound code → length code.instrs < 2 ^ 32 → (at passed : ℕ) → slice_get code.instrs at ≡ Some (i.Create passed) → at + 1 + passed < 2 ^ 32

@@ -33,8 +33,8 @@ pub fn texts_fit_numbers()
     ensures { TextsFitNumbers }
 {}
 
-/// In the code of a program whose numbers are below 2^32, so is the place where the body of a task begins that is
-/// created. So no creation is told as want of memory for its place.
+/// In a sound code of fewer than 2^32 instructions, the body of a task that is created begins at a place below
+/// 2^32. So in such a code no creation is told as want of memory for its place.
 pub fn task_entries_fit()
     ensures { TaskEntriesFit }
 {}
