@@ -12,7 +12,13 @@ use Rattle.oss_grammar.specs.Places.{Stands}
 use Rattle.oss_grammar.specs.TaskLoops.{program_written}
 use Rattle.oss_meaning.specs.Names.{functions_of}
 use Rattle.oss_code.specs.declared.code.CodeParts.{CodeParts}
+use Rattle.oss_code.specs.declared.instr.Instr.{Instr}
 use Rattle.oss_code.specs.declared.instr.Instr.TheVariants as i
+use Rattle.oss_code.specs.declared.ways.Way.{Way}
+use Rattle.oss_code.specs.declared.ways.Way.TheVariants as way
+use Rattle.oss_code.specs.declared.ways.Ways.{Ways}
+use Rattle.oss_code.specs.declared.ways.Ways.TheVariants as ways
+use Rattle.oss_code.specs.Shapes.{leads}
 use Rattle.oss_code.specs.Soundness.{IsSound}
 use Rattle.oss_lower_laws.specs.Lowered.{bodies_from, entries_from, first_entry, program_code}
 use Rattle.oss_lower_laws.specs.StatementCode.{stmt_code}
@@ -66,3 +72,19 @@ TextsFitNumbers = (text : List ℕ) (p : Tree) → length text ≤ most_bytes �
 -- In a sound code of fewer than 2^32 instructions, the body of a task that is created begins at a place below 2^32.
 abbrev pub TaskEntriesFit : Type 0
 TaskEntriesFit = (code : CodeParts) → IsSound code → length code.instrs < 2 ^ 32 → (at passed : ℕ) → slice_get code.instrs at ≡ Some (i.Create passed) → at + 1 + passed < 2 ^ 32
+
+-- A way from here leads to an instruction of the code.
+abbrev pub IsInside : CodeParts → ℕ → Way → Type 0
+IsInside code at (way.Ahead n) = at + 1 + n < length code.instrs
+IsInside code at (way.Back n) = n ≤ at
+
+-- Each of these ways does.
+abbrev pub AreInside : CodeParts → ℕ → Ways → Type 0
+AreInside code at ways.End = Unit {0}
+AreInside code at (ways.One w) = IsInside code at w
+AreInside code at (ways.Two v w) = IsInside code at v × IsInside code at w
+
+-- In a sound code each way from an instruction leads to one: ahead to a place below their number, and back to none before the first.
+-- Read against: in `Push 1, Return` the `Push` at place 0 leads to place 1, which is below 2; `Push 1` alone leads to place 1 too, and is not sound.
+abbrev pub WaysStayInside : Type 0
+WaysStayInside = (code : CodeParts) → IsSound code → (at : ℕ) (instr : Instr) → slice_get code.instrs at ≡ Some instr → AreInside code at (leads instr)

@@ -1,7 +1,7 @@
 //! What holds of every code and every text: laws, each carried by a function that does nothing. A crate above
 //! calls the function, and then has the law.
 
-ghost use Rattle.oss_lower_bounds.specs.Bounds.{CodesAreShort, PlacesAreCounted, ScopesAreCounted, TaskEntriesFit, TextsAreSmall, TextsFitNumbers};
+ghost use Rattle.oss_lower_bounds.specs.Bounds.{CodesAreShort, PlacesAreCounted, ScopesAreCounted, TaskEntriesFit, TextsAreSmall, TextsFitNumbers, WaysStayInside};
 
 /// The code of a program has at most sixteen instructions for each part of the program and three more, and none
 /// of them stands behind more values than there are parts, and one more.
@@ -37,4 +37,10 @@ pub fn texts_fit_numbers()
 /// 2^32. So in such a code no creation is told as want of memory for its place.
 pub fn task_entries_fit()
     ensures { TaskEntriesFit }
+{}
+
+/// In a sound code each way from an instruction leads to one. So of such a code that has fewer than 2^64
+/// instructions no place ahead is told as want of memory.
+pub fn ways_stay_inside()
+    ensures { WaysStayInside }
 {}
