@@ -10,11 +10,13 @@ use Rattle.oss_meaning.specs.Meaning.{main_number}
 use Rattle.oss_meaning.specs.Names.{functions_of}
 use Rattle.oss_code.specs.declared.instr.Instr.TheVariants as i
 use Rattle.oss_lower_laws.specs.declared.lined.Lined.{Lined}
+use Rattle.oss_lower_laws.specs.ExpressionCode.{expr_code}
 use Rattle.oss_lower_laws.specs.Lowered.{bodies_from, body_code, body_place, bound_code, entered_code, entries_from, function_code, function_codes, function_spot, head_code, program_code}
 use Rattle.oss_lower_laws.specs.StatementCode.{enclosed_code, end_code, end_length}
-use Rattle.oss_lower_bounds.specs.Bounds.{CodesAreShort}
-use Rattle.oss_lower_bounds.specs.Sizes.{body_size, clauses_size, function_size, items_size, locals_size, mark_size}
+use Rattle.oss_lower_bounds.specs.Bounds.{CodesAreShort, PlacesAreShort}
+use Rattle.oss_lower_bounds.specs.Sizes.{body_size, clauses_size, expr_size, function_size, items_size, locals_size, mark_size}
 use Rattle.oss_lower_bounds.proofs.ShortCode.{AreShallow, IsShort, deeper, short_as, short_none, short_one, short_then}
+use Rattle.oss_lower_bounds.proofs.ShortExpressions.{expr_short}
 use Rattle.oss_lower_bounds.proofs.ShortSections.{created_short}
 use Rattle.oss_lower_bounds.proofs.ShortStatements.{body_short, enclosed_short}
 
@@ -95,3 +97,11 @@ codes_are_short all = record {
   short = omega (arith, (program_short all).few);
   shallow = all_shallow (items_size all + 1) (items_size all + 1) (program_code all) (omega arith) (program_short all).shallow;
 }
+
+-- those of a place, wherever it is written
+pub places_are_short : PlacesAreShort
+places_are_short all scope e line depth =
+    let code = (expr_code all scope e).place line depth in
+    let short = (expr_short all scope e).place line depth in
+    let most = depth + expr_size e in
+    record { short = short.few; shallow = all_shallow most most code (omega arith) short.shallow }

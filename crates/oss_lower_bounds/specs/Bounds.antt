@@ -2,6 +2,7 @@
 -- number that is asked for where the code is made is below 2^32, and no program of a text is refused for one.
 -- Read against: `int main() { return 7; }` has 24 bytes and the size 3, and its code 14 instructions, before each of which there is at most one value.
 use Rattle.std.specs.Prelude.{◌≡◌, ℕ, ◌+◌, ◌*◌, ◌<◌, ◌≤◌, ◌^◌, All, List, length, Some, slice_get}
+use Rattle.oss_syntax.specs.declared.tree.expr.Expr.{Expr}
 use Rattle.oss_syntax.specs.declared.tree.program.Function.{Function}
 use Rattle.oss_syntax.specs.declared.tree.program.Item.{Item}
 use Rattle.oss_syntax.specs.declared.tree.program.Local.{Local}
@@ -20,9 +21,11 @@ use Rattle.oss_code.specs.declared.ways.Ways.{Ways}
 use Rattle.oss_code.specs.declared.ways.Ways.TheVariants as ways
 use Rattle.oss_code.specs.Shapes.{leads}
 use Rattle.oss_code.specs.Soundness.{IsSound}
+use Rattle.oss_lower_laws.specs.declared.lined.Lined.{Lined}
+use Rattle.oss_lower_laws.specs.ExpressionCode.{expr_code}
 use Rattle.oss_lower_laws.specs.Lowered.{bodies_from, entries_from, first_entry, program_code}
 use Rattle.oss_lower_laws.specs.StatementCode.{stmt_code}
-use Rattle.oss_lower_bounds.specs.Sizes.{function_locals, items_size, stmt_locals}
+use Rattle.oss_lower_bounds.specs.Sizes.{expr_size, function_locals, items_size, stmt_locals}
 
 -- The code has at most sixteen instructions for each part of the program and three more, and none of them stands behind more values on the stack than
 -- there are parts, and one more.
@@ -34,13 +37,26 @@ pub record IsShort (all : List Item) : Type 0 where
 abbrev pub CodesAreShort : Type 0
 CodesAreShort = (all : List Item) → IsShort all
 
+-- The instructions for the place of an expression are at most sixteen for each part of it, and none of them stands behind more values than there
+-- are parts, with those that stood there before.
+pub record IsShortPlace (e : Expr) (depth : ℕ) (code : List Lined) : Type 0 where
+  pub short : length code ≤ 16 * expr_size e
+  pub shallow : All (λ l. l.depth ≤ depth + expr_size e) code
+
+-- The instructions for the place of each expression are short. Where the left side of an assignment designates no cell they are written too, and
+-- then thrown away: these stand in no code of a program.
+-- Read against: of `m[1] = 2;`, where `m` is an array of rows, the left side has the size 3, and two instructions for its place are thrown away.
+abbrev pub PlacesAreShort : Type 0
+PlacesAreShort = (all : List Item) (scope : List Local) (e : Expr) (line depth : ℕ) → IsShortPlace e depth ((expr_code all scope e).place line depth)
+
 -- A program as which a text is read, each task loop in it written out, has at most four times as much size as the text has bytes.
 abbrev pub TextsAreSmall : Type 0
 TextsAreSmall = (text : List ℕ) (p : Tree) → IsProgramText text p → items_size (program_written p).items ≤ 4 * length text
 
 -- The numbers that are asked for where the code of a program is made: how many instructions there are, with the two that a jump may pass behind
 -- those that are written; how many values there are on the stack before each; where functions and their bodies begin; how many globals and
--- functions there are; and how many locals a function has, with the variable of a multidependency.
+-- functions there are; and how many locals a function has, with the variable of a multidependency. Code that is thrown away is not among them
+-- (`PlacesAreShort`).
 pub record FitsNumbers (all : List Item) : Type 0 where
   pub instructions : length (program_code all) + 2 < 2 ^ 32
   pub depths : All (λ l. l.depth < 2 ^ 32) (program_code all)

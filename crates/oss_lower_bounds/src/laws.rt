@@ -1,7 +1,7 @@
 //! What holds of every code and every text: laws, each carried by a function that does nothing. A crate above
 //! calls the function, and then has the law.
 
-ghost use Rattle.oss_lower_bounds.specs.Bounds.{CodesAreShort, PlacesAreCounted, ScopesAreCounted, TaskEntriesFit, TextsAreSmall, TextsFitNumbers, WaysStayInside};
+ghost use Rattle.oss_lower_bounds.specs.Bounds.{CodesAreShort, PlacesAreCounted, PlacesAreShort, ScopesAreCounted, TaskEntriesFit, TextsAreSmall, TextsFitNumbers, WaysStayInside};
 
 /// The code of a program has at most sixteen instructions for each part of the program and three more, and none
 /// of them stands behind more values than there are parts, and one more.
@@ -43,4 +43,11 @@ pub fn task_entries_fit()
 /// instructions no place ahead is told as want of memory.
 pub fn ways_stay_inside()
     ensures { WaysStayInside }
+{}
+
+/// The instructions for the place of an expression are at most sixteen for each part of it, and none of them
+/// stands behind more values than there are parts, with those that stood there before. So this holds too of code
+/// that is thrown away, where the left side of an assignment designates no cell.
+pub fn places_are_short()
+    ensures { PlacesAreShort }
 {}
