@@ -1,3 +1,4 @@
+pub mod AgreeingScopes
 pub mod CountedLocals
 pub mod FittingNumbers
 pub mod ShortCode

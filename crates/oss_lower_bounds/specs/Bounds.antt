@@ -9,7 +9,7 @@ use Rattle.oss_syntax.specs.declared.tree.program.Local.{Local}
 use Rattle.oss_syntax.specs.declared.tree.program.Program.{Program as Tree}
 use Rattle.oss_syntax.specs.declared.tree.stmt.Stmt.{Stmt}
 use Rattle.oss_grammar.specs.Parsing.{IsProgramText}
-use Rattle.oss_grammar.specs.Places.{Stands}
+use Rattle.oss_grammar.specs.Places.{Stands, locals_behind}
 use Rattle.oss_grammar.specs.TaskLoops.{program_written}
 use Rattle.oss_meaning.specs.Names.{functions_of}
 use Rattle.oss_code.specs.declared.code.CodeParts.{CodeParts}
@@ -69,6 +69,11 @@ pub record FitsNumbers (all : List Item) : Type 0 where
 -- Read against: `long y, z;` leaves two more, and `{ long y, z; }` none.
 abbrev pub ScopesAreCounted : Type 0
 ScopesAreCounted = (all : List Item) (s : Stmt) (scope : List Local) → length ((stmt_code all s).scope scope) ≤ length scope + stmt_locals s
+
+-- The locals that are in scope behind a statement in its code are those that are in scope behind it in the text.
+-- Read against: behind `long y, z;` both have `y` and `z` more, and behind `{ long y, z; }` none.
+abbrev pub ScopesAgree : Type 0
+ScopesAgree = (all : List Item) (s : Stmt) (scope : List Local) → (stmt_code all s).scope scope ≡ locals_behind s scope
 
 -- Where a statement stands in a program, the locals in scope there and those that it declares are no more than its function has. So at no place
 -- of a function are more in scope, but for the variable of a multidependency.

@@ -1,7 +1,7 @@
 //! What holds of every code and every text: laws, each carried by a function that does nothing. A crate above
 //! calls the function, and then has the law.
 
-ghost use Rattle.oss_lower_bounds.specs.Bounds.{CodesAreShort, PlacesAreCounted, PlacesAreShort, ScopesAreCounted, TaskEntriesFit, TextsAreSmall, TextsFitNumbers, WaysStayInside};
+ghost use Rattle.oss_lower_bounds.specs.Bounds.{CodesAreShort, PlacesAreCounted, PlacesAreShort, ScopesAgree, ScopesAreCounted, TaskEntriesFit, TextsAreSmall, TextsFitNumbers, WaysStayInside};
 
 /// The code of a program has at most sixteen instructions for each part of the program and three more, and none
 /// of them stands behind more values than there are parts, and one more.
@@ -50,4 +50,9 @@ pub fn ways_stay_inside()
 /// that is thrown away, where the left side of an assignment designates no cell.
 pub fn places_are_short()
     ensures { PlacesAreShort }
+{}
+
+/// The locals that are in scope behind a statement in its code are those that are in scope behind it in the text.
+pub fn scopes_agree()
+    ensures { ScopesAgree }
 {}
