@@ -1,5 +1,5 @@
 -- The code of a program has at most so many instructions for each part of the program, and a program of a text so many parts for each byte. So each
--- number that is asked for where the code is made is below 2^32, and no program of a text is refused for one.
+-- number of the code that lowering writes is below 2^32. With `accepted_places_are_told` no accepted text is refused for one, as far as the code is read.
 -- Read against: `int main() { return 7; }` has 24 bytes and the size 3, and its code 14 instructions, before each of which there is at most one value.
 use Rattle.std.specs.Prelude.{◌≡◌, ℕ, ◌+◌, ◌*◌, ◌<◌, ◌≤◌, ◌^◌, All, List, length, Some, slice_get}
 use Rattle.oss_syntax.specs.declared.tree.expr.Expr.{Expr}
@@ -53,7 +53,7 @@ PlacesAreShort = (all : List Item) (scope : List Local) (e : Expr) (line depth :
 abbrev pub TextsAreSmall : Type 0
 TextsAreSmall = (text : List ℕ) (p : Tree) → IsProgramText text p → items_size (program_written p).items ≤ 4 * length text
 
--- The numbers that are asked for where the code of a program is made: how many instructions there are, with the two that a jump may pass behind
+-- The numbers of the code that lowering writes of a program: how many instructions there are, with the two that a jump may pass behind
 -- those that are written; how many values there are on the stack before each; where functions and their bodies begin; how many globals and
 -- functions there are; and how many locals a function has, with the variable of a multidependency. Code that is thrown away is not among them
 -- (`PlacesAreShort`).

@@ -26,9 +26,8 @@ pub fn places_are_counted()
     ensures { PlacesAreCounted }
 {}
 
-/// The numbers that are asked for where the code of a program is made are below 2^32 for each program as which a
-/// text of at most 1,048,576 bytes is read, each task loop in it written out. So no such program is refused for
-/// one of them.
+/// The numbers of the code that lowering writes are below 2^32 for each program as which a text of at most
+/// 1,048,576 bytes is read, each task loop in it written out.
 pub fn texts_fit_numbers()
     ensures { TextsFitNumbers }
 {}
