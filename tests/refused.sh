@@ -84,7 +84,6 @@ for name in $(programs); do
   for deps in regions plain words; do
     row run "$name.c" "--deps=$deps" --workers=1
   done
-  row run "$name.c" --workers=4
   row run "$name.c" --mode=workers --workers=1
 done
 if is_asked commands; then
@@ -106,5 +105,9 @@ if is_asked soaks; then
   row soak 7 9
   row soak 7 9 --mode=serial
 fi
+# (these make threads, and take most of the time)
+for name in $(programs); do
+  is_asked "$name" && row run "$name.c" --workers=4
+done
 echo "$passed passed, $failed failed"
 [ "$failed" = 0 ]
