@@ -10,7 +10,7 @@ AreShallow most [] = Unit {0}
 AreShallow most (l ∷ rest) = (l.depth ≤ most) × AreShallow most rest
 
 -- So many instructions at most, none of which stands behind more values than this.
-pub record IsShort (count most : ℕ) (ls : List Lined) : Type 0 where
+pub record IsShortList (count most : ℕ) (ls : List Lined) : Type 0 where
   pub few : length ls ≤ count
   pub shallow : AreShallow most ls
 
@@ -22,26 +22,26 @@ pub shallow_more : (most more : ℕ) (xs : List Lined) → most ≤ more → Are
 shallow_more most more [] le h = tt
 shallow_more most more (x ∷ xs) le h = (omega (arith, le, h.0), shallow_more most more xs le h.1)
 
-pub short_none : (most : ℕ) → IsShort 0 most []
+pub short_none : (most : ℕ) → IsShortList 0 most []
 short_none most = record { few = omega arith; shallow = tt }
 
-pub short_one : (line depth most : ℕ) (what : Instr) → depth ≤ most → IsShort 1 most (one line depth what)
+pub short_one : (line depth most : ℕ) (what : Instr) → depth ≤ most → IsShortList 1 most (one line depth what)
 short_one line depth most what le = record { few = omega arith; shallow = (le, tt) }
 
-pub short_then : {a b most : ℕ} {xs ys : List Lined} → IsShort a most xs → IsShort b most ys → IsShort (a + b) most (xs ++ ys)
+pub short_then : {a b most : ℕ} {xs ys : List Lined} → IsShortList a most xs → IsShortList b most ys → IsShortList (a + b) most (xs ++ ys)
 short_then {most = most} {xs = xs} {ys = ys} h k =
     record { few = omega (arith, length-append xs ys, h.few, k.few); shallow = shallow_append most xs ys h.shallow k.shallow }
 
 -- more instructions, and more values
-pub short_as : (a b most more : ℕ) {xs : List Lined} → IsShort a most xs → a ≤ b → most ≤ more → IsShort b more xs
+pub short_as : (a b most more : ℕ) {xs : List Lined} → IsShortList a most xs → a ≤ b → most ≤ more → IsShortList b more xs
 short_as a b most more {xs = xs} h few deep = record { few = omega (arith, h.few, few); shallow = shallow_more most more xs deep h.shallow }
 
-pub deeper : (a most more : ℕ) {xs : List Lined} → IsShort a most xs → most ≤ more → IsShort a more xs
+pub deeper : (a most more : ℕ) {xs : List Lined} → IsShortList a most xs → most ≤ more → IsShortList a more xs
 deeper a most more h deep = short_as a a most more h (omega arith) deep
 
 -- The same of instructions wherever they stand: none of them stands behind more values than so many more.
 abbrev pub ArePushes : ℕ → ℕ → Pushes → Type 0
-ArePushes count more p = (line depth : ℕ) → IsShort count (depth + more) (p line depth)
+ArePushes count more p = (line depth : ℕ) → IsShortList count (depth + more) (p line depth)
 
 pub pushes_as : (p : Pushes) (a b more most : ℕ) → ArePushes a more p → a ≤ b → more ≤ most → ArePushes b most p
 pushes_as p a b more most h few deep line depth = short_as a b (depth + more) (depth + most) (h line depth) few (omega (arith, deep))

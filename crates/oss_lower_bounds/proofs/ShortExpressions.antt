@@ -22,7 +22,7 @@ use Rattle.oss_lower_laws.specs.ExpressionCode.{ExprCode, Pushes, and_code, argu
 use Rattle.oss_lower_laws.proofs.ExpressionFolds as folds
 use Rattle.oss_lower_laws.proofs.ExpressionFolds.{Keeps, Pair}
 use Rattle.oss_lower_bounds.specs.Sizes.{expr_counts, expr_size, total}
-use Rattle.oss_lower_bounds.proofs.ShortCode.{ArePushes, IsShort, deeper, one_more, pushed, pushes_as, short_as, short_none, short_one, short_then, two_more}
+use Rattle.oss_lower_bounds.proofs.ShortCode.{ArePushes, IsShortList, deeper, one_more, pushed, pushes_as, short_as, short_none, short_one, short_then, two_more}
 
 -- The instructions of an expression of this size.
 pub record IsShortExpr (c : ExprCode) (n : ℕ) : Type 0 where
@@ -84,10 +84,10 @@ module _ (a e : ExprCode) (m n : ℕ) (ok : IsShortExpr a m) (oke : IsShortExpr 
   index_indexed (target.Cell k) = index_value (target.Cell k)
 
   -- the two sides of `&&` and `||`, at the depth of the whole
-  left_side : (line depth : ℕ) → IsShort (16 * m) (depth + (1 + (m + n))) (a.value line depth)
+  left_side : (line depth : ℕ) → IsShortList (16 * m) (depth + (1 + (m + n))) (a.value line depth)
   left_side line depth = deeper (16 * m) (depth + m) (depth + (1 + (m + n))) (ok.value line depth) (omega arith)
 
-  right_side : (line depth : ℕ) → IsShort (16 * n) (depth + (1 + (m + n))) (e.value line depth)
+  right_side : (line depth : ℕ) → IsShortList (16 * n) (depth + (1 + (m + n))) (e.value line depth)
   right_side line depth = deeper (16 * n) (depth + n) (depth + (1 + (m + n))) (oke.value line depth) (omega arith)
 
   and_short : ArePushes (16 * (1 + (m + n))) (1 + (m + n)) (and_code a.value e.value)

@@ -15,12 +15,12 @@ use Rattle.oss_lower_laws.specs.Lowered.{bodies_from, body_code, body_place, bou
 use Rattle.oss_lower_laws.specs.StatementCode.{enclosed_code, end_code, end_length}
 use Rattle.oss_lower_bounds.specs.Bounds.{CodesAreShort, PlacesAreShort}
 use Rattle.oss_lower_bounds.specs.Sizes.{body_size, clauses_size, expr_size, function_size, items_size, locals_size, mark_size}
-use Rattle.oss_lower_bounds.proofs.ShortCode.{AreShallow, IsShort, deeper, short_as, short_none, short_one, short_then}
+use Rattle.oss_lower_bounds.proofs.ShortCode.{AreShallow, IsShortList, deeper, short_as, short_none, short_one, short_then}
 use Rattle.oss_lower_bounds.proofs.ShortExpressions.{expr_short}
 use Rattle.oss_lower_bounds.proofs.ShortSections.{created_short}
 use Rattle.oss_lower_bounds.proofs.ShortStatements.{body_short, enclosed_short}
 
-bound_short : (line slot : ℕ) (ps : List Local) → IsShort (16 * locals_size ps) (locals_size ps) (bound_code line slot ps)
+bound_short : (line slot : ℕ) (ps : List Local) → IsShortList (16 * locals_size ps) (locals_size ps) (bound_code line slot ps)
 bound_short line slot [] = short_none 0
 bound_short line slot (p ∷ ps) =
     let rest = locals_size ps in
@@ -30,7 +30,7 @@ bound_short line slot (p ∷ ps) =
     (deeper (16 * rest) rest most (bound_short line (slot + 1) ps) (omega arith)))) (omega arith) (omega arith)
 
 module _ (all : List Item) where
-  entered_short : (f : Function) (o : Option TaskMark) → IsShort (16 * mark_size o + 4) (1 + mark_size o) (entered_code all f o)
+  entered_short : (f : Function) (o : Option TaskMark) → IsShortList (16 * mark_size o + 4) (1 + mark_size o) (entered_code all f o)
   entered_short f None = short_as 1 4 1 1 (short_one f.line 0 1 (i.Skip end_length) (omega arith)) (omega arith) (omega arith)
   entered_short f (Some mark) =
       let n = clauses_size mark.clauses in
@@ -38,7 +38,7 @@ module _ (all : List Item) where
       (short_then (deeper (16 * n + 2) n (1 + n) (created_short all f.params (2 + end_length) mark.clauses f.line) (omega arith))
       (short_then (short_one f.line 0 (1 + n) (i.Push 0) (omega arith)) (short_one f.line 1 (1 + n) i.Return (omega arith)))) (omega arith) (omega arith)
 
-  function_short : (f : Function) → IsShort (16 * function_size f) (function_size f) (function_code all f)
+  function_short : (f : Function) → IsShortList (16 * function_size f) (function_size f) (function_code all f)
   function_short f =
       let params = locals_size f.params in
       let mark = mark_size f.mark in
@@ -49,7 +49,7 @@ module _ (all : List Item) where
       (enclosed_short f.line f.result (body_code all f) (16 * body) most (omega arith) (deeper (16 * body) body most (body_short all f.body (function_spot f)) (omega arith))))
       (omega arith) (omega arith)
 
-  functions_short : (xs : List Item) → IsShort (16 * items_size xs) (items_size xs) (function_codes all (functions_of xs))
+  functions_short : (xs : List Item) → IsShortList (16 * items_size xs) (items_size xs) (function_codes all (functions_of xs))
   functions_short [] = short_none 0
   functions_short (items.Global g ∷ xs) = short_as (16 * items_size xs) (16 * (1 + items_size xs)) (items_size xs) (1 + items_size xs) (functions_short xs) (omega arith) (omega arith)
   functions_short (items.Function f ∷ xs) =
@@ -58,7 +58,7 @@ module _ (all : List Item) where
       short_as (16 * here + 16 * rest) (16 * (here + rest)) (here + rest) (here + rest)
       (short_then (deeper (16 * here) here (here + rest) (function_short f) (omega arith)) (deeper (16 * rest) rest (here + rest) (functions_short xs) (omega arith))) (omega arith) (omega arith)
 
-  program_short : IsShort (16 * items_size all + 3) (items_size all + 1) (program_code all)
+  program_short : IsShortList (16 * items_size all + 3) (items_size all + 1) (program_code all)
   program_short =
       let n = items_size all in
       short_as (1 + (1 + (1 + 16 * n))) (16 * n + 3) (n + 1) (n + 1)

@@ -26,13 +26,13 @@ use Rattle.oss_lower_laws.proofs.ExpressionFolds.{Pair}
 use Rattle.oss_lower_laws.proofs.StatementFolds as folds
 use Rattle.oss_lower_laws.proofs.StatementFolds.{AtLines, Keeps}
 use Rattle.oss_lower_bounds.specs.Sizes.{body_size, clauses_size, expr_size, locals_size, loop_size, optional_size, sections_size, stmt_counts, stmt_size, total, waits_size}
-use Rattle.oss_lower_bounds.proofs.ShortCode.{IsShort, deeper, short_as, short_none, short_one, short_then}
+use Rattle.oss_lower_bounds.proofs.ShortCode.{IsShortList, deeper, short_as, short_none, short_one, short_then}
 use Rattle.oss_lower_bounds.proofs.ShortExpressions.{call_short, expr_short, expr_some, value_short, values_short}
 use Rattle.oss_lower_bounds.proofs.ShortSections.{clauses_short, created_short, exprs_size, first_value, first_values, sections_short, values_few}
 
 -- Instructions of statements, at each spot.
 abbrev pub AreShortCodes : ℕ → ℕ → Codes → Type 0
-AreShortCodes count most codes = (spot : Spot) → IsShort count most (codes spot)
+AreShortCodes count most codes = (spot : Spot) → IsShortList count most (codes spot)
 
 -- A statement of this size.
 pub record IsShortStmt (c : StmtCode) (n : ℕ) : Type 0 where
@@ -41,14 +41,14 @@ pub record IsShortStmt (c : StmtCode) (n : ℕ) : Type 0 where
 
 -- The end of a body
 
-given_short : (line : ℕ) (result : Kind) (most : ℕ) → 1 ≤ most → IsShort 2 most (given_code line result)
+given_short : (line : ℕ) (result : Kind) (most : ℕ) → 1 ≤ most → IsShortList 2 most (given_code line result)
 given_short line result most some = short_then (short_one line 1 most (i.Convert result) some) (short_one line 1 most i.Return some)
 
-end_short : (line : ℕ) (result : Kind) (most : ℕ) → 1 ≤ most → IsShort 3 most (end_code line result)
+end_short : (line : ℕ) (result : Kind) (most : ℕ) → 1 ≤ most → IsShortList 3 most (end_code line result)
 end_short line result most some = short_then (short_one line 0 most (i.Push 0) (omega arith)) (given_short line result most some)
 
 -- a body of a function or of a task
-pub enclosed_short : (line : ℕ) (result : Kind) (body : List Lined) (a most : ℕ) → 1 ≤ most → IsShort a most body → IsShort (a + 6) most (enclosed_code line result body)
+pub enclosed_short : (line : ℕ) (result : Kind) (body : List Lined) (a most : ℕ) → 1 ≤ most → IsShortList a most body → IsShortList (a + 6) most (enclosed_code line result body)
 enclosed_short line result body a most some h =
     short_as (3 + (a + 3)) (a + 6) most most (short_then (end_short line result most some) (short_then h (end_short line result most some))) (omega arith) (omega arith)
 
@@ -81,11 +81,11 @@ module _ (all : List Item) where
 
   -- Declarations and assignments
 
-  first_short : (scope : List Local) (k : Kind) (o : Option Expr) (line : ℕ) → IsShort (1 + 16 * optional_size o) (optional_size o) (first_code all scope k o line)
+  first_short : (scope : List Local) (k : Kind) (o : Option Expr) (line : ℕ) → IsShortList (1 + 16 * optional_size o) (optional_size o) (first_code all scope k o line)
   first_short scope k None line = short_one line 0 0 (first_instr k) (omega arith)
   first_short scope k (Some e) line = short_as (16 * expr_size e) (1 + 16 * expr_size e) (expr_size e) (expr_size e) (first_value all scope e line) (omega arith) (omega arith)
 
-  declared_short : (line : ℕ) (ls scope : List Local) → IsShort (16 * locals_size ls) (locals_size ls) (declared_code all line ls scope)
+  declared_short : (line : ℕ) (ls scope : List Local) → IsShortList (16 * locals_size ls) (locals_size ls) (declared_code all line ls scope)
   declared_short line [] scope = short_none 0
   declared_short line (l ∷ ls) scope =
       let first = optional_size l.first in
@@ -111,10 +111,10 @@ module _ (all : List Item) where
     abbrev count : ℕ
     count = 16 * expr_size te + (16 * expr_size e + 5)
 
-    right : (depth : ℕ) → depth ≤ 1 → IsShort (16 * expr_size e) most (r.value line depth)
+    right : (depth : ℕ) → depth ≤ 1 → IsShortList (16 * expr_size e) most (r.value line depth)
     right depth le = deeper (16 * expr_size e) (depth + expr_size e) most (value_short all scope e line depth) (omega (arith, le, expr_some te))
 
-    left : IsShort (16 * expr_size te) most (t.place line 0)
+    left : IsShortList (16 * expr_size te) most (t.place line 0)
     left = deeper (16 * expr_size te) (0 + expr_size te) most ((expr_short all scope te).place line 0) (omega arith)
 
     three : 3 ≤ most
@@ -123,28 +123,28 @@ module _ (all : List Item) where
     two : 2 ≤ most
     two = omega (arith, three)
 
-    local_short : (o : Option BinOp) (slot : ℕ) (k : Kind) → IsShort count most (local_assigned_code line t o r slot k)
+    local_short : (o : Option BinOp) (slot : ℕ) (k : Kind) → IsShortList count most (local_assigned_code line t o r slot k)
     local_short None slot k = short_as (16 * expr_size e + 1) count most most (short_then (right 0 (omega arith)) (short_one line 1 most (i.SetLocal slot k) (omega arith))) (omega arith) (omega arith)
     local_short (Some o) slot k =
         short_as (1 + (16 * expr_size e + (1 + 1))) count most most
         (short_then (short_one line 0 most (i.Local slot) (omega arith)) (short_then (right 1 (omega arith))
         (short_then (short_one line 2 most (operator_by o t.typed.kind r.typed.kind) two) (short_one line 1 most (i.SetLocal slot k) (omega arith))))) (omega arith) (omega arith)
 
-    changed_short : (f : Option Op) (o : BinOp) (k : NumKind) → IsShort 5 most (cell_changed_code line f t o r k)
+    changed_short : (f : Option Op) (o : BinOp) (k : NumKind) → IsShortList 5 most (cell_changed_code line f t o r k)
     changed_short (Some f) o k = short_as 1 5 most most (short_one line 2 most (i.Fold f) two) (omega arith) (omega arith)
     changed_short None o k =
         short_then (short_one line 2 most i.Under two) (short_then (short_one line 3 most i.Load three) (short_then (short_one line 3 most i.Swap three)
         (short_then (short_one line 3 most (operator_by o t.typed.kind r.typed.kind) three) (short_one line 2 most (i.Store k) two))))
 
-    cell_short : (o : Option BinOp) (k : NumKind) → IsShort count most (cell_assigned_code line t o r k)
+    cell_short : (o : Option BinOp) (k : NumKind) → IsShortList count most (cell_assigned_code line t o r k)
     cell_short None k =
         short_as (16 * expr_size te + (16 * expr_size e + 1)) count most most (short_then left (short_then (right 1 (omega arith)) (short_one line 2 most (i.Store k) two))) (omega arith) (omega arith)
     cell_short (Some o) k = short_then left (short_then (right 1 (omega arith)) (changed_short (folded_by k o) o k))
 
-    no_short : IsShort count most []
+    no_short : IsShortList count most []
     no_short = short_as 0 count most most (short_none most) (omega arith) (omega arith)
 
-    assigned_short : (g : Target) (o : Option BinOp) → IsShort count most (assigned_code line g t o r)
+    assigned_short : (g : Target) (o : Option BinOp) → IsShortList count most (assigned_code line g t o r)
     assigned_short (target.Local slot k) o = local_short o slot k
     assigned_short (target.Cell k) o = cell_short o k
     assigned_short target.Nothing o = no_short
@@ -200,13 +200,13 @@ module _ (all : List Item) where
 
   -- Loops
 
-  tested_short : (o : Option Expr) (line : ℕ) (scope : List Local) (past : ℕ) → IsShort (16 * optional_size o + 1) (1 + optional_size o) (test_code all o line scope past)
+  tested_short : (o : Option Expr) (line : ℕ) (scope : List Local) (past : ℕ) → IsShortList (16 * optional_size o + 1) (1 + optional_size o) (test_code all o line scope past)
   tested_short None line scope past = short_as 0 1 1 1 (short_none 1) (omega arith) (omega arith)
   tested_short (Some e) line scope past =
       short_then (deeper (16 * expr_size e) (expr_size e) (1 + expr_size e) (first_value all scope e line) (omega arith)) (short_one line 1 (1 + expr_size e) (i.SkipUnless past) (omega arith))
 
   -- the pieces before the test
-  pads_short : (line kept past past_body most : ℕ) → IsShort 6 most (one line 0 (i.Skip 4) ++ (one line 0 (i.Keep kept) ++ (one line 0 (i.Skip past) ++ (one line 0 (i.Keep kept) ++ (one line 0 (i.Skip past_body) ++ one line 0 i.Tick)))))
+  pads_short : (line kept past past_body most : ℕ) → IsShortList 6 most (one line 0 (i.Skip 4) ++ (one line 0 (i.Keep kept) ++ (one line 0 (i.Skip past) ++ (one line 0 (i.Keep kept) ++ (one line 0 (i.Skip past_body) ++ one line 0 i.Tick)))))
   pads_short line kept past past_body most =
       short_then (short_one line 0 most (i.Skip 4) (omega arith)) (short_then (short_one line 0 most (i.Keep kept) (omega arith)) (short_then (short_one line 0 most (i.Skip past) (omega arith))
       (short_then (short_one line 0 most (i.Keep kept) (omega arith)) (short_then (short_one line 0 most (i.Skip past_body) (omega arith)) (short_one line 0 most i.Tick (omega arith))))))

@@ -6,7 +6,6 @@ use Rattle.std.specs.Prelude.{slice_get}
 use Rattle.oss_code.specs.Shapes.{leads}
 use Rattle.oss_code.specs.Soundness.{AreWays, IsSound, IsWay}
 use Rattle.oss_code.specs.declared.code.CodeParts.{CodeParts}
-use Rattle.oss_code.specs.declared.instr.Instr.{Instr}
 use Rattle.oss_code.specs.declared.instr.Instr.TheVariants as i
 use Rattle.oss_code.specs.declared.ways.Way.{Way}
 use Rattle.oss_code.specs.declared.ways.Way.TheVariants as way

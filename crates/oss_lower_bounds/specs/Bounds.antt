@@ -86,7 +86,7 @@ PlacesAreCounted = (p : Tree) (f : Function) (visible : List Local) (t : Stmt) �
 abbrev pub most_bytes : ℕ
 most_bytes = 1048576
 
--- Those of a program as which a text of no more bytes is read, each task loop in it written out, are all below 2^32.
+-- The numbers of a program as which a text of no more bytes is read, each task loop in it written out, are all below 2^32.
 abbrev pub TextsFitNumbers : Type 0
 TextsFitNumbers = (text : List ℕ) (p : Tree) → length text ≤ most_bytes → IsProgramText text p → FitsNumbers (program_written p).items
 

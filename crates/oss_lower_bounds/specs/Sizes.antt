@@ -1,6 +1,7 @@
 -- How much of a program there is: each expression, section, clause, local, statement and item counts for one more than its parts, but the variable of
 -- a multidependency, of which its first value alone counts. A task loop counts for no less than what it is written out as.
--- Read against: `x + 1` has the size 3, `f(x, 1)` too, and `x` 1; `if (x) y = 1;` has 5, which is 1, 1 of `x` and 3 of the assignment; `long x, a[3];` has 2.
+-- Read against: `x + 1` has the size 3, `f(x, 1)` too, and `x` 1; `if (x) y = 1;` has 5, which is 1, 1 of `x` and 3 of the assignment; `long x, a[3];`
+-- as two globals has 2.
 use Rattle.std.specs.Prelude.{ℕ, ◌+◌, List, [], ◌∷◌, length, map, Option, Some, None}
 use Rattle.oss_syntax.specs.declared.tree.expr.Expr.{Expr}
 use Rattle.oss_syntax.specs.declared.tree.expr.ExprKind.TheOpen.{ExprKind-F, Expr-F}
