@@ -14,3 +14,4 @@ pub mod TextPrograms
 pub mod TextStatements
 pub mod TokenCounts
 pub mod WrittenSizes
+pub mod WrittenStatements

@@ -1,13 +1,15 @@
 -- The code of a program has at most so many instructions for each part of the program, and a program of a text so many parts for each byte. So each
 -- number of the code that lowering writes is below 2^32. With `accepted_places_are_told` no accepted text is refused for one, as far as the code is read.
 -- Read against: `int main() { return 7; }` has 24 bytes and the size 3, and its code 14 instructions, before each of which there is at most one value.
-use Rattle.std.specs.Prelude.{◌≡◌, ℕ, ◌+◌, ◌*◌, ◌<◌, ◌≤◌, ◌^◌, All, List, length, Some, slice_get}
+use Rattle.std.specs.Prelude.{◌≡◌, ℕ, ◌+◌, ◌*◌, ◌<◌, ◌≤◌, ◌^◌, All, List, ◌++◌, length, Some, slice_get}
 use Rattle.oss_syntax.specs.declared.tree.expr.Expr.{Expr}
 use Rattle.oss_syntax.specs.declared.tree.program.Function.{Function}
 use Rattle.oss_syntax.specs.declared.tree.program.Item.{Item}
 use Rattle.oss_syntax.specs.declared.tree.program.Local.{Local}
 use Rattle.oss_syntax.specs.declared.tree.program.Program.{Program as Tree}
+use Rattle.oss_syntax.specs.declared.tree.stmt.LoopHead.{LoopHead}
 use Rattle.oss_syntax.specs.declared.tree.stmt.Stmt.{Stmt}
+use Rattle.oss_syntax.specs.declared.tree.stmt.StmtKind.TheVariants as stmts
 use Rattle.oss_grammar.specs.Parsing.{IsProgramText}
 use Rattle.oss_grammar.specs.Places.{Stands, locals_behind}
 use Rattle.oss_grammar.specs.TaskLoops.{program_written}
@@ -24,7 +26,7 @@ use Rattle.oss_code.specs.Soundness.{IsSound}
 use Rattle.oss_lower_laws.specs.declared.lined.Lined.{Lined}
 use Rattle.oss_lower_laws.specs.ExpressionCode.{expr_code}
 use Rattle.oss_lower_laws.specs.Lowered.{bodies_from, entries_from, first_entry, program_code}
-use Rattle.oss_lower_laws.specs.StatementCode.{stmt_code}
+use Rattle.oss_lower_laws.specs.StatementCode.{Spot, stmt_code}
 use Rattle.oss_lower_bounds.specs.Sizes.{expr_size, function_locals, items_size, stmt_locals}
 
 -- The code has at most sixteen instructions for each part of the program and three more, and none of them stands behind more values on the stack than
@@ -81,6 +83,23 @@ ScopesAgree = (all : List Item) (s : Stmt) (scope : List Local) → (stmt_code a
 -- four that `f` has.
 abbrev pub PlacesAreCounted : Type 0
 PlacesAreCounted = (p : Tree) (f : Function) (visible : List Local) (t : Stmt) → Stands p f visible t → length visible + stmt_locals t ≤ function_locals f
+
+-- A statement is written in a code: its instructions stand there together, written at a spot with these locals in scope.
+pub record IsWritten (all : List Item) (visible : List Local) (t : Stmt) (code : List Lined) : Type 0 where
+  pub spot : Spot
+  pub scope : spot.scope ≡ visible
+  pub before : List Lined
+  pub after : List Lined
+  pub stands : code ≡ before ++ ((stmt_code all t).code spot ++ after)
+
+-- No task loop stands in the body of a function.
+abbrev pub HasNoTaskLoop : Tree → Function → Type 0
+HasNoTaskLoop p f = (visible : List Local) (t : Stmt) (head : LoopHead) (body : Stmt) → Stands p f visible t → t.what ≡ stmts.TaskLoop head body → ⊥
+
+-- Each statement of a function without task loops is written in the code of the program, with the locals in scope with which it stands in the text.
+-- Read against: in `void f(long n) { { long x; } long y, z; }` the second declaration is written where `n` alone is in scope.
+abbrev pub StatementsAreWritten : Type 0
+StatementsAreWritten = (p : Tree) (f : Function) (visible : List Local) (t : Stmt) → HasNoTaskLoop p f → Stands p f visible t → IsWritten p.items visible t (program_code p.items)
 
 -- the most bytes of a program text
 abbrev pub most_bytes : ℕ

@@ -5,5 +5,5 @@ mod laws;
 
 pub use laws::{
     codes_are_short, places_are_counted, places_are_short, scopes_agree, scopes_are_counted,
-    task_entries_fit, texts_are_small, texts_fit_numbers, ways_stay_inside,
+    statements_are_written, task_entries_fit, texts_are_small, texts_fit_numbers, ways_stay_inside,
 };
