@@ -1,6 +1,7 @@
 pub mod AgreeingScopes
 pub mod CountedLocals
 pub mod FittingNumbers
+pub mod LooplessPrograms
 pub mod ShortCode
 pub mod ShortExpressions
 pub mod ShortPrograms

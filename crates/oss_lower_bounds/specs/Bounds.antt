@@ -96,10 +96,14 @@ pub record IsWritten (all : List Item) (visible : List Local) (t : Stmt) (code :
 abbrev pub HasNoTaskLoop : Tree → Function → Type 0
 HasNoTaskLoop p f = (visible : List Local) (t : Stmt) (head : LoopHead) (body : Stmt) → Stands p f visible t → t.what ≡ stmts.TaskLoop head body → ⊥
 
--- Each statement of a function without task loops is written in the code of the program, with the locals in scope with which it stands in the text.
+-- Each statement of a function without task loops is written in the code of the program, at a spot with the locals in scope with which it stands.
 -- Read against: in `void f(long n) { { long x; } long y, z; }` the second declaration is written where `n` alone is in scope.
 abbrev pub StatementsAreWritten : Type 0
 StatementsAreWritten = (p : Tree) (f : Function) (visible : List Local) (t : Stmt) → HasNoTaskLoop p f → Stands p f visible t → IsWritten p.items visible t (program_code p.items)
+
+-- With its task loops written out a program has none.
+abbrev pub NoTaskLoopIsLeft : Type 0
+NoTaskLoopIsLeft = (p : Tree) (f : Function) → HasNoTaskLoop (program_written p) f
 
 -- the most bytes of a program text
 abbrev pub most_bytes : ℕ

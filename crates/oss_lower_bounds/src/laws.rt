@@ -1,7 +1,7 @@
 //! What holds of every code and every text: laws, each carried by a function that does nothing. A crate above
 //! calls the function, and then has the law.
 
-ghost use Rattle.oss_lower_bounds.specs.Bounds.{CodesAreShort, PlacesAreCounted, PlacesAreShort, ScopesAgree, ScopesAreCounted, StatementsAreWritten, TaskEntriesFit, TextsAreSmall, TextsFitNumbers, WaysStayInside};
+ghost use Rattle.oss_lower_bounds.specs.Bounds.{CodesAreShort, NoTaskLoopIsLeft, PlacesAreCounted, PlacesAreShort, ScopesAgree, ScopesAreCounted, StatementsAreWritten, TaskEntriesFit, TextsAreSmall, TextsFitNumbers, WaysStayInside};
 
 /// The code of a program has at most sixteen instructions for each part of the program and three more, and none
 /// of them stands behind more values than there are parts, and one more.
@@ -56,8 +56,14 @@ pub fn scopes_agree()
     ensures { ScopesAgree }
 {}
 
-/// Each statement of a function without task loops is written in the code of the program, with the locals in scope
-/// with which it stands in the text.
+/// The instructions of each statement of a function without task loops, written with the locals in scope with which
+/// it stands in the text, stand together in the code of the program.
 pub fn statements_are_written()
     ensures { StatementsAreWritten }
+{}
+
+/// With its task loops written out, as it is lowered, a program has none. So `statements_are_written` holds of each
+/// statement of it.
+pub fn no_task_loop_is_left()
+    ensures { NoTaskLoopIsLeft }
 {}
