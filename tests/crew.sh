@@ -39,5 +39,12 @@ for name in one_worker_does_everything a_number_waits_for_another four_workers_t
     cat told
   fi
 done
+# Two workers that look for each other do not meet there, which shows that no thread could be made.
+if without_threads ./tests crew_tests::two_workers_meet >told 2>&1; then
+  failed=$((failed + 1))
+  echo 'failed: two workers met, so a thread could be made'
+else
+  passed=$((passed + 1))
+fi
 echo "$passed passed, $failed failed"
 [ "$failed" = 0 ]
