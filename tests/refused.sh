@@ -107,7 +107,11 @@ if is_asked soaks; then
 fi
 # (these make threads, and take most of the time)
 for name in $(programs); do
-  is_asked "$name" && row run "$name.c" --workers=4
+  case $name in
+    # (60,000 calls that make threads are more than an hour allows)
+    task_fibonacci) ;;
+    *) is_asked "$name" && row run "$name.c" --workers=4 ;;
+  esac
 done
 echo "$passed passed, $failed failed"
 [ "$failed" = 0 ]
