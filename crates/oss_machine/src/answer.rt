@@ -1,5 +1,5 @@
 //! How a function goes on with the answer to what it asks.
-ghost use Rattle.std.specs.Prelude.{◌≡◌, ◌∷◌};
+ghost use Rattle.std.specs.Prelude.{◌≡◌, ◌<◌, ◌^◌, ◌+◌, ◌∷◌, IsOk};
 ghost use Rattle.oss_grammar.specs.Values.{kept};
 ghost use Rattle.oss_model.specs.Bodies.Ask.{Fold, Read, Write};
 ghost use Rattle.oss_meaning.specs.declared.value.Value.TheVariants as value;
@@ -34,16 +34,17 @@ fn end_load(code: &Code, frame: &mut Activation, loaded: u64) -> Result<Taken, A
     }
 }
 
-/// What a store took is gone.
+/// What a store took is gone. It takes no memory, and succeeds where the place of the next instruction fits.
 fn end_store(
     code: &Code,
     frame: &mut Activation,
     kind: NumKind,
     loaded: u64,
 ) -> Result<Taken, AllocError>
-    ensures { IsAnswered (λ f. with_two f.stack (λ p v rest. touched (cell_of (extents_in code.now.globals) p)
+    ensures answered { IsAnswered (λ f. with_two f.stack (λ p v rest. touched (cell_of (extents_in code.now.globals) p)
         (λ cell. Effect.Asks (Write cell (kept kind (number_in v))) (λ t. onward rest f)))) loaded frame.old
         frame.new result }
+    ensures fits { frame.old.at + 1 < 2 ^ 64 → IsOk result }
 {
     match cell_of(code, value_below(frame.stack.as_slice(), 1)) {
         Some(_) => {
@@ -54,10 +55,11 @@ fn end_store(
     }
 }
 
-/// What a fold took is gone.
+/// What a fold took is gone. It succeeds where `end_store` does.
 fn end_fold(code: &Code, frame: &mut Activation, op: Op, loaded: u64) -> Result<Taken, AllocError>
-    ensures { IsAnswered (λ f. with_two f.stack (λ p v rest. touched (cell_of (extents_in code.now.globals) p)
+    ensures answered { IsAnswered (λ f. with_two f.stack (λ p v rest. touched (cell_of (extents_in code.now.globals) p)
         (λ cell. Effect.Asks (Fold cell op (number_in v)) (λ t. onward rest f)))) loaded frame.old frame.new result }
+    ensures fits { frame.old.at + 1 < 2 ^ 64 → IsOk result }
 {
     match cell_of(code, value_below(frame.stack.as_slice(), 1)) {
         Some(_) => {

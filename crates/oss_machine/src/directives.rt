@@ -21,12 +21,13 @@ use oss_syntax::{Boxed, FaultKind, List};
 use oss_values::{is_zero, number_in, signed};
 use std::alloc::{AllocError, Global};
 
-/// The value of the clause `if` is taken.
+/// The value of the clause `if` is taken. It takes no memory, and succeeds where the place of the next instruction fits.
 pub(crate) fn when(frame: &mut Activation) -> Result<(), AllocError>
-    ensures { IsMoved (λ f. record (onward (drop 1 f.stack) f) {
+    ensures moved { IsMoved (λ f. record (onward (drop 1 f.stack) f) {
       made = record
           (f.made) { when = holds (value_at f.stack 0) };
     }) frame.old frame.new result }
+    ensures fits { frame.old.at + 1 < 2 ^ 64 → IsOk result }
 {
     let value = value_below(frame.stack.as_slice(), 0);
     frame.at = place_behind(frame.at, 0)?;
@@ -35,12 +36,13 @@ pub(crate) fn when(frame: &mut Activation) -> Result<(), AllocError>
     Ok(())
 }
 
-/// The value of the clause `final` is taken.
+/// The value of the clause `final` is taken. It succeeds where `when` does.
 pub(crate) fn last(frame: &mut Activation) -> Result<(), AllocError>
-    ensures { IsMoved (λ f. record (onward (drop 1 f.stack) f) {
+    ensures moved { IsMoved (λ f. record (onward (drop 1 f.stack) f) {
       made = record
           (f.made) { last = holds (value_at f.stack 0) };
     }) frame.old frame.new result }
+    ensures fits { frame.old.at + 1 < 2 ^ 64 → IsOk result }
 {
     let value = value_below(frame.stack.as_slice(), 0);
     frame.at = place_behind(frame.at, 0)?;
@@ -49,21 +51,26 @@ pub(crate) fn last(frame: &mut Activation) -> Result<(), AllocError>
     Ok(())
 }
 
-/// The clause `wait` stands.
+/// The clause `wait` stands. It succeeds where `when` does.
 pub(crate) fn late(frame: &mut Activation) -> Result<(), AllocError>
-    ensures { IsMoved (λ f. record (ahead 0 f) { made = record (f.made) { wait = true } }) frame.old frame.new result }
+    ensures moved { IsMoved (λ f. record (ahead 0 f) {
+      made = record
+          (f.made) { wait = true };
+    }) frame.old frame.new result }
+    ensures fits { frame.old.at + 1 < 2 ^ 64 → IsOk result }
 {
     frame.at = place_behind(frame.at, 0)?;
     frame.clauses.wait = true;
     Ok(())
 }
 
-/// The value of the clause `priority` is taken.
+/// The value of the clause `priority` is taken. It succeeds where `when` does.
 pub(crate) fn priority(frame: &mut Activation) -> Result<(), AllocError>
-    ensures { IsMoved (λ f. record (onward (drop 1 f.stack) f) {
+    ensures moved { IsMoved (λ f. record (onward (drop 1 f.stack) f) {
       made = record
           (f.made) { priority = signed (number_in (value_at f.stack 0)) };
     }) frame.old frame.new result }
+    ensures fits { frame.old.at + 1 < 2 ^ 64 → IsOk result }
 {
     let value = value_below(frame.stack.as_slice(), 0);
     frame.at = place_behind(frame.at, 0)?;
@@ -128,9 +135,10 @@ pub(crate) fn release(alloc: Global, base: &Gathered, frame: &Activation) -> Res
     Ok(Ask::Release(accesses))
 }
 
-/// Behind a directive: the clauses of the next one have given nothing yet.
+/// Behind a directive: the clauses of the next one have given nothing yet. It succeeds where `when` does.
 pub(crate) fn end_directive(frame: &mut Activation) -> Result<(), AllocError>
-    ensures { IsMoved directive_done frame.old frame.new result }
+    ensures moved { IsMoved directive_done frame.old frame.new result }
+    ensures fits { frame.old.at + 1 < 2 ^ 64 → IsOk result }
 {
     frame.at = place_behind(frame.at, 0)?;
     frame.clauses = ClauseValues {

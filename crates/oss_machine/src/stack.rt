@@ -95,10 +95,12 @@ pub(crate) fn put(frame: &mut Activation, taken: usize, value: Value) -> Result<
     lay(&mut frame.stack, taken, value)
 }
 
-/// Goes on without the topmost values, so many of them.
+/// Goes on without the topmost values, so many of them. It takes no memory, and succeeds where the place of the next
+/// instruction fits.
 #[inline(always)]
 pub(crate) fn pass(frame: &mut Activation, taken: usize) -> Result<(), AllocError>
-    ensures { IsMoved (λ f. onward (drop taken f.stack) f) frame.old frame.new result }
+    ensures moved { IsMoved (λ f. onward (drop taken f.stack) f) frame.old frame.new result }
+    ensures fits { frame.old.at + 1 < 2 ^ 64 → IsOk result }
 {
     frame.at = place_behind(frame.at, 0)?;
     lower(&mut frame.stack, taken);

@@ -1,5 +1,5 @@
 //! Multidependencies: their turns, and the ranges of these.
-ghost use Rattle.std.specs.Prelude.{◌≡◌, ◌+◌, ◌==◌, ◌++◌, IfOk, None, OnOk, drop, if◌then◌else◌};
+ghost use Rattle.std.specs.Prelude.{◌≡◌, ◌<◌, ◌^◌, ◌+◌, ◌==◌, ◌++◌, IfOk, IsOk, None, OnOk, drop, if◌then◌else◌};
 ghost use Rattle.oss_meaning.specs.Sections.{ranges_of};
 ghost use Rattle.oss_sections.specs.RangeCells.{AreJoined, cells_of};
 ghost use Rattle.oss_machine.specs.Activations.{base_in, before};
@@ -56,10 +56,11 @@ fn start_turns(
     Ok(Outcome::On)
 }
 
-/// Where a multidependency goes on with so many turns.
+/// Where a multidependency goes on with so many turns. It takes no memory, and succeeds where the place behind it fits.
 fn first_place(start: usize, at: usize, passed: u32, count: u64) -> Result<usize, AllocError>
     requires { start ≡ at + 1 }
-    ensures { IfOk result (λ to. to ≡ (if count == 0 then at + 1 + passed else at + 1)) }
+    ensures place { IfOk result (λ to. to ≡ (if count == 0 then at + 1 + passed else at + 1)) }
+    ensures fits { at + 1 + passed < 2 ^ 64 → IsOk result }
 {
     if count == 0 {
         place_behind(at, passed)
@@ -79,10 +80,12 @@ fn step_last(values: &mut Vec<Value>)
     }
 }
 
-/// The next turn, so many instructions back; or what stands behind the last one.
+/// The next turn, so many instructions back; or what stands behind the last one. It takes no memory, and succeeds where
+/// the place of the next instruction fits.
 pub(crate) fn next_turn(frame: &mut Activation, passed: u32) -> Result<Outcome, AllocError>
-    ensures { IsActedAnywhere (λ f. with_turning f.turning (λ t. Effect.On (turned passed t f))) frame.old
+    ensures acted { IsActedAnywhere (λ f. with_turning f.turning (λ t. Effect.On (turned passed t f))) frame.old
         frame.new result }
+    ensures fits { frame.old.at + 1 < 2 ^ 64 → IsOk result }
 {
     let Some(turns) = frame.turns else {
         return Ok(Outcome::Stops(FaultKind::OutOfRange));

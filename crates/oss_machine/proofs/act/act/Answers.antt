@@ -29,4 +29,4 @@ returns-in-Turn c =
     rw c.in-Turn.is (rw (← taken) (c.turn.ensures c.args.base.now.accesses.items c.args.base.now.ranges.items))
 
 pub returns-in-NextTurn : goal.returns-in-NextTurn
-returns-in-NextTurn c = rw c.in-NextTurn.is (c.next_turn.ensures c.args.base.now.accesses.items c.args.base.now.ranges.items)
+returns-in-NextTurn c = rw c.in-NextTurn.is (c.next_turn.ensures.acted c.args.base.now.accesses.items c.args.base.now.ranges.items)
