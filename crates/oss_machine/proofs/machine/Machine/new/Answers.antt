@@ -1,6 +1,6 @@
 use Rattle.std.proofs.Common.{◌≡◌, ◌∷◌, [], List, None, ap, sym, ◌∙◌, arith}
 use Rattle.oss_machine.specs.declared.activation.Activation.{Activation}
-use Rattle.oss_machine.specs.declared.bodies.Still.{Still}
+use Rattle.oss_machine.specs.declared.running.body.Still.{Still}
 use Rattle.oss_machine.specs.Activations.{Base, frame_on}
 use Rattle.oss_machine.specs.Asks.{script_of}
 use Rattle.oss_machine.specs.Frames.{CodeScript, Config, first_frame, open_functions, start_of}
