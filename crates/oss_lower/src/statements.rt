@@ -1,5 +1,5 @@
 //! The instructions of statements.
-ghost use Rattle.std.specs.Prelude.{◌≡◌, ◌≤◌, ◌<◌, ◌+◌, ◌-◌, ◌∷◌, ◌++◌, IfOk, IfSome, List, OnOk, length, option_map, take, None, Some};
+ghost use Rattle.std.specs.Prelude.{◌≡◌, ◌≤◌, ◌<◌, ◌^◌, ◌+◌, ◌-◌, ◌∷◌, ◌++◌, IfOk, IfSome, IsOk, List, OnOk, length, option_map, take, None, Some};
 ghost use Rattle.std.specs.Option.{option_copied};
 ghost use Rattle.oss_lower_laws.specs.ExpressionCode.{expr_code, one};
 ghost use Rattle.oss_lower_laws.specs.declared.lined.Lined.{Lined as Written};
@@ -335,13 +335,15 @@ fn tested(
     }
 }
 
-/// Lets the jump of a test pass all that is written behind it.
+/// Lets the jump of a test pass all that is written behind it. It takes no memory, and succeeds where there are fewer than
+/// 4,294,967,296 instructions.
 fn passed(out: &mut Listing, test: Option<usize>) -> Result<(), AllocError>
     requires { IfSome test (λ place. place < length out.old) }
     ensures some { OnOk result ((before after : List Written) (l : Written)
         → out.old ≡ before ++ (l ∷ after) → test ≡ Some (length before)
         → out.new ≡ before ++ (one l.line l.depth (i.SkipUnless (length after)) ++ after)) }
     ensures none { OnOk result (test ≡ None → out.new ≡ out.old) }
+    ensures fits { length out.old < 2 ^ 32 → IsOk result }
 {
     match test {
         Some(place) => out.fill(place, Jump::Unless, 0),

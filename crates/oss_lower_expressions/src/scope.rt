@@ -45,7 +45,7 @@ impl<'p> Scope<'p> {
         self.locals.len() as u32
     }
 
-    /// Declares a local. Where memory is wanting they stay.
+    /// Declares a local, which takes memory. Where that is wanting, and where there are 4,294,967,295 locals, they stay.
     pub fn declare(&mut self, local: &'p Local) -> Result<(), AllocError>
         ensures declared { OnOk result (self.new ≡ self.old ++ local.now ∷ []) }
         ensures stays { OnErr result (self.new ≡ self.old) }

@@ -138,9 +138,10 @@ impl Watch {
         }
     }
 
-    /// The task goes on. It may not have done 18,446,744,073,709,551,615 acts.
+    /// The task goes on. It takes no memory, and succeeds where the task has done fewer than 18,446,744,073,709,551,615 acts.
     fn still(&mut self) -> Result<(), AllocError>
-        ensures { OnOk result (IsStill self.old self.new) }
+        ensures still { OnOk result (IsStill self.old self.new) }
+        ensures fits { self.old.acts + 1 < 2 ^ 64 → IsOk result }
     {
         self.acts = more(self.acts)?;
         Ok(())
