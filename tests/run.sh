@@ -8,7 +8,7 @@
 # status (0 where there is none). It is run in each mode and with several numbers of workers, and its trace is replayed; NAME.trace is that
 # trace, where there is such a file. Each NAME.schedule leads NAME.c to its end. Where gcc is there, it compiles each NAME.c without a
 # warning, and what it compiles has the same output where the run has no fault. NAME.explained is the explanation of the fault of NAME.c; where the
-# run has no fault, that is what is told.
+# run has no fault, that is what is told. NAME.graph is the graph of its tasks, where there is such a file, and where Graphviz is there, it reads each.
 #
 # In README.md and docs/GUIDE.md, each block `c` is the program of examples/ that the line before it names, and each block `console` is what
 # its commands, the lines that begin with `$ `, write where they are given one after the other; so the blocks `console` of docs/COMMANDS.md. tests/tables.sh tries the
@@ -131,6 +131,15 @@ describe() {
   [ -f "$1.err" ] && err=$1.err
 }
 
+# draw FILE: whether Graphviz reads a graph without a word, where it is there
+draw() {
+  command -v dot >/dev/null 2>&1 || return 0
+  dot -Tsvg "$1" >/dev/null 2>"$work/err"
+  got=$?
+  cp "$work/nothing" "$work/out"
+  judge "examples/$1, drawn" 0 "$work/nothing" "$work/nothing" "$got"
+}
+
 # follow NAME: the trace of an example, against the stored one where there is one, and its replay
 follow() {
   describe "$1"
@@ -236,6 +245,11 @@ for file in *.c; do
     0) expect "examples/$file, explained" 0 "$work/no_fault" "$work/nothing" explain "$file" ;;
     1) expect "examples/$file, explained" 1 "${file%.c}.explained" "$err" explain "$file" ;;
   esac
+done
+for file in *.graph; do
+  describe "${file%.graph}"
+  expect "examples/$file" "$status" "$file" "$err" graph "${file%.graph}.c"
+  draw "$file"
 done
 for file in *.schedule; do
   describe "${file%.schedule}"

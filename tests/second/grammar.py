@@ -364,7 +364,7 @@ class Reader:
                 self.symbol("(")
                 fold = self.symbol(*FOLDS).text
                 self.symbol(":")
-                found.append(trees.Clause(token.line, token.text, fold, self.sections(), None))
+                found.append(trees.Clause(token.line, token.text, fold, self.sections(), None, None))
                 self.symbol(")")
             elif self.is_word(*once):
                 once.remove(self.take().text)
@@ -375,23 +375,23 @@ class Reader:
         return trees.Pragma(line, found)
 
     def clause_once(self, token):
-        value = None
+        value = label = None
         if token.text == "label":
             self.symbol("(")
             if self.next.kind not in ("name", "string"):
                 self.offend()
-            self.take()
+            label = self.take().text
             self.symbol(")")
         elif token.text != "wait":
             value = self.in_brackets()
-        return trees.Clause(token.line, token.text, None, [], value)
+        return trees.Clause(token.line, token.text, None, [], value, label)
 
     def dependency(self):
         if not self.is_word(*DEPENDENCIES):
             self.offend()
         token = self.take()
         self.symbol("(")
-        found = trees.Clause(token.line, token.text, None, self.sections(), None)
+        found = trees.Clause(token.line, token.text, None, self.sections(), None, None)
         self.symbol(")")
         return found
 

@@ -47,9 +47,9 @@ Release = tree("Release", "clauses")
 # What stands in declarations. `pointer` says whether a `*` stands before the name.
 Local = tree("Local", "name pointer value")
 
-# Pragmas. A `Clause` has its word, the operator of a reduction, and a list of sections or an expression.
+# Pragmas. A `Clause` has its word, the operator of a reduction, and a list of sections, an expression or the text of a label.
 Pragma = tree("Pragma", "clauses")
-Clause = tree("Clause", "word operator sections value")
+Clause = tree("Clause", "word operator sections value label")
 
 # Sections. The form is `name`, `star` (`*p`), `count` (`[n]p`), `parts` or `turns` (a multidependency). The line of the base is `name_line`.
 # The parts are extents; of a count the part is its expression, and of turns they are one or two indices, whose variable is `counter`.
