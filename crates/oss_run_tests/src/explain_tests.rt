@@ -200,7 +200,7 @@ fn assert_text(
     wanted: &[u8],
 ) -> Result<(), Fail> {
     let program = layout(alloc)?;
-    let text = explain_text(alloc, &program, told)?;
+    let text = explain_text(alloc, &program, told, None)?;
     assert!(rt; text.as_slice() == wanted);
     Ok(())
 }
