@@ -1,6 +1,6 @@
 //! What failed of an instruction that fails, told by the values that it has.
 ghost use Rattle.std.specs.Prelude.{◌≡◌, ◌-ℤ◌, ◌+ℤ◌, map, pos, slice_get};
-ghost use Rattle.oss_grammar.specs.SectionCells.{last_of, stretch_of};
+ghost use Rattle.oss_grammar.specs.SectionCells.{last_of, or_zero, stretch_of};
 ghost use Rattle.oss_meaning.specs.Pointers.{number_in};
 ghost use Rattle.oss_meaning.specs.Sections.{number_at};
 ghost use Rattle.oss_sections.specs.Evaluated.{meant_base, meant_extent, meant_part};
@@ -88,15 +88,26 @@ fn elements_told(from: i64, size: i64) -> Stretch
     )
 }
 
+/// How many elements there are from one to another, both included.
+fn span_size(lower: i64, upper: i64) -> i128
+    ensures { result ≡ (upper -ℤ lower) +ℤ pos 1 }
+{
+    i128::from(upper) - i128::from(lower) + 1
+}
+
+/// The last of as many elements that begin there.
+fn span_end(from: i64, lower: i64, upper: i64) -> i128
+    ensures { result ≡ (from +ℤ upper) -ℤ lower }
+{
+    i128::from(from) + i128::from(upper) - i128::from(lower)
+}
+
 /// The elements from one to another, both included, which begin there for the pointer from which they are counted.
+#[tactic(auto, using(crate::proofs::IntegerLemmas::ends_alike))]
 fn span_told(from: i64, lower: i64, upper: i64) -> Stretch
     ensures { result ≡ told (record { from = from; size = (upper -ℤ lower) +ℤ pos 1 }) }
 {
-    told(
-        from,
-        i128::from(upper) - i128::from(lower) + 1,
-        i128::from(from) + i128::from(upper) - i128::from(lower),
-    )
+    told(from, span_size(lower, upper), span_end(from, lower, upper))
 }
 
 /// The last element of a part that ends at `upper`, or with its dimension of so many elements.
@@ -109,6 +120,16 @@ fn last_of(count: u32, upper: Option<u64>) -> i64
     }
 }
 
+/// Where a part begins that begins at `lower`, or with its dimension.
+fn lower_end(lower: Option<u64>) -> u64
+    ensures { result ≡ or_zero lower }
+{
+    match lower {
+        Some(lower) => lower,
+        None => 0,
+    }
+}
+
 /// What a part names of a dimension of so many elements, seen from the element with this index.
 fn part_told(count: u32, index: u64, part: Part) -> Stretch
     ensures { result ≡ told (stretch_of count index (meant_part part)) }
@@ -118,7 +139,7 @@ fn part_told(count: u32, index: u64, part: Part) -> Stretch
             elements_told(signed(index.wrapping_add(from)), signed(size))
         }
         Part::Span { lower, upper } => {
-            let lower = lower.unwrap_or(0);
+            let lower = lower_end(lower);
             span_told(
                 signed(index.wrapping_add(lower)),
                 signed(lower),
