@@ -4,8 +4,9 @@ ghost use Rattle.oss_code.specs.declared.code.CodeParts.{CodeParts};
 ghost use Rattle.oss_judge.specs.Joined.{IsRising, held_mark, held_right};
 ghost use Rattle.oss_judge.specs.Seen.{right_seen};
 ghost use Rattle.oss_machine.specs.Asks.{meant_ask, meant_order, script_of};
+ghost use Rattle.oss_machine.specs.Failures.{failure_of};
 ghost use Rattle.oss_machine.specs.Frames.{CodeScript};
-ghost use Rattle.oss_machine.specs.Machines.{asks};
+ghost use Rattle.oss_machine.specs.Machines.{asks, machine_at};
 ghost use Rattle.oss_model.specs.Bodies.{Order, Start, Created, ask_of, child_start, stack_from, stage_act, start_frame};
 ghost use Rattle.oss_model.specs.Context.{mark_of, right_of};
 ghost use Rattle.oss_model.specs.Moves.{slot_of};
@@ -25,7 +26,7 @@ use crate::place::Place;
 use crate::tasks::Tasks;
 use oss_code::{Code, TaskOrder};
 use oss_judge::{Context, Right};
-use oss_machine::Ask;
+use oss_machine::{Ask, Failure};
 use oss_model::Point;
 use oss_syntax::{Access, List};
 use std::alloc::{AllocError, Global};
@@ -304,6 +305,17 @@ impl Body {
             result ≡ (ask_of (asks code) (acting (asks code) start found)).line }
     {
         self.tasks.top.line()
+    }
+
+    /// What failed, if the task that acts stands before a failure of the program's own meaning that has more to tell than
+    /// its kind. The code is the one with which the body was made. Condition: the body has not ended. It takes no memory.
+    pub fn failure(&self, code: &Code) -> Option<Failure>
+        requires running { is_over self.now ≡ false }
+        ensures { (start : Start CodeScript) (found : Items ℕ) → IsBody code.now start found self.now →
+            result ≡ failure_of code.now (machine_at code.now (acting (asks code.now) start found).script
+            (acting (asks code.now) start found).answers) }
+    {
+        self.tasks.top.failure(code)
     }
 
     /// The right to a cell with which the task has started: a release changes it no more. It takes no memory.

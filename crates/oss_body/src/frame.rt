@@ -2,6 +2,7 @@
 ghost use Rattle.std.specs.Prelude.{◌≡◌, ◌<◌, ℕ, Bool, suc, true, false, IfOk, OnErr, OnOk, None, Some};
 ghost use Rattle.oss_model.specs.Rights.{Right};
 ghost use Rattle.oss_machine.specs.Asks.{meant_ask, meant_order, script_of};
+ghost use Rattle.oss_machine.specs.Failures.{failure_of};
 ghost use Rattle.oss_machine.specs.Frames.{CodeScript};
 ghost use Rattle.oss_machine.specs.Hastes.{is_quick_ask};
 ghost use Rattle.oss_machine.specs.Machines.{asks, machine_after, machine_start};
@@ -19,7 +20,7 @@ use crate::looking::{Ahead, awaits_behind, fill, reach, reach_behind};
 use crate::place::Place;
 use oss_code::{Code, TaskOrder};
 use oss_judge::Context;
-use oss_machine::{Ask, Machine};
+use oss_machine::{Ask, Failure, Machine};
 use oss_model::Point;
 use std::alloc::{AllocError, Global};
 use std::marker::Model;
@@ -97,6 +98,13 @@ impl Frame {
         ensures { result ≡ self.now.machine.asked.line }
     {
         self.machine.line()
+    }
+
+    /// What failed, if the task stands before a failure of the program's own meaning of which this is told.
+    pub(crate) fn failure(&self, code: &Code) -> Option<Failure>
+        ensures { result ≡ failure_of code.now self.now.machine }
+    {
+        self.machine.failure(code)
     }
 
     /// Passes what is no act, and tells the act that stands next, or the fault. `own` has the rights with which

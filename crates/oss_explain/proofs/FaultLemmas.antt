@@ -13,6 +13,7 @@ use Rattle.oss_model.specs.Points.{IsPoint}
 use Rattle.oss_model.specs.Sequence.{IsAtEnd}
 use Rattle.oss_model.proofs.OutputLemmas.{fault_key}
 use Rattle.oss_code.specs.declared.code.CodeParts.{CodeParts}
+use Rattle.oss_machine.specs.declared.failure.Failure.{Failure}
 use Rattle.oss_machine.specs.Frames.{CodeScript}
 use Rattle.oss_machine.specs.Machines.{asks}
 use Rattle.oss_body.specs.declared.act.Act.{Act as CodeAct}
@@ -34,7 +35,7 @@ use Rattle.oss_explain.specs.declared.ending.Ending.TheVariants as ending
 use Rattle.oss_explain.specs.declared.ledger.Ledger.{Ledger}
 use Rattle.oss_explain.specs.declared.told.Told.{Told}
 use Rattle.oss_explain.specs.declared.who.Who.{Who}
-use Rattle.oss_explain.specs.Endings.{IsEndingOf}
+use Rattle.oss_explain.specs.Endings.{IsEndingOf, IsFailureOf, failed_in}
 use Rattle.oss_explain.specs.Endings.IsEnding.{fault as comes_to}
 use Rattle.oss_explain.specs.Noting.{AreOnWay, StandsBefore, at_child, at_main}
 use Rattle.oss_explain.specs.Reasons.{IsAccounted, IsFaultOf, MayFail}
@@ -133,6 +134,15 @@ module _ (code : CodeParts) (fuel : ℕ) (kept : Kept) (l : Ledger) (kind : Faul
 
     pub explained_here : IsEndingOf code fuel all (ending.Fault kind line (explained_by who told line))
     explained_here = comes_to is_explained refl refl
+
+  -- what failed
+  pub failure_here : (failure : Option Failure) → failure ≡ failed_in code f → IsFailureOf code fuel failure
+  failure_here failure e = record {
+    stage = st.stage;
+    run = st.run;
+    end = record { task = whole_task st.body; at_ = st.at_; stops = subst (λ (x : Act CodeScript). IsHalt x) (sym st.fault) tt };
+    is = e;
+  }
 
   -- the same of what is asked as it is kept
   pub ending_here : (all : List Item) (who : Who) (told : Told) (act : CodeAct) (x : Context) (a : Ask CodeScript) → act_seen act ≡ stage_act P st.body.start st.body.found → x ≡ f.context → a ≡ (ask_of P f).ask

@@ -25,5 +25,5 @@ mod wanting;
 mod who;
 mod words_of;
 
-pub use ending::Ending;
+pub use ending::{Ending, Finish};
 pub use run::explain;

@@ -2,10 +2,10 @@
 
 ghost use Rattle.std.specs.Prelude.{◌≤◌, length, IfOk};
 ghost use Rattle.oss_grammar.specs.Layout.{cells_in};
-ghost use Rattle.oss_explain.specs.Endings.{IsEndingOf};
+ghost use Rattle.oss_explain.specs.Endings.{IsFinishOf};
 ghost use Rattle.oss_explain.specs.Noting.{IsEndReached, IsFollowing};
 
-use crate::ending::Ending;
+use crate::ending::{Ending, Finish};
 use crate::fault::explain_fault;
 use crate::ledger::Ledger;
 use oss_code::Code;
@@ -24,7 +24,8 @@ enum End {
 
 /// Runs a code sequentially, each task with fuel for so many ticks, and explains the fault to which the run comes, if it
 /// comes to one: by its kind and line, what the task that acts was about to do, why it may not, how the task came to be,
-/// and what the clauses name. The output of the run is not kept. Beside the run it costs little for each act, what the
+/// and what the clauses name. Beside that it tells what failed, if the fault is a shift out of range, or a pointer, a
+/// section or a number of turns. The output of the run is not kept. Beside the run it costs little for each act, what the
 /// accesses of a new task cost at its creation, and at the fault a walk over what was noted: of each task on the way its
 /// releases, and its children and each `taskwait on` since its last `taskwait`. Cells are told over the globals of the
 /// program. Out of memory is the one other answer. Condition: the code has at most 1,048,576 cells, and so have the
@@ -34,10 +35,10 @@ pub fn explain(
     program: &Program,
     code: &Code,
     fuel: u32,
-) -> Result<Ending, AllocError>
+) -> Result<Finish, AllocError>
     requires cells { length code.now.first ≤ 1048576 }
     requires layout { cells_in program.now.items ≤ 1048576 }
-    ensures { IfOk result (λ ending. IsEndingOf code.now fuel program.now.items ending) }
+    ensures { IfOk result (λ finish. IsFinishOf code.now fuel program.now.items finish) }
 {
     let mut ledger = Ledger::new(alloc)?;
     match begin(alloc, code, fuel) {
@@ -54,28 +55,26 @@ fn explain_from(
     fuel: u32,
     stage: &mut Stage,
     ledger: &mut Ledger,
-) -> Result<Ending, AllocError>
+) -> Result<Finish, AllocError>
     requires layout { cells_in program.now.items ≤ 1048576 }
     requires follows { IsFollowing code.now fuel stage.old ledger.old }
-    ensures { IfOk result (λ ending. IsEndingOf code.now fuel program.now.items ending) }
+    ensures { IfOk result (λ finish. IsFinishOf code.now fuel program.now.items finish) }
 {
     match follow(code, fuel, stage, ledger)? {
-        End::Done => Ok(Ending::Done),
-        End::Fault(kind, line) => {
-            match explain_fault(
-                alloc,
-                program,
-                code,
-                fuel,
-                &stage.current,
-                ledger,
-                kind,
-                line,
-            ) {
-                Ok(found) => Ok(Ending::Fault(kind, line, found)),
-                Err(full) => Err(full),
-            }
-        }
+        End::Done => Ok(Finish {
+            ending: Ending::Done,
+            failure: None,
+        }),
+        End::Fault(kind, line) => explain_fault(
+            alloc,
+            program,
+            code,
+            fuel,
+            &stage.current,
+            ledger,
+            kind,
+            line,
+        ),
     }
 }
 

@@ -4,3 +4,4 @@ pub mod OneEvent
 pub mod OneRelease
 pub mod OneReason
 pub mod OneEnding
+pub mod OneFailure

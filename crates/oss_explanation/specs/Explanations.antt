@@ -2,7 +2,7 @@
 -- Read against the worked examples of the text. `task out(x) x = 5; task in(x) out(y) y = x + 1; printf y` in main, without a wait: main asks for a read of y, which is Lent; child 1 alone holds
 -- y, by `out`; child 0 has no access to it. `task inout(x) { task in(y) ; }`: the task 0.0 asks for a creation, which is NotCovered; y is the one cell that fails, 0.0 has no word for it, and
 -- the new task, 0.0.0, would have it by `in`. A task with `out(x)` alone that begins with `x = x + 1` is told by the word `out` with which it was created.
--- What a division, a shift and a place outside of its global have for numbers is no part of what a body asks, and so none of an explanation.
+-- What a division, a shift and a place outside of its global have for numbers is no part of what a body asks, and so none of an explanation: what failed is told beside it (`Failures` of `oss_machine`).
 -- A code fails by itself at a division, a shift, a call too many or a place outside of its global. That it never fails otherwise, or at an await, is not proved; so what is told of those is defined too.
 use Rattle.std.specs.Prelude.{◌≡◌, ℕ, ◌==◌, Bool, true, false, ◌&&◌, ◌||◌, List, [], ◌∷◌, Option, Some, None}
 use Rattle.oss_syntax.specs.declared.access.Access.{Access}

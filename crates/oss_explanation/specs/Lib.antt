@@ -1,5 +1,6 @@
 pub mod Words
 pub mod Sentences
+pub mod Failures
 pub mod Text
 pub mod Held
 pub mod Lives

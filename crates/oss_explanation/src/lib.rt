@@ -1,12 +1,14 @@
 //! What explains why a program comes to a fault: what an explanation holds, what it means that it is one of a program's
 //! sequential run, and its text, sentence by sentence.
 //!
-//! An explanation has no labels of tasks, and of a shift and of a place outside of its global it has no numbers.
+//! An explanation has no labels of tasks. Of a shift and of a place outside of its global it has no numbers: what failed is
+//! told beside it (`Failure` of `oss_machine`), and its text takes both.
 #![tactic(auto)]
 
 mod chain;
 mod deed;
 mod explained;
+mod failure;
 mod holds;
 mod laws;
 mod lent;

@@ -23,3 +23,4 @@ pub mod OutcomeLemmas
 pub mod OutcomeLaws
 pub mod TextPlaces
 pub mod OneResult
+pub mod OneCode

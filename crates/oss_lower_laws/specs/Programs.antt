@@ -78,6 +78,10 @@ CodesAskAlike = (all : List Item) (code : CodeParts) → IsLowered all code → 
 abbrev pub CodesAreSound : Type 0
 CodesAreSound = (all : List Item) (code : CodeParts) → IsLowered all code → IsSound code
 
+-- A program is lowered to one code.
+abbrev pub CodesAreOne : Type 0
+CodesAreOne = (all : List Item) (a b : CodeParts) → IsLowered all a → IsLowered all b → a ≡ b
+
 -- A program that has a code is lively: between two ticks a body of it asks for a bounded number of other things.
 abbrev pub ProgramsAreLively : Type 0
 ProgramsAreLively = (all : List Item) (code : CodeParts) → IsCodeOf all code → IsLively (asks_of all)

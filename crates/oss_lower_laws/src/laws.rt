@@ -1,7 +1,7 @@
 //! What holds of the code of every program, accepted or not: laws, each carried by a function that does
 //! nothing. A crate above calls the function, and then has the law.
 
-ghost use Rattle.oss_lower_laws.specs.Programs.{AProgramHasOneOutcome, AcceptedPlacesAreTold, AcceptedProgramsHaveOneOutcome, BoundsAreEnough, CodesAreSound, CodesAskAlike, MainOutcomesAlike, OutcomesAlike, OutcomesAreOne, ProgramsAreLively, ProgramsHaveCodes, ProgramsHaveOneOutcome};
+ghost use Rattle.oss_lower_laws.specs.Programs.{AProgramHasOneOutcome, AcceptedPlacesAreTold, AcceptedProgramsHaveOneOutcome, BoundsAreEnough, CodesAreOne, CodesAreSound, CodesAskAlike, MainOutcomesAlike, OutcomesAlike, OutcomesAreOne, ProgramsAreLively, ProgramsHaveCodes, ProgramsHaveOneOutcome};
 
 /// The code that a program becomes is a code of it: each body of the program has a place in the code, and the
 /// body at that place asks for the same, on the same lines, after any answers. `main` is at the first
@@ -13,6 +13,11 @@ pub fn codes_ask_alike()
 /// The code of a program is sound, so that `Code::build` takes it.
 pub fn codes_are_sound()
     ensures { CodesAreSound }
+{}
+
+/// A program is lowered to one code.
+pub fn codes_are_one()
+    ensures { CodesAreOne }
 {}
 
 /// A program that has a code is lively: between two ticks a body of it asks for a bounded number of other things.

@@ -4,6 +4,7 @@ pub mod CommitLemmas
 pub mod EffectLemmas
 pub mod GlobalLemmas
 pub mod HasteLemmas
+pub mod IntegerLemmas
 pub mod LeapLemmas
 pub mod LiveTheorem
 pub mod Measures

@@ -5,6 +5,7 @@ pub(crate) mod act;
 pub(crate) mod asks;
 pub(crate) mod cells;
 pub(crate) mod directives;
+pub(crate) mod failing;
 pub(crate) mod jumps;
 pub(crate) mod locals;
 pub(crate) mod print;

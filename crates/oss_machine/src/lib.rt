@@ -3,6 +3,7 @@
 
 mod activation;
 mod ask;
+mod failure;
 mod instructions;
 mod judge;
 mod laws;
@@ -12,6 +13,7 @@ mod running;
 mod touch;
 
 pub use ask::Ask;
+pub use failure::{Failure, Miss, Stretch};
 pub use judge::Judge;
 pub use laws::{codes_are_lively, machines_wait};
 pub use machine::Machine;

@@ -4,6 +4,7 @@
 use oss_explanation::{
     Deed, Explained, Failing, Held, Later, Link, Reason, Touching, Use, Word, explain_text,
 };
+use oss_machine::{Failure, Miss, Stretch};
 use oss_model::{Point, read_point};
 use oss_pieces::{Piece, Span};
 use oss_syntax::{GlobalDef, Item, List, Name, NumKind, Op, Program};
@@ -200,7 +201,7 @@ fn assert_text(
     wanted: &[u8],
 ) -> Result<(), Fail> {
     let program = layout(alloc)?;
-    let text = explain_text(alloc, &program, told)?;
+    let text = explain_text(alloc, &program, told, None)?;
     assert!(rt; text.as_slice() == wanted);
     Ok(())
 }
@@ -527,4 +528,52 @@ fn a_division_by_0_is_told(rt: HostRuntime) -> Result<(), Fail> {
     let reason = Reason::Plain;
     let told = told(&rt, alloc, (b"0", b"0.0"), 4, Deed::Divides, reason)?;
     assert_text(&rt, alloc, &told, b"Main divides by 0 at line 4.\n")
+}
+
+/// A failure of main on line 3 has this text.
+fn assert_failure(
+    rt: &impl Abort,
+    alloc: Global,
+    failure: Failure,
+    wanted: &[u8],
+) -> Result<(), Fail> {
+    let program = layout(alloc)?;
+    let told = told(rt, alloc, (b"0", b"0.0"), 3, Deed::Misses, Reason::Plain)?;
+    let text = explain_text(alloc, &program, &told, Some(failure))?;
+    assert!(rt; text.as_slice() == wanted);
+    Ok(())
+}
+
+#[test]
+fn a_shift_is_told_by_its_number(rt: HostRuntime) -> Result<(), Fail> {
+    assert_failure(
+        &rt,
+        rt.alloc(),
+        Failure::Shift(-1),
+        b"Main shifts by -1 at line 3.\nA shift is by 0 to 63.\n",
+    )
+}
+
+#[test]
+fn a_place_before_rows_is_told_by_its_row_and_column(rt: HostRuntime) -> Result<(), Fail> {
+    assert_failure(
+        &rt,
+        rt.alloc(),
+        Failure::Outside(4, Miss::Place(-7)),
+        b"Main uses the place m[-2][5] at line 3.\nm has the rows 0 to 5 and the columns 0 to 5.\n",
+    )
+}
+
+#[test]
+fn a_section_is_told_by_its_rows_and_columns(rt: HostRuntime) -> Result<(), Fail> {
+    assert_failure(
+        &rt,
+        rt.alloc(),
+        Failure::Outside(4, Miss::Grid(Stretch::One(6), Stretch::Few(0))),
+        b"Main names a section of m at line 3.
+It has the row 6.
+It has 0 columns.
+m has the rows 0 to 5 and the columns 0 to 5.
+",
+    )
 }

@@ -31,8 +31,12 @@ use Rattle.oss_span_laws.proofs.SpanMoves.{spans_agree}
 use Rattle.oss_sched.proofs.OneReading.{read_once}
 use Rattle.oss_report.specs.Replays.{schedule_line}
 use Rattle.oss_explain_laws.proofs.OneEnding.{endings_are_one}
+use Rattle.oss_explain_laws.proofs.OneFailure.{failures_are_one}
+use Rattle.oss_explain.specs.declared.ending.Ending.{Ending}
+use Rattle.oss_explain.specs.declared.ending.Ending.TheVariants as endings
+use Rattle.oss_machine.specs.declared.failure.Failure.{Failure}
 use Rattle.oss_top.specs.Audits.{IsAuditReply}
-use Rattle.oss_top.specs.Explained.{IsExplainReply, ending_reply}
+use Rattle.oss_top.specs.Explained.{IsExplainReply, IsFailureOfEnding, ending_reply}
 use Rattle.oss_top.specs.Spans.{IsSpanReply}
 use Rattle.oss_top.specs.Forms.{error_reply, run_reply, soak_reply, told_reply, too_large_line, trace_reply}
 use Rattle.oss_top.specs.OneReply.{AreSpansAlike, IsOfOneText, IsExplainedOnce, IsReplied, IsRepliedOnce, IsSpanned, nothing, numbers}
@@ -114,12 +118,18 @@ span_alike fuel p reply other x y =
     let second : other ≡ told_reply (span_text y.told.work y.told.span y.told.chain) y.answer = y.is_reply ∙ (λ i. told_reply (y.told.text_is i) y.answer) in
     subst (λ (r : Reply). AreSpansAlike r other) (sym first) (subst (λ (r : Reply). AreSpansAlike (told_reply (span_text y.told.work y.told.span x.told.chain) y.answer) r) (sym second) (told_alike y.answer y.told.work y.told.span x.told.chain y.told.chain))
 
+-- in a run that ends so one thing failed
+failed_once : (fuel : ℕ) (p : Program) (e : Ending) (f g : Option Failure) → IsFailureOfEnding fuel p e f → IsFailureOfEnding fuel p e g → f ≡ g
+failed_once fuel p endings.Done f g h k = h ∙ sym k
+failed_once fuel p (endings.Fault kind line e) f g h k = failures_are_one p.items h.code k.code h.lowered k.lowered fuel f g h.is k.is
+
 -- a program has one reply to an explanation, since main is no final task
 explain_once : (fuel : ℕ) (p : Program) (reply other : Reply) → IsExplainReply fuel p reply → IsExplainReply fuel p other → reply ≡ other
 explain_once fuel p reply other x y =
     let starts : MainStarts (main_of p.items fuel) = record { final = refl; created = refl; path = refl } in
     let same = endings_are_one TreeScript (asks_of p.items) (main_of p.items fuel) starts (first_cells p.items) p.items x.ending y.ending x.is_ending y.is_ending in
-    x.is_reply ∙ (λ i. ending_reply p (same i)) ∙ sym y.is_reply
+    let failed = failed_once fuel p x.ending x.failure y.failure x.is_failure (subst (λ (e : Ending). IsFailureOfEnding fuel p e y.failure) (sym same) y.is_failure) in
+    x.is_reply ∙ (λ i. ending_reply p (same i) (failed i)) ∙ sym y.is_reply
 
 program_once : (c : Command) → IsOfOneText c → (p : Program) (reply other : Reply) → IsProgramReply c p reply → IsProgramReply c p other → reply ≡ other
 program_once c of p reply other (checked x) (checked y) = x ∙ sym y

@@ -1,5 +1,5 @@
 -- A run of the code of a program gives what the program's own run gives.
-use Rattle.std.proofs.Common.{◌≡◌, ◌∙◌, ℕ, false, List, [], ◌∷◌, refl, sym, ap, subst}
+use Rattle.std.proofs.Common.{◌≡◌, ◌∙◌, ℕ, false, List, [], ◌∷◌, Option, refl, sym, ap, subst}
 use Rattle.std.specs.Prelude.{map}
 use Rattle.oss_syntax.specs.declared.tree.program.Program.{Program}
 use Rattle.oss_model.specs.Agreement.{AreWords}
@@ -10,6 +10,7 @@ use Rattle.oss_wave_laws.specs.Rounds.{trace_of}
 use Rattle.oss_meaning.specs.Meaning.{asks_of}
 use Rattle.oss_meaning.specs.Results.{Outcome, first_cells, main_of}
 use Rattle.oss_code.specs.declared.code.CodeParts.{CodeParts}
+use Rattle.oss_lower_laws.specs.Lowered.{IsLowered}
 use Rattle.oss_lower_laws.specs.Programs.{IsCodeOf}
 use Rattle.oss_lower_laws.proofs.OutcomeLaws.{main_outcomes_alike, main_setting, start_is}
 use Rattle.oss_machine.specs.Machines.{asks}
@@ -28,8 +29,11 @@ use Rattle.oss_audit.specs.Lines.{audit_text}
 use Rattle.oss_audit.specs.Reply.{IsAuditedOf}
 use Rattle.oss_audit.specs.declared.unused.Unused.{Unused}
 use Rattle.oss_top.specs.Audits.{IsAuditReply}
-use Rattle.oss_top.specs.Explained.{IsEndingOfProgram, IsExplainReply, ending_reply}
+use Rattle.oss_top.specs.Explained.{IsEndingOfProgram, IsExplainReply, IsFailureOfEnding, ending_reply}
 use Rattle.oss_explain.specs.declared.ending.Ending.{Ending}
+use Rattle.oss_explain.specs.declared.ending.Ending.TheVariants as endings
+use Rattle.oss_explain.specs.Endings.{IsFailureIn}
+use Rattle.oss_machine.specs.declared.failure.Failure.{Failure}
 use Rattle.oss_top.specs.Spans.{IsSpanReply}
 use Rattle.oss_span.specs.Reply.{IsSpannedOf, span_text}
 use Rattle.oss_span.specs.declared.link.Link.{Link}
@@ -195,6 +199,12 @@ pub span_replies : (p : Program) (fuel : ℕ) (answer : Answer) (work span : ℕ
     → reply ≡ told_reply text answer → IsSpanReply fuel p reply
 span_replies p fuel answer work span chain text reply is e f = record { answer = answer; text = text; told = record { work = work; span = span; chain = chain; spanned = is; text_is = e }; is_reply = f }
 
+-- what failed in the run of a code failed in that of its program
+pub failure_told : (fuel : ℕ) (p : Program) (code : CodeParts) → IsLowered p.items code → (e : Ending) (f : Option Failure) → IsFailureIn code fuel e f → IsFailureOfEnding fuel p e f
+failure_told fuel p code of endings.Done f h = h
+failure_told fuel p code of (endings.Fault kind line e) f h = record { code = code; lowered = of; is = h }
+
 -- the reply that explains a fault
-pub explain_replies : (p : Program) (fuel : ℕ) (ending : Ending) (reply : Reply) → IsEndingOfProgram fuel p ending → reply ≡ ending_reply p ending → IsExplainReply fuel p reply
-explain_replies p fuel ending reply is e = record { ending = ending; is_ending = is; is_reply = e }
+pub explain_replies : (p : Program) (fuel : ℕ) (ending : Ending) (failure : Option Failure) (reply : Reply) → IsEndingOfProgram fuel p ending → IsFailureOfEnding fuel p ending failure
+    → reply ≡ ending_reply p ending failure → IsExplainReply fuel p reply
+explain_replies p fuel ending failure reply is fails e = record { ending = ending; is_ending = is; failure = failure; is_failure = fails; is_reply = e }

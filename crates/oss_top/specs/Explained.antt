@@ -1,14 +1,18 @@
 -- The reply that explains the fault of a program.
 -- Read against: of `long x; int main() { x = 1; }` the reply is Done with `no fault`. Where main has `task out(x) x = 5;` and then prints x without a wait, it is Fault: the output has the five lines of
--- the explanation, of which the first one tells that main reads x, and the error output has Lent with the line of the print.
-use Rattle.std.specs.Prelude.{◌≡◌, ℕ}
+-- the explanation, of which the first one tells that main reads x, and the error output has Lent with the line of the print. Of `long x = 64; int main() { x = 1 << x; }` on two lines the output
+-- has `Main shifts by 64 at line 2.` and `A shift is by 0 to 63.`.
+use Rattle.std.specs.Prelude.{◌≡◌, ℕ, Option, None}
 use Rattle.oss_syntax.specs.declared.tree.program.Program.{Program}
 use Rattle.oss_model.specs.Texts.{fault_line}
 use Rattle.oss_meaning.specs.Meaning.{asks_of}
 use Rattle.oss_meaning.specs.Results.{first_cells, main_of}
+use Rattle.oss_code.specs.declared.code.CodeParts.{CodeParts}
+use Rattle.oss_machine.specs.declared.failure.Failure.{Failure}
+use Rattle.oss_lower_laws.specs.Lowered.{IsLowered}
 use Rattle.oss_explain.specs.declared.ending.Ending.{Ending}
 use Rattle.oss_explain.specs.declared.ending.Ending.TheVariants as ending
-use Rattle.oss_explain.specs.Endings.{IsEnding}
+use Rattle.oss_explain.specs.Endings.{IsEnding, IsFailureOf}
 use Rattle.oss_explanation.specs.Text.{explanation_text}
 use Rattle.oss_top.specs.Forms.{done_reply, fault_reply, no_fault_line}
 use Rattle.oss_top.specs.declared.reply.Reply.{Reply}
@@ -17,13 +21,26 @@ use Rattle.oss_top.specs.declared.reply.Reply.{Reply}
 abbrev pub IsEndingOfProgram : ℕ → Program → Ending → Type 0
 IsEndingOfProgram fuel program e = IsEnding (asks_of program.items) (main_of program.items fuel) (first_cells program.items) program.items e
 
--- the reply to a run that ends so
-abbrev pub ending_reply : Program → Ending → Reply
-ending_reply program ending.Done = done_reply no_fault_line
-ending_reply program (ending.Fault kind line e) = fault_reply (explanation_text program.items e) (fault_line kind line)
+-- In the sequential run of the program, each task with so much fuel, this failed: the values of the instructions tell it to which the program is lowered.
+pub record IsFailureOfProgram (fuel : ℕ) (program : Program) (failure : Option Failure) : Type 0 where
+  pub code : CodeParts
+  pub lowered : IsLowered program.items code
+  pub is : IsFailureOf code fuel failure
+
+-- This failed in a run that ends so: nothing in one that is done.
+abbrev pub IsFailureOfEnding : ℕ → Program → Ending → Option Failure → Type 0
+IsFailureOfEnding fuel program ending.Done failure = failure ≡ None
+IsFailureOfEnding fuel program (ending.Fault kind line e) failure = IsFailureOfProgram fuel program failure
+
+-- the reply to a run that ends so, and in which this failed
+abbrev pub ending_reply : Program → Ending → Option Failure → Reply
+ending_reply program ending.Done failure = done_reply no_fault_line
+ending_reply program (ending.Fault kind line e) failure = fault_reply (explanation_text program.items e failure) (fault_line kind line)
 
 -- The reply for a program that breaks no rule: that it has no fault, or the explanation of its fault, and the line of the fault.
 pub record IsExplainReply (fuel : ℕ) (program : Program) (reply : Reply) : Type 0 where
   pub ending : Ending
   pub is_ending : IsEndingOfProgram fuel program ending
-  pub is_reply : reply ≡ ending_reply program ending
+  pub failure : Option Failure
+  pub is_failure : IsFailureOfEnding fuel program ending failure
+  pub is_reply : reply ≡ ending_reply program ending failure

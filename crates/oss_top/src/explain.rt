@@ -1,15 +1,16 @@
 //! The reply that explains the fault of a program.
 
 ghost use Rattle.std.specs.Prelude.{◌≡◌, IfOk};
-ghost use Rattle.oss_top.specs.Explained.{IsEndingOfProgram, IsExplainReply, ending_reply};
+ghost use Rattle.oss_top.specs.Explained.{IsEndingOfProgram, IsExplainReply, IsFailureOfEnding, ending_reply};
 
 use crate::reply::Reply;
 use crate::run::{are_words, reply_to_fault};
 use crate::texts;
-use oss_explain::{Ending, explain};
+use oss_explain::{Ending, Finish, explain};
 use oss_explain_laws::endings_alike;
 use oss_explanation::explain_text;
 use oss_lower::lower;
+use oss_machine::Failure;
 use oss_names::Known;
 use oss_syntax::Program;
 use std::alloc::{AllocError, Global};
@@ -18,13 +19,14 @@ use std::alloc::{AllocError, Global};
 pub(crate) fn reply_to_explain(alloc: Global, fuel: u32, known: &Known) -> Result<Reply, AllocError>
     ensures { IfOk result (λ reply. IsExplainReply fuel known.now reply) }
 {
-    let ending = ended(alloc, fuel, known)?;
-    reply_to_ending(alloc, known.program(), &ending)
+    let finish = ended(alloc, fuel, known)?;
+    reply_to_ending(alloc, known.program(), &finish.ending, finish.failure)
 }
 
-/// How the run of a program ends, by its code.
-fn ended(alloc: Global, fuel: u32, known: &Known) -> Result<Ending, AllocError>
-    ensures { IfOk result (λ ending. IsEndingOfProgram fuel known.now ending) }
+/// How the run of a program ends, and what failed, by its code.
+fn ended(alloc: Global, fuel: u32, known: &Known) -> Result<Finish, AllocError>
+    ensures { IfOk result (λ finish. IsEndingOfProgram fuel known.now finish.ending
+        × IsFailureOfEnding fuel known.now finish.ending finish.failure) }
 {
     let code = lower(alloc, known)?;
     are_words(code.first().as_slice());
@@ -32,14 +34,19 @@ fn ended(alloc: Global, fuel: u32, known: &Known) -> Result<Ending, AllocError>
     explain(alloc, known.program(), &code, fuel)
 }
 
-/// The reply to a run that ends so.
-fn reply_to_ending(alloc: Global, program: &Program, ending: &Ending) -> Result<Reply, AllocError>
-    ensures { IfOk result (λ reply. reply ≡ ending_reply program.now ending.now) }
+/// The reply to a run that ends so, and in which this failed.
+fn reply_to_ending(
+    alloc: Global,
+    program: &Program,
+    ending: &Ending,
+    failure: Option<Failure>,
+) -> Result<Reply, AllocError>
+    ensures { IfOk result (λ reply. reply ≡ ending_reply program.now ending.now failure) }
 {
     match ending {
         Ending::Done => Ok(Reply::done(alloc, texts::no_fault(alloc)?)),
         Ending::Fault(kind, line, explained) => {
-            let text = explain_text(alloc, program, explained)?;
+            let text = explain_text(alloc, program, explained, failure)?;
             reply_to_fault(alloc, *kind, *line, text)
         }
     }

@@ -25,7 +25,7 @@ use oss_values::{number_in, unsigned};
 use std::alloc::{AllocError, Global};
 
 /// The number at a place of some values, counted from the lowest; 0 where there is none.
-fn number_at(values: &[Value], place: usize) -> u64
+pub(crate) fn number_at(values: &[Value], place: usize) -> u64
     ensures { result ≡ number_at (map number_in values.now) place }
 {
     if place < values.len() {
@@ -92,7 +92,7 @@ fn value_base(code: &Code, value: Value) -> Base
 
 /// The base of a section.
 #[tactic(auto, using(crate::proofs::GlobalLemmas::extent_at))]
-fn base_at(code: &Code, base: SectionBase, locals: &[Value]) -> Base
+pub(crate) fn base_at(code: &Code, base: SectionBase, locals: &[Value]) -> Base
     ensures { meant_base result ≡ base_at code.now base locals.now }
 {
     match base {
@@ -158,7 +158,7 @@ fn part_operands(form: PartForm) -> usize
 }
 
 /// What a section names of its base, its numbers being these values.
-fn extent_from(form: SectionForm, values: &[Value]) -> Extent
+pub(crate) fn extent_from(form: SectionForm, values: &[Value]) -> Extent
     ensures { meant_extent result ≡ extent_from form (map number_in values.now) }
 {
     match form {

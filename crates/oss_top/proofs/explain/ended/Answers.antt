@@ -4,6 +4,7 @@ use Rattle.oss_model.specs.Agreement.{AreWords}
 use Rattle.oss_lower_laws.proofs.OutcomeLaws.{cells_are}
 use Rattle.oss_explain.specs.Endings.{IsEndingOf}
 use Rattle.oss_top.proofs.FormLemmas.{if_ok}
+use Rattle.oss_top.proofs.RunLemmas.{failure_told}
 use Rattle.oss_top.proofs.explain.ended.Goals as goal
 
 -- a code has as many cells as its program
@@ -15,7 +16,9 @@ explain-requires-clause-layout c =
 pub returns : goal.returns
 returns c =
     if_ok c.explain.result
-    (λ ending is.
-    (c.endings_alike.ensures c.args.known.now.items c.in_ok-code.code c.in_ok-code.ensures.code_of (subst AreWords (c.as_slice.ensures ∙ c.first.ensures) c.are_words.ensures) c.args.fuel ending).1
-    (subst (λ p. IsEndingOf c.in_ok-code.code c.args.fuel p.items ending) c.program.ensures.same is))
+    (λ finish is. (
+      (c.endings_alike.ensures c.args.known.now.items c.in_ok-code.code c.in_ok-code.ensures.code_of (subst AreWords (c.as_slice.ensures ∙ c.first.ensures) c.are_words.ensures) c.args.fuel finish.ending).1
+          (subst (λ p. IsEndingOf c.in_ok-code.code c.args.fuel p.items finish.ending) c.program.ensures.same is.ending),
+      failure_told c.args.fuel c.args.known.now c.in_ok-code.code c.in_ok-code.ensures.lowered finish.ending finish.failure is.failure,
+    ))
     c.explain.ensures
