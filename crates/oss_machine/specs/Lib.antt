@@ -1,5 +1,6 @@
 pub mod Activations
 pub mod Asks
+pub mod Calls
 pub mod Frames
 pub mod Hastes
 pub mod Laws
