@@ -199,10 +199,11 @@ impl Body {
         Ok(())
     }
 
-    /// Goes on by ticks, loads and stores, at most so many, where nothing wants memory: each happens to the cells as soon
-    /// as it stands next. This tells how many acts these were. The rush stops before every other act, before a fault,
+    /// Goes on by ticks, loads and stores, at most so many: each happens to the cells as soon as it stands next. This tells
+    /// how many acts these were. The rush goes through calls of functions, and stops before every other act, before a fault,
     /// before a store that marks its cell anew, and where the machine cannot go on in place; it may stop at once. The
-    /// code is the one with which the body was started. Condition: the body has not ended. It takes no memory.
+    /// code is the one with which the body was started. Condition: the body has not ended. It takes no memory but for functions
+    /// that are called, and stops where that is wanting.
     pub fn rush(&mut self, code: &Code, cells: &mut Vec<u64>, most: u64) -> u64
         requires running { is_over self.old ≡ false }
         ensures rushed { (start : Start CodeScript) (found : Items ℕ) → IsBody code.now start found self.old →

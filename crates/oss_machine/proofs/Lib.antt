@@ -1,5 +1,6 @@
 pub mod AnswerLemmas
 pub mod AskLemmas
+pub mod CallLemmas
 pub mod CommitLemmas
 pub mod EffectLemmas
 pub mod GlobalLemmas

@@ -1,5 +1,6 @@
 pub mod Activations
 pub mod Asks
+pub mod Calls
 pub mod Failures
 pub mod Frames
 pub mod Hastes

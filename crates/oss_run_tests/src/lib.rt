@@ -8,6 +8,8 @@ mod audit_tests;
 #[cfg(test)]
 mod body_tests;
 #[cfg(test)]
+mod call_tests;
+#[cfg(test)]
 mod core_tests;
 #[cfg(test)]
 mod explain_tests;

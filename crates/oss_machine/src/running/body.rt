@@ -47,6 +47,15 @@ impl Drop for Run {
     }
 }
 
+/// The functions that waited when the machine began to go on in place. It leaves them alone.
+#[derive(Clone, Copy)]
+pub(crate) struct Floor {
+    /// How many of those that have moved wait.
+    pub count: usize,
+    /// No function waits at all: the lowest one that runs ends the body with its `Return`.
+    pub rooted: bool,
+}
+
 /// What the run of a machine is for.
 #[derive(Clone, Copy)]
 pub(crate) enum Reach {

@@ -9,7 +9,7 @@ use std::alloc::{AllocError, Global};
 
 /// A function has room for so many values more than stand on its stack at a time, and for so many locals more than it
 /// begins with: one that goes on in place asks for room for all that it may lay until its next ask.
-const MORE: usize = 4;
+pub(crate) const MORE: usize = 4;
 
 /// Nothing gathered, which takes no memory.
 pub(crate) fn nothing_gathered(alloc: Global) -> Gathered
@@ -43,6 +43,40 @@ pub(crate) fn blank(alloc: Global) -> Activation
     }
 }
 
+/// A function at its beginning, or a creation with the line of its call, with this stack, on which nothing is, and these
+/// locals. It takes no memory.
+#[inline(always)]
+pub(crate) fn beginning(
+    alloc: Global,
+    call_line: Option<u32>,
+    entry: usize,
+    stack: Vec<Value>,
+    locals: Vec<Value>,
+) -> Activation
+    requires { stack.items ≡ [] }
+    ensures frame { (base : Base) → frame_on base result ≡ first_frame call_line entry locals.items }
+    ensures at { result.at ≡ entry }
+    ensures stack { result.stack ≡ stack }
+    ensures locals { result.locals ≡ locals }
+{
+    Activation {
+        at: entry,
+        call_line,
+        stack,
+        locals,
+        clauses: ClauseValues {
+            when: true,
+            last: false,
+            wait: false,
+            priority: 0,
+        },
+        turns: None,
+        adds_accesses: false,
+        adds_ranges: false,
+        gathered: nothing_gathered(alloc),
+    }
+}
+
 /// A function at its beginning with these values of the locals, or a creation with the line of its call, with
 /// room for so many values, and a few more.
 pub(crate) fn first_activation(
@@ -54,22 +88,9 @@ pub(crate) fn first_activation(
 ) -> Result<Activation, AllocError>
     ensures { IfOk result (λ a. (base : Base) → frame_on base a ≡ first_frame call_line entry locals.now) }
 {
-    Ok(Activation {
-        at: entry,
-        call_line,
-        stack: Vec::with_capacity(alloc, room.saturating_add(MORE))?,
-        locals: first_locals(alloc, locals)?,
-        clauses: ClauseValues {
-            when: true,
-            last: false,
-            wait: false,
-            priority: 0,
-        },
-        turns: None,
-        adds_accesses: false,
-        adds_ranges: false,
-        gathered: nothing_gathered(alloc),
-    })
+    let stack = Vec::with_capacity(alloc, room.saturating_add(MORE))?;
+    let locals = first_locals(alloc, locals)?;
+    Ok(beginning(alloc, call_line, entry, stack, locals))
 }
 
 /// These values of locals, with room for a few more.
