@@ -1,5 +1,5 @@
 -- Begins of stretches become cuts.
-use Rattle.std.proofs.Common.{◌≡◌, ℕ, ◌+◌, ◌<◌, ◌≤◌, zero, suc, refl, sym, ap, subst, ◌∙◌, List, [], ◌∷◌, ◌⊎◌, inl, inr, Bool, true, false, Some, None, arith, length, get_or, set, drop}
+use Rattle.std.proofs.Common.{◌≡◌, ℕ, ◌+◌, ◌<◌, ◌≤◌, zero, suc, refl, sym, ap, subst, ◌∙◌, List, [], ◌∷◌, ◌⊎◌, inl, inr, Bool, true, false, Some, None, arith, length, get_or, set, drop, eqb-true}
 use Rattle.std.proofs.lemmas.List.{length-set, drop_more, drop_all}
 use Rattle.std.proofs.lemmas.Option.{slice_get_within}
 use Rattle.std.specs.Prelude.{◌&&◌, ◌||◌, ◌==◌, slice_get}
@@ -13,7 +13,8 @@ use Rattle.oss_fragments.specs.Kept.{here_by, is_asked, is_cut_by}
 use Rattle.oss_fragments.specs.Here.{here_of}
 use Rattle.oss_fragments.specs.Stretches.{AreFragments, IsFragment, IsDivided, HasRoom, HaveRoom, AreReady}
 use Rattle.oss_fragments.specs.Changes.{AreSameButAsked}
-use Rattle.oss_deps.proofs.Basics.{some_is, some_none, same_at, value_within}
+use Rattle.std.proofs.lemmas.Bool.{eq-eqb}
+use Rattle.oss_deps.proofs.Basics.{bools, both_of, or_cases, or_left, or_right, some_is, some_none, same_at, value_within}
 use Rattle.oss_fragments.proofs.StretchLemmas.{IsPlaced, placed, read_here, read_some}
 use Rattle.oss_deps.proofs.CloseLemmas.{same_number, get_set_same, get_set_other}
 
@@ -102,6 +103,37 @@ asked_set fragments at a e = record { size = length-set fragments at (record a {
           ap (λ (z : Fragment). record z { asked = true }) eq,
         )
 
+-- where a fragment begins whose begin was asked for, and at the end of all cells once that was asked for, there is a cut
+
+asked_at : (fragments : List Fragment) (at : ℕ) (a : Fragment) (k : ℕ) → slice_get fragments at ≡ Some a → a.asked ≡ true → a.lo ≡ k → is_asked fragments k ≡ true
+asked_at [] at a k e asked lo = absurd cc
+asked_at (b ∷ fragments) zero a k e asked lo =
+    let same : b ≡ a = some_is e in
+    or_left (b.asked && (k == b.lo)) (is_asked fragments k) (both_of b.asked (k == b.lo) (ap (λ (x : Fragment). x.asked) same ∙ asked) (eq-eqb k b.lo (sym (ap (λ (x : Fragment). x.lo) same ∙ lo))))
+asked_at (b ∷ fragments) (suc at) a k e asked lo = or_right (b.asked && (k == b.lo)) (is_asked fragments k) (asked_at fragments at a k e asked lo)
+
+pub cut_begins : (fragments : List Fragment) (ended : Bool) (at : ℕ) (a : Fragment) (k : ℕ) → slice_get fragments at ≡ Some a → (a.asked ≡ true) × (a.lo ≡ k) → is_cut_by fragments ended k ≡ true
+cut_begins fragments ended at a k e h = or_left (is_asked fragments k) (ended && (k == 1048576)) (asked_at fragments at a k e h.0 h.1)
+
+pub cut_at_end : (fragments : List Fragment) (ended : Bool) (k : ℕ) → ended ≡ true → k ≡ 1048576 → is_cut_by fragments ended k ≡ true
+cut_at_end fragments ended k e is = or_right (is_asked fragments k) (ended && (k == 1048576)) (both_of ended (k == 1048576) e (eq-eqb k 1048576 is))
+
+or_none : (x : Bool) → x ≡ (x || false)
+or_none true = refl
+or_none false = refl
+
+-- where both ends of a range are cuts, they are no new ones
+pub cuts_stay : (cut : ℕ → Bool) (range : Range) → cut range.lo ≡ true → cut range.hi ≡ true → (k : ℕ) → cut k ≡ (cut k || is_end range k)
+cuts_stay cut range lo hi k = go (bools (is_end range k))
+  where
+    there : ((k == range.lo) ≡ true) ⊎ ((k == range.hi) ≡ true) → cut k ≡ true
+    there (inl e) = ap cut (eqb-true k range.lo e) ∙ lo
+    there (inr e) = ap cut (eqb-true k range.hi e) ∙ hi
+
+    go : (is_end range k ≡ true) ⊎ (is_end range k ≡ false) → cut k ≡ (cut k || is_end range k)
+    go (inl e) = let h = there (or_cases (k == range.lo) (k == range.hi) e) in h ∙ sym (or_left (cut k) (is_end range k) h)
+    go (inr e) = or_none (cut k) ∙ ap (λ (x : Bool). cut k || x) (sym e)
+
 or_last : (x e q r : Bool) → q ≡ r → (x || (true && q)) ≡ ((x || (e && q)) || r)
 or_last true e q r h = refl
 or_last false true true r h = refl
@@ -151,10 +183,6 @@ cut_left x y accesses j a k all l e f g =
     or_assoc y x (is_end a.range k) (is_access_end (drop (j + 1) accesses) k) (y || is_access_end (drop (j + 1) accesses) k) g refl
     ∙ ap (λ (z : Bool). x || z) (sym (ap (λ (xs : List Access). is_access_end xs k) (drop_more accesses j a l ∙ ap (λ (z : Access). z ∷ drop (j + 1) accesses) (sym e))))
     ∙ f
-
-or_none : (x : Bool) → x ≡ (x || false)
-or_none true = refl
-or_none false = refl
 
 pub cut_done : (x : Bool) (accesses : List Access) (j k : ℕ) (all : Bool) → length accesses ≤ j → (x || is_access_end (drop j accesses) k) ≡ all → x ≡ all
 cut_done x accesses j k all l f = or_none x ∙ ap (λ (xs : List Access). x || is_access_end xs k) (sym (drop_all j accesses l)) ∙ f

@@ -1,6 +1,6 @@
 //! Cuts that were asked for: the ends of accesses and of prepared ranges. A range that is given up may end only there.
 
-ghost use Rattle.std.specs.Prelude.{◌≡◌, ◌≤◌, ◌||◌, ◌==◌, [], ℕ};
+ghost use Rattle.std.specs.Prelude.{◌≡◌, ◌≤◌, ◌||◌, ◌==◌, [], ℕ, true};
 ghost use Rattle.oss_syntax.specs.declared.access.Access.{Access as Meant};
 ghost use Rattle.oss_model.specs.Order.{IsIn};
 ghost use Rattle.oss_deps.specs.Seen.{is_access_end, is_end};
@@ -31,6 +31,29 @@ fn ask(map: &RangeMap<usize>, fragments: &mut Vec<Fragment>, ended: &mut bool, c
         Some(at) => fragments[at].asked = true,
         None => unreachable!(),
     }
+}
+
+/// Whether a cell is known to be a cut. It takes no memory.
+pub(crate) fn is_cut_at(
+    map: &RangeMap<usize>,
+    fragments: &[Fragment],
+    ended: bool,
+    cell: u32,
+) -> bool
+    requires { AreFragments map.now.pieces fragments.now }
+    ensures { result ≡ true → is_cut_by fragments.now ended cell ≡ true }
+{
+    match map.get(cell) {
+        Some(at) => begins_cut(&fragments[at], cell),
+        None => ended && cell == CELLS,
+    }
+}
+
+/// Whether a fragment begins at the cell, and its begin is a cut.
+fn begins_cut(fragment: &Fragment, cell: u32) -> bool
+    ensures { result ≡ true → (fragment.now.asked ≡ true) × (fragment.now.lo ≡ cell) }
+{
+    fragment.asked && fragment.lo == cell
 }
 
 /// The ends of a range become cuts.

@@ -9,7 +9,7 @@ ghost use Rattle.oss_fragments.specs.Kept.{here_at, is_cut};
 ghost use Rattle.oss_fragments.specs.Stretches.{AreReady};
 ghost use Rattle.oss_fragments.specs.Visits.{IsPartOf};
 
-use crate::cutting::{ask_all, ask_ends};
+use crate::cutting::{ask_all, ask_ends, is_cut_at};
 use crate::fragment::Fragment;
 use crate::giving::give_over;
 use crate::opening::open_all;
@@ -96,8 +96,29 @@ impl Fragments {
 
     /// The ends of a range become cuts. Err: memory is wanting, and no cut is new. In both cases accesses that
     /// are ready stay so, and by each cell's accesses the same is told of the opened tasks: accesses on which
-    /// nothing depends any more may be left out.
+    /// nothing depends any more may be left out. Where both ends are cuts it costs two looks and takes no memory.
     pub fn prepare(&mut self, range: Range) -> Result<(), AllocError>
+        ensures ok { OnOk result ((k : ℕ) → is_cut self.new k ≡ (is_cut self.old k || is_end range k)) }
+        ensures err { OnErr result ((k : ℕ) → is_cut self.new k ≡ is_cut self.old k) }
+        ensures here { (c : ℕ) → IsLess (here_at self.old c) (here_at self.new c) }
+        ensures ready { (accesses : Items Meant) → AreReady accesses self.old.fragments →
+            AreReady accesses self.new.fragments }
+    {
+        if self.has_cut(range.lo) && self.has_cut(range.hi) {
+            return Ok(());
+        }
+        self.cut(range)
+    }
+
+    /// Whether a cell is known to be a cut.
+    fn has_cut(&self, cell: u32) -> bool
+        ensures { result ≡ true → is_cut self.now cell ≡ true }
+    {
+        is_cut_at(&self.map, self.fragments.as_slice(), self.ended, cell)
+    }
+
+    /// The ends of a range become cuts, as `prepare` says.
+    fn cut(&mut self, range: Range) -> Result<(), AllocError>
         ensures ok { OnOk result ((k : ℕ) → is_cut self.new k ≡ (is_cut self.old k || is_end range k)) }
         ensures err { OnErr result ((k : ℕ) → is_cut self.new k ≡ is_cut self.old k) }
         ensures here { (c : ℕ) → IsLess (here_at self.old c) (here_at self.new c) }

@@ -4,7 +4,7 @@ use Rattle.oss_fragments.proofs.LessLemmas.{less_both, less_same}
 use Rattle.oss_fragments.proofs.DivideLemmas.{finer_both, finer_ready}
 use Rattle.oss_fragments.proofs.CutLemmas.{asked_are, asked_here, asked_ready}
 use Rattle.oss_fragments.proofs.ViewLemmas.{less_seen, ready_fields}
-use Rattle.oss_fragments.proofs.fragments.Fragments.prepare.Goals as goal
+use Rattle.oss_fragments.proofs.fragments.Fragments.cut.Goals as goal
 
 pub returns-in_err-cover-clause-ready : goal.returns-in_err-cover-clause-ready
 returns-in_err-cover-clause-ready c = λ others r.
