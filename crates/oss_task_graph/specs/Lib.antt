@@ -1,0 +1,3 @@
+pub mod Groups
+pub mod Edges
+pub mod Graphs
