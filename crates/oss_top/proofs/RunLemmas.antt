@@ -28,7 +28,13 @@ use Rattle.oss_audit.specs.Lines.{audit_text}
 use Rattle.oss_audit.specs.Reply.{IsAuditedOf}
 use Rattle.oss_audit.specs.declared.unused.Unused.{Unused}
 use Rattle.oss_top.specs.Audits.{IsAuditReply}
+use Rattle.oss_top.specs.Drawn.{IsGraphOfProgram, IsGraphReply, drawn_reply}
 use Rattle.oss_top.specs.Explained.{IsEndingOfProgram, IsExplainReply, ending_reply}
+use Rattle.oss_graph_text.specs.Text.{IsGraphText}
+use Rattle.oss_labels.specs.declared.labels.Labelled.{Labelled}
+use Rattle.oss_labels.specs.Labels.{AreLabelsOf}
+use Rattle.oss_labels.specs.Lists.{label_at}
+use Rattle.oss_task_graph.specs.declared.graph.Graph.{Graph}
 use Rattle.oss_explain.specs.declared.ending.Ending.{Ending}
 use Rattle.oss_top.specs.Spans.{IsSpanReply}
 use Rattle.oss_span.specs.Reply.{IsSpannedOf, span_text}
@@ -198,3 +204,8 @@ span_replies p fuel answer work span chain text reply is e f = record { answer =
 -- the reply that explains a fault
 pub explain_replies : (p : Program) (fuel : ℕ) (ending : Ending) (reply : Reply) → IsEndingOfProgram fuel p ending → reply ≡ ending_reply p ending → IsExplainReply fuel p reply
 explain_replies p fuel ending reply is e = record { ending = ending; is_ending = is; is_reply = e }
+
+-- the reply that draws the tasks
+pub graph_replies : (p : Program) (fuel : ℕ) (graph : Graph) (labels : List Labelled) (text : List ℕ) (reply : Reply) → IsGraphOfProgram fuel p graph → AreLabelsOf p.items labels
+    → IsGraphText p.items (label_at labels) graph text → reply ≡ drawn_reply text graph.fault → IsGraphReply fuel p reply
+graph_replies p fuel graph labels text reply is are told e = record { graph = graph; is_graph = is; labels = labels; are_labels = are; text = text; is_text = told; is_reply = e }
