@@ -93,6 +93,7 @@ if is_asked commands; then
     row span "$name.c"
     row audit "$name.c"
     row explain "$name.c"
+    row graph "$name.c"
     row run "$name.c" --dump
   done
 fi

@@ -8,7 +8,7 @@
 # status (0 where there is none). It is run in each mode and with several numbers of workers, and its trace is replayed; NAME.trace is that
 # trace, where there is such a file. Each NAME.schedule leads NAME.c to its end. Where gcc is there, it compiles each NAME.c without a
 # warning, and what it compiles has the same output where the run has no fault. NAME.explained is the explanation of the fault of NAME.c; where the
-# run has no fault, that is what is told. NAME.graph is the graph of its tasks, where there is such a file, and where Graphviz is there, it reads each.
+# run has no fault, that is what is told. NAME.graph is the graph of NAME.c, where there is such a file. Where dot is there, it reads each graph without a complaint.
 #
 # In README.md and docs/GUIDE.md, each block `c` is the program of examples/ that the line before it names, and each block `console` is what
 # its commands, the lines that begin with `$ `, write where they are given one after the other; so the blocks `console` of docs/COMMANDS.md. tests/tables.sh tries the
@@ -131,15 +131,6 @@ describe() {
   [ -f "$1.err" ] && err=$1.err
 }
 
-# draw FILE: whether Graphviz reads a graph without a word, where it is there
-draw() {
-  command -v dot >/dev/null 2>&1 || return 0
-  dot -Tsvg "$1" >/dev/null 2>"$work/err"
-  got=$?
-  cp "$work/nothing" "$work/out"
-  judge "examples/$1, drawn" 0 "$work/nothing" "$work/nothing" "$got"
-}
-
 # follow NAME: the trace of an example, against the stored one where there is one, and its replay
 follow() {
   describe "$1"
@@ -161,6 +152,15 @@ compile() {
   [ "$status" = 0 ] || return 0
   "$work/compiled" >"$work/out" 2>"$work/err" </dev/null
   judge "what gcc makes of examples/$1.c" 0 "$out" "$work/nothing" $?
+}
+
+# drawn NAME FILE: whether dot reads a graph and says nothing
+drawn() {
+  [ "$drawing" = yes ] || return 0
+  dot -Tsvg "$2" >"$work/picture" 2>"$work/err"
+  got=$?
+  : >"$work/out"
+  judge "$1, drawn" 0 "$work/nothing" "$work/nothing" "$got"
 }
 
 # split FILE FOLDER: each fenced block of a document as N.KIND, and the last line before it that is not empty as N.before
@@ -219,6 +219,9 @@ check_document() {
   check_commands "$1"
 }
 
+drawing=no
+if command -v dot >/dev/null 2>&1; then drawing=yes; else echo "dot is not there: no graph is drawn"; fi
+
 cd "$top/examples" || exit 1
 for file in *.c; do
   describe "${file%.c}"
@@ -248,8 +251,8 @@ for file in *.c; do
 done
 for file in *.graph; do
   describe "${file%.graph}"
-  expect "examples/$file" "$status" "$file" "$err" graph "${file%.graph}.c"
-  draw "$file"
+  expect "the graph of examples/${file%.graph}.c" "$status" "$file" "$err" graph "${file%.graph}.c"
+  drawn "the graph of examples/${file%.graph}.c" "$file"
 done
 for file in *.schedule; do
   describe "${file%.schedule}"
@@ -305,6 +308,7 @@ for file in "$top"/tests/cases/*/*.case; do
       # All dependency systems have the same trace.
       other_systems "${file#"$top"/}" "$status" "$work/wanted_out" "$work/wanted_err" p.c
       ;;
+    [01]' graph '*) drawn "${file#"$top"/}" "$work/wanted_out" ;;
   esac
   set +f
 done

@@ -14,8 +14,8 @@
 -- to run the generated program from 7 on with 9 tasks; `soak 18446744073709551615 9000 --mode=serial` is one too, and `soak 7`, `soak 07 9`, `soak 7 0`, `soak 7 9001`, `soak 7 9 --fuel=5`
 -- and `soak 18446744073709551616 9` are refused.
 -- And: `audit a.c` asks for what the tasks of the program in `a.c` name and never touch, with fuel for 1,000,000 ticks a task, and `audit --fuel=5 a.c` with fuel for 5; `audit`, `audit a.c b.c`,
--- `audit a.c --dump` and `audit a.c --fuel=0` are refused. `span` and `explain` take the same words: `span a.c` asks how parallel the program in `a.c` can be at best, and `explain a.c` for the
--- explanation of its fault.
+-- `audit a.c --dump` and `audit a.c --fuel=0` are refused. `span`, `explain` and `graph` take the same words: `span a.c` asks how parallel the program in `a.c` can be at best, `explain a.c` for
+-- the explanation of its fault, and `graph a.c` for the graph of its tasks.
 use Rattle.std.specs.Prelude.{◌≡◌, ◌<◌, ℕ, Bool, true, false, not, ◌&&◌, ◌||◌, ◌==◌, if◌then◌else◌, nat_le, List, [], ◌∷◌, ◌++◌, length, take, drop, Option, Some, None, Result, Ok, Err, codes, option_map}
 use Rattle.std.specs.Str.{bytes_eq}
 use Rattle.oss_sched.specs.Reading.{number_in}
@@ -29,8 +29,8 @@ use Rattle.oss_command.specs.declared.command.Command.TheVariants as told
 use Rattle.oss_command.specs.declared.command.WordsRefused.{WordsRefused}
 
 -- What is asked for, of the program in the file of this name. A replay is of the schedule in a second file, and each task in it has so much fuel. A soak is a run of a program without a
--- file: the generated one from a number on, of so many tasks. An audit is what its tasks name and never touch, a span how parallel it can be at best, and to explain it is to tell why it comes to
--- its fault, where each task has so much fuel.
+-- file: the generated one from a number on, of so many tasks. An audit is what its tasks name and never touch, a span how parallel it can be at best, to explain it is to tell why it comes to
+-- its fault, and its graph has its tasks and what they wait for, where each task has so much fuel.
 pub data Command : Type 0 where
   run : (file : List ℕ) (options : Options) → Command
   check : (file : List ℕ) → Command
@@ -40,6 +40,7 @@ pub data Command : Type 0 where
   audit : (file : List ℕ) (fuel : ℕ) → Command
   span : (file : List ℕ) (fuel : ℕ) → Command
   explain : (file : List ℕ) (fuel : ℕ) → Command
+  graph : (file : List ℕ) (fuel : ℕ) → Command
 
 -- the name of the file with its program, where it has one
 abbrev pub file_of : Command → Option (List ℕ)
@@ -51,6 +52,7 @@ file_of (soak number size options) = None
 file_of (audit file fuel) = Some file
 file_of (span file fuel) = Some file
 file_of (explain file fuel) = Some file
+file_of (graph file fuel) = Some file
 
 -- the name of the file with its schedule, where it has one
 abbrev pub schedule_of : Command → Option (List ℕ)
@@ -62,6 +64,7 @@ schedule_of (soak number size options) = None
 schedule_of (audit file fuel) = None
 schedule_of (span file fuel) = None
 schedule_of (explain file fuel) = None
+schedule_of (graph file fuel) = None
 
 -- Operands
 
@@ -217,7 +220,7 @@ is_trace_word w = is_operand w || is_there (behind deps_name w) || is_there (beh
 abbrev pub is_soak_word : List ℕ → Bool
 is_soak_word w = is_operand w || is_there (behind mode_name w) || is_there (behind deps_name w) || is_there (behind workers_name w)
 
--- a word that `replay`, `span`, `audit` and `explain` may have
+-- a word that `replay`, `span`, `audit`, `explain` and `graph` may have
 abbrev pub is_fuel_word : List ℕ → Bool
 is_fuel_word w = is_operand w || is_there (behind fuel_name w)
 
@@ -312,6 +315,9 @@ span_asked words = option_map (λ asked. span asked.0 asked.1) (file_and_fuel_in
 abbrev pub explain_asked : List (List ℕ) → Option Command
 explain_asked words = option_map (λ asked. explain asked.0 asked.1) (file_and_fuel_in words)
 
+abbrev pub graph_asked : List (List ℕ) → Option Command
+graph_asked words = option_map (λ asked. graph asked.0 asked.1) (file_and_fuel_in words)
+
 abbrev pub trace_asked : List (List ℕ) → Option Command
 trace_asked words = if all_by is_trace_word words then trace_of (the_one (operands_in words)) (options_in words) else None
 
@@ -322,7 +328,8 @@ abbrev pub asked_by : List ℕ → List (List ℕ) → Option Command
 asked_by word rest = if bytes_eq word (codes "run") then run_asked rest else if bytes_eq word (codes "check") then check_asked rest
     else if bytes_eq word (codes "trace") then trace_asked rest else if bytes_eq word (codes "replay") then replay_asked rest
     else if bytes_eq word (codes "soak") then soak_asked rest else if bytes_eq word (codes "span") then span_asked rest
-    else if bytes_eq word (codes "audit") then audit_asked rest else if bytes_eq word (codes "explain") then explain_asked rest else None
+    else if bytes_eq word (codes "audit") then audit_asked rest else if bytes_eq word (codes "explain") then explain_asked rest
+    else if bytes_eq word (codes "graph") then graph_asked rest else None
 
 -- what the words ask for; none where they are refused
 abbrev pub asked_of : List (List ℕ) → Option Command
@@ -339,6 +346,7 @@ meant (told.Soak asked) = soak asked.number asked.size asked.options
 meant (told.Audit file fuel) = audit file.now fuel
 meant (told.Span file fuel) = span file.now fuel
 meant (told.Explain file fuel) = explain file.now fuel
+meant (told.Graph file fuel) = graph file.now fuel
 
 -- the mode is that of workers
 abbrev pub is_by_workers : RunMode → Bool
@@ -356,6 +364,7 @@ runs_by_workers (soak number size options) = is_by_workers options.mode
 runs_by_workers (audit file fuel) = false
 runs_by_workers (span file fuel) = false
 runs_by_workers (explain file fuel) = false
+runs_by_workers (graph file fuel) = false
 
 -- A run in another mode has no lines that tell of workers or of the order.
 abbrev pub HasLinesFor : RunMode → Bool → Bool → Type 0
@@ -378,6 +387,7 @@ IsFit (soak number size options) = AreFit options
 IsFit (audit file fuel) = Unit {0}
 IsFit (span file fuel) = Unit {0}
 IsFit (explain file fuel) = Unit {0}
+IsFit (graph file fuel) = Unit {0}
 
 abbrev pub IsAskedBy : Option Command → Result Told WordsRefused → Type 0
 IsAskedBy command (Ok t) = command ≡ Some (meant t)
@@ -386,6 +396,6 @@ IsAskedBy command (Err e) = command ≡ None
 abbrev pub IsAsked : List (List ℕ) → Result Told WordsRefused → Type 0
 IsAsked words told = IsAskedBy (asked_of words) told
 
--- What is told of words that are refused. The line names the commands that it named before there was `explain`.
+-- What is told of words that are refused. The line names the commands that it named before there were `explain` and `graph`.
 abbrev pub usage_line : List ℕ
 usage_line = codes "usage: nest6 run FILE | check FILE | trace FILE | replay FILE SCHEDULE | soak NUMBER SIZE | span FILE | audit FILE" ++ 10 ∷ []

@@ -107,7 +107,7 @@ ask_back places (Print text) = AsksAlike.print
 ask_back places End = AsksAlike.end
 ask_back places (Fails kind) = AsksAlike.fails
 
-halts : (places : TaskBody → ℕ) (a : Act TreeScript) → IsHalt a → IsHalt (moved_act places a)
+pub halts : (places : TaskBody → ℕ) (a : Act TreeScript) → IsHalt a → IsHalt (moved_act places a)
 halts places Ticked h = h
 halts places (Load d) h = h
 halts places (Store d v) h = h
@@ -124,7 +124,7 @@ halts places Over h = h
 
 -- Moved states
 
-find_is : (places : TaskBody → ℕ) (ts : List (Task TreeScript)) (p : List ℕ) → find (map (moved_task places) ts) p ≡ option_map (moved_task places) (find ts p)
+pub find_is : (places : TaskBody → ℕ) (ts : List (Task TreeScript)) (p : List ℕ) → find (map (moved_task places) ts) p ≡ option_map (moved_task places) (find ts p)
 unfolding find
 find_is places [] p = refl
 find_is places (t ∷ ts) p = by_path (same_path t.body.start.path p) (find_is places ts p)
@@ -134,7 +134,7 @@ find_is places (t ∷ ts) p = by_path (same_path t.body.start.path p) (find_is p
     by_path true later = refl
     by_path false later = later
 
-at_moved : (places : TaskBody → ℕ) (s : State TreeScript) (p : List ℕ) (t : Task TreeScript) → At s p t → At (moved_state places s) p (moved_task places t)
+pub at_moved : (places : TaskBody → ℕ) (s : State TreeScript) (p : List ℕ) (t : Task TreeScript) → At s p t → At (moved_state places s) p (moved_task places t)
 at_moved places s p t h = find_is places s.tasks p ∙ ap (option_map (moved_task places)) h
 
 top_is : (places : TaskBody → ℕ) (base : Frame TreeScript) (inner : List (Frame TreeScript)) → top_frame (moved_frame places base) (map (moved_frame places) inner) ≡ moved_frame places (top_frame base inner)
@@ -148,7 +148,7 @@ module _ (all : List Item) (code : CodeParts) (of : IsCodeOf all code) where
   abbrev Q : Program CodeScript
   Q = asks code
 
-  abbrev moved_event : Event TreeScript → Event CodeScript
+  abbrev pub moved_event : Event TreeScript → Event CodeScript
   moved_event e = record { start = moved_start of.places e.start; past = e.past; answer = e.answer }
 
   acting_is : (b : Start TreeScript) (past : List ℕ) → acting Q (moved_start of.places b) past ≡ moved_frame of.places (acting P b past)
@@ -160,7 +160,7 @@ module _ (all : List Item) (code : CodeParts) (of : IsCodeOf all code) where
   asked_is : (b : Start TreeScript) (past : List ℕ) → ask_of Q (acting Q (moved_start of.places b) past) ≡ moved_asked of.places (ask_of P (acting P b past))
   asked_is b past = ap (λ (f : Frame CodeScript). ask_of Q f) (acting_is b past) ∙ ask_is (acting P b past)
 
-  event_forth : (e : Event TreeScript) → EventsAlike P Q e (moved_event e)
+  pub event_forth : (e : Event TreeScript) → EventsAlike P Q e (moved_event e)
   event_forth e = record {
     past = refl;
     context = sym (ap (λ (f : Frame CodeScript). f.context) (acting_is e.start e.past));
@@ -178,7 +178,7 @@ module _ (all : List Item) (code : CodeParts) (of : IsCodeOf all code) where
     act = subst (λ (a : Act CodeScript). ActsAlike a (stage_act P e.start e.past)) (sym (acts_alike all code of e.start e.past)) (act_back of.places (stage_act P e.start e.past));
   }
 
-  happened_forth : (s : State TreeScript) (e : Event TreeScript) → Happened s e → Happened (moved_state of.places s) (moved_event e)
+  pub happened_forth : (s : State TreeScript) (e : Event TreeScript) → Happened s e → Happened (moved_state of.places s) (moved_event e)
   happened_forth s e h = record { task = moved_task of.places h.task; at_ = at_moved of.places s e.start.path h.task h.at_; start = ap (moved_start of.places) h.start; found = h.found }
 
   matched_back : (s : State TreeScript) (g : Event CodeScript) → Happened (moved_state of.places s) g → Matched Q P s g
@@ -198,13 +198,13 @@ module _ (all : List Item) (code : CodeParts) (of : IsCodeOf all code) where
             alike = subst (λ (x : Event CodeScript). EventsAlike Q P x e) one (event_back e);
           }
 
-  moved_alike : (s : State TreeScript) → StatesAlike P Q s (moved_state of.places s)
+  pub moved_alike : (s : State TreeScript) → StatesAlike P Q s (moved_state of.places s)
   moved_alike s = record {
     there = λ e h. record { event = moved_event e; happened = happened_forth s e h; alike = event_forth e };
     back = λ g h. matched_back s g h;
   }
 
-  act_is : (b : Body TreeScript) → act_now Q (moved_body of.places b) ≡ moved_act of.places (act_now P b)
+  pub act_is : (b : Body TreeScript) → act_now Q (moved_body of.places b) ≡ moved_act of.places (act_now P b)
   act_is b = acts_alike all code of b.start b.found
 
   end_is : (z : Running TreeScript) → IsAtEnd P z → IsAtEnd Q (moved_running of.places z)

@@ -11,3 +11,4 @@ pub use dump::dump_bytes;
 pub use lines::{fault_line, refusal_line};
 pub use replays::{not_enabled_line, schedule_line, unfinished_line};
 pub use runs::{order_lines, who_lines};
+pub use words::word_of_fault;

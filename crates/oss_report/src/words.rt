@@ -5,8 +5,8 @@ ghost use Rattle.oss_model.specs.Texts.{fault_word, refused_word};
 
 use oss_syntax::{FaultKind, RefusedKind};
 
-/// The word for a kind of fault.
-pub(crate) fn word_of_fault(kind: FaultKind) -> &'static [u8]
+/// The word for a kind of fault, as `Lent`.
+pub fn word_of_fault(kind: FaultKind) -> &'static [u8]
     ensures { result.now ≡ fault_word kind }
 {
     match kind {

@@ -1,9 +1,11 @@
 pub mod CallLemmas
 pub mod FormLemmas
 pub mod FoundLemmas
+pub mod GraphLemmas
 pub mod LineLemmas
 pub mod TurnMoves
 pub mod KnownLemmas
+pub mod LabelLemmas
 pub mod OrderLemmas
 pub mod CountLemmas
 pub mod TraceMoves

@@ -11,7 +11,7 @@ use Rattle.oss_grammar.specs.TaskLoops.{program_written}
 use Rattle.oss_model.specs.Texts.{refusal_line}
 use Rattle.oss_parse.proofs.OneProgram.{parsed_once}
 use Rattle.oss_command.specs.Commands.{Command, asked_of}
-use Rattle.oss_command.specs.Commands.Command.{audit, check, explain, replay, run, soak, span, trace}
+use Rattle.oss_command.specs.Commands.Command.{audit, check, explain, graph, replay, run, soak, span, trace}
 use Rattle.oss_command.specs.declared.options.Options.{Options}
 use Rattle.oss_gen.specs.Generated.{generated_text}
 use Rattle.oss_meaning.specs.Expressions.{TreeScript}
@@ -35,13 +35,21 @@ use Rattle.oss_explain_laws.proofs.OneFailure.{failures_are_one}
 use Rattle.oss_explain.specs.declared.ending.Ending.{Ending}
 use Rattle.oss_explain.specs.declared.ending.Ending.TheVariants as endings
 use Rattle.oss_machine.specs.declared.failure.Failure.{Failure}
+use Rattle.oss_graph_laws.proofs.OneGraph.{graphs_are_one}
+use Rattle.oss_graph_text.specs.Text.{IsGraphText}
+use Rattle.oss_graph_text.proofs.OneLemmas.{one_text as one_graph_text}
+use Rattle.oss_labels.specs.Lists.{label_at}
+use Rattle.oss_labels.specs.declared.labels.Labelled.{Labelled}
+use Rattle.oss_task_graph.specs.declared.graph.Graph.{Graph}
 use Rattle.oss_top.specs.Audits.{IsAuditReply}
+use Rattle.oss_top.specs.Drawn.{IsGraphReply, drawn_reply, entry_in}
 use Rattle.oss_top.specs.Explained.{IsExplainReply, IsFailureOfEnding, ending_reply}
 use Rattle.oss_top.specs.Spans.{IsSpanReply}
 use Rattle.oss_top.specs.Forms.{error_reply, run_reply, soak_reply, told_reply, too_large_line, trace_reply}
-use Rattle.oss_top.specs.OneReply.{AreSpansAlike, IsOfOneText, IsExplainedOnce, IsReplied, IsRepliedOnce, IsSpanned, nothing, numbers}
+use Rattle.oss_top.specs.OneReply.{AreSpansAlike, IsOfOneText, IsDrawnOnce, IsExplainedOnce, IsReplied, IsRepliedOnce, IsSpanned, nothing, numbers}
 use Rattle.oss_top.specs.ProgramTexts.{Accepts, Refuses}
 use Rattle.oss_top.specs.ProgramTexts.Refuses.{by_grammar, by_rules}
+use Rattle.oss_top.proofs.LabelLemmas.{labels_are_one}
 use Rattle.oss_top.proofs.LineLemmas.{lines_once}
 use Rattle.oss_top.proofs.ReplayLemmas.{replay_once}
 use Rattle.oss_top.proofs.SomeReply.{HasOneText, file_reply, files_reply}
@@ -50,7 +58,7 @@ use Rattle.oss_top.specs.Replays.IsScheduleReply.{replayed, wrong_line}
 use Rattle.oss_top.specs.Replays.IsTextsReply.{accepted as texts_accepted, refused_text as texts_refused}
 use Rattle.oss_top.specs.Replays.IsFilesReply.{fit, too_large as files_too_large, too_long}
 use Rattle.oss_top.specs.Reply.{AreHeld, AreShown, IsCommandReply, IsComplete, IsFileReply, IsOutcome, IsProgramReply, IsReply, IsRunReply, IsShelfReply, IsTextReply, IsUnwritten, Texts}
-use Rattle.oss_top.specs.Reply.IsProgramReply.{audited, checked, explained, ran, soaked, spanned, traced}
+use Rattle.oss_top.specs.Reply.IsProgramReply.{audited, checked, drawn, explained, ran, soaked, spanned, traced}
 use Rattle.oss_top.specs.Soaks.{IsSoakReply}
 use Rattle.oss_top.specs.Traces.{IsTraceOf, IsTraceReply, text_of}
 use Rattle.oss_top.specs.Reply.IsTextReply.{accepted, refused_text}
@@ -131,6 +139,17 @@ explain_once fuel p reply other x y =
     let failed = failed_once fuel p x.ending x.failure y.failure x.is_failure (subst (λ (e : Ending). IsFailureOfEnding fuel p e y.failure) (sym same) y.is_failure) in
     x.is_reply ∙ (λ i. ending_reply p (same i) (failed i)) ∙ sym y.is_reply
 
+-- and one with its graph
+graph_once : (fuel : ℕ) (p : Program) (reply other : Reply) → IsGraphReply fuel p reply → IsGraphReply fuel p other → reply ≡ other
+graph_once fuel p reply other x y =
+    let starts : MainStarts (main_of p.items fuel) = record { final = refl; created = refl; path = refl } in
+    let same = graphs_are_one TreeScript (asks_of p.items) (entry_in p.items) (main_of p.items fuel) starts (first_cells p.items) p.items x.graph y.graph x.is_graph y.is_graph in
+    let labels = labels_are_one p.items x.labels y.labels x.are_labels y.are_labels in
+    let texts : x.text ≡ y.text =
+        one_graph_text p.items (label_at y.labels) y.graph x.text y.text
+        (subst (λ (ls : List Labelled). IsGraphText p.items (label_at ls) y.graph x.text) labels (subst (λ (g : Graph). IsGraphText p.items (label_at x.labels) g x.text) same x.is_text)) y.is_text in
+    x.is_reply ∙ (λ i. drawn_reply (texts i) (same i).fault) ∙ sym y.is_reply
+
 program_once : (c : Command) → IsOfOneText c → (p : Program) (reply other : Reply) → IsProgramReply c p reply → IsProgramReply c p other → reply ≡ other
 program_once c of p reply other (checked x) (checked y) = x ∙ sym y
 program_once c of p reply other (ran {options} x) (ran y) = run_once options p reply other of x y
@@ -139,6 +158,7 @@ program_once c of p reply other (soaked {options} x) (soaked y) = soak_once opti
 program_once c of p reply other (audited {fuel} x) (audited y) = audit_once fuel p reply other x y
 program_once c of p reply other (spanned {fuel} x) (spanned y) = absurd of
 program_once c of p reply other (explained {fuel} x) (explained y) = absurd of
+program_once c of p reply other (drawn {fuel} x) (drawn y) = absurd of
 
 program_alike : (c : Command) (p : Program) (reply other : Reply) → IsProgramReply c p reply → IsProgramReply c p other → status_of reply ≡ status_of other
 program_alike c p reply other (checked x) (checked y) = ap status_of (x ∙ sym y)
@@ -148,6 +168,7 @@ program_alike c p reply other (soaked {options} x) (soaked y) = ap status_of (so
 program_alike c p reply other (audited {fuel} x) (audited y) = ap status_of (audit_once fuel p reply other x y)
 program_alike c p reply other (spanned {fuel} x) (spanned y) = (span_alike fuel p reply other x y).status
 program_alike c p reply other (explained {fuel} x) (explained y) = ap status_of (explain_once fuel p reply other x y)
+program_alike c p reply other (drawn {fuel} x) (drawn y) = ap status_of (graph_once fuel p reply other x y)
 
 module _ (text : List ℕ) (once : IsParsedOnce text) where
   -- a text that is accepted is not refused
@@ -222,6 +243,7 @@ one_text (replay file schedule fuel) of = of
 one_text (audit file fuel) of = tt
 one_text (span file fuel) of = tt
 one_text (explain file fuel) of = of
+one_text (graph file fuel) of = of
 one_text (soak number size options) of = tt
 
 pub replied : (text : List ℕ) → IsReplied text
@@ -249,6 +271,12 @@ explained_once text file fuel = file_once text (parsed_once text) (λ (r s : Rep
     programs : (p : Program) (reply other : Reply) → IsProgramReply (explain file fuel) p reply → IsProgramReply (explain file fuel) p other → reply ≡ other
     programs p reply other (explained x) (explained y) = explain_once fuel p reply other x y
 
+pub drawn_once : (text : List ℕ) → IsDrawnOnce text
+drawn_once text file fuel = file_once text (parsed_once text) (λ (r s : Reply). r ≡ s) (λ line r s x y. x ∙ sym y) (graph file fuel) programs
+  where
+    programs : (p : Program) (reply other : Reply) → IsProgramReply (graph file fuel) p reply → IsProgramReply (graph file fuel) p other → reply ≡ other
+    programs p reply other (drawn x) (drawn y) = graph_once fuel p reply other x y
+
 -- two replies to a command with one text have one status
 file_alike : (text : List ℕ) (c : Command) (reply other : Reply) → IsFileReply c text reply → IsFileReply c text other → status_of reply ≡ status_of other
 file_alike text c = file_once text (parsed_once text) (λ (r s : Reply). status_of r ≡ status_of s) (λ line r s x y. ap status_of (x ∙ sym y)) c (program_alike c)
@@ -264,6 +292,7 @@ command_alike (soak number size options) texts reply other x y = file_alike (gen
 command_alike (audit file fuel) texts reply other x y = file_alike texts.file (audit file fuel) reply other x y
 command_alike (span file fuel) texts reply other x y = file_alike texts.file (span file fuel) reply other x y
 command_alike (explain file fuel) texts reply other x y = file_alike texts.file (explain file fuel) reply other x y
+command_alike (graph file fuel) texts reply other x y = file_alike texts.file (graph file fuel) reply other x y
 command_alike (replay file schedule fuel) texts reply other x y = ap status_of ((replied_once texts.file texts.schedule).one fuel reply other x y)
 
 -- the text that is shown is the one that is held
@@ -279,6 +308,7 @@ by_held held (soak number size options) told texts reply same is x = x
 by_held held (audit file fuel) told texts reply same is x = subst (λ t. IsFileReply (audit file fuel) t reply) (same_text texts.file told.file (held file) same is) x
 by_held held (span file fuel) told texts reply same is x = subst (λ t. IsFileReply (span file fuel) t reply) (same_text texts.file told.file (held file) same is) x
 by_held held (explain file fuel) told texts reply same is x = subst (λ t. IsFileReply (explain file fuel) t reply) (same_text texts.file told.file (held file) same is) x
+by_held held (graph file fuel) told texts reply same is x = subst (λ t. IsFileReply (graph file fuel) t reply) (same_text texts.file told.file (held file) same is) x
 by_held held (replay file schedule fuel) told texts reply (same, shows) (is, holds) x =
     subst (λ t. IsFilesReply fuel t texts.schedule reply) (same_text texts.file told.file (held file) same is)
     (subst (λ t. IsFilesReply fuel told.file t reply) (same_text texts.schedule told.schedule (held schedule) shows holds) x)

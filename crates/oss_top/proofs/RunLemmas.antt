@@ -29,7 +29,13 @@ use Rattle.oss_audit.specs.Lines.{audit_text}
 use Rattle.oss_audit.specs.Reply.{IsAuditedOf}
 use Rattle.oss_audit.specs.declared.unused.Unused.{Unused}
 use Rattle.oss_top.specs.Audits.{IsAuditReply}
+use Rattle.oss_top.specs.Drawn.{IsGraphOfProgram, IsGraphReply, drawn_reply}
 use Rattle.oss_top.specs.Explained.{IsEndingOfProgram, IsExplainReply, IsFailureOfEnding, ending_reply}
+use Rattle.oss_graph_text.specs.Text.{IsGraphText}
+use Rattle.oss_labels.specs.declared.labels.Labelled.{Labelled}
+use Rattle.oss_labels.specs.Labels.{AreLabelsOf}
+use Rattle.oss_labels.specs.Lists.{label_at}
+use Rattle.oss_task_graph.specs.declared.graph.Graph.{Graph}
 use Rattle.oss_explain.specs.declared.ending.Ending.{Ending}
 use Rattle.oss_explain.specs.declared.ending.Ending.TheVariants as endings
 use Rattle.oss_explain.specs.Endings.{IsFailureIn}
@@ -208,3 +214,8 @@ failure_told fuel p code of (endings.Fault kind line e) f h = record { code = co
 pub explain_replies : (p : Program) (fuel : ℕ) (ending : Ending) (failure : Option Failure) (reply : Reply) → IsEndingOfProgram fuel p ending → IsFailureOfEnding fuel p ending failure
     → reply ≡ ending_reply p ending failure → IsExplainReply fuel p reply
 explain_replies p fuel ending failure reply is fails e = record { ending = ending; is_ending = is; failure = failure; is_failure = fails; is_reply = e }
+
+-- the reply that draws the tasks
+pub graph_replies : (p : Program) (fuel : ℕ) (graph : Graph) (labels : List Labelled) (text : List ℕ) (reply : Reply) → IsGraphOfProgram fuel p graph → AreLabelsOf p.items labels
+    → IsGraphText p.items (label_at labels) graph text → reply ≡ drawn_reply text graph.fault → IsGraphReply fuel p reply
+graph_replies p fuel graph labels text reply is are told e = record { graph = graph; is_graph = is; labels = labels; are_labels = are; text = text; is_text = told; is_reply = e }

@@ -1,4 +1,5 @@
 pub mod Audits
+pub mod Drawn
 pub mod Explained
 pub mod Calls
 pub mod Spans

@@ -5,7 +5,7 @@
 -- wrong line; and its moves lead to one state, or one of them is the first that is not enabled. Of two tasks that wait for nothing and have one tick each, either may stand in the chain of a span.
 use Rattle.std.specs.Prelude.{◌≡◌, ℕ, false, List, []}
 use Rattle.oss_command.specs.Commands.{Command}
-use Rattle.oss_command.specs.Commands.Command.{audit, explain, run, check, trace, replay, soak, span}
+use Rattle.oss_command.specs.Commands.Command.{audit, explain, graph, run, check, trace, replay, soak, span}
 use Rattle.oss_span.specs.Reply.{span_text}
 use Rattle.oss_span.specs.declared.link.Link.{Link}
 use Rattle.oss_top.specs.Replays.{IsFilesReply}
@@ -22,6 +22,7 @@ IsOfOneText (replay file schedule fuel) = ⊥
 IsOfOneText (audit file fuel) = Unit {0}
 IsOfOneText (span file fuel) = ⊥
 IsOfOneText (explain file fuel) = ⊥
+IsOfOneText (graph file fuel) = ⊥
 IsOfOneText (soak number size options) = Unit {0}
 
 -- A text has a reply to each such command, and two are one.
@@ -36,6 +37,10 @@ pub record IsRepliedOnce (text schedule : List ℕ) : Type 0 where
 -- A text has at most one reply to an explanation. (That it has one is no law yet.)
 abbrev pub IsExplainedOnce : List ℕ → Type 0
 IsExplainedOnce text = (file : List ℕ) (fuel : ℕ) (reply other : Reply) → IsFileReply (explain file fuel) text reply → IsFileReply (explain file fuel) text other → reply ≡ other
+
+-- A text has at most one reply with the graph of its tasks. (That it has one is no law yet.)
+abbrev pub IsDrawnOnce : List ℕ → Type 0
+IsDrawnOnce text = (file : List ℕ) (fuel : ℕ) (reply other : Reply) → IsFileReply (graph file fuel) text reply → IsFileReply (graph file fuel) text other → reply ≡ other
 
 -- Two outputs of a span: both are empty, or both tell the same ticks and the same ticks of a longest chain, each with a chain of its own.
 pub data TellOneSpan (out other : List ℕ) : Type 0 where

@@ -93,6 +93,7 @@ fn found_by_text<S: Shelf>(
         Command::Trace(_, _) => found_in_text(alloc, command, text),
         Command::Audit(_, _) => found_in_text(alloc, command, text),
         Command::Explain(_, _) => found_in_text(alloc, command, text),
+        Command::Graph(_, _) => found_in_text(alloc, command, text),
         Command::Span(_, _) => found_in_text(alloc, command, text),
     }
 }

@@ -1,10 +1,12 @@
 //! The top call: it reads words and files, checks, runs and traces programs, replays schedules, tells how
-//! parallel programs can be, audits them, explains their faults, runs generated ones, and tells what comes of it.
+//! parallel programs can be, audits them, explains their faults, draws their tasks, runs generated ones, and tells what
+//! comes of it.
 #![tactic(auto)]
 
 mod audit;
 mod explain;
 mod found;
+mod graph;
 mod known;
 mod laws;
 mod replay;
@@ -19,8 +21,8 @@ mod waved;
 mod worked;
 
 pub use laws::{
-    a_replay_has_one_reply, a_text_has_one_reply, a_text_is_explained_in_one_way,
-    every_order_gives_the_reply,
+    a_replay_has_one_reply, a_text_has_one_reply, a_text_is_drawn_in_one_way,
+    a_text_is_explained_in_one_way, every_order_gives_the_reply,
 };
 pub use oss_command::{
     Command, DepsKind, Options, Replay, RunMode, Soak, WordsRefused, read_words,

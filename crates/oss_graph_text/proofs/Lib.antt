@@ -1,0 +1,4 @@
+pub mod TextLemmas
+pub mod NodeLemmas
+pub mod OneLemmas
+pub mod OrderLemmas
