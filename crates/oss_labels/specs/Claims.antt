@@ -1,7 +1,7 @@
 -- What is promised of where bodies begin, and of labels.
 -- Read against: the code of `int main() { #pragma oss task label(a) ; #pragma oss task ; }` begins with the bodies of the statements 0 and 1 at two different places, at neither of which `main` begins;
 -- the label at the first of these is `a`, and there is none at the second.
-use Rattle.std.specs.Prelude.{◌≡◌, ◌<◌, ℕ, List, length}
+use Rattle.std.specs.Prelude.{◌≡◌, ◌<◌, List, length}
 use Rattle.oss_syntax.specs.declared.tree.program.Item.{Item}
 use Rattle.oss_code.specs.declared.code.CodeParts.{CodeParts}
 use Rattle.oss_meaning.specs.Expressions.{TaskBody}

@@ -2,7 +2,7 @@
 -- named by its body: a task function, or the statement behind a pragma, each by its number in text order.
 -- Read against: of `#pragma oss task label(f) void f() {..} int main() { f(); #pragma oss task label("two") ; #pragma oss task ; }` the function 0 has the label `f`, the
 -- statement 0 has `two`, and the statement 1, the function 1 and `main` have none. In the list of labels there are two.
-use Rattle.std.specs.Prelude.{◌≡◌, ℕ, List, [], ◌∷◌, ◌++◌, All, Contains, map, Option, Some, None, slice_get, slice_index_or}
+use Rattle.std.specs.Prelude.{◌≡◌, ℕ, List, [], ◌∷◌, ◌++◌, map, Option, Some, None, slice_get, slice_index_or}
 use Rattle.oss_syntax.specs.declared.tree.pragma.Clause.{Clause}
 use Rattle.oss_syntax.specs.declared.tree.pragma.Clause.TheVariants as clause
 use Rattle.oss_syntax.specs.declared.tree.pragma.TaskMark.{TaskMark}
@@ -16,7 +16,7 @@ use Rattle.oss_meaning.specs.Expressions.{TaskBody}
 use Rattle.oss_meaning.specs.Names.{functions_of}
 use Rattle.oss_lower_laws.specs.Lowered.{place_of}
 use Rattle.oss_labels.specs.declared.labels.Labelled.{Labelled}
-use Rattle.oss_labels.specs.Lists.{Rise}
+use Rattle.oss_labels.specs.Lists.{HasLabel, Rise}
 
 -- the label that clauses give, if they give one
 abbrev pub label_in : List Clause → Option (List ℕ)
@@ -94,14 +94,14 @@ label_of all TaskBody.main = None
 label_of all (TaskBody.function number) = function_label (slice_get (functions_of all) number)
 label_of all (TaskBody.statement number) = slice_index_or (statement_labels (functions_of all)) number None
 
--- The label is that of a body of the program, and stands at the place of this body in the code.
-pub record IsLabelled (all : List Item) (l : Labelled) : Type 0 where
+-- At this place of the code a body of the program begins, which has this label.
+pub record IsLabelled (all : List Item) (entry : ℕ) (text : List ℕ) : Type 0 where
   pub body : TaskBody
-  pub label_is : label_of all body ≡ Some l.label
-  pub entry_is : l.entry ≡ place_of all body
+  pub label_is : label_of all body ≡ Some text
+  pub entry_is : entry ≡ place_of all body
 
 -- The list has the label of each body that has one, at the place of the body in the code, and nothing else; the places rise.
 pub record AreLabelsOf (all : List Item) (ls : List Labelled) : Type 0 where
   pub rise : Rise 0 ls
-  pub each : (body : TaskBody) (text : List ℕ) → label_of all body ≡ Some text → Contains ls (record { entry = place_of all body; label = text })
-  pub only : All (λ l. IsLabelled all l) ls
+  pub each : (body : TaskBody) (text : List ℕ) → label_of all body ≡ Some text → HasLabel ls (place_of all body) text
+  pub only : (entry : ℕ) (text : List ℕ) → HasLabel ls entry text → IsLabelled all entry text

@@ -1,7 +1,12 @@
 -- Labels in a list, by the instructions with which the bodies of their tasks begin.
 -- Read against: in the list of `relax` at 14 and `sum` at 40 the label at 40 is `sum`, and at 15 there is none; one entry stands before 15.
-use Rattle.std.specs.Prelude.{◌≡◌, ◌≤◌, ◌<◌, ◌==◌, ℕ, ◌+◌, if◌then◌else◌, List, [], ◌∷◌, length, Option, Some, None, slice_get}
+use Rattle.std.specs.Prelude.{◌≡◌, ◌⊎◌, ◌≤◌, ◌<◌, ◌==◌, ℕ, ◌+◌, if◌then◌else◌, List, [], ◌∷◌, length, Option, Some, None, slice_get}
 use Rattle.oss_labels.specs.declared.labels.Labelled.{Labelled}
+
+-- The list has this label at this entry.
+abbrev pub HasLabel : List Labelled → ℕ → List ℕ → Type 0
+HasLabel [] entry text = ⊥
+HasLabel (l ∷ rest) entry text = ((l.entry ≡ entry) × (l.label ≡ text)) ⊎ HasLabel rest entry text
 
 -- the label at an entry
 abbrev pub label_at : List Labelled → ℕ → Option (List ℕ)

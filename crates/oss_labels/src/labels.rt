@@ -1,10 +1,10 @@
 //! The labels of a program, as they are kept and found.
 
-ghost use Rattle.std.specs.Prelude.{◌≡◌, ◌≤◌, ◌<◌, ℕ, Some, length, slice_get};
+ghost use Rattle.std.specs.Prelude.{◌≡◌, ◌∷◌, []};
 ghost use Rattle.std.specs.Option.{option_copied};
 ghost use Rattle.oss_labels.specs.Lists.{IsCut, Rise, label_at};
 
-use oss_syntax::Bytes;
+use oss_syntax::{Bytes, List};
 use std::marker::Model;
 
 /// The label of a task, and the instruction with which the body of the task begins.
@@ -25,26 +25,26 @@ impl Drop for Labelled {
 /// which the instructions rise.
 #[derive(Drop)]
 pub struct Labels {
-    list: Vec<Labelled>,
+    list: List<Labelled>,
 }
 
 impl Model for Labels {
-    ghost use Rattle.std.specs.Prelude.{List};
+    ghost use Rattle.std.specs.Prelude.{List as Items};
     ghost use Rattle.oss_labels.specs.declared.labels.Labelled.{Labelled};
     ghost use Rattle.oss_labels.specs.Lists.{Rise};
 
-    ghost Value = { List Labelled };
+    ghost Value = { Items Labelled };
 
-    ghost view = { λ labels. labels.list.items };
+    ghost view = { λ labels. labels.list };
 
-    ghost invariant = { λ labels. Rise 0 labels.list.items };
+    ghost invariant = { λ labels. Rise 0 labels.list };
 }
 
 impl Labels {
     /// These labels.
-    pub(crate) fn of(list: Vec<Labelled>) -> Labels
-        requires { Rise 0 list.items }
-        ensures { result ≡ list.items }
+    pub(crate) fn of(list: List<Labelled>) -> Labels
+        requires { Rise 0 list }
+        ensures { result ≡ list }
     {
         Labels { list }
     }
@@ -54,9 +54,8 @@ impl Labels {
     pub fn at(&self, entry: u32) -> Option<&[u8]>
         ensures { option_copied result ≡ label_at self.now entry }
     {
-        let list = self.list.as_slice();
-        let before = before(list, entry);
-        match list.get(before) {
+        let before = before(self.list.as_slice(), entry);
+        match self.list.get(before) {
             Some(labelled) => label_for(labelled, entry),
             None => None,
         }

@@ -10,6 +10,7 @@ use crate::labels::Labels;
 use crate::walk::labels_in_code;
 use oss_code::Code;
 use oss_names::Known;
+use oss_syntax::List;
 use std::alloc::{AllocError, Global};
 
 /// The labels of the tasks of a program that breaks no rule, by the instructions with which their bodies begin in the code
@@ -23,7 +24,7 @@ pub fn labels_by_entry(alloc: Global, known: &Known, code: &Code) -> Result<Labe
     ensures { IfOk result (λ labels. AreLabelsOf known.now.items labels) }
 {
     let entries = creations(alloc, code)?;
-    let labels = labels_in_code(alloc, known.program())?;
+    let labels = labels_in_code(alloc, known.program().items.as_slice())?;
     let list = joined(alloc, entries.as_slice(), labels.as_slice())?;
-    Ok(Labels::of(list))
+    Ok(Labels::of(List::from_vec(list)))
 }
