@@ -18,12 +18,7 @@ use std::alloc::{AllocError, Global};
 /// pieces of the new task's accesses among those of its creator's other children, and each edge its cells; an edge is kept for each
 /// pair of tasks of which one stands on the other. Cells are told over the globals of the program. Out of memory is the one other
 /// answer. Condition: the code has at most 1,048,576 cells, and so have the globals.
-pub fn graph(
-    alloc: Global,
-    program: &Program,
-    code: &Code,
-    fuel: u32,
-) -> Result<Graph, AllocError>
+pub fn graph(alloc: Global, program: &Program, code: &Code, fuel: u32) -> Result<Graph, AllocError>
     requires cells { length code.now.first ≤ 1048576 }
     requires layout { cells_in program.now.items ≤ 1048576 }
     ensures { IfOk result (λ graph. IsGraphOf code.now fuel program.now.items graph) }

@@ -52,13 +52,22 @@ below p q g =
     let front : take (length p) q ≡ p = ap (λ (x : List ℕ). take (length p) x) g.is ∙ take-append_seam p (g.number ∷ g.more) in
     and_both (lt-ltb (length p) (length q) (omega (arith, long))) ((bytes_decides p (take (length p) q)).1 (sym front))
 
+-- where one point is before another, by its first number or behind that
+heads : (x y : ℕ) (xs ys : List ℕ) → IsBefore (x ∷ xs) (y ∷ ys) → (x < y) ⊎ ((x ≡ y) × IsBefore xs ys)
+heads x y xs ys (less l) = inl l
+heads x _ xs ys (same a) = inr (refl, a)
+
 -- what lies between a point and one that goes on from it goes on from it too
 between : (p q : List ℕ) (k : ℕ) (ks : List ℕ) → IsBefore p q → IsBefore q (p ++ k ∷ ks) → GoesOn p q
 between [] _ k ks (shorter {y = y} {ys = ys}) b = record { number = y; more = ys; is = refl }
-between (x ∷ xs) _ k ks (less {y = y} l) (less m) = absurd (omega (arith, l, m))
-between (x ∷ xs) _ k ks (less l) (same b) = absurd (omega (arith, l))
-between (x ∷ xs) _ k ks (same a) (less m) = absurd (omega (arith, m))
-between (x ∷ xs) _ k ks (same {ys = ys} a) (same b) = let g = between xs ys k ks a b in record { number = g.number; more = g.more; is = ap (λ (zs : List ℕ). x ∷ zs) g.is }
+between (x ∷ xs) [] k ks a b = elim a [ ]
+between (x ∷ xs) (y ∷ ys) k ks a b = go (heads x y xs ys a) (heads y x ys (xs ++ k ∷ ks) b) (λ c d. between xs ys k ks c d)
+  where
+    go : (x < y) ⊎ ((x ≡ y) × IsBefore xs ys) → (y < x) ⊎ ((y ≡ x) × IsBefore ys (xs ++ k ∷ ks)) → (IsBefore xs ys → IsBefore ys (xs ++ k ∷ ks) → GoesOn xs ys) → GoesOn (x ∷ xs) (y ∷ ys)
+    go (inl l) (inl m) rest = absurd (omega (arith, l, m))
+    go (inl l) (inr m) rest = let e = m.0 in absurd (omega (arith, l, e))
+    go (inr l) (inl m) rest = let e = l.0 in absurd (omega (arith, m, e))
+    go (inr l) (inr m) rest = let g = rest l.1 m.1 in record { number = g.number; more = g.more; is = λ i. sym l.0 i ∷ g.is i }
 
 pub below_between : (p q r : List ℕ) → IsBefore p q → IsBefore q r → stands_below p r ≡ true → stands_below p q ≡ true
 below_between p q r a b h = let g = going p r h in below p q (between p q g.number g.more a (subst (λ (x : List ℕ). IsBefore q x) g.is b))
@@ -71,6 +80,7 @@ behind (x ∷ y ∷ more) n rest o = behind (y ∷ more) n rest o.1
 
 -- each node comes before those behind it
 before_all : (n : Node) (rest : List Node) (m : Node) → AreInOrder (n ∷ rest) → IsIn m rest → IsBefore n.task m.task
+before_all n [] m o i = elim i [ ]
 before_all n (x ∷ more) m o here = o.0
 before_all n (x ∷ more) m o (there i) = before_trans o.0 (before_all x more m o.1 i)
 
@@ -84,6 +94,7 @@ first_below : (n x : Node) (more : List Node) → stands_below n.task x.task ≡
 first_below n x more e = ap (λ (b : Bool). take (if b then suc (count_below n more) else 0) (x ∷ more)) e
 
 all_below : (n : Node) (rest : List Node) (m : Node) → AreInOrder (n ∷ rest) → IsIn m rest → stands_below n.task m.task ≡ true → IsIn m (nodes_below n rest)
+all_below n [] m o i e = elim i [ ]
 all_below n (x ∷ more) m o here e = subst (λ (ns : List Node). IsIn x ns) (sym (first_below n x more e)) here
 all_below n (x ∷ more) m o (there i) e =
     let f = below_between n.task x.task m.task o.0 (before_all x more m o.1 i) e in

@@ -20,14 +20,14 @@ nodes_below n rest = take (count_below n rest) rest
 abbrev pub nodes_past : Node → List Node → List Node
 nodes_past n rest = drop (count_below n rest) rest
 
--- the first line of a box
-abbrev pub box_line : ℕ → Node → List ℕ
-box_line level n = indent level ++ codes "subgraph \"cluster " ++ text_of n.task ++ codes "\" {\n"
+-- the first line of the box of a task
+abbrev pub box_line : ℕ → List ℕ → List ℕ
+box_line level p = indent level ++ codes "subgraph \"cluster " ++ text_of p ++ codes "\" {\n"
 
 -- the line of a node; where others stand below it, as the first one in its box
 abbrev pub box_begin : LabelsSeen → Option Stop → ℕ → Node → List Node → List ℕ
 box_begin labels fault level n [] = indent level ++ node_text labels fault n
-box_begin labels fault level n (m ∷ more) = box_line level n ++ (indent (level + 1) ++ node_text labels fault n)
+box_begin labels fault level n (m ∷ more) = box_line level n.task ++ (indent (level + 1) ++ node_text labels fault n)
 
 -- the last line of a box
 abbrev pub box_end : ℕ → List Node → List ℕ

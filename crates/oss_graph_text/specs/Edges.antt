@@ -6,6 +6,7 @@ use Rattle.std.specs.Fmt.{decimal}
 use Rattle.std.specs.List.{flat_map}
 use Rattle.oss_syntax.specs.declared.tree.program.Item.{Item}
 use Rattle.oss_model.specs.Points.{text_of}
+use Rattle.oss_pieces.specs.declared.piece.Piece.{Piece}
 use Rattle.oss_pieces.specs.Names.{pieces_text}
 use Rattle.oss_task_graph.specs.declared.graph.Edge.{Edge}
 use Rattle.oss_task_graph.specs.declared.graph.Node.{Node}
@@ -20,9 +21,17 @@ abbrev pub style_text : Bool → List ℕ
 style_text true = codes ", style=dashed"
 style_text false = []
 
--- an edge to the task with this point; its cells are told by this attribute
+-- from which child to which task an edge leads
+abbrev pub ends_text : List ℕ → ℕ → List ℕ
+ends_text p k = codes "  " ++ sibling_text p k ++ codes " -> " ++ quoted p
+
+-- the cells of an edge, told by this attribute
+abbrev pub cells_text : List Item → List ℕ → List Piece → List ℕ
+cells_text all attribute ps = codes " [" ++ attribute ++ codes "=\"" ++ pieces_text all 4 ps ++ codes "\""
+
+-- an edge to the task with this point
 abbrev pub edge_text : List Item → List ℕ → List ℕ → Edge → List ℕ
-edge_text all attribute p e = codes "  " ++ sibling_text p e.from ++ codes " -> " ++ quoted p ++ codes " [" ++ attribute ++ codes "=\"" ++ pieces_text all 4 e.cells ++ codes "\"" ++ style_text e.weak ++ codes "];\n"
+edge_text all attribute p e = ends_text p e.from ++ cells_text all attribute e.cells ++ style_text e.weak ++ codes "];\n"
 
 -- the edge to a task from its creator
 abbrev pub creation_text : List ℕ → List ℕ

@@ -37,7 +37,14 @@ abbrev pub colour_text : Option Stop → List ℕ → List ℕ
 colour_text None p = []
 colour_text (Some s) p = if same_point s.task p then codes ", color=red" else []
 
--- the line of a node, without the blanks before it
+-- what the label of a node tells
+abbrev pub told_text : Option (List ℕ) → Option Stop → List ℕ → ℕ → List ℕ
+told_text label fault p line = text_of p ++ label_text label ++ codes "\\nline " ++ decimal line ++ fault_text fault p
+
+-- the line of the node of the task with this point, without the blanks before it
+abbrev pub line_text : Option (List ℕ) → Option Stop → List ℕ → ℕ → List ℕ
+line_text label fault p line = quoted p ++ codes " [label=\"" ++ told_text label fault p line ++ codes "\"" ++ colour_text fault p ++ codes "];\n"
+
+-- the same of a node
 abbrev pub node_text : LabelsSeen → Option Stop → Node → List ℕ
-node_text labels fault n = quoted n.task ++ codes " [label=\"" ++ text_of n.task ++ label_text (labels n.entry) ++ codes "\\nline " ++ decimal n.line ++ fault_text fault n.task
-    ++ codes "\"" ++ colour_text fault n.task ++ codes "];\n"
+node_text labels fault n = line_text (labels n.entry) fault n.task n.line

@@ -1,7 +1,7 @@
 pub mod Points
 pub mod Labels
 pub mod Boxes
-pub mod Adding
 pub mod Edges
 pub mod Text
+pub mod Adding
 pub mod Claims

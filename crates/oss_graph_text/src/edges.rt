@@ -2,11 +2,11 @@
 
 ghost use Rattle.std.specs.Prelude.{◌≡◌, ◌++◌, OnOk};
 ghost use Rattle.std.specs.List.{flat_map};
-ghost use Rattle.oss_graph_text.specs.Edges.{creation_text, edge_text, edges_text, edges_to, hanging_text, has_many, sibling_text, style_text, told_by};
+ghost use Rattle.oss_graph_text.specs.Edges.{cells_text, creation_text, edge_text, edges_text, ends_text, edges_to, hanging_text, has_many, sibling_text, style_text, told_by};
 
 use crate::points::{above, is_deep};
 use crate::words::{add, add_number, add_point, add_quoted};
-use oss_pieces::add_pieces;
+use oss_pieces::{Piece, add_pieces};
 use oss_syntax::Program;
 use oss_task_graph::{Edge, Node};
 use std::alloc::{AllocError, Global};
@@ -139,17 +139,50 @@ fn add_edge(
 ) -> Result<(), AllocError>
     ensures { OnOk result (text.new.items ≡ text.old.items ++ edge_text program.now.items attribute.now task.now edge.now) }
 {
+    add_ends(alloc, task, edge.from, text)?;
+    add_cells(alloc, program, attribute, edge, text)?;
+    add_style(edge.weak, text)?;
+    add(text, b"];\n")
+}
+
+/// Adds from which child to which task an edge leads.
+fn add_ends(alloc: Global, task: &[u16], from: u16, text: &mut Vec<u8>) -> Result<(), AllocError>
+    ensures { OnOk result (text.new.items ≡ text.old.items ++ ends_text task.now from) }
+{
     add(text, b"  ")?;
-    add_sibling(alloc, task, edge.from, text)?;
+    add_sibling(alloc, task, from, text)?;
     add(text, b" -> ")?;
-    add_quoted(alloc, task, text)?;
+    add_quoted(alloc, task, text)
+}
+
+/// Adds the cells of an edge.
+fn add_cells(
+    alloc: Global,
+    program: &Program,
+    attribute: &[u8],
+    edge: &Edge,
+    text: &mut Vec<u8>,
+) -> Result<(), AllocError>
+    ensures { OnOk result (text.new.items ≡ text.old.items ++ cells_text program.now.items attribute.now edge.now.cells) }
+{
+    add_pieces_by(alloc, program, attribute, edge.cells.as_slice(), text)
+}
+
+/// Adds pieces, told by an attribute.
+fn add_pieces_by(
+    alloc: Global,
+    program: &Program,
+    attribute: &[u8],
+    cells: &[Piece],
+    text: &mut Vec<u8>,
+) -> Result<(), AllocError>
+    ensures { OnOk result (text.new.items ≡ text.old.items ++ cells_text program.now.items attribute.now cells.now) }
+{
     add(text, b" [")?;
     add(text, attribute)?;
     add(text, b"=\"")?;
-    add_pieces(alloc, program, edge.cells.as_slice(), MOST_PIECES, text)?;
-    add(text, b"\"")?;
-    add_style(edge.weak, text)?;
-    add(text, b"];\n")
+    add_pieces(alloc, program, cells, MOST_PIECES, text)?;
+    add(text, b"\"")
 }
 
 /// Adds the point of another child of a task's creator, between quotes.

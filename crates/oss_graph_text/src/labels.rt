@@ -4,7 +4,7 @@ ghost use Rattle.std.specs.Prelude.{◌≡◌, ◌++◌, Some, OnOk};
 ghost use Rattle.std.specs.List.{flat_map};
 ghost use Rattle.std.specs.Option.{option_copied};
 ghost use Rattle.oss_labels.specs.Lists.{label_at};
-ghost use Rattle.oss_graph_text.specs.Labels.{colour_text, fault_text, label_text, node_text, quoted_byte};
+ghost use Rattle.oss_graph_text.specs.Labels.{colour_text, fault_text, label_text, line_text, node_text, quoted_byte, told_text};
 
 use crate::points::is_same;
 use crate::words::{add, add_number, add_point, add_quoted, add_stop};
@@ -22,17 +22,51 @@ pub(crate) fn add_node(
 ) -> Result<(), AllocError>
     ensures { OnOk result (text.new.items ≡ text.old.items ++ node_text (label_at labels.now) fault.now node.now) }
 {
-    let task = node.task.as_slice();
+    add_line_of(
+        alloc,
+        labels.at(node.entry),
+        fault,
+        node.task.as_slice(),
+        node.line,
+        text,
+    )
+}
+
+/// Adds the line of the node of a task, without the blanks before it.
+fn add_line_of(
+    alloc: Global,
+    label: Option<&[u8]>,
+    fault: &Option<Stop>,
+    task: &[u16],
+    line: u32,
+    text: &mut Vec<u8>,
+) -> Result<(), AllocError>
+    ensures { OnOk result (text.new.items ≡ text.old.items ++ line_text (option_copied label.entry) fault.now task.now line) }
+{
     add_quoted(alloc, task, text)?;
     add(text, b" [label=\"")?;
-    add_point(alloc, task, text)?;
-    add_label(labels.at(node.entry), text)?;
-    add(text, b"\\nline ")?;
-    add_number(alloc, node.line, text)?;
-    add_fault(alloc, fault, task, text)?;
+    add_told(alloc, label, fault, task, line, text)?;
     add(text, b"\"")?;
     add_colour(fault, task, text)?;
     add(text, b"];\n")
+}
+
+/// Adds what the label of a node tells.
+fn add_told(
+    alloc: Global,
+    label: Option<&[u8]>,
+    fault: &Option<Stop>,
+    task: &[u16],
+    line: u32,
+    text: &mut Vec<u8>,
+) -> Result<(), AllocError>
+    ensures { OnOk result (text.new.items ≡ text.old.items ++ told_text (option_copied label.entry) fault.now task.now line) }
+{
+    add_point(alloc, task, text)?;
+    add_label(label, text)?;
+    add(text, b"\\nline ")?;
+    add_number(alloc, line, text)?;
+    add_fault(alloc, fault, task, text)
 }
 
 /// Adds the label of a pragma, if there is one.

@@ -90,11 +90,23 @@ fn add_line(
 
 /// Adds the begin of a box.
 fn add_box(alloc: Global, level: usize, node: &Node, text: &mut Vec<u8>) -> Result<(), AllocError>
-    ensures { OnOk result (text.new.items ≡ text.old.items ++ box_line level node.now) }
+    ensures { OnOk result (text.new.items ≡ text.old.items ++ box_line level node.now.task) }
+{
+    add_box_of(alloc, level, node.task.as_slice(), text)
+}
+
+/// Adds the begin of the box of a task.
+fn add_box_of(
+    alloc: Global,
+    level: usize,
+    task: &[u16],
+    text: &mut Vec<u8>,
+) -> Result<(), AllocError>
+    ensures { OnOk result (text.new.items ≡ text.old.items ++ box_line level task.now) }
 {
     add_indent(level, text)?;
     add(text, b"subgraph \"cluster ")?;
-    add_point(alloc, node.task.as_slice(), text)?;
+    add_point(alloc, task, text)?;
     add(text, b"\" {\n")
 }
 

@@ -1,7 +1,8 @@
 //! The text of a graph.
 
-ghost use Rattle.std.specs.Prelude.{IfOk};
+ghost use Rattle.std.specs.Prelude.{IfOk, OnOk};
 ghost use Rattle.oss_labels.specs.Lists.{label_at};
+ghost use Rattle.oss_graph_text.specs.Adding.{AddsGraph};
 ghost use Rattle.oss_graph_text.specs.Text.{IsGraphText};
 
 use crate::edges::add_edges;
@@ -10,7 +11,7 @@ use crate::nodes::add_nodes;
 use crate::words::add;
 use oss_labels::Labels;
 use oss_syntax::{Bytes, Program};
-use oss_task_graph::Graph;
+use oss_task_graph::{Graph, Node, Stop};
 use std::alloc::{AllocError, Global};
 
 /// The text of a graph of this program, for Graphviz: each task a line with its point, the label of its pragma if it has one,
@@ -27,14 +28,34 @@ pub fn graph_text(
     ensures { IfOk result (IsGraphText program.now.items (label_at labels.now) graph.now) }
 {
     let mut text = Vec::new(alloc);
-    let nodes = graph.nodes.as_slice();
-    add(
+    add_all(
+        alloc,
+        program,
+        labels,
+        graph.nodes.as_slice(),
+        &graph.fault,
         &mut text,
+    )?;
+    Ok(Bytes::from_vec(text))
+}
+
+/// Adds all of a graph with these nodes and this fault.
+fn add_all(
+    alloc: Global,
+    program: &Program,
+    labels: &Labels,
+    nodes: &[Node],
+    fault: &Option<Stop>,
+    text: &mut Vec<u8>,
+) -> Result<(), AllocError>
+    ensures { OnOk result (AddsGraph program.now.items (label_at labels.now) nodes.now fault.now text.old.items text.new.items) }
+{
+    add(
+        text,
         b"digraph tasks {\n  rankdir=LR;\n  node [shape=box];\n",
     )?;
-    add_nodes(alloc, labels, &graph.fault, 1, nodes, &mut text)?;
-    add_edges(alloc, program, nodes, &mut text)?;
-    add_end(alloc, &graph.fault, &mut text)?;
-    add(&mut text, b"}\n")?;
-    Ok(Bytes::from_vec(text))
+    add_nodes(alloc, labels, fault, 1, nodes, text)?;
+    add_edges(alloc, program, nodes, text)?;
+    add_end(alloc, fault, text)?;
+    add(text, b"}\n")
 }

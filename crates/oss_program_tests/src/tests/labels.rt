@@ -9,7 +9,8 @@ use oss_syntax::List;
 use std::process::Abort;
 
 /// A task function, task statements with and without a label, one of them inside of another, and a task loop.
-const TEXT: &str = "#pragma oss task label(f)\nvoid f() {\n}\nint main() {\n#pragma oss task wait label(\"two words\")\n{\n#pragma oss task label(inner)\n;\n}\n#pragma oss task\n;\nf();\n#pragma oss taskloop grainsize(2) label(loop)\nfor (long i = 0; i < 4; i++)\n;\n}\n";
+const TEXT: &str =
+    "#pragma oss task label(f)\nvoid f() {\n}\nint main() {\n#pragma oss task wait label(\"two words\")\n{\n#pragma oss task label(inner)\n;\n}\n#pragma oss task\n;\nf();\n#pragma oss taskloop grainsize(2) label(loop)\nfor (long i = 0; i < 4; i++)\n;\n}\n";
 
 /// The labels of the tasks that the body with this entry creates, in the order of their creations, with a comma behind
 /// each; `-` of one without a label. What a load finds is told.
