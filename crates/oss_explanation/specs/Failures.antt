@@ -2,7 +2,7 @@
 -- Read against: a shift by 64 has ` shifts by 64` and `A shift is by 0 to 63.`. With `long x, a[4], m[3][4];` the place 4 of `a` has ` uses the place a[4]` and `a has the elements 0 to 3.`; the place 13 of `m` is
 -- `m[3][1]` and -1 is `m[-1][3]`, and `m has the rows 0 to 2 and the columns 0 to 3.`; the section `x[0;2]` has ` names a section of x`, `It has the elements 0 to 1.` and `x has the element 0.`; of -1 elements
 -- it is `It has -1 elements.`. A pointer that points nowhere was never set, if no global has two dimensions: else it may also be a row or an element that is none.
-use Rattle.std.specs.Prelude.{ℕ, ◌+◌, ◌-◌, ◌/◌, ◌%◌, ◌==◌, Bool, true, false, if◌then◌else◌, is_some, List, [], ◌∷◌, ◌++◌, Option, Some, None, codes, ℤ, pos, int_lt, nat_abs}
+use Rattle.std.specs.Prelude.{ℕ, ◌+◌, ◌-◌, ◌/◌, ◌%◌, ◌==◌, Bool, true, false, if◌then◌else◌, List, [], ◌∷◌, ◌++◌, Option, Some, None, codes, ℤ, pos, int_lt, nat_abs}
 use Rattle.std.specs.Fmt.{decimal, signed_decimal}
 use Rattle.oss_syntax.specs.declared.tree.program.GlobalDef.{GlobalDef}
 use Rattle.oss_syntax.specs.declared.tree.program.Item.{Item}
@@ -64,11 +64,18 @@ abbrev pub places_text : GlobalDef → Option ℕ → List ℕ
 places_text g None = elements_text g
 places_text g (Some columns) = grid_text g
 
+-- the first of several elements, rows or columns that a section has, and the last
+unfoldable pub several_from : List ℕ → ℤ → List ℕ
+several_from one i = codes "It has the " ++ one ++ codes "s " ++ signed_decimal i
+
+unfoldable pub several_to : ℤ → List ℕ
+several_to j = codes " to " ++ signed_decimal j ++ stop
+
 -- what a section has of one dimension
 abbrev pub stretch_text : List ℕ → Stretch → List ℕ
 stretch_text one (stretches.Few n) = codes "It has " ++ signed_decimal n ++ codes " " ++ one ++ codes "s.\n"
 stretch_text one (stretches.One i) = codes "It has the " ++ one ++ codes " " ++ signed_decimal i ++ stop
-stretch_text one (stretches.Several i j) = codes "It has the " ++ one ++ codes "s " ++ signed_decimal i ++ codes " to " ++ signed_decimal j ++ stop
+stretch_text one (stretches.Several i j) = several_from one i ++ several_to j
 
 -- what the section has, and what this global has
 abbrev pub bounds_text : GlobalDef → Miss → List ℕ
@@ -79,10 +86,15 @@ bounds_text g (misses.Elements s) = stretch_text (codes "element") s ++ elements
 bounds_text g (misses.Rows s) = stretch_text (codes "row") s ++ rows_text g
 bounds_text g (misses.Grid r c) = stretch_text (codes "row") r ++ stretch_text (codes "column") c ++ grid_text g
 
+-- a global has two dimensions, or one behind it
+abbrev pub rows_or : Option ℕ → Bool → Bool
+rows_or None later = later
+rows_or (Some columns) later = true
+
 -- a global of these items has two dimensions
 abbrev pub has_rows : List Item → Bool
 has_rows [] = false
-has_rows (items.Global g ∷ rest) = if is_some g.columns then true else has_rows rest
+has_rows (items.Global g ∷ rest) = rows_or g.columns (has_rows rest)
 has_rows (items.Function f ∷ rest) = has_rows rest
 
 -- what a task does with a pointer that points nowhere, where this is done with one that was never set
@@ -102,10 +114,14 @@ bounds_of [] n m = []
 bounds_of (items.Global g ∷ rest) n m = if n == 0 then bounds_text g m else bounds_of rest (n - 1) m
 bounds_of (items.Function f ∷ rest) n m = bounds_of rest n m
 
+-- that a multidependency is named, before the number of its turns
+unfoldable pub turns_named : List ℕ
+turns_named = codes " names a multidependency of "
+
 -- what the task does, behind its name and before the line
 abbrev pub failure_text : List Item → Failure → List ℕ
 failure_text all (failures.Shift n) = codes " shifts by " ++ signed_decimal n
-failure_text all (failures.Turns n) = codes " names a multidependency of " ++ signed_decimal n ++ codes " turns"
+failure_text all (failures.Turns n) = turns_named ++ signed_decimal n ++ codes " turns"
 failure_text all failures.Nowhere = nowhere_text (has_rows all) (codes " uses an unset pointer")
 failure_text all failures.NoSection = nowhere_text (has_rows all) (codes " names a section by an unset pointer")
 failure_text all (failures.Outside g m) = named_outside all g m

@@ -1,11 +1,11 @@
 //! What failed in the program's own meaning, in a sentence, and what there is in its place.
 
-ghost use Rattle.std.specs.Prelude.{◌≡◌, ◌<◌, ◌++◌, OnOk, codes};
+ghost use Rattle.std.specs.Prelude.{◌≡◌, ◌<◌, ◌++◌, [], OnOk, codes};
 ghost use Rattle.std.specs.Fmt.{signed_decimal};
 ghost use Rattle.oss_grammar.specs.Layout.{cells_of};
 ghost use Rattle.oss_pieces.specs.Names.{index_text};
 ghost use Rattle.oss_pieces.specs.Rows.{width_of};
-ghost use Rattle.oss_explanation.specs.Failures.{bounds_of, bounds_text, counted_text, elements_text, failure_text, grid_text, has_rows, limit_text, miss_text, named_outside, nowhere_text, place_before, place_in_rows, place_named, places_text, rows_of, rows_text, signed_index, stretch_text};
+ghost use Rattle.oss_explanation.specs.Failures.{bounds_of, bounds_text, counted_text, elements_text, failure_text, grid_text, has_rows, limit_text, miss_text, named_outside, nowhere_text, place_before, place_in_rows, place_named, places_text, rows_of, rows_text, several_from, several_to, signed_index, stretch_text, turns_named};
 ghost use Rattle.oss_explanation.specs.Sentences.{stop};
 
 use crate::names::add;
@@ -27,11 +27,7 @@ pub(crate) fn add_failure(
             add(text, b" shifts by ")?;
             add_signed(alloc, number, text)
         }
-        Failure::Turns(number) => {
-            add(text, b" names a multidependency of ")?;
-            add_signed(alloc, number, text)?;
-            add(text, b" turns")
-        }
+        Failure::Turns(number) => add_turns(alloc, number, text),
         Failure::Nowhere => add_nowhere(has_rows(program), b" uses an unset pointer", text),
         Failure::NoSection => add_nowhere(
             has_rows(program),
@@ -40,6 +36,23 @@ pub(crate) fn add_failure(
         ),
         Failure::Outside(global, miss) => add_outside(alloc, program, global, miss, text),
     }
+}
+
+/// Adds that a multidependency of so many turns is named.
+fn add_turns(alloc: Global, number: i64, text: &mut Vec<u8>) -> Result<(), AllocError>
+    ensures { OnOk result (text.new.items ≡ text.old.items ++ failure_text [] (Failure.Turns number)) }
+{
+    add_turns_named(text)?;
+    add_signed(alloc, number, text)?;
+    add(text, b" turns")
+}
+
+/// Adds that a multidependency is named, before the number of its turns.
+#[tactic(auto, unfolding(crate::specs::Failures::turns_named))]
+fn add_turns_named(text: &mut Vec<u8>) -> Result<(), AllocError>
+    ensures { OnOk result (text.new.items ≡ text.old.items ++ turns_named) }
+{
+    add(text, b" names a multidependency of ")
 }
 
 /// Adds the rule that is broken, and what there is.
@@ -66,8 +79,9 @@ fn has_rows(program: &Program) -> bool
 {
     for item in program.items.as_slice() {
         if let Item::Global(global) = item {
-            if global.columns.is_some() {
-                return true;
+            match global.columns {
+                Some(_) => return true,
+                None => {}
             }
         }
     }
@@ -161,7 +175,7 @@ fn add_miss(
 
 /// Adds that a place of a global is used, without the place.
 fn add_use_of(global: &GlobalDef, text: &mut Vec<u8>) -> Result<(), AllocError>
-    ensures { OnOk result (text.new.items ≡ text.old.items ++ (codes " uses the place " ++ global.now.name)) }
+    ensures { OnOk result (text.new.items ≡ text.old.items ++ codes " uses the place " ++ global.now.name) }
 {
     add(text, b" uses the place ")?;
     add(text, global.name.as_slice())
@@ -371,10 +385,31 @@ fn add_several(
 ) -> Result<(), AllocError>
     ensures { OnOk result (text.new.items ≡ text.old.items ++ stretch_text one.now (Stretch.Several first last)) }
 {
+    add_several_from(alloc, one, first, text)?;
+    add_several_to(alloc, last, text)
+}
+
+/// Adds the first of several elements that a section has.
+#[tactic(auto, unfolding(crate::specs::Failures::several_from))]
+fn add_several_from(
+    alloc: Global,
+    one: &[u8],
+    first: i64,
+    text: &mut Vec<u8>,
+) -> Result<(), AllocError>
+    ensures { OnOk result (text.new.items ≡ text.old.items ++ several_from one.now first) }
+{
     add(text, b"It has the ")?;
     add(text, one)?;
     add(text, b"s ")?;
-    add_signed(alloc, first, text)?;
+    add_signed(alloc, first, text)
+}
+
+/// Adds the last of several elements that a section has.
+#[tactic(auto, unfolding(crate::specs::Failures::several_to))]
+fn add_several_to(alloc: Global, last: i128, text: &mut Vec<u8>) -> Result<(), AllocError>
+    ensures { OnOk result (text.new.items ≡ text.old.items ++ several_to last) }
+{
     add(text, b" to ")?;
     add_long(alloc, last, text)?;
     add(text, b".\n")
