@@ -68,7 +68,7 @@ module _ {S : Type 0} (P : Program S) (main : Start S) (s : State S) (made : IsM
       let act : stage_act P t.body.start e.past ≡ Created h.order false = subst (λ (b : Start S). stage_act P b e.past ≡ Created h.order false) (sym h.happened.start) h.creates in
       let r = made.made e.start.path t e.past e.answer h.order h.happened.at_ h.happened.found act in
       let path : stage_created P t.body.start e.past ∷ e.start.path ≡ p =
-          ap (λ (b : Start S). stage_created P b e.past ∷ e.start.path) h.happened.start ∙ sym (creator_is P e.start e.past h.order h.creates) ∙ sym h.path in
+      ap (λ (b : Start S). stage_created P b e.past ∷ e.start.path) h.happened.start ∙ sym (creator_is P e.start e.past h.order h.creates) ∙ sym h.path in
       (r.0, subst (λ (w : List ℕ). At s w r.0) path r.1)
 
 -- nodes that rise, and one more behind them

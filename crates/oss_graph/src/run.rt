@@ -5,7 +5,7 @@ ghost use Rattle.oss_grammar.specs.Layout.{cells_in};
 ghost use Rattle.oss_task_graph.specs.Graphs.{IsGraphOf};
 ghost use Rattle.oss_graph.specs.Following.{IsFollowing};
 
-use crate::coming::coming;
+use crate::coming::task_created;
 use crate::found::Found;
 use oss_code::Code;
 use oss_serial::{Stage, Turned, begin};
@@ -18,12 +18,7 @@ use std::alloc::{AllocError, Global};
 /// pieces of the new task's accesses among those of its creator's other children, and each edge its cells; an edge is kept for each
 /// pair of tasks of which one stands on the other. Cells are told over the globals of the program. Out of memory is the one other
 /// answer. Condition: the code has at most 1,048,576 cells, and so have the globals.
-pub fn graph(
-    alloc: Global,
-    program: &Program,
-    code: &Code,
-    fuel: u32,
-) -> Result<Graph, AllocError>
+pub fn graph(alloc: Global, program: &Program, code: &Code, fuel: u32) -> Result<Graph, AllocError>
     requires cells { length code.now.first ≤ 1048576 }
     requires layout { cells_in program.now.items ≤ 1048576 }
     ensures { IfOk result (λ graph. IsGraphOf code.now fuel program.now.items graph) }
@@ -72,7 +67,7 @@ fn follow(
 {
     'turns: loop {
         let created = stage.current.acting().created_count();
-        let coming = coming(
+        let coming = task_created(
             stage.current.pending(),
             stage.current.line(),
             created as u16,
