@@ -15,7 +15,7 @@ pub(crate) struct Coming {
 }
 
 /// The task that an act on this line creates, after so many, if it is one that is not included.
-pub(crate) fn coming(act: &Act, line: u32, number: u16) -> Option<Coming>
+pub(crate) fn task_created(act: &Act, line: u32, number: u16) -> Option<Coming>
     ensures { result ≡ coming_by act.now line number }
 {
     match act {

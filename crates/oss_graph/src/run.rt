@@ -5,7 +5,7 @@ ghost use Rattle.oss_grammar.specs.Layout.{cells_in};
 ghost use Rattle.oss_task_graph.specs.Graphs.{IsGraphOf};
 ghost use Rattle.oss_graph.specs.Following.{IsFollowing};
 
-use crate::coming::coming;
+use crate::coming::task_created;
 use crate::found::Found;
 use oss_code::Code;
 use oss_serial::{Stage, Turned, begin};
@@ -67,7 +67,7 @@ fn follow(
 {
     'turns: loop {
         let created = stage.current.acting().created_count();
-        let coming = coming(
+        let coming = task_created(
             stage.current.pending(),
             stage.current.line(),
             created as u16,
