@@ -146,12 +146,7 @@ fn add_edge(
 }
 
 /// Adds from which child to which task an edge leads.
-fn add_ends(
-    alloc: Global,
-    task: &[u16],
-    from: u16,
-    text: &mut Vec<u8>,
-) -> Result<(), AllocError>
+fn add_ends(alloc: Global, task: &[u16], from: u16, text: &mut Vec<u8>) -> Result<(), AllocError>
     ensures { OnOk result (text.new.items ≡ text.old.items ++ ends_text task.now from) }
 {
     add(text, b"  ")?;

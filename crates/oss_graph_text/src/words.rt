@@ -27,11 +27,7 @@ pub(crate) fn add_number(alloc: Global, number: u32, text: &mut Vec<u8>) -> Resu
 }
 
 /// Adds the numbers of a point, with dots between them.
-pub(crate) fn add_point(
-    alloc: Global,
-    point: &[u16],
-    text: &mut Vec<u8>,
-) -> Result<(), AllocError>
+pub(crate) fn add_point(alloc: Global, point: &[u16], text: &mut Vec<u8>) -> Result<(), AllocError>
     ensures { OnOk result (text.new.items ≡ text.old.items ++ text_of point.now) }
 {
     let numbers = point_text(alloc, point)?;
@@ -39,11 +35,7 @@ pub(crate) fn add_point(
 }
 
 /// Adds a point between quotes, as the name of a node.
-pub(crate) fn add_quoted(
-    alloc: Global,
-    point: &[u16],
-    text: &mut Vec<u8>,
-) -> Result<(), AllocError>
+pub(crate) fn add_quoted(alloc: Global, point: &[u16], text: &mut Vec<u8>) -> Result<(), AllocError>
     ensures { OnOk result (text.new.items ≡ text.old.items ++ quoted point.now) }
 {
     add(text, b"\"")?;
