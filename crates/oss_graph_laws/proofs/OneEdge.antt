@@ -34,9 +34,9 @@ module _ (all : List Item) (accesses : Accesses) (k : ℕ) where
       let tests : (c : ℕ) → h.test c ≡ g.test c = λ c. bool_is (h.test c) (g.test c) (λ t. g.every c (there e.from f.from same c (h.only c t))) (λ t. h.every c (there f.from e.from (sym same) c (g.only c t))) in
       let pieces : ArePieces h.test all 0 0 f.cells = subst (λ (test : ℕ → Bool). ArePieces test all 0 0 f.cells) (λ i c. sym (tests c) i) g.pieces in
       let weak : (w : Bool) → (f.weak ≡ w) → (w ≡ false → (c : ℕ) × IsStrongAt accesses e.from k c) =
-          λ w p q. let s = g.strong (p ∙ q) in (s.0, subst (λ (n : ℕ). IsStrongAt accesses n k s.0) (sym same) s.1) in
+      λ w p q. let s = g.strong (p ∙ q) in (s.0, subst (λ (n : ℕ). IsStrongAt accesses n k s.0) (sym same) s.1) in
       let other : (w : Bool) → (e.weak ≡ w) → (w ≡ false → (c : ℕ) × IsStrongAt accesses f.from k c) =
-          λ w p q. let s = h.strong (p ∙ q) in (s.0, subst (λ (n : ℕ). IsStrongAt accesses n k s.0) same s.1) in
+      λ w p q. let s = h.strong (p ∙ q) in (s.0, subst (λ (n : ℕ). IsStrongAt accesses n k s.0) same s.1) in
       edge_is e f same (one_list_of_pieces h.test all 0 0 e.cells f.cells h.pieces pieces)
       (bool_is e.weak f.weak (weak_is e.weak f.weak e.from h.weak (weak f.weak refl)) (weak_is f.weak e.weak f.from g.weak (other e.weak refl)))
 

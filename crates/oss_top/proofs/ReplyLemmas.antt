@@ -136,8 +136,8 @@ graph_once fuel p reply other x y =
     let same = graphs_are_one TreeScript (asks_of p.items) (entry_in p.items) (main_of p.items fuel) starts (first_cells p.items) p.items x.graph y.graph x.is_graph y.is_graph in
     let labels = labels_are_one p.items x.labels y.labels x.are_labels y.are_labels in
     let texts : x.text ≡ y.text =
-        one_graph_text p.items (label_at y.labels) y.graph x.text y.text
-        (subst (λ (ls : List Labelled). IsGraphText p.items (label_at ls) y.graph x.text) labels (subst (λ (g : Graph). IsGraphText p.items (label_at x.labels) g x.text) same x.is_text)) y.is_text in
+    one_graph_text p.items (label_at y.labels) y.graph x.text y.text
+    (subst (λ (ls : List Labelled). IsGraphText p.items (label_at ls) y.graph x.text) labels (subst (λ (g : Graph). IsGraphText p.items (label_at x.labels) g x.text) same x.is_text)) y.is_text in
     x.is_reply ∙ (λ i. drawn_reply (texts i) (same i).fault) ∙ sym y.is_reply
 
 program_once : (c : Command) → IsOfOneText c → (p : Program) (reply other : Reply) → IsProgramReply c p reply → IsProgramReply c p other → reply ≡ other

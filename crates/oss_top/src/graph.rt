@@ -30,12 +30,7 @@ pub(crate) fn reply_to_graph(alloc: Global, fuel: u32, known: &Known) -> Result<
 }
 
 /// The graph of a program, by its code. Condition: that is what lowering makes of the program.
-fn graph_of(
-    alloc: Global,
-    fuel: u32,
-    known: &Known,
-    code: &Code,
-) -> Result<Graph, AllocError>
+fn graph_of(alloc: Global, fuel: u32, known: &Known, code: &Code) -> Result<Graph, AllocError>
     requires lowered { IsLowered known.now.items code.now }
     requires few { length code.now.first ≤ 1048576 }
     ensures { IfOk result (λ graph. IsGraphOfProgram fuel known.now graph) }
