@@ -1,7 +1,7 @@
 -- What the label of a node tells: the point of its task, the label of its pragma where it has one, the line of its creation, and the fault where it stands in the body of the task.
 -- Read against: the task 0.2 with the label `all of m`, created on line 7, before OutOfRange on line 8, is `"0.2" [label="0.2\nall of m\nline 7\nOutOfRange at line 8", color=red];`, and 0.1 beside it, without a label, from line 5,
 -- `"0.1" [label="0.1\nline 5"];`. The label `say "a"`, a newline, `and \b` is written `say \"a\"\nand \\b`.
-use Rattle.std.specs.Prelude.{ℕ, ◌==◌, ◌||◌, Bool, if◌then◌else◌, List, [], ◌∷◌, ◌++◌, Option, Some, None, codes}
+use Rattle.std.specs.Prelude.{ℕ, ◌==◌, ◌||◌, if◌then◌else◌, List, [], ◌∷◌, ◌++◌, Option, Some, None, codes}
 use Rattle.std.specs.Fmt.{decimal}
 use Rattle.std.specs.List.{flat_map}
 use Rattle.oss_model.specs.Points.{text_of}

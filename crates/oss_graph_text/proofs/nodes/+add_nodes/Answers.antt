@@ -1,4 +1,4 @@
-use Rattle.std.proofs.Common.{◌≡◌, ◌∙◌, ap, ℕ, take, drop, arith}
+use Rattle.std.proofs.Common.{◌∙◌, ap, ℕ, take, drop, arith}
 use Rattle.oss_labels.specs.Lists.{label_at}
 use Rattle.oss_graph_text.proofs.NodeLemmas.{finished, goes_on}
 use Rattle.oss_graph_text.proofs.nodes.+add_nodes.Goals as goal

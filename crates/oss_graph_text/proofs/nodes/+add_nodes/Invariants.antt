@@ -1,4 +1,4 @@
-use Rattle.std.proofs.Common.{◌≡◌, ◌+◌, ◌≤◌, ◌<◌, length}
+use Rattle.std.proofs.Common.{◌≤◌, length}
 use Rattle.oss_labels.specs.Lists.{label_at}
 use Rattle.oss_graph_text.proofs.NodeLemmas.{MakesWhole}
 use Rattle.oss_graph_text.proofs.nodes.+add_nodes.Given as goal
