@@ -49,6 +49,7 @@ pub mod CoreLeftLemmas
 pub mod FallLemmas
 pub mod SteppersLemmas
 pub mod PlacedLemmas
+pub mod RiseLemmas
 pub mod WriteLemmas
 pub mod PutFacts
 pub mod AddLemmas

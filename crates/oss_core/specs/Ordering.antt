@@ -1,12 +1,13 @@
 -- Tasks put into the order of their points.
 -- Read against: main creates a and b. Of the list b, main, a each task stands there once, and in the order of their points it is main, a, b.
-use Rattle.std.specs.Prelude.{◌≡◌, Bool, List, [], ◌∷◌, map}
+use Rattle.std.specs.Prelude.{◌≡◌, ℕ, Bool, List, [], ◌∷◌, map}
 use Rattle.std.specs.List.Sorted.{IsSortedBy, IsStableBy}
 use Rattle.std.specs.Cmp.Lexicographic.{slice_cmp}
 use Rattle.std.specs.Ordering.{is_lt, nat_cmp}
-use Rattle.oss_model.specs.Order.{IsIn}
+use Rattle.oss_model.specs.Order.{IsBefore, IsIn}
 use Rattle.oss_model.specs.declared.task_no.TaskNo.{TaskNo}
 use Rattle.oss_tree.specs.declared.task.Task.{Task}
+use Rattle.oss_tree.specs.Tasks.{HasPoint}
 use Rattle.oss_core.specs.declared.ordering.Placed.{Placed}
 use Rattle.oss_core.specs.PointOrder.{AreInPointOrder}
 
@@ -31,3 +32,7 @@ pub record AreSorted (placed : List Placed) (tasks : List TaskNo) : Type 0 where
   pub sorted : IsSortedBy comes_before shown
   pub stable : IsStableBy comes_before placed shown
   pub tasks_are : tasks ≡ map (λ one. one.task) shown
+
+-- The point of the first task is before that of the second: that of a before that of b, and main's before both.
+abbrev pub ArePointsBefore : List Task → TaskNo → TaskNo → Type 0
+ArePointsBefore tasks v w = (p q : List ℕ) → HasPoint tasks v.0 p → HasPoint tasks w.0 q → IsBefore p q
