@@ -19,8 +19,8 @@ told_of-requires-clause-noted c =
     let st = c.requires.stands in
     noted_here c.args.code.now c.args.fuel c.args.current.now c.args.ledger.now c.args.kind c.args.line st c.acting.result.now (c.acting.ensures c.args.code.now st.body.start st.body.found st.is_body)
 
-pub failure-requires : goal.failure-requires
-failure-requires c = record { running = runs_here c.args.code.now c.args.fuel c.args.current.now c.args.ledger.now c.args.kind c.args.line c.requires.stands }
+pub failure-failure-requires : goal.failure-failure-requires
+failure-failure-requires c = record { running = runs_here c.args.code.now c.args.fuel c.args.current.now c.args.ledger.now c.args.kind c.args.line c.requires.stands }
 
 pub returns-in-Ok : goal.returns-in-Ok
 returns-in-Ok c =
