@@ -16,12 +16,14 @@ use oss_names::Known;
 use oss_syntax::{Cells, Item, List, Program};
 use std::alloc::{AllocError, Global};
 
-/// The code of a program that breaks no rule. It asks for the same as the program, on the same lines, after any
-/// answers: each body of the program has a place in the code, that of `main` being the first instruction. It
-/// has at most 1,048,576 cells, as the program has. Want of memory is the one error; a place that no number of
+/// The code of a program that breaks no rule. Its instructions are those that the program becomes by the definition of
+/// lowering (`lowered`), which says where each body of the program begins in it. So it asks for the same as the program, on
+/// the same lines, after any answers: each body of the program has a place in the code, that of `main` being the first
+/// instruction. It has at most 1,048,576 cells, as the program has. Want of memory is the one error; a place that no number of
 /// 32 bits tells, as in a tree that no text of 1,048,576 bytes has, is told as that. That the numbers of the code of
 /// each text of at most 1,048,576 bytes are below 2^32 is a law (`texts_fit_numbers` of `oss_lower_bounds`).
 pub fn lower(alloc: Global, known: &Known) -> Result<Code, AllocError>
+    ensures lowered { IfOk result (λ code. IsLowered known.now.items code) }
     ensures code_of { IfOk result (λ code. IsCodeOf known.now.items code) }
     ensures sound { IfOk result (λ code. IsSound code) }
     ensures few { IfOk result (λ code. length code.first ≤ 1048576) }

@@ -5,6 +5,7 @@ mod chains;
 mod counts;
 mod draws;
 mod fault_words;
+mod labels;
 mod layout;
 mod looping;
 mod lowering;

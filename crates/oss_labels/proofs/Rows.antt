@@ -1,0 +1,82 @@
+-- Rows worked by hand: the labels of some programs, of which the pages of definitions speak.
+use Rattle.std.proofs.Common.{◌≡◌, ℕ, List, [], ◌∷◌, Option, Some, None, refl, rules}
+use Rattle.std.specs.Prelude.{codes}
+use Rattle.oss_syntax.specs.declared.tree.pragma.Clause.TheVariants as clause
+use Rattle.oss_syntax.specs.declared.tree.program.Function.{Function}
+use Rattle.oss_syntax.specs.declared.tree.program.Item.{Item}
+use Rattle.oss_syntax.specs.declared.tree.program.Item.TheVariants as items
+use Rattle.oss_syntax.specs.declared.tree.program.Kind.TheVariants as kind
+use Rattle.oss_syntax.specs.declared.tree.stmt.Stmt.{Stmt}
+use Rattle.oss_syntax.specs.declared.tree.stmt.StmtKind.TheFolds.{the_lemmas as stmt_folds}
+use Rattle.oss_syntax.specs.declared.tree.stmt.StmtKind.TheVariants as stmts
+use Rattle.oss_meaning.specs.Expressions.{TaskBody}
+use Rattle.oss_meaning.proofs.RowTrees.{main_of, number, on, task, x}
+use Rattle.oss_code.specs.declared.instr.Instr.TheVariants as i
+use Rattle.oss_labels.specs.Creations.{creations, joined, labels_in_code}
+use Rattle.oss_labels.specs.Labels.{label_in, label_of, stmt_labels}
+use Rattle.oss_labels.specs.Lists.{label_at}
+use Rattle.oss_labels.specs.declared.labels.Labelled.{Labelled}
+
+-- `#pragma oss task label(f) void f() {}`
+abbrev f : Function
+f = record { name = codes "f"; result = kind.Nothing; params = []; mark = Some (record { clauses = clause.Wait ∷ clause.Label (codes "f") ∷ []; line = 1 }); body = []; line = 2 }
+
+-- a task statement with the label `two`, and one without
+abbrev two : Stmt
+two = task 4 (clause.Label (codes "two") ∷ []) (on 5 stmts.Empty)
+
+abbrev bare : Stmt
+bare = task 6 (clause.Wait ∷ []) (on 7 stmts.Empty)
+
+abbrev both : List Item
+both = items.Function f ∷ main_of (two ∷ bare ∷ []) ∷ []
+
+of_function : label_of both (TaskBody.function 0) ≡ Some (codes "f")
+of_function = refl
+
+of_main_function : label_of both (TaskBody.function 1) ≡ None
+of_main_function = refl
+
+of_main : label_of both TaskBody.main ≡ None
+of_main = refl
+
+of_two : label_of both (TaskBody.statement 0) ≡ Some (codes "two")
+of_two = simp stmt_folds
+
+of_bare : label_of both (TaskBody.statement 1) ≡ None
+of_bare = simp stmt_folds
+
+-- no third task statement
+of_none : label_of both (TaskBody.statement 2) ≡ None
+of_none = simp stmt_folds
+
+-- in the order of the code the function comes first
+in_order : labels_in_code (f ∷ []) ≡ Some (codes "f") ∷ []
+in_order = refl
+
+-- A `for` with a task as its last part and another one as its body: the body has the number 1, and is written first.
+abbrev turned : Stmt
+turned = on 3 (stmts.For None None (Some bare) two)
+
+turned_in_text : (stmt_labels turned).in_text ≡ None ∷ Some (codes "two") ∷ []
+turned_in_text = simp stmt_folds
+
+turned_in_code : (stmt_labels turned).in_code ≡ Some (codes "two") ∷ None ∷ []
+turned_in_code = simp stmt_folds
+
+-- `Tick, Begin, Create 4, Skip 7` from place 10 on
+led : creations 10 (i.Tick ∷ i.Begin ∷ i.Create 4 ∷ i.Skip 7 ∷ []) ≡ 17 ∷ []
+led = refl
+
+abbrev at_30 : List Labelled
+at_30 = joined (17 ∷ 30 ∷ []) (None ∷ Some (codes "two") ∷ [])
+
+-- `two` at 30
+joined_two : at_30 ≡ record { entry = 30; label = codes "two" } ∷ []
+joined_two = refl
+
+found_at_30 : label_at at_30 30 ≡ Some (codes "two")
+found_at_30 = refl
+
+none_at_17 : label_at at_30 17 ≡ None
+none_at_17 = refl

@@ -1,0 +1,4 @@
+pub mod Claims
+pub mod Creations
+pub mod Labels
+pub mod Lists
