@@ -2,3 +2,4 @@ mod RunLemmas
 mod StepLemmas
 mod ItemLemmas
 pub mod OneListLemmas
+mod LayoutLemmas

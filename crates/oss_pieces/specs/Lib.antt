@@ -3,3 +3,4 @@ pub mod Rows
 pub mod Pieces
 pub mod Names
 pub mod Claims
+pub mod Layouts

@@ -33,7 +33,7 @@ pub fn pieces(alloc: Global, program: &Program, set: &CellSet) -> Result<List<Pi
 }
 
 /// Adds the pieces of one global.
-fn add_pieces_of(
+pub(crate) fn add_pieces_of(
     set: &CellSet,
     shape: Shape,
     number: usize,
@@ -121,7 +121,7 @@ fn has_run(set: &CellSet, shape: Shape, row: u32, columns: Span) -> bool
 }
 
 /// The first cell of the set from `from` on; `to` if there is none before it.
-fn next_cell(set: &CellSet, from: u32, to: u32) -> u32
+pub(crate) fn next_cell(set: &CellSet, from: u32, to: u32) -> u32
     requires { from ≤ to }
     ensures from { from ≤ result }
     ensures to { result ≤ to }

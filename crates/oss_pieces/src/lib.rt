@@ -4,6 +4,7 @@
 mod cell_set;
 mod finding;
 mod laws;
+mod layout;
 mod names;
 mod piece;
 mod rows;
@@ -12,5 +13,6 @@ mod shape;
 pub use cell_set::{CELLS, CellSet};
 pub use finding::pieces;
 pub use laws::a_set_has_one_list;
+pub use layout::Layout;
 pub use names::{add_cell_name, add_pieces};
 pub use piece::{Piece, Span};

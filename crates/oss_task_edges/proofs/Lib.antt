@@ -1,0 +1,6 @@
+mod GroupLemmas
+mod ChainLemmas
+mod KeptLemmas
+mod EnterLemmas
+mod JoinLemmas
+pub mod AgreeLemmas
