@@ -1,23 +1,22 @@
 -- What is found follows the sequential run of a code.
-use Rattle.std.proofs.Common.{◌≡◌, ◌≢◌, ℕ, ◌+◌, ◌≤◌, ◌<◌, ◌⊎◌, inl, inr, refl, sym, subst, ap, ◌∙◌, List, [], ◌∷◌, ◌++◌, length, reverse, arith, Bool, true, false, Option, None, Some}
+use Rattle.std.proofs.Common.{◌≡◌, ◌≢◌, ℕ, suc, ◌+◌, ◌≤◌, ◌<◌, ◌⊎◌, inl, inr, refl, sym, subst, ap, ◌∙◌, List, [], ◌∷◌, ◌++◌, length, reverse, arith, true, false, Option, None, Some, Result, Ok, Err}
+use Rattle.std.specs.Prelude.{OnOk}
 use Rattle.std.proofs.lemmas.List.{length-reverse, reverse-append}
-use Rattle.oss_syntax.specs.declared.fault.FaultKind.{FaultKind}
 use Rattle.oss_syntax.specs.declared.tree.program.Item.{Item}
 use Rattle.oss_judge.specs.Joined.{held_right}
 use Rattle.oss_model.specs.Agreement.{MainStarts, Setting}
-use Rattle.oss_model.specs.Bodies.{Act, Body, Frame, IsHalt, Order, Program, Start, ask_of, stack_from, stage_act}
-use Rattle.oss_model.specs.Bodies.Act.{Created, Fault, Over}
-use Rattle.oss_model.specs.Context.{Context, right_of}
-use Rattle.oss_model.specs.History.{IsMade}
+use Rattle.oss_model.specs.Bodies.{Act, Body, Frame, IsHalt, Order, Program, Start, ask_of, child_start, stage_act}
+use Rattle.oss_model.specs.Bodies.Act.{Created}
+use Rattle.oss_model.specs.Context.{right_of}
 use Rattle.oss_model.specs.Machine.{At, State, Task, find}
 use Rattle.oss_model.specs.Memory.{Event, Happened}
 use Rattle.oss_model.specs.Moves.{act_now, created_now, new_task, opening}
-use Rattle.oss_model.specs.Order.{IsIn, IsSuffix, longer, whole, written}
+use Rattle.oss_model.specs.Order.{IsSuffix, whole, written}
 use Rattle.oss_model.specs.Sequence.{IsAtEnd, Running, RunsOn}
 use Rattle.oss_model.proofs.OrderLemmas.{suffix_drop}
-use Rattle.oss_model.proofs.SequenceLemmas.{Stands, not_itself, opening_at, opening_made, seq_made, stands}
+use Rattle.oss_model.proofs.SequenceLemmas.{Stands, not_itself, opening_at, seq_made, stands}
 use Rattle.oss_model.proofs.StageLemmas.{start_created}
-use Rattle.oss_model.proofs.TreeLemmas.{at_same, path_found}
+use Rattle.oss_model.proofs.TreeLemmas.{at_same}
 use Rattle.oss_code.specs.declared.code.CodeParts.{CodeParts}
 use Rattle.oss_machine.specs.Asks.{meant_order}
 use Rattle.oss_machine.specs.Frames.{CodeScript}
@@ -28,18 +27,13 @@ use Rattle.oss_body.specs.declared.body.Body.{Body as Kept}
 use Rattle.oss_body.specs.Acting.{acting}
 use Rattle.oss_body.specs.Acts.{act_seen}
 use Rattle.oss_body.specs.Mains.{code_main}
-use Rattle.oss_body.specs.Relation.{IsBody}
 use Rattle.oss_serial.specs.declared.stage.Stage.{Stage}
 use Rattle.oss_serial.specs.Stages.{AreBodies, IsFirstStage, IsNext, IsStage, StandsBeforeFault}
 use Rattle.oss_serial.specs.Turns.{AreWaiting, Ends, whole_task}
-use Rattle.oss_explanation.specs.Lives.{IsCreated}
-use Rattle.oss_pieces.specs.Layouts.{grids_from}
-use Rattle.oss_task_graph.specs.declared.graph.Graph.{Graph}
 use Rattle.oss_task_graph.specs.declared.graph.Node.{Node}
 use Rattle.oss_task_graph.specs.declared.graph.Stop.{Stop}
 use Rattle.oss_task_graph.specs.Edges.{Accesses, AreEdges}
 use Rattle.oss_task_graph.specs.Graphs.{AreNodes, IsGraphOf, accesses_below, done, entry_of, fault, right_in}
-use Rattle.oss_task_graph.specs.Groups.{is_held}
 use Rattle.oss_task_edges.specs.declared.siblings.Siblings.{Siblings}
 use Rattle.oss_task_edges.specs.Kept.{Keeps}
 use Rattle.oss_task_edges.proofs.AgreeLemmas.{keeps_agree, keeps_either}
@@ -105,13 +99,14 @@ module _ {S : Type 0} (P : Program S) (main : Start S) (ms : MainStarts main) (z
 
   -- a task is created
   module _ (o : Order S) (e : now ≡ Created o false) where
-    child : Task S
+    abbrev child : Task S
     child = new_task P r.task.body o
 
     at_child_now : At y.state (number ∷ z.active) child
     at_child_now = r.tasks.made o e
 
     no_child : AreBelow (accesses_below y.state (number ∷ z.active)) 0
+    unfolding child_start
     no_child i c l h =
         let u = held_task (find y.state.tasks (i ∷ number ∷ z.active)) c h in
         let b = number_below P main y.state (seq_made P main z y ms st r) (number ∷ z.active) i child u.0 at_child_now u.1 in
@@ -165,13 +160,13 @@ module _ {S : Type 0} (P : Program S) (main : Start S) (ms : MainStarts main) (c
 
 bodies_length : (code : CodeParts) (bs : List (Body CodeScript)) (ks : List Kept) → AreBodies code bs ks → length ks ≡ length bs
 bodies_length code [] [] h = refl
-bodies_length code (b ∷ bs) (k ∷ ks) h = ap (λ (n : ℕ). n + 1) (bodies_length code bs ks h.1)
+bodies_length code (b ∷ bs) (k ∷ ks) h = ap suc (bodies_length code bs ks h.1)
 bodies_length code [] (k ∷ ks) h = absurd h
 bodies_length code (b ∷ bs) [] h = absurd h
 
 waiting_length : {S : Type 0} (P : Program S) (s : State S) (bs : List (Body S)) (path : List ℕ) → AreWaiting P s bs path → length bs ≡ length path
 waiting_length P s [] path h = ap (λ (p : List ℕ). length p) (sym h)
-waiting_length P s (b ∷ bs) path (k, (e, (at_, (alive, more)))) =
+waiting_length P s (b ∷ bs) path (k, e, at_, alive, more) =
     let n = waiting_length P s bs b.start.path more in
     let l : length path ≡ length (k ∷ b.start.path) = ap (λ (p : List ℕ). length p) e in
     omega (arith, n, l)
@@ -361,7 +356,7 @@ module _ (code : CodeParts) (fuel : ℕ) (all : List Item) where
               go (inl same) (inl (less, up)) =
                   let n : length y.active ≡ length z.active = ap (λ (w : List ℕ). length w) same in
                   absurd (omega (arith, less, n, above_length, waiting))
-              go (inl same) (inr (more, (top, above))) =
+              go (inl same) (inr (more, top, above)) =
                   subst (λ (w : List ℕ). AreOnWay y.state w (m.top ∷ reverse m.above)) (sym same)
                   (subst (λ (b : Siblings). AreOnWay y.state z.active (b ∷ reverse m.above)) (sym top)
                   (subst (λ (bs : List Siblings). AreOnWay y.state z.active (f.top ∷ reverse bs)) (sym above) (way_same (asks code) (code_main code fuel) st.setting.starts z y stands_now r none st.way)))
@@ -369,7 +364,7 @@ module _ (code : CodeParts) (fuel : ℕ) (all : List Item) where
                   way_rest (asks code) (code_main code fuel) st.setting.starts z y stands_now r none k y.active f.top (m.top ∷ reverse m.above)
                   (subst (λ (w : List ℕ). AreOnWay z.state w (f.top ∷ m.top ∷ reverse m.above)) one
                   (subst (λ (bs : List Siblings). AreOnWay z.state z.active (f.top ∷ bs)) (ap (λ (bs : List Siblings). reverse bs) up ∙ reverse-append m.above (m.top ∷ [])) st.way))
-              go (inr (k, one)) (inr (more, same)) =
+              go (inr (k, one)) (inr (more, top, above)) =
                   let n : length z.active ≡ length (k ∷ y.active) = ap (λ (w : List ℕ). length w) one in
                   absurd (omega (arith, more, n, above_length, waiting))
 
@@ -409,3 +404,8 @@ module _ (code : CodeParts) (fuel : ℕ) (all : List Item) where
       where
         end : IsAtEnd (asks code) z
         end = record { task = whole_task current; at_ = st.is_stage.stands.at_; stops = subst (λ (b : Act CodeScript). IsHalt b) (sym h.fault) tt }
+
+-- what follows where a call did not want memory
+pub on_ok : {A E : Type 0} {T U : Type 0} (r : Result A E) → (T → U) → OnOk r T → OnOk r U
+on_ok (Ok x) h t = h t
+on_ok (Err e) h t = tt

@@ -1,14 +1,14 @@
 -- One act of the sequential run: which tasks there are behind it, with which accesses and how they came to be.
-use Rattle.std.proofs.Common.{◌≡◌, ◌≢◌, ℕ, ◌+◌, ◌≤◌, ◌<◌, ◌⊎◌, inl, inr, refl, sym, subst, ap, ◌∙◌, List, [], ◌∷◌, ◌++◌, length, reverse, arith, Bool, true, false, Option, None, Some}
+use Rattle.std.proofs.Common.{◌≡◌, ◌≢◌, ℕ, ◌+◌, ◌≤◌, ◌<◌, ◌⊎◌, inl, inr, refl, sym, subst, ap, ◌∙◌, List, [], ◌∷◌, ◌++◌, reverse, arith, true, false, Option, None, Some}
 use Rattle.oss_syntax.specs.declared.tree.program.Item.{Item}
 use Rattle.oss_model.specs.Agreement.{MainStarts}
 use Rattle.oss_model.specs.Bodies.{Act, Frame, Order, Program, Start, stack_from, stage_act, stage_created, top_frame}
 use Rattle.oss_model.specs.Bodies.Act.{Created}
-use Rattle.oss_model.specs.Context.{Context, right_of}
+use Rattle.oss_model.specs.Context.{Context}
 use Rattle.oss_model.specs.History.{IsMade}
 use Rattle.oss_model.specs.Machine.{At, State, Task, find}
 use Rattle.oss_model.specs.Memory.{Event, Happened}
-use Rattle.oss_model.specs.Moves.{act_now, after_answer, created_now, found_by, new_task}
+use Rattle.oss_model.specs.Moves.{act_now, after_answer, created_now, found_by}
 use Rattle.oss_model.specs.Order.{IsBefore, IsIn, IsSuffix, here, same, there, whole, written}
 use Rattle.oss_model.specs.Sequence.{Running, RunsOn, path_above}
 use Rattle.oss_model.proofs.BodyLemmas.{stack_ok}
@@ -25,7 +25,6 @@ use Rattle.oss_task_graph.specs.declared.graph.Node.{Node}
 use Rattle.oss_task_graph.specs.Edges.{AreEdges}
 use Rattle.oss_task_graph.specs.Graphs.{AreInOrder, AreNodes, IsNode, accesses_below, right_in}
 use Rattle.oss_task_graph.specs.Groups.{is_held}
-use Rattle.oss_model.specs.Rights.{Holds, NoRight, Released, Right}
 use Rattle.oss_task_edges.proofs.AgreeLemmas.{edges_agree}
 
 first_same : (j k : ℕ) (p q : List ℕ) → j ∷ p ≡ k ∷ q → j ≡ k
@@ -182,6 +181,7 @@ module _ {S : Type 0} (P : Program S) (main : Start S) (ms : MainStarts main) (z
 
   module _ (at : S → ℕ) (all : List Item) where
     node_still : (k : ℕ) (q : List ℕ) (n : Node) → IsNode P at z.state all k q n → IsNode P at y.state all k q n
+    unfolding created_forth
     node_still k q n h =
         record {
           point = h.point;

@@ -5,7 +5,6 @@ use Rattle.oss_syntax.specs.declared.tree.program.Item.{Item}
 use Rattle.oss_model.specs.Agreement.{Setting}
 use Rattle.oss_model.specs.Machine.{State}
 use Rattle.oss_code.specs.declared.code.CodeParts.{CodeParts}
-use Rattle.oss_machine.specs.Frames.{CodeScript}
 use Rattle.oss_machine.specs.Machines.{asks}
 use Rattle.oss_body.specs.Mains.{code_main}
 use Rattle.oss_serial.specs.declared.stage.Stage.{Stage}

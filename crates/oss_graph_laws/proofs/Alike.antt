@@ -1,10 +1,9 @@
 -- States of two programs in which the same tasks were created with the same rights, whose bodies are named alike: what is told of the one is told of the other.
-use Rattle.std.proofs.Common.{◌≡◌, ◌∙◌, ℕ, false, List, ◌∷◌, refl, sym, ap, subst}
+use Rattle.std.proofs.Common.{◌≡◌, ◌∙◌, ℕ, false, List, ◌∷◌, sym, subst}
 use Rattle.oss_syntax.specs.declared.tree.program.Item.{Item}
 use Rattle.oss_model.specs.Bodies.{Program}
 use Rattle.oss_model.specs.Context.{Context}
 use Rattle.oss_model.specs.Machine.{State, find}
-use Rattle.oss_model.specs.Order.{IsIn}
 use Rattle.oss_explanation.specs.Lives.{IsCreated}
 use Rattle.oss_task_graph.specs.declared.graph.Node.{Node}
 use Rattle.oss_task_graph.specs.Edges.{Accesses, AreEdges}

@@ -1,12 +1,12 @@
 -- The run of a program has the graph of its code's run, whose scripts are moved.
-use Rattle.std.proofs.Common.{◌≡◌, ◌∙◌, ℕ, Bool, false, List, [], ◌∷◌, Option, Some, None, option_map, refl, sym, ap, subst}
+use Rattle.std.proofs.Common.{◌≡◌, ◌∙◌, ℕ, false, List, ◌∷◌, Option, Some, None, option_map, refl, sym, ap, subst}
 use Rattle.oss_syntax.specs.declared.fault.FaultKind.{FaultKind}
 use Rattle.oss_syntax.specs.declared.tree.program.Item.{Item}
 use Rattle.oss_model.specs.Agreement.{AreWords, Setting}
-use Rattle.oss_model.specs.Bodies.{Act, Body, IsHalt, Order, Program, Start}
+use Rattle.oss_model.specs.Bodies.{Act, IsHalt, Order, Program, Start}
 use Rattle.oss_model.specs.Bodies.Act.{Fault, Over}
 use Rattle.oss_model.specs.Context.{Context, child_context}
-use Rattle.oss_model.specs.Machine.{At, State, Task, find}
+use Rattle.oss_model.specs.Machine.{State, Task, find}
 use Rattle.oss_model.specs.Moves.{act_now}
 use Rattle.oss_model.specs.Order.{written}
 use Rattle.oss_model.specs.Sequence.{IsAtEnd, Running, Sequential}
@@ -23,7 +23,7 @@ use Rattle.oss_body.specs.Mains.{code_main}
 use Rattle.oss_lower_laws.specs.Programs.{IsCodeOf, moved_order, moved_start}
 use Rattle.oss_lower_laws.proofs.LiveLemmas.{programs_are_lively}
 use Rattle.oss_lower_laws.proofs.MovedBodies.{acts_alike, moved_act}
-use Rattle.oss_lower_laws.proofs.MovedRuns.{moved_body, moved_running, moved_state, moved_task, sequential_alike}
+use Rattle.oss_lower_laws.proofs.MovedRuns.{moved_running, moved_state, moved_task, sequential_alike}
 use Rattle.oss_lower_laws.proofs.OneResult.{one_end}
 use Rattle.oss_lower_laws.proofs.OutcomeLaws.{main_setting, start_is}
 use Rattle.oss_lower_laws.proofs.OutcomeLemmas.{run_has_one}
@@ -32,7 +32,6 @@ use Rattle.oss_explain_laws.proofs.Alike.{created_there, turned}
 use Rattle.oss_explain_laws.proofs.MovedEndings.{act_is, at_moved, event_forth, find_is, halts, happened_forth, moved_alike, moved_event}
 use Rattle.oss_task_graph.specs.declared.graph.Graph.{Graph}
 use Rattle.oss_task_graph.specs.declared.graph.Node.{Node}
-use Rattle.oss_task_graph.specs.declared.graph.Stop.{Stop}
 use Rattle.oss_task_graph.specs.Graphs.{AreNodes, IsGraph, entry_of, right_in}
 use Rattle.oss_task_graph.specs.Graphs.IsGraph.{done, fault}
 use Rattle.oss_graph_laws.specs.Claims.{GraphsAlike}
@@ -93,11 +92,11 @@ module _ (all : List Item) (code : CodeParts) (of : IsCodeOf all code) where
 
     graph_forth : (g : Graph) → IsGraph P place main cells all g → IsGraph Q entry_of (moved_start of.places main) cells all g
     unfolding moved_end
-    graph_forth _ (done {z} {ns} run end over nodes) =
+    graph_forth _ (done {z = z} {ns = ns} run end over nodes) =
         done (sequential_alike all code of run) (moved_end z end) (act_is all code of end.task.body ∙ ap (moved_act of.places) over)
         (nodes_there P Q place entry_of z.state (moved_state of.places z.state) (forth z.state) all ns nodes)
-    graph_forth _ (fault {z} {ns} run end fails at nodes) =
-        fault (sequential_alike all code of run) (moved_end z end) (act_is all code of end.task.body ∙ ap (moved_act of.places) fails) at
+    graph_forth _ (fault {z = z} {ns = ns} run end faulty at nodes) =
+        fault (sequential_alike all code of run) (moved_end z end) (act_is all code of end.task.body ∙ ap (moved_act of.places) faulty) at
         (nodes_there P Q place entry_of z.state (moved_state of.places z.state) (forth z.state) all ns nodes)
 
     module _ (setting : Setting main cells) (starts : Setting (moved_start of.places main) cells) where
@@ -148,13 +147,13 @@ module _ (all : List Item) (code : CodeParts) (of : IsCodeOf all code) where
       not_both k l p e = cc
 
       by_outcome : (o : Outcome) → IsOutcome P main cells o → (g : Graph) → IsGraph Q entry_of (moved_start of.places main) cells all g → IsGraph P place main cells all g
-      by_outcome _ (ends {z = y} run end over) _ (done {z} {ns} other last over' theirs) = done run end over (nodes y run end z other last ns theirs)
-      by_outcome _ (ends {z = y} run end over) _ (fault {z} {stop = t} {key = k} other last fails' at theirs) =
-          absurd (not_both t.kind t.line k (ap (moved_act of.places) (sym over) ∙ acts y run end z other last ∙ fails'))
-      by_outcome _ (fails {z = y} {kind = kind} {line = line} {key = key} run end faulty) _ (done {z} other last over theirs) =
+      by_outcome _ (ends {z = y} run end over) _ (done {z = z} {ns = ns} other last over' theirs) = done run end over (nodes y run end z other last ns theirs)
+      by_outcome _ (ends {z = y} run end over) _ (fault {z = z} {stop = t} {key = k} other last faulty at theirs) =
+          absurd (not_both t.kind t.line k (ap (moved_act of.places) (sym over) ∙ acts y run end z other last ∙ faulty))
+      by_outcome _ (fails {z = y} {kind = kind} {line = line} {key = key} run end faulty) _ (done {z = z} other last over theirs) =
           absurd (not_both kind line key (sym over ∙ sym (acts y run end z other last) ∙ ap (moved_act of.places) faulty))
-      by_outcome _ (fails {z = y} {kind = kind} {line = line} {key = key} run end faulty) _ (fault {z} {ns} {t} {k} other last fails' at theirs) =
-          fault run end (faulty ∙ fault_there kind t.kind line t.line key k (ap (moved_act of.places) (sym faulty) ∙ acts y run end z other last ∙ fails'))
+      by_outcome _ (fails {z = y} {kind = kind} {line = line} {key = key} run end faulty) _ (fault {z = z} {ns = ns} {stop = t} {key = k} other last faulty' at theirs) =
+          fault run end (faulty ∙ fault_there kind t.kind line t.line key k (ap (moved_act of.places) (sym faulty) ∙ acts y run end z other last ∙ faulty'))
           (at ∙ ap (λ (p : List ℕ). written p) (sym (active y run end z other last))) (nodes y run end z other last ns theirs)
 
       graph_back : (g : Graph) → IsGraph Q entry_of (moved_start of.places main) cells all g → IsGraph P place main cells all g

@@ -1,8 +1,7 @@
 -- The edges to a task are one list.
-use Rattle.std.proofs.Common.{◌≡◌, ◌<◌, ◌∙◌, ℕ, Bool, true, false, List, [], ◌∷◌, refl, sym, ap, subst, arith}
+use Rattle.std.proofs.Common.{◌≡◌, ◌<◌, ◌∙◌, ℕ, Bool, true, false, List, [], ◌∷◌, refl, sym, subst, arith}
 use Rattle.oss_syntax.specs.declared.tree.program.Item.{Item}
 use Rattle.oss_model.specs.Order.{IsIn}
-use Rattle.oss_pieces.specs.declared.piece.Piece.{Piece}
 use Rattle.oss_pieces.specs.Pieces.{ArePieces}
 use Rattle.oss_pieces.proofs.OneListLemmas.{one_list as one_list_of_pieces}
 use Rattle.oss_task_graph.specs.declared.graph.Edge.{Edge}

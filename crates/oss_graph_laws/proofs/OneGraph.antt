@@ -1,12 +1,12 @@
 -- The run of a program has one graph.
-use Rattle.std.proofs.Common.{◌≡◌, ◌∙◌, ℕ, false, List, [], ◌∷◌, Option, Some, None, refl, sym, ap, subst}
+use Rattle.std.proofs.Common.{◌≡◌, ◌∙◌, ℕ, false, List, Some, None, refl, sym, ap}
 use Rattle.oss_syntax.specs.declared.fault.FaultKind.{FaultKind}
 use Rattle.oss_syntax.specs.declared.tree.program.Item.{Item}
 use Rattle.oss_model.specs.Agreement.{MainStarts}
 use Rattle.oss_model.specs.Bodies.{Act, Program, Start}
 use Rattle.oss_model.specs.Bodies.Act.{Fault, Over}
 use Rattle.oss_model.specs.Context.{Context}
-use Rattle.oss_model.specs.Machine.{At, State, Task, find}
+use Rattle.oss_model.specs.Machine.{State, Task, find}
 use Rattle.oss_model.specs.Moves.{act_now}
 use Rattle.oss_model.specs.Order.{written}
 use Rattle.oss_model.specs.Sequence.{IsAtEnd, Running, Sequential}
@@ -22,7 +22,7 @@ use Rattle.oss_task_graph.specs.Graphs.{AreNodes, IsGraph, right_in}
 use Rattle.oss_task_graph.specs.Graphs.IsGraph.{done, fault}
 use Rattle.oss_graph_laws.specs.Claims.{GraphsAreOne}
 use Rattle.oss_graph_laws.proofs.Alike.{Made, MadeAlike, nodes_there}
-use Rattle.oss_graph_laws.proofs.OneNode.{one_nodes, one_order}
+use Rattle.oss_graph_laws.proofs.OneNode.{one_nodes}
 
 stop_is : (s t : Stop) → s.task ≡ t.task → s.kind ≡ t.kind → s.line ≡ t.line → s ≡ t
 stop_is s t p q r i = record { task = p i; kind = q i; line = r i }
@@ -70,7 +70,7 @@ module _ {S : Type 0} (P : Program S) (place : S → ℕ) (main : Start S) (ms :
   not_both k l p e = cc
 
   module _ (y z : Running S) (a : Sequential P main first y) (b : Sequential P main first z) (end : IsAtEnd P y) (last : IsAtEnd P z) where
-    same : Same y z
+    same : Same P y z
     same = one_end P a end b last
 
     -- the task that runs is one
@@ -84,12 +84,12 @@ module _ {S : Type 0} (P : Program S) (place : S → ℕ) (main : Start S) (ms :
     nodes all ns os h g = one_nodes P main z.state (stands P main first ms z b).made place all ns os (nodes_there P P place place y.state z.state (listed y.state z b same.found) all ns h) g
 
   one_graph : (all : List Item) (g h : Graph) → IsGraph P place main first all g → IsGraph P place main first all h → g ≡ h
-  one_graph all _ _ (done {y} {ns} a end over ours) (done {z = z} {ns = os} b last over' theirs) =
+  one_graph all _ _ (done {z = y} {ns = ns} a end over ours) (done {z = z} {ns = os} b last over' theirs) =
       let e = nodes y z a b end last all ns os ours theirs in
       λ i. record { nodes = e i; fault = None }
-  one_graph all _ _ (done {y} a end over ours) (fault {z = z} {stop = t} {key = k} b last fails at theirs) = absurd (not_both t.kind t.line k (sym over ∙ acts y z a b end last ∙ fails))
-  one_graph all _ _ (fault {y} {stop = t} {key = k} a end fails at ours) (done {z = z} b last over theirs) = absurd (not_both t.kind t.line k (sym over ∙ sym (acts y z a b end last) ∙ fails))
-  one_graph all _ _ (fault {y} {ns} {t} {j} a end fails at ours) (fault {z = z} {ns = os} {stop = u} {key = k} b last fails' at' theirs) =
+  one_graph all _ _ (done {z = y} a end over ours) (fault {z = z} {stop = t} {key = k} b last fails at theirs) = absurd (not_both t.kind t.line k (sym over ∙ acts y z a b end last ∙ fails))
+  one_graph all _ _ (fault {z = y} {stop = t} {key = k} a end fails at ours) (done {z = z} b last over theirs) = absurd (not_both t.kind t.line k (sym over ∙ sym (acts y z a b end last) ∙ fails))
+  one_graph all _ _ (fault {z = y} {ns = ns} {stop = t} {key = j} a end fails at ours) (fault {z = z} {ns = os} {stop = u} {key = k} b last fails' at' theirs) =
       let e = nodes y z a b end last all ns os ours theirs in
       let act : ◌≡◌ {A = Act S} (Fault t.kind t.line j) (Fault u.kind u.line k) = sym fails ∙ acts y z a b end last ∙ fails' in
       let stop : t ≡ u = stop_is t u (at ∙ ap (λ (p : List ℕ). written p) (same y z a b end last).active ∙ sym at') (kind_one t.kind u.kind t.line u.line j k act) (line_one t.kind u.kind t.line u.line j k act) in

@@ -11,9 +11,7 @@ use Rattle.oss_model.specs.Order.{IsBefore, IsIn, written}
 use Rattle.oss_model.proofs.OrderLemmas.{before_not, before_trans}
 use Rattle.oss_explanation.specs.Lives.{IsCreated}
 use Rattle.oss_explain_laws.proofs.OneEvent.{one_created, one_creation}
-use Rattle.oss_task_graph.specs.declared.graph.Edge.{Edge}
 use Rattle.oss_task_graph.specs.declared.graph.Node.{Node}
-use Rattle.oss_task_graph.specs.Edges.{AreEdges}
 use Rattle.oss_task_graph.specs.Graphs.{AreInOrder, AreNodes, IsNode, accesses_below}
 use Rattle.oss_graph_laws.proofs.OneEdge.{one_edges}
 use Rattle.oss_graph_laws.proofs.RisingLemmas.{IsRising, one_list}

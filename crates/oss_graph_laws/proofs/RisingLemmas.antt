@@ -12,6 +12,7 @@ module _ {X : Type 0} (Before : X → X → Type 0) where
   module _ (on : (x y z : X) → Before x y → Before y z → Before x z) (apart : (x : X) → Before x x → ⊥) where
     -- so each comes before all behind it
     before : (x : X) (xs : List X) → IsRising (x ∷ xs) → (y : X) → IsIn y xs → Before x y
+    before x [] r y i = elim i [ ]
     before x (z ∷ zs) r _ here = r.0
     before x (z ∷ zs) r y (there i) = on x z y r.0 (before z zs r.1 y i)
 
