@@ -1,5 +1,5 @@
 -- The parts of bodies that stand before them are the parts of these bodies.
-use Rattle.std.proofs.Common.{◌≡◌, ℕ, ◌+◌, List, [], ◌∷◌, length, Result, Ok, Err, ap, sym, subst, arith}
+use Rattle.std.proofs.Common.{◌≡◌, ℕ, ◌+◌, List, [], ◌∷◌, ◌++◌, length, Result, Ok, Err, ap, sym, subst, arith}
 use Rattle.std.specs.Prelude.{Vec, IfOk}
 use Rattle.std.specs.declared.alloc.AllocError.{AllocError}
 use Rattle.std.specs.declared.alloc.Global.{Global}
@@ -30,6 +30,16 @@ pub parts_are : (code : CodeParts) (memory : List ℕ) (bodies : List Body) (rea
     → IfOk result (λ done. AreGiven (λ (one : Ready) (part : Segment). IsPartOf one.code.now memory one.body part) readies done.items) → IfOk result (λ parts. ArePartsOf code memory bodies parts.items)
 parts_are code memory bodies readies (Ok done) r p = each_part code memory bodies readies done.items r p
 parts_are code memory bodies readies (Err error) r p = tt
+
+-- one part more, of one body more
+pub parts_more : (code : CodeParts) (memory : List ℕ) (bodies : List Body) (parts now : List Segment) (b : Body) (s : Segment) → now ≡ parts ++ (s ∷ []) → ArePartsOf code memory bodies parts → IsPartOf code memory b s → ArePartsOf code memory (bodies ++ (b ∷ [])) now
+parts_more code memory bodies parts now b s e are is = subst (λ (all : List Segment). ArePartsOf code memory (bodies ++ (b ∷ [])) all) (sym e) (go bodies parts are)
+  where
+    go : (xs : List Body) (ys : List Segment) → ArePartsOf code memory xs ys → ArePartsOf code memory (xs ++ (b ∷ [])) (ys ++ (s ∷ []))
+    go [] [] p = (is, tt)
+    go [] (y ∷ ys) p = absurd p
+    go (x ∷ xs) [] p = absurd p
+    go (x ∷ xs) (y ∷ ys) p = (p.0, go xs ys p.1)
 
 -- what is so of all bodies that are left is so of the first
 pub first_known : (code : CodeParts) (all : List Body) (b : Body) (rest : List Body) → all ≡ b ∷ rest → ((x : Body) → IsIn x all → IsKnown code x) → IsKnown code b

@@ -56,6 +56,24 @@ fn ready<'a>(
     Ok(all)
 }
 
+/// The parts of bodies, one after the other, as the first worker makes them: a list of jobs, groups of these and
+/// what was made of each group would be three lists more. Want of memory is the one error.
+fn parts_in_turn<'a, G: Gate>(
+    beginning: &Beginning<'a, G>,
+    code: &'a Code,
+    bodies: Vec<BoxedBody>,
+) -> Result<Vec<Segment>, AllocError>
+    requires { (b : Kept) → IsIn b bodies.items → IsKnown code.now b }
+    ensures { IfOk result (λ parts. ArePartsOf code.now beginning.now.memory.now bodies.items parts.items) }
+{
+    let mut parts = Vec::new(beginning.alloc);
+    for body in bodies {
+        let part = beginning.run(0, Ready { code: &*code, body })?;
+        parts.push(part)?;
+    }
+    Ok(parts)
+}
+
 /// The part of each of these bodies, over a memory that nobody changes meanwhile, in their order. Want of
 /// memory is the one error. Conditions: each is a body, after some answers, of a task of this code; the memory
 /// has at most 1,048,576 cells.
@@ -74,6 +92,9 @@ pub(crate) fn parts_of<R: Threads + Sync, G: Gate>(
         memory,
         gate: team.gate,
     };
+    if team.workers == 1 || bodies.len() < 2 {
+        return parts_in_turn(&beginning, &*code, bodies);
+    }
     let all = ready(team.alloc, code, bodies)?;
     in_groups(team.rt, team.alloc, &beginning, all, team.workers)
 }
