@@ -1,0 +1,48 @@
+#!/bin/sh
+# Counts the instructions of `graph` by the built program, or by PROGRAM where one is handed over: of tasks in a chain, of tasks on cells of their own, and of readers behind writers. A row tells
+# the instructions for each of 60,000 tasks, and how many times as many 60,000 take as 30,000. A count is the same whatever runs beside. It wants `valgrind`.
+# usage: graph.sh [PROGRAM]
+# shellcheck source=bench/built.sh
+. "$(dirname -- "$0")/built.sh"
+
+# counted NAME: the instructions of the graph of NAME.c
+counted() { valgrind --tool=callgrind --callgrind-out-file=/dev/null "$program" graph "$1.c" 2>&1 >/dev/null | sed -n 's/.*Collected : \([0-9]*\).*/\1/p'; }
+
+# drawn WHAT NAME: NAME_1.c, and NAME_2.c, with twice the tasks
+drawn() {
+  awk -v what="$1" -v a="$(counted "$2_1")" -v b="$(counted "$2_2")" 'BEGIN { printf "%s | %.0f | %.2f\n", what, b / 60000, b / a }'
+}
+
+for times in 1 2; do
+  count=$((times * 30000))
+  cat >"chain_$times.c" <<PROGRAM
+long x;
+int main() {
+  for (long i = 0; i < $count; i++)
+#pragma oss task inout(x)
+    x += i;
+#pragma oss taskwait
+  printf("%ld\\n", x);
+}
+PROGRAM
+  cat >"apart_$times.c" <<PROGRAM
+long a[$count];
+int main() {
+  for (long i = 0; i < $count; i++)
+#pragma oss task inout(a[i])
+    a[i] = i;
+}
+PROGRAM
+  cat >"readers_$times.c" <<PROGRAM
+long a[60], b[60];
+int main() {
+  for (long i = 0; i < $count; i++)
+#pragma oss task in(a[i % 60], a[(i + 1) % 60]) inout(b[i % 60])
+    b[i % 60] += a[i % 60] + a[(i + 1) % 60];
+}
+PROGRAM
+done
+echo 'what | instructions for each of 60,000 tasks | times as many for twice the tasks'
+drawn 'the graph of a chain' chain
+drawn 'of tasks on cells of their own' apart
+drawn 'of tasks with three cells each' readers
