@@ -1,6 +1,8 @@
 -- Rows worked by hand: the labels of some programs, of which the pages of definitions speak.
-use Rattle.std.proofs.Common.{◌≡◌, ℕ, List, [], ◌∷◌, Option, Some, None, refl, rules}
+use Rattle.std.proofs.Common.{◌≡◌, ℕ, List, [], ◌∷◌, Option, Some, None, option_map, refl, rules}
 use Rattle.std.specs.Prelude.{codes}
+use Rattle.oss_syntax.specs.declared.tree.expr.Expr.{Expr}
+use Rattle.oss_syntax.specs.declared.tree.pragma.Clause.{Clause}
 use Rattle.oss_syntax.specs.declared.tree.pragma.Clause.TheVariants as clause
 use Rattle.oss_syntax.specs.declared.tree.program.Function.{Function}
 use Rattle.oss_syntax.specs.declared.tree.program.Item.{Item}
@@ -10,12 +12,26 @@ use Rattle.oss_syntax.specs.declared.tree.stmt.Stmt.{Stmt}
 use Rattle.oss_syntax.specs.declared.tree.stmt.StmtKind.TheFolds.{the_lemmas as stmt_folds}
 use Rattle.oss_syntax.specs.declared.tree.stmt.StmtKind.TheVariants as stmts
 use Rattle.oss_meaning.specs.Expressions.{TaskBody}
-use Rattle.oss_meaning.proofs.RowTrees.{main_of, number, on, task, x}
+use Rattle.oss_meaning.proofs.RowTrees.{main_of, on, task}
 use Rattle.oss_code.specs.declared.instr.Instr.TheVariants as i
 use Rattle.oss_labels.specs.Creations.{creations, joined, labels_in_code}
-use Rattle.oss_labels.specs.Labels.{label_in, label_of, stmt_labels}
+use Rattle.oss_labels.specs.Labels.{both_labels, label_of, loop_labels, no_labels, part_labels, stmt_labels, task_labels}
 use Rattle.oss_labels.specs.Lists.{label_at}
 use Rattle.oss_labels.specs.declared.labels.Labelled.{Labelled}
+
+-- what each form becomes
+labels-empty : (line : ℕ) → stmt_labels (on line stmts.Empty) ≡ no_labels
+labels-empty line = search (rules, stmt_folds)
+
+labels-task : (line at : ℕ) (clauses : List Clause) (body : Stmt) → stmt_labels (on line (stmts.Task (record { clauses = clauses; line = at }) body)) ≡ task_labels clauses (stmt_labels body)
+labels-task line at clauses body = search (rules, stmt_folds)
+
+labels-for : (line : ℕ) (first : Option Stmt) (test : Option Expr) (last : Option Stmt) (body : Stmt)
+    → stmt_labels (on line (stmts.For first test last body))
+    ≡ both_labels (part_labels (option_map stmt_labels first)) (loop_labels (part_labels (option_map stmt_labels last)) (stmt_labels body))
+labels-for line first test last body = search (rules, stmt_folds)
+
+ruleset forms = (labels-empty, labels-task, labels-for)
 
 -- `#pragma oss task label(f) void f() {}`
 abbrev f : Function
@@ -41,14 +57,14 @@ of_main : label_of both TaskBody.main ≡ None
 of_main = refl
 
 of_two : label_of both (TaskBody.statement 0) ≡ Some (codes "two")
-of_two = simp stmt_folds
+of_two = simp forms
 
 of_bare : label_of both (TaskBody.statement 1) ≡ None
-of_bare = simp stmt_folds
+of_bare = simp forms
 
 -- no third task statement
 of_none : label_of both (TaskBody.statement 2) ≡ None
-of_none = simp stmt_folds
+of_none = simp forms
 
 -- in the order of the code the function comes first
 in_order : labels_in_code (f ∷ []) ≡ Some (codes "f") ∷ []
@@ -59,10 +75,10 @@ abbrev turned : Stmt
 turned = on 3 (stmts.For None None (Some bare) two)
 
 turned_in_text : (stmt_labels turned).in_text ≡ None ∷ Some (codes "two") ∷ []
-turned_in_text = simp stmt_folds
+turned_in_text = simp forms
 
 turned_in_code : (stmt_labels turned).in_code ≡ Some (codes "two") ∷ None ∷ []
-turned_in_code = simp stmt_folds
+turned_in_code = simp forms
 
 -- `Tick, Begin, Create 4, Skip 7` from place 10 on
 led : creations 10 (i.Tick ∷ i.Begin ∷ i.Create 4 ∷ i.Skip 7 ∷ []) ≡ 17 ∷ []
