@@ -35,6 +35,11 @@ returns-in-Explain g c =
     if_ok c.found_in_text-in-Explain.result
     (λ found is. found_of_text (meant c.args.command) (rw (ap meant c.in-Explain.is) tt) c.args.text.now (shelf_span g.S.Shelf.held g.S.Shelf.faults g.S.Shelf.last c.args.shelf.now c.args.shelf.now) found refl is) c.found_in_text-in-Explain.ensures
 
+pub returns-in-Graph : goal.returns-in-Graph
+returns-in-Graph g c =
+    if_ok c.found_in_text-in-Graph.result
+    (λ found is. found_of_text (meant c.args.command) (rw (ap meant c.in-Graph.is) tt) c.args.text.now (shelf_span g.S.Shelf.held g.S.Shelf.faults g.S.Shelf.last c.args.shelf.now c.args.shelf.now) found refl is) c.found_in_text-in-Graph.ensures
+
 pub returns-in-Soak : goal.returns-in-Soak
 returns-in-Soak g c =
     let asked = c.in-Soak.asked in
