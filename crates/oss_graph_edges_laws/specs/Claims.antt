@@ -1,4 +1,4 @@
--- What the edges of a graph say of waiting. A child stands on those of the group before its own, and on no others, since what is further back is done where these are.
+-- What the edges of a graph say of waiting. A child stands on those of the group directly before its own, and on no others: to what is further back a way leads.
 -- Read against: `out(x)`, `in(x)`, `in(x)`, `inout(x)` are the children 0 to 3. The read of 1 is satisfied only where the write of 0 is done, and the write of 3 only where the reads of 1 and 2 are. 0 and 3 conflict, and no
 -- edge leads from 0 to 3, but a way does: 0, 1, 3. Two reductions by `+` and then one by `|`, 0 to 2: the join of 2 is satisfied only where the accesses of 0 and 1 are done; 0 and 1 do not conflict, and no way
 -- leads from 0 to 1.
