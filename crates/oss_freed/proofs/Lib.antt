@@ -1,0 +1,3 @@
+pub mod WholeContexts
+pub mod FreedBodies
+pub mod FreedRuns
