@@ -31,6 +31,8 @@ BEGIN {
   explains("docs/LANGUAGE.md", "clause | right to its cells")
   explains("docs/LANGUAGE.md", "the fault is in | its line")
   explains("docs/COMMANDS.md", "in an explanation | stands")
+  explains("docs/COMMANDS.md", "the first lines | of")
+  explains("docs/COMMANDS.md", "in a graph | stands")
 
   tries("docs/LANGUAGE.md", "command | what it does with a text", "command")
   tries("docs/LANGUAGE.md", "topic | crate | definitions", "definitions")
