@@ -4,7 +4,7 @@
 # row, and so in each mode, the status 6 has to come at least once. A row is a call: how many pieces it asks for, and how it ended with one of them refused.
 # The last line counts the rows; the status is 0 only where none failed. `tests/refused.sh PROGRAM` tries another program than the one of this repository, and
 # `tests/refused.sh PROGRAM PART..` these parts alone: a part is a program, by its name without `.c`, or one of `commands`, `replays` and `soaks`.
-# It needs a C compiler. A call that makes no thread is copied at each piece (tests/refused/refuse.c). One that makes threads and asks for N pieces is made N times, which takes most of
+# It needs a C compiler. A call that makes no thread is copied at each piece (tests/refused/refuse.c). One that makes threads and asks for N pieces is made N times, as many at once as there are processors, which takes most of
 # the time; tests/run.sh calls this script if its first word is --all.
 top=$(CDPATH='' cd -- "$(dirname -- "$0")/.." && pwd) || exit 1
 program=${1:-$top/crates/nest6/out/nest6}
@@ -29,8 +29,6 @@ programs() {
     name=$(basename -- "$file" .c)
     case $name in
       refuse | each) ;;
-      # (this one asks for more pieces than hours allow)
-      too_wide) ;;
       *) echo "$name" ;;
     esac
   done
