@@ -355,6 +355,9 @@ expect "a file of 1,048,576 bytes to check" 0 ok ../nothing check full.c
 expect "a file of 1,048,577 bytes" 3 ../nothing too_large run long.c
 expect "a file of 1,048,577 bytes to check" 3 ../nothing too_large check long.c
 expect "a file of 1,048,577 bytes with a bad byte" 3 ../nothing too_large check long_bytes.c
+for command in trace span audit explain graph; do
+  expect "a file of 1,048,577 bytes, $command" 3 ../nothing too_large "$command" long.c
+done
 echo 'int main() { }' >none.c
 echo 'cannot read missing.txt' >missing_schedule
 echo 'schedule refused at line 1' >first_line
