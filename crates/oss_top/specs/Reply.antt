@@ -1,13 +1,17 @@
 -- What the top call replies: a status, the bytes for the output and those for the error output.
 --
---     0  Done           the command is done              `ok`, or the program's output    nothing
---     1  Fault          the program ran into a fault     the output before it             fault: KIND at line N
+--     0  Done           the command is done              what it tells, as below          nothing
+--     1  Fault          the program ran into a fault     what it tells of it, as below    fault: KIND at line N
 --     2  WordsRefused   the words are refused            nothing                          the usage line
 --     3  TextRefused    a text is refused                nothing                          refused: KIND at line N, or schedule refused at line N
 --     4  Unread         a file could not be read         nothing                          cannot read FILE
 --     5  Unwritten      a text could not be written      a prefix of it                   a prefix of it, behind the whole output alone
 --     6  OutOfMemory    memory is wanting                nothing                          nothing
 --     7  NotReplayed    a replay does not end            nothing                          move N is not enabled, or N tasks unfinished
+--
+-- What a command tells: `check` the line `ok`; `run`, `replay` and `soak` the program's output, with a dump the final cells behind it, and before a fault the output
+-- up to it; `trace` the moves; `span` and `audit` their lines, and nothing of a program with a fault; `explain` the explanation of the fault, or `no fault`; `graph` the graph of the
+-- tasks, with the fault marked in it.
 --
 -- Read against: of `long x; int main() { x = 1; }` the reply to `check` is Done with `ok`, to `run` Done with nothing, and to `run --dump` Done with the line
 -- `x = 1`; with `x = 1 / x;` in its place the reply to `run`, with a dump or without, is Fault with nothing on the output and DivideByZero at line 1; of the empty text

@@ -24,8 +24,9 @@ pub struct Sinks<O, E> {
 
 /// Reads the words behind the program's name, reads the files that they name from the shelf, does what the
 /// command asks for, and writes the texts, the output first: it checks a program, runs it, traces its waves,
-/// replays a schedule, or runs a program that it has generated. The result is the number of a `Status`. A run
-/// by waves has its workers from `rt`, and each task passes the gate before its first step, in a run by workers too.
+/// measures its span, audits its clauses, explains its fault, draws the graph of its tasks, replays a schedule,
+/// or runs a program that it has generated. The result is the number of a `Status`. A run by waves has its
+/// workers from `rt`, and each task passes the gate before its first step, in a run by workers too.
 ///
 /// It is 0 where the command is done: a check that accepts the file, a program that ran to its end. It is 1
 /// where the program ran into a fault, 2 where the words are refused, 3 where a file is too long, the text of
