@@ -1,0 +1,5 @@
+pub mod Demands
+pub mod Meeting
+pub mod Needs
+pub mod Lacks
+pub mod Claims

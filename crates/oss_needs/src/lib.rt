@@ -1,0 +1,15 @@
+//! What a task asks of one cell, and what its clauses lack for it.
+#![tactic(auto)]
+
+mod clause;
+mod demand;
+mod lack;
+mod laws;
+mod modes;
+mod need;
+
+pub use clause::{Clause, Given};
+pub use demand::Demand;
+pub use lack::Lack;
+pub use laws::{fewer_are_not_met, lacks_are_told, mended_is_met};
+pub use need::Need;

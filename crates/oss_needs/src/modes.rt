@@ -1,0 +1,65 @@
+//! Modes of clauses, beside each other.
+
+ghost use Rattle.std.specs.Prelude.{◌≡◌, true};
+ghost use Rattle.oss_model.specs.Rights.{covers, op_eq};
+ghost use Rattle.oss_needs.specs.Demands.{is_write as is_to_write};
+ghost use Rattle.oss_needs.specs.Lacks.{mode_eq, mode_when};
+
+use oss_syntax::{Mode, Op};
+
+/// The operators are one.
+fn is_same_op(left: Op, right: Op) -> bool
+    ensures { result ≡ op_eq left right }
+{
+    match left {
+        Op::Add => matches!(right, Op::Add),
+        Op::And => matches!(right, Op::And),
+        Op::Or => matches!(right, Op::Or),
+        Op::Xor => matches!(right, Op::Xor),
+    }
+}
+
+/// The modes are one.
+pub(crate) fn is_same_mode(left: Mode, right: Mode) -> bool
+    ensures { result ≡ mode_eq left right }
+{
+    match left {
+        Mode::Read => matches!(right, Mode::Read),
+        Mode::Write => matches!(right, Mode::Write),
+        Mode::Fold(op) => match right {
+            Mode::Fold(other) => is_same_op(op, other),
+            Mode::Read => false,
+            Mode::Write => false,
+        },
+    }
+}
+
+/// The mode is to write.
+pub(crate) fn is_write(mode: Mode) -> bool
+    ensures { result ≡ is_to_write mode }
+{
+    match mode {
+        Mode::Write => true,
+        Mode::Read => false,
+        Mode::Fold(_) => false,
+    }
+}
+
+/// The least mode that will do for a mode, if there is one, and for others.
+pub(crate) fn mode_with(mode: Option<Mode>, others: Option<Mode>) -> Option<Mode>
+    ensures { result ≡ mode_when true mode others }
+{
+    match mode {
+        None => others,
+        Some(mode) => match others {
+            None => Some(mode),
+            Some(other) => {
+                if is_same_mode(mode, other) {
+                    Some(other)
+                } else {
+                    Some(Mode::Write)
+                }
+            }
+        },
+    }
+}
