@@ -41,8 +41,8 @@ fresh_part false b e = never (sym e)
 pub clause_met : (ds : List Demand) (m : Mode) → least_mode every ds ≡ Some m → all_met (Some (clause_for ds m (any_own ds))) ds ≡ true
 clause_met ds m e =
     met (clause_for ds m (any_own ds)) ds
-      (unbroken (needs_old ds) (is_write m) (is_write m && begins_fresh ds) (λ f. fresh_new ds (fresh_part (is_write m) (begins_fresh ds) f)))
-      (and_not (any_own ds)) (least_refuses_none ds m e)
+    (unbroken (needs_old ds) (is_write m) (is_write m && begins_fresh ds) (λ f. fresh_new ds (fresh_part (is_write m) (begins_fresh ds) f)))
+    (and_not (any_own ds)) (least_refuses_none ds m e)
 
 pub weak_met : (ds : List Demand) → any_by None every ds ≡ false → all_met (Some (record { mode = Read; strong = false; fresh = false })) ds ≡ true
 weak_met ds e =

@@ -5,3 +5,5 @@ pub mod ValueLemmas
 pub mod LackLemmas
 pub mod MendedLemmas
 pub mod FewerLemmas
+pub mod NeedLemmas
+pub mod LackingLemmas

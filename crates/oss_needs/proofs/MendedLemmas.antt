@@ -41,7 +41,7 @@ replaced ds (Some c) e = least_met ds c e
 replaced ds None e = subst (λ (xs : List Demand). all_met (Some (record { mode = Read; strong = false; fresh = false })) xs ≡ true) (sym (no_demand ds e)) refl
 
 -- who does not do by a weak clause is unmet under one
-own_unmet : (c : Clause) (ds : List Demand) → c.strong ≡ false → any_unmet_own c ds ≡ any_own ds
+pub own_unmet : (c : Clause) (ds : List Demand) → c.strong ≡ false → any_unmet_own c ds ≡ any_own ds
 own_unmet c [] s = refl
 own_unmet c (d ∷ ds) s = ap (λ (x : Bool). x || (is_unmet c d && is_own d)) (own_unmet c ds s) ∙ ap (λ (x : Bool). any_own ds || x) (go (is_own d) refl)
   where
@@ -54,9 +54,9 @@ refused_covered : (c : Clause) (m : Mode) (ds : List Demand) → c.mode ≡ m �
 refused_covered c m [] e h = refl
 refused_covered c m (d ∷ ds) e h =
     both_false (any_refused m ds) (refuses m (mode_of d))
-      (refused_covered c m ds e (left_false (any_by (Some m) (is_unmet c) ds) (is_unmet c d && refuses m (mode_of d)) h))
-      (inside (is_too_weak c d) (refuses m (mode_of d))
-        (ap (λ (k : Mode). (is_too_weak c d || refuses k (mode_of d)) && refuses m (mode_of d)) (sym e) ∙ right_false (any_by (Some m) (is_unmet c) ds) (is_unmet c d && refuses m (mode_of d)) h))
+    (refused_covered c m ds e (left_false (any_by (Some m) (is_unmet c) ds) (is_unmet c d && refuses m (mode_of d)) h))
+    (inside (is_too_weak c d) (refuses m (mode_of d))
+    (ap (λ (k : Mode). (is_too_weak c d || refuses k (mode_of d)) && refuses m (mode_of d)) (sym e) ∙ right_false (any_by (Some m) (is_unmet c) ds) (is_unmet c d && refuses m (mode_of d)) h))
 
 pub unbroken_read : (c : Clause) (ds : List Demand) → c.mode ≡ Read → is_broken c ds ≡ false
 unbroken_read c ds e = ap (λ (m : Mode). needs_old ds && (is_write m && c.fresh)) e ∙ and_false (needs_old ds)
@@ -121,8 +121,8 @@ clause_mended c ds m e f = go (added_mode c ds) refl
 fold_added : (c : Clause) (op : Op) (ds : List Demand) → c.mode ≡ Folding op → any_refused c.mode ds ≡ false → all_met (Some (joined (record { mode = c.mode; strong = true; fresh = false }) c)) ds ≡ true
 fold_added c op ds e r =
     met (joined (record { mode = c.mode; strong = true; fresh = false }) c) ds
-      (ap (λ (x : Bool). needs_old ds && x) (and_false (is_write (if mode_eq c.mode c.mode then c.mode else Write))) ∙ and_false (needs_old ds)) (and_false (any_own ds))
-      (ap (λ (b : Bool). any_refused (if b then c.mode else Write) ds) (mode_eq_self c.mode) ∙ r)
+    (ap (λ (x : Bool). needs_old ds && x) (and_false (is_write (if mode_eq c.mode c.mode then c.mode else Write))) ∙ and_false (needs_old ds)) (and_false (any_own ds))
+    (ap (λ (b : Bool). any_refused (if b then c.mode else Write) ds) (mode_eq_self c.mode) ∙ r)
 
 fold_mended : (c : Clause) (op : Op) (ds : List Demand) → c.mode ≡ Folding op → all_met (mended_by (given.Says c) (lack_of_fold c ds)) ds ≡ true
 fold_mended c op ds e = go (any_refused c.mode ds) (any_unmet c ds) refl refl

@@ -77,16 +77,16 @@ all_grow : (h g : Option Mode) → ((x : Option Mode) → refused_by h x ≡ fal
 all_grow h g f test [] e = refl
 all_grow h g f test (d ∷ ds) e =
     both_false (any_by g test ds) (test d && refused_by g (mode_of d))
-      (all_grow h g f test ds (left_false (any_by h test ds) (test d && refused_by h (mode_of d)) e))
-      (and_still (test d) (refused_by h (mode_of d)) (refused_by g (mode_of d)) (f (mode_of d)) (right_false (any_by h test ds) (test d && refused_by h (mode_of d)) e))
+    (all_grow h g f test ds (left_false (any_by h test ds) (test d && refused_by h (mode_of d)) e))
+    (and_still (test d) (refused_by h (mode_of d)) (refused_by g (mode_of d)) (f (mode_of d)) (right_false (any_by h test ds) (test d && refused_by h (mode_of d)) e))
 
 -- no demand that passes the test is refused by the least mode for those that do
 pub least_covers : (test : Demand → Bool) (ds : List Demand) → any_by (least_mode test ds) test ds ≡ false
 least_covers test [] = refl
 least_covers test (d ∷ ds) =
     both_false (any_by (least_mode test (d ∷ ds)) test ds) (test d && refused_by (least_mode test (d ∷ ds)) (mode_of d))
-      (all_grow (least_mode test ds) (least_mode test (d ∷ ds)) (grows (test d) (mode_of d) (least_mode test ds)) test ds (least_covers test ds))
-      (here (test d) (mode_of d) (least_mode test ds))
+    (all_grow (least_mode test ds) (least_mode test (d ∷ ds)) (grows (test d) (mode_of d) (least_mode test ds)) test ds (least_covers test ds))
+    (here (test d) (mode_of d) (least_mode test ds))
 
 refused_same : (m : Mode) (ds : List Demand) → any_by (Some m) every ds ≡ any_refused m ds
 refused_same m [] = refl
@@ -128,13 +128,13 @@ pub waits_refused : (m : Mode) (ds : List Demand) → any_by None every ds ≡ f
 waits_refused m [] e = refl
 waits_refused m (d ∷ ds) e =
     both_false (any_refused m ds) (refuses m (mode_of d)) (waits_refused m ds (left_false (any_by None every ds) (refused_by None (mode_of d)) e))
-      (refuses_asks m (mode_of d) (right_false (any_by None every ds) (refused_by None (mode_of d)) e))
+    (refuses_asks m (mode_of d) (right_false (any_by None every ds) (refused_by None (mode_of d)) e))
 
 pub waits_old : (ds : List Demand) → any_by None every ds ≡ false → needs_old ds ≡ false
 waits_old [] e = refl
 waits_old (d ∷ ds) e =
     both_false (needs_old ds) (takes_value d && not (has_value ds)) (waits_old ds (left_false (any_by None every ds) (refused_by None (mode_of d)) e))
-      (ap (λ (x : Bool). x && not (has_value ds)) (takes_asks d (right_false (any_by None every ds) (refused_by None (mode_of d)) e)))
+    (ap (λ (x : Bool). x && not (has_value ds)) (takes_asks d (right_false (any_by None every ds) (refused_by None (mode_of d)) e)))
 
 -- to write refuses nothing
 write_covers : (o : Option Mode) → refuses Write o ≡ false

@@ -18,7 +18,7 @@ unused_needs : (ds : List Demand) → is_used ds ≡ false → needs_old ds ≡ 
 unused_needs [] e = refl
 unused_needs (d ∷ ds) e =
     both_false (needs_old ds) (takes_value d && not (has_value ds)) (unused_needs ds (left_false (is_used ds) (is_use d) e))
-      (ap (λ (x : Bool). x && not (has_value ds)) (unused_takes d (right_false (is_used ds) (is_use d) e)))
+    (ap (λ (x : Bool). x && not (has_value ds)) (unused_takes d (right_false (is_used ds) (is_use d) e)))
 
 first_takes : (d : Demand) → writes_first d ≡ true → takes_value d ≡ false
 first_takes Load e = never (sym e)
@@ -74,4 +74,4 @@ pub own_needs : (ds : List Demand) → any_own ds ≡ false → needs_old ds ≡
 own_needs [] e = refl
 own_needs (d ∷ ds) e =
     both_false (needs_old ds) (takes_value d && not (has_value ds)) (own_needs ds (left_false (any_own ds) (is_own d) e))
-      (ap (λ (x : Bool). x && not (has_value ds)) (takes_own d (right_false (any_own ds) (is_own d) e)))
+    (ap (λ (x : Bool). x && not (has_value ds)) (takes_own d (right_false (any_own ds) (is_own d) e)))

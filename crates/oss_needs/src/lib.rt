@@ -4,7 +4,10 @@
 mod clause;
 mod demand;
 mod lack;
+mod lacking;
 mod laws;
+mod least;
+mod mending;
 mod modes;
 mod need;
 

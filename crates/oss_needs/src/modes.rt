@@ -3,7 +3,8 @@
 ghost use Rattle.std.specs.Prelude.{◌≡◌, true};
 ghost use Rattle.oss_model.specs.Rights.{covers, op_eq};
 ghost use Rattle.oss_needs.specs.Demands.{is_write as is_to_write};
-ghost use Rattle.oss_needs.specs.Lacks.{mode_eq, mode_when};
+ghost use Rattle.oss_needs.specs.Lacks.{mode_eq, mode_when, refuses};
+ghost use Rattle.oss_needs.specs.Needs.{is_there};
 
 use oss_syntax::{Mode, Op};
 
@@ -61,5 +62,33 @@ pub(crate) fn mode_with(mode: Option<Mode>, others: Option<Mode>) -> Option<Mode
                 }
             }
         },
+    }
+}
+
+/// A clause of the mode does not cover the other mode, if there is one.
+pub(crate) fn is_refused(held: Mode, wanted: Option<Mode>) -> bool
+    ensures { result ≡ refuses held wanted }
+{
+    match wanted {
+        None => false,
+        Some(wanted) => match held {
+            Mode::Write => false,
+            Mode::Read => !matches!(wanted, Mode::Read),
+            Mode::Fold(op) => match wanted {
+                Mode::Fold(other) => !is_same_op(op, other),
+                Mode::Read => true,
+                Mode::Write => true,
+            },
+        },
+    }
+}
+
+/// There is a mode.
+pub(crate) fn is_some(mode: Option<Mode>) -> bool
+    ensures { result ≡ is_there mode }
+{
+    match mode {
+        Some(_) => true,
+        None => false,
     }
 }

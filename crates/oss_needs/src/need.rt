@@ -12,19 +12,19 @@ use oss_syntax::Mode;
 #[derive(Clone, Copy, PartialEq, Eq)]
 pub struct Need {
     /// The least mode that will do for what the task itself does.
-    own: Option<Mode>,
+    pub(crate) own: Option<Mode>,
     /// The least mode that will do for its descendants.
-    others: Option<Mode>,
+    pub(crate) others: Option<Mode>,
     /// A wait names the cell.
-    waited: bool,
+    pub(crate) waited: bool,
     /// The task has given the cell a value.
-    valued: bool,
+    pub(crate) valued: bool,
     /// It needed the value that was there before.
-    old: bool,
+    pub(crate) old: bool,
     /// The cell is used.
-    used: bool,
+    pub(crate) used: bool,
     /// Its first use needs nothing of what it was.
-    fresh: bool,
+    pub(crate) fresh: bool,
 }
 
 impl Need {
