@@ -16,6 +16,8 @@ mod judge_tests;
 #[cfg(test)]
 mod model_tests;
 #[cfg(test)]
+mod needs_tests;
+#[cfg(test)]
 mod pieces_tests;
 #[cfg(test)]
 mod ranges_tests;

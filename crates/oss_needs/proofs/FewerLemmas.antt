@@ -1,5 +1,5 @@
 -- Nothing less than what is told would do.
-use Rattle.std.proofs.Common.{◌≡◌, refl, sym, subst, ap, ◌∙◌, Bool, true, false, List, [], ◌∷◌, Option, Some, None}
+use Rattle.std.proofs.Common.{◌≡◌, refl, sym, ap, ◌∙◌, Bool, true, false, List, [], ◌∷◌, Option, Some, None}
 use Rattle.std.specs.Prelude.{◌&&◌, ◌||◌, not, if◌then◌else◌}
 use Rattle.oss_syntax.specs.declared.access.Mode.{Mode}
 use Rattle.oss_syntax.specs.declared.access.Mode.TheVariants.{Read, Write, Fold as Folding}
@@ -12,9 +12,9 @@ use Rattle.oss_needs.specs.declared.lack.Lack.{Lack}
 use Rattle.oss_needs.specs.declared.lack.Lack.TheVariants as lack
 use Rattle.oss_needs.specs.Demands.{is_own, mode_of, any_own, any_wait, needs_old}
 use Rattle.oss_needs.specs.Meeting.{all_met}
-use Rattle.oss_needs.specs.Lacks.{mode_eq, mode_when, least_mode, every, clause_for, least_of, least, or_weak_read, is_unmet, any_unmet, any_refused, any_unmet_own, is_broken, beside, added_mode, adds, lack_of, lack_of_fold, lack_of_clause, adds_all, joined, mended_by}
-use Rattle.oss_needs.specs.Claims.{FewerAreNotMet, clause_of, with_clause, weakened, reading}
-use Rattle.oss_needs.proofs.Bools.{never, or_true, first_true}
+use Rattle.oss_needs.specs.Lacks.{mode_eq, mode_when, least_mode, every, least_of, least, or_weak_read, is_unmet, any_unmet, any_refused, any_unmet_own, is_broken, beside, added_mode, adds, lack_of, lack_of_fold, lack_of_clause, adds_all, mended_by}
+use Rattle.oss_needs.specs.Claims.{FewerAreNotMet, clause_of, with_clause, reading}
+use Rattle.oss_needs.proofs.Bools.{never, or_true}
 use Rattle.oss_needs.proofs.MeetingLemmas.{met_is, unmet_is}
 use Rattle.oss_needs.proofs.ModeLemmas.{is_reading, reads_alone}
 use Rattle.oss_needs.proofs.ValueLemmas.{own_needs}

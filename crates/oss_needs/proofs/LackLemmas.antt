@@ -5,19 +5,16 @@ use Rattle.oss_syntax.specs.declared.access.Mode.{Mode}
 use Rattle.oss_syntax.specs.declared.access.Mode.TheVariants.{Read, Write, Fold as Folding}
 use Rattle.oss_syntax.specs.declared.access.Op.{Op}
 use Rattle.oss_needs.specs.declared.clause.Clause.{Clause}
-use Rattle.oss_needs.specs.declared.clause.Given.{Given}
-use Rattle.oss_needs.specs.declared.clause.Given.TheVariants as given
 use Rattle.oss_needs.specs.declared.demand.Demand.{Demand}
 use Rattle.oss_needs.specs.declared.demand.Demand.TheVariants.{Load, Store, Fold, Release, Wait, Create}
-use Rattle.oss_needs.specs.declared.lack.Lack.{Lack}
 use Rattle.oss_needs.specs.declared.lack.Lack.TheVariants as lack
-use Rattle.oss_needs.specs.Demands.{is_write, is_own, mode_of, any_own, any_wait, needs_old, begins_fresh}
+use Rattle.oss_needs.specs.Demands.{is_write, any_own, any_wait, needs_old, begins_fresh}
 use Rattle.oss_needs.specs.Meeting.{all_met}
-use Rattle.oss_needs.specs.Lacks.{mode_eq, mode_when, with_mode, least_mode, every, clause_for, least_of, least, or_weak_read, refuses, is_too_weak, is_unmet, any_unmet, any_refused, any_unmet_own, is_broken, beside, added_mode, adds, lack_of_fold, lack_of_clause, adds_all, joined}
+use Rattle.oss_needs.specs.Lacks.{mode_when, with_mode, least_mode, every, clause_for, least_of, least, or_weak_read, is_unmet, any_unmet, any_refused, is_broken, added_mode, adds, lack_of_fold, adds_all}
 use Rattle.oss_needs.specs.Claims.{is_nothing}
-use Rattle.oss_needs.proofs.Bools.{never, left_false, right_false, both_false, and_false, or_false, or_true, and_not, inside, not_not}
+use Rattle.oss_needs.proofs.Bools.{never, both_false, and_false, or_false, or_true, and_not}
 use Rattle.oss_needs.proofs.MeetingLemmas.{met_is, unmet_is, nothing_met}
-use Rattle.oss_needs.proofs.ModeLemmas.{mode_eq_self, mode_eq_is, any_by, least_covers, least_refuses_none, none_asked, waits_own, waits_refused, waits_old, write_refuses_none, refused_by}
+use Rattle.oss_needs.proofs.ModeLemmas.{any_by, least_refuses_none, none_asked, waits_own, waits_refused}
 use Rattle.oss_needs.proofs.ValueLemmas.{is_fresh}
 
 -- a clause meets all where none is unmet and the cell is written first as it says

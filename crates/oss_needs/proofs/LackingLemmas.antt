@@ -1,17 +1,16 @@
 -- What the code tells is what is lacking.
-use Rattle.std.proofs.Common.{◌≡◌, refl, sym, subst, ap, ◌∙◌, Bool, true, false, List, [], ◌∷◌, Option, Some, None}
+use Rattle.std.proofs.Common.{◌≡◌, refl, sym, ap, ◌∙◌, Bool, true, false, List, [], ◌∷◌, Option, Some, None}
 use Rattle.std.specs.Prelude.{◌&&◌, ◌||◌, not, if◌then◌else◌}
 use Rattle.oss_syntax.specs.declared.access.Mode.{Mode}
 use Rattle.oss_syntax.specs.declared.access.Mode.TheVariants.{Read, Write, Fold as Folding}
 use Rattle.oss_needs.specs.declared.clause.Clause.{Clause}
 use Rattle.oss_needs.specs.declared.demand.Demand.{Demand}
-use Rattle.oss_needs.specs.declared.lack.Lack.{Lack}
 use Rattle.oss_needs.specs.declared.lack.Lack.TheVariants as lack
 use Rattle.oss_needs.specs.Demands.{is_own, is_write, mode_of, any_own, needs_old}
 use Rattle.oss_needs.specs.declared.need.Need.{Need}
 use Rattle.oss_needs.specs.Needs.{IsNeed, is_others, is_there}
-use Rattle.oss_needs.specs.Lacks.{mode_eq, mode_when, with_mode, least_mode, every, clause_for, refuses, is_too_weak, lack_of_fold, or_weak_read, least, is_unmet, any_unmet, any_refused, any_unmet_own, is_broken, beside, added_mode, adds}
-use Rattle.oss_needs.proofs.Bools.{never, or_false, or_true, and_false, first_true, both_true, is_not}
+use Rattle.oss_needs.specs.Lacks.{mode_when, least_mode, every, clause_for, refuses, is_too_weak, lack_of_fold, or_weak_read, least, is_unmet, any_unmet, any_refused, any_unmet_own, is_broken, added_mode, adds}
+use Rattle.oss_needs.proofs.Bools.{never, or_false, or_true, first_true, both_true, is_not}
 use Rattle.oss_needs.proofs.MeetingLemmas.{unmet_is}
 use Rattle.oss_needs.proofs.ModeLemmas.{is_reading, reads_alone, write_refuses_none}
 use Rattle.oss_needs.proofs.LackLemmas.{is_none, none_added}

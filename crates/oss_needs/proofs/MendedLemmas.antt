@@ -8,16 +8,15 @@ use Rattle.oss_needs.specs.declared.clause.Clause.{Clause}
 use Rattle.oss_needs.specs.declared.clause.Given.{Given}
 use Rattle.oss_needs.specs.declared.clause.Given.TheVariants as given
 use Rattle.oss_needs.specs.declared.demand.Demand.{Demand}
-use Rattle.oss_needs.specs.declared.lack.Lack.{Lack}
 use Rattle.oss_needs.specs.declared.lack.Lack.TheVariants as lack
 use Rattle.oss_needs.specs.Demands.{is_write, is_own, mode_of, any_own, needs_old, begins_fresh}
 use Rattle.oss_needs.specs.Meeting.{all_met}
-use Rattle.oss_needs.specs.Lacks.{mode_eq, mode_when, least_mode, every, clause_for, least, or_weak_read, refuses, is_too_weak, is_unmet, any_unmet, any_refused, any_unmet_own, is_broken, beside, added_mode, adds, lack_of, lack_of_fold, lack_of_clause, adds_all, joined, mended, mended_by}
+use Rattle.oss_needs.specs.Lacks.{mode_eq, mode_when, least_mode, clause_for, least, or_weak_read, refuses, is_too_weak, is_unmet, any_unmet, any_refused, any_unmet_own, is_broken, beside, added_mode, adds, lack_of, lack_of_fold, lack_of_clause, adds_all, joined, mended, mended_by}
 use Rattle.oss_needs.specs.Claims.{is_joined, is_nothing, said}
-use Rattle.oss_needs.proofs.Bools.{never, left_false, right_false, both_false, and_false, or_false, or_true, and_not, inside}
-use Rattle.oss_needs.proofs.MeetingLemmas.{met_is, unmet_is}
-use Rattle.oss_needs.proofs.ModeLemmas.{mode_eq_self, mode_eq_is, any_by, least_covers, none_asked, waits_own, waits_refused, waits_old, write_refuses_none, refused_by}
-use Rattle.oss_needs.proofs.LackLemmas.{met, unbroken, fresh_new, weak_met, least_met, told_of_nothing, no_demand, told_of_clause, told_of_fold, fold_unbroken}
+use Rattle.oss_needs.proofs.Bools.{never, left_false, right_false, both_false, and_false, or_true, inside}
+use Rattle.oss_needs.proofs.MeetingLemmas.{met_is}
+use Rattle.oss_needs.proofs.ModeLemmas.{mode_eq_self, any_by, least_covers, write_refuses_none}
+use Rattle.oss_needs.proofs.LackLemmas.{met, unbroken, fresh_new, least_met, told_of_nothing, no_demand, told_of_clause, told_of_fold, fold_unbroken}
 
 -- what is told is lacking
 pub told : (g : Given) (ds : List Demand) → is_joined g ≡ true → is_nothing (lack_of g ds) ≡ all_met (said g) ds

@@ -11,7 +11,7 @@ use Rattle.oss_needs.specs.declared.demand.Demand.{Demand}
 use Rattle.oss_needs.specs.declared.demand.Demand.TheVariants.{Load, Store, Fold, Release, Wait, Create}
 use Rattle.oss_needs.specs.Demands.{mode_of, any_own, is_own, needs_old, takes_value, has_value}
 use Rattle.oss_needs.specs.Lacks.{mode_eq, mode_when, least_mode, every, refuses, any_refused}
-use Rattle.oss_needs.proofs.Bools.{never, left_false, right_false, both_false, and_still, and_false}
+use Rattle.oss_needs.proofs.Bools.{never, left_false, right_false, both_false, and_still}
 
 op_eq_self : (a : Op) → op_eq a a ≡ true
 op_eq_self Add = refl

@@ -2,7 +2,7 @@
 -- nothing less would.
 -- Read against: a task with `in(x)` that stores into x. It lacks `inout(x)`, since a store is not met by `in(x)`; with both each demand is met; and with
 -- `weakinout(x)` beside a weak `in`, or with `in(x)` twice, the store is not.
-use Rattle.std.specs.Prelude.{◌≡◌, ◌↔◌, Bool, true, false, List, [], Option, Some, None}
+use Rattle.std.specs.Prelude.{◌≡◌, Bool, true, false, List, Option, Some, None}
 use Rattle.oss_syntax.specs.declared.access.Mode.TheVariants.{Read}
 use Rattle.oss_needs.specs.declared.clause.Clause.{Clause}
 use Rattle.oss_needs.specs.declared.clause.Given.{Given}

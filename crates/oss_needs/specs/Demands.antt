@@ -3,10 +3,9 @@
 -- Read against: a task that stores into x, then loads it, and then creates a task with `in(x)`. Its demands are, the last first, the creation, the load and the
 -- store. The store asks for the mode Write, the load for Read, both for the task itself, and the creation for Read, for a descendant. The load needs no
 -- value from before the task, since the store gives one; and the first use of x is one by which it is written first.
-use Rattle.std.specs.Prelude.{Bool, true, false, ◌&&◌, ◌||◌, not, if◌then◌else◌, List, [], ◌∷◌, Option, Some, None}
+use Rattle.std.specs.Prelude.{Bool, true, false, ◌&&◌, ◌||◌, not, List, [], ◌∷◌, Option, Some, None}
 use Rattle.oss_syntax.specs.declared.access.Mode.{Mode}
 use Rattle.oss_syntax.specs.declared.access.Mode.TheVariants.{Read, Write, Fold as Folding}
-use Rattle.oss_needs.specs.declared.clause.Clause.{Clause}
 use Rattle.oss_needs.specs.declared.demand.Demand.{Demand}
 use Rattle.oss_needs.specs.declared.demand.Demand.TheVariants.{Load, Store, Fold, Release, Wait, Create}
 

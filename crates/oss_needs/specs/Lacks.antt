@@ -4,10 +4,9 @@
 -- is its first use. Under `weakinout(x)` a task that loads x lacks `in(x)`; under `out(x)` one that loads x before it stores lacks `in(x)` too. Under
 -- `reduction(+: x)` a task that also stores into x lacks `inout(x)` in place of it, and one whose fold is by `|` alone `reduction(|: x)`. Under `in(x) reduction(+: x)`, which cannot be joined, a
 -- task that does not use x lacks `weakin(x)` in place of both.
-use Rattle.std.specs.Prelude.{Bool, true, false, ◌&&◌, ◌||◌, not, if◌then◌else◌, List, [], ◌∷◌, ◌++◌, Option, Some, None}
+use Rattle.std.specs.Prelude.{Bool, true, false, ◌&&◌, ◌||◌, not, if◌then◌else◌, List, [], ◌∷◌, Option, Some, None}
 use Rattle.oss_syntax.specs.declared.access.Mode.{Mode}
 use Rattle.oss_syntax.specs.declared.access.Mode.TheVariants.{Read, Write, Fold}
-use Rattle.oss_syntax.specs.declared.access.Op.{Op}
 use Rattle.oss_model.specs.Rights.{covers, op_eq}
 use Rattle.oss_needs.specs.declared.clause.Clause.{Clause}
 use Rattle.oss_needs.specs.declared.clause.Given.{Given}

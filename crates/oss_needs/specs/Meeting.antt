@@ -4,7 +4,7 @@
 use Rattle.std.specs.Prelude.{Bool, true, false, ◌&&◌, not, if◌then◌else◌, List, [], ◌∷◌, Option, Some, None}
 use Rattle.oss_syntax.specs.declared.fault.FaultKind.{FaultKind}
 use Rattle.oss_model.specs.Context.{lacks_right}
-use Rattle.oss_model.specs.Rights.{Right, NoRight, Holds, Free, Mark, Written, Touch, Reads, Writes, Folds, touch_fault, right_covers, first_mark}
+use Rattle.oss_model.specs.Rights.{Right, NoRight, Holds, Free, Mark, Written, Reads, Writes, Folds, touch_fault, right_covers, first_mark}
 use Rattle.oss_needs.specs.declared.clause.Clause.{Clause}
 use Rattle.oss_needs.specs.declared.demand.Demand.{Demand}
 use Rattle.oss_needs.specs.declared.demand.Demand.TheVariants.{Load, Store, Fold, Release, Wait, Create}

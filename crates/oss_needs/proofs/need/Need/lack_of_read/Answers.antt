@@ -1,11 +1,5 @@
-use Rattle.std.proofs.Common.{◌≡◌, refl, sym, ap, ◌∙◌, Bool, true, false, Option, Some, None}
-use Rattle.std.specs.Prelude.{◌&&◌, ◌||◌, not, if◌then◌else◌}
-use Rattle.oss_syntax.specs.declared.access.Mode.{Mode}
-use Rattle.oss_syntax.specs.declared.access.Mode.TheVariants as modes
-use Rattle.oss_needs.specs.declared.clause.Clause.{Clause}
+use Rattle.std.proofs.Common.{sym, ap, ◌∙◌}
 use Rattle.oss_needs.specs.declared.lack.Lack.TheVariants as lack
-use Rattle.oss_needs.specs.Demands.{any_own}
-use Rattle.oss_needs.specs.Lacks.{clause_for, least_of, refuses}
 use Rattle.oss_needs.proofs.LackingLemmas.{read_enough, read_more, read_strong}
 use Rattle.oss_needs.proofs.need.Need.lack_of_read.Goals as goal
 

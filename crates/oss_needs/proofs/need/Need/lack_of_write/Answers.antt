@@ -1,11 +1,7 @@
-use Rattle.std.proofs.Common.{◌≡◌, refl, sym, ap, ◌∙◌, Bool, true, false, Option, Some, None}
-use Rattle.std.specs.Prelude.{◌&&◌, ◌||◌, not, if◌then◌else◌}
-use Rattle.oss_syntax.specs.declared.access.Mode.{Mode}
+use Rattle.std.proofs.Common.{sym, ap, ◌∙◌, true, false}
 use Rattle.oss_syntax.specs.declared.access.Mode.TheVariants as modes
-use Rattle.oss_needs.specs.declared.clause.Clause.{Clause}
 use Rattle.oss_needs.specs.declared.lack.Lack.TheVariants as lack
-use Rattle.oss_needs.specs.Demands.{any_own}
-use Rattle.oss_needs.specs.Lacks.{clause_for, least_of, refuses}
+use Rattle.oss_needs.specs.Lacks.{refuses}
 use Rattle.oss_needs.proofs.LackingLemmas.{write_broken, write_enough, write_strong}
 use Rattle.oss_needs.proofs.need.Need.lack_of_write.Goals as goal
 
