@@ -4,6 +4,9 @@
 #   tests/wrong.sh NAME..   tries those of these crates, in a copy: by `rt ci NAME..`, over what the gate has proved on this machine, or by `rt must-fail NAME..`
 #                           where the toolchain keeps nothing and so takes no names there; that one proves the crates below first, but for libraries that `rt` has built in this folder
 #   tests/wrong.sh          the same of all crates
+#   tests/wrong.sh --functions NAME..
+#                           tries those of these crates that change code by a check of the functions of the changed files alone (`rt check --only`), which takes a part
+#                           of the time: such a function is proved as it stands, and not with the change. The others, and what is not refused so, are named, and are tried without the word
 #   tests/wrong.sh --fit    proves nothing: whether each wrong body of wrong/ and of must-fail/ fits: each text that it changes stands once in its file
 # A toolchain that keeps what it has proved tries once what has not changed. The last line counts; the status is 0 only where each was refused, or fits.
 cd "$(dirname -- "$0")/.." || exit 1
@@ -89,6 +92,103 @@ if [ "${1:-}" = --fit ]; then
   exit
 fi
 
+# changed EDIT CRATE FOLDER: puts the files of the crate as the wrong body has them below the folder
+changed() {
+  awk -v edit="$1" -v crate="$2" -v to="$3" '
+    function content(file,   text, line) {
+      while ((getline line < file) > 0) text = text line "\n"
+      close(file)
+      return text
+    }
+    /^file: / {
+      file = substr($0, 7)
+      if (!(file in texts)) texts[file] = content(crate "/" file)
+      next
+    }
+    /^old: / { old = substr($0, 6); next }
+    /^new:/ {
+      at = index(texts[file], old)
+      texts[file] = substr(texts[file], 1, at - 1) substr($0, 6) substr(texts[file], at + length(old))
+    }
+    END { for (file in texts) printf "%s", texts[file] > (to "/" file) }
+  ' "$1"
+}
+
+# modules EDIT: the modules of the files that a wrong body changes, each behind --only; nothing where it changes more than code
+modules() {
+  awk '
+    /^file: src\// {
+      name = substr($0, 11)
+      sub(/\.rt$/, "", name)
+      gsub(/\//, "::", name)
+      if (!(name in seen)) told = told " --only " name
+      seen[name] = 1
+      next
+    }
+    /^file: / { other = 1 }
+    END { if (!other && !("lib" in seen)) print told }
+  ' "$1"
+}
+
+# proves FOLDER WORD..: whether a check of these functions in the folder proves them all; the answer is 1 where it does not, and 2 where it says nothing
+proves() {
+  (cd "$1" && shift && rt check --jobs 1 "$@") >"$work/said" 2>&1
+  told=$(sed -n 's/^only=\([0-9]*\) proved=\([0-9]*\)$/\1 \2/p' "$work/said")
+  [ -n "$told" ] || return 2
+  [ "${told%% *}" = "${told##* }" ]
+}
+
+# try_functions NAME..
+try_functions() {
+  refused=0
+  left=0
+  for name; do
+    folder=$work/copy/crates/$name
+    proved=
+    for edit in "wrong/$name"/*.edit; do
+      label=$name/$(basename -- "$edit")
+      only=$(modules "$edit")
+      if [ -z "$only" ]; then
+        left=$((left + 1))
+        echo "$label: left, since it changes more than functions"
+        continue
+      fi
+      case $proved in
+        *"[$only]"*) ;;
+        *)
+          # shellcheck disable=SC2086
+          if proves "$folder" $only; then
+            proved="$proved[$only]"
+          else
+            left=$((left + 1))
+            echo "$label: left, since these functions were not proved as they stand:$only"
+            continue
+          fi
+          ;;
+      esac
+      changed "$edit" "crates/$name" "$folder" || exit 1
+      # shellcheck disable=SC2086
+      proves "$folder" $only
+      case $? in
+        1)
+          refused=$((refused + 1))
+          echo "$label: refused: $(grep -m 1 -E '^(note: )?src/[^ ]*:[0-9]+:[0-9]+:' "$work/said" | cut -c 1-160)"
+          ;;
+        0) left=$((left + 1)) && echo "$label: left, since these functions are proved with it:$only" ;;
+        *) left=$((left + 1)) && echo "$label: left, since the check says nothing: $(grep -m 1 error "$work/said" | cut -c 1-160)" ;;
+      esac
+      cp -R "crates/$name/src" "$folder/" || exit 1
+    done
+  done
+  echo "$refused of $((refused + left)) wrong bodies refused, $left left"
+  [ "$left" = 0 ]
+}
+
+functions=no
+[ "${1:-}" != --functions ] || {
+  functions=yes
+  shift
+}
 if [ $# = 0 ]; then
   for folder in wrong/*/; do
     set -- "$@" "$(basename -- "$folder")"
@@ -110,6 +210,11 @@ trap 'rm -rf "$work"' EXIT
 # (an early end of rt is not to leave the copy)
 trap 'exit 130' INT
 trap 'exit 143' TERM
+if [ $functions = yes ]; then
+  mkdir "$work/copy" && copy_to "$work/copy" || exit 1
+  try_functions "$@"
+  exit
+fi
 copy_to "$work" "$@" || exit 1
 (cd "$work" && rt ci "$@") >"$work/said" 2>&1
 status=$?
