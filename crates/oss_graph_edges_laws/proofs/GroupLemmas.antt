@@ -84,7 +84,7 @@ pub group_up : (rights : ℕ → Right) (i k : ℕ) → AreOneGroup rights i k �
 group_up rights i _ same = omega arith
 group_up rights i k (next {j = j} g n t) = let a = group_up rights i j g in let b = n.rises in omega (arith, a, b)
 
-group_held : (rights : ℕ → Right) (i k : ℕ) → AreOneGroup rights i k → is_held (rights i) ≡ true → is_held (rights k) ≡ true
+pub group_held : (rights : ℕ → Right) (i k : ℕ) → AreOneGroup rights i k → is_held (rights i) ≡ true → is_held (rights k) ≡ true
 group_held rights i _ same h = h
 group_held rights i k (next g n t) h = n.second
 

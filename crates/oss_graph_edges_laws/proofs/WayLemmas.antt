@@ -97,7 +97,7 @@ module _ (rights : ℕ → Right) where
 
 -- two different accesses of a group go together
 
-group_goes : (rights : ℕ → Right) (j k : ℕ) → j < k → AreOneGroup rights j k → is_held (rights j) ≡ true → is_held (rights k) ≡ true → go_together (rights j) (rights k) ≡ true
+pub group_goes : (rights : ℕ → Right) (j k : ℕ) → j < k → AreOneGroup rights j k → is_held (rights j) ≡ true → is_held (rights k) ≡ true → go_together (rights j) (rights k) ≡ true
 group_goes rights j _ l same h g = absurd (omega (arith, l))
 group_goes rights j k l (next {j = i} group nb t) h g = by_mode (rights k) refl
   where
