@@ -1,11 +1,11 @@
 -- Edges lead from the nearest accesses in conflict: from a whole group, behind which nothing lies that conflicts with both ends.
-use Rattle.std.proofs.Common.{◌≡◌, ℕ, ◌≤◌, ◌<◌, ◌⊎◌, ◌↔◌, inl, inr, refl, sym, subst, ◌∙◌, arith, Bool, true, false}
+use Rattle.std.proofs.Common.{◌≡◌, ℕ, ◌≤◌, ◌<◌, ◌⊎◌, inl, inr, refl, sym, subst, ◌∙◌, arith, Bool, true, false}
 use Rattle.std.proofs.lemmas.Bool.{cases_lt, cases_order}
 use Rattle.oss_syntax.specs.declared.access.Mode.TheVariants.{Fold, Read, Write}
 use Rattle.oss_model.specs.Machine.{mode_of}
 use Rattle.oss_model.specs.Rights.{Right, NoRight, Released, Holds}
 use Rattle.oss_task_graph.specs.Groups.{AreNeighbours, AreOneGroup, StandsOn, go_together, is_held, next, same}
-use Rattle.oss_graph_edges_laws.specs.Claims.{DoConflict, EdgesAreNearest, GroupsAreWhole, IsNearest, IsWay, NoEdgeLeadsPast, edge, further}
+use Rattle.oss_graph_edges_laws.specs.Claims.{DoConflict, EdgesAreNearest, GroupsAreWhole, IsWay, NoEdgeLeadsPast, edge, further}
 use Rattle.oss_graph_edges_laws.proofs.GroupLemmas.{group_held, group_up, not_both_read, not_one_fold, stands_first, stands_held, stands_up, together_mode}
 use Rattle.oss_graph_edges_laws.proofs.WayLemmas.{group_goes}
 

@@ -1,5 +1,5 @@
 -- Both ends of an edge are nodes: who has an access is a task of the state, and each task but main was created.
-use Rattle.std.proofs.Common.{◌≡◌, ℕ, ◌<◌, refl, sym, subst, ap, ◌∙◌, List, ◌∷◌, true, false, Option, Some, None}
+use Rattle.std.proofs.Common.{◌≡◌, ℕ, refl, sym, subst, ap, ◌∙◌, List, ◌∷◌, true, false, Option, Some, None}
 use Rattle.oss_syntax.specs.declared.tree.program.Item.{Item}
 use Rattle.oss_model.specs.Agreement.{MainStarts}
 use Rattle.oss_model.specs.Bodies.{Frame, Order, Program, Start, stack_from, stage_act, stage_created, top_frame}
@@ -14,7 +14,7 @@ use Rattle.oss_model.proofs.SequenceLemmas.{stands}
 use Rattle.oss_model.proofs.StageLemmas.{creating}
 use Rattle.oss_model.proofs.TreeLemmas.{path_found}
 use Rattle.oss_body.specs.Acting.{acting}
-use Rattle.oss_explanation.specs.Lives.{IsCreated, actor, born_with, line_at}
+use Rattle.oss_explanation.specs.Lives.{IsCreated, born_with, line_at}
 use Rattle.oss_task_graph.specs.declared.graph.Edge.{Edge}
 use Rattle.oss_task_graph.specs.declared.graph.Graph.{Graph}
 use Rattle.oss_task_graph.specs.declared.graph.Node.{Node}
