@@ -1,6 +1,7 @@
 #!/bin/sh
 # Counts the instructions of `graph` by the built program, or by PROGRAM where one is handed over: of tasks in a chain, of tasks on cells of their own, and of readers behind writers. A row tells
-# the instructions for each of 60,000 tasks, and how many times as many 60,000 take as 30,000. A count is the same whatever runs beside. It wants `valgrind`.
+# the instructions for each of 60,000 tasks, and how many times as many 60,000 take as 30,000. Two more rows have 60,000 tasks in a chain: on an array of 2,000 rows and on one of 1,000 of four
+# cells each, and on the last of 400 globals and on that of 200. A count is the same whatever runs beside. It wants `valgrind`.
 # usage: graph.sh [PROGRAM]
 # shellcheck source=bench/built.sh
 . "$(dirname -- "$0")/built.sh"
@@ -41,8 +42,28 @@ int main() {
     b[i % 60] += a[i % 60] + a[(i + 1) % 60];
 }
 PROGRAM
+  cat >"rows_$times.c" <<PROGRAM
+long m[$((times * 1000))][4];
+int main() {
+  for (long i = 0; i < 60000; i++)
+#pragma oss task inout(m)
+    m[0][0] += i;
+}
+PROGRAM
+  {
+    seq -f 'long x%.0f;' "$((times * 200))"
+    cat <<PROGRAM
+int main() {
+  for (long i = 0; i < 60000; i++)
+#pragma oss task inout(x$((times * 200)))
+    x$((times * 200)) += i;
+}
+PROGRAM
+  } >"globals_$times.c"
 done
-echo 'what | instructions for each of 60,000 tasks | times as many for twice the tasks'
+echo 'what | instructions for each of 60,000 tasks | times as many for twice the tasks, rows or globals'
 drawn 'the graph of a chain' chain
 drawn 'of tasks on cells of their own' apart
 drawn 'of tasks with three cells each' readers
+drawn 'of a chain on all rows of an array' rows
+drawn 'of a chain on the last of many globals' globals

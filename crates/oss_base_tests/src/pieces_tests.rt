@@ -105,6 +105,8 @@ fn neighbouring_rows_are_one_piece(rt: HostRuntime) -> Result<(), Fail> {
         b"m[0:1][0], m[0:1][3]",
     )?;
     assert_pieces(&rt, alloc, &[(12, 13), (20, 21)], 8, b"m[0][1], m[2][1]")?;
+    assert_pieces(&rt, alloc, &[(13, 20)], 8, b"m[0][2:3], m[1], m[2][0]")?;
+    assert_pieces(&rt, alloc, &[(11, 15), (19, 23)], 8, b"m[0], m[2]")?;
     Ok(())
 }
 

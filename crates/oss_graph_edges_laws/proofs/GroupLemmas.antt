@@ -1,12 +1,11 @@
 -- Groups of an access list: what their members share.
 use Rattle.std.proofs.Common.{◌≡◌, ℕ, ◌≤◌, ◌<◌, refl, sym, ◌∙◌, arith, Bool, true, false}
-use Rattle.oss_syntax.specs.declared.access.Mode.{Mode}
 use Rattle.oss_syntax.specs.declared.access.Mode.TheVariants.{Fold, Read, Write}
 use Rattle.oss_syntax.specs.declared.access.Op.{Op}
 use Rattle.oss_syntax.specs.declared.access.Op.TheVariants.{Add, And, Or, Xor}
 use Rattle.oss_model.specs.Machine.{mode_of}
 use Rattle.oss_model.specs.Rights.{Right, NoRight, Released, Holds, op_eq}
-use Rattle.oss_task_graph.specs.Groups.{AreNeighbours, AreOneGroup, StandsOn, go_together, is_held, next, same}
+use Rattle.oss_task_graph.specs.Groups.{AreOneGroup, StandsOn, go_together, is_held, next, same}
 
 never : (b : Bool) → b ≡ true → b ≡ false → ⊥
 never b h k = let e : true ≡ false = sym h ∙ k in cc
@@ -84,7 +83,7 @@ pub group_up : (rights : ℕ → Right) (i k : ℕ) → AreOneGroup rights i k �
 group_up rights i _ same = omega arith
 group_up rights i k (next {j = j} g n t) = let a = group_up rights i j g in let b = n.rises in omega (arith, a, b)
 
-group_held : (rights : ℕ → Right) (i k : ℕ) → AreOneGroup rights i k → is_held (rights i) ≡ true → is_held (rights k) ≡ true
+pub group_held : (rights : ℕ → Right) (i k : ℕ) → AreOneGroup rights i k → is_held (rights i) ≡ true → is_held (rights k) ≡ true
 group_held rights i _ same h = h
 group_held rights i k (next g n t) h = n.second
 

@@ -1,3 +1,5 @@
 pub mod GroupLemmas
 pub mod WaitLemmas
 pub mod WayLemmas
+pub mod NearestLemmas
+pub mod NodeLemmas

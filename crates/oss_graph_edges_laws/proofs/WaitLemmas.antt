@@ -1,15 +1,15 @@
 -- Each edge is a wait that the definitions of waiting name.
-use Rattle.std.proofs.Common.{◌≡◌, ℕ, ◌<◌, ◌⊎◌, inl, inr, refl, sym, subst, ◌∙◌, Bool, true, false, List, [], ◌∷◌, Option, Some, None}
+use Rattle.std.proofs.Common.{◌≡◌, ℕ, ◌⊎◌, inl, inr, refl, sym, subst, ◌∙◌, true, List, ◌∷◌, Option, Some, None}
 use Rattle.oss_syntax.specs.declared.access.Mode.{Mode}
 use Rattle.oss_syntax.specs.declared.access.Mode.TheVariants.{Fold, Read, Write}
 use Rattle.oss_syntax.specs.declared.access.Op.{Op}
 use Rattle.oss_model.specs.Context.{right_of}
 use Rattle.oss_model.specs.Forest.{Forest, InRun, IsDone, IsJoinSatisfied, IsRead, IsReadSatisfied, IsWriteSatisfied, join_below_fold, join_below_write, join_top, read_child, read_top, write_child, write_top}
-use Rattle.oss_model.specs.Machine.{At, HasAccess, IsEarlier, State, Task, accesses, find, is_earlier, mode_in, mode_of}
+use Rattle.oss_model.specs.Machine.{HasAccess, IsEarlier, State, Task, accesses, find, is_earlier, mode_in, mode_of}
 use Rattle.oss_model.specs.Rights.{Right, NoRight, Released, Holds}
 use Rattle.oss_task_graph.specs.Edges.{StandsAt}
 use Rattle.oss_task_graph.specs.Graphs.{accesses_below, right_in}
-use Rattle.oss_task_graph.specs.Groups.{StandsOn, is_held}
+use Rattle.oss_task_graph.specs.Groups.{is_held}
 use Rattle.oss_graph_edges_laws.specs.Claims.{EdgesAreWaits, IsSatisfied}
 use Rattle.oss_graph_edges_laws.proofs.GroupLemmas.{not_both_read, not_one_fold, stands_first, stands_up}
 

@@ -1,14 +1,12 @@
 -- Where two accesses of a list conflict, a way leads from the earlier one to the later one.
 use Rattle.std.proofs.Common.{◌≡◌, ℕ, zero, suc, ◌≤◌, ◌<◌, ◌⊎◌, inl, inr, refl, sym, subst, ◌∙◌, arith, Bool, true, false}
 use Rattle.std.proofs.lemmas.Bool.{cases_order}
-use Rattle.oss_syntax.specs.declared.access.Mode.{Mode}
 use Rattle.oss_syntax.specs.declared.access.Mode.TheVariants.{Fold, Read, Write}
-use Rattle.oss_syntax.specs.declared.access.Op.{Op}
 use Rattle.oss_model.specs.Machine.{mode_of}
-use Rattle.oss_model.specs.Rights.{Right, NoRight, Released, Holds, op_eq}
+use Rattle.oss_model.specs.Rights.{Right, NoRight, Released, Holds}
 use Rattle.oss_task_graph.specs.Groups.{AreNeighbours, AreOneGroup, StandsOn, go_together, is_held, next, same}
-use Rattle.oss_graph_edges_laws.specs.Claims.{DoConflict, IsWay, WaysAreDrawn, edge, further}
-use Rattle.oss_graph_edges_laws.proofs.GroupLemmas.{folds_together, group_mode, group_up, reads_together}
+use Rattle.oss_graph_edges_laws.specs.Claims.{IsWay, WaysAreDrawn, edge, further}
+use Rattle.oss_graph_edges_laws.proofs.GroupLemmas.{folds_together, group_mode, reads_together}
 
 never : (b : Bool) → b ≡ true → b ≡ false → ⊥
 never b h k = let e : true ≡ false = sym h ∙ k in cc
@@ -97,7 +95,7 @@ module _ (rights : ℕ → Right) where
 
 -- two different accesses of a group go together
 
-group_goes : (rights : ℕ → Right) (j k : ℕ) → j < k → AreOneGroup rights j k → is_held (rights j) ≡ true → is_held (rights k) ≡ true → go_together (rights j) (rights k) ≡ true
+pub group_goes : (rights : ℕ → Right) (j k : ℕ) → j < k → AreOneGroup rights j k → is_held (rights j) ≡ true → is_held (rights k) ≡ true → go_together (rights j) (rights k) ≡ true
 group_goes rights j _ l same h g = absurd (omega (arith, l))
 group_goes rights j k l (next {j = i} group nb t) h g = by_mode (rights k) refl
   where

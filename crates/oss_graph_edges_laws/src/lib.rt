@@ -1,6 +1,10 @@
-//! What the edges of a graph say of waiting: each is a wait, and where two tasks conflict a way leads from the one to the other.
+//! What the edges of a graph say of waiting: each is a wait, for the nearest earlier task in conflict, and leads between two
+//! nodes; and where two tasks conflict a way leads from the one to the other.
 #![tactic(auto)]
 
 mod laws;
 
-pub use laws::{edges_are_waits, ways_are_drawn};
+pub use laws::{
+    edges_are_nearest, edges_are_waits, edges_join_nodes, groups_are_whole, no_edge_leads_past,
+    ways_are_drawn,
+};

@@ -6,7 +6,7 @@ ghost use Rattle.oss_graph_text.specs.Edges.{cells_text, creation_text, edge_tex
 
 use crate::points::{above, is_deep};
 use crate::words::{add, add_number, add_point, add_quoted};
-use oss_pieces::{Piece, add_pieces};
+use oss_pieces::{Globals, Piece, add_pieces_among};
 use oss_syntax::Program;
 use oss_task_graph::{Edge, Node};
 use std::alloc::{AllocError, Global};
@@ -17,7 +17,8 @@ const MOST_PIECES: usize = 4;
 /// So many edges at most have their cells beside them.
 const MOST_LABELS: usize = 100;
 
-/// Adds all edges, and for each task that has none the one from its creator.
+/// Adds all edges, and for each task that has none the one from its creator. The globals go into a table, so that a piece
+/// does not cost them.
 pub(crate) fn add_edges(
     alloc: Global,
     program: &Program,
@@ -26,7 +27,8 @@ pub(crate) fn add_edges(
 ) -> Result<(), AllocError>
     ensures { OnOk result (text.new.items ≡ text.old.items ++ edges_text program.now.items nodes.now) }
 {
-    add_all_edges(alloc, program, attribute(nodes), nodes, text)
+    let globals = Globals::of(alloc, program.items.as_slice())?;
+    add_all_edges(alloc, &globals, attribute(nodes), nodes, text)
 }
 
 /// By which attribute the cells of edges are told.
@@ -58,15 +60,15 @@ fn are_many(nodes: &[Node]) -> bool
 /// Adds the edges to these nodes, whose cells this attribute tells.
 fn add_all_edges(
     alloc: Global,
-    program: &Program,
+    globals: &Globals<'_>,
     attribute: &[u8],
     nodes: &[Node],
     text: &mut Vec<u8>,
 ) -> Result<(), AllocError>
-    ensures { OnOk result (text.new.items ≡ text.old.items ++ flat_map (edges_to program.now.items attribute.now) nodes.now) }
+    ensures { OnOk result (text.new.items ≡ text.old.items ++ flat_map (edges_to globals.now attribute.now) nodes.now) }
 {
     for node in nodes {
-        add_edges_to(alloc, program, attribute, node, text)?;
+        add_edges_to(alloc, globals, attribute, node, text)?;
     }
     Ok(())
 }
@@ -74,19 +76,19 @@ fn add_all_edges(
 /// Adds the edges to a node.
 fn add_edges_to(
     alloc: Global,
-    program: &Program,
+    globals: &Globals<'_>,
     attribute: &[u8],
     node: &Node,
     text: &mut Vec<u8>,
 ) -> Result<(), AllocError>
-    ensures { OnOk result (text.new.items ≡ text.old.items ++ edges_to program.now.items attribute.now node.now) }
+    ensures { OnOk result (text.new.items ≡ text.old.items ++ edges_to globals.now attribute.now node.now) }
 {
     let task = node.task.as_slice();
     let edges = node.edges.as_slice();
     if edges.is_empty() {
         return add_hanging(alloc, task, text);
     }
-    add_siblings(alloc, program, attribute, task, edges, text)
+    add_siblings(alloc, globals, attribute, task, edges, text)
 }
 
 /// Adds the edge from the creator of a task, if that is not main.
@@ -113,17 +115,17 @@ fn add_creation(alloc: Global, task: &[u16], text: &mut Vec<u8>) -> Result<(), A
 /// Adds these edges to a task.
 fn add_siblings(
     alloc: Global,
-    program: &Program,
+    globals: &Globals<'_>,
     attribute: &[u8],
     task: &[u16],
     edges: &[Edge],
     text: &mut Vec<u8>,
 ) -> Result<(), AllocError>
     ensures { OnOk result (text.new.items ≡ text.old.items
-        ++ flat_map (edge_text program.now.items attribute.now task.now) edges.now) }
+        ++ flat_map (edge_text globals.now attribute.now task.now) edges.now) }
 {
     for edge in edges {
-        add_edge(alloc, program, attribute, task, edge, text)?;
+        add_edge(alloc, globals, attribute, task, edge, text)?;
     }
     Ok(())
 }
@@ -131,16 +133,16 @@ fn add_siblings(
 /// Adds an edge to a task.
 fn add_edge(
     alloc: Global,
-    program: &Program,
+    globals: &Globals<'_>,
     attribute: &[u8],
     task: &[u16],
     edge: &Edge,
     text: &mut Vec<u8>,
 ) -> Result<(), AllocError>
-    ensures { OnOk result (text.new.items ≡ text.old.items ++ edge_text program.now.items attribute.now task.now edge.now) }
+    ensures { OnOk result (text.new.items ≡ text.old.items ++ edge_text globals.now attribute.now task.now edge.now) }
 {
     add_ends(alloc, task, edge.from, text)?;
-    add_cells(alloc, program, attribute, edge, text)?;
+    add_cells(alloc, globals, attribute, edge, text)?;
     add_style(edge.weak, text)?;
     add(text, b"];\n")
 }
@@ -158,30 +160,30 @@ fn add_ends(alloc: Global, task: &[u16], from: u16, text: &mut Vec<u8>) -> Resul
 /// Adds the cells of an edge.
 fn add_cells(
     alloc: Global,
-    program: &Program,
+    globals: &Globals<'_>,
     attribute: &[u8],
     edge: &Edge,
     text: &mut Vec<u8>,
 ) -> Result<(), AllocError>
-    ensures { OnOk result (text.new.items ≡ text.old.items ++ cells_text program.now.items attribute.now edge.now.cells) }
+    ensures { OnOk result (text.new.items ≡ text.old.items ++ cells_text globals.now attribute.now edge.now.cells) }
 {
-    add_pieces_by(alloc, program, attribute, edge.cells.as_slice(), text)
+    add_pieces_by(alloc, globals, attribute, edge.cells.as_slice(), text)
 }
 
 /// Adds pieces, told by an attribute.
 fn add_pieces_by(
     alloc: Global,
-    program: &Program,
+    globals: &Globals<'_>,
     attribute: &[u8],
     cells: &[Piece],
     text: &mut Vec<u8>,
 ) -> Result<(), AllocError>
-    ensures { OnOk result (text.new.items ≡ text.old.items ++ cells_text program.now.items attribute.now cells.now) }
+    ensures { OnOk result (text.new.items ≡ text.old.items ++ cells_text globals.now attribute.now cells.now) }
 {
     add(text, b" [")?;
     add(text, attribute)?;
     add(text, b"=\"")?;
-    add_pieces(alloc, program, cells, MOST_PIECES, text)?;
+    add_pieces_among(alloc, globals, cells, MOST_PIECES, text)?;
     add(text, b"\"")
 }
 

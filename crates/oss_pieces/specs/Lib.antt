@@ -4,3 +4,4 @@ pub mod Pieces
 pub mod Names
 pub mod Claims
 pub mod Layouts
+pub mod Numbered

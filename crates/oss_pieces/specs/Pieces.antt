@@ -2,7 +2,7 @@
 -- are one piece. Pieces rise by their first cell.
 -- Read against: of `long m[3][4];` with the cells 1, 2, 5, 6, 8 and 9 the pieces are the rows 0 to 1 with the columns 1 to 2, and row 2 with the
 -- columns 0 to 1.
-use Rattle.std.specs.Prelude.{◌≡◌, ◌≤◌, ◌<◌, ℕ, ◌+◌, ◌-◌, ◌*◌, ◌⊎◌, Bool, false, List, [], ◌∷◌, ◌++◌}
+use Rattle.std.specs.Prelude.{◌≡◌, ◌≤◌, ◌<◌, ℕ, ◌+◌, ◌-◌, ◌*◌, ◌⊎◌, Bool, true, false, List, [], ◌∷◌, ◌++◌}
 use Rattle.oss_model.specs.Order.{IsIn}
 use Rattle.oss_syntax.specs.declared.tree.program.Function.{Function}
 use Rattle.oss_syntax.specs.declared.tree.program.GlobalDef.{GlobalDef}
@@ -53,3 +53,11 @@ pub record IsAdded (s : Grid) (number : ℕ) (test : ℕ → Bool) (begin to : �
 -- No run goes over this cell from the one before it.
 abbrev pub IsBetweenRuns : Grid → (ℕ → Bool) → ℕ → Type 0
 IsBetweenRuns s test at = (r : ℕ) → row_begin s r < at → at < row_end s r → test at ≡ false
+
+-- Behind the run that ends at `to` so many whole rows follow up to `next`, all of whose cells are in the set; none if the run has fewer cells than a row.
+pub record IsPastWhole (s : Grid) (test : ℕ → Bool) (begin to next : ℕ) : Type 0 where
+  pub count : ℕ
+  pub next_is : next ≡ to + count * s.width
+  pub within : next ≤ s.start + s.cells
+  pub all : (c : ℕ) → to ≤ c → c < next → test c ≡ true
+  pub whole : to - begin < s.width → count ≡ 0

@@ -3,7 +3,7 @@
 ghost use Rattle.std.specs.Prelude.{◌≡◌, ◌≤◌, ◌<◌, ℕ, ◌+◌, ◌-◌, ◌*◌, ◌++◌, List as Items, IfOk, OnOk, MatchOption, true, false};
 ghost use Rattle.oss_grammar.specs.Layout.{cells_in, cells_of};
 ghost use Rattle.oss_pieces.specs.CellSets.{has};
-ghost use Rattle.oss_pieces.specs.Pieces.{ArePieces, ArePiecesTo, IsAdded};
+ghost use Rattle.oss_pieces.specs.Pieces.{ArePieces, ArePiecesTo, IsAdded, IsPastWhole};
 ghost use Rattle.oss_pieces.specs.Rows.{HasRun, grid, row_begin, row_end};
 
 use crate::cell_set::CellSet;
@@ -12,8 +12,8 @@ use crate::shape::Shape;
 use oss_syntax::{Item, List, Program};
 use std::alloc::{AllocError, Global};
 
-/// The pieces of a set of cells over the globals of the program, in rising order. It costs what the globals and
-/// the runs in their rows do, and a search in the set for each of these. Out of memory is the one error.
+/// The pieces of a set of cells over the globals of the program, in rising order. It costs what the globals, the ranges of
+/// the set and the pieces do, and a search in the set for each of these. Out of memory is the one error.
 pub fn pieces(alloc: Global, program: &Program, set: &CellSet) -> Result<List<Piece>, AllocError>
     requires { cells_in program.now.items ≤ 1048576 }
     ensures { IfOk result (λ found. ArePieces (has set.now) program.now.items 0 0 found) }
@@ -32,7 +32,7 @@ pub fn pieces(alloc: Global, program: &Program, set: &CellSet) -> Result<List<Pi
     Ok(List::from_vec(found))
 }
 
-/// Adds the pieces of one global.
+/// Adds the pieces of one global. Rows that the set has whole, one behind the other, cost no more than one.
 pub(crate) fn add_pieces_of(
     set: &CellSet,
     shape: Shape,
@@ -48,7 +48,8 @@ pub(crate) fn add_pieces_of(
         if begin == shape.end() {
             break;
         }
-        at = add_piece_at(set, shape, number, begin, found)?;
+        let to = add_piece_at(set, shape, number, begin, found)?;
+        at = past_whole_rows(set, shape, begin, to);
     }
     Ok(())
 }
@@ -90,8 +91,47 @@ fn add_piece_at(
     Ok(to)
 }
 
+/// The cell behind the rows that the set has whole and that follow the run from `begin` to `to`, if that is a whole row too;
+/// else `to`.
+fn past_whole_rows(set: &CellSet, shape: Shape, begin: u32, to: u32) -> u32
+    requires some { begin ≤ to }
+    requires within { to ≤ shape.start + shape.cells }
+    ensures { IsPastWhole (grid shape) (has set.now) begin to result }
+{
+    if to - begin < shape.width {
+        return to;
+    }
+    let end = run_end(set, to, shape.end());
+    end - (end - to) % shape.width
+}
+
 /// The last row of those from this one on that have a run with these columns, one after the other.
 fn last_row(set: &CellSet, shape: Shape, row: u32, columns: Span) -> u32
+    requires { HasRun (grid shape) (has set.now) row columns.first columns.last }
+    ensures from { row ≤ result }
+    ensures each { (r : ℕ) → row ≤ r → r ≤ result → HasRun (grid shape) (has set.now) r columns.first columns.last }
+    ensures below { HasRun (grid shape) (has set.now) (result + 1) columns.first columns.last → ⊥ }
+{
+    if columns.first == 0 && columns.last == shape.width - 1 {
+        return last_whole_row(set, shape, row);
+    }
+    last_row_alike(set, shape, row, columns)
+}
+
+/// The same of rows that the set has whole, by a search for the end of the cells that it has.
+fn last_whole_row(set: &CellSet, shape: Shape, row: u32) -> u32
+    requires { HasRun (grid shape) (has set.now) row 0 (shape.width - 1) }
+    ensures from { row ≤ result }
+    ensures each { (r : ℕ) → row ≤ r → r ≤ result → HasRun (grid shape) (has set.now) r 0 (shape.width - 1) }
+    ensures below { HasRun (grid shape) (has set.now) (result + 1) 0 (shape.width - 1) → ⊥ }
+{
+    let (_, to) = shape.row(row);
+    let end = run_end(set, to, shape.end());
+    row + (end - to) / shape.width
+}
+
+/// The same, row by row.
+fn last_row_alike(set: &CellSet, shape: Shape, row: u32, columns: Span) -> u32
     requires { HasRun (grid shape) (has set.now) row columns.first columns.last }
     ensures from { row ≤ result }
     ensures each { (r : ℕ) → row ≤ r → r ≤ result → HasRun (grid shape) (has set.now) r columns.first columns.last }

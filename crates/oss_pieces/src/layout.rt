@@ -54,8 +54,8 @@ impl Layout {
     }
 
     /// The pieces of a set of cells over the globals of the program, in rising order: those that `pieces` finds. It costs what
-    /// the runs in the rows of the globals do that have a cell of the set, and a search in the table for each of these
-    /// globals. Out of memory is the one error.
+    /// the ranges of the set and the pieces do, and a search in the set for each of these and in the table for each of the
+    /// globals that have a piece. Out of memory is the one error.
     pub fn pieces(&self, set: &CellSet) -> Result<List<Piece>, AllocError>
         ensures { IfOk result (λ found. (all : Items Meant) → self.now ≡ grids_from all 0 →
             ArePieces (has set.now) all 0 0 found) }

@@ -3,6 +3,7 @@
 
 mod cell_set;
 mod finding;
+mod globals;
 mod laws;
 mod layout;
 mod names;
@@ -12,7 +13,8 @@ mod shape;
 
 pub use cell_set::{CELLS, CellSet};
 pub use finding::pieces;
+pub use globals::Globals;
 pub use laws::a_set_has_one_list;
 pub use layout::Layout;
-pub use names::{add_cell_name, add_pieces};
+pub use names::{add_cell_name, add_pieces, add_pieces_among};
 pub use piece::{Piece, Span};

@@ -4,6 +4,7 @@ ghost use Rattle.std.specs.Prelude.{◌≡◌, ◌≤◌, ◌<◌, ◌+◌, ◌+
 ghost use Rattle.oss_pieces.specs.Names.{all_in, cell_name, cells_in_pieces, further_pieces, index_text, is_whole, joined_pieces, left_out, more_cells, piece_of_global, piece_text, pieces_text, place_text, size_in, span_text};
 ghost use Rattle.oss_pieces.specs.Rows.{width_of};
 
+use crate::globals::Globals;
 use crate::piece::{Piece, Span};
 use oss_syntax::{GlobalDef, Item, Program};
 use std::alloc::{AllocError, Global};
@@ -73,8 +74,8 @@ fn add_index(alloc: Global, index: u64, text: &mut Vec<u8>) -> Result<(), AllocE
     Ok(())
 }
 
-/// Adds the first `most` pieces to a text, with a comma between them, and how many cells the others have. Out of
-/// memory is the one error.
+/// Adds the first `most` pieces to a text, with a comma between them, and how many cells the others have. It costs what
+/// the globals of the program do, and the pieces. Out of memory is the one error.
 pub fn add_pieces(
     alloc: Global,
     program: &Program,
@@ -84,24 +85,39 @@ pub fn add_pieces(
 ) -> Result<(), AllocError>
     ensures { OnOk result (text.new.items ≡ text.old.items ++ pieces_text program.now.items most pieces.now) }
 {
+    let globals = Globals::of(alloc, program.items.as_slice())?;
+    add_pieces_among(alloc, &globals, pieces, most, text)
+}
+
+/// The same where the globals stand in a table: it costs what the pieces do, and not the globals. Out of memory is the
+/// one error.
+pub fn add_pieces_among(
+    alloc: Global,
+    globals: &Globals<'_>,
+    pieces: &[Piece],
+    most: usize,
+    text: &mut Vec<u8>,
+) -> Result<(), AllocError>
+    ensures { OnOk result (text.new.items ≡ text.old.items ++ pieces_text globals.now most pieces.now) }
+{
     let (shown, others) = pieces.split_at(pieces.len().min(most));
-    add_joined(alloc, program, shown, text)?;
+    add_joined(alloc, globals, shown, text)?;
     add_left_out(alloc, cells_of_pieces(others), text)
 }
 
 /// Adds pieces, with a comma between them.
 fn add_joined(
     alloc: Global,
-    program: &Program,
+    globals: &Globals<'_>,
     pieces: &[Piece],
     text: &mut Vec<u8>,
 ) -> Result<(), AllocError>
-    ensures { OnOk result (text.new.items ≡ text.old.items ++ joined_pieces program.now.items pieces.now) }
+    ensures { OnOk result (text.new.items ≡ text.old.items ++ joined_pieces globals.now pieces.now) }
 {
     match pieces.split_first() {
         Some((first, others)) => {
-            add_piece(alloc, program, first, text)?;
-            add_further(alloc, program, others, text)
+            add_piece(alloc, globals, first, text)?;
+            add_further(alloc, globals, others, text)
         }
         None => Ok(()),
     }
@@ -110,15 +126,15 @@ fn add_joined(
 /// Adds pieces, with a comma before each.
 fn add_further(
     alloc: Global,
-    program: &Program,
+    globals: &Globals<'_>,
     pieces: &[Piece],
     text: &mut Vec<u8>,
 ) -> Result<(), AllocError>
-    ensures { OnOk result (text.new.items ≡ text.old.items ++ further_pieces program.now.items pieces.now) }
+    ensures { OnOk result (text.new.items ≡ text.old.items ++ further_pieces globals.now pieces.now) }
 {
     for piece in pieces {
         text.extend_from_slice(b", ")?;
-        add_piece(alloc, program, piece, text)?;
+        add_piece(alloc, globals, piece, text)?;
     }
     Ok(())
 }
@@ -126,22 +142,16 @@ fn add_further(
 /// Adds a piece.
 fn add_piece(
     alloc: Global,
-    program: &Program,
+    globals: &Globals<'_>,
     piece: &Piece,
     text: &mut Vec<u8>,
 ) -> Result<(), AllocError>
-    ensures { OnOk result (text.new.items ≡ text.old.items ++ piece_text program.now.items piece.now) }
+    ensures { OnOk result (text.new.items ≡ text.old.items ++ piece_text globals.now piece.now) }
 {
-    let mut number = piece.global;
-    for item in program.items.as_slice() {
-        if let Item::Global(global) = item {
-            if number == 0 {
-                return add_piece_of(alloc, global, piece, text);
-            }
-            number -= 1;
-        }
+    match globals.numbered(piece.global) {
+        Some(global) => add_piece_of(alloc, global, piece, text),
+        None => Ok(()),
     }
-    Ok(())
 }
 
 /// Adds a piece of this global.

@@ -1,6 +1,6 @@
 //! What is kept of the access lists of a task's children.
 
-ghost use Rattle.std.specs.Prelude.{◌≡◌, ◌≤◌, ◌<◌, ◌+◌, ℕ, [], List as Items, OnOk, IfOk, Some};
+ghost use Rattle.std.specs.Prelude.{◌≡◌, ◌≤◌, ◌<◌, ◌+◌, ℕ, [], List as Items, OnErr, OnOk, IfOk, Some};
 ghost use Rattle.oss_syntax.specs.declared.tree.program.Item.{Item};
 ghost use Rattle.oss_judge.specs.Joined.{IsRising};
 ghost use Rattle.oss_pieces.specs.Layouts.{grids_from};
@@ -54,8 +54,31 @@ impl Siblings {
 
     /// Adds the child with this number, and answers the edges to it, their cells as pieces over the globals of the layout. Its
     /// accesses are joined: each cell once, in rising order. It costs the pieces of these, and for each edge its cells. Want of
-    /// memory is the one error, after which nothing more may be asked of the siblings. Condition: the accesses rise.
+    /// memory is the one error; after it the siblings are let go, as if there were no child. Condition: the accesses rise.
     pub fn add(
+        &mut self,
+        layout: &Layout,
+        number: u16,
+        accesses: &[Access],
+    ) -> Result<List<Edge>, AllocError>
+        requires { IsRising accesses.now }
+        ensures keeps { OnOk result ((all : Accesses) → Keeps all number self.old → HasAccesses all number accesses.now →
+            Keeps all (number + 1) self.new) }
+        ensures edges { IfOk result (λ edges. (items : Items Item) → layout.now ≡ grids_from items 0 → (all : Accesses) →
+            Keeps all number self.old → HasAccesses all number accesses.now → AreEdges items all number edges) }
+        ensures let_go { OnErr result ((all : Accesses) → Keeps all 0 self.new) }
+    {
+        match self.enter_child(layout, number, accesses) {
+            Ok(edges) => Ok(edges),
+            Err(full) => {
+                *self = Siblings::new(self.alloc);
+                Err(full)
+            }
+        }
+    }
+
+    /// The same, where want of memory leaves the child at some of its cells.
+    fn enter_child(
         &mut self,
         layout: &Layout,
         number: u16,

@@ -1,4 +1,4 @@
-use Rattle.std.proofs.Common.{◌≡◌, ◌≤◌, ◌<◌, ◌+◌, ℕ, false, List, [], length, drop, get_or, slice_get, arith, refl, sym, subst, ◌∙◌}
+use Rattle.std.proofs.Common.{◌≡◌, ◌≤◌, ◌<◌, ℕ, false, List, [], length, drop, get_or, arith, sym, subst}
 use Rattle.std.proofs.Math.ListN.{drop_of_length-le}
 use Rattle.oss_pieces.specs.declared.piece.Piece.{Piece}
 use Rattle.oss_pieces.specs.declared.shape.Shape.{Shape}

@@ -1,5 +1,4 @@
-use Rattle.std.proofs.Common.{◌≡◌, ◌∙◌, List, ap, subst}
-use Rattle.oss_pieces.specs.declared.piece.Piece.{Piece}
+use Rattle.std.proofs.Common.{◌∙◌, List, ap, subst}
 use Rattle.oss_pieces.specs.CellSets.{has}
 use Rattle.oss_pieces.specs.Layouts.{ArePiecesIn, grids}
 use Rattle.oss_pieces.specs.Rows.{Grid}

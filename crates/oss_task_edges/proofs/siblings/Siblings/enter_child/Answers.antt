@@ -1,6 +1,6 @@
 use Rattle.oss_task_edges.proofs.EnterLemmas.{if_ok, in_any_case, keeps_next, parts_next}
 use Rattle.oss_task_edges.proofs.JoinLemmas.{edges_are}
-use Rattle.oss_task_edges.proofs.siblings.Siblings.add.Goals as goal
+use Rattle.oss_task_edges.proofs.siblings.Siblings.enter_child.Goals as goal
 
 pub returns-clause-keeps : goal.returns-clause-keeps
 returns-clause-keeps c =
