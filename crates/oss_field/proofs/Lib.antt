@@ -1,7 +1,12 @@
 pub mod ActLemmas
 pub mod CellLemmas
 pub mod DrawLemmas
+pub mod MakingLemmas
+pub mod OpenLemmas
+pub mod PlanLemmas
+pub mod PlannedLemmas
 pub mod ReadLemmas
 pub mod SlotLemmas
+pub mod StageLemmas
 pub mod StartLemmas
 pub mod TableLemmas

@@ -2,7 +2,9 @@ pub mod Asks
 pub mod Drawing
 pub mod Known
 pub mod Layout
+pub mod Making
 pub mod Moves
+pub mod Plans
 pub mod Reading
 pub mod Standing
 pub mod Steps

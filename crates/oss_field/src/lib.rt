@@ -7,6 +7,8 @@ mod drawing;
 mod field;
 mod flags;
 mod key;
+mod making;
+mod making_words;
 mod places;
 mod rule;
 mod seat;
