@@ -25,7 +25,7 @@ use Rattle.oss_roles.proofs.MakeClaims.{first_puts_keep}
 use Rattle.oss_field.specs.declared.view.SeatView.{SeatView}
 use Rattle.oss_field.specs.Known.{Holding, Known, bearing_of, sight_of}
 use Rattle.oss_field.specs.Layout.{Home, job_in, body_word_of, parts_of}
-use Rattle.oss_field.specs.Making.{HoldsNew, MayPutAt, MayPutFirst, PutsNew, made_beside, staged}
+use Rattle.oss_field.specs.Making.{HoldsNew, IsPutFirst, MayPutAt, MayPutFirst, PutsNew, made_beside, staged}
 use Rattle.oss_field.specs.Moves.{touched}
 use Rattle.oss_field.specs.Table.{Slot, is_job_of, sights_of, Stands}
 use Rattle.oss_field.proofs.DrawLemmas.{at_among}
@@ -304,8 +304,8 @@ module _ (code : CodeParts) (fuel n slots id : ℕ) (v : SeatView) (c : List (�
   abbrev put : Known
   put = touched (body_word_of (length code.first) (task_of (box_value j))) 1 (staged may.holding.number (task_of (box_value j)) 2 v.known)
 
-  abbrev going_on : Making
-  going_on = record { by = may.holding.number; task = task_of (box_value j); stage = 1 }
+  abbrev laid : Making
+  laid = record { by = may.holding.number; task = task_of (box_value j); stage = 1 }
 
   out_slot : (code : CodeParts) (before : ℕ → List ℕ) (k : Parts (Box Job)) (m : Making) (b : Body CodeScript) → m.stage ≡ 1 → IsPut (is_job_of code before) k m b → k.bodies m.task ≡ 2
   out_slot code before k m b stage (not_put s y none) = absurd (let q : 0 ≡ 1 = sym s ∙ stage in omega (arith, q))
@@ -316,9 +316,9 @@ module _ (code : CodeParts) (fuel n slots id : ℕ) (v : SeatView) (c : List (�
       → Stands code fuel n (set z.words (body_word_of (length code.first) (task_of (box_value j))) 1) (set z.homes (task_of (box_value j)) (maybe.some (Some j))) (set z.views id (record { known = put }))
   new_stands z stands sits =
       let k : Parts (Box Job) = parts_of (length code.first) z.words z.homes stands.cells in
-      let made = stands.rule.field.made id (sight_of v.known) (sits_at z.views id v sits) going_on may.among in
-      let two : slice_index z.words (body_word_of (length code.first) (task_of (box_value j))) ≡ 2 = out_slot code stands.before k going_on (new_task (asks code) made.creator.body made.order).body refl made.job in
-      let again = stands_retold code fuel n z.words z.homes z.views stands id v sits going_on may.among two in
+      let made = stands.rule.field.made id (sight_of v.known) (sits_at z.views id v sits) laid may.among in
+      let two : slice_index z.words (body_word_of (length code.first) (task_of (box_value j))) ≡ 2 = out_slot code stands.before k laid (new_task (asks code) made.creator.body made.order).body refl made.job in
+      let again = stands_retold code fuel n z.words z.homes z.views stands id v sits laid may.among two in
       let full : get_elem? (set z.homes (task_of (box_value j)) (maybe.some (Some j))) (task_of (box_value j)) ≡ maybe.some (maybe.some (Some j)) = set_here z.homes (task_of (box_value j)) (maybe.some (Some j)) (let s = stands.slots in omega (arith, s, inside)) in
       stage_stands code fuel n z again.0 id v sits 1 2 (box_value j) may inside 1 (maybe.some (Some j)) (λ q. absurd (omega (arith, q))) (body_word_of (length code.first) (task_of (box_value j))) 1
       (is_put j refl (here code fuel n z.words z.homes z.views again.0 (task_of (box_value j)) inside 1 (maybe.some (Some j))) (ap (λ (y : Home (Box Job)). job_in y) full)
@@ -334,3 +334,34 @@ module _ (code : CodeParts) (fuel n slots id : ℕ) (v : SeatView) (c : List (�
     (λ k d q. subst (λ (y : Box Job). (m : MayPutAt 1 code (box_value y) v.known) × (put ≡ touched (body_word_of (length code.first) (task_of (box_value y))) 1 (staged m.holding.number (task_of (box_value y)) 2 v.known)) × (c ≡ d)) (first_job j q)
     (may, refl, ap rest q)),
   )
+
+-- The two steps together
+
+-- after the first the seat may put the job
+pub going_on : (code : CodeParts) (job : Job) (k l : Known) (word found : ℕ) (may : MayPutFirst code job k) → l ≡ touched word found (staged may.holding.number (task_of job) 1 k) → MayPutAt 1 code job l
+going_on code job k l word found may e = subst (λ (z : Known). MayPutAt 1 code job z) (sym e) (record {
+  place = may.place;
+  holding = may.holding;
+  order = may.order;
+  holds = may.holds;
+  act = may.act;
+  among = among_first refl;
+  is = may.is;
+})
+
+-- and after the second it has put it
+pub put_whole : (code : CodeParts) (job : Job) (m : ℕ) (k a l : Known) (may : MayPutFirst code job k) → a ≡ touched (body_word_of m (task_of job)) 2 (staged may.holding.number (task_of job) 1 k)
+    → (again : MayPutAt 1 code job a) → l ≡ touched (body_word_of m (task_of job)) 1 (staged again.holding.number (task_of job) 2 a) → IsPutFirst code job m k l
+put_whole code job m k a l may first again second =
+    let t : ℕ = task_of job in
+    let w : ℕ = body_word_of m (task_of job) in
+    let by : again.holding.number ≡ may.holding.number = same_maker (task_of job) may.holding.number again.holding.number 1 k.makes
+    (subst (λ (z : Known). Among (record { by = again.holding.number; task = task_of job; stage = 1 }) z.makes) first again.among) in
+    record {
+      may = may;
+      known =
+          second
+          ∙ (ap (λ (z : ℕ). touched (body_word_of m (task_of job)) 1 (staged z (task_of job) 2 a)) by
+          ∙ (ap (λ (z : Known). touched (body_word_of m (task_of job)) 1 (staged may.holding.number (task_of job) 2 z)) first
+          ∙ staged_twice m (task_of job) may.holding.number k));
+    }
