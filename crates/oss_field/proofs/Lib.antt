@@ -1,11 +1,13 @@
 pub mod ActLemmas
 pub mod CellLemmas
 pub mod DrawLemmas
+pub mod JoinLemmas
 pub mod MakingLemmas
 pub mod OpenLemmas
 pub mod PlanLemmas
 pub mod PlannedLemmas
 pub mod ReadLemmas
+pub mod SeatLemmas
 pub mod SlotLemmas
 pub mod StageLemmas
 pub mod StartLemmas

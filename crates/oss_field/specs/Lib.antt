@@ -6,6 +6,7 @@ pub mod Making
 pub mod Moves
 pub mod Plans
 pub mod Reading
+pub mod Seats
 pub mod Standing
 pub mod Steps
 pub mod Table

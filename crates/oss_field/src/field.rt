@@ -1,6 +1,6 @@
 //! A field.
 
-ghost use Rattle.std.specs.Prelude.{◌≡◌, ◌<◌, ◌≤◌, ◌+◌, ◌*◌, ◌==◌, ℕ, [], length, None, IfNone, IfOk, IfSome, box_value};
+ghost use Rattle.std.specs.Prelude.{◌≡◌, ◌<◌, ◌≤◌, ◌+◌, ◌*◌, ◌==◌, ℕ, [], length, None, IfErr, IfNone, IfOk, IfSome, box_value};
 ghost use Rattle.oss_body.specs.Mains.{code_main};
 ghost use Rattle.oss_field.specs.Asks.{IsLoaded, IsStored, MayLoad, MayStore};
 ghost use Rattle.oss_field.specs.Drawing.{IsAboveAll, drew, missed};
@@ -9,6 +9,7 @@ ghost use Rattle.oss_field.specs.Layout.{words_in};
 ghost use Rattle.oss_field.specs.Making.{HasBegun, IsOpened, IsPutFirst, MayBegin, MayOpen, MayPutFirst};
 ghost use Rattle.oss_field.specs.Moves.{touched};
 ghost use Rattle.oss_field.specs.Reading.{after_flags};
+ghost use Rattle.oss_field.specs.Seats.{IsIdle, merged, new_known, parted};
 ghost use Rattle.oss_field.specs.Standing.{Fielded};
 ghost use Rattle.oss_field.specs.Taking.{IsMissing, IsPut, IsTaken, MayPut, after_count, after_take};
 ghost use Rattle.oss_jobs.specs.Jobs.{IsJob, task_of};
@@ -19,6 +20,7 @@ use crate::flags::read_flags;
 use crate::key::FieldKey;
 use crate::making::{fill_count, open_task, put_new};
 use crate::seat::FieldSeat;
+use crate::seats::{merge, part};
 use crate::slots::{put_slot, take_job};
 use crate::start::{FieldTable, first_slots, first_words, open_table};
 use oss_body::main_is_set;
@@ -232,5 +234,33 @@ impl Field {
             (result ≡ (found == 1)) }
     {
         open_task(&self.table.shared, &mut seat.place, job, self.cells, task)
+    }
+    /// A new seat, which may go to another thread: it holds nothing and knows nothing. The seat is the one with which the
+    /// field was made, and was split fewer than 65,536 times; it gives the new one a part of its own. It is an
+    /// error if memory is wanted: the seat is as it was then.
+    pub fn split(&self, seat: &mut FieldSeat) -> Result<FieldSeat, AllocError>
+        requires field { seat.old.field ≡ self.now.table }
+        requires first { (seat.old.id ≡ 0) × (1 < seat.old.known.words.parts) }
+        requires few { seat.old.known.words.splits < 65536 }
+        ensures same { (seat.new.field ≡ seat.old.field) × (seat.new.id ≡ seat.old.id) }
+        ensures kept { IfErr result (λ _. seat.new ≡ seat.old) }
+        ensures known { IfOk result (λ _. seat.new.known ≡ parted seat.old.known) }
+        ensures other { IfOk result (λ s. (s.field ≡ seat.old.field) × (s.known ≡ new_known)) }
+    {
+        let place = part(&self.table.shared, &mut seat.place);
+        Ok(FieldSeat { place })
+    }
+
+    /// The end of another seat, which has nothing left to do: it holds no message and no job, makes no task and owes
+    /// nothing, and was never split. Its part goes to this seat, with what it has drawn, and its deliveries are counted
+    /// for this one.
+    pub fn join(&self, seat: &mut FieldSeat, other: FieldSeat)
+        requires field { (seat.old.field ≡ self.now.table) × (other.field ≡ self.now.table) }
+        requires idle { IsIdle other.known }
+        ensures same { (seat.new.field ≡ seat.old.field) × (seat.new.id ≡ seat.old.id) }
+        ensures known { seat.new.known ≡ merged seat.old.known other.known }
+    {
+        let FieldSeat { place } = other;
+        merge(&self.table.shared, &mut seat.place, place);
     }
 }

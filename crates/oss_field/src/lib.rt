@@ -12,6 +12,7 @@ mod making_words;
 mod places;
 mod rule;
 mod seat;
+mod seats;
 mod slots;
 mod start;
 mod view;
