@@ -1,7 +1,11 @@
 pub mod ActLemmas
+pub mod BeginLemmas
 pub mod CellLemmas
 pub mod DrawLemmas
+pub mod FillLemmas
+pub mod FirstLinkLemmas
 pub mod JoinLemmas
+pub mod LooseLemmas
 pub mod MakingLemmas
 pub mod OpenLemmas
 pub mod PlanLemmas

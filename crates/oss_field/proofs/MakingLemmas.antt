@@ -47,9 +47,9 @@ use Rattle.oss_field.specs.declared.view.SeatView.{SeatView}
 use Rattle.oss_field.specs.Asks.{AreInside}
 use Rattle.oss_field.specs.Known.{Holding, Known, Plan, bearing_of, sight_of}
 use Rattle.oss_field.specs.Layout.{job_in, cell_word, state_word_of, info_word_of, value_word_of, number_word_of, count_word_of, body_word_of, parts_of}
-use Rattle.oss_field.specs.Making.{HasBegun, MayBegin, began, begins_list, new_cells, unlinked_from, waits_for}
+use Rattle.oss_field.specs.Making.{HasBegun, MayBegin, began, new_cells, unlinked_from}
 use Rattle.oss_field.specs.Moves.{loaded_beside, touched, with_body}
-use Rattle.oss_field.specs.Plans.{ArePlanned, Planned, new_rights, planned_of}
+use Rattle.oss_field.specs.Plans.{ArePlanned, Planned, begins_list, new_rights, planned_of, waits_for}
 use Rattle.oss_field.specs.Standing.{carried}
 use Rattle.oss_field.specs.Steps.{Steps}
 use Rattle.oss_field.specs.Table.{AreSeats, Neat, Slot, Stands, is_job_of, planned_by, sights_of}
@@ -228,7 +228,7 @@ module _ (code : CodeParts) (fuel n id : ℕ) (v : SeatView) (job : Job) (t coun
 
     inside_all : (e : ℕ) (r : Role) → role' e ≡ Some r → e < n
     inside_all e r is = role_inside code n stands.net stands.role k.states k.infos k.cell_of (planned_by views) stands.planned id (planned_of v.known) (at_map (λ (z : SeatView). planned_of z.known) views id v sits)
-        path t x may.order (begins_list h) hung no_role old_task may.inside e r (source path t own (begins_list h) (length code.first) stands.role e r is)
+        path t (with_body x h) may.order hung no_role old_task may.inside e r (source path t own (begins_list h) (length code.first) stands.role e r is)
 
     rule_now : FieldAt (asks code) (code_main code fuel) code.first (is_job_of code stands.before) n stands.net stands.gave role'
         (record k { counts = (parts_of (length code.first) (set ws (count_word_of (length code.first) t) count) homes stands.cells).counts }) (set (set (sights_of views) id (sight_of gone)) id (sight_of l))
@@ -319,7 +319,7 @@ module _ (code : CodeParts) (fuel n id : ℕ) (v : SeatView) (job : Job) (t coun
       planned = plans_stand code n stands.net role' ws (set ws (count_word_of (length code.first) t) count) (set (planned_by views) id (planned_of l)) (planned_by (set views id (record { known = l })))
           (states_same code n ws homes stands.cells t count) (infos_same code n ws homes stands.cells t count) (numbers_same code n ws homes stands.cells t count) (map-set (λ (z : SeatView). planned_of z.known) views id (record { known = l }))
           (planned_now code n stands.net stands.role k.states k.infos k.cell_of (planned_by views) stands.planned id (planned_of v.known) (at_map (λ (z : SeatView). planned_of z.known) views id v sits)
-          path t x may.order (begins_list h) hung no_role old_task may.inside);
+          path t (with_body x h) may.order hung no_role old_task may.inside);
     }
 
   pub begins : Steps code fuel n id v (count_word_of (length code.first) t) (λ y. count) (λ y k. HasBegun code n job t count v.known k)

@@ -43,14 +43,14 @@ use Rattle.oss_field.specs.Known.{Holding, Known, Plan, Unlinked, bearing_of, la
 use Rattle.oss_field.specs.Layout.{count_word_of, parts_of}
 use Rattle.oss_field.specs.Making.{IsOpened, MayOpen, created_by, made_beside, opened, plans_beside}
 use Rattle.oss_field.specs.Moves.{touched}
-use Rattle.oss_field.specs.Plans.{ArePlanned, IsLoose, IsUnlinked, Planned, new_rights, planned_of}
+use Rattle.oss_field.specs.Plans.{ArePlanned, IsLoose, IsRoleOf, is_cell, is_own, IsUnlinked, Planned, new_rights, planned_of}
 use Rattle.oss_field.specs.Standing.{carried}
 use Rattle.oss_field.specs.Steps.{Steps}
 use Rattle.oss_field.specs.Table.{Slot, is_job_of, planned_by, sights_of, Stands}
 use Rattle.oss_field.proofs.ActLemmas.{carried_one}
 use Rattle.oss_field.proofs.DrawLemmas.{mod_small}
 use Rattle.oss_field.proofs.MakingLemmas.{bodies_same, cells_same, count_here, counts_else, draw_same, infos_same, numbers_same, parts_now, states_same}
-use Rattle.oss_field.proofs.PlanLemmas.{right_held}
+use Rattle.oss_field.proofs.PlanLemmas.{has_held, right_held, site_cell}
 use Rattle.oss_field.proofs.StageLemmas.{made_is, made_kept}
 use Rattle.oss_field.proofs.TableLemmas.{among_at, among_set, chained, next_stands, plans_stand, sits_at}
 
@@ -111,7 +111,7 @@ module _ (code : CodeParts) (n : ℕ) (net : Net) (role : ℕ → Option Role) (
     inside = a.inside;
     blank = a.blank;
     own = λ j u sits y b. let w = before j u sits in a.own j w.0 w.1 y (w.2 y b);
-    cells = λ j u sits y b. let w = before j u sits in a.cells j w.0 w.1 y (w.2 y b);
+    roles = λ j u sits y b. let w = before j u sits in a.roles j w.0 w.1 y (w.2 y b);
     rest = λ j u sits y b e r is task. let w = before j u sits in subst (λ (z : List Unlinked). (net.place e ≢ apart) ⊎ IsUnlinked e z) (sym w.3) (a.rest j w.0 w.1 y (w.2 y b) e r is task);
     one = λ i j u x su sx y z b d same. let w = before i u su in let o = before j x sx in a.one i j w.0 o.0 w.1 o.1 y z (w.2 y b) (o.2 z d) same;
     loose = λ j u sits z b. elim (at_set seats id j after u sits) [
@@ -163,7 +163,7 @@ module _ (code : CodeParts) (fuel n id : ℕ) (v : SeatView) (job : Job) (t : �
   making = record { by = may.holding.number; task = t; stage = 2 }
 
   abbrev plan : Plan
-  plan = record { task = t; body = may.holding.body; order = may.order }
+  plan = record { task = t; holding = may.holding; order = may.order }
 
   abbrev b : Bearing CodeScript
   b = bearing_of may.holding
@@ -221,6 +221,15 @@ module _ (code : CodeParts) (fuel n id : ℕ) (v : SeatView) (job : Job) (t : �
         role_same : (x y : Role) → Some x ≡ Some y → x ≡ y
         role_same x y q = cc
 
+    -- no entry of the task is one of a cell that it does not have
+    no_cell : (c : ℕ) {o : ℕ} (r : Role) → r.site ≡ on c → has_cell (own c) ≡ false → IsRoleOf code plan o r → ⊥
+    no_cell c r site none (is_own q own_site mode strong counts) = let z : itself ≡ on c = sym own_site ∙ site in cc
+    no_cell c r site none (is_cell e mode strong right q at_cell m s w) =
+        let same : e ≡ c = site_cell e c (sym at_cell ∙ site) in
+        let has_it : has_cell (own c) ≡ true = subst (λ (z : ℕ). has_cell (own z) ≡ true) same (has_held (own e) mode strong right) in
+        let z : false ≡ true = sym none ∙ has_it in
+        cc
+
     last_on : (c : ℕ) (y : Bool) → has_cell (own c) ≡ y → MovesLast f id (sight_of v.known) (sight_of l) t (bearing_of may.holding) (bearing_of (created_by job may.holding)) (on c)
     last_on c true has_it =
         let r = right_held (own c) has_it in
@@ -231,7 +240,7 @@ module _ (code : CodeParts) (fuel n id : ℕ) (v : SeatView) (job : Job) (t : �
         told_last q = ap (λ (z : Bool). or_else (if z then Some (entry_number t own c) else None) (last_of may.holding (on c))) q
     last_on c false none =
         inr (
-          (λ o r is task site. let q = stands.planned.cells id (planned_of v.known) planned_at plan may.plan o c r (old o r is) task site in let z : false ≡ true = sym none ∙ q in let bad : ⊥ = cc in bad),
+          (λ o r is task site. no_cell c r site none (stands.planned.roles id (planned_of v.known) planned_at plan may.plan o r (old o r is) task)),
           may.is.lasts c ∙ ap (λ (z : Bool). or_else (if z then Some (entry_number t own c) else None) (last_of may.holding (on c))) none,
         )
 
@@ -295,7 +304,7 @@ module _ (code : CodeParts) (fuel n id : ℕ) (v : SeatView) (job : Job) (t : �
       let some : 0 < x = counted ws homes views stands sits in (
         touched (count_word_of (length code.first) t) x (opened may.place may.holding job t v.known),
         subst (λ (y : ℕ). Stands code fuel n (set ws (count_word_of (length code.first) t) y) homes (set views id (record { known = touched (count_word_of (length code.first) t) x (opened may.place may.holding job t v.known) }))) (sym (lowered x some bits))
-        (opens_stand ws homes views stands sits),
+            (opens_stand ws homes views stands sits),
         record { may = may; some = some; known = refl },
       )
 

@@ -16,7 +16,8 @@ use Rattle.oss_roles.specs.Counting.{AreNumbered, stands}
 use Rattle.oss_roles.specs.Numbers.{cells_below, entry_number, has_cell}
 use Rattle.oss_roles.specs.Roles.{Role, Site, itself, on, Plans, AreRoles}
 use Rattle.oss_field.specs.Known.{Unlinked}
-use Rattle.oss_field.specs.Making.{drawn_beside, needs_flag, unlinked_from, waits_for}
+use Rattle.oss_field.specs.Making.{drawn_beside, unlinked_from}
+use Rattle.oss_field.specs.Plans.{needs_flag, waits_for}
 
 -- the role of a task's own entry, and of that on a cell to which it has a right
 abbrev pub own_role : List ℕ → ℕ → Role
@@ -40,7 +41,7 @@ role_among p t own begins zero e = None
 role_among p t own begins (suc d) e = choose (has_cell (own d) && (e == entry_number t own d)) (cell_role p t begins d (own d)) (role_among p t own begins d e)
 
 -- the cells below one that a task has are fewer than those below a later one
-fewer : (own : ℕ → Right) (m c : ℕ) → c < m → has_cell (own c) ≡ true → cells_below own c < cells_below own m
+pub fewer : (own : ℕ → Right) (m c : ℕ) → c < m → has_cell (own c) ≡ true → cells_below own c < cells_below own m
 fewer own zero c l h = absurd (omega (arith, l))
 fewer own (suc d) c l h = go (same_or c d (omega (arith, l))) (λ k. fewer own d c k h)
   where

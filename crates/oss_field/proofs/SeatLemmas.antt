@@ -81,8 +81,8 @@ module _ (code : CodeParts) (n : ℕ) (net : Net) (role : ℕ → Option Role) (
       | inl old ↦ a.own j s old y b
       | inr new ↦ absurd (no_plan y (subst (λ (z : Planned). Among y z.plans) (sym new) b))
     ];
-    cells = λ j s at y b. elim (at_snoc seats (record { plans = []; unlinked = [] }) s j at) [
-      | inl old ↦ a.cells j s old y b
+    roles = λ j s at y b. elim (at_snoc seats (record { plans = []; unlinked = [] }) s j at) [
+      | inl old ↦ a.roles j s old y b
       | inr new ↦ absurd (no_plan y (subst (λ (z : Planned). Among y z.plans) (sym new) b))
     ];
     rest = λ j s at y b. elim (at_snoc seats (record { plans = []; unlinked = [] }) s j at) [

@@ -290,7 +290,7 @@ module _ (code : CodeParts) (fuel n slots id : ℕ) (v : SeatView) (c : List (�
         takes (task_of job) None,
         empty,
         stage_stands code fuel n z stands id v sits 0 1 job may inside 2 maybe.none (λ q. absurd (omega (arith, q))) (body_word_of (length code.first) (task_of job)) 2
-        (going refl (here code fuel n z.words z.homes z.views stands (task_of job) inside 2 maybe.none) (ap (λ (y : Home (Box Job)). job_in y) out)),
+            (going refl (here code fuel n z.words z.homes z.views stands (task_of job) inside 2 maybe.none) (ap (λ (y : Home (Box Job)). job_in y) out)),
         (may, refl, refl),
       )
     where
@@ -332,7 +332,7 @@ module _ (code : CodeParts) (fuel n slots id : ℕ) (v : SeatView) (c : List (�
     tt,
     new_stands z stands sits,
     (λ k d q. subst (λ (y : Box Job). (m : MayPutAt 1 code (box_value y) v.known) × (put ≡ touched (body_word_of (length code.first) (task_of (box_value y))) 1 (staged m.holding.number (task_of (box_value y)) 2 v.known)) × (c ≡ d)) (first_job j q)
-    (may, refl, ap rest q)),
+        (may, refl, ap rest q)),
   )
 
 -- The two steps together

@@ -230,7 +230,7 @@ module _ (code : CodeParts) (fuel n : ℕ) (low : 0 < n) (high : n ≤ 16777216)
       inside = λ e r is. absurd (let z : None ≡ Some r = is in let bad : ⊥ = cc in bad);
       blank = λ e none. no_flag e;
       own = λ j s at y a. absurd (no_plan y (subst (λ (z : Planned). Among y z.plans) (sym (only_plans j s at)) a));
-      cells = λ j s at y a e c r is task site. absurd (no_plan y (subst (λ (z : Planned). Among y z.plans) (sym (only_plans j s at)) a));
+      roles = λ j s at y a e r is task. absurd (no_plan y (subst (λ (z : Planned). Among y z.plans) (sym (only_plans j s at)) a));
       rest = λ j s at y a e r is task. absurd (no_plan y (subst (λ (z : Planned). Among y z.plans) (sym (only_plans j s at)) a));
       one = λ i j s u at sits y z a b same. absurd (no_plan y (subst (λ (x : Planned). Among y x.plans) (sym (only_plans i s at)) a));
       loose = λ j s at z a. absurd (no_loose z (subst (λ (x : Planned). Among z x.unlinked) (sym (only_plans j s at)) a));

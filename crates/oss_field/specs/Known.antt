@@ -34,10 +34,10 @@ last_of h (on c) = entry_told (value_at h.lasts c) c
 abbrev pub bearing_of : Holding → Bearing CodeScript
 bearing_of h = record { number = h.number; path = h.path; body = h.body; last = last_of h }
 
--- What a seat keeps of a task that it is making: its number, the body of its creator, which stands before the creation, and the creation.
+-- What a seat keeps of a task that it is making: its number, the job of its creator, whose body stands before the creation, and the creation.
 pub record Plan : Type 0 where
   pub task : ℕ
-  pub body : Body CodeScript
+  pub holding : Holding
   pub order : Order CodeScript
 
 -- An entry of such a task that hangs nowhere yet, and what stands in its words: its state, and its info and the number of its cell once the seat has

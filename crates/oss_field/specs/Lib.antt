@@ -2,6 +2,7 @@ pub mod Asks
 pub mod Drawing
 pub mod Known
 pub mod Layout
+pub mod Linking
 pub mod Making
 pub mod Moves
 pub mod Plans

@@ -16,16 +16,12 @@ use Rattle.oss_machine.specs.Machines.{asks}
 use Rattle.oss_model.specs.Bodies.{Body, Order}
 use Rattle.oss_model.specs.Bodies.Act.{Created}
 use Rattle.oss_model.specs.Moves.{act_now, new_task}
-use Rattle.oss_model.specs.Rights.{Right, Holds}
 use Rattle.oss_ranges.specs.Cells.{is_within}
-use Rattle.oss_syntax.specs.declared.access.Mode.{Mode}
-use Rattle.oss_syntax.specs.declared.access.Mode.TheVariants.{Fold}
 use Rattle.oss_words.specs.Steps.{no_flags}
 use Rattle.oss_words.specs.Sums.{below, num}
 use Rattle.oss_words.specs.Views.{Among}
 use Rattle.oss_roles.specs.Alone.{with_answer}
 use Rattle.oss_roles.specs.Numbers.{cells_below, has_cell}
-use Rattle.oss_roles.specs.Roles.{on}
 use Rattle.oss_roles.specs.Sights.{Making}
 use Rattle.oss_field.specs.declared.view.SeatView.{SeatView}
 use Rattle.oss_field.specs.Asks.{HoldsOnce, StandsBefore}
@@ -33,28 +29,10 @@ use Rattle.oss_field.specs.Drawing.{IsAbove}
 use Rattle.oss_field.specs.Known.{Holding, Known, Plan, Unlinked, last_of}
 use Rattle.oss_field.specs.Layout.{body_word_of, count_word_of}
 use Rattle.oss_field.specs.Moves.{loaded_beside, touched, with_body}
-use Rattle.oss_field.specs.Plans.{new_rights}
+use Rattle.oss_field.specs.Plans.{begins_list, new_rights, waits_for}
 use Rattle.oss_field.specs.Table.{Slot}
 
 -- The count of a new task
-
-abbrev pub is_missing : Option ℕ → Bool
-is_missing None = true
-is_missing (Some e) = false
-
--- The entry on this cell of a new child of the job begins a list of main: the job is that of main, which has no child there.
-abbrev pub begins_list : Holding → ℕ → Bool
-begins_list h c = (h.number == 0) && is_missing (last_of h (on c))
-
--- An access of this mode waits for a flag. A reduction waits for none.
-abbrev pub needs_flag : Mode → Bool
-needs_flag (Fold op) = false
-needs_flag _ = true
-
--- The count of a task waits for the entry on a cell to which it has this right: a strong one that reads or writes, and has not all flags from the start.
-abbrev pub waits_for : Right → Bool → Bool
-waits_for (Holds mode strong) begins = strong && (needs_flag mode && not begins)
-waits_for _ begins = false
 
 -- The count with which the new task is filled whose creation is next in the body x of the job h: one for its opening, and one for each entry for which it waits.
 abbrev pub new_count : CodeParts → Holding → Body CodeScript → Order CodeScript → ℕ
@@ -83,7 +61,7 @@ began i h x order t cells k = record k {
   loaded = loaded_beside h.number k.loaded;
   makes = record { by = h.number; task = t; stage = 0 } ∷ k.makes;
   drawn = drawn_beside t (t + 1 + cells) k.drawn;
-  plans = record { task = t; body = x; order = order } ∷ k.plans;
+  plans = record { task = t; holding = with_body x h; order = order } ∷ k.plans;
   unlinked = unlinked_from t t (suc cells) ++ k.unlinked;
 }
 
@@ -166,7 +144,7 @@ pub record MayOpen (code : CodeParts) (job : Job) (t : ℕ) (k : Known) : Type 0
   pub holds : get_elem? k.bears place ≡ maybe.some holding
   pub act : act_now (asks code) holding.body ≡ Created order false
   pub among : Among (record { by = holding.number; task = t; stage = 2 }) k.makes
-  pub plan : Among (record { task = t; body = holding.body; order = order }) k.plans
+  pub plan : Among (record { task = t; holding = holding; order = order }) k.plans
   pub linked : (z : Unlinked) → Among z k.unlinked → z.task ≢ t
   pub is : IsJob code holding.before job holding.number holding.body (noted t (new_rights code holding.body order) (last_of holding))
 

@@ -6,6 +6,7 @@ ghost use Rattle.oss_field.specs.Asks.{IsLoaded, IsStored, MayLoad, MayStore};
 ghost use Rattle.oss_field.specs.Drawing.{IsAboveAll, drew, missed};
 ghost use Rattle.oss_field.specs.Known.{Holding, first_known};
 ghost use Rattle.oss_field.specs.Layout.{words_in};
+ghost use Rattle.oss_field.specs.Linking.{MayLinkFirst, linked_first};
 ghost use Rattle.oss_field.specs.Making.{HasBegun, IsOpened, IsPutFirst, MayBegin, MayOpen, MayPutFirst};
 ghost use Rattle.oss_field.specs.Moves.{touched};
 ghost use Rattle.oss_field.specs.Reading.{after_flags};
@@ -13,11 +14,13 @@ ghost use Rattle.oss_field.specs.Seats.{IsIdle, merged, new_known, parted};
 ghost use Rattle.oss_field.specs.Standing.{Fielded};
 ghost use Rattle.oss_field.specs.Taking.{IsMissing, IsPut, IsTaken, MayPut, after_count, after_take};
 ghost use Rattle.oss_jobs.specs.Jobs.{IsJob, task_of};
+ghost use Rattle.oss_words.specs.Bits.{FitsInfo};
 
 use crate::cells::{load_cell, store_cell};
 use crate::drawing::add_draw;
 use crate::flags::read_flags;
 use crate::key::FieldKey;
+use crate::linking::link_first_of;
 use crate::making::{fill_count, open_task, put_new};
 use crate::seat::FieldSeat;
 use crate::seats::{merge, part};
@@ -26,6 +29,7 @@ use crate::start::{FieldTable, first_slots, first_words, open_table};
 use oss_body::main_is_set;
 use oss_code::Code;
 use oss_jobs::Job;
+use oss_words::EntryInfo;
 use std::alloc::{AllocError, Global};
 use std::marker::Model;
 use std::snapshot::Snapshot;
@@ -203,7 +207,37 @@ impl Field {
         ensures same { (seat.new.field ≡ seat.old.field) × (seat.new.id ≡ seat.old.id) }
         ensures begun { HasBegun self.now.code self.now.entries job.now task count seat.old.known seat.new.known }
     {
-        fill_count(&self.table.shared, &mut seat.place, job, self.cells, task, count);
+        fill_count(
+            &self.table.shared,
+            &mut seat.place,
+            job,
+            self.cells,
+            task,
+            count,
+        );
+    }
+
+    /// Links an entry of a task that the seat makes by the job of main, which begins a list of main: the own entry of
+    /// main's first child, or that on a cell on which main has no child. The info tells the entry's mode and whether it is
+    /// strong, the task, depth 1 and the parent 0; for an entry on a cell that cell is told too. The words are
+    /// written one after the other, and by the last of them the entry hangs. It may read, fold and write, and
+    /// has nothing before it. None of these steps is one of the machine, and no message follows.
+    pub fn link_first(&self, seat: &mut FieldSeat, entry: u32, info: &EntryInfo, cell: Option<u32>)
+        requires field { seat.old.field ≡ self.now.table }
+        requires inside { entry < self.now.entries }
+        requires fits { FitsInfo info.now }
+        requires may { MayLinkFirst self.now.code entry info.now cell seat.old.known }
+        ensures same { (seat.new.field ≡ seat.old.field) × (seat.new.id ≡ seat.old.id) }
+        ensures known { seat.new.known ≡ linked_first (length self.now.code.first) entry seat.old.known }
+    {
+        link_first_of(
+            &self.table.shared,
+            &mut seat.place,
+            self.cells,
+            entry,
+            info,
+            cell,
+        );
     }
 
     /// Puts the first job of a task that the seat makes, and for which it has put none: the job stands at the beginning

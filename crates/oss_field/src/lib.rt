@@ -7,6 +7,8 @@ mod drawing;
 mod field;
 mod flags;
 mod key;
+mod linking;
+mod linking_words;
 mod making;
 mod making_words;
 mod places;

@@ -32,7 +32,14 @@ pub(crate) fn fill_count(
     ensures held { AreInside words.now.table_id seat.new.me.0.known.bears }
     ensures slots { carried seat.new.me.0.known.bears ≡ carried seat.old.me.0.known.bears }
 {
-    fill_word::<Brand>(words, seat, count_place(cells, task), count as u64, job, task);
+    fill_word::<Brand>(
+        words,
+        seat,
+        count_place(cells, task),
+        count as u64,
+        job,
+        task,
+    );
 }
 
 /// Puts the first job of a task that the seat is making, in a field of so many cells.
@@ -53,13 +60,7 @@ pub(crate) fn put_new(words: &Words, seat: &mut Place, cells: u32, job: Box<Job>
 
 /// Lowers the count of a task that the seat is making by one, in a field of so many cells. The task is opened by it:
 /// whether its count is 0 from then on.
-pub(crate) fn open_task(
-    words: &Words,
-    seat: &mut Place,
-    job: &Job,
-    cells: u32,
-    task: u32,
-) -> bool
+pub(crate) fn open_task(words: &Words, seat: &mut Place, job: &Job, cells: u32, task: u32) -> bool
     requires on { On words.now.table_id words.now.key seat.old }
     requires cells { cells ≡ length words.now.key.code.value.first }
     requires may { MayOpen words.now.key.code.value job.now task seat.old.me.0.known }
