@@ -70,7 +70,7 @@ module _ (d : TableId) (code : CodeParts) (job : Job) (cell : ℕ) (k l : Known)
   stored_inside value (has_stored r) = subst (λ (z : Known). AreInside d z.bears) (sym r.known) (inside_after d code job k inside (Store cell value) r.at_store _ refl)
   stored_inside value (has_folded op v r) = subst (λ (z : Known). AreInside d z.bears) (sym r.known) (inside_after d code job k inside (Folded cell op v false) r.before.at_fold _ refl)
 
-abbrev carried_one : Holding → ℕ × Slot
+abbrev pub carried_one : Holding → ℕ × Slot
 carried_one z = (z.number, None)
 
 -- the slots that a seat holds are as before, if a job of its own has gone on

@@ -33,9 +33,10 @@ use Rattle.oss_field.specs.Asks.{HoldsOnce, IsGiven, IsLoaded, IsStored, MayLoad
 use Rattle.oss_field.specs.Known.{Holding, Known, bearing_of, sight_of}
 use Rattle.oss_field.specs.Layout.{job_in, cell_word, state_word_of, parts_of}
 use Rattle.oss_field.specs.Moves.{answered, noted, touched, loaded_beside, with_body}
+use Rattle.oss_field.specs.Plans.{Prepared, prepared_of}
 use Rattle.oss_field.specs.Steps.{Steps}
-use Rattle.oss_field.specs.Table.{Slot, is_job_of, sights_of, Stands}
-use Rattle.oss_field.proofs.TableLemmas.{among_at, among_set, sits_at, chained, quiet_stands, next_stands, read_stands}
+use Rattle.oss_field.specs.Table.{Slot, is_job_of, planned_by, sights_of, Stands}
+use Rattle.oss_field.proofs.TableLemmas.{among_at, among_set, sits_at, chained, quiet_stands, next_stands, plans_same, plans_stand, read_stands}
 
 -- what a job does by itself leaves its start
 pub may_start : {S : Type 0} (P : Program S) (v : Sight S) (b : Bearing S) (x : Body S) → MayGo P v b x → x.start ≡ b.body.start
@@ -92,7 +93,7 @@ fold_cell : {S : Type 0} (cell other : ℕ) (op oq : Op) (operand operand' : ℕ
 fold_cell cell other op oq operand operand' e = cc
 
 -- a seat holds the job of a task once
-held_once : (code : CodeParts) (main : Start CodeScript) (first : List ℕ) (is_job : Telling CodeScript (Box Job)) (n : ℕ) (k : Parts (Box Job)) (sights : List (Sight CodeScript)) (f : Field (asks code) main first is_job n k sights)
+pub held_once : (code : CodeParts) (main : Start CodeScript) (first : List ℕ) (is_job : Telling CodeScript (Box Job)) (n : ℕ) (k : Parts (Box Job)) (sights : List (Sight CodeScript)) (f : Field (asks code) main first is_job n k sights)
     (id : ℕ) (v : Known) → Sits sights id (sight_of v) → (i : ℕ) (h : Holding) → get_elem? v.bears i ≡ maybe.some h → HoldsOnce v h.number i
 held_once code main first is_job n k sights f id v sits i h at j g there same =
     let has = at_map bearing_of v.bears i h at in
@@ -123,7 +124,7 @@ module _ (code : CodeParts) (main : Start CodeScript) (first : List ℕ) (is_job
       ]
 
 -- of the jobs that are held the seat knows when they were made, also after one of them has gone on
-told_on : (before : ℕ → List ℕ) (held : List Holding) (i : ℕ) (h : Holding) (y : Body CodeScript) → get_elem? held i ≡ maybe.some h → ((z : Holding) → Among z held → before z.number ≡ z.before) → (z : Holding) → Among z (set held i (with_body y h)) → before z.number ≡ z.before
+pub told_on : (before : ℕ → List ℕ) (held : List Holding) (i : ℕ) (h : Holding) (y : Body CodeScript) → get_elem? held i ≡ maybe.some h → ((z : Holding) → Among z held → before z.number ≡ z.before) → (z : Holding) → Among z (set held i (with_body y h)) → before z.number ≡ z.before
 told_on before held i h y at told z among = elim (among_set held i (with_body y h) z among) [
   | inl e ↦ subst (λ (x : Holding). before x.number ≡ x.before) e (told h (among_at held i h at))
   | inr a ↦ told z a
@@ -217,13 +218,14 @@ module _ (code : CodeParts) (fuel n id : ℕ) (v : SeatView) (job : Job) (cell :
       cells = cells';
     }
 
-    pub cell_stands : (l : Known) (sits : get_elem? views id ≡ maybe.some v) → l.words ≡ v.known.words → l.drawn ≡ v.known.drawn → ((h : Holding) → Among h l.bears → stands.before h.number ≡ h.before)
+    pub cell_stands : (l : Known) (sits : get_elem? views id ≡ maybe.some v) → l.words ≡ v.known.words → prepared_of l ≡ prepared_of v.known → ((h : Holding) → Among h l.bears → stands.before h.number ≡ h.before)
         → FieldAt (asks code) (code_main code fuel) code.first (is_job_of code stands.before) n stands.net stands.gave stands.role (record (parts_of (length code.first) ws homes stands.cells) { cells = set stands.cells cell value }) (set (sights_of views) id (sight_of l))
         → Stands code fuel n (set ws (cell_word cell) value) homes (set views id (record { known = l }))
-    cell_stands l sits words drawn told rule = next_stands code fuel n ws homes views stands id v l sits words drawn told ws' homes cells'
+    cell_stands l sits words drawn told rule = next_stands code fuel n ws homes views stands id v l sits words (ap (λ (z : Prepared). z.drawn) drawn) told ws' homes cells'
         (length-set ws (cell_word cell) value ∙ stands.size) stands.slots (length-set stands.cells cell value ∙ stands.sized)
         cells_now (λ e low z. stands.empty e low (sym (beside e 5) ∙ z)) states_beside
         (get_or-set_other ws (cell_word cell) 0 value 0 (λ q. absurd (omega (arith, q))))
+        (plans_stand code n stands.net stands.role ws ws' (planned_by views) (planned_by (set views id (record { known = l }))) states_beside (λ e. beside e 1) (λ e. beside e 3) (plans_same views id v l sits (ap (λ (z : Prepared). z.planned) drawn)) stands.planned)
         (subst (λ (z : Parts (Box Job)). FieldAt (asks code) (code_main code fuel) code.first (is_job_of code stands.before) n stands.net stands.gave stands.role z (set (sights_of views) id (sight_of l))) parts_now rule)
 
   -- a store

@@ -34,9 +34,10 @@ use Rattle.oss_field.specs.Drawing.{IsAbove, IsAboveAll, IsDrawn, drew, missed}
 use Rattle.oss_field.specs.Known.{Holding, Known, bearing_of, last_of, sight_of}
 use Rattle.oss_field.specs.Layout.{job_in, cell_word, state_word_of, info_word_of, value_word_of, number_word_of, count_word_of, body_word_of, parts_of}
 use Rattle.oss_field.specs.Moves.{touched}
+use Rattle.oss_field.specs.Plans.{planned_of}
 use Rattle.oss_field.specs.Steps.{Steps}
-use Rattle.oss_field.specs.Table.{AreSeats, Neat, Slot, Stands, is_job_of, sights_of}
-use Rattle.oss_field.proofs.TableLemmas.{chained, sights_set, sits_at}
+use Rattle.oss_field.specs.Table.{AreSeats, Neat, Slot, Stands, is_job_of, planned_by, sights_of}
+use Rattle.oss_field.proofs.TableLemmas.{chained, plans_same, plans_stand, sights_set, sits_at}
 
 -- all views have failed at most once each
 failed_few : (views : List View) → ((id : ℕ) (v : View) → At views id v → v.failed ≤ 1) → total (λ (v : View). v.failed) views ≤ length views
@@ -44,7 +45,7 @@ failed_few [] h = omega arith
 failed_few (v ∷ views) h = let a = h 0 v refl in let b = failed_few views (λ id w at. h (suc id) w at) in omega (arith, a, b)
 
 -- what is in a list stands at a place of it
-at_among : {A : Type 0} (a : A) (l : List A) → Among a l → (i : ℕ) × (get_elem? l i ≡ maybe.some a)
+pub at_among : {A : Type 0} (a : A) (l : List A) → Among a l → (i : ℕ) × (get_elem? l i ≡ maybe.some a)
 at_among a [] h = among_none a h
 at_among a (x ∷ l) (among_first q) = (0, ap maybe.some q)
 at_among a (x ∷ l) (among_later h) = let r = at_among a l h in (suc r.0, r.1)
@@ -55,7 +56,7 @@ number_in a zero e h = among_none e h
 number_in a (suc k) e (among_first q) = (omega (arith, q), omega (arith, q))
 number_in a (suc k) e (among_later h) = let r = number_in (suc a) k e h in let x = r.0 in let y = r.1 in (omega (arith, x), omega (arith, y))
 
-mod_small : (x m : ℕ) → x < m → x % m ≡ x
+pub mod_small : (x m : ℕ) → x < m → x % m ≡ x
 mod_small x m h = mod-eq_of_lt h
 
 module _ (code : CodeParts) (fuel n : ℕ) (ws : List ℕ) (homes : List (maybe.Option Slot)) (views : List SeatView) (stands : Stands code fuel n ws homes views) (id : ℕ) (v : SeatView) (sits : get_elem? views id ≡ maybe.some v) (count : ℕ) where
@@ -162,12 +163,12 @@ module _ (code : CodeParts) (fuel n : ℕ) (ws : List ℕ) (homes : List (maybe.
       }
 
   -- the table after a draw
-  pub drawn_stands : (l : Known) → ((h : Holding) → Among h l.bears → stands.before h.number ≡ h.before)
+  pub drawn_stands : (l : Known) → planned_of l ≡ planned_of v.known → ((h : Holding) → Among h l.bears → stands.before h.number ≡ h.before)
       → ((e : ℕ) → Among e l.drawn → Among e v.known.drawn ⊎ ((slice_index ws 0 ≤ e) × (e < slice_index ws 0 + count)))
       → AreSeats n stands.net (λ e. state_at (slice_index ws (state_word_of (length code.first) e))) (slice_index ws 0 + count) (set (words_of (sights_of views)) id l.words)
       → FieldAt (asks code) (code_main code fuel) code.first (is_job_of code stands.before) n stands.net stands.gave stands.role (parts_of (length code.first) ws homes stands.cells) (set (sights_of views) id (sight_of l))
       → Stands code fuel n (set ws 0 (slice_index ws 0 + count)) homes (set views id (record { known = l }))
-  drawn_stands l told fresh seats rule = record {
+  drawn_stands l planned told fresh seats rule = record {
     net = stands.net;
     gave = stands.gave;
     role = stands.role;
@@ -192,6 +193,7 @@ module _ (code : CodeParts) (fuel n : ℕ) (ws : List ℕ) (homes : List (maybe.
     seats = subst (λ (z : List View). AreSeats n stands.net (λ e. state_at (slice_index ws' (state_word_of (length code.first) e))) (slice_index ws' 0) z) (sym (ap (λ (z : List (Sight CodeScript)). words_of z) (sights_set views id l) ∙ words_set (sights_of views) id (sight_of l)))
         (subst (λ (z : ℕ). AreSeats n stands.net (λ e. state_at (slice_index ws' (state_word_of (length code.first) e))) z (set (words_of (sights_of views)) id l.words)) (sym draw_here)
         (subst (λ (g : ℕ → EntryState). AreSeats n stands.net g (slice_index ws 0 + count) (set (words_of (sights_of views)) id l.words)) (λ i e. state_at (sym (states_same e) i)) seats));
+    planned = plans_stand code n stands.net stands.role ws ws' (planned_by views) (planned_by (set views id (record { known = l }))) states_same infos_same numbers_same (plans_same views id v l sits planned) stands.planned;
   }
     where
       still_free : (e : ℕ) → slice_index ws 0 + count ≤ e → IsFree stands.role (set (sights_of views) id (sight_of l)) e
@@ -219,7 +221,7 @@ module _ (code : CodeParts) (fuel n id : ℕ) (v : SeatView) (count : ℕ) (most
     enough_stands : slice_index ws 0 + count ≤ n → Stands code fuel n (set ws 0 (slice_index ws 0 + count)) homes (set views id (record { known = touched 0 (slice_index ws 0) (drew count (slice_index ws 0) v.known) }))
     enough_stands le =
         let l : Known = touched 0 (slice_index ws 0) (drew count (slice_index ws 0) v.known) in
-        drawn_stands code fuel n ws homes views stands id v sits count l (stands.told id v sits)
+        drawn_stands code fuel n ws homes views stands id v sits count l refl (stands.told id v sits)
         (λ e a. elim (among_append e (numbers (slice_index ws 0) count) v.known.drawn a) [ inl new ↦ inr (number_in (slice_index ws 0) count e new) | inr old ↦ inl old ])
         (seats_after code fuel n ws homes views stands id v sits count l.words most room first refl refl refl (inl (le, first)))
         (quiet l (record { held = refl; half = refl; bears = refl; makes = refl; joined = refl; owes = refl; ready = λ u a. a; loaded = λ y a. a; seen = λ y a. a; still = λ y a. a }))
@@ -227,7 +229,7 @@ module _ (code : CodeParts) (fuel n id : ℕ) (v : SeatView) (count : ℕ) (most
     missed_stands : Stands code fuel n (set ws 0 (slice_index ws 0 + count)) homes (set views id (record { known = touched 0 (slice_index ws 0) (missed v.known) }))
     missed_stands =
         let l : Known = touched 0 (slice_index ws 0) (missed v.known) in
-        drawn_stands code fuel n ws homes views stands id v sits count l (stands.told id v sits) (λ e a. inl a)
+        drawn_stands code fuel n ws homes views stands id v sits count l refl (stands.told id v sits) (λ e a. inl a)
         (seats_after code fuel n ws homes views stands id v sits count l.words most room first refl refl refl (inr refl))
         (quiet l (record { held = refl; half = refl; bears = refl; makes = refl; joined = refl; owes = refl; ready = λ u a. a; loaded = λ y a. a; seen = λ y a. a; still = λ y a. a }))
 

@@ -35,14 +35,14 @@ use Rattle.oss_field.proofs.TableLemmas.{chained, quiet_stands, read_stands, sit
 -- The cell of a number
 
 -- A task has this cell of the first m, and the entry on it has this number.
-record HasCell (t : ℕ) (own : ℕ → Right) (m e : ℕ) : Type 0 where
-  cell : ℕ
-  low : cell < m
-  has : has_cell (own cell) ≡ true
-  number : e ≡ entry_number t own cell
+pub record HasCell (t : ℕ) (own : ℕ → Right) (m e : ℕ) : Type 0 where
+  pub cell : ℕ
+  pub low : cell < m
+  pub has : has_cell (own cell) ≡ true
+  pub number : e ≡ entry_number t own cell
 
 -- each number behind a task's own is that of the entry on one of its cells
-cell_of_number : (t : ℕ) (own : ℕ → Right) (m e : ℕ) → t < e → e ≤ t + cells_below own m → HasCell t own m e
+pub cell_of_number : (t : ℕ) (own : ℕ → Right) (m e : ℕ) → t < e → e ≤ t + cells_below own m → HasCell t own m e
 cell_of_number t own zero e more most = absurd (omega (arith, more, most))
 cell_of_number t own (suc d) e more most = go (has_cell (own d)) refl (λ l. cell_of_number t own d e more l)
   where

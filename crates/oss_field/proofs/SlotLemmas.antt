@@ -39,11 +39,12 @@ use Rattle.oss_field.specs.declared.view.SeatView.{SeatView}
 use Rattle.oss_field.specs.Known.{Holding, Known, bearing_of, last_of, sight_of}
 use Rattle.oss_field.specs.Layout.{Home, job_in, cell_word, state_word_of, info_word_of, value_word_of, number_word_of, count_word_of, body_word_of, parts_of}
 use Rattle.oss_field.specs.Moves.{loaded_beside, put_back, touched, with_body}
+use Rattle.oss_field.specs.Plans.{Prepared, prepared_of}
 use Rattle.oss_field.specs.Steps.{Steps}
-use Rattle.oss_field.specs.Table.{Slot, is_job_of, sights_of, Stands}
+use Rattle.oss_field.specs.Table.{Slot, is_job_of, planned_by, sights_of, Stands}
 use Rattle.oss_field.specs.Taking.{IsPut, IsWithin, MayPut, Puts, Takes, after_count, after_miss, after_take}
 use Rattle.oss_field.proofs.CellLemmas.{beside_is, job_goes}
-use Rattle.oss_field.proofs.TableLemmas.{sits_at, then_at, chained, quiet_stands, next_stands, read_stands}
+use Rattle.oss_field.proofs.TableLemmas.{sits_at, then_at, chained, quiet_stands, next_stands, plans_same, plans_stand, read_stands}
 
 -- the job that is told to stand in a slot stands there
 job_in_is : {J : Type 0} (x : Home J) (j : J) → job_in x ≡ Some j → x ≡ maybe.some (maybe.some (Some j))
@@ -101,7 +102,7 @@ module _ (code : CodeParts) (fuel n : ℕ) (ws : List ℕ) (homes : List (maybe.
   abbrev homes' : List (maybe.Option Slot)
   homes' = set homes t home'
 
-  here : slice_index ws' (body_word_of (length code.first) t) ≡ x
+  pub here : slice_index ws' (body_word_of (length code.first) t) ≡ x
   here = get_or-set_same ws (body_word_of (length code.first) t) x 0 (let s = stands.size in omega (arith, s, inside))
 
   states_same : (e : ℕ) → slice_index ws' (state_word_of (length code.first) e) ≡ slice_index ws (state_word_of (length code.first) e)
@@ -119,10 +120,10 @@ module _ (code : CodeParts) (fuel n : ℕ) (ws : List ℕ) (homes : List (maybe.
   counts_same : (e : ℕ) → slice_index ws' (count_word_of (length code.first) e) ≡ slice_index ws (count_word_of (length code.first) e)
   counts_same e = get_or-set_other ws (body_word_of (length code.first) t) (count_word_of (length code.first) e) x 0 (λ q. absurd (omega (arith, q)))
 
-  bodies_else : (e : ℕ) → e ≢ t → slice_index ws' (body_word_of (length code.first) e) ≡ slice_index ws (body_word_of (length code.first) e)
+  pub bodies_else : (e : ℕ) → e ≢ t → slice_index ws' (body_word_of (length code.first) e) ≡ slice_index ws (body_word_of (length code.first) e)
   bodies_else e ne = get_or-set_other ws (body_word_of (length code.first) t) (body_word_of (length code.first) e) x 0 (λ q. ne (omega (arith, q)))
 
-  jobs_else : (e : ℕ) → e ≢ t → job_in (get_elem? homes' e) ≡ job_in (get_elem? homes e)
+  pub jobs_else : (e : ℕ) → e ≢ t → job_in (get_elem? homes' e) ≡ job_in (get_elem? homes e)
   jobs_else e ne = ap (λ (z : Home (Box Job)). job_in z) (set_else homes t e home' ne)
 
   parts_now : ◌≡◌ {A = Parts (Box Job)} (record (parts_of (length code.first) ws homes stands.cells) { bodies = (parts_of (length code.first) ws' homes' stands.cells).bodies; jobs = (parts_of (length code.first) ws' homes' stands.cells).jobs }) (parts_of (length code.first) ws' homes' stands.cells)
@@ -137,12 +138,12 @@ module _ (code : CodeParts) (fuel n : ℕ) (ws : List ℕ) (homes : List (maybe.
     cells = stands.cells;
   }
 
-  pub slot_stands : (id : ℕ) (v : SeatView) (l : Known) → get_elem? views id ≡ maybe.some v → l.words ≡ v.known.words → l.drawn ≡ v.known.drawn → ((h : Holding) → Among h l.bears → stands.before h.number ≡ h.before)
+  pub slot_stands : (id : ℕ) (v : SeatView) (l : Known) → get_elem? views id ≡ maybe.some v → l.words ≡ v.known.words → prepared_of l ≡ prepared_of v.known → ((h : Holding) → Among h l.bears → stands.before h.number ≡ h.before)
       → (x ≡ 0 → ⊥)
       → FieldAt (asks code) (code_main code fuel) code.first (is_job_of code stands.before) n stands.net stands.gave stands.role
       (record (parts_of (length code.first) ws homes stands.cells) { bodies = (parts_of (length code.first) ws' homes' stands.cells).bodies; jobs = (parts_of (length code.first) ws' homes' stands.cells).jobs }) (set (sights_of views) id (sight_of l))
       → Stands code fuel n (set ws (body_word_of (length code.first) t) x) (set homes t home') (set views id (record { known = l }))
-  slot_stands id v l sits words drawn told some rule = next_stands code fuel n ws homes views stands id v l sits words drawn told ws' homes' stands.cells
+  slot_stands id v l sits words drawn told some rule = next_stands code fuel n ws homes views stands id v l sits words (ap (λ (z : Prepared). z.drawn) drawn) told ws' homes' stands.cells
       (length-set ws (body_word_of (length code.first) t) x ∙ stands.size) (length-set homes t home' ∙ stands.slots) stands.sized
       (λ c low. get_or-set_other ws (body_word_of (length code.first) t) (cell_word c) x 0 (λ q. absurd (omega (arith, q, low))) ∙ stands.cell_words c low)
       (λ e low z. elim (eqb_tells e t) [
@@ -151,6 +152,7 @@ module _ (code : CodeParts) (fuel n : ℕ) (ws : List ℕ) (homes : List (maybe.
       ])
       states_same
       (get_or-set_other ws (body_word_of (length code.first) t) 0 x 0 (λ q. absurd (omega (arith, q))))
+      (plans_stand code n stands.net stands.role ws ws' (planned_by views) (planned_by (set views id (record { known = l }))) states_same infos_same numbers_same (plans_same views id v l sits (ap (λ (z : Prepared). z.planned) drawn)) stands.planned)
       (subst (λ (z : Parts (Box Job)). FieldAt (asks code) (code_main code fuel) code.first (is_job_of code stands.before) n stands.net stands.gave stands.role z (set (sights_of views) id (sight_of l))) parts_now rule)
 
 -- a task whose job a seat holds is within the cells
@@ -269,7 +271,7 @@ module _ (code : CodeParts) (fuel n slots id : ℕ) (v : SeatView) (c : List (�
     | inr u ↦ subst (λ (b : Bool). Goal z (slice_index z.words i) (either b 2 (slice_index z.words i))) (sym u.0) (misses z stands sits u.1)
   ]
 
-set_twice : {A : Type 0} (xs : List A) (i : ℕ) (a b : A) → set (set xs i a) i b ≡ set xs i b
+pub set_twice : {A : Type 0} (xs : List A) (i : ℕ) (a b : A) → set (set xs i a) i b ≡ set xs i b
 set_twice [] i a b = refl
 set_twice (x ∷ xs) zero a b = refl
 set_twice (x ∷ xs) (suc i) a b = ap (λ (z : List _). x ∷ z) (set_twice xs i a b)
@@ -282,7 +284,7 @@ abbrev job_first : Box Job → List (ℕ × Slot) → Box Job
 job_first x [] = x
 job_first x (y ∷ ys) = job_of x y.1
 
-first_job : (j : Box Job) {k : Box Job} {t u : ℕ} {c d : List (ℕ × Slot)} → ◌≡◌ {A = List (ℕ × Slot)} ((t, Some j) ∷ c) ((u, Some k) ∷ d) → j ≡ k
+pub first_job : (j : Box Job) {k : Box Job} {t u : ℕ} {c d : List (ℕ × Slot)} → ◌≡◌ {A = List (ℕ × Slot)} ((t, Some j) ∷ c) ((u, Some k) ∷ d) → j ≡ k
 first_job j q = ap (job_first j) q
 
 -- the job that was taken last is put

@@ -22,8 +22,9 @@ use Rattle.oss_roles.specs.Sights.{Sight}
 use Rattle.oss_roles.proofs.DrawLaw.{nothing_is_drawn}
 use Rattle.oss_roles.proofs.WordClaims.{starts_keep}
 use Rattle.oss_field.specs.declared.view.SeatView.{SeatView}
-use Rattle.oss_field.specs.Known.{Holding, first_known, sight_of}
+use Rattle.oss_field.specs.Known.{Holding, Plan, Unlinked, first_known, sight_of}
 use Rattle.oss_field.specs.Layout.{Home, job_in, state_word_of, count_word_of, body_word_of, parts_of}
+use Rattle.oss_field.specs.Plans.{Planned, planned_of}
 use Rattle.oss_field.specs.Standing.{blanks, first_entry, blank_entry, words_at_start, slots_at_start, at_home}
 use Rattle.oss_field.specs.Table.{Slot, is_job_of, Neat, Stands}
 
@@ -170,6 +171,16 @@ module _ (code : CodeParts) (fuel n : ℕ) (low : 0 < n) (high : n ≤ 16777216)
   nothing : (e : ℕ) → Among e [] → ⊥
   nothing e a = elim a [ ]
 
+  only_plans : (j : ℕ) (s : Planned) → get_elem? (planned_of first_known ∷ []) j ≡ maybe.some s → planned_of first_known ≡ s
+  only_plans zero s h = maybe.some-injective (planned_of first_known) s h
+  only_plans (suc j) s h = absurd (maybe.some-ne-none s (sym h))
+
+  no_plan : (y : Plan) → Among y [] → ⊥
+  no_plan y a = elim a [ ]
+
+  no_loose : (z : Unlinked) → Among z [] → ⊥
+  no_loose z a = elim a [ ]
+
   pub begins : Setting (code_main code fuel) code.first → IsJob code [] (box_value job) 0 (record { start = code_main code fuel; found = [] }) (λ y. None)
       → Stands code fuel n (words_at_start code.first n) (at_home (slots_at_start job n)) (record { known = first_known } ∷ [])
   begins setting is = record {
@@ -214,6 +225,15 @@ module _ (code : CodeParts) (fuel n : ℕ) (low : 0 < n) (high : n ≤ 16777216)
       few = omega arith;
       parts = refl;
       work = omega arith;
+    };
+    planned = record {
+      inside = λ e r is. absurd (let z : None ≡ Some r = is in let bad : ⊥ = cc in bad);
+      blank = λ e none. no_flag e;
+      own = λ j s at y a. absurd (no_plan y (subst (λ (z : Planned). Among y z.plans) (sym (only_plans j s at)) a));
+      roles = λ j s at y a e r is task. absurd (no_plan y (subst (λ (z : Planned). Among y z.plans) (sym (only_plans j s at)) a));
+      rest = λ j s at y a e r is task. absurd (no_plan y (subst (λ (z : Planned). Among y z.plans) (sym (only_plans j s at)) a));
+      one = λ i j s u at sits y z a b same. absurd (no_plan y (subst (λ (x : Planned). Among y x.plans) (sym (only_plans i s at)) a));
+      loose = λ j s at z a. absurd (no_loose z (subst (λ (x : Planned). Among z x.unlinked) (sym (only_plans j s at)) a));
     };
   }
     where

@@ -13,7 +13,8 @@ use Rattle.oss_machine.specs.Frames.{CodeScript}
 use Rattle.oss_machine.specs.Machines.{asks}
 use Rattle.oss_words.specs.declared.entry.EntryState.{EntryState}
 use Rattle.oss_model.specs.Bodies.{Start}
-use Rattle.oss_words.specs.Bits.{state_at, state_word}
+use Rattle.oss_words.specs.declared.entry.EntryInfo.{EntryInfo}
+use Rattle.oss_words.specs.Bits.{info_at, state_at, state_word}
 use Rattle.oss_words.specs.Net.{Net}
 use Rattle.oss_words.specs.Views.{View, Among, among_first, among_later}
 use Rattle.oss_roles.specs.Drawing.{AreDrawn, IsFree}
@@ -26,9 +27,10 @@ use Rattle.std.specs.Global.{Box}
 use Rattle.oss_jobs.specs.declared.job.Job.{Job}
 use Rattle.oss_field.specs.declared.view.SeatView.{SeatView}
 use Rattle.oss_field.specs.Known.{Holding, Known, sight_of}
-use Rattle.oss_field.specs.Layout.{words_in, cell_word, state_word_of, body_word_of, parts_of}
+use Rattle.oss_field.specs.Layout.{words_in, cell_word, state_word_of, info_word_of, number_word_of, body_word_of, parts_of}
+use Rattle.oss_field.specs.Plans.{ArePlanned, Planned, Prepared, planned_of, prepared_of}
 use Rattle.oss_field.specs.Steps.{Steps}
-use Rattle.oss_field.specs.Table.{Slot, is_job_of, sights_of, Neat, AreSeats, Stands}
+use Rattle.oss_field.specs.Table.{Slot, is_job_of, planned_by, sights_of, Neat, AreSeats, Stands}
 
 -- what is in a list, and in one of which a member was changed
 pub among_at : {A : Type 0} (l : List A) (i : ℕ) (a : A) → get_elem? l i ≡ maybe.some a → Among a l
@@ -74,6 +76,29 @@ pub chained : {code : CodeParts} {fuel n : ℕ} {ws : List ℕ} {homes : List (m
     → FieldAt (asks code) (code_main code fuel) code.first (is_job_of code stands.before) n stands.net stands.gave stands.role k sights
 chained stands g = record { field = g.field; same_net = g.same_net ∙ stands.rule.same_net; same_gave = g.same_gave ∙ stands.rule.same_gave; same_role = g.same_role ∙ stands.rule.same_role }
 
+-- what is kept of the tasks that are being made, after a step of a seat that keeps it
+pub plans_same : (views : List SeatView) (id : ℕ) (v : SeatView) (l : Known) → get_elem? views id ≡ maybe.some v → planned_of l ≡ planned_of v.known → planned_by (set views id (record { known = l })) ≡ planned_by views
+plans_same views id v l at same =
+    map-set (λ (z : SeatView). planned_of z.known) views id (record { known = l })
+    ∙ (ap (λ (z : Planned). set (planned_by views) id z) same
+    ∙ set_again (planned_by views) id (planned_of v.known) (at_map (λ (z : SeatView). planned_of z.known) views id v at))
+
+-- the same of the words of a table, if those that it speaks of are as they were
+pub plans_stand : (code : CodeParts) (n : ℕ) (net : Net) (role : ℕ → Option Role) (ws ws' : List ℕ) (seats seats' : List Planned)
+    → ((e : ℕ) → slice_index ws' (state_word_of (length code.first) e) ≡ slice_index ws (state_word_of (length code.first) e))
+    → ((e : ℕ) → slice_index ws' (info_word_of (length code.first) e) ≡ slice_index ws (info_word_of (length code.first) e))
+    → ((e : ℕ) → slice_index ws' (number_word_of (length code.first) e) ≡ slice_index ws (number_word_of (length code.first) e))
+    → seats' ≡ seats
+    → ArePlanned code n net role (λ e. state_at (slice_index ws (state_word_of (length code.first) e))) (λ e. info_at (slice_index ws (info_word_of (length code.first) e))) (λ e. slice_index ws (number_word_of (length code.first) e)) seats
+    → ArePlanned code n net role (λ e. state_at (slice_index ws' (state_word_of (length code.first) e))) (λ e. info_at (slice_index ws' (info_word_of (length code.first) e))) (λ e. slice_index ws' (number_word_of (length code.first) e)) seats'
+plans_stand code n net role ws ws' seats seats' states infos numbers same p =
+    let states' : ℕ → EntryState = λ e. state_at (slice_index ws' (state_word_of (length code.first) e)) in
+    let infos' : ℕ → EntryInfo = λ e. info_at (slice_index ws' (info_word_of (length code.first) e)) in
+    subst (λ (z : List Planned). ArePlanned code n net role states' infos' (λ e. slice_index ws' (number_word_of (length code.first) e)) z) (sym same)
+    (subst (λ (z : ℕ → ℕ). ArePlanned code n net role states' infos' z seats) (λ i e. sym (numbers e) i)
+    (subst (λ (z : ℕ → EntryInfo). ArePlanned code n net role states' z (λ e. slice_index ws (number_word_of (length code.first) e)) seats) (λ i e. info_at (sym (infos e) i))
+    (subst (λ (z : ℕ → EntryState). ArePlanned code n net role z (λ e. info_at (slice_index ws (info_word_of (length code.first) e))) (λ e. slice_index ws (number_word_of (length code.first) e)) seats) (λ i e. state_at (sym (states e) i)) p)))
+
 -- the table after a step that leaves the state words, the draw word, the roles and what the seat has drawn
 module _ (code : CodeParts) (fuel n : ℕ) (ws : List ℕ) (homes : List (maybe.Option Slot)) (views : List SeatView) (stands : Stands code fuel n ws homes views)
     (id : ℕ) (v : SeatView) (l : Known) (at : get_elem? views id ≡ maybe.some v) (words : l.words ≡ v.known.words) (drawn : l.drawn ≡ v.known.drawn)
@@ -96,9 +121,10 @@ module _ (code : CodeParts) (fuel n : ℕ) (ws : List ℕ) (homes : List (maybe.
       → ((e : ℕ) → e < n → slice_index ws' (body_word_of (length code.first) e) ≡ 0 → get_elem? homes' e ≡ maybe.some (maybe.some None))
       → ((e : ℕ) → slice_index ws' (state_word_of (length code.first) e) ≡ slice_index ws (state_word_of (length code.first) e))
       → slice_index ws' 0 ≡ slice_index ws 0
+      → ArePlanned code n stands.net stands.role (λ e. state_at (slice_index ws' (state_word_of (length code.first) e))) (λ e. info_at (slice_index ws' (info_word_of (length code.first) e))) (λ e. slice_index ws' (number_word_of (length code.first) e)) (planned_by (set views id (record { known = l })))
       → FieldAt (asks code) (code_main code fuel) code.first (is_job_of code stands.before) n stands.net stands.gave stands.role (parts_of (length code.first) ws' homes' cells') (set (sights_of views) id (sight_of l))
       → Stands code fuel n ws' homes' (set views id (record { known = l }))
-  next_stands ws' homes' cells' size slots sized cell_words empty same draw rule = record {
+  next_stands ws' homes' cells' size slots sized cell_words empty same draw planned rule = record {
     net = stands.net;
     gave = stands.gave;
     role = stands.role;
@@ -123,12 +149,17 @@ module _ (code : CodeParts) (fuel n : ℕ) (ws : List ℕ) (homes : List (maybe.
     seats = subst (λ (z : List View). AreSeats n stands.net (λ e. state_at (slice_index ws' (state_word_of m e))) (slice_index ws' 0) z) (sym views_stay)
         (subst (λ (z : ℕ). AreSeats n stands.net (λ e. state_at (slice_index ws' (state_word_of m e))) z (words_of (sights_of views))) (sym draw)
         (subst (λ (g : ℕ → EntryState). AreSeats n stands.net g (slice_index ws 0) (words_of (sights_of views))) (λ i e. state_at (sym (same e) i)) stands.seats));
+    planned = planned;
   }
 
-  -- the same, if no word and no slot changes
-  pub quiet_stands : FieldAt (asks code) (code_main code fuel) code.first (is_job_of code stands.before) n stands.net stands.gave stands.role (parts_of (length code.first) ws homes stands.cells) (set (sights_of views) id (sight_of l))
-      → Stands code fuel n ws homes (set views id (record { known = l }))
-  quiet_stands rule = next_stands ws homes stands.cells stands.size stands.slots stands.sized stands.cell_words stands.empty (λ e. refl) refl rule
+-- the same, if no word and no slot changes
+pub quiet_stands : (code : CodeParts) (fuel n : ℕ) (ws : List ℕ) (homes : List (maybe.Option Slot)) (views : List SeatView) (stands : Stands code fuel n ws homes views) (id : ℕ) (v : SeatView) (l : Known)
+    → get_elem? views id ≡ maybe.some v → l.words ≡ v.known.words → prepared_of l ≡ prepared_of v.known → ((h : Holding) → Among h l.bears → stands.before h.number ≡ h.before)
+    → FieldAt (asks code) (code_main code fuel) code.first (is_job_of code stands.before) n stands.net stands.gave stands.role (parts_of (length code.first) ws homes stands.cells) (set (sights_of views) id (sight_of l))
+    → Stands code fuel n ws homes (set views id (record { known = l }))
+quiet_stands code fuel n ws homes views stands id v l at words same told rule =
+    next_stands code fuel n ws homes views stands id v l at words (ap (λ (z : Prepared). z.drawn) same) told ws homes stands.cells stands.size stands.slots stands.sized stands.cell_words stands.empty (λ e. refl) refl
+    (plans_stand code n stands.net stands.role ws ws (planned_by views) (planned_by (set views id (record { known = l }))) (λ e. refl) (λ e. refl) (λ e. refl) (plans_same views id v l at (ap (λ (z : Prepared). z.planned) same)) stands.planned) rule
 
 -- a word that was read is as it was
 pub read_stands : (code : CodeParts) (fuel n i : ℕ) (ws : List ℕ) (homes : List (maybe.Option Slot)) (views : List SeatView) → Stands code fuel n ws homes views → Stands code fuel n (set ws i (slice_index ws i)) homes views

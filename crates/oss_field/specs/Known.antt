@@ -6,9 +6,11 @@
 -- last step was the exchange of the body word of 7, which was 1.
 use Rattle.std.specs.Prelude.{ℕ, List, [], map, Option}
 use Rattle.oss_machine.specs.Frames.{CodeScript}
-use Rattle.oss_model.specs.Bodies.{Body}
+use Rattle.oss_model.specs.Bodies.{Body, Order}
 use Rattle.oss_ranges.specs.declared.piece.Piece.{Piece}
 use Rattle.oss_ranges.specs.Cells.{value_at}
+use Rattle.oss_words.specs.declared.entry.EntryInfo.{EntryInfo}
+use Rattle.oss_words.specs.declared.entry.EntryState.{EntryState}
 use Rattle.oss_words.specs.Views.{View, Seen, first_view}
 use Rattle.oss_roles.specs.Roles.{Site, itself, on}
 use Rattle.oss_roles.specs.Sights.{Bearing, Making, Noted, Fixed, Sight}
@@ -32,6 +34,21 @@ last_of h (on c) = entry_told (value_at h.lasts c) c
 abbrev pub bearing_of : Holding → Bearing CodeScript
 bearing_of h = record { number = h.number; path = h.path; body = h.body; last = last_of h }
 
+-- What a seat keeps of a task that it is making: its number, the job of its creator, whose body stands before the creation, and the creation.
+pub record Plan : Type 0 where
+  pub task : ℕ
+  pub holding : Holding
+  pub order : Order CodeScript
+
+-- An entry of such a task that hangs nowhere yet, and what stands in its words: its state, and its info and the number of its cell once the seat has
+-- written them.
+pub record Unlinked : Type 0 where
+  pub task : ℕ
+  pub entry : ℕ
+  pub state : EntryState
+  pub info : Option EntryInfo
+  pub cell : Option ℕ
+
 -- What a seat knows.
 pub record Known : Type 0 where
   -- of the words, and of what it has of the field
@@ -46,6 +63,9 @@ pub record Known : Type 0 where
   pub owes : List ℕ
   pub seen : List Seen
   pub still : List Fixed
+  -- the tasks that it is making, and their entries that hang nowhere yet
+  pub plans : List Plan
+  pub unlinked : List Unlinked
   -- the number of the word that its last step touched, and what stood there then
   pub word : ℕ
   pub found : ℕ
@@ -78,6 +98,8 @@ first_known = record {
   owes = [];
   seen = [];
   still = [];
+  plans = [];
+  unlinked = [];
   word = 0;
   found = 0;
 }

@@ -2,8 +2,12 @@ pub mod Asks
 pub mod Drawing
 pub mod Known
 pub mod Layout
+pub mod Linking
+pub mod Making
 pub mod Moves
+pub mod Plans
 pub mod Reading
+pub mod Seats
 pub mod Standing
 pub mod Steps
 pub mod Table

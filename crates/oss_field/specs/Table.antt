@@ -15,7 +15,7 @@ use Rattle.oss_jobs.specs.Jobs.{IsJob}
 use Rattle.oss_machine.specs.Frames.{CodeScript}
 use Rattle.oss_machine.specs.Machines.{asks}
 use Rattle.oss_words.specs.declared.entry.EntryState.{EntryState}
-use Rattle.oss_words.specs.Bits.{state_at, state_word}
+use Rattle.oss_words.specs.Bits.{info_at, state_at, state_word}
 use Rattle.oss_words.specs.Net.{Net}
 use Rattle.oss_words.specs.Seats.{came}
 use Rattle.oss_words.specs.Sums.{total}
@@ -26,7 +26,8 @@ use Rattle.oss_roles.specs.Roles.{Role}
 use Rattle.oss_roles.specs.Sights.{Sight, Telling}
 use Rattle.oss_field.specs.declared.view.SeatView.{SeatView}
 use Rattle.oss_field.specs.Known.{Holding, sight_of}
-use Rattle.oss_field.specs.Layout.{words_in, cell_word, state_word_of, body_word_of, parts_of}
+use Rattle.oss_field.specs.Layout.{words_in, cell_word, state_word_of, info_word_of, number_word_of, body_word_of, parts_of}
+use Rattle.oss_field.specs.Plans.{ArePlanned, Planned, planned_of}
 
 -- What a slot of the table holds.
 abbrev pub Slot : Type 0
@@ -39,6 +40,10 @@ is_job_of code before j t body last = IsJob code (before t) (box_value j) t body
 -- The views, as the rule of `oss_roles` reads them.
 abbrev pub sights_of : List SeatView → List (Sight CodeScript)
 sights_of = map (λ v. sight_of v.known)
+
+-- What they keep of the tasks that are being made.
+abbrev pub planned_by : List SeatView → List Planned
+planned_by = map (λ v. planned_of v.known)
 
 -- A state whose links are 0 where they are not set.
 pub record Neat (c : EntryState) : Type 0 where
@@ -82,3 +87,6 @@ pub record Stands (code : CodeParts) (fuel n : ℕ) (ws : List ℕ) (homes : Lis
   pub drawn : AreDrawn role (sights_of views)
   pub undrawn : (e : ℕ) → slice_index ws 0 ≤ e → IsFree role (sights_of views) e
   pub seats : AreSeats n net (λ e. state_at (slice_index ws (state_word_of (length code.first) e))) (slice_index ws 0) (words_of (sights_of views))
+  -- the entries of tasks that are being made
+  pub planned : ArePlanned code n net role (λ e. state_at (slice_index ws (state_word_of (length code.first) e))) (λ e. info_at (slice_index ws (info_word_of (length code.first) e)))
+      (λ e. slice_index ws (number_word_of (length code.first) e)) (planned_by views)

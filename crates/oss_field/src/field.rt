@@ -1,27 +1,35 @@
 //! A field.
 
-ghost use Rattle.std.specs.Prelude.{◌≡◌, ◌<◌, ◌≤◌, ◌+◌, ◌*◌, ℕ, [], length, None, IfNone, IfOk, IfSome, box_value};
+ghost use Rattle.std.specs.Prelude.{◌≡◌, ◌<◌, ◌≤◌, ◌+◌, ◌*◌, ◌==◌, ℕ, [], length, None, IfErr, IfNone, IfOk, IfSome, box_value};
 ghost use Rattle.oss_body.specs.Mains.{code_main};
 ghost use Rattle.oss_field.specs.Asks.{IsLoaded, IsStored, MayLoad, MayStore};
 ghost use Rattle.oss_field.specs.Drawing.{IsAboveAll, drew, missed};
 ghost use Rattle.oss_field.specs.Known.{Holding, first_known};
 ghost use Rattle.oss_field.specs.Layout.{words_in};
+ghost use Rattle.oss_field.specs.Linking.{MayLinkFirst, linked_first};
+ghost use Rattle.oss_field.specs.Making.{HasBegun, IsOpened, IsPutFirst, MayBegin, MayOpen, MayPutFirst};
 ghost use Rattle.oss_field.specs.Moves.{touched};
 ghost use Rattle.oss_field.specs.Reading.{after_flags};
+ghost use Rattle.oss_field.specs.Seats.{IsIdle, merged, new_known, parted};
 ghost use Rattle.oss_field.specs.Standing.{Fielded};
 ghost use Rattle.oss_field.specs.Taking.{IsMissing, IsPut, IsTaken, MayPut, after_count, after_take};
-ghost use Rattle.oss_jobs.specs.Jobs.{IsJob};
+ghost use Rattle.oss_jobs.specs.Jobs.{IsJob, task_of};
+ghost use Rattle.oss_words.specs.Bits.{FitsInfo};
 
 use crate::cells::{load_cell, store_cell};
 use crate::drawing::add_draw;
 use crate::flags::read_flags;
 use crate::key::FieldKey;
+use crate::linking::link_first_of;
+use crate::making::{fill_count, open_task, put_new};
 use crate::seat::FieldSeat;
+use crate::seats::{merge, part};
 use crate::slots::{put_slot, take_job};
 use crate::start::{FieldTable, first_slots, first_words, open_table};
 use oss_body::main_is_set;
 use oss_code::Code;
 use oss_jobs::Job;
+use oss_words::EntryInfo;
 use std::alloc::{AllocError, Global};
 use std::marker::Model;
 use std::snapshot::Snapshot;
@@ -174,6 +182,7 @@ impl Field {
     {
         put_slot(&self.table.shared, &mut seat.place, self.cells, job)
     }
+
     /// The state word of an entry, as it stands at this step. All its flags stand from then on. If the entry is one of
     /// the task of a job that the seat holds, the flag of a value that is left stays as it was found, and so does, but
     /// for a strong reduction, that of an entry that is given up: until the seat sets it itself, or puts the job.
@@ -184,5 +193,108 @@ impl Field {
         ensures found { seat.new.known ≡ after_flags (length self.now.code.first) entry result seat.old.known }
     {
         read_flags(&self.table.shared, &mut seat.place, self.cells, entry)
+    }
+    /// Begins to make a task: fills its count. The creation stands next in a job that the seat holds, which since the
+    /// seat's last call with it has gone on as before `load`, and by which the seat makes no task yet. The seat has drawn
+    /// the task's number, which is above that of the job and above its last children, and behind it one entry for each
+    /// cell of the task. The count is one for the opening, and one for each strong cell that the task reads or writes, but
+    /// for those on which main has no child before it. From then on the entries are those of the new task, and
+    /// none of them is linked: the machine has the task once it is opened. A seat that lets a task be half made cannot be
+    /// joined, so what takes memory comes before this call.
+    pub fn set_count(&self, seat: &mut FieldSeat, job: &Job, task: u32, count: u32)
+        requires field { seat.old.field ≡ self.now.table }
+        requires may { MayBegin self.now.code self.now.entries job.now task count seat.old.known }
+        ensures same { (seat.new.field ≡ seat.old.field) × (seat.new.id ≡ seat.old.id) }
+        ensures begun { HasBegun self.now.code self.now.entries job.now task count seat.old.known seat.new.known }
+    {
+        fill_count(
+            &self.table.shared,
+            &mut seat.place,
+            job,
+            self.cells,
+            task,
+            count,
+        );
+    }
+
+    /// Links an entry of a task that the seat makes by the job of main, which begins a list of main: the own entry of
+    /// main's first child, or that on a cell on which main has no child. The info tells the entry's mode and whether it is
+    /// strong, the task, depth 1 and the parent 0; for an entry on a cell that cell is told too. The words are
+    /// written one after the other, and by the last of them the entry hangs. It may read, fold and write, and
+    /// has nothing before it. None of these steps is one of the machine, and no message follows.
+    pub fn link_first(&self, seat: &mut FieldSeat, entry: u32, info: &EntryInfo, cell: Option<u32>)
+        requires field { seat.old.field ≡ self.now.table }
+        requires inside { entry < self.now.entries }
+        requires fits { FitsInfo info.now }
+        requires may { MayLinkFirst self.now.code entry info.now cell seat.old.known }
+        ensures same { (seat.new.field ≡ seat.old.field) × (seat.new.id ≡ seat.old.id) }
+        ensures known { seat.new.known ≡ linked_first (length self.now.code.first) entry seat.old.known }
+    {
+        link_first_of(
+            &self.table.shared,
+            &mut seat.place,
+            self.cells,
+            entry,
+            info,
+            cell,
+        );
+    }
+
+    /// Puts the first job of a task that the seat makes, and for which it has put none: the job stands at the beginning
+    /// of the body that the creation tells, and has the task's number. The first step takes hold of the empty slot, and
+    /// the second leaves the job there. Nobody can take it before the task is opened.
+    pub fn put_first(&self, seat: &mut FieldSeat, job: Box<Job>)
+        requires field { seat.old.field ≡ self.now.table }
+        requires inside { task_of (box_value job) < self.now.entries }
+        requires may { MayPutFirst self.now.code (box_value job) seat.old.known }
+        ensures same { (seat.new.field ≡ seat.old.field) × (seat.new.id ≡ seat.old.id) }
+        ensures put { IsPutFirst self.now.code (box_value job) (length self.now.code.first) seat.old.known
+            seat.new.known }
+    {
+        put_new(&self.table.shared, &mut seat.place, self.cells, job);
+    }
+
+    /// Opens a task that the seat makes: lowers its count by one, and whether it is 0 from then on. Its job is put, all
+    /// its entries are linked, and the job of its creator has noted it. It is the machine's step of the creation: after
+    /// it the body that the seat knows of the creator has done that act, its last children are those that the job
+    /// tells, and the seat makes the task no more. If it is true, the task is ready, and else the count reaches 0 by a
+    /// `deliver`.
+    pub fn count_down(&self, seat: &mut FieldSeat, job: &Job, task: u32) -> bool
+        requires field { seat.old.field ≡ self.now.table }
+        requires inside { task < self.now.entries }
+        requires may { MayOpen self.now.code job.now task seat.old.known }
+        ensures same { (seat.new.field ≡ seat.old.field) × (seat.new.id ≡ seat.old.id) }
+        ensures opened { (found : ℕ) × IsOpened self.now.code job.now task found seat.old.known seat.new.known ×
+            (result ≡ (found == 1)) }
+    {
+        open_task(&self.table.shared, &mut seat.place, job, self.cells, task)
+    }
+    /// A new seat, which may go to another thread: it holds nothing and knows nothing. The seat is the one with which the
+    /// field was made, and was split fewer than 65,536 times; it gives the new one a part of its own. It is an
+    /// error if memory is wanted: the seat is as it was then.
+    pub fn split(&self, seat: &mut FieldSeat) -> Result<FieldSeat, AllocError>
+        requires field { seat.old.field ≡ self.now.table }
+        requires first { (seat.old.id ≡ 0) × (1 < seat.old.known.words.parts) }
+        requires few { seat.old.known.words.splits < 65536 }
+        ensures same { (seat.new.field ≡ seat.old.field) × (seat.new.id ≡ seat.old.id) }
+        ensures kept { IfErr result (λ _. seat.new ≡ seat.old) }
+        ensures known { IfOk result (λ _. seat.new.known ≡ parted seat.old.known) }
+        ensures other { IfOk result (λ s. (s.field ≡ seat.old.field) × (s.known ≡ new_known)) }
+    {
+        let place = part(&self.table.shared, &mut seat.place);
+        Ok(FieldSeat { place })
+    }
+
+    /// The end of another seat, which has nothing left to do: it holds no message and no job, makes no task and owes
+    /// nothing, and was never split. Its part goes to this seat, with what it has drawn, and its deliveries are counted
+    /// for this one.
+    pub fn join(&self, seat: &mut FieldSeat, other: FieldSeat)
+        requires field { (seat.old.field ≡ self.now.table) × (other.field ≡ self.now.table) }
+        requires idle { IsIdle other.known }
+        ensures same { (seat.new.field ≡ seat.old.field) × (seat.new.id ≡ seat.old.id) }
+        ensures known { seat.new.known ≡ merged seat.old.known other.known }
+    {
+        let FieldSeat { place } = other;
+        merge(&self.table.shared, &mut seat.place, place);
     }
 }

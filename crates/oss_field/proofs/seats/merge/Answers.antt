@@ -1,0 +1,14 @@
+use Rattle.std.proofs.Common.{arith}
+use Rattle.oss_field.proofs.JoinLemmas.{joins}
+use Rattle.oss_field.proofs.seats.merge.Goals as goal
+
+pub join_seat-requires : goal.join_seat-requires
+join_seat-requires c =
+    let key = c.args.words.now.key in
+    let w = c.requires.on.0.words in (
+      c.requires.on.0.table,
+      c.requires.on.1.table,
+      c.requires.slots,
+      omega (arith, w),
+      joins key.code.value key.fuel key.entries c.args.seat.now.id c.args.seat.now.me.0 c.args.other.id c.args.other.me.0 c.requires.idle,
+    )

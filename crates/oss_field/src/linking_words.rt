@@ -1,0 +1,26 @@
+//! Single atomic steps by which the words of a new entry are written.
+
+ghost use Rattle.std.specs.Prelude.{◌≡◌, ◌<◌};
+ghost use Rattle.oss_field.specs.Standing.{Stays};
+ghost use Rattle.oss_field.specs.Steps.{Steps};
+
+use crate::words::{Place, Tells, Told, Words};
+
+/// Writes a word of a new entry, in a field of so many cells.
+pub(crate) fn write_entry<T: Tells>(
+    words: &Words,
+    seat: &mut Place,
+    word: usize,
+    value: u64,
+    _cells: u32,
+    _entry: u32,
+)
+    requires table { seat.old.table_id ≡ words.now.table_id }
+    requires inside { word < words.now.table_id.words }
+    requires keeps { Steps words.now.key.code.value words.now.key.fuel words.now.key.entries seat.old.id
+        seat.old.me.0 word (λ n. value) (λ n l. T.tells value seat.old.me.0.known l) }
+    ensures stays { Stays seat.old seat.new }
+    ensures told { T.tells value seat.old.me.0.known seat.new.me.0.known }
+{
+    words.store::<Told<T>>(seat, word, value);
+}
