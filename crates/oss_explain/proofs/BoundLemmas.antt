@@ -50,7 +50,7 @@ rise_within n m [] below h = tt
 rise_within n m (k ∷ []) below h = below k here
 rise_within n m (k ∷ j ∷ more) below h = (h.0, rise_within n m (j ∷ more) (λ i w. below i (there w)) h.1)
 
-module _ {S : Type 0} (P : Program S) (s : State S) where
+module _ (P : Program CodeScript) (s : State CodeScript) where
   -- a creation is refused behind 65,535 of them
   holder_below : (q : List ℕ) (c : ℕ) (touch : Touch) (k line : ℕ) (x : Context) → IsHolder P s q c touch k line x → k < 65535
   holder_below q c touch k line x h = subst (λ (n : ℕ). n < 65535) (sym h.number) (acting_may P h.event.start h.event.past h.order false h.creates).few

@@ -32,6 +32,7 @@ use Rattle.oss_explain.specs.Failures.{HasCell, is_uncovered_by}
 use Rattle.oss_explain.specs.Joining.{AreJoined, mode_held}
 use Rattle.oss_explain.specs.Noting.{IsRight}
 use Rattle.oss_explain.specs.Owned.{own_of}
+use Rattle.oss_explain.specs.Ways.{entry_of}
 use Rattle.oss_explain.specs.Reasons.{IsReasonOf, IsReleasedOf, IsReleasedOn}
 use Rattle.oss_explain.proofs.HoldingLemmas.{ext}
 
@@ -269,7 +270,7 @@ module _ (all : List Item) (x : Context) (b : Begun) where
   mixed_plain : (o : Order CodeScript) (reason : Reason) → IsMixedOf all (x.final || o.last) o.clauses reason → IsReasonOf all x b fault.MixedAccess (Create o) reason
   mixed_plain o reason h P s f count e r =
       let m : IsMixedOf all (f.context.final || o.last) o.clauses reason = subst (λ (y : Context). IsMixedOf all (y.final || o.last) o.clauses reason) (sym e) h in
-      subst (λ (z : Reason). IsReason P s all f (own_of b.accesses) fault.MixedAccess (Create o) z) (sym m.is) (mixed m.failing)
+      subst (λ (z : Reason). IsReason P entry_of s all f (own_of b.accesses) fault.MixedAccess (Create o) z) (sym m.is) (mixed m.failing)
 
   -- clauses that cannot be joined
   pub mixed_is : (o : Order CodeScript) {kind : FaultKind} {clauses : List Access} {final : Bool} → kind ≡ fault.MixedAccess → clauses ≡ o.clauses → final ≡ (x.final || o.last) → (reason : Reason) → IsMixedOf all final clauses reason
@@ -282,7 +283,7 @@ module _ (all : List Item) (x : Context) (b : Begun) where
   creation_plain o reason h P s f count e r =
       let m : IsCreationUncovered all f.context (f.context.final || o.last) o.clauses (own_of b.accesses) reason =
       subst (λ (y : Context). IsCreationUncovered all y (y.final || o.last) o.clauses (own_of b.accesses) reason) (sym e) h in
-      subst (λ (z : Reason). IsReason P s all f (own_of b.accesses) fault.NotCovered (Create o) z) (sym m.is) (creation m.failing m.word_is)
+      subst (λ (z : Reason). IsReason P entry_of s all f (own_of b.accesses) fault.NotCovered (Create o) z) (sym m.is) (creation m.failing m.word_is)
 
   -- clauses of a creation that are not covered
   pub creation_is : (o : Order CodeScript) {kind : FaultKind} {clauses : List Access} {final : Bool} → kind ≡ fault.NotCovered → clauses ≡ o.clauses → final ≡ (x.final || o.last) → (reason : Reason)
@@ -295,7 +296,7 @@ module _ (all : List Item) (x : Context) (b : Begun) where
   release_plain : (clauses : List Access) (reason : Reason) → IsReleaseUncovered all x clauses (own_of b.accesses) reason → IsReasonOf all x b fault.NotCovered (Release clauses) reason
   release_plain clauses reason h P s f count e r =
       let m : IsReleaseUncovered all f.context clauses (own_of b.accesses) reason = subst (λ (y : Context). IsReleaseUncovered all y clauses (own_of b.accesses) reason) (sym e) h in
-      subst (λ (z : Reason). IsReason P s all f (own_of b.accesses) fault.NotCovered (Release clauses) z) (sym m.is) (release m.failing m.word_is)
+      subst (λ (z : Reason). IsReason P entry_of s all f (own_of b.accesses) fault.NotCovered (Release clauses) z) (sym m.is) (release m.failing m.word_is)
 
   -- those of a release
   pub release_is : (clauses : List Access) {kind : FaultKind} → kind ≡ fault.NotCovered → (reason : Reason) → IsReleaseUncovered all x clauses (own_of b.accesses) reason → IsReasonOf all x b kind (Release clauses) reason
@@ -320,7 +321,7 @@ module _ (all : List Item) (x : Context) (b : Begun) where
   released_plain : (ask : Ask CodeScript) (named : List Access) (reason : Reason) → ((c : ℕ) → in_clauses named c ≡ names ask c)
       → IsReleasedOf all (λ c. in_clauses named c && is_released (right_of x c)) b.released reason → IsReasonOf all x b fault.Released ask reason
   released_plain ask named reason same h P s f count e r =
-      subst (λ (z : Reason). IsReason P s all f (own_of b.accesses) fault.Released ask z) (sym h.is)
+      subst (λ (z : Reason). IsReason P entry_of s all f (own_of b.accesses) fault.Released ask z) (sym h.is)
       (released (failing_same all h.cells (named_seen ask named f.context (sym e) same) h.failing) (line_is P s f.path count r h.cells.first h.line h.on_line))
 
   -- cells that are released

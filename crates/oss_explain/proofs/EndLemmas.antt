@@ -31,7 +31,7 @@ use Rattle.oss_explanation.specs.Lives.IsChain.{at_child as chain_goes, at_main 
 use Rattle.oss_explain.specs.Noting.{AreOnWay, IsRight, StandsBefore, at_child, at_main, hindering}
 use Rattle.oss_explain.specs.Owned.{own_of}
 use Rattle.oss_explain.specs.Reasons.{IsAccounted, IsFaultOf, IsNotedReleased}
-use Rattle.oss_explain.specs.Ways.{link_of, links_to}
+use Rattle.oss_explain.specs.Ways.{entry_of, link_of, links_to}
 use Rattle.oss_explain.proofs.BoundLemmas.{bounded_before}
 use Rattle.oss_explain.proofs.HolderLemmas.{HasHolder, lent_is_held}
 use Rattle.oss_explain.proofs.HoldingLemmas.{ext}
@@ -40,16 +40,16 @@ use Rattle.oss_explain.proofs.ReleasedLemmas.{HasAll, released_by}
 
 -- The way
 
-module _ {S : Type 0} (P : Program S) (s : State S) where
+module _ (P : Program CodeScript) (s : State CodeScript) where
   pub top_right : (q : List ℕ) (count : ℕ) (b : Begun) (rest : List Begun) → AreOnWay P s q count (b ∷ rest) → IsRight P s q count b
   top_right q count b rest (at_main h e) = h
   top_right q count b rest (at_child h born more) = h
 
   -- how the tasks on the way came to be
-  pub way_chain : {q : List ℕ} {count : ℕ} {bs : List Begun} → AreOnWay P s q count bs → IsChain P s q (links_to bs)
+  pub way_chain : {q : List ℕ} {count : ℕ} {bs : List Begun} → AreOnWay P s q count bs → IsChain P entry_of s q (links_to bs)
   way_chain (at_main h e) = chain_ends
-  way_chain (at_child {b = b} h born (at_main g e)) = chain_goes (link_of b) h.point born.created chain_ends
-  way_chain (at_child {b = b} h born (at_child g c more)) = chain_goes (link_of b) h.point born.created (way_chain (at_child g c more))
+  way_chain (at_child {b = b} h born (at_main g e)) = chain_goes (link_of b) h.point born.created born.entry chain_ends
+  way_chain (at_child {b = b} h born (at_child g c more)) = chain_goes (link_of b) h.point born.created born.entry (way_chain (at_child g c more))
 
   -- The words of a task, and its accesses, say the same.
   pub record HasOwn (q : List ℕ) (b : Begun) : Type 0 where
@@ -147,7 +147,7 @@ module _ (code : CodeParts) (fuel : ℕ) (kept : Kept) (l : Ledger) (kind : Faul
   pub fault_here : IsFaultOf f.context (ask_of P f).ask kind × ((ask_of P f).line ≡ line)
   fault_here = acting_fault P kind line st.key st.body.start st.body.found st.fault
 
-  pub chain_here : IsChain P st.stage.state f.path (links_to (l.top ∷ reverse l.above))
+  pub chain_here : IsChain P entry_of st.stage.state f.path (links_to (l.top ∷ reverse l.above))
   chain_here = way_chain P st.stage.state st.way
 
   pub words_here : HasOwn P st.stage.state f.path l.top

@@ -40,6 +40,7 @@ use Rattle.oss_explain.specs.Endings.IsEnding.{fault as comes_to}
 use Rattle.oss_explain.specs.Noting.{AreOnWay, StandsBefore, at_child, at_main}
 use Rattle.oss_explain.specs.Reasons.{IsAccounted, IsFaultOf, MayFail}
 use Rattle.oss_explain.specs.Telling.{IsKeyOf, IsToldOf, IsWho, explained_by}
+use Rattle.oss_explain.specs.Ways.{entry_of}
 use Rattle.oss_explain.proofs.EndLemmas.{HasOwn, accounted_here, chain_here, fault_here, right_here, words_here}
 
 -- an ask that comes to a fault is one that may
@@ -77,7 +78,7 @@ unfolding stage_key
 acting_key P b past = refl
 
 -- what a task has started with names each cell once
-way_rising : {S : Type 0} (P : Program S) (s : State S) (q : List ℕ) (count : ℕ) (b : Begun) (rest : List Begun) → AreOnWay P s q count (b ∷ rest) → IsRising b.accesses
+way_rising : (P : Program CodeScript) (s : State CodeScript) (q : List ℕ) (count : ℕ) (b : Begun) (rest : List Begun) → AreOnWay P s q count (b ∷ rest) → IsRising b.accesses
 way_rising P s q count b rest (at_main h e) = rw e tt
 way_rising P s q count b rest (at_child h born more) = born.accesses.rising
 
@@ -111,7 +112,7 @@ module _ (code : CodeParts) (fuel : ℕ) (kept : Kept) (l : Ledger) (kind : Faul
     key : st.key ≡ key_of f
     key = fault_key P st.body.start st.body.found kind line st.key st.fault ∙ acting_key P st.body.start st.body.found
 
-    explains_here : Explains P st.stage.state all f kind line (explained_by who told line)
+    explains_here : Explains P entry_of st.stage.state all f kind line (explained_by who told line)
     explains_here =
         record {
           task = w.task ∙ (right_here code fuel kept l kind line st).point;
@@ -120,8 +121,8 @@ module _ (code : CodeParts) (fuel : ℕ) (kept : Kept) (l : Ledger) (kind : Faul
           deed_is = t.deed_is;
           own = own.own;
           words = own.words;
-          reason_is = subst (λ (g : ℕ → Option Word). IsReason P st.stage.state all f g kind (ask_of P f).ask told.reason) own.same (t.reason_is P st.stage.state f f.context.created refl (right_here code fuel kept l kind line st));
-          chain = subst (λ (links : List Link). IsChain P st.stage.state f.path links) (sym w.chain) (chain_here code fuel kept l kind line st);
+          reason_is = subst (λ (g : ℕ → Option Word). IsReason P entry_of st.stage.state all f g kind (ask_of P f).ask told.reason) own.same (t.reason_is P st.stage.state f f.context.created refl (right_here code fuel kept l kind line st));
+          chain = subst (λ (links : List Link). IsChain P entry_of st.stage.state f.path links) (sym w.chain) (chain_here code fuel kept l kind line st);
           holds = subst (λ (g : ℕ → Option Word). AreHeld all g all_words told.holds) own.same t.holds;
           wants = t.wants;
         }
@@ -129,7 +130,7 @@ module _ (code : CodeParts) (fuel : ℕ) (kept : Kept) (l : Ledger) (kind : Faul
     abbrev at_end : IsAtEnd P st.stage
     at_end = record { task = whole_task st.body; at_ = st.at_; stops = subst (λ (x : Act CodeScript). IsHalt x) (sym st.fault) tt }
 
-    abbrev is_explained : IsExplained P (code_main code fuel) code.first all (explained_by who told line)
+    abbrev is_explained : IsExplained P entry_of (code_main code fuel) code.first all (explained_by who told line)
     is_explained = record { stage = st.stage; run = st.run; end = at_end; kind = kind; line = line; key = st.key; fails = st.fault; explains = explains_here }
 
     pub explained_here : IsEndingOf code fuel all (ending.Fault kind line (explained_by who told line))

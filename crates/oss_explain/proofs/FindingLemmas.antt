@@ -29,6 +29,7 @@ use Rattle.oss_explain.specs.declared.begun.Begun.{Begun}
 use Rattle.oss_explain.specs.declared.begun.Child.{Child}
 use Rattle.oss_explain.specs.Noting.{AreHeldBy, IsRight, RiseTo, hindering}
 use Rattle.oss_explain.specs.Owned.{own_of}
+use Rattle.oss_explain.specs.Ways.{entry_of}
 use Rattle.oss_explain.specs.Reasons.{IsFaultOf, IsLentTo, IsReasonOf, IsReleasedOf, number_of, touch_seen}
 use Rattle.oss_explain.proofs.EndLemmas.{held_same}
 use Rattle.oss_explain.proofs.HoldingLemmas.{ext}
@@ -50,7 +51,7 @@ kind_at all x b ask reason kind k e h = subst (λ (y : FaultKind). IsReasonOf al
 pub tick_reason : (all : List Item) (x : Context) (b : Begun) (kind : FaultKind) (n : ℕ) → tick_fault x ≡ Some kind → n ≡ x.fuel → IsReasonOf all x b kind Tick (reasons.OutOfFuel n)
 tick_reason all x b kind n h e =
     kind_at all x b Tick (reasons.OutOfFuel n) kind fault.OutOfFuel (tick_kind x kind h)
-    (λ P s f count c r. subst (λ (m : ℕ). IsReason P s all f (own_of b.accesses) fault.OutOfFuel Tick (reasons.OutOfFuel m)) (ap (λ (y : Context). y.fuel) c ∙ sym e) fuel)
+    (λ P s f count c r. subst (λ (m : ℕ). IsReason P entry_of s all f (own_of b.accesses) fault.OutOfFuel Tick (reasons.OutOfFuel m)) (ap (λ (y : Context). y.fuel) c ∙ sym e) fuel)
 
 pub plain_reason : (all : List Item) (x : Context) (b : Begun) (kind : FaultKind) → (kind ≡ fault.TooDeep → ⊥) → (kind ≡ fault.ShiftRange → ⊥) → IsReasonOf all x b kind (Fails kind) reasons.Plain
 plain_reason all x b fault.TooDeep deep shifts = absurd (deep refl)
@@ -67,7 +68,7 @@ released_is all x b ask reason test same h P s f count e r =
     let gone : IsReleased P s f.path h.cells.first h.line = subst (λ (n : ℕ). IsReleased P s f.path h.cells.first n) on.1.2 (r.released on.0 on.1.0 h.cells.first on.1.1) in
     let one : test ≡ (λ (c : ℕ). names ask c && is_released (right_of f.context c)) = ext (λ c. same c ∙ ap (λ (y : Context). names ask c && is_released (right_of y c)) (sym e)) in
     let cells : AreFailing all (λ (c : ℕ). names ask c && is_released (right_of f.context c)) h.cells = subst (λ (t : ℕ → Bool). AreFailing all t h.cells) one h.failing in
-    subst (λ (y : Reason). IsReason P s all f (own_of b.accesses) fault.Released ask y) (sym h.is) (released cells gone)
+    subst (λ (y : Reason). IsReason P entry_of s all f (own_of b.accesses) fault.Released ask y) (sym h.is) (released cells gone)
 
 -- the cell of a touch is the one that is named
 names_one : (ask : Ask CodeScript) (cell : ℕ) (touch : Touch) → AsksTouch ask cell touch → (c : ℕ) → names ask c ≡ (cell == c)
@@ -100,14 +101,14 @@ pub touched_without : (all : List Item) (x : Context) (b : Begun) (cell : ℕ) (
     → (ask : Ask CodeScript) → AsksTouch ask cell (touch_seen touch) → IsReasonOf all x b kind ask (reasons.NoRight cell touch w)
 touched_without all x b cell touch kind w k e ask a =
     kind_at all x b ask (reasons.NoRight cell touch w) kind fault.NoRight k
-    (λ P s f count c r. subst (λ (t : Touching). IsReason P s all f (own_of b.accesses) fault.NoRight ask (reasons.NoRight cell t w)) (told_seen touch)
-    (subst (λ (v : Option Word). IsReason P s all f (own_of b.accesses) fault.NoRight ask (reasons.NoRight cell (touch_told (touch_seen touch)) v)) (sym e) (no_right a)))
+    (λ P s f count c r. subst (λ (t : Touching). IsReason P entry_of s all f (own_of b.accesses) fault.NoRight ask (reasons.NoRight cell t w)) (told_seen touch)
+    (subst (λ (v : Option Word). IsReason P entry_of s all f (own_of b.accesses) fault.NoRight ask (reasons.NoRight cell (touch_told (touch_seen touch)) v)) (sym e) (no_right a)))
 
 pub touched_reduction : (all : List Item) (x : Context) (b : Begun) (cell : ℕ) (touch : Touch) (kind : FaultKind) (o : Op) (reason : Reason) → kind ≡ fault.BadReduction → right_of x cell ≡ Holds (Folding o) true
     → reason ≡ reasons.BadReduction cell o → (ask : Ask CodeScript) → AsksTouch ask cell touch → IsReasonOf all x b kind ask reason
 touched_reduction all x b cell touch kind o reason k e is ask a =
     kind_at all x b ask reason kind fault.BadReduction k
-    (λ P s f count c r. subst (λ (y : Reason). IsReason P s all f (own_of b.accesses) fault.BadReduction ask y) (sym is) (reduction a (ap (λ (y : Context). right_of y cell) c ∙ e)))
+    (λ P s f count c r. subst (λ (y : Reason). IsReason P entry_of s all f (own_of b.accesses) fault.BadReduction ask y) (sym is) (reduction a (ap (λ (y : Context). right_of y cell) c ∙ e)))
 
 pub touched_unwritten : (all : List Item) (x : Context) (b : Begun) (cell : ℕ) (touch : Touch) (kind : FaultKind) → kind ≡ fault.Unwritten
     → (ask : Ask CodeScript) → AsksTouch ask cell touch → IsReasonOf all x b kind ask (reasons.Unwritten cell)
@@ -154,6 +155,10 @@ module _ (P : Program CodeScript) (s : State CodeScript) (q : List ℕ) (c : ℕ
   are_holders : (n : ℕ) → RiseTo n (k ∷ ks) → AreHolders P s q c touch k.number k.line born (map number_of ks)
   are_holders n rise = record { first = (held.only k here).holder; rise = rises n k ks rise; only = only_later; all = all_told }
 
+  entry_first : (n : ℕ) (rise : RiseTo n (k ∷ ks)) → k.entry ≡ entry_of (are_holders n rise).first.order.script
+  unfolding are_holders
+  entry_first n rise = (held.only k here).entry
+
   word_first : own_of k.accesses c ≡ word_in born c
   word_first =
       let a = (held.only k here).accesses in
@@ -163,15 +168,16 @@ pub touched_lent : (all : List Item) (x : Context) (b : Begun) (cell : ℕ) (tou
     → IsLentTo cell b.point (hindering cell touch b.noted) reason → (ask : Ask CodeScript) → AsksTouch ask cell touch → IsReasonOf all x b kind ask reason
 touched_lent all x b cell touch kind reason k h ask a = kind_at all x b ask reason kind fault.Lent k found
   where
-    found : (P : Program CodeScript) (s : State CodeScript) (f : Frame CodeScript) (count : ℕ) → f.context ≡ x → IsRight P s f.path count b → IsReason P s all f (own_of b.accesses) fault.Lent ask reason
+    found : (P : Program CodeScript) (s : State CodeScript) (f : Frame CodeScript) (count : ℕ) → f.context ≡ x → IsRight P s f.path count b → IsReason P entry_of s all f (own_of b.accesses) fault.Lent ask reason
     found P s f count c r =
         let ks : List Child = h.first ∷ h.others in
         let held : AreHeldBy P s f.path cell touch ks = subst (λ (js : List Child). AreHeldBy P s f.path cell touch js) h.are (r.held cell touch) in
         let rise : RiseTo count ks = subst (λ (js : List Child). RiseTo count js) h.are (r.rise cell touch) in
         let holders = are_holders P s f.path cell touch h.first h.others held count rise in
+        let entry = entry_first P s f.path cell touch h.first h.others held count rise in
         let word : word_in (held.only h.first here).context cell ≡ Some h.word = sym (word_first P s f.path cell touch h.first h.others held) ∙ h.word_is in
         let point : b.point ++ h.first.number ∷ [] ≡ written (h.first.number ∷ f.path) = ap (λ (p : List ℕ). p ++ h.first.number ∷ []) r.point ∙ child_point f.path h.first.number in
-        let told : reason ≡ reasons.Lent cell (written (h.first.number ∷ f.path)) h.first.line h.word (told_later f.path (map number_of h.others)) =
-        h.is ∙ ap (λ (p : List ℕ). reasons.Lent cell p h.first.line h.word h.later) point
-        ∙ ap (λ (l : Later). reasons.Lent cell (written (h.first.number ∷ f.path)) h.first.line h.word l) (h.later_is f.path r.point) in
-        subst (λ (y : Reason). IsReason P s all f (own_of b.accesses) fault.Lent ask y) (sym told) (lent a holders word)
+        let told : reason ≡ reasons.Lent cell (written (h.first.number ∷ f.path)) h.first.line h.first.entry h.word (told_later f.path (map number_of h.others)) =
+        h.is ∙ ap (λ (p : List ℕ). reasons.Lent cell p h.first.line h.first.entry h.word h.later) point
+        ∙ ap (λ (l : Later). reasons.Lent cell (written (h.first.number ∷ f.path)) h.first.line h.first.entry h.word l) (h.later_is f.path r.point) in
+        subst (λ (y : Reason). IsReason P entry_of s all f (own_of b.accesses) fault.Lent ask y) (sym told) (lent a holders entry word)

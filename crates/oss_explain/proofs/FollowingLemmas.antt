@@ -42,9 +42,9 @@ use Rattle.oss_explain.proofs.WayLemmas.{note_next}
 
 -- The beginning
 
-module _ {S : Type 0} (P : Program S) (main : Start S) (ms : MainStarts main) (cells : List ℕ) where
-  nothing : (q : List ℕ) (e : Event S) → IsEventOf P (opening main cells) q e → ⊥
-  nothing q e h = none (subst (λ (x : Task S). IsSuffix (e.answer ∷ e.past) x.body.found) (opening_at main cells e.start.path h.happened.task ms.path h.happened.at_).1 h.happened.found)
+module _ (P : Program CodeScript) (main : Start CodeScript) (ms : MainStarts main) (cells : List ℕ) where
+  nothing : (q : List ℕ) (e : Event CodeScript) → IsEventOf P (opening main cells) q e → ⊥
+  nothing q e h = none (subst (λ (x : Task CodeScript). IsSuffix (e.answer ∷ e.past) x.body.found) (opening_at main cells e.start.path h.happened.task ms.path h.happened.at_).1 h.happened.found)
     where
       none : IsSuffix (e.answer ∷ e.past) [] → ⊥
       none i = elim i [ ]
@@ -69,7 +69,7 @@ module _ {S : Type 0} (P : Program S) (main : Start S) (ms : MainStarts main) (c
   first_way : (b : Begun) → IsFirst b → AreOnWay P (opening main cells) [] 0 (b ∷ [])
   first_way b f = at_main (first_right b f) f.accesses
 
-way_at : {S : Type 0} (P : Program S) (s : State S) (bs : List Begun) (p q : Place) → p ≡ q → AreOnWay P s q.path q.created bs → AreOnWay P s p.path p.created bs
+way_at : (P : Program CodeScript) (s : State CodeScript) (bs : List Begun) (p q : Place) → p ≡ q → AreOnWay P s q.path q.created bs → AreOnWay P s p.path p.created bs
 way_at P s bs p q e h = subst (λ (x : Place). AreOnWay P s x.path x.created bs) (sym e) h
 
 module _ (code : CodeParts) (fuel : ℕ) where

@@ -17,6 +17,7 @@ use Rattle.oss_model.proofs.TreeLemmas.{at_same, path_found}
 use Rattle.oss_audit.proofs.FollowLemmas.{ev_happened, stays_happened}
 use Rattle.oss_audit.proofs.ListLemmas.{in_either, in_left, in_one, in_right}
 use Rattle.oss_audit.proofs.PathLemmas.{one_way}
+use Rattle.oss_machine.specs.Frames.{CodeScript}
 use Rattle.oss_body.specs.Acting.{acting}
 use Rattle.oss_explain.specs.declared.begun.Begun.{Begun}
 use Rattle.oss_explain.specs.declared.begun.Child.{Child}
@@ -24,44 +25,45 @@ use Rattle.oss_explain.specs.declared.begun.ReleasedAt.{ReleasedAt}
 use Rattle.oss_explain.specs.Ledgers.{AreAccesses}
 use Rattle.oss_explanation.specs.Lives.{IsCreated, IsEventOf, IsHolder, IsReleased, actor, act_at, born_with, hinders, line_at, waits_for}
 use Rattle.oss_explain.specs.Noting.{AreHeldBy, AreOnWay, IsBorn, IsHeldBy, IsRight, RiseTo, at_child, at_main, hindering}
+use Rattle.oss_explain.specs.Ways.{entry_of}
 use Rattle.oss_explain.proofs.EventLemmas.{one_body}
 
 never : (b : Bool) → b ≡ true → b ≡ false → ⊥
 never b h k = let e : true ≡ false = sym h ∙ k in cc
 
-module _ {S : Type 0} (P : Program S) (main : Start S) (ms : MainStarts main) (z y : Running S) (st : Stands P main z) (r : RunsOn P z y) where
-  abbrev pub ev : Event S
+module _ (P : Program CodeScript) (main : Start CodeScript) (ms : MainStarts main) (z y : Running CodeScript) (st : Stands P main z) (r : RunsOn P z y) where
+  abbrev pub ev : Event CodeScript
   ev = seq_event P main z y ms st r
 
-  abbrev pub now : Act S
+  abbrev pub now : Act CodeScript
   now = act_now P r.task.body
 
-  abbrev pub f : Frame S
+  abbrev pub f : Frame CodeScript
   f = acting P r.task.body.start r.task.body.found
 
   -- Events
 
-  forth : (q : List ℕ) (e : Event S) → IsEventOf P z.state q e → IsEventOf P y.state q e
+  forth : (q : List ℕ) (e : Event CodeScript) → IsEventOf P z.state q e → IsEventOf P y.state q e
   forth q e h = record { happened = stays_happened P main ms z y st r e h.happened; path = h.path }
 
-  pub back : (q : List ℕ) (e : Event S) → IsEventOf P y.state q e → IsEventOf P z.state q e ⊎ ((e ≡ ev) × (q ≡ f.path))
+  pub back : (q : List ℕ) (e : Event CodeScript) → IsEventOf P y.state q e → IsEventOf P z.state q e ⊎ ((e ≡ ev) × (q ≡ f.path))
   back q e h = go (event_back P main z y ms st r e h.happened)
     where
       go : Happened z.state e ⊎ (e ≡ ev) → IsEventOf P z.state q e ⊎ ((e ≡ ev) × (q ≡ f.path))
       go (inl k) = inl (record { happened = k; path = h.path })
-      go (inr k) = inr (k, sym h.path ∙ ap (λ (x : Event S). (actor P x).path) k)
+      go (inr k) = inr (k, sym h.path ∙ ap (λ (x : Event CodeScript). (actor P x).path) k)
 
   own : IsEventOf P y.state f.path ev
   own = record { happened = ev_happened P main ms z y st r; path = refl }
 
   -- the other acts of the task were made before
-  earlier : (e : Event S) → IsEventOf P z.state f.path e → length e.past < length ev.past
+  earlier : (e : Event CodeScript) → IsEventOf P z.state f.path e → length e.past < length ev.past
   earlier e h =
       let b : e.start ≡ r.task.body.start = one_body P main y.state (seq_made P main z y ms st r) f.path e ev (forth f.path e h) own in
       let p : r.task.body.start.path ≡ z.active = path_found z.state.tasks z.active r.task r.at_ in
-      let a : At z.state z.active h.happened.task = subst (λ (x : List ℕ). At z.state x h.happened.task) (ap (λ (x : Start S). x.path) b ∙ p) h.happened.at_ in
+      let a : At z.state z.active h.happened.task = subst (λ (x : List ℕ). At z.state x h.happened.task) (ap (λ (x : Start CodeScript). x.path) b ∙ p) h.happened.at_ in
       let t : h.happened.task ≡ r.task = at_same z.state z.active h.happened.task r.task a r.at_ in
-      let l = suffix_length (subst (λ (x : Task S). IsSuffix (e.answer ∷ e.past) x.body.found) t h.happened.found) in
+      let l = suffix_length (subst (λ (x : Task CodeScript). IsSuffix (e.answer ∷ e.past) x.body.found) t h.happened.found) in
       omega (arith, l)
 
   -- Creations and releases
@@ -71,11 +73,19 @@ module _ {S : Type 0} (P : Program S) (main : Start S) (ms : MainStarts main) (z
       record { event = h.event; happened = stays_happened P main ms z y st r h.event h.happened; order = h.order; creates = h.creates; path = h.path; on_line = h.on_line; context = h.context }
 
   pub born_forth : (q : List ℕ) (b : Begun) → IsBorn P z.state q b → IsBorn P y.state q b
-  born_forth q b h = record { context = h.context; created = created_forth q b.included b.line h.context h.created; accesses = h.accesses }
+  unfolding created_forth
+  born_forth q b h = record { context = h.context; created = created_forth q b.included b.line h.context h.created; accesses = h.accesses; entry = h.entry }
 
   -- the task that is created
-  pub created_here : (o : Order S) (included : Bool) → now ≡ Created o included → IsCreated P y.state (f.context.created ∷ f.path) included (ask_of P f).line (child_context f.context o.clauses o.last)
-  created_here o included e = record { event = ev; happened = ev_happened P main ms z y st r; order = o; creates = e; path = refl; on_line = refl; context = refl }
+  pub born_here : (o : Order CodeScript) (included : Bool) (b : Begun) → now ≡ Created o included → b.included ≡ included → b.line ≡ (ask_of P f).line → b.entry ≡ entry_of o.script
+      → AreAccesses b.accesses (child_context f.context o.clauses o.last) → IsBorn P y.state (f.context.created ∷ f.path) b
+  born_here o included b e i line entry accesses =
+      record {
+        context = child_context f.context o.clauses o.last;
+        created = record { event = ev; happened = ev_happened P main ms z y st r; order = o; creates = e ∙ ap (λ (x : Bool). Created o x) (sym i); path = refl; on_line = line; context = refl };
+        accesses = accesses;
+        entry = entry;
+      }
 
   released_forth : (q : List ℕ) (c line : ℕ) → IsReleased P z.state q c line → IsReleased P y.state q c line
   released_forth q c line h = record { event = h.event; own = forth q h.event h.own; clauses = h.clauses; included = h.included; releases = h.releases; named = h.named; on_line = h.on_line }
@@ -98,9 +108,9 @@ module _ {S : Type 0} (P : Program S) (main : Start S) (ms : MainStarts main) (z
         path = p;
         clauses = h.clauses;
         included = h.included;
-        releases = subst (λ (x : Event S). act_at P x ≡ Releases h.clauses h.included) k h.releases;
+        releases = subst (λ (x : Event CodeScript). act_at P x ≡ Releases h.clauses h.included) k h.releases;
         named = h.named;
-        on_line = h.on_line ∙ ap (λ (x : Event S). line_at P x) k;
+        on_line = h.on_line ∙ ap (λ (x : Event CodeScript). line_at P x) k;
       })
 
   released_here : (c : ℕ) (clauses : List Access) (included : Bool) → now ≡ Releases clauses included → in_clauses clauses c ≡ true → IsReleased P y.state f.path c (ask_of P f).line
@@ -110,7 +120,7 @@ module _ {S : Type 0} (P : Program S) (main : Start S) (ms : MainStarts main) (z
 
   -- The act lends the cell to a child so that it hinders the touch.
   abbrev pub LendsNow : ℕ → Touch → Type 0
-  LendsNow c touch = (o : Order S) × ((now ≡ Created o false) × (o.when ≡ true) × (hinders touch (right_of (child_context f.context o.clauses o.last) c) ≡ true))
+  LendsNow c touch = (o : Order CodeScript) × ((now ≡ Created o false) × (o.when ≡ true) × (hinders touch (right_of (child_context f.context o.clauses o.last) c) ≡ true))
 
   holder_forth : (q : List ℕ) (c : ℕ) (touch : Touch) (j n : ℕ) (x : Context) → (q ≡ f.path → waits_for now c ≡ false) → IsHolder P z.state q c touch j n x → IsHolder P y.state q c touch j n x
   holder_forth q c touch j n x still h =
@@ -127,9 +137,9 @@ module _ {S : Type 0} (P : Program S) (main : Start S) (ms : MainStarts main) (z
         since = λ e i l w. go e l w (back q e i);
       }
     where
-      go : (e : Event S) → length h.event.past < length e.past → waits_for (act_at P e) c ≡ true → IsEventOf P z.state q e ⊎ ((e ≡ ev) × (q ≡ f.path)) → ⊥
+      go : (e : Event CodeScript) → length h.event.past < length e.past → waits_for (act_at P e) c ≡ true → IsEventOf P z.state q e ⊎ ((e ≡ ev) × (q ≡ f.path)) → ⊥
       go e l w (inl k) = h.since e k l w
-      go e l w (inr (k, p)) = never (waits_for now c) (subst (λ (g : Event S). waits_for (act_at P g) c ≡ true) k w) (still p)
+      go e l w (inr (k, p)) = never (waits_for now c) (subst (λ (g : Event CodeScript). waits_for (act_at P g) c ≡ true) k w) (still p)
 
   holder_back : (q : List ℕ) (c : ℕ) (touch : Touch) (j n : ℕ) (x : Context) → IsHolder P y.state q c touch j n x
       → IsHolder P z.state q c touch j n x ⊎ ((q ≡ f.path) × (j ≡ f.context.created) × LendsNow c touch)
@@ -150,23 +160,27 @@ module _ {S : Type 0} (P : Program S) (main : Start S) (ms : MainStarts main) (z
       })
       go (inr (k, p)) = inr (
         p,
-        h.number ∙ ap (λ (g : Event S). (actor P g).context.created) k,
+        h.number ∙ ap (λ (g : Event CodeScript). (actor P g).context.created) k,
         (
           h.order,
           (
-            subst (λ (g : Event S). act_at P g ≡ Created h.order false) k h.creates,
+            subst (λ (g : Event CodeScript). act_at P g ≡ Created h.order false) k h.creates,
             h.lends,
-            subst (λ (g : Event S). hinders touch (right_of (born_with P g h.order) c) ≡ true) k (subst (λ (g : Context). hinders touch (right_of g c) ≡ true) h.context h.hindering),
+            subst (λ (g : Event CodeScript). hinders touch (right_of (born_with P g h.order) c) ≡ true) k (subst (λ (g : Context). hinders touch (right_of g c) ≡ true) h.context h.hindering),
           ),
         ),
       )
+
+  held_forth : (q : List ℕ) (c : ℕ) (touch : Touch) (k : Child) → (q ≡ f.path → waits_for now c ≡ false) → IsHeldBy P z.state q c touch k → IsHeldBy P y.state q c touch k
+  unfolding holder_forth
+  held_forth q c touch k still g = record { context = g.context; holder = holder_forth q c touch k.number k.line g.context still g.holder; accesses = g.accesses; entry = g.entry }
 
   -- no child more, and none less
   pub held_still : (q : List ℕ) (c : ℕ) (touch : Touch) (ks : List Child) → (q ≡ f.path → waits_for now c ≡ false) → (q ≡ f.path → LendsNow c touch → ⊥) → AreHeldBy P z.state q c touch ks
       → AreHeldBy P y.state q c touch ks
   held_still q c touch ks still lends h =
       record {
-        only = λ k i. let g = h.only k i in record { context = g.context; holder = holder_forth q c touch k.number k.line g.context still g.holder; accesses = g.accesses };
+        only = λ k i. held_forth q c touch k still (h.only k i);
         all = λ j n x g. go j n x (holder_back q c touch j n x g);
       }
     where
@@ -178,44 +192,49 @@ module _ {S : Type 0} (P : Program S) (main : Start S) (ms : MainStarts main) (z
   pub held_cleared : (c : ℕ) (touch : Touch) → waits_for now c ≡ true → AreHeldBy P y.state f.path c touch []
   held_cleared c touch waits = record { only = λ k i. absurd (elim i [ ]); all = λ j n x h. absurd (none j n x h) }
     where
-      created_none : (a : Act S) (o : Order S) → waits_for a c ≡ true → a ≡ Created o false → ⊥
-      created_none a o w e = let k : waits_for (Created o false) c ≡ true = subst (λ (b : Act S). waits_for b c ≡ true) e w in cc
+      created_none : (a : Act CodeScript) (o : Order CodeScript) → waits_for a c ≡ true → a ≡ Created o false → ⊥
+      created_none a o w e = let k : waits_for (Created o false) c ≡ true = subst (λ (b : Act CodeScript). waits_for b c ≡ true) e w in cc
 
       none : (j n : ℕ) (x : Context) → IsHolder P y.state f.path c touch j n x → ⊥
       none j n x h = go (back f.path h.event h.own)
         where
           go : IsEventOf P z.state f.path h.event ⊎ ((h.event ≡ ev) × (f.path ≡ f.path)) → ⊥
           go (inl k) = h.since ev own (earlier h.event k) waits
-          go (inr (k, p)) = created_none now h.order waits (subst (λ (g : Event S). act_at P g ≡ Created h.order false) k h.creates)
+          go (inr (k, p)) = created_none now h.order waits (subst (λ (g : Event CodeScript). act_at P g ≡ Created h.order false) k h.creates)
 
   -- one child more
-  pub held_more : (c : ℕ) (touch : Touch) (ks : List Child) (k : Child) (o : Order S) → now ≡ Created o false → o.when ≡ true → waits_for now c ≡ false
-      → k.number ≡ f.context.created → k.line ≡ (ask_of P f).line → AreAccesses k.accesses (child_context f.context o.clauses o.last)
+  pub held_more : (c : ℕ) (touch : Touch) (ks : List Child) (k : Child) (o : Order CodeScript) → now ≡ Created o false → o.when ≡ true → waits_for now c ≡ false
+      → k.number ≡ f.context.created → k.line ≡ (ask_of P f).line → k.entry ≡ entry_of o.script → AreAccesses k.accesses (child_context f.context o.clauses o.last)
       → hinders touch (right_of (child_context f.context o.clauses o.last) c) ≡ true → AreHeldBy P z.state f.path c touch ks → AreHeldBy P y.state f.path c touch (ks ++ k ∷ [])
-  held_more c touch ks k o e when still number line accesses hinder h =
+  held_more c touch ks k o e when still number line entry accesses hinder h =
       record { only = λ i m. only i (in_either ks m); all = λ j n x g. all j n x (holder_back f.path c touch j n x g) }
     where
-      since : (g : Event S) → IsEventOf P z.state f.path g ⊎ ((g ≡ ev) × (f.path ≡ f.path)) → length ev.past < length g.past → ⊥
+      since : (g : Event CodeScript) → IsEventOf P z.state f.path g ⊎ ((g ≡ ev) × (f.path ≡ f.path)) → length ev.past < length g.past → ⊥
       since g (inl m) l = let b = earlier g m in omega (arith, l, b)
-      since g (inr (m, p)) l = let b : length g.past ≡ length ev.past = ap (λ (x : Event S). length x.past) m in omega (arith, l, b)
+      since g (inr (m, p)) l = let b : length g.past ≡ length ev.past = ap (λ (x : Event CodeScript). length x.past) m in omega (arith, l, b)
 
-      here : IsHolder P y.state f.path c touch k.number k.line (child_context f.context o.clauses o.last)
+      here : IsHeldBy P y.state f.path c touch k
       here = record {
-        event = ev;
-        own = own;
-        order = o;
-        creates = e;
-        lends = when;
-        number = number;
-        on_line = line;
-        context = refl;
-        hindering = hinder;
-        since = λ g i l w. since g (back f.path g i) l;
+        context = child_context f.context o.clauses o.last;
+        holder = record {
+          event = ev;
+          own = own;
+          order = o;
+          creates = e;
+          lends = when;
+          number = number;
+          on_line = line;
+          context = refl;
+          hindering = hinder;
+          since = λ g i l w. since g (back f.path g i) l;
+        };
+        accesses = accesses;
+        entry = entry;
       }
 
       only : (i : Child) → IsIn i ks ⊎ IsIn i (k ∷ []) → IsHeldBy P y.state f.path c touch i
-      only i (inl m) = let g = h.only i m in record { context = g.context; holder = holder_forth f.path c touch i.number i.line g.context (λ p. still) g.holder; accesses = g.accesses }
-      only i (inr m) = subst (λ (x : Child). IsHeldBy P y.state f.path c touch x) (sym (in_one m)) (record { context = child_context f.context o.clauses o.last; holder = here; accesses = accesses })
+      only i (inl m) = held_forth f.path c touch i (λ p. still) (h.only i m)
+      only i (inr m) = subst (λ (x : Child). IsHeldBy P y.state f.path c touch x) (sym (in_one m)) here
 
       all : (j n : ℕ) (x : Context) → IsHolder P z.state f.path c touch j n x ⊎ ((f.path ≡ f.path) × (j ≡ f.context.created) × LendsNow c touch) → (i : Child) × (IsIn i (ks ++ k ∷ []) × (i.number ≡ j))
       all j n x (inl g) = let i = h.all j n x g in (i.0, (in_left (k ∷ []) i.1.0, i.1.1))
@@ -250,7 +269,7 @@ module _ {S : Type 0} (P : Program S) (main : Start S) (ms : MainStarts main) (z
       all c line (inl x) = let k = h.all_released c line x in (k.0, (released.all k.0 k.1.0, k.1.1))
       all c line (inr x) = released.here c line x
 
-      fresh : (j : ℕ) (p : List ℕ) (e : Event S) → more ≤ j → IsSuffix (j ∷ q) p → IsEventOf P z.state p e ⊎ ((e ≡ ev) × (p ≡ f.path)) → ⊥
+      fresh : (j : ℕ) (p : List ℕ) (e : Event CodeScript) → more ≤ j → IsSuffix (j ∷ q) p → IsEventOf P z.state p e ⊎ ((e ≡ ev) × (p ≡ f.path)) → ⊥
       fresh j p e l s (inl i) = h.fresh j p e (omega (arith, up, l)) s i
       fresh j p e l s (inr (k, i)) = lane j l (subst (λ (x : List ℕ). IsSuffix (j ∷ q) x) i s)
 
@@ -271,7 +290,7 @@ module _ {S : Type 0} (P : Program S) (main : Start S) (ms : MainStarts main) (z
       only x (inl i) = inl i
       only x (inr i) = inr (λ c m. subst (λ (w : ReleasedAt). IsReleased P y.state f.path c w.line) (sym (in_one i)) (released_here c clauses included e (subst (λ (w : ReleasedAt). in_clauses w.clauses c ≡ true) (in_one i) m)))
 
-      clauses_same : (a b : List Access) (i j : Bool) → ◌≡◌ {A = Act S} (Releases a i) (Releases b j) → a ≡ b
+      clauses_same : (a b : List Access) (i j : Bool) → ◌≡◌ {A = Act CodeScript} (Releases a i) (Releases b j) → a ≡ b
       clauses_same a b i j k = cc
 
       same : (c : ℕ) {line : ℕ} → ReleasesNow f.path c line → in_clauses clauses c ≡ true

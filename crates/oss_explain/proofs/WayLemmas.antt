@@ -30,11 +30,12 @@ use Rattle.oss_explain.specs.declared.begun.Noted.TheVariants as notes
 use Rattle.oss_explain.specs.declared.begun.ReleasedAt.{ReleasedAt}
 use Rattle.oss_explain.specs.declared.ledger.Ledger.{Ledger}
 use Rattle.oss_explain.specs.Ledgers.{AreAccesses, IsBegun, IsEnded, IsLentWhen, IsNoted, lends}
-use Rattle.oss_explanation.specs.Lives.{IsCreated, IsEventOf, hinders, waits_for}
+use Rattle.oss_explanation.specs.Lives.{IsEventOf, hinders, waits_for}
 use Rattle.oss_explain.specs.Noting.{AreHeldBy, AreOnWay, IsBorn, IsRight, RiseTo, at_child, at_main, hindering, in_ranges, may_hinder}
+use Rattle.oss_explain.specs.Ways.{entry_of}
 use Rattle.oss_explain.proofs.HinderingLemmas.{hindering_more, hinders_held, rise_more, rise_up}
 use Rattle.oss_explain.proofs.NotingLemmas as notings
-use Rattle.oss_explain.proofs.NotingLemmas.{IsQuiet, LendsNow, above_still, back, born_forth, created_here, held_cleared, held_more, held_still, none_released, one_released, right_next, right_still}
+use Rattle.oss_explain.proofs.NotingLemmas.{IsQuiet, LendsNow, above_still, back, born_forth, born_here, held_cleared, held_more, held_still, none_released, one_released, right_next, right_still}
 
 never : (b : Bool) → b ≡ true → b ≡ false → ⊥
 never b h k = let e : true ≡ false = sym h ∙ k in cc
@@ -68,7 +69,7 @@ module _ (P : Program CodeScript) (main : Start CodeScript) (ms : MainStarts mai
   top_next [] count more b rs ns rest p g (at_main h e) = at_main g e
   top_next (k ∷ q) count more b rs ns rest p g (at_child h born above) =
       let n = born_forth P main ms z y st r (k ∷ q) b born in
-      at_child g (record { context = n.context; created = n.created; accesses = n.accesses }) (above_still P main ms z y st r k q (subst (λ (x : List ℕ). IsSuffix (k ∷ q) x) p whole) above)
+      at_child g (record { context = n.context; created = n.created; accesses = n.accesses; entry = n.entry }) (above_still P main ms z y st r k q (subst (λ (x : List ℕ). IsSuffix (k ∷ q) x) p whole) above)
 
   -- an act of which nothing is noted
   way_still : (q : List ℕ) (count : ℕ) (b : Begun) (rest : List Begun) → q ≡ f.path → IsQuiet P main ms z y st r → AreOnWay P z.state q count (b ∷ rest) → AreOnWay P y.state q count (b ∷ rest)
@@ -190,9 +191,9 @@ module _ (P : Program CodeScript) (main : Start CodeScript) (ms : MainStarts mai
               let i : false ≡ included = included_same l.0 o false included (sym l.1.0 ∙ e) in
               never lends_it (lends_so (sym i) (ap (λ (x : Order CodeScript). x.when) (sym k) ∙ l.1.1)) none
 
-      lending_creator : (k : Child) → included ≡ false → o.when ≡ true → k.number ≡ count → k.line ≡ line_now → AreAccesses k.accesses born
+      lending_creator : (k : Child) → included ≡ false → o.when ≡ true → k.number ≡ count → k.line ≡ line_now → k.entry ≡ entry_of o.script → AreAccesses k.accesses born
           → IsRight P y.state f.path (count + 1) (record b { released = b.released; noted = b.noted ++ notes.Lent k ∷ [] })
-      lending_creator k i when number line accesses =
+      lending_creator k i when number line entry accesses =
           right_next P main ms z y st r f.path count (count + 1) b (record b { released = b.released; noted = b.noted ++ notes.Lent k ∷ [] }) refl
           (none_released P main ms z y st r f.path b.released (λ p. releases_none))
           (λ c touch. subst (λ (ks : List Child). AreHeldBy P y.state f.path c touch ks) (sym (hindering_more c touch [] b.noted (notes.Lent k))) (held c touch (may_hinder touch c k) refl))
@@ -207,7 +208,7 @@ module _ (P : Program CodeScript) (main : Start CodeScript) (ms : MainStarts mai
 
           held : (c : ℕ) (touch : Touch) (w : Bool) → may_hinder touch c k ≡ w → AreHeldBy P y.state f.path c touch (if w then hindering c touch b.noted ++ k ∷ [] else hindering c touch b.noted)
           held c touch true m =
-              held_more P main ms z y st r c touch (hindering c touch b.noted) k o outside when (waits_now c) number line accesses (sym (same c touch) ∙ m) (h.held c touch)
+              held_more P main ms z y st r c touch (hindering c touch b.noted) k o outside when (waits_now c) number line entry accesses (sym (same c touch) ∙ m) (h.held c touch)
           held c touch false m =
               held_still P main ms z y st r f.path c touch (hindering c touch b.noted) (λ p. waits_now c) (λ p. lends_not c touch (sym (same c touch) ∙ m)) (h.held c touch)
 
@@ -241,14 +242,8 @@ module _ (P : Program CodeScript) (main : Start CodeScript) (ms : MainStarts mai
           nothing : (x : ReleasedAt) → IsIn x [] → ⊥
           nothing x i = elim i [ ]
 
-    new_born : (k : Begun) → k.included ≡ included → k.line ≡ line_now → AreAccesses k.accesses born → IsBorn P y.state (count ∷ f.path) k
-    new_born k i l accesses =
-        record {
-          context = born;
-          created = subst (λ (x : Bool). IsCreated P y.state (count ∷ f.path) x k.line born) (sym i)
-              (subst (λ (x : ℕ). IsCreated P y.state (count ∷ f.path) included x born) (sym l) (created_here P main ms z y st r o included e));
-          accesses = accesses;
-        }
+    new_born : (k : Begun) → k.included ≡ included → k.line ≡ line_now → k.entry ≡ entry_of o.script → AreAccesses k.accesses born → IsBorn P y.state (count ∷ f.path) k
+    new_born k i line entry accesses = born_here P main ms z y st r o included k e i line entry accesses
 
     way_created : (b c k : Begun) (rest : List Begun) → (rs : List ReleasedAt) (ns : List Noted) → c ≡ record b { released = rs; noted = ns } → IsRight P y.state f.path (count + 1) (record b { released = rs; noted = ns })
         → IsRight P y.state (count ∷ f.path) 0 k → IsBorn P y.state (count ∷ f.path) k → AreOnWay P z.state f.path count (b ∷ rest) → AreOnWay P y.state (count ∷ f.path) 0 (k ∷ c ∷ rest)
@@ -329,7 +324,7 @@ module _ (P : Program CodeScript) (main : Start CodeScript) (ms : MainStarts mai
           subst (λ (xs : List Begun). AreOnWay P y.state (f.context.created ∷ f.path) 0 (m.top ∷ xs)) (sym (list ∙ ap (λ (xs : List Begun). g.between.top ∷ reverse xs) above))
           (way_created (meant_order creation.order) included (sym e) l.top g.between.top m.top (reverse l.above) rs ns top creator
           (new_right (meant_order creation.order) included (sym e) l.top (top_right f.path f.context.created l.top (reverse l.above) h) m.top point g.child.released g.child.noted)
-          (new_born (meant_order creation.order) included (sym e) m.top g.child.is_included g.child.on_line (born_as m.top.accesses g.child.accesses)) h)
+          (new_born (meant_order creation.order) included (sym e) m.top g.child.is_included g.child.on_line g.child.entry (born_as m.top.accesses g.child.accesses)) h)
 
       told : (i w : Bool) → (not i && w) ≡ true → (i ≡ false) × (w ≡ true)
       told true w k = absurd cc
@@ -343,7 +338,7 @@ module _ (P : Program CodeScript) (main : Start CodeScript) (ms : MainStarts mai
       go true k lent =
           let t = told included creation.order.when k in
           made l.top.released (l.top.noted ++ notes.Lent lent.child ∷ []) (ap (λ (x : Ledger). x.top) lent.added) (ap (λ (x : Ledger). x.above) lent.added)
-          (lending_creator (meant_order creation.order) included (sym e) l.top (top_right f.path f.context.created l.top (reverse l.above) h) lent.child t.0 t.1 lent.is.number_is lent.is.on_line (born_as lent.child.accesses lent.is.accesses))
+          (lending_creator (meant_order creation.order) included (sym e) l.top (top_right f.path f.context.created l.top (reverse l.above) h) lent.child t.0 t.1 lent.is.number_is lent.is.on_line lent.is.entry (born_as lent.child.accesses lent.is.accesses))
       go false k same =
           made l.top.released l.top.noted (ap (λ (x : Ledger). x.top) same) (ap (λ (x : Ledger). x.above) same)
           (plain_creator (meant_order creation.order) included (sym e) l.top (top_right f.path f.context.created l.top (reverse l.above) h) false refl (untold included creation.order.when false k))

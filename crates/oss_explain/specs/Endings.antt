@@ -20,16 +20,17 @@ use Rattle.oss_explain.specs.declared.ending.Ending.TheVariants as ending
 use Rattle.oss_explain.specs.declared.ending.Finish.{Finish}
 use Rattle.oss_explanation.specs.declared.explained.Explained.{Explained}
 use Rattle.oss_explanation.specs.Explanations.{IsExplained}
+use Rattle.oss_explain.specs.Ways.{entry_of}
 
--- The sequential run of the program, over these globals, ends so: it is done; or it comes to a fault of this kind on this line, and this explains it.
-pub data IsEnding {S : Type 0} (P : Program S) (main : Start S) (first : List ℕ) (all : List Item) : Ending → Type 0 where
+-- The sequential run of the program, over these globals, ends so: it is done; or it comes to a fault of this kind on this line, and this explains it. Bodies begin at these spots.
+pub data IsEnding {S : Type 0} (P : Program S) (spot : S → ℕ) (main : Start S) (first : List ℕ) (all : List Item) : Ending → Type 0 where
   done : {output cells : List ℕ} {tasks entries : ℕ} → IsOutcome P main first (record { answer = answers.Done output cells; tasks = tasks; entries = entries })
-      → IsEnding P main first all ending.Done
-  fault : {kind : FaultKind} {line : ℕ} {e : Explained} (is : IsExplained P main first all e) → is.kind ≡ kind → is.line ≡ line → IsEnding P main first all (ending.Fault kind line e)
+      → IsEnding P spot main first all ending.Done
+  fault : {kind : FaultKind} {line : ℕ} {e : Explained} (is : IsExplained P spot main first all e) → is.kind ≡ kind → is.line ≡ line → IsEnding P spot main first all (ending.Fault kind line e)
 
 -- The sequential run of the code, with this much fuel for each task, ends so.
 abbrev pub IsEndingOf : CodeParts → ℕ → List Item → Ending → Type 0
-IsEndingOf code fuel all e = IsEnding (asks code) (code_main code fuel) code.first all e
+IsEndingOf code fuel all e = IsEnding (asks code) entry_of (code_main code fuel) code.first all e
 
 -- what failed where this task of a code stands before a failure
 abbrev pub failed_in : CodeParts → Frame CodeScript → Option Failure

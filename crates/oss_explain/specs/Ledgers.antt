@@ -1,5 +1,5 @@
 -- What is noted on the way of a run, and what an act makes of it.
--- Read against: behind the creation of a task with `out(x)` by main that task is noted, with the line and the access, and main above it; of main it is noted that cells are lent to child 0. Behind
+-- Read against: behind the creation of a task with `out(x)` by main that task is noted, with the line, the instruction with which its body begins and the access, and main above it; of main it is noted that cells are lent to child 0. Behind
 -- the end of the task main alone is there, with this note, and behind a taskwait without it. A child of a false `if`, and one that is included, leave no note.
 use Rattle.std.specs.Prelude.{◌≡◌, ◌<◌, ◌⊎◌, ℕ, ◌&&◌, Bool, true, false, not, List, [], ◌∷◌, ◌++◌, length}
 use Rattle.oss_syntax.specs.declared.access.Access.{Access}
@@ -34,6 +34,7 @@ pub record IsFirst (main : Begun) : Type 0 where
 pub record IsChild (creation : Creation) (included : Bool) (line number : ℕ) (creator child : Begun) : Type 0 where
   pub point : child.point ≡ creator.point ++ number ∷ []
   pub on_line : child.line ≡ line
+  pub entry : child.entry ≡ creation.order.entry
   pub is_included : child.included ≡ included
   pub accesses : AreAccesses child.accesses (context_of creation)
   pub released : child.released ≡ []
@@ -43,6 +44,7 @@ pub record IsChild (creation : Creation) (included : Bool) (line number : ℕ) (
 pub record IsChildNoted (creation : Creation) (line number : ℕ) (child : Child) : Type 0 where
   pub number_is : child.number ≡ number
   pub on_line : child.line ≡ line
+  pub entry : child.entry ≡ creation.order.entry
   pub accesses : AreAccesses child.accesses (context_of creation)
 
 -- The ledger with these notes of the task that acts.

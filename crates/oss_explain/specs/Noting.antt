@@ -37,6 +37,7 @@ use Rattle.oss_explain.specs.declared.ledger.Ledger.{Ledger}
 use Rattle.oss_explain.specs.declared.run.End.{End}
 use Rattle.oss_explain.specs.declared.run.End.TheVariants as end
 use Rattle.oss_explain.specs.Ledgers.{AreAccesses}
+use Rattle.oss_explain.specs.Ways.{entry_of}
 use Rattle.oss_explanation.specs.Lives.{IsCreated, IsEventOf, IsHolder, IsReleased, hinders}
 
 -- Children that hinder
@@ -71,34 +72,36 @@ RiseTo n (k ∷ j ∷ more) = (k.number < j.number) × RiseTo n (j ∷ more)
 
 -- What is noted is right
 
--- The child is a holder of the cell, and its accesses are noted.
-pub record IsHeldBy {S : Type 0} (P : Program S) (s : State S) (q : List ℕ) (c : ℕ) (touch : Touch) (k : Child) : Type 0 where
+-- The child is a holder of the cell, and its accesses are noted, and where its body begins.
+pub record IsHeldBy (P : Program CodeScript) (s : State CodeScript) (q : List ℕ) (c : ℕ) (touch : Touch) (k : Child) : Type 0 where
   pub context : Context
   pub holder : IsHolder P s q c touch k.number k.line context
   pub accesses : AreAccesses k.accesses context
+  pub entry : k.entry ≡ entry_of holder.order.script
 
 -- These children, and no others, are the holders of the cell.
-pub record AreHeldBy {S : Type 0} (P : Program S) (s : State S) (q : List ℕ) (c : ℕ) (touch : Touch) (ks : List Child) : Type 0 where
+pub record AreHeldBy (P : Program CodeScript) (s : State CodeScript) (q : List ℕ) (c : ℕ) (touch : Touch) (ks : List Child) : Type 0 where
   pub only : (k : Child) → IsIn k ks → IsHeldBy P s q c touch k
   pub all : (j n : ℕ) (x : Context) → IsHolder P s q c touch j n x → (k : Child) × (IsIn k ks × (k.number ≡ j))
 
 -- What is noted of the task at this path, which has created so many, is right. No task is below the next one that it would create.
-pub record IsRight {S : Type 0} (P : Program S) (s : State S) (q : List ℕ) (count : ℕ) (b : Begun) : Type 0 where
+pub record IsRight (P : Program CodeScript) (s : State CodeScript) (q : List ℕ) (count : ℕ) (b : Begun) : Type 0 where
   pub point : b.point ≡ written q
   pub released : (r : ReleasedAt) → IsIn r b.released → (c : ℕ) → in_clauses r.clauses c ≡ true → IsReleased P s q c r.line
   pub all_released : (c line : ℕ) → IsReleased P s q c line → (r : ReleasedAt) × (IsIn r b.released × (in_clauses r.clauses c ≡ true))
   pub held : (c : ℕ) (touch : Touch) → AreHeldBy P s q c touch (hindering c touch b.noted)
   pub rise : (c : ℕ) (touch : Touch) → RiseTo count (hindering c touch b.noted)
-  pub fresh : (j : ℕ) (r : List ℕ) (e : Event S) → count ≤ j → IsSuffix (j ∷ q) r → IsEventOf P s r e → ⊥
+  pub fresh : (j : ℕ) (r : List ℕ) (e : Event CodeScript) → count ≤ j → IsSuffix (j ∷ q) r → IsEventOf P s r e → ⊥
 
 -- How the task at this path came to be is noted.
-pub record IsBorn {S : Type 0} (P : Program S) (s : State S) (q : List ℕ) (b : Begun) : Type 0 where
+pub record IsBorn (P : Program CodeScript) (s : State CodeScript) (q : List ℕ) (b : Begun) : Type 0 where
   pub context : Context
   pub created : IsCreated P s q b.included b.line context
   pub accesses : AreAccesses b.accesses context
+  pub entry : b.entry ≡ entry_of created.order.script
 
 -- What is noted of the task at this path, which has created so many, and of those above it, the innermost first. The last task that each but the first has created is the one before it.
-pub data AreOnWay {S : Type 0} (P : Program S) (s : State S) : List ℕ → ℕ → List Begun → Type 0 where
+pub data AreOnWay (P : Program CodeScript) (s : State CodeScript) : List ℕ → ℕ → List Begun → Type 0 where
   at_main : {count : ℕ} {b : Begun} → IsRight P s [] count b → b.accesses ≡ [] → AreOnWay P s [] count (b ∷ [])
   at_child : {k : ℕ} {q : List ℕ} {count : ℕ} {b : Begun} {rest : List Begun} → IsRight P s (k ∷ q) count b → IsBorn P s (k ∷ q) b → AreOnWay P s q (k + 1) rest
       → AreOnWay P s (k ∷ q) count (b ∷ rest)

@@ -25,6 +25,7 @@ use Rattle.oss_explanation.specs.Held.{AreFailing}
 use Rattle.oss_explanation.specs.Lives.{told_later}
 use Rattle.oss_explain.specs.Noting.{IsRight, hindering}
 use Rattle.oss_explain.specs.Owned.{own_of}
+use Rattle.oss_explain.specs.Ways.{entry_of}
 
 -- the touch that is told so
 abbrev pub touch_seen : Touching → Touch
@@ -60,7 +61,7 @@ pub record IsAccounted (x : Context) (b : Begun) : Type 0 where
 -- This is the reason of each task with this context that asks this, if what is noted of the task is right.
 abbrev pub IsReasonOf : List Item → Context → Begun → FaultKind → Ask CodeScript → Reason → Type 0
 IsReasonOf all x b kind ask reason =
-    (P : Program CodeScript) (s : State CodeScript) (f : Frame CodeScript) (count : ℕ) → f.context ≡ x → IsRight P s f.path count b → IsReason P s all f (own_of b.accesses) kind ask reason
+    (P : Program CodeScript) (s : State CodeScript) (f : Frame CodeScript) (count : ℕ) → f.context ≡ x → IsRight P s f.path count b → IsReason P entry_of s all f (own_of b.accesses) kind ask reason
 
 -- The cell was released on this line.
 abbrev pub IsReleasedOn : List ReleasedAt → ℕ → ℕ → Type 0
@@ -87,7 +88,7 @@ pub record IsLentTo (cell : ℕ) (point : List ℕ) (ks : List Child) (reason : 
   pub word_is : own_of first.accesses cell ≡ Some word
   pub later : Later
   pub later_is : (path : List ℕ) → point ≡ written path → later ≡ told_later path (map number_of others)
-  pub is : reason ≡ reasons.Lent cell (point ++ first.number ∷ []) first.line word later
+  pub is : reason ≡ reasons.Lent cell (point ++ first.number ∷ []) first.line first.entry word later
 
 -- An ask that may come to a fault: each but a taskwait, a print and the end.
 abbrev pub MayFail : {S : Type 0} → Ask S → Type 0

@@ -11,6 +11,8 @@ use std::alloc::{AllocError, Global};
 pub(crate) struct Child {
     pub(crate) number: u16,
     pub(crate) line: u32,
+    /// The instruction with which its body begins.
+    pub(crate) entry: u32,
     pub(crate) accesses: List<Access>,
 }
 
@@ -20,6 +22,7 @@ impl Drop for Child {
         let Child {
             number: _,
             line: _,
+            entry: _,
             accesses,
         } = self;
         drop(accesses);
@@ -54,6 +57,8 @@ pub(crate) struct Begun {
     pub(crate) point: Point,
     /// The line of its creation.
     pub(crate) line: u32,
+    /// The instruction with which its body begins. Of main it is not told.
+    pub(crate) entry: u32,
     /// It runs in the body of its creator.
     pub(crate) included: bool,
     /// What it started with: main has no clause, and so none.
@@ -70,6 +75,7 @@ impl Drop for Begun {
         let Begun {
             point,
             line: _,
+            entry: _,
             included: _,
             accesses,
             released,
@@ -92,6 +98,7 @@ impl Begun {
         Ok(Begun {
             point: Point::main(alloc)?,
             line: 0,
+            entry: 0,
             included: false,
             accesses: List::new(alloc),
             released: List::new(alloc),
@@ -117,6 +124,7 @@ impl Begun {
             Ok(point) => Ok(Begun {
                 point,
                 line,
+                entry: creation.order.entry,
                 included,
                 accesses,
                 released: List::new(alloc),

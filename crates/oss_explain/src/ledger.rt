@@ -89,6 +89,7 @@ impl Ledger {
         self.top.noted.push(Noted::Lent(Child {
             number,
             line,
+            entry: creation.order.entry,
             accesses,
         }))
     }

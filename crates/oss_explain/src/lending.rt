@@ -65,6 +65,7 @@ fn lent_by(
             cell,
             child,
             line: first.line,
+            entry: first.entry,
             word,
             later,
         }),

@@ -124,11 +124,13 @@ fn chain_of(alloc: Global, ledger: &Ledger) -> Result<List<Link>, AllocError>
 
 /// How a task came to be.
 fn link(begun: &Begun) -> Result<Link, AllocError>
-    ensures { IfOk result (λ link. link ≡ record { task = begun.now.point; line = begun.now.line; included = begun.now.included }) }
+    ensures { IfOk result (λ link. link ≡ record {
+        task = begun.now.point; line = begun.now.line; entry = begun.now.entry; included = begun.now.included }) }
 {
     Ok(Link {
         task: begun.point.copy()?,
         line: begun.line,
+        entry: begun.entry,
         included: begun.included,
     })
 }

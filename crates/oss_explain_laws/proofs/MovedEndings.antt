@@ -34,6 +34,7 @@ use Rattle.oss_explain.specs.declared.ending.Ending.{Ending}
 use Rattle.oss_explanation.specs.declared.explained.Explained.{Explained}
 use Rattle.oss_explain.specs.Endings.{IsEnding}
 use Rattle.oss_explain.specs.Endings.IsEnding.{done, fault}
+use Rattle.oss_explain.specs.Ways.{entry_of}
 use Rattle.oss_explanation.specs.Explanations.{Explains, IsExplained}
 use Rattle.oss_explanation.specs.Lives.{actor, line_at}
 use Rattle.oss_explain_laws.specs.Claims.{EndingsAlike}
@@ -41,13 +42,17 @@ use Rattle.oss_explain_laws.proofs.Alike.{ActsAlike, AsksAlike, EventsAlike, Mat
 
 -- Moved acts and asks
 
-order_forth : (places : TaskBody → ℕ) (o : Order TreeScript) → OrdersAlike o (moved_order places o)
-order_forth places o = record { clauses = refl; when = refl; last = refl }
+-- the spot of a body of the program is its place
+abbrev spot_by : (TaskBody → ℕ) → TreeScript → ℕ
+spot_by places s = places s.body
 
-order_back : (places : TaskBody → ℕ) (o : Order TreeScript) → OrdersAlike (moved_order places o) o
-order_back places o = record { clauses = refl; when = refl; last = refl }
+order_forth : (places : TaskBody → ℕ) (o : Order TreeScript) → OrdersAlike (spot_by places) entry_of o (moved_order places o)
+order_forth places o = record { clauses = refl; when = refl; last = refl; named = refl }
 
-act_forth : (places : TaskBody → ℕ) (a : Act TreeScript) → ActsAlike a (moved_act places a)
+order_back : (places : TaskBody → ℕ) (o : Order TreeScript) → OrdersAlike entry_of (spot_by places) (moved_order places o) o
+order_back places o = record { clauses = refl; when = refl; last = refl; named = refl }
+
+act_forth : (places : TaskBody → ℕ) (a : Act TreeScript) → ActsAlike (spot_by places) entry_of a (moved_act places a)
 act_forth places Ticked = ActsAlike.ticked
 act_forth places (Load c) = ActsAlike.load
 act_forth places (Store c v) = ActsAlike.store
@@ -62,7 +67,7 @@ act_forth places Ended = ActsAlike.ended
 act_forth places (Fault kind line key) = ActsAlike.fault
 act_forth places Over = ActsAlike.over
 
-act_back : (places : TaskBody → ℕ) (a : Act TreeScript) → ActsAlike (moved_act places a) a
+act_back : (places : TaskBody → ℕ) (a : Act TreeScript) → ActsAlike entry_of (spot_by places) (moved_act places a) a
 act_back places Ticked = ActsAlike.ticked
 act_back places (Load c) = ActsAlike.load
 act_back places (Store c v) = ActsAlike.store
@@ -77,7 +82,7 @@ act_back places Ended = ActsAlike.ended
 act_back places (Fault kind line key) = ActsAlike.fault
 act_back places Over = ActsAlike.over
 
-ask_forth : (places : TaskBody → ℕ) (a : Ask TreeScript) → AsksAlike a (moved_ask places a)
+ask_forth : (places : TaskBody → ℕ) (a : Ask TreeScript) → AsksAlike (spot_by places) entry_of a (moved_ask places a)
 ask_forth places Begin = AsksAlike.begin
 ask_forth places Tick = AsksAlike.tick
 ask_forth places (Read c) = AsksAlike.read
@@ -92,7 +97,7 @@ ask_forth places (Print text) = AsksAlike.print
 ask_forth places End = AsksAlike.end
 ask_forth places (Fails kind) = AsksAlike.fails
 
-ask_back : (places : TaskBody → ℕ) (a : Ask TreeScript) → AsksAlike (moved_ask places a) a
+ask_back : (places : TaskBody → ℕ) (a : Ask TreeScript) → AsksAlike entry_of (spot_by places) (moved_ask places a) a
 ask_back places Begin = AsksAlike.begin
 ask_back places Tick = AsksAlike.tick
 ask_back places (Read c) = AsksAlike.read
@@ -148,6 +153,9 @@ module _ (all : List Item) (code : CodeParts) (of : IsCodeOf all code) where
   abbrev Q : Program CodeScript
   Q = asks code
 
+  abbrev spot : TreeScript → ℕ
+  spot = spot_by of.places
+
   abbrev pub moved_event : Event TreeScript → Event CodeScript
   moved_event e = record { start = moved_start of.places e.start; past = e.past; answer = e.answer }
 
@@ -160,31 +168,31 @@ module _ (all : List Item) (code : CodeParts) (of : IsCodeOf all code) where
   asked_is : (b : Start TreeScript) (past : List ℕ) → ask_of Q (acting Q (moved_start of.places b) past) ≡ moved_asked of.places (ask_of P (acting P b past))
   asked_is b past = ap (λ (f : Frame CodeScript). ask_of Q f) (acting_is b past) ∙ ask_is (acting P b past)
 
-  pub event_forth : (e : Event TreeScript) → EventsAlike P Q e (moved_event e)
+  pub event_forth : (e : Event TreeScript) → EventsAlike spot entry_of P Q e (moved_event e)
   event_forth e = record {
     past = refl;
     context = sym (ap (λ (f : Frame CodeScript). f.context) (acting_is e.start e.past));
     path = sym (ap (λ (f : Frame CodeScript). f.path) (acting_is e.start e.past));
     on_line = sym (ap (λ (a : Asked CodeScript). a.line) (asked_is e.start e.past));
-    act = subst (λ (a : Act CodeScript). ActsAlike (stage_act P e.start e.past) a) (sym (acts_alike all code of e.start e.past)) (act_forth of.places (stage_act P e.start e.past));
+    act = subst (λ (a : Act CodeScript). ActsAlike spot entry_of (stage_act P e.start e.past) a) (sym (acts_alike all code of e.start e.past)) (act_forth of.places (stage_act P e.start e.past));
   }
 
-  event_back : (e : Event TreeScript) → EventsAlike Q P (moved_event e) e
+  event_back : (e : Event TreeScript) → EventsAlike entry_of spot Q P (moved_event e) e
   event_back e = record {
     past = refl;
     context = ap (λ (f : Frame CodeScript). f.context) (acting_is e.start e.past);
     path = ap (λ (f : Frame CodeScript). f.path) (acting_is e.start e.past);
     on_line = ap (λ (a : Asked CodeScript). a.line) (asked_is e.start e.past);
-    act = subst (λ (a : Act CodeScript). ActsAlike a (stage_act P e.start e.past)) (sym (acts_alike all code of e.start e.past)) (act_back of.places (stage_act P e.start e.past));
+    act = subst (λ (a : Act CodeScript). ActsAlike entry_of spot a (stage_act P e.start e.past)) (sym (acts_alike all code of e.start e.past)) (act_back of.places (stage_act P e.start e.past));
   }
 
   pub happened_forth : (s : State TreeScript) (e : Event TreeScript) → Happened s e → Happened (moved_state of.places s) (moved_event e)
   happened_forth s e h = record { task = moved_task of.places h.task; at_ = at_moved of.places s e.start.path h.task h.at_; start = ap (moved_start of.places) h.start; found = h.found }
 
-  matched_back : (s : State TreeScript) (g : Event CodeScript) → Happened (moved_state of.places s) g → Matched Q P s g
+  matched_back : (s : State TreeScript) (g : Event CodeScript) → Happened (moved_state of.places s) g → Matched entry_of spot Q P s g
   matched_back s g h = go (find s.tasks g.start.path) refl
     where
-      go : (x : Option (Task TreeScript)) → find s.tasks g.start.path ≡ x → Matched Q P s g
+      go : (x : Option (Task TreeScript)) → find s.tasks g.start.path ≡ x → Matched entry_of spot Q P s g
       go None m = let k : Some h.task ≡ None = sym h.at_ ∙ find_is of.places s.tasks g.start.path ∙ ap (option_map (moved_task of.places)) m in absurd cc
       go (Some t) m =
           let k : moved_task of.places t ≡ h.task = at_same (moved_state of.places s) g.start.path (moved_task of.places t) h.task (at_moved of.places s g.start.path t m) h.at_ in
@@ -195,10 +203,10 @@ module _ (all : List Item) (code : CodeParts) (of : IsCodeOf all code) where
           record {
             event = e;
             happened = record { task = t; at_ = subst (λ (x : List ℕ). find s.tasks x ≡ Some t) p m; start = refl; found = subst (λ (x : Task CodeScript). IsSuffix (g.answer ∷ g.past) x.body.found) (sym k) h.found };
-            alike = subst (λ (x : Event CodeScript). EventsAlike Q P x e) one (event_back e);
+            alike = subst (λ (x : Event CodeScript). EventsAlike entry_of spot Q P x e) one (event_back e);
           }
 
-  pub moved_alike : (s : State TreeScript) → StatesAlike P Q s (moved_state of.places s)
+  pub moved_alike : (s : State TreeScript) → StatesAlike spot entry_of P Q s (moved_state of.places s)
   moved_alike s = record {
     there = λ e h. record { event = moved_event e; happened = happened_forth s e h; alike = event_forth e };
     back = λ g h. matched_back s g h;
@@ -215,7 +223,7 @@ module _ (all : List Item) (code : CodeParts) (of : IsCodeOf all code) where
   }
 
   module _ (main : Start TreeScript) (cells : List ℕ) where
-    explained_forth : (e : Explained) → IsExplained P main cells all e → IsExplained Q (moved_start of.places main) cells all e
+    explained_forth : (e : Explained) → IsExplained P spot main cells all e → IsExplained Q entry_of (moved_start of.places main) cells all e
     unfolding end_is
     explained_forth e is =
         let b = is.end.task.body in
@@ -231,10 +239,10 @@ module _ (all : List Item) (code : CodeParts) (of : IsCodeOf all code) where
           fails = act_is b ∙ ap (moved_act of.places) is.fails;
           explains = explains_there P Q is.stage.state (moved_state of.places is.stage.state) (moved_alike is.stage.state) all f h is.kind is.line e
               (sym (ap (λ (x : Frame CodeScript). x.context) (acting_is b.start b.found))) (sym (ap (λ (x : Frame CodeScript). x.path) (acting_is b.start b.found)))
-              (subst (λ (x : Asked CodeScript). AsksAlike (ask_of P f).ask x.ask) (sym (asked_is b.start b.found)) (ask_forth of.places (ask_of P f).ask)) is.explains;
+              (subst (λ (x : Asked CodeScript). AsksAlike spot entry_of (ask_of P f).ask x.ask) (sym (asked_is b.start b.found)) (ask_forth of.places (ask_of P f).ask)) is.explains;
         }
 
-    ending_forth : (e : Ending) → IsEnding P main cells all e → IsEnding Q (moved_start of.places main) cells all e
+    ending_forth : (e : Ending) → IsEnding P spot main cells all e → IsEnding Q entry_of (moved_start of.places main) cells all e
     unfolding explained_forth
     ending_forth _ (done o) = done (outcome_alike all code of _ o)
     ending_forth _ (fault {e = e} is k l) = fault (explained_forth e is) k l
@@ -242,11 +250,11 @@ module _ (all : List Item) (code : CodeParts) (of : IsCodeOf all code) where
     module _ (setting : Setting main cells) where
       -- an explanation that tells of this fault
       record Told (e : Explained) (kind : FaultKind) (line : ℕ) : Type 0 where
-        is : IsExplained P main cells all e
+        is : IsExplained P spot main cells all e
         of_kind : is.kind ≡ kind
         on_line : is.line ≡ line
 
-      told_at_end : (e : Explained) (is : IsExplained Q (moved_start of.places main) cells all e) (o : Outcome) → IsOutcome P main cells o → Told e is.kind is.line
+      told_at_end : (e : Explained) (is : IsExplained Q entry_of (moved_start of.places main) cells all e) (o : Outcome) → IsOutcome P main cells o → Told e is.kind is.line
       unfolding end_is
       told_at_end e is _ (outcome_ends {z = y} run stop over) =
           let same = one_end Q (sequential_alike all code of run) (end_is y stop) is.run is.end in
@@ -264,13 +272,13 @@ module _ (all : List Item) (code : CodeParts) (of : IsCodeOf all code) where
           let b = stop.task.body in
           let f = acting P b.start b.found in
           let g = acting Q (moved_start of.places b.start) b.found in
-          let told : Explains Q is.stage.state all g is.kind is.line e = subst (λ (x : Task CodeScript). Explains Q is.stage.state all (acting Q x.body.start x.body.found) is.kind is.line e) (sym k) is.explains in
-          let moved : Explains Q (moved_state of.places y.state) all g is.kind is.line e =
-          explains_there Q Q is.stage.state (moved_state of.places y.state) (listed_alike Q is.stage.state (moved_state of.places y.state) (λ p. sym (same.found p))) all g g is.kind is.line e refl refl (ask_self (ask_of Q g).ask) told in
-          let own : Explains P y.state all f is.kind is.line e =
+          let told : Explains Q entry_of is.stage.state all g is.kind is.line e = subst (λ (x : Task CodeScript). Explains Q entry_of is.stage.state all (acting Q x.body.start x.body.found) is.kind is.line e) (sym k) is.explains in
+          let moved : Explains Q entry_of (moved_state of.places y.state) all g is.kind is.line e =
+          explains_there Q Q is.stage.state (moved_state of.places y.state) (listed_alike entry_of Q is.stage.state (moved_state of.places y.state) (λ p. sym (same.found p))) all g g is.kind is.line e refl refl (ask_self entry_of (ask_of Q g).ask) told in
+          let own : Explains P spot y.state all f is.kind is.line e =
           explains_there Q P (moved_state of.places y.state) y.state (turned (moved_alike y.state)) all g f is.kind is.line e
           (ap (λ (x : Frame CodeScript). x.context) (acting_is b.start b.found)) (ap (λ (x : Frame CodeScript). x.path) (acting_is b.start b.found))
-          (subst (λ (x : Asked CodeScript). AsksAlike x.ask (ask_of P f).ask) (sym (asked_is b.start b.found)) (ask_back of.places (ask_of P f).ask)) moved in
+          (subst (λ (x : Asked CodeScript). AsksAlike entry_of spot x.ask (ask_of P f).ask) (sym (asked_is b.start b.found)) (ask_back of.places (ask_of P f).ask)) moved in
           record {
             is = record { stage = y; run = run; end = stop; kind = is.kind; line = is.line; key = is.key; fails = fails ∙ fault_there kind is.kind line is.line key is.key one; explains = own };
             of_kind = refl;
@@ -280,7 +288,7 @@ module _ (all : List Item) (code : CodeParts) (of : IsCodeOf all code) where
           fault_there : (j k : FaultKind) (l m : ℕ) (p q : List ℕ) → ◌≡◌ {A = Act CodeScript} (Fault j l p) (Fault k m q) → ◌≡◌ {A = Act TreeScript} (Fault j l p) (Fault k m q)
           fault_there j k l m p q e = cc
 
-      ending_back : (e : Ending) → IsEnding Q (moved_start of.places main) cells all e → IsEnding P main cells all e
+      ending_back : (e : Ending) → IsEnding Q entry_of (moved_start of.places main) cells all e → IsEnding P spot main cells all e
       ending_back _ (done o) = done ((outcomes_alike all code of main cells setting _).1 o)
       ending_back _ (fault {e = e} is k l) =
           let own = (run_has_one (asks_of all) main cells setting (programs_are_lively all code of)).some in
@@ -290,7 +298,7 @@ module _ (all : List Item) (code : CodeParts) (of : IsCodeOf all code) where
 pub endings_alike : EndingsAlike
 endings_alike all code of words fuel e =
     let from = start_is all code of fuel in
-    let there : Start CodeScript → List ℕ → Type 0 = λ main cells. IsEnding (asks code) main cells all e in (
+    let there : Start CodeScript → List ℕ → Type 0 = λ main cells. IsEnding (asks code) entry_of main cells all e in (
       λ h. subst (λ cells. there (code_main code fuel) cells) (sym of.first) (subst (λ main. there main (first_cells all)) from (ending_forth all code of (main_of all fuel) (first_cells all) e h)),
       λ h. ending_back all code of (main_of all fuel) (first_cells all) (main_setting all fuel (subst AreWords of.first words)) e
           (subst (λ main. there main (first_cells all)) (sym from) (subst (λ cells. there (code_main code fuel) cells) of.first h)),

@@ -185,6 +185,12 @@ module _ {S : Type 0} (P : Program S) (main : Start S) (s : State S) (made : IsM
         h.context ∙ (λ n. child_context (acting P (same.0 n) (same.1 n)).context (orders.0 n).clauses (orders.0 n).last) ∙ sym k.context,
       )
 
+  -- and by one order
+  pub one_order : (q : List ℕ) (i j : Bool) (line other : ℕ) (x y : Context) (h : IsCreated P s q i line x) (k : IsCreated P s q j other y) → h.order ≡ k.order
+  one_order q i j line other x y h k =
+      let same = one_creation h.event k.event h.happened k.happened h.order k.order i j h.creates k.creates (sym h.path ∙ k.path) in
+      (created_one h.order k.order i j (sym h.creates ∙ (λ n. stage_act P (same.0 n) (same.1 n)) ∙ k.creates)).0
+
   -- and so was the child that holds a cell
   pub one_holder : (q : List ℕ) (c : ℕ) (touch : Touch) (k line other : ℕ) (x y : Context) → IsHolder P s q c touch k line x → IsHolder P s q c touch k other y → (line ≡ other) × (x ≡ y)
   one_holder q c touch k line other x y h g =
@@ -194,3 +200,10 @@ module _ {S : Type 0} (P : Program S) (main : Start S) (s : State S) (made : IsM
         h.on_line ∙ (λ n. (ask_of P (acting P (same.0 n) (same.1 n))).line) ∙ sym g.on_line,
         h.context ∙ (λ n. child_context (acting P (same.0 n) (same.1 n)).context (orders.0 n).clauses (orders.0 n).last) ∙ sym g.context,
       )
+
+  -- whatever cell it holds
+  pub one_held_order : (q : List ℕ) (c d : ℕ) (touch other : Touch) (k j line n : ℕ) (x y : Context) → k ≡ j → (h : IsHolder P s q c touch k line x) (g : IsHolder P s q d other j n y) → h.order ≡ g.order
+  one_held_order q c d touch other k j line n x y e h g =
+      let path : (actor P h.event).context.created ∷ (actor P h.event).path ≡ (actor P g.event).context.created ∷ (actor P g.event).path = λ i. (sym h.number ∙ e ∙ g.number) i ∷ (h.own.path ∙ sym g.own.path) i in
+      let same = one_creation h.event g.event h.own.happened g.own.happened h.order g.order false false h.creates g.creates path in
+      (created_one h.order g.order false false (sym h.creates ∙ (λ i. stage_act P (same.0 i) (same.1 i)) ∙ g.creates)).0

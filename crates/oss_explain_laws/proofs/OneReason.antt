@@ -23,7 +23,7 @@ use Rattle.oss_explanation.specs.Explanations.{AsksTouch, IsMiss, IsReason, name
 use Rattle.oss_explanation.specs.Held.{AreFailing, clause_words, once, word_in, word_of}
 use Rattle.oss_explanation.specs.Lives.{AreHolders, HasWords, IsChain, IsHolder, IsReleased, RisesFrom, at_child, at_main, of_child, of_main, told_later}
 use Rattle.oss_explanation.proofs.OneLemmas.{one_failing}
-use Rattle.oss_explain_laws.proofs.OneEvent.{one_created, one_holder}
+use Rattle.oss_explain_laws.proofs.OneEvent.{one_created, one_held_order, one_holder, one_order}
 use Rattle.oss_explain_laws.proofs.OneRelease.{one_released}
 
 -- Rising numbers
@@ -84,8 +84,8 @@ one_touch _ _ _ _ _ AsksTouch.reads AsksTouch.reads = (refl, refl)
 one_touch _ _ _ _ _ AsksTouch.writes AsksTouch.writes = (refl, refl)
 one_touch _ _ _ _ _ AsksTouch.folds AsksTouch.folds = (refl, refl)
 
-link_is : (l m : Link) → l.task ≡ m.task → l.line ≡ m.line → l.included ≡ m.included → l ≡ m
-link_is l m a b c i = record { task = a i; line = b i; included = c i }
+link_is : (l m : Link) → l.task ≡ m.task → l.line ≡ m.line → l.entry ≡ m.entry → l.included ≡ m.included → l ≡ m
+link_is l m a b c d i = record { task = a i; line = b i; entry = c i; included = d i }
 
 one_fold : (r : Right) (o p : Op) → r ≡ Holds (Folding o) true → r ≡ Holds (Folding p) true → o ≡ p
 one_fold r o p e g = cc
@@ -114,17 +114,18 @@ both_true : (a b : Bool) → (a && b) ≡ true → b ≡ true
 both_true true b h = h
 both_true false b h = absurd cc
 
-module _ {S : Type 0} (P : Program S) (main : Start S) (s : State S) (made : IsMade P main s) where
+module _ {S : Type 0} (P : Program S) (spot : S → ℕ) (main : Start S) (s : State S) (made : IsMade P main s) where
   pub one_words : (q : List ℕ) (own other : ℕ → Option Word) → HasWords P s q own → HasWords P s q other → own ≡ other
   one_words _ _ _ of_main of_main = refl
   one_words _ _ _ (of_child {k} {q} {included} {line} {x} h) (of_child {included = i} {line = l} {x = y} g) =
       ap (λ (z : Context). word_in z) (one_created P main s made (k ∷ q) included i line l x y h g).2
 
-  pub one_chain : (q : List ℕ) (ls ms : List Link) → IsChain P s q ls → IsChain P s q ms → ls ≡ ms
+  pub one_chain : (q : List ℕ) (ls ms : List Link) → IsChain P spot s q ls → IsChain P spot s q ms → ls ≡ ms
   one_chain _ _ _ at_main at_main = refl
-  one_chain _ _ _ (at_child {k} {q} {x} {links} l e h rest) (at_child {x = y} {links = others} m g i more) =
+  one_chain _ _ _ (at_child {k} {q} {x} {links} l e h named rest) (at_child {x = y} {links = others} m g i told more) =
       let same = one_created P main s made (k ∷ q) l.included m.included l.line m.line x y h i in
-      let link = link_is l m (e ∙ sym g) same.1 same.0 in
+      let entry : l.entry ≡ m.entry = named ∙ ap (λ (o : Order S). spot o.script) (one_order P main s made (k ∷ q) l.included m.included l.line m.line x y h i) ∙ sym told in
+      let link = link_is l m (e ∙ sym g) same.1 entry same.0 in
       let tail = one_chain q links others rest more in
       λ n. link n ∷ tail n
 
@@ -161,7 +162,7 @@ module _ {S : Type 0} (P : Program S) (main : Start S) (s : State S) (made : IsM
     f = acting P t.body.start t.body.found
 
     -- of a failure of the program's own meaning its kind tells the reason
-    failure_is : (own : ℕ → Option Word) (kind j : FaultKind) (u : Reason) → IsReason P s all f own kind (Fails j) u → u ≡ told_failure kind
+    failure_is : (own : ℕ → Option Word) (kind j : FaultKind) (u : Reason) → IsReason P spot s all f own kind (Fails j) u → u ≡ told_failure kind
     unfolding told_failure
     failure_is own kind _ _ (IsReason.place m) = plain_is kind m
     failure_is own _ _ _ IsReason.frames = refl
@@ -170,10 +171,10 @@ module _ {S : Type 0} (P : Program S) (main : Start S) (s : State S) (made : IsM
     failure_is own _ _ _ (IsReason.released {cells = cells} a h) = absurd (never a.fails)
     failure_is own _ _ _ (IsReason.no_right a) = elim a [ ]
     failure_is own _ _ _ (IsReason.reduction a h) = elim a [ ]
-    failure_is own _ _ _ (IsReason.lent a h e) = elim a [ ]
+    failure_is own _ _ _ (IsReason.lent a h n e) = elim a [ ]
     failure_is own _ _ _ (IsReason.unwritten a) = elim a [ ]
 
-    pub one_reason : (own : ℕ → Option Word) (kind : FaultKind) (ask : Ask S) (r u : Reason) → IsReason P s all f own kind ask r → IsReason P s all f own kind ask u → r ≡ u
+    pub one_reason : (own : ℕ → Option Word) (kind : FaultKind) (ask : Ask S) (r u : Reason) → IsReason P spot s all f own kind ask r → IsReason P spot s all f own kind ask u → r ≡ u
     unfolding told_failure
     one_reason own _ _ _ _ IsReason.fuel IsReason.fuel = refl
     one_reason own kind _ _ u (IsReason.place m) d = plain_is kind m ∙ sym (failure_is own kind kind u d)
@@ -188,7 +189,7 @@ module _ {S : Type 0} (P : Program S) (main : Start S) (s : State S) (made : IsM
     one_reason own _ _ _ _ (IsReason.released {cells = cells} a h) (IsReason.place m) = absurd (never a.fails)
     one_reason own _ _ _ _ (IsReason.no_right a) (IsReason.place m) = elim a [ ]
     one_reason own _ _ _ _ (IsReason.reduction a h) (IsReason.place m) = elim a [ ]
-    one_reason own _ _ _ _ (IsReason.lent a h e) (IsReason.place m) = elim a [ ]
+    one_reason own _ _ _ _ (IsReason.lent a h n e) (IsReason.place m) = elim a [ ]
     one_reason own _ _ _ _ (IsReason.unwritten a) (IsReason.place m) = elim a [ ]
     one_reason own _ _ _ _ (IsReason.mixed {o} {cells} a) (IsReason.mixed {cells = others} b) =
         ap (λ (x : Failing). reason.MixedAccess (once [] (clause_words (f.context.final || o.last) o.clauses x.first)) x) (one_failing all (is_mixed (f.context.final || o.last) o.clauses) cells others a b)
@@ -217,11 +218,12 @@ module _ {S : Type 0} (P : Program S) (main : Start S) (s : State S) (made : IsM
         let e = one_touch ask c d touch other a b in
         let l = one_fold (right_of f.context c) op op' h (subst (λ (x : ℕ). right_of f.context x ≡ Holds (Folding op') true) (sym e.0) g) in
         λ i. reason.BadReduction (e.0 i) (l i)
-    one_reason own _ _ _ _ (IsReason.lent {ask} {c} {touch} {k} {line} {x} {w} {ks} a h e) (IsReason.lent {c = d} {touch = other} {k = j} {line = m} {x = y} {w = v} {ks = js} b g p) =
+    one_reason own _ _ _ _ (IsReason.lent {ask} {c} {touch} {k} {line} {entry} {x} {w} {ks} a h named e) (IsReason.lent {c = d} {touch = other} {k = j} {line = m} {entry = entry'} {x = y} {w = v} {ks = js} b g told p) =
         let same = one_touch ask c d touch other a b in
         let g' = subst (λ (z : ℕ). AreHolders P s f.path z touch j m y js) (sym same.0) (subst (λ (z : Touch). AreHolders P s f.path d z j m y js) (sym same.1) g) in
         let held = one_holders f.path c touch k j line m x y ks js h g' in
         let l = one_some (word_in x c) w v e ((λ i. word_in (held.context i) (same.0 i)) ∙ p) in
-        λ i. reason.Lent (same.0 i) (written (held.number i ∷ f.path)) (held.on_line i) (l i) (told_later f.path (held.later i))
+        let n : entry ≡ entry' = named ∙ ap (λ (o : Order S). spot o.script) (one_held_order P main s made f.path c d touch other k j line m x y held.number h.first g.first) ∙ sym told in
+        λ i. reason.Lent (same.0 i) (written (held.number i ∷ f.path)) (held.on_line i) (n i) (l i) (told_later f.path (held.later i))
     one_reason own _ _ _ _ (IsReason.unwritten {ask} {c} {touch} a) (IsReason.unwritten {c = d} {touch = other} b) =
         ap (λ (x : ℕ). reason.Unwritten x) (one_touch ask c d touch other a b).0

@@ -2,6 +2,7 @@
 -- Read against the worked examples of the text. `task out(x) x = 5; task in(x) out(y) y = x + 1; printf y` in main, without a wait: main asks for a read of y, which is Lent; child 1 alone holds
 -- y, by `out`; child 0 has no access to it. `task inout(x) { task in(y) ; }`: the task 0.0 asks for a creation, which is NotCovered; y is the one cell that fails, 0.0 has no word for it, and
 -- the new task, 0.0.0, would have it by `in`. A task with `out(x)` alone that begins with `x = x + 1` is told by the word `out` with which it was created.
+-- A task that was created is told with the spot where its body begins, by which the label of its pragma is found.
 -- What a division, a shift and a place outside of its global have for numbers is no part of what a body asks, and so none of an explanation: what failed is told beside it (`Failures` of `oss_machine`).
 -- A code fails by itself at a division, a shift, a call too many or a place outside of its global. That it never fails otherwise, or at an await, is not proved; so what is told of those is defined too.
 use Rattle.std.specs.Prelude.{◌≡◌, ℕ, ◌==◌, Bool, true, false, ◌&&◌, ◌||◌, List, [], ◌∷◌, Option, Some, None}
@@ -79,36 +80,36 @@ names (WaitOn named) c = in_clauses named c
 names (Release clauses) c = in_clauses clauses c
 names _ c = false
 
--- Why an ask of this task comes to a fault of this kind, where the task has its cells by these words.
-pub data IsReason {S : Type 0} (P : Program S) (s : State S) (all : List Item) (f : Frame S) (own : ℕ → Option Word) : FaultKind → Ask S → Reason → Type 0 where
-  fuel : IsReason P s all f own fault.OutOfFuel Tick (reason.OutOfFuel f.context.fuel)
-  frames : IsReason P s all f own fault.TooDeep (Fails fault.TooDeep) reason.TooManyFrames
-  deep_before : IsReason P s all f own fault.TooDeep Begin reason.TooDeep
-  deep_after : {o : Order S} → IsReason P s all f own fault.TooDeep (Create o) reason.TooDeep
-  many_before : IsReason P s all f own fault.TooManyTasks Begin reason.TooManyTasks
-  many_awaited : IsReason P s all f own fault.TooManyTasks Await reason.TooManyTasks
-  many_after : {o : Order S} → IsReason P s all f own fault.TooManyTasks (Create o) reason.TooManyTasks
-  division : IsReason P s all f own fault.DivideByZero (Fails fault.DivideByZero) reason.Plain
-  place : {kind : FaultKind} → IsMiss kind → IsReason P s all f own kind (Fails kind) reason.Plain
-  shift : IsReason P s all f own fault.ShiftRange (Fails fault.ShiftRange) reason.ShiftRange
+-- Why an ask of this task comes to a fault of this kind, where the task has its cells by these words. Bodies begin at these spots.
+pub data IsReason {S : Type 0} (P : Program S) (spot : S → ℕ) (s : State S) (all : List Item) (f : Frame S) (own : ℕ → Option Word) : FaultKind → Ask S → Reason → Type 0 where
+  fuel : IsReason P spot s all f own fault.OutOfFuel Tick (reason.OutOfFuel f.context.fuel)
+  frames : IsReason P spot s all f own fault.TooDeep (Fails fault.TooDeep) reason.TooManyFrames
+  deep_before : IsReason P spot s all f own fault.TooDeep Begin reason.TooDeep
+  deep_after : {o : Order S} → IsReason P spot s all f own fault.TooDeep (Create o) reason.TooDeep
+  many_before : IsReason P spot s all f own fault.TooManyTasks Begin reason.TooManyTasks
+  many_awaited : IsReason P spot s all f own fault.TooManyTasks Await reason.TooManyTasks
+  many_after : {o : Order S} → IsReason P spot s all f own fault.TooManyTasks (Create o) reason.TooManyTasks
+  division : IsReason P spot s all f own fault.DivideByZero (Fails fault.DivideByZero) reason.Plain
+  place : {kind : FaultKind} → IsMiss kind → IsReason P spot s all f own kind (Fails kind) reason.Plain
+  shift : IsReason P spot s all f own fault.ShiftRange (Fails fault.ShiftRange) reason.ShiftRange
   mixed : {o : Order S} {cells : Failing} → AreFailing all (is_mixed (f.context.final || o.last) o.clauses) cells
-      → IsReason P s all f own fault.MixedAccess (Create o) (reason.MixedAccess (once [] (clause_words (f.context.final || o.last) o.clauses cells.first)) cells)
+      → IsReason P spot s all f own fault.MixedAccess (Create o) (reason.MixedAccess (once [] (clause_words (f.context.final || o.last) o.clauses cells.first)) cells)
   released : {ask : Ask S} {line : ℕ} {cells : Failing} → AreFailing all (λ c. names ask c && is_released (right_of f.context c)) cells → IsReleased P s f.path cells.first line
-      → IsReason P s all f own fault.Released ask (reason.Released line cells)
-  no_right : {ask : Ask S} {c : ℕ} {touch : Touch} → AsksTouch ask c touch → IsReason P s all f own fault.NoRight ask (reason.NoRight c (touch_told touch) (own c))
+      → IsReason P spot s all f own fault.Released ask (reason.Released line cells)
+  no_right : {ask : Ask S} {c : ℕ} {touch : Touch} → AsksTouch ask c touch → IsReason P spot s all f own fault.NoRight ask (reason.NoRight c (touch_told touch) (own c))
   creation : {o : Order S} {w : Word} {cells : Failing} → AreFailing all (λ c. holds_uncovered (right_of f.context c) (right_from (f.context.final || o.last) o.clauses c)) cells
       → word_of (right_from (f.context.final || o.last) o.clauses cells.first) (mark_from (f.context.final || o.last) o.clauses cells.first) ≡ Some w
-      → IsReason P s all f own fault.NotCovered (Create o) (reason.CreationNotCovered w (own cells.first) cells)
+      → IsReason P spot s all f own fault.NotCovered (Create o) (reason.CreationNotCovered w (own cells.first) cells)
   release : {clauses : List Access} {w : Word} {cells : Failing} → AreFailing all (λ c. holds_uncovered (right_of f.context c) (right_from false clauses c)) cells
       → word_of (right_from false clauses cells.first) (mark_from false clauses cells.first) ≡ Some w
-      → IsReason P s all f own fault.NotCovered (Release clauses) (reason.ReleaseNotCovered w (own cells.first) cells)
+      → IsReason P spot s all f own fault.NotCovered (Release clauses) (reason.ReleaseNotCovered w (own cells.first) cells)
   wait : {named : List Access} {cells : Failing} → AreFailing all (λ c. in_clauses named c && lacks_right (right_of f.context c)) cells
-      → IsReason P s all f own fault.NotCovered (WaitOn named) (reason.WaitNotCovered cells)
+      → IsReason P spot s all f own fault.NotCovered (WaitOn named) (reason.WaitNotCovered cells)
   reduction : {ask : Ask S} {c : ℕ} {touch : Touch} {o : Op} → AsksTouch ask c touch → right_of f.context c ≡ Holds (Folding o) true
-      → IsReason P s all f own fault.BadReduction ask (reason.BadReduction c o)
-  lent : {ask : Ask S} {c : ℕ} {touch : Touch} {k line : ℕ} {x : Context} {w : Word} {ks : List ℕ} → AsksTouch ask c touch → AreHolders P s f.path c touch k line x ks
-      → word_in x c ≡ Some w → IsReason P s all f own fault.Lent ask (reason.Lent c (written (k ∷ f.path)) line w (told_later f.path ks))
-  unwritten : {ask : Ask S} {c : ℕ} {touch : Touch} → AsksTouch ask c touch → IsReason P s all f own fault.Unwritten ask (reason.Unwritten c)
+      → IsReason P spot s all f own fault.BadReduction ask (reason.BadReduction c o)
+  lent : {ask : Ask S} {c : ℕ} {touch : Touch} {k line entry : ℕ} {x : Context} {w : Word} {ks : List ℕ} → AsksTouch ask c touch → (held : AreHolders P s f.path c touch k line x ks)
+      → entry ≡ spot held.first.order.script → word_in x c ≡ Some w → IsReason P spot s all f own fault.Lent ask (reason.Lent c (written (k ∷ f.path)) line entry w (told_later f.path ks))
+  unwritten : {ask : Ask S} {c : ℕ} {touch : Touch} → AsksTouch ask c touch → IsReason P spot s all f own fault.Unwritten ask (reason.Unwritten c)
 
 -- By which words the new task would have its cells, where that is told: its clauses name a cell that is released or not covered.
 abbrev pub wanted : {S : Type 0} → FaultKind → Ask S → Context → ℕ → Option Word
@@ -116,21 +117,21 @@ wanted fault.Released (Create o) x c = word_in (child_context x o.clauses o.last
 wanted fault.NotCovered (Create o) x c = word_in (child_context x o.clauses o.last) c
 wanted _ ask x c = None
 
--- The explanation is that of this task, which stands before a fault of this kind on this line in this state.
-pub record Explains {S : Type 0} (P : Program S) (s : State S) (all : List Item) (f : Frame S) (kind : FaultKind) (line : ℕ) (e : Explained) : Type 0 where
+-- The explanation is that of this task, which stands before a fault of this kind on this line in this state. Bodies begin at these spots.
+pub record Explains {S : Type 0} (P : Program S) (spot : S → ℕ) (s : State S) (all : List Item) (f : Frame S) (kind : FaultKind) (line : ℕ) (e : Explained) : Type 0 where
   pub task : e.task ≡ written f.path
   pub next : e.next ≡ written (f.context.created ∷ f.path)
   pub on_line : e.line ≡ line
   pub deed_is : IsDeed all (ask_of P f).ask e.deed
   pub own : ℕ → Option Word
   pub words : HasWords P s f.path own
-  pub reason_is : IsReason P s all f own kind (ask_of P f).ask e.reason
-  pub chain : IsChain P s f.path e.chain
+  pub reason_is : IsReason P spot s all f own kind (ask_of P f).ask e.reason
+  pub chain : IsChain P spot s f.path e.chain
   pub holds : AreHeld all own all_words e.holds
   pub wants : AreHeld all (wanted kind (ask_of P f).ask f.context) all_words e.wants
 
--- The sequential run of the program, over these globals, comes to a fault, and this explains it.
-pub record IsExplained {S : Type 0} (P : Program S) (main : Start S) (first : List ℕ) (all : List Item) (e : Explained) : Type 0 where
+-- The sequential run of the program, over these globals, comes to a fault, and this explains it. Bodies begin at these spots.
+pub record IsExplained {S : Type 0} (P : Program S) (spot : S → ℕ) (main : Start S) (first : List ℕ) (all : List Item) (e : Explained) : Type 0 where
   pub stage : Running S
   pub run : Sequential P main first stage
   pub end : IsAtEnd P stage
@@ -138,4 +139,4 @@ pub record IsExplained {S : Type 0} (P : Program S) (main : Start S) (first : Li
   pub line : ℕ
   pub key : List ℕ
   pub fails : act_now P end.task.body ≡ Fault kind line key
-  pub explains : Explains P stage.state all (acting P end.task.body.start end.task.body.found) kind line e
+  pub explains : Explains P spot stage.state all (acting P end.task.body.start end.task.body.found) kind line e

@@ -1,4 +1,5 @@
 pub mod Words
+pub mod Labels
 pub mod Sentences
 pub mod Failures
 pub mod Text

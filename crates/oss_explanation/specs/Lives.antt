@@ -54,11 +54,11 @@ pub data HasWords {S : Type 0} (P : Program S) (s : State S) : List ℕ → (ℕ
   of_main : HasWords P s [] (λ c. None)
   of_child : {k : ℕ} {q : List ℕ} {included : Bool} {line : ℕ} {x : Context} → IsCreated P s (k ∷ q) included line x → HasWords P s (k ∷ q) (word_in x)
 
--- These tell how the task at this path came to be, and each one above it but main, the innermost first.
-pub data IsChain {S : Type 0} (P : Program S) (s : State S) : List ℕ → List Link → Type 0 where
-  at_main : IsChain P s [] []
-  at_child : {k : ℕ} {q : List ℕ} {x : Context} {links : List Link} (l : Link) → l.task ≡ written (k ∷ q) → IsCreated P s (k ∷ q) l.included l.line x
-      → IsChain P s q links → IsChain P s (k ∷ q) (l ∷ links)
+-- These tell how the task at this path came to be, and each one above it but main, the innermost first. Bodies begin at these spots.
+pub data IsChain {S : Type 0} (P : Program S) (spot : S → ℕ) (s : State S) : List ℕ → List Link → Type 0 where
+  at_main : IsChain P spot s [] []
+  at_child : {k : ℕ} {q : List ℕ} {x : Context} {links : List Link} (l : Link) → l.task ≡ written (k ∷ q) → (created : IsCreated P s (k ∷ q) l.included l.line x)
+      → l.entry ≡ spot created.order.script → IsChain P spot s q links → IsChain P spot s (k ∷ q) (l ∷ links)
 
 -- The task at this path has released the cell, on this line.
 pub record IsReleased {S : Type 0} (P : Program S) (s : State S) (q : List ℕ) (c line : ℕ) : Type 0 where

@@ -1,6 +1,7 @@
 -- The sentences of an explanation: what the task was about to do, and why it may not. Each ends with a full stop and a newline.
 -- Read against: `Main reads y at line 7.`; `Task 0.0 has a[4] by in alone.` and `A write wants out or inout.`; `Task 0.0 has released a[0] at line 6.` and `A task neither touches nor
--- names a cell that it has released.`; of 64 nested tasks `The new task would be nested 65 deep, and 64 is the limit.`
+-- names a cell that it has released.`; of 64 nested tasks `The new task would be nested 65 deep, and 64 is the limit.` A task with the
+-- label `relax` has it in `Task 0.3 (relax) was created at line 9 by main.`, and in no other sentence.
 use Rattle.std.specs.Prelude.{ℕ, ◌==◌, Bool, true, false, if◌then◌else◌, not, List, [], ◌∷◌, ◌++◌, Option, Some, None, codes}
 use Rattle.std.specs.Fmt.{decimal}
 use Rattle.oss_syntax.specs.declared.access.Op.{Op}
@@ -22,6 +23,7 @@ use Rattle.oss_explanation.specs.declared.explained.Touching.TheVariants as touc
 use Rattle.oss_explanation.specs.declared.explained.Use.{Use}
 use Rattle.oss_explanation.specs.declared.explained.Use.TheVariants as uses
 use Rattle.oss_explanation.specs.declared.explained.Word.{Word}
+use Rattle.oss_explanation.specs.Labels.{LabelsSeen, label_text}
 use Rattle.oss_explanation.specs.Words.{op_text, task_text, who_text, word_text}
 
 -- how a sentence ends
@@ -123,18 +125,18 @@ later_text later.None = []
 later_text (later.One p) = codes "1 later child hinders it too: " ++ task_text p ++ stop
 later_text (later.Several n p q) = decimal n ++ codes " later children hinder it too: " ++ task_text p ++ codes " to " ++ task_text q ++ stop
 
--- how a task came to be, behind its name
-abbrev pub created_text : List ℕ → ℕ → List ℕ → List ℕ
-created_text child line creator = who_text child ++ codes " was created at line " ++ decimal line ++ codes " by " ++ task_text creator
+-- how a task came to be: here alone its label is told, if it has one
+abbrev pub created_text : Option (List ℕ) → List ℕ → ℕ → List ℕ → List ℕ
+created_text label child line creator = who_text child ++ label_text label ++ codes " was created at line " ++ decimal line ++ codes " by " ++ task_text creator
 
 -- that a task has not waited for a cell
 abbrev pub waits_text : List Item → List ℕ → ℕ → List ℕ
 waits_text all p c = who_text p ++ codes " has not waited for " ++ cell_name all c ++ codes " since.\n"
 
--- why a touch of a cell is refused that is lent to this child of the task
-abbrev pub lent_text : List Item → List ℕ → ℕ → List ℕ → ℕ → Word → Later → List ℕ
-lent_text all p c child line w others = has_text (who_text child) (cell_name all c) w ++ stop
-    ++ created_text child line p ++ stop
+-- why a touch of a cell is refused that is lent to this child of the task, which has this label, if it has one
+abbrev pub lent_text : List Item → Option (List ℕ) → List ℕ → ℕ → List ℕ → ℕ → Word → Later → List ℕ
+lent_text all label p c child line w others = has_text (who_text child) (cell_name all c) w ++ stop
+    ++ created_text label child line p ++ stop
     ++ waits_text all p c ++ later_text others ++ lent_rule w.named
 
 -- a cell and the word that names it
@@ -188,19 +190,19 @@ fuel_text n = codes "Its fuel of " ++ decimal n ++ codes " ticks is used up.\n"
     ++ codes "A statement, a test of a loop and a call make a tick each; --fuel sets the fuel of each task.\n"
 
 -- why the task at this point may not do it; the one that it would create next has that point
-abbrev pub reason_text : List Item → List ℕ → List ℕ → Reason → List ℕ
-reason_text all p next (reason.OutOfFuel n) = fuel_text n
-reason_text all p next reason.TooManyFrames = codes "It has 256 frames open, which is the limit.\n"
-reason_text all p next reason.TooDeep = codes "The new task would be nested 65 deep, and 64 is the limit.\n"
-reason_text all p next reason.TooManyTasks = codes "It has created 65535 tasks, which is the limit.\n"
-reason_text all p next reason.Plain = []
-reason_text all p next reason.ShiftRange = codes "A shift is by 0 to 63.\n"
-reason_text all p next (reason.MixedAccess ws f) = mixed_text all next ws f
-reason_text all p next (reason.Released line f) = released_text all p line f
-reason_text all p next (reason.NoRight c touch held) = lacks_text all p c held ++ touch_rule touch held
-reason_text all p next (reason.CreationNotCovered w held f) = wants_it_text all next f.first w ++ (uncovered_text all p held f ++ child_rule w.named)
-reason_text all p next (reason.ReleaseNotCovered w held f) = (codes "It releases " ++ named_text all f.first w) ++ (uncovered_text all p held f ++ release_rule w.named)
-reason_text all p next (reason.WaitNotCovered f) = uncovered_text all p None f ++ codes "A task waits on cells that its own clauses name.\n"
-reason_text all p next (reason.BadReduction c o) = reduction_text all p c o
-reason_text all p next (reason.Lent c child line w others) = lent_text all p c child line w others
-reason_text all p next (reason.Unwritten c) = unwritten_text all p c
+abbrev pub reason_text : List Item → LabelsSeen → List ℕ → List ℕ → Reason → List ℕ
+reason_text all labels p next (reason.OutOfFuel n) = fuel_text n
+reason_text all labels p next reason.TooManyFrames = codes "It has 256 frames open, which is the limit.\n"
+reason_text all labels p next reason.TooDeep = codes "The new task would be nested 65 deep, and 64 is the limit.\n"
+reason_text all labels p next reason.TooManyTasks = codes "It has created 65535 tasks, which is the limit.\n"
+reason_text all labels p next reason.Plain = []
+reason_text all labels p next reason.ShiftRange = codes "A shift is by 0 to 63.\n"
+reason_text all labels p next (reason.MixedAccess ws f) = mixed_text all next ws f
+reason_text all labels p next (reason.Released line f) = released_text all p line f
+reason_text all labels p next (reason.NoRight c touch held) = lacks_text all p c held ++ touch_rule touch held
+reason_text all labels p next (reason.CreationNotCovered w held f) = wants_it_text all next f.first w ++ (uncovered_text all p held f ++ child_rule w.named)
+reason_text all labels p next (reason.ReleaseNotCovered w held f) = (codes "It releases " ++ named_text all f.first w) ++ (uncovered_text all p held f ++ release_rule w.named)
+reason_text all labels p next (reason.WaitNotCovered f) = uncovered_text all p None f ++ codes "A task waits on cells that its own clauses name.\n"
+reason_text all labels p next (reason.BadReduction c o) = reduction_text all p c o
+reason_text all labels p next (reason.Lent c child line entry w others) = lent_text all (labels entry) p c child line w others
+reason_text all labels p next (reason.Unwritten c) = unwritten_text all p c

@@ -115,11 +115,13 @@ pub enum Reason {
     WaitNotCovered(Failing),
     /// The task has the cell by a reduction with this operator.
     BadReduction(u32, Op),
-    /// This child, created on this line, has the cell by this word, and those later ones hinder the touch too.
+    /// This child, created on this line, whose body begins with this instruction, has the cell by this word, and those
+    /// later ones hinder the touch too.
     Lent {
         cell: u32,
         child: Point,
         line: u32,
+        entry: u32,
         word: Word,
         later: Later,
     },
@@ -131,6 +133,8 @@ pub struct Link {
     pub task: Point,
     /// The line of its creation.
     pub line: u32,
+    /// The instruction with which its body begins.
+    pub entry: u32,
     /// It runs in the body of its creator.
     pub included: bool,
 }
@@ -141,6 +145,7 @@ impl Drop for Link {
         let Link {
             task,
             line: _,
+            entry: _,
             included: _,
         } = self;
         drop(task);

@@ -2,6 +2,7 @@
 
 ghost use Rattle.std.specs.Prelude.{◌≡◌, ◌++◌, OnOk, codes};
 ghost use Rattle.std.specs.Fmt.{decimal};
+ghost use Rattle.oss_labels.specs.Lists.{label_at};
 ghost use Rattle.oss_pieces.specs.Names.{cell_name};
 ghost use Rattle.oss_explanation.specs.Sentences.{created_text, has_text, later_text, stop, waits_text};
 ghost use Rattle.oss_explanation.specs.Words.{task_text, who_text};
@@ -10,6 +11,7 @@ use crate::chain::add_created;
 use crate::explained::{Later, Word};
 use crate::holds::add_has;
 use crate::names::{add, add_number, add_task, add_who};
+use oss_labels::Labels;
 use oss_model::Point;
 use oss_pieces::add_cell_name;
 use oss_syntax::Program;
@@ -31,17 +33,28 @@ pub(crate) fn add_holder(
     add(text, b".\n")
 }
 
-/// Adds where that child was created.
+/// Adds where that child was created, whose body begins with this instruction.
 pub(crate) fn add_birth(
     alloc: Global,
+    labels: &Labels,
+    entry: u32,
     task: &Point,
     child: &Point,
     line: u32,
     text: &mut Vec<u8>,
 ) -> Result<(), AllocError>
-    ensures { OnOk result (text.new.items ≡ text.old.items ++ created_text child.now line task.now ++ stop) }
+    ensures { OnOk result (text.new.items ≡ text.old.items
+        ++ created_text (label_at labels.now entry) child.now line task.now ++ stop) }
 {
-    add_created(alloc, child.as_slice(), line, task.as_slice(), text)?;
+    add_created(
+        alloc,
+        labels,
+        entry,
+        child.as_slice(),
+        line,
+        task.as_slice(),
+        text,
+    )?;
     add(text, b".\n")
 }
 

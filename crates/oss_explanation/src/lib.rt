@@ -1,8 +1,9 @@
 //! What explains why a program comes to a fault: what an explanation holds, what it means that it is one of a program's
 //! sequential run, and its text, sentence by sentence.
 //!
-//! An explanation has no labels of tasks. Of a shift and of a place outside of its global it has no numbers: what failed is
-//! told beside it (`Failure` of `oss_machine`), and its text takes both.
+//! An explanation has no labels of tasks, but the instruction with which the body of each task begins that it tells the
+//! creation of; and of a shift and of a place outside of its global it has no numbers. Labels (`Labels` of `oss_labels`) and
+//! what failed (`Failure` of `oss_machine`) stand beside it, and its text takes them all.
 #![tactic(auto)]
 
 mod chain;
@@ -10,6 +11,7 @@ mod deed;
 mod explained;
 mod failure;
 mod holds;
+mod labels;
 mod laws;
 mod lent;
 mod names;

@@ -1,6 +1,7 @@
 //! Why the task may not do it.
 
 ghost use Rattle.std.specs.Prelude.{◌≡◌, ◌++◌, OnOk};
+ghost use Rattle.oss_labels.specs.Lists.{label_at};
 ghost use Rattle.oss_explanation.specs.Sentences.{child_rule, fold_text, fuel_text, mixed_text, mixed_words, reason_text, reduction_rule, reduction_text, release_rule, released_at, released_text, uncovered_text, unwritten_text};
 
 use crate::deed::{Are, add_at_line, add_failing};
@@ -10,6 +11,7 @@ use crate::lent::{add_birth, add_holder, add_later, add_no_wait};
 use crate::names::{add, add_number, add_op, add_task, add_who, add_words};
 use crate::rules::{add_child_rule, add_lent_rule, add_release_rule, add_touch_rule};
 use crate::uncovered::{add_released, add_uncovered, add_wanted};
+use oss_labels::Labels;
 use oss_model::Point;
 use oss_pieces::add_cell_name;
 use oss_syntax::{Op, Program};
@@ -19,13 +21,14 @@ use std::alloc::{AllocError, Global};
 pub(crate) fn add_reason(
     alloc: Global,
     program: &Program,
+    labels: &Labels,
     task: &Point,
     next: &Point,
     reason: &Reason,
     text: &mut Vec<u8>,
 ) -> Result<(), AllocError>
     ensures { OnOk result (text.new.items ≡ text.old.items
-        ++ reason_text program.now.items task.now next.now reason.now) }
+        ++ reason_text program.now.items (label_at labels.now) task.now next.now reason.now) }
 {
     match reason {
         Reason::OutOfFuel(fuel) => add_fuel(alloc, *fuel, text),
@@ -67,11 +70,12 @@ pub(crate) fn add_reason(
             cell,
             child,
             line,
+            entry,
             word,
             later,
         } => {
             add_holder(alloc, program, child, *cell, *word, text)?;
-            add_birth(alloc, task, child, *line, text)?;
+            add_birth(alloc, labels, *entry, task, child, *line, text)?;
             add_no_wait(alloc, program, task, *cell, text)?;
             add_later(alloc, later, text)?;
             add_lent_rule(word.named, text)

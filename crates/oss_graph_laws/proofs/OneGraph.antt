@@ -32,8 +32,8 @@ module _ {S : Type 0} (P : Program S) (place : S → ℕ) (main : Start S) (ms :
   pub listed : (s : State S) (z : Running S) → Sequential P main first z → ((p : List ℕ) → find s.tasks p ≡ find z.state.tasks p) → MadeAlike P P place place s z.state
   listed s z run same =
       let made = (stands P main first ms z run).made in
-      let alike = listed_alike P s z.state same in
-      let back = listed_alike P z.state s (λ p. sym (same p)) in
+      let alike = listed_alike place P s z.state same in
+      let back = listed_alike place P z.state s (λ p. sym (same p)) in
       record {
         there = λ p line x h. moved p line x h;
         back = λ p line x h. created_there P P z.state s back p false line x h;

@@ -5,6 +5,7 @@ ghost use Rattle.std.specs.Option.{option_copied};
 ghost use Rattle.oss_labels.specs.Lists.{IsCut, Rise, label_at};
 
 use oss_syntax::{Bytes, List};
+use std::alloc::Global;
 use std::marker::Model;
 
 /// The label of a task, and the instruction with which the body of the task begins.
@@ -41,6 +42,13 @@ impl Model for Labels {
 }
 
 impl Labels {
+    /// Those of a program without labels.
+    pub fn none(alloc: Global) -> Labels
+        ensures { result ≡ [] }
+    {
+        Labels::of(List::new(alloc))
+    }
+
     /// These labels.
     pub(crate) fn of(list: List<Labelled>) -> Labels
         requires { Rise 0 list }

@@ -1,9 +1,10 @@
-//! The texts of explanations. The globals are `long x, y, b, a[10], m[6][6], s;`. Each text is that of one of the worked
-//! examples, which were written by hand from the rules of the text.
+//! The texts of explanations. The globals are `long x, y, b, a[10], m[6][6], s;`. No task has a label. Each text is that
+//! of one of the worked examples, which were written by hand from the rules of the text.
 
 use oss_explanation::{
     Deed, Explained, Failing, Held, Later, Link, Reason, Touching, Use, Word, explain_text,
 };
+use oss_labels::Labels;
 use oss_machine::{Failure, Miss, Stretch};
 use oss_model::{Point, read_point};
 use oss_pieces::{Piece, Span};
@@ -116,6 +117,7 @@ fn lent(
         cell,
         child,
         line,
+        entry: 0,
         word,
         later,
     })
@@ -164,6 +166,7 @@ fn linked(
     told.chain.push(Link {
         task,
         line,
+        entry: 0,
         included,
     })?;
     Ok(told)
@@ -201,7 +204,8 @@ fn assert_text(
     wanted: &[u8],
 ) -> Result<(), Fail> {
     let program = layout(alloc)?;
-    let text = explain_text(alloc, &program, told, None)?;
+    let labels = Labels::none(alloc);
+    let text = explain_text(alloc, &program, &labels, told, None)?;
     assert!(rt; text.as_slice() == wanted);
     Ok(())
 }
@@ -539,7 +543,8 @@ fn assert_failure(
 ) -> Result<(), Fail> {
     let program = layout(alloc)?;
     let told = told(rt, alloc, (b"0", b"0.0"), 3, Deed::Misses, Reason::Plain)?;
-    let text = explain_text(alloc, &program, &told, Some(failure))?;
+    let labels = Labels::none(alloc);
+    let text = explain_text(alloc, &program, &labels, &told, Some(failure))?;
     assert!(rt; text.as_slice() == wanted);
     Ok(())
 }

@@ -135,9 +135,10 @@ failed_once fuel p (endings.Fault kind line e) f g h k = failures_are_one p.item
 explain_once : (fuel : ℕ) (p : Program) (reply other : Reply) → IsExplainReply fuel p reply → IsExplainReply fuel p other → reply ≡ other
 explain_once fuel p reply other x y =
     let starts : MainStarts (main_of p.items fuel) = record { final = refl; created = refl; path = refl } in
-    let same = endings_are_one TreeScript (asks_of p.items) (main_of p.items fuel) starts (first_cells p.items) p.items x.ending y.ending x.is_ending y.is_ending in
+    let same = endings_are_one TreeScript (asks_of p.items) (entry_in p.items) (main_of p.items fuel) starts (first_cells p.items) p.items x.ending y.ending x.is_ending y.is_ending in
     let failed = failed_once fuel p x.ending x.failure y.failure x.is_failure (subst (λ (e : Ending). IsFailureOfEnding fuel p e y.failure) (sym same) y.is_failure) in
-    x.is_reply ∙ (λ i. ending_reply p (same i) (failed i)) ∙ sym y.is_reply
+    let labels = labels_are_one p.items x.labels y.labels x.are_labels y.are_labels in
+    x.is_reply ∙ (λ i. ending_reply p (label_at (labels i)) (same i) (failed i)) ∙ sym y.is_reply
 
 -- and one with its graph
 graph_once : (fuel : ℕ) (p : Program) (reply other : Reply) → IsGraphReply fuel p reply → IsGraphReply fuel p other → reply ≡ other

@@ -211,9 +211,10 @@ failure_told fuel p code of endings.Done f h = h
 failure_told fuel p code of (endings.Fault kind line e) f h = record { code = code; lowered = of; is = h }
 
 -- the reply that explains a fault
-pub explain_replies : (p : Program) (fuel : ℕ) (ending : Ending) (failure : Option Failure) (reply : Reply) → IsEndingOfProgram fuel p ending → IsFailureOfEnding fuel p ending failure
-    → reply ≡ ending_reply p ending failure → IsExplainReply fuel p reply
-explain_replies p fuel ending failure reply is fails e = record { ending = ending; is_ending = is; failure = failure; is_failure = fails; is_reply = e }
+pub explain_replies : (p : Program) (fuel : ℕ) (ending : Ending) (failure : Option Failure) (labels : List Labelled) (reply : Reply) → IsEndingOfProgram fuel p ending → IsFailureOfEnding fuel p ending failure
+    → AreLabelsOf p.items labels → reply ≡ ending_reply p (label_at labels) ending failure → IsExplainReply fuel p reply
+explain_replies p fuel ending failure labels reply is fails are e =
+    record { ending = ending; is_ending = is; failure = failure; is_failure = fails; labels = labels; are_labels = are; is_reply = e }
 
 -- the reply that draws the tasks
 pub graph_replies : (p : Program) (fuel : ℕ) (graph : Graph) (labels : List Labelled) (text : List ℕ) (reply : Reply) → IsGraphOfProgram fuel p graph → AreLabelsOf p.items labels
