@@ -47,7 +47,7 @@ pub record DoConflict (rights : ℕ → Right) (j k : ℕ) : Type 0 where
 abbrev pub WaysAreDrawn : Type 0
 WaysAreDrawn = (rights : ℕ → Right) (j k : ℕ) → j < k → DoConflict rights j k → IsWay rights j k
 
--- Each edge leads from an earlier access that conflicts with the later one, and to the nearest such: none that lies between the two conflicts with both.
+-- Each edge leads from an earlier access that conflicts with the later one, and none that lies between the two conflicts with both.
 pub record IsNearest (rights : ℕ → Right) (j k : ℕ) : Type 0 where
   pub rises : j < k
   pub conflict : DoConflict rights j k

@@ -20,8 +20,7 @@ pub fn edges_are_nearest()
     ensures { EdgesAreNearest }
 {}
 
-/// Where an edge leads from one access of a cell to another, no way leads there by a third one: what a way says is not said
-/// again.
+/// Where an edge leads from one access of a cell to another, no way of edges for this cell leads there by a third one.
 pub fn no_edge_leads_past()
     ensures { NoEdgeLeadsPast }
 {}

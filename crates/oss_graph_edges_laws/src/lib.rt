@@ -1,5 +1,5 @@
-//! What the edges of a graph say of waiting: each is a wait, for the nearest earlier task in conflict, and leads between two
-//! nodes; and where two tasks conflict a way leads from the one to the other.
+//! What the edges of a graph say of waiting: each is a wait, for an earlier task in conflict with none between that conflicts
+//! with both, and leads between two nodes; and where two tasks conflict a way leads from the one to the other.
 #![tactic(auto)]
 
 mod laws;

@@ -7,3 +7,4 @@ pub mod MendedLemmas
 pub mod FewerLemmas
 pub mod NeedLemmas
 pub mod LackingLemmas
+pub mod JoinedLemmas

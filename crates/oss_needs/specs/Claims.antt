@@ -1,7 +1,7 @@
--- What holds of each task and each cell: that something is lacking exactly where the judge would find a fault, that what is told mends it, and that
--- nothing less would.
--- Read against: a task with `in(x)` that stores into x. It lacks `inout(x)`, since a store is not met by `in(x)`; with both each demand is met; and with
--- `weakinout(x)` beside a weak `in`, or with `in(x)` twice, the store is not.
+-- What holds of one task and one cell: something is lacking exactly where the judge finds a fault; what is reported mends it and can be joined; and in two ways a
+-- lesser clause would not do.
+-- Read against: a task with `weakin(x)` that loads x and then stores into it. It lacks `inout(x)`; with both each demand is met. With `weakinout(x)` in its place
+-- both are weak, and neither demand is met; with `in(x)` in its place the store is not. The language joins `inout` with `in` to one that writes.
 use Rattle.std.specs.Prelude.{◌≡◌, Bool, true, false, List, Option, Some, None}
 use Rattle.oss_syntax.specs.declared.access.Mode.TheVariants.{Read}
 use Rattle.oss_needs.specs.declared.clause.Clause.{Clause}
@@ -11,7 +11,8 @@ use Rattle.oss_needs.specs.declared.demand.Demand.{Demand}
 use Rattle.oss_needs.specs.declared.lack.Lack.{Lack}
 use Rattle.oss_needs.specs.declared.lack.Lack.TheVariants as lack
 use Rattle.oss_needs.specs.Meeting.{all_met}
-use Rattle.oss_needs.specs.Lacks.{lack_of, mended, mended_by, mode_eq}
+use Rattle.oss_model.specs.Rights.{joined_mode}
+use Rattle.oss_needs.specs.Lacks.{joined, lack_of, mended, mended_by, mode_eq}
 
 -- What clauses say together, where they can be joined.
 abbrev pub said : Given → Option Clause
@@ -36,6 +37,10 @@ LacksAreTold = (g : Given) (ds : List Demand) → is_joined g ≡ true → is_no
 -- Once what is lacking is mended, each demand is met.
 abbrev pub MendedIsMet : Type 0
 MendedIsMet = (g : Given) (ds : List Demand) → all_met (mended g ds) ds ≡ true
+
+-- The language joins a clause that is lacking beside another one with that, as is told.
+abbrev pub AddedIsJoined : Type 0
+AddedIsJoined = (c d : Clause) (ds : List Demand) → lack_of (given.Says c) ds ≡ lack.Adds d → joined_mode d.mode c.mode ≡ Some (joined d c).mode
 
 -- The clause that is lacking, and the lack with another clause in its place.
 abbrev pub clause_of : Lack → Option Clause

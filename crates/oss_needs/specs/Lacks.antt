@@ -2,7 +2,7 @@
 -- Read against: a task without a clause that stores into x and then loads it lacks `out(x)`; one that loads x and then stores lacks `inout(x)`; one that only
 -- creates a task with `in(x)` lacks `weakin(x)`, and so does one that only waits for x. Under `in(x)` a task that stores into x lacks `inout(x)`, and `out(x)` where that
 -- is its first use. Under `weakinout(x)` a task that loads x lacks `in(x)`; under `out(x)` one that loads x before it stores lacks `in(x)` too. Under
--- `reduction(+: x)` a task that also stores into x lacks `inout(x)` in place of it, and one whose fold is by `|` alone `reduction(|: x)`. Under `in(x) reduction(+: x)`, which cannot be joined, a
+-- `reduction(+: x)` a task that folds into x and then stores into it lacks `inout(x)` in place of it, and one whose fold is by `|` alone `reduction(|: x)`. Under `in(x) reduction(+: x)`, which cannot be joined, a
 -- task that does not use x lacks `weakin(x)` in place of both.
 use Rattle.std.specs.Prelude.{Bool, true, false, ◌&&◌, ◌||◌, not, if◌then◌else◌, List, [], ◌∷◌, Option, Some, None}
 use Rattle.oss_syntax.specs.declared.access.Mode.{Mode}
@@ -40,7 +40,7 @@ least_mode test (d ∷ ds) = mode_when (test d) (mode_of d) (least_mode test ds)
 abbrev pub every : Demand → Bool
 every d = true
 
--- A clause of the mode, strong or weak, for these demands. It is one by which the cell is written first where their first use needs nothing of what the cell was.
+-- A clause of the mode, strong or weak, for these demands. It is fresh if it is to write and their first use needs nothing of what the cell was.
 abbrev pub clause_for : List Demand → Mode → Bool → Clause
 clause_for ds m strong = record { mode = m; strong = strong; fresh = is_write m && begins_fresh ds }
 

@@ -28,7 +28,7 @@ mark_by (Some c) = first_mark (Holds c.mode c.strong) c.fresh
 abbrev pub mark_behind : Mark → List Demand → Mark
 mark_behind m ds = if has_value ds then Written else m
 
--- The judge finds no fault of a demand, under this right and with this mark. A creation and a release are covered, whether the right is strong or weak.
+-- The judge finds no fault of a demand, under this right and with this mark. Of a creation and a release the right has to cover the mode; it may be weak.
 abbrev pub is_met : Right → Mark → Demand → Bool
 is_met r m Load = is_right (touch_fault r Free m Reads)
 is_met r m Store = is_right (touch_fault r Free m Writes)

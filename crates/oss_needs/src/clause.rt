@@ -18,6 +18,6 @@ pub enum Given {
     Nothing,
     /// Two clauses name it that cannot be joined.
     Mixed,
-    /// They say this together.
+    /// They say this together. Of a final task a weak clause counts as strong.
     Says(Clause),
 }

@@ -1,6 +1,6 @@
 //! What holds of each task and each cell: laws, each carried by a function that does nothing. A crate above calls the function, and then has the law.
 
-ghost use Rattle.oss_needs.specs.Claims.{FewerAreNotMet, LacksAreTold, MendedIsMet};
+ghost use Rattle.oss_needs.specs.Claims.{AddedIsJoined, FewerAreNotMet, LacksAreTold, MendedIsMet};
 
 /// Clauses that can be joined lack something exactly where the judge would find a fault of what the task asks of the cell.
 pub fn lacks_are_told()
@@ -12,7 +12,13 @@ pub fn mended_is_met()
     ensures { MendedIsMet }
 {}
 
-/// A weaker clause in place of the one that is lacking, or one to read, would not mend it.
+/// The language joins a clause that is lacking beside another one with that, as is told.
+pub fn added_is_joined()
+    ensures { AddedIsJoined }
+{}
+
+/// With a weak clause in place of a strong one that is lacking, a demand is not met, if no clause beside it is strong. Nor
+/// is it with one to read in place of one of another mode, if no clause beside it does more than read.
 pub fn fewer_are_not_met()
     ensures { FewerAreNotMet }
 {}

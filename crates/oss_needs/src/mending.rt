@@ -51,7 +51,8 @@ impl Given {
 }
 
 impl Need {
-    /// What a task's clauses say of the cell once what they lack for what it asks is mended; none if they say nothing and nothing is asked.
+    /// What a task's clauses say of the cell once what they lack for what it asks is mended; none if they say nothing and nothing is asked. Of a final
+    /// task it counts as strong.
     pub fn mended(self, given: Given) -> Option<Clause>
         ensures { (ds : Items Asked) → IsNeed ds self → result ≡ lacks.mended given ds }
     {

@@ -9,9 +9,10 @@
 --     6  OutOfMemory    memory is wanting                nothing                          nothing
 --     7  NotReplayed    a replay does not end            nothing                          move N is not enabled, or N tasks unfinished
 --
--- What a command tells: `check` the line `ok`; `run`, `replay` and `soak` the program's output, with a dump the final cells behind it, and before a fault the output
--- up to it; `trace` the moves; `span` and `audit` their lines, and nothing of a program with a fault; `explain` the explanation of the fault, or `no fault`; `graph` the graph of the
--- tasks, with the fault marked in it.
+-- What a command tells: `check` the line `ok`; `run`, `replay` and `soak` the program's output, and before a fault the output up to it; `run` after it the final cells, and
+-- which worker began each task and in which order, if it is asked for these; `soak` before it the number of tasks, if there is no fault; `trace` the trace of the run by waves;
+-- `span` and `audit` their lines, and nothing of a program with a fault; `explain` the explanation of the fault, or `no fault`; `graph` the graph of the tasks, with the fault marked
+-- in it.
 --
 -- Read against: of `long x; int main() { x = 1; }` the reply to `check` is Done with `ok`, to `run` Done with nothing, and to `run --dump` Done with the line
 -- `x = 1`; with `x = 1 / x;` in its place the reply to `run`, with a dump or without, is Fault with nothing on the output and DivideByZero at line 1; of the empty text
