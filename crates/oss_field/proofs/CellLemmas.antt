@@ -150,7 +150,7 @@ module _ (code : CodeParts) (fuel n id : ℕ) (v : SeatView) (job : Job) (cell :
         body = ap (λ (z : ℕ). with_answer z at.body) (stands.cell_words cell small);
       }) in (
         l,
-        read_stands code fuel n (cell_word cell) ws homes (set views id (record { known = l })) (quiet_stands code fuel n ws homes views stands id v l sits refl refl (told_on stands.before k.bears at.place at.holding y at.given.holds (stands.told id v sits)) (chained stands rule)),
+        read_stands code fuel n (cell_word cell) ws homes (set views id (record { known = l })) (quiet_stands code fuel n ws homes views stands id v l sits refl refl refl (told_on stands.before k.bears at.place at.holding y at.given.holds (stands.told id v sits)) (chained stands rule)),
         record { at_load = at; once = held_once code (code_main code fuel) code.first (is_job_of code stands.before) n (parts_of (length code.first) ws homes stands.cells) (sights_of views) stands.rule.field id k (sits_at views id v sits) at.place at.holding at.given.holds; known = refl },
       )
 
@@ -175,7 +175,7 @@ module _ (code : CodeParts) (fuel n id : ℕ) (v : SeatView) (job : Job) (cell :
         body = refl;
       }) in (
         l,
-        read_stands code fuel n (cell_word cell) ws homes (set views id (record { known = l })) (quiet_stands code fuel n ws homes views stands id v l sits refl refl (told_on stands.before k.bears at.place at.holding at.body at.given.holds (stands.told id v sits)) (chained stands rule)),
+        read_stands code fuel n (cell_word cell) ws homes (set views id (record { known = l })) (quiet_stands code fuel n ws homes views stands id v l sits refl refl refl (told_on stands.before k.bears at.place at.holding at.body at.given.holds (stands.told id v sits)) (chained stands rule)),
         record { at_fold = at; once = held_once code (code_main code fuel) code.first (is_job_of code stands.before) n (parts_of (length code.first) ws homes stands.cells) (sights_of views) stands.rule.field id k (sits_at views id v sits) at.place at.holding at.given.holds; known = refl },
       )
 
@@ -217,12 +217,12 @@ module _ (code : CodeParts) (fuel n id : ℕ) (v : SeatView) (job : Job) (cell :
       cells = cells';
     }
 
-    pub cell_stands : (l : Known) (sits : get_elem? views id ≡ maybe.some v) → l.words ≡ v.known.words → l.drawn ≡ v.known.drawn → ((h : Holding) → Among h l.bears → stands.before h.number ≡ h.before)
+    pub cell_stands : (l : Known) (sits : get_elem? views id ≡ maybe.some v) → l.words ≡ v.known.words → l.drawn ≡ v.known.drawn → l.told ≡ v.known.told → ((h : Holding) → Among h l.bears → stands.before h.number ≡ h.before)
         → FieldAt (asks code) (code_main code fuel) code.first (is_job_of code stands.before) n stands.net stands.gave stands.role (record (parts_of (length code.first) ws homes stands.cells) { cells = set stands.cells cell value }) (set (sights_of views) id (sight_of l))
         → Stands code fuel n (set ws (cell_word cell) value) homes (set views id (record { known = l }))
-    cell_stands l sits words drawn told rule = next_stands code fuel n ws homes views stands id v l sits words drawn told ws' homes cells'
+    cell_stands l sits words drawn heard told rule = next_stands code fuel n ws homes views stands id v l sits words drawn heard told ws' homes cells'
         (length-set ws (cell_word cell) value ∙ stands.size) stands.slots (length-set stands.cells cell value ∙ stands.sized)
-        cells_now (λ e low z. stands.empty e low (sym (beside e 5) ∙ z)) states_beside
+        cells_now (λ e low z. stands.empty e low (sym (beside e 5) ∙ z)) states_beside (λ e. beside e 1)
         (get_or-set_other ws (cell_word cell) 0 value 0 (λ q. absurd (omega (arith, q))))
         (subst (λ (z : Parts (Box Job)). FieldAt (asks code) (code_main code fuel) code.first (is_job_of code stands.before) n stands.net stands.gave stands.role z (set (sights_of views) id (sight_of l))) parts_now rule)
 
@@ -245,7 +245,7 @@ module _ (code : CodeParts) (fuel n id : ℕ) (v : SeatView) (job : Job) (cell :
         body = refl;
       }) in (
         l,
-        cell_stands ws homes views stands value l sits refl refl (told_on stands.before k.bears at.place at.holding y at.given.holds (stands.told id v sits)) (chained stands rule),
+        cell_stands ws homes views stands value l sits refl refl refl (told_on stands.before k.bears at.place at.holding y at.given.holds (stands.told id v sits)) (chained stands rule),
         record { at_store = at; once = held_once code (code_main code fuel) code.first (is_job_of code stands.before) n (parts_of (length code.first) ws homes stands.cells) (sights_of views) stands.rule.field id k (sits_at views id v sits) at.place at.holding at.given.holds; known = refl },
       )
 
@@ -273,7 +273,7 @@ module _ (code : CodeParts) (fuel n id : ℕ) (v : SeatView) (job : Job) (cell :
         body = refl;
       }) in (
         l,
-        cell_stands ws homes views stands value l sits refl refl (told_on stands.before k.bears at.place at.holding y at.given.holds (stands.told id v sits)) (chained stands rule),
+        cell_stands ws homes views stands value l sits refl refl refl (told_on stands.before k.bears at.place at.holding y at.given.holds (stands.told id v sits)) (chained stands rule),
         record { before = before; once = held_once code (code_main code fuel) code.first (is_job_of code stands.before) n (parts_of (length code.first) ws homes stands.cells) (sights_of views) stands.rule.field id k (sits_at views id v sits) at.place at.holding at.given.holds; known = refl },
       )
 

@@ -1,7 +1,17 @@
 pub mod ActLemmas
 pub mod CellLemmas
+pub mod DeliverLemmas
 pub mod DrawLemmas
+pub mod FlagLemmas
+pub mod HearLemmas
+pub mod HeardLemmas
+pub mod LowerLemmas
+pub mod MessageLemmas
+pub mod PassLemmas
 pub mod ReadLemmas
+pub mod SameLemmas
+pub mod SendLemmas
 pub mod SlotLemmas
 pub mod StartLemmas
 pub mod TableLemmas
+pub mod WordTable

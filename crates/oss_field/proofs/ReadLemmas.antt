@@ -162,7 +162,7 @@ module _ (code : CodeParts) (fuel n id : ℕ) (v : SeatView) (e : ℕ) where
         inr (o.place, o.bearing, o.held, o.it, o.is, o.path, ap (λ (z : Bool). kept_still z e (state_at x) v.known.still) q)
 
     flags_stand : Stands code fuel n ws homes (set views id (record { known = l }))
-    flags_stand = quiet_stands code fuel n ws homes views stands id v l sits refl refl (stands.told id v sits) (chained stands
+    flags_stand = quiet_stands code fuel n ws homes views stands id v l sits refl refl refl (stands.told id v sits) (chained stands
         (word_reads_keep CodeScript (Box Job) (is_job_of code stands.before) (asks code) (code_main code fuel) code.first n (parts_of (length code.first) ws homes stands.cells) (sights_of views) stands.rule.field
         id (sight_of v.known) (sight_of l) e (record {
           sits = sits_at views id v sits;

@@ -55,7 +55,7 @@ job_in_is maybe.none j h = absurd (let z : None ≡ Some j = h in let bad : ⊥ 
 module _ (code : CodeParts) (fuel n id : ℕ) (v : SeatView) (t : ℕ) (inside : t < n) where
   module _ (ws : List ℕ) (homes : List (maybe.Option Slot)) (views : List SeatView) (stands : Stands code fuel n ws homes views) (sits : get_elem? views id ≡ maybe.some v) where
     count_stands : (x : ℕ) → slice_index ws (count_word_of (length code.first) t) ≡ x → Stands code fuel n ws homes (set views id (record { known = after_count (length code.first) t x v.known }))
-    count_stands zero e = quiet_stands code fuel n ws homes views stands id v (after_count (length code.first) t 0 v.known) sits refl refl (stands.told id v sits) (chained stands
+    count_stands zero e = quiet_stands code fuel n ws homes views stands id v (after_count (length code.first) t 0 v.known) sits refl refl refl (stands.told id v sits) (chained stands
         (count_reads_keep CodeScript (Box Job) (is_job_of code stands.before) (asks code) (code_main code fuel) code.first n (parts_of (length code.first) ws homes stands.cells) (sights_of views) stands.rule.field
         id (sight_of v.known) (sight_of (after_count (length code.first) t 0 v.known)) t (record {
           sits = sits_at views id v sits;
@@ -66,7 +66,7 @@ module _ (code : CodeParts) (fuel n id : ℕ) (v : SeatView) (t : ℕ) (inside :
           still = refl;
           same = record { words = refl; bears = refl; makes = refl; loaded = refl; joined = refl; owes = refl };
         })))
-    count_stands (suc x) e = quiet_stands code fuel n ws homes views stands id v (after_count (length code.first) t (suc x) v.known) sits refl refl (stands.told id v sits) (chained stands
+    count_stands (suc x) e = quiet_stands code fuel n ws homes views stands id v (after_count (length code.first) t (suc x) v.known) sits refl refl refl (stands.told id v sits) (chained stands
         (quiet_steps_keep CodeScript (Box Job) (is_job_of code stands.before) (asks code) (code_main code fuel) code.first n (parts_of (length code.first) ws homes stands.cells) (sights_of views) stands.rule.field
         id (sight_of v.known) (sight_of (after_count (length code.first) t (suc x) v.known)) (sits_at views id v sits) (record {
           held = refl;
@@ -137,19 +137,19 @@ module _ (code : CodeParts) (fuel n : ℕ) (ws : List ℕ) (homes : List (maybe.
     cells = stands.cells;
   }
 
-  pub slot_stands : (id : ℕ) (v : SeatView) (l : Known) → get_elem? views id ≡ maybe.some v → l.words ≡ v.known.words → l.drawn ≡ v.known.drawn → ((h : Holding) → Among h l.bears → stands.before h.number ≡ h.before)
+  pub slot_stands : (id : ℕ) (v : SeatView) (l : Known) → get_elem? views id ≡ maybe.some v → l.words ≡ v.known.words → l.drawn ≡ v.known.drawn → l.told ≡ v.known.told → ((h : Holding) → Among h l.bears → stands.before h.number ≡ h.before)
       → (x ≡ 0 → ⊥)
       → FieldAt (asks code) (code_main code fuel) code.first (is_job_of code stands.before) n stands.net stands.gave stands.role
       (record (parts_of (length code.first) ws homes stands.cells) { bodies = (parts_of (length code.first) ws' homes' stands.cells).bodies; jobs = (parts_of (length code.first) ws' homes' stands.cells).jobs }) (set (sights_of views) id (sight_of l))
       → Stands code fuel n (set ws (body_word_of (length code.first) t) x) (set homes t home') (set views id (record { known = l }))
-  slot_stands id v l sits words drawn told some rule = next_stands code fuel n ws homes views stands id v l sits words drawn told ws' homes' stands.cells
+  slot_stands id v l sits words drawn heard told some rule = next_stands code fuel n ws homes views stands id v l sits words drawn heard told ws' homes' stands.cells
       (length-set ws (body_word_of (length code.first) t) x ∙ stands.size) (length-set homes t home' ∙ stands.slots) stands.sized
       (λ c low. get_or-set_other ws (body_word_of (length code.first) t) (cell_word c) x 0 (λ q. absurd (omega (arith, q, low))) ∙ stands.cell_words c low)
       (λ e low z. elim (eqb_tells e t) [
         | inl h ↦ absurd (some (sym here ∙ (ap (λ (j : ℕ). slice_index ws' (body_word_of (length code.first) j)) (sym h.1) ∙ z)))
         | inr h ↦ set_else homes t e home' h.1 ∙ stands.empty e low (sym (bodies_else e h.1) ∙ z)
       ])
-      states_same
+      states_same infos_same
       (get_or-set_other ws (body_word_of (length code.first) t) 0 x 0 (λ q. absurd (omega (arith, q))))
       (subst (λ (z : Parts (Box Job)). FieldAt (asks code) (code_main code fuel) code.first (is_job_of code stands.before) n stands.net stands.gave stands.role z (set (sights_of views) id (sight_of l))) parts_now rule)
 
@@ -211,7 +211,7 @@ module _ (code : CodeParts) (fuel n slots id : ℕ) (v : SeatView) (c : List (�
         let g = tk.keeps (sight_of l) (record { words = refl; makes = refl; ready = refl; joined = refl; owes = refl; seen = refl }) (ap (λ (y : Bearing CodeScript). y ∷ map bearing_of v.known.bears) same) refl refl in
         let borne = g.field.borne id (sight_of l) (at_here (sights_of z.views) id (sight_of v.known) (sight_of l) (sits_at z.views id v sits)) 0 (bearing_of h) refl in
         let told : (u : Holding) → Among u (h ∷ v.known.bears) → stands.before u.number ≡ u.before = λ u a. elim a [ among_first p ↦ subst (λ (y : Holding). stands.before y.number ≡ y.before) p refl | among_later b ↦ stands.told id v sits u b ] in
-        let rule = slot_stands code fuel n z.words z.homes z.views stands t inside 2 maybe.none id v l sits refl refl told (λ q. absurd (omega (arith, q))) (chained stands g) in (
+        let rule = slot_stands code fuel n z.words z.homes z.views stands t inside 2 maybe.none id v l sits refl refl refl told (λ q. absurd (omega (arith, q))) (chained stands g) in (
           w,
           takes t (Some j),
           job_in_is (get_elem? z.homes t) j tk.stood,
@@ -242,7 +242,7 @@ module _ (code : CodeParts) (fuel n slots id : ℕ) (v : SeatView) (c : List (�
     misses ne =
         let x = slice_index z.words i in
         let l : Known = after_miss (length code.first) t x v.known in
-        let quiet = quiet_stands code fuel n z.words z.homes z.views stands id v l sits refl refl (stands.told id v sits) (chained stands
+        let quiet = quiet_stands code fuel n z.words z.homes z.views stands id v l sits refl refl refl (stands.told id v sits) (chained stands
         (quiet_steps_keep CodeScript (Box Job) (is_job_of code stands.before) (asks code) (code_main code fuel) code.first n (parts_of (length code.first) z.words z.homes stands.cells) (sights_of z.views) stands.rule.field
         id (sight_of v.known) (sight_of l) (sits_at z.views id v sits) (record {
           held = refl;
@@ -324,7 +324,7 @@ module _ (code : CodeParts) (fuel n slots id : ℕ) (v : SeatView) (c : List (�
         still = λ y a. elim a [ ];
       }) in
       let told : (u : Holding) → Among u may.others → stands.before u.number ≡ u.before = λ u a. stands.told id v sits u (subst (λ (y : List Holding). Among u y) (sym may.bears) (among_later a)) in
-      slot_stands code fuel n z.words z.homes z.views stands t inside 1 (maybe.some (Some j)) id v l sits refl refl told (λ q. absurd (omega (arith, q)))
+      slot_stands code fuel n z.words z.homes z.views stands t inside 1 (maybe.some (Some j)) id v l sits refl refl refl told (λ q. absurd (omega (arith, q)))
       (subst (λ (y : List (Sight CodeScript)). FieldAt (asks code) (code_main code fuel) code.first (is_job_of code stands.before) n stands.net stands.gave stands.role (record k { bodies = parts'.bodies; jobs = parts'.jobs }) y)
       (set_twice (sights_of z.views) id (sight_of k1) (sight_of l)) (chained stands (then_at code g1 g2)))
 

@@ -13,7 +13,7 @@ use Rattle.oss_machine.specs.Frames.{CodeScript}
 use Rattle.oss_machine.specs.Machines.{asks}
 use Rattle.oss_words.specs.declared.entry.EntryState.{EntryState}
 use Rattle.oss_model.specs.Bodies.{Start}
-use Rattle.oss_words.specs.Bits.{state_at, state_word}
+use Rattle.oss_words.specs.Bits.{info_at, state_at, state_word}
 use Rattle.oss_words.specs.Net.{Net}
 use Rattle.oss_words.specs.Views.{View, Among, among_first, among_later}
 use Rattle.oss_roles.specs.Drawing.{AreDrawn, IsFree}
@@ -26,9 +26,10 @@ use Rattle.std.specs.Global.{Box}
 use Rattle.oss_jobs.specs.declared.job.Job.{Job}
 use Rattle.oss_field.specs.declared.view.SeatView.{SeatView}
 use Rattle.oss_field.specs.Known.{Holding, Known, sight_of}
-use Rattle.oss_field.specs.Layout.{words_in, cell_word, state_word_of, body_word_of, parts_of}
+use Rattle.oss_field.specs.Layout.{words_in, cell_word, state_word_of, info_word_of, body_word_of, parts_of}
 use Rattle.oss_field.specs.Steps.{Steps}
 use Rattle.oss_field.specs.Table.{Slot, is_job_of, sights_of, Neat, AreSeats, Stands}
+use Rattle.oss_field.proofs.HeardLemmas.{heard_same}
 
 -- what is in a list, and in one of which a member was changed
 pub among_at : {A : Type 0} (l : List A) (i : ℕ) (a : A) → get_elem? l i ≡ maybe.some a → Among a l
@@ -76,7 +77,7 @@ chained stands g = record { field = g.field; same_net = g.same_net ∙ stands.ru
 
 -- the table after a step that leaves the state words, the draw word, the roles and what the seat has drawn
 module _ (code : CodeParts) (fuel n : ℕ) (ws : List ℕ) (homes : List (maybe.Option Slot)) (views : List SeatView) (stands : Stands code fuel n ws homes views)
-    (id : ℕ) (v : SeatView) (l : Known) (at : get_elem? views id ≡ maybe.some v) (words : l.words ≡ v.known.words) (drawn : l.drawn ≡ v.known.drawn)
+    (id : ℕ) (v : SeatView) (l : Known) (at : get_elem? views id ≡ maybe.some v) (words : l.words ≡ v.known.words) (drawn : l.drawn ≡ v.known.drawn) (heard : l.told ≡ v.known.told)
     (told : (h : Holding) → Among h l.bears → stands.before h.number ≡ h.before) where
   abbrev m : ℕ
   m = length code.first
@@ -95,10 +96,11 @@ module _ (code : CodeParts) (fuel n : ℕ) (ws : List ℕ) (homes : List (maybe.
       → ((c : ℕ) → c < length code.first → slice_index ws' (cell_word c) ≡ slice_index cells' c)
       → ((e : ℕ) → e < n → slice_index ws' (body_word_of (length code.first) e) ≡ 0 → get_elem? homes' e ≡ maybe.some (maybe.some None))
       → ((e : ℕ) → slice_index ws' (state_word_of (length code.first) e) ≡ slice_index ws (state_word_of (length code.first) e))
+      → ((e : ℕ) → slice_index ws' (info_word_of (length code.first) e) ≡ slice_index ws (info_word_of (length code.first) e))
       → slice_index ws' 0 ≡ slice_index ws 0
       → FieldAt (asks code) (code_main code fuel) code.first (is_job_of code stands.before) n stands.net stands.gave stands.role (parts_of (length code.first) ws' homes' cells') (set (sights_of views) id (sight_of l))
       → Stands code fuel n ws' homes' (set views id (record { known = l }))
-  next_stands ws' homes' cells' size slots sized cell_words empty same draw rule = record {
+  next_stands ws' homes' cells' size slots sized cell_words empty same infos draw rule = record {
     net = stands.net;
     gave = stands.gave;
     role = stands.role;
@@ -120,6 +122,7 @@ module _ (code : CodeParts) (fuel n : ℕ) (ws : List ℕ) (homes : List (maybe.
         (draws_keep CodeScript stands.role (sights_of views) id (sight_of v.known) (sight_of l) (sits_at views id v at) (λ e a. inl (subst (λ (z : List ℕ). Among e z) drawn a)) stands.drawn);
     undrawn = λ e high. subst (λ (z : List (Sight CodeScript)). IsFree stands.role z e) (sym (sights_set views id l))
         (free_stays stands.role (sights_of views) id (sight_of v.known) (sight_of l) (sits_at views id v at) drawn e (stands.undrawn e (subst (λ (z : ℕ). z ≤ e) draw high)));
+    heard = heard_same stands.net (λ e. info_at (slice_index ws (info_word_of m e))) (λ e. info_at (slice_index ws' (info_word_of m e))) views id v l at heard (λ e. ap info_at (infos e)) stands.heard;
     seats = subst (λ (z : List View). AreSeats n stands.net (λ e. state_at (slice_index ws' (state_word_of m e))) (slice_index ws' 0) z) (sym views_stay)
         (subst (λ (z : ℕ). AreSeats n stands.net (λ e. state_at (slice_index ws' (state_word_of m e))) z (words_of (sights_of views))) (sym draw)
         (subst (λ (g : ℕ → EntryState). AreSeats n stands.net g (slice_index ws 0) (words_of (sights_of views))) (λ i e. state_at (sym (same e) i)) stands.seats));
@@ -128,7 +131,7 @@ module _ (code : CodeParts) (fuel n : ℕ) (ws : List ℕ) (homes : List (maybe.
   -- the same, if no word and no slot changes
   pub quiet_stands : FieldAt (asks code) (code_main code fuel) code.first (is_job_of code stands.before) n stands.net stands.gave stands.role (parts_of (length code.first) ws homes stands.cells) (set (sights_of views) id (sight_of l))
       → Stands code fuel n ws homes (set views id (record { known = l }))
-  quiet_stands rule = next_stands ws homes stands.cells stands.size stands.slots stands.sized stands.cell_words stands.empty (λ e. refl) refl rule
+  quiet_stands rule = next_stands ws homes stands.cells stands.size stands.slots stands.sized stands.cell_words stands.empty (λ e. refl) (λ e. refl) refl rule
 
 -- a word that was read is as it was
 pub read_stands : (code : CodeParts) (fuel n i : ℕ) (ws : List ℕ) (homes : List (maybe.Option Slot)) (views : List SeatView) → Stands code fuel n ws homes views → Stands code fuel n (set ws i (slice_index ws i)) homes views

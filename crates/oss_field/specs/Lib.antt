@@ -1,7 +1,9 @@
 pub mod Asks
 pub mod Drawing
+pub mod Heard
 pub mod Known
 pub mod Layout
+pub mod Messages
 pub mod Moves
 pub mod Reading
 pub mod Standing

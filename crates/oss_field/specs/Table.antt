@@ -15,7 +15,7 @@ use Rattle.oss_jobs.specs.Jobs.{IsJob}
 use Rattle.oss_machine.specs.Frames.{CodeScript}
 use Rattle.oss_machine.specs.Machines.{asks}
 use Rattle.oss_words.specs.declared.entry.EntryState.{EntryState}
-use Rattle.oss_words.specs.Bits.{state_at, state_word}
+use Rattle.oss_words.specs.Bits.{info_at, state_at, state_word}
 use Rattle.oss_words.specs.Net.{Net}
 use Rattle.oss_words.specs.Seats.{came}
 use Rattle.oss_words.specs.Sums.{total}
@@ -26,7 +26,8 @@ use Rattle.oss_roles.specs.Roles.{Role}
 use Rattle.oss_roles.specs.Sights.{Sight, Telling}
 use Rattle.oss_field.specs.declared.view.SeatView.{SeatView}
 use Rattle.oss_field.specs.Known.{Holding, sight_of}
-use Rattle.oss_field.specs.Layout.{words_in, cell_word, state_word_of, body_word_of, parts_of}
+use Rattle.oss_field.specs.Layout.{words_in, cell_word, state_word_of, info_word_of, body_word_of, parts_of}
+use Rattle.oss_field.specs.Messages.{AreHeard}
 
 -- What a slot of the table holds.
 abbrev pub Slot : Type 0
@@ -81,4 +82,6 @@ pub record Stands (code : CodeParts) (fuel n : ℕ) (ws : List ℕ) (homes : Lis
   -- what was drawn has no role, and what was not drawn is free
   pub drawn : AreDrawn role (sights_of views)
   pub undrawn : (e : ℕ) → slice_index ws 0 ≤ e → IsFree role (sights_of views) e
+  -- what seats were told of entries is so
+  pub heard : AreHeard net (λ e. info_at (slice_index ws (info_word_of (length code.first) e))) views
   pub seats : AreSeats n net (λ e. state_at (slice_index ws (state_word_of (length code.first) e))) (slice_index ws 0) (words_of (sights_of views))

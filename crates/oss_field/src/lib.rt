@@ -2,18 +2,24 @@
 //! state of the machine.
 #![tactic(auto)]
 
+mod adding;
 mod cells;
+mod delivering;
 mod drawing;
 mod field;
 mod flags;
+mod held;
+mod holding;
 mod key;
 mod places;
 mod rule;
 mod seat;
 mod slots;
 mod start;
+mod touched;
 mod view;
 mod words;
 
 pub use field::Field;
 pub use seat::FieldSeat;
+pub use touched::Touched;

@@ -1,7 +1,7 @@
 //! Where the words of a field lie.
 
 ghost use Rattle.std.specs.Prelude.{◌≡◌};
-ghost use Rattle.oss_field.specs.Layout.{body_word_of, cell_word, count_word_of, state_word_of};
+ghost use Rattle.oss_field.specs.Layout.{body_word_of, cell_word, count_word_of, info_word_of, state_word_of};
 
 /// The number of the word of a cell.
 pub(crate) fn cell_place(cell: u32) -> usize
@@ -29,4 +29,11 @@ pub(crate) fn body_place(cells: u32, task: u32) -> usize
     ensures { result ≡ body_word_of cells task }
 {
     1 + cells as usize + 6 * task as usize + 5
+}
+
+/// The number of the info word of an entry, in a field of so many cells.
+pub(crate) fn info_place(cells: u32, entry: u32) -> usize
+    ensures { result ≡ info_word_of cells entry }
+{
+    1 + cells as usize + 6 * entry as usize + 1
 }

@@ -32,7 +32,7 @@ impl Tells for Brand {
 }
 
 /// The kind of step that tells this. It is a type, so what is told may be what the proof alone knows.
-struct Told<T: Tells> {
+pub(crate) struct Told<T: Tells> {
     /// No value of the type is made.
     of: PhantomData<T>,
 }
