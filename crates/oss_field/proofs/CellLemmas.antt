@@ -123,7 +123,7 @@ module _ (code : CodeParts) (main : Start CodeScript) (first : List ℕ) (is_job
       ]
 
 -- of the jobs that are held the seat knows when they were made, also after one of them has gone on
-told_on : (before : ℕ → List ℕ) (held : List Holding) (i : ℕ) (h : Holding) (y : Body CodeScript) → get_elem? held i ≡ maybe.some h → ((z : Holding) → Among z held → before z.number ≡ z.before) → (z : Holding) → Among z (set held i (with_body y h)) → before z.number ≡ z.before
+pub told_on : (before : ℕ → List ℕ) (held : List Holding) (i : ℕ) (h : Holding) (y : Body CodeScript) → get_elem? held i ≡ maybe.some h → ((z : Holding) → Among z held → before z.number ≡ z.before) → (z : Holding) → Among z (set held i (with_body y h)) → before z.number ≡ z.before
 told_on before held i h y at told z among = elim (among_set held i (with_body y h) z among) [
   | inl e ↦ subst (λ (x : Holding). before x.number ≡ x.before) e (told h (among_at held i h at))
   | inr a ↦ told z a

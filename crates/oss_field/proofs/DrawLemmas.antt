@@ -190,6 +190,7 @@ module _ (code : CodeParts) (fuel n : ℕ) (ws : List ℕ) (homes : List (maybe.
     drawn = subst (λ (z : List (Sight CodeScript)). AreDrawn stands.role z) (sym (sights_set views id l))
         (draws_keep CodeScript stands.role (sights_of views) id (sight_of v.known) (sight_of l) (sits_at views id v sits) (λ e a. elim (fresh e a) [ inl old ↦ inl old | inr r ↦ inr (stands.undrawn e r.0) ]) stands.drawn);
     undrawn = λ e high. subst (λ (z : List (Sight CodeScript)). IsFree stands.role z e) (sym (sights_set views id l)) (still_free e (subst (λ (z : ℕ). z ≤ e) draw_here high));
+    selves = stands.selves;
     heard = heard_same stands.net (λ e. info_at (slice_index ws (info_word_of (length code.first) e))) (λ e. info_at (slice_index ws' (info_word_of (length code.first) e))) views id v l sits heard (λ e. ap info_at (infos_same e)) stands.heard;
     seats = subst (λ (z : List View). AreSeats n stands.net (λ e. state_at (slice_index ws' (state_word_of (length code.first) e))) (slice_index ws' 0) z) (sym (ap (λ (z : List (Sight CodeScript)). words_of z) (sights_set views id l) ∙ words_set (sights_of views) id (sight_of l)))
         (subst (λ (z : ℕ). AreSeats n stands.net (λ e. state_at (slice_index ws' (state_word_of (length code.first) e))) z (set (words_of (sights_of views)) id l.words)) (sym draw_here)

@@ -27,7 +27,7 @@ use Rattle.oss_jobs.specs.Entries.{entry_told}
 use Rattle.oss_words.specs.Bits.{state_at, info_at}
 use Rattle.oss_words.specs.Views.{Among, among_first, among_later}
 use Rattle.oss_words.proofs.KeptLaw.{at_here}
-use Rattle.oss_roles.specs.Field.{Field, FieldAt, Parts, IsBorne}
+use Rattle.oss_roles.specs.Field.{Field, FieldAt, Parts, Sits}
 use Rattle.oss_roles.specs.JobSteps.{of_other}
 use Rattle.oss_roles.specs.Roles.{Site, itself, on}
 use Rattle.oss_roles.specs.Sights.{Bearing, Sight, Telling}
@@ -43,6 +43,7 @@ use Rattle.oss_field.specs.Steps.{Steps}
 use Rattle.oss_field.specs.Table.{Slot, is_job_of, sights_of, Stands}
 use Rattle.oss_field.specs.Taking.{IsPut, IsWithin, MayPut, Puts, Takes, after_count, after_miss, after_take}
 use Rattle.oss_field.proofs.CellLemmas.{beside_is, job_goes}
+use Rattle.oss_field.proofs.OwnLemmas.{borne, cell_filed}
 use Rattle.oss_field.proofs.TableLemmas.{sits_at, then_at, chained, quiet_stands, next_stands, read_stands}
 
 -- the job that is told to stand in a slot stands there
@@ -153,10 +154,11 @@ module _ (code : CodeParts) (fuel n : ℕ) (ws : List ℕ) (homes : List (maybe.
       (get_or-set_other ws (body_word_of (length code.first) t) 0 x 0 (λ q. absurd (omega (arith, q))))
       (subst (λ (z : Parts (Box Job)). FieldAt (asks code) (code_main code fuel) code.first (is_job_of code stands.before) n stands.net stands.gave stands.role z (set (sights_of views) id (sight_of l))) parts_now rule)
 
--- a task whose job a seat holds is within the cells
-within : (code : CodeParts) (main : Start CodeScript) (first : List ℕ) (is_job : Telling CodeScript (Box Job)) (n : ℕ) (k : Parts (Box Job)) (sights : List (Sight CodeScript)) (f : Field (asks code) main first is_job n k sights) (h : Holding)
-    → IsBorne f.state sights f.net f.role (bearing_of h) → IsWithin (length first) h
-within code main first is_job n k sights f h b =
+-- a task whose job a seat holds is within the cells and the entries
+within : (code : CodeParts) (main : Start CodeScript) (first : List ℕ) (is_job : Telling CodeScript (Box Job)) (n : ℕ) (k : Parts (Box Job)) (sights : List (Sight CodeScript)) (f : Field (asks code) main first is_job n k sights)
+    (id : ℕ) (v : Known) (sits : Sits sights id (sight_of v)) (place : ℕ) (h : Holding) → get_elem? v.bears place ≡ maybe.some h → IsWithin (length first) n h
+within code main first is_job n k sights f id v sits place h holds =
+    let b = borne code n k sights f id v sits place h holds in
     let made = (agrees (asks code) main first f.state f.setting f.reached).made in
     let start = ap (λ (z : Body CodeScript). z.start) b.body in record {
       inside = λ c mode strong right. right_in_memory (asks code) main f.state first c h.path mode made f.setting.memory (record {
@@ -167,6 +169,11 @@ within code main first is_job n k sights f h b =
       });
       strongly = subst (λ (z : Start CodeScript). (c : ℕ) (mode : Mode) (strong : Bool) → z.context.final ≡ true → right_of z.context c ≡ Holds mode strong → strong ≡ true) start
           (starts_well (asks code) main f.state f.setting.starts made h.path b.task b.at_).0;
+      entries = λ number c mode strong right.
+          let x = cell_filed code n k sights f id v sits place h holds number c mode strong right in
+          let low = f.words.flow.words.inside x.0.entry x.0.hangs in
+          subst (λ (z : ℕ). z < n) x.3 low;
+      lasts = λ y o last. let a = b.last.some y o last in f.words.flow.words.inside o a.3;
     }
 
 -- what a job keeps of its last children tells them
@@ -177,7 +184,7 @@ kept_lasts code before j t b last h is lasts child (on c) = ap (λ (z : List (Pi
 -- a job is taken
 module _ (code : CodeParts) (fuel n slots id : ℕ) (v : SeatView) (c : List (ℕ × Slot)) (t : ℕ) (inside : t < n) (ready : Among t v.known.ready) where
   abbrev Tells : ℕ → Me Slot SeatView → Type 0
-  Tells x w = Takes code fuel (length code.first) t x (v, c) w
+  Tells x w = Takes code fuel n (length code.first) t x (v, c) w
 
   abbrev i : ℕ
   i = body_word_of (length code.first) t
@@ -209,7 +216,7 @@ module _ (code : CodeParts) (fuel n slots id : ℕ) (v : SeatView) (c : List (�
         let l : Known = after_take (length code.first) t h v.known in
         let w : SeatView = record { known = l } in
         let g = tk.keeps (sight_of l) (record { words = refl; makes = refl; ready = refl; joined = refl; owes = refl; seen = refl }) (ap (λ (y : Bearing CodeScript). y ∷ map bearing_of v.known.bears) same) refl refl in
-        let borne = g.field.borne id (sight_of l) (at_here (sights_of z.views) id (sight_of v.known) (sight_of l) (sits_at z.views id v sits)) 0 (bearing_of h) refl in
+        let has = g.field.borne id (sight_of l) (at_here (sights_of z.views) id (sight_of v.known) (sight_of l) (sits_at z.views id v sits)) 0 (bearing_of h) refl in
         let told : (u : Holding) → Among u (h ∷ v.known.bears) → stands.before u.number ≡ u.before = λ u a. elim a [ among_first p ↦ subst (λ (y : Holding). stands.before y.number ≡ y.before) p refl | among_later b ↦ stands.told id v sits u b ] in
         let rule = slot_stands code fuel n z.words z.homes z.views stands t inside 2 maybe.none id v l sits refl refl refl told (λ q. absurd (omega (arith, q))) (chained stands g) in (
           w,
@@ -225,12 +232,12 @@ module _ (code : CodeParts) (fuel n slots id : ℕ) (v : SeatView) (c : List (�
                 is = subst (λ (y : Site → Option ℕ). IsJob code (stands.before t) (box_value j) t tk.bearing.body y) (λ e y. sym (lasts y) e) tk.is;
                 state = g.field.state;
                 reached = g.field.reached;
-                task = borne.task;
-                at_ = borne.at_;
-                body = borne.body;
-                ready = borne.ready;
+                task = has.task;
+                at_ = has.at_;
+                body = has.body;
+                ready = has.ready;
               },
-              within code (code_main code fuel) code.first (is_job_of code stands.before) n (record k { bodies = parts'.bodies; jobs = parts'.jobs }) (set (sights_of z.views) id (sight_of l)) g.field h borne,
+              within code (code_main code fuel) code.first (is_job_of code stands.before) n (record k { bodies = parts'.bodies; jobs = parts'.jobs }) (set (sights_of z.views) id (sight_of l)) g.field id l (at_here (sights_of z.views) id (sight_of v.known) (sight_of l) (sits_at z.views id v sits)) 0 h refl,
               refl,
               refl,
             )),

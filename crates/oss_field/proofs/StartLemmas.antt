@@ -210,6 +210,7 @@ module _ (code : CodeParts) (fuel n : ℕ) (low : 0 < n) (high : n ≤ 16777216)
       none = refl;
       undrawn = λ j x sits a. nothing e (subst (λ (z : Sight CodeScript). Among e z.drawn) (sym (only j x sits)) a);
     };
+    selves = λ t q is. absurd (let z : None ≡ Some q = is in let bad : ⊥ = cc in bad);
     heard = record { told = λ j x sits t a. absurd (none_told t (subst (λ (z : SeatView). Among t z.known.told) (sym (only_view j x sits)) a)) };
     seats = record {
       main_drawn = omega arith;

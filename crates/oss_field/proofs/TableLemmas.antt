@@ -122,6 +122,7 @@ module _ (code : CodeParts) (fuel n : ℕ) (ws : List ℕ) (homes : List (maybe.
         (draws_keep CodeScript stands.role (sights_of views) id (sight_of v.known) (sight_of l) (sits_at views id v at) (λ e a. inl (subst (λ (z : List ℕ). Among e z) drawn a)) stands.drawn);
     undrawn = λ e high. subst (λ (z : List (Sight CodeScript)). IsFree stands.role z e) (sym (sights_set views id l))
         (free_stays stands.role (sights_of views) id (sight_of v.known) (sight_of l) (sits_at views id v at) drawn e (stands.undrawn e (subst (λ (z : ℕ). z ≤ e) draw high)));
+    selves = stands.selves;
     heard = heard_same stands.net (λ e. info_at (slice_index ws (info_word_of m e))) (λ e. info_at (slice_index ws' (info_word_of m e))) views id v l at heard (λ e. ap info_at (infos e)) stands.heard;
     seats = subst (λ (z : List View). AreSeats n stands.net (λ e. state_at (slice_index ws' (state_word_of m e))) (slice_index ws' 0) z) (sym views_stay)
         (subst (λ (z : ℕ). AreSeats n stands.net (λ e. state_at (slice_index ws' (state_word_of m e))) z (words_of (sights_of views))) (sym draw)

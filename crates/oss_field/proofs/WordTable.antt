@@ -95,6 +95,7 @@ module _ (code : CodeParts) (fuel n : ℕ) (ws : List ℕ) (homes : List (maybe.
         (draws_keep CodeScript stands.role (sights_of views) id (sight_of v.known) (sight_of l) (sits_at views id v sits) (λ e a. inl (subst (λ (z : List ℕ). Among e z) drawn a)) stands.drawn);
     undrawn = λ e high. subst (λ (z : List (Sight CodeScript)). IsFree stands.role z e) (sym (sights_set views id l))
         (free_stays stands.role (sights_of views) id (sight_of v.known) (sight_of l) (sits_at views id v sits) drawn e (stands.undrawn e (subst (λ (z : ℕ). z ≤ e) draw high)));
+    selves = stands.selves;
     heard = heard;
     seats = subst (λ (z : List View). AreSeats n stands.net (λ e. state_at (slice_index ws' (state_word_of (length code.first) e))) (slice_index ws' 0) z) (sym (ap (λ (z : List (Sight CodeScript)). words_of z) (sights_set views id l) ∙ words_set (sights_of views) id (sight_of l)))
         (subst (λ (z : ℕ). AreSeats n stands.net (λ e. state_at (slice_index ws' (state_word_of (length code.first) e))) z (set (words_of (sights_of views)) id l.words)) (sym draw) seats);
