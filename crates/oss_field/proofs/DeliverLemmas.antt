@@ -52,9 +52,9 @@ owes_is i f owes on is = is ∙ ap (λ (b : Bool). if b then (info_at i).task �
 module _ (held : List Held) (n : ℕ) (k : Known) (s : Settled held n k) (best : ℕ) (x : Held) (inside : best < length held) (is : x ≡ slice_index_or held best x) (none : NoneBefore held (length held) best) where
   -- the message that comes first may be delivered, if no join comes first
   pub may_deliver : NoJoinFirst k → MayDeliver n k (message_of x) x.info
-  may_deliver no = record {
+  may_deliver unjoined = record {
     held = first_held held n k s.ready s.bounded best x inside is none;
-    flag = above x.flag (no (message_of x) (first_is held n k s.ready s.bounded best x inside is none));
+    flag = above x.flag (unjoined (message_of x) (first_is held n k s.ready s.bounded best x inside is none));
     told = first_told held n k s.ready s.bounded best x inside is none;
     later = first_later held n k s.ready s.bounded best x inside is none;
     inside = (first_names held n k s.ready s.bounded best x inside is none).0;

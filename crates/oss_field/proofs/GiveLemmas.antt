@@ -1,4 +1,4 @@
--- An entry of a task whose job a seat holds is given up: at once, or in two steps if its task has a child there.
+-- An entry of a task whose job a seat holds is given up: seated once, or in two steps if its task has a child there.
 use Rattle.std.proofs.Common.{◌≡◌, ◌≢◌, ◌⊎◌, inl, inr, sym, subst, refl, ◌∙◌, ap, ℕ, ◌<◌, ◌≤◌, ◌+◌, ◌*◌, ◌%◌, ◌^◌, arith, Bool, true, false, ◌==◌, cond, List, [], ◌∷◌, ◌++◌, length, set, Option, Some, None}
 use Rattle.std.specs.Prelude.{slice_index}
 use Rattle.std.specs.Global.{Box}
@@ -38,10 +38,11 @@ use Rattle.oss_roles.specs.Roles.{Role, Site, itself, on, Filed}
 use Rattle.oss_roles.specs.Sights.{Bearing, Fixed, Sight}
 use Rattle.oss_roles.proofs.JobClaims.{gives_keep, own_gives_keep}
 use Rattle.oss_field.specs.declared.view.SeatView.{SeatView}
-use Rattle.oss_field.specs.Giving.{GivesHalf, GivesWhole, MayGiveUp, StandsToGive, entry_of, gave_half, gave_whole, gives_cell, gives_own, gone_on, site_of, still_beside}
+use Rattle.oss_field.specs.Giving.{GivesHalf, GivesWhole, MayGiveUp, StandsToGive, gave_half, gave_whole, gives_cell, gives_own, gone_on, still_beside}
 use Rattle.oss_field.specs.Known.{Holding, Known, bearing_of, last_of, sight_of}
 use Rattle.oss_field.specs.Layout.{info_word_of, parts_of, state_word_of}
 use Rattle.oss_field.specs.Moves.{with_body}
+use Rattle.oss_field.specs.Owning.{entry_of, site_of}
 use Rattle.oss_field.specs.Steps.{Steps}
 use Rattle.oss_field.specs.Table.{Neat, Slot, is_job_of, sights_of, Stands}
 use Rattle.oss_field.proofs.CellLemmas.{beside_is, job_goes, told_on}
@@ -95,8 +96,8 @@ module _ (code : CodeParts) (fuel n id : ℕ) (v : SeatView) (job : Job) (cell :
     abbrev f : Field (asks code) (code_main code fuel) code.first (is_job_of code stands.before) n k (sights_of views)
     f = stands.rule.field
 
-    at : Sits (sights_of views) id (sight_of v.known)
-    at = sits_at views id v sits
+    seated : Sits (sights_of views) id (sight_of v.known)
+    seated = sits_at views id v sits
 
     -- the entry is one of the task, and its value is not left
     record Mine (o : Option ℕ) : Type 0 where
@@ -109,21 +110,21 @@ module _ (code : CodeParts) (fuel n id : ℕ) (v : SeatView) (job : Job) (cell :
       unfolded : (c : ℕ) (op : Op) → it.site ≡ on c → right_of h.body.start.context c ≡ Holds (Fold op) true → ⊥
 
     mine_of : (o : Option ℕ) → MayGiveUp code v.known h s.body o → Mine o
-    mine_of (Some c) (gives_cell c mode strong right no may) =
-        let x = cell_filed code n k (sights_of views) f id v.known at s.place h s.given.holds s.below_main c mode strong right in record {
+    mine_of (Some c) (gives_cell c mode strong right unfold may) =
+        let x = cell_filed code n k (sights_of views) f id v.known seated s.place h s.given.holds s.below_main c mode strong right in record {
           it = x.0.it;
           is = ap f.role (sym x.3) ∙ x.0.is;
           hangs = subst (λ (z : ℕ). f.net.place z ≢ apart) x.3 x.0.hangs;
           path = x.0.path;
           site = x.0.site;
-          plain = λ op q t. no op (right ∙ (λ i. Holds ((sym x.1 ∙ q) i) ((sym x.2 ∙ t) i)));
-          unfolded = λ d op q r. no op (subst (λ (z : ℕ). right_of h.body.start.context z ≡ Holds (Fold op) true) (same_cell d (sym q ∙ x.0.site)) r);
+          plain = λ op q t. unfold op (right ∙ (λ i. Holds ((sym x.1 ∙ q) i) ((sym x.2 ∙ t) i)));
+          unfolded = λ d op q r. unfold op (subst (λ (z : ℕ). right_of h.body.start.context z ≡ Holds (Fold op) true) (same_cell d (sym q ∙ x.0.site)) r);
         }
       where
         same_cell : (d : ℕ) → on d ≡ on c → d ≡ c
         same_cell d q = cc
     mine_of None (gives_own over all) =
-        let x = own_filed code n k (sights_of views) f id v.known at s.place h s.given.holds s.below_main in record {
+        let x = own_filed code n k (sights_of views) f id v.known seated s.place h s.given.holds s.below_main in record {
           it = x.0.it;
           is = ap f.role (sym x.1) ∙ x.0.is;
           hangs = subst (λ (z : ℕ). f.net.place z ≢ apart) x.1 x.0.hangs;
@@ -146,7 +147,7 @@ module _ (code : CodeParts) (fuel n id : ℕ) (v : SeatView) (job : Job) (cell :
     ungiven : (k.states e).given ≡ false
     ungiven =
         let y = s.still in
-        let t = f.still id (sight_of v.known) at y.it y.among in
+        let t = f.still id (sight_of v.known) seated y.it y.among in
         let one : t.it ≡ mine.it = one_role t.it mine.it (f.role e) (ap f.role (sym y.entry) ∙ t.is) mine.is in
         ap (λ (z : ℕ). (k.states z).given) (sym y.entry) ∙ (t.given (λ op q strong. mine.plain op (ap (λ (z : Role). z.mode) (sym one) ∙ q) (ap (λ (z : Role). z.strong) (sym one) ∙ strong)) ∙ y.open_yet)
 
@@ -164,7 +165,7 @@ module _ (code : CodeParts) (fuel n id : ℕ) (v : SeatView) (job : Job) (cell :
       | inr off ↦ off
       | inl on_ ↦
           let l = f.left e mine.it mine.is on_ in
-          let b = borne code n k (sights_of views) f id v.known at s.place h s.given.holds in
+          let b = borne code n k (sights_of views) f id v.known seated s.place h s.given.holds in
           let same : l.task ≡ b.task = at_same f.state h.path l.task b.task (subst (λ (z : List ℕ). At f.state z l.task) mine.path l.at_) b.at_ in
           let body = ap (λ (z : Task CodeScript). z.body) same ∙ b.body in
           absurd (mine.unfolded l.cell l.op l.site (subst (λ (z : Body CodeScript). right_of z.start.context l.cell ≡ Holds (Fold l.op) true) body l.right))
@@ -174,9 +175,9 @@ module _ (code : CodeParts) (fuel n id : ℕ) (v : SeatView) (job : Job) (cell :
     gives : (o : Option ℕ) → MayGiveUp code v.known h s.body o → (r : Role) → r.site ≡ site_of o → (w : Sight CodeScript) (states' : ℕ → EntryState) (gave' : ℕ → Bool)
         → GivesEntry f id (sight_of v.known) w s.place (bearing_of h) (bearing_of (with_body s.body h)) s.body (entry_of h o) r states' gave'
         → FieldAt (asks code) (code_main code fuel) code.first (is_job_of code stands.before) n f.net gave' f.role (record k { states = states' }) (set (sights_of views) id w)
-    gives (Some c) (gives_cell c mode strong right no may) r site w states' gave' up =
+    gives (Some c) (gives_cell c mode strong right unfold may) r site w states' gave' up =
         gives_keep CodeScript (Box Job) (is_job_of code stands.before) (asks code) (code_main code fuel) code.first n k (sights_of views) f id (sight_of v.known) w s.place (bearing_of h) (bearing_of (with_body s.body h)) s.body
-        (entry_of h (Some c)) r states' gave' c mode strong (record { up = up; site = site; right = right; no_fold = no; may = may })
+        (entry_of h (Some c)) r states' gave' c mode strong (record { up = up; site = site; right = right; no_fold = unfold; may = may })
     gives None (gives_own over all) r site w states' gave' up =
         own_gives_keep CodeScript (Box Job) (is_job_of code stands.before) (asks code) (code_main code fuel) code.first n k (sights_of views) f id (sight_of v.known) w s.place (bearing_of h) (bearing_of (with_body s.body h)) s.body
         (entry_of h None) r states' gave' (record {
@@ -184,7 +185,7 @@ module _ (code : CodeParts) (fuel n id : ℕ) (v : SeatView) (job : Job) (cell :
           site = site;
           ended = over;
           cells = λ d mode strong right.
-              let x = cell_filed code n k (sights_of views) f id v.known at s.place h s.given.holds s.below_main d mode strong right in
+              let x = cell_filed code n k (sights_of views) f id v.known seated s.place h s.given.holds s.below_main d mode strong right in
               let y = all d mode strong right in
               let same : x.0.entry ≡ y.it.entry = x.3 ∙ sym y.entry in record {
                 it = y.it;
@@ -215,7 +216,7 @@ module _ (code : CodeParts) (fuel n id : ℕ) (v : SeatView) (job : Job) (cell :
       step_stands word =
           let rule = gives cell s.may mine.it mine.site (sight_of l) states' (more f.gave e) (record {
             entry = record {
-              with_job = record { sits = at; job = job_goes code job v.known s.place h s.body s.given s.body refl l bears makes ready joined; alone = s.given.may };
+              with_job = record { sits = seated; job = job_goes code job v.known s.place h s.body s.given s.body refl l bears makes ready joined; alone = s.given.may };
               loaded = λ y a. let r = beside_is h.number v.known.loaded y (subst (λ z. Among y z) loaded a) in of_other r.0 r.1;
               body = refl;
               is = mine.is;

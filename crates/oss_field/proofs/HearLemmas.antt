@@ -1,5 +1,5 @@
 -- What a seat holds and is told of, in any table that meets the rule; and the read of an info word.
-use Rattle.std.proofs.Common.{◌≡◌, ◌≢◌, ◌⊎◌, inl, inr, sym, subst, refl, ◌∙◌, ap, ℕ, ◌<◌, ◌≤◌, ◌+◌, ◌*◌, arith, List, [], ◌∷◌, length, set}
+use Rattle.std.proofs.Common.{◌≡◌, ◌≢◌, ◌⊎◌, inl, inr, sym, subst, refl, ◌∙◌, ap, ℕ, ◌<◌, ◌≤◌, ◌+◌, ◌*◌, arith, List, [], ◌∷◌, length, set, Option, Some, None}
 use Rattle.std.specs.Prelude.{slice_index}
 use Rattle.std.specs.Global.{Box}
 use mathlib.Core.Option as maybe
@@ -29,12 +29,14 @@ use Rattle.oss_roles.specs.Sights.{Sight}
 use Rattle.oss_roles.proofs.WordClaims.{quiet_steps_keep}
 use Rattle.oss_field.specs.declared.view.SeatView.{SeatView}
 use Rattle.oss_field.specs.Heard.{Told}
-use Rattle.oss_field.specs.Known.{Known, sight_of}
+use Rattle.oss_field.specs.Known.{Holding, Known, sight_of}
 use Rattle.oss_field.specs.Layout.{parts_of, info_word_of, state_word_of}
-use Rattle.oss_field.specs.Messages.{Bounded, Hangs, by_message, by_told, Informs, informed}
+use Rattle.oss_field.specs.Messages.{Bounded, Hangs, by_entry, by_last, by_message, by_told, Informs, informed}
+use Rattle.oss_field.specs.Owning.{HasEntry, entry_of}
 use Rattle.oss_field.specs.Steps.{Steps}
 use Rattle.oss_field.specs.Table.{Slot, is_job_of, sights_of, Stands}
 use Rattle.oss_field.proofs.HeardLemmas.{heard_on}
+use Rattle.oss_field.proofs.OwnLemmas.{borne, cell_filed, own_filed}
 use Rattle.oss_field.proofs.TableLemmas.{chained, read_stands, sits_at}
 use Rattle.oss_field.proofs.WordTable.{entry_stands, seats_on}
 
@@ -83,10 +85,20 @@ module _ (code : CodeParts) (fuel n : ℕ) (ws : List ℕ) (homes : List (maybe.
       let c = total_at (λ (z : View). z.delivered) (words_of (sights_of views)) id v.known.words view_at in
       omega (arith, a, b, c)
 
+  entry_hangs : (i : ℕ) (h : Holding) → get_elem? v.known.bears i ≡ maybe.some h → h.number ≢ 0 → (cell : Option ℕ) → HasEntry h cell → stands.rule.field.net.place (entry_of h cell) ≢ apart
+  entry_hangs i h holds number None has =
+      let x = own_filed code n (parts_of (length code.first) ws homes stands.cells) (sights_of views) stands.rule.field id v.known (sits_at views id v sits) i h holds number in
+      subst (λ (z : ℕ). stands.rule.field.net.place z ≢ apart) x.1 x.0.hangs
+  entry_hangs i h holds number (Some c) has =
+      let x = cell_filed code n (parts_of (length code.first) ws homes stands.cells) (sights_of views) stands.rule.field id v.known (sits_at views id v sits) i h holds number c has.0 has.1 has.2 in
+      subst (λ (z : ℕ). stands.rule.field.net.place z ≢ apart) x.3 x.0.hangs
+
   -- what hangs, so far as the seat knows
   pub hangs_is : (e : ℕ) → Hangs v.known e → stands.rule.field.net.place e ≢ apart
   hangs_is e (by_told i a) = (told_hangs e i a).0
   hangs_is e (by_message m h q) = subst (λ (z : ℕ). stands.rule.field.net.place z ≢ apart) q (held_hangs m h)
+  hangs_is e (by_entry i h holds number cell has q) = subst (λ (z : ℕ). stands.rule.field.net.place z ≢ apart) q (entry_hangs i h holds number cell has)
+  hangs_is e (by_last i h holds y last) = ((borne code n (parts_of (length code.first) ws homes stands.cells) (sights_of views) stands.rule.field id v.known (sits_at views id v sits) i h holds).last.some y e last).3
 
   pub informed_stands : (e : ℕ) → Hangs v.known e → Stands code fuel n ws homes (set views id (record { known = informed (length code.first) e (slice_index ws (info_word_of (length code.first) e)) v.known }))
   informed_stands e hangs =

@@ -4,6 +4,7 @@ pub mod DeliverLemmas
 pub mod DrawLemmas
 pub mod FlagLemmas
 pub mod GiveLemmas
+pub mod GivenLemmas
 pub mod HearLemmas
 pub mod HeardLemmas
 pub mod LowerLemmas

@@ -106,8 +106,7 @@ module _ (code : CodeParts) (fuel n id : ℕ) (v : SeatView) (e : ℕ) (i : Entr
   due = subst (λ (l : List ℕ). 0 < times t l) (sym owes) (pays (one_each t))
     where
       here : (z : ℕ) → num (z == z) ≡ 1
-      here zero = refl
-      here (suc z) = here z
+      here z = elim (eqb_tells z z) [ inl q ↦ ap num q.0 | inr q ↦ absurd (q.1 refl) ]
 
       pays : 0 + num (t == t) ≡ num (t == t) + 0 → 0 < num (t == t) + 0
       pays a = let b = here t in omega (arith, b)

@@ -85,7 +85,7 @@ module _ (code : CodeParts) {main : Start CodeScript} {first : List ℕ} {is_job
 
       eldest_is : (u x : ℕ) → Child f.net.place u x → f.net.place x ≡ first_place e → e ≡ u
       eldest_is u x (eldest t) p = let same : first_place e ≡ first_place u = sym p ∙ t in cc
-      eldest_is u x (younger {s = s} t rest) p = absurd (let bad : after s ≡ first_place e = sym t ∙ p in let no : ⊥ = cc in no)
+      eldest_is u x (younger {s = s} t rest) p = absurd (let bad : after s ≡ first_place e = sym t ∙ p in let never : ⊥ = cc in never)
 
       under : (j : ℕ) (p : List ℕ) → q.path ≡ j ∷ p → (j : ℕ) × (q.path ≡ j ∷ r.path) × (q.site ≡ r.site)
       under j [] path = absurd (no_top (f.roles.topmost c q j is_c hangs path))

@@ -2,6 +2,7 @@
 use Rattle.std.proofs.Common.{◌≡◌, ◌≢◌, ◌⊎◌, inl, inr, sym, subst, refl, ◌∙◌, ap, ℕ, zero, suc, ◌<◌, ◌≤◌, ◌+◌, ◌*◌, ◌%◌, ◌^◌, arith, Bool, true, false, List, [], ◌∷◌, ◌++◌, length, set, lt_of_not-le, Option, Some}
 use Rattle.std.specs.Prelude.{slice_index, ◌==◌, ◌&&◌, if◌then◌else◌}
 use Rattle.std.specs.Global.{Box}
+use Rattle.std.proofs.lemmas.Bool.Decides.{eqb_tells}
 use mathlib.Core.Option as maybe
 use mathlib.Core.Logic.{dite}
 use native.Mathlib.Decide.{dec_le}
@@ -170,8 +171,7 @@ module _ (code : CodeParts) (fuel n id : ℕ) (v : SeatView) (m : Message) (i : 
             omega (arith, count, owed, mine, one, none)
           where
             same : (z : ℕ) → num ((z == z) && true) ≡ 1
-            same zero = refl
-            same (suc z) = same z
+            same z = elim (eqb_tells z z) [ inl q ↦ ap (λ (b : Bool). num (b && true)) q.0 | inr q ↦ absurd (q.1 refl) ]
 
   pub passes : Steps code fuel n id v (state_word_of (length code.first) m.entry) (λ y. (y + weight m.flag) % 2 ^ 64) (λ y z. Passes n (length code.first) m i y v.known z)
   passes ws homes views stands sits bits =

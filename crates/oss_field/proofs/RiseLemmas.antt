@@ -26,9 +26,10 @@ use Rattle.oss_roles.specs.Roles.{Role, Site, itself, on, Filed}
 use Rattle.oss_roles.specs.Sights.{Sight}
 use Rattle.oss_roles.proofs.WordClaims.{last_links_keep}
 use Rattle.oss_field.specs.declared.view.SeatView.{SeatView}
-use Rattle.oss_field.specs.Giving.{GivesRest, HasEntry, IsHalfGiven, entry_of, gave_rest, site_of}
+use Rattle.oss_field.specs.Giving.{GivesRest, IsHalfGiven, gave_rest}
 use Rattle.oss_field.specs.Known.{Holding, Known, last_of, sight_of}
 use Rattle.oss_field.specs.Layout.{info_word_of, parts_of, state_word_of}
+use Rattle.oss_field.specs.Owning.{HasEntry, entry_of, site_of}
 use Rattle.oss_field.specs.Steps.{Steps}
 use Rattle.oss_field.specs.Table.{Neat, Slot, is_job_of, sights_of, Stands}
 use Rattle.oss_field.proofs.FlagLemmas.{added, num_off, parts_fit}
@@ -51,18 +52,18 @@ module _ (code : CodeParts) (fuel n id : ℕ) (v : SeatView) (cell : Option ℕ)
     abbrev f : Field (asks code) (code_main code fuel) code.first (is_job_of code stands.before) n k (sights_of views)
     f = stands.rule.field
 
-    at : Sits (sights_of views) id (sight_of v.known)
-    at = sits_at views id v sits
+    seated : Sits (sights_of views) id (sight_of v.known)
+    seated = sits_at views id v sits
 
     filed : (o : Option ℕ) → HasEntry h o → (x : Filed f.net f.role h.path (site_of o)) × (x.entry ≡ entry_of h o)
-    filed None has = own_filed code n k (sights_of views) f id v.known at s.place h s.holds s.below_main
-    filed (Some c) has = let x = cell_filed code n k (sights_of views) f id v.known at s.place h s.holds s.below_main c has.0 has.1 has.2 in (x.0, x.3)
+    filed None has = own_filed code n k (sights_of views) f id v.known seated s.place h s.holds s.below_main
+    filed (Some c) has = let x = cell_filed code n k (sights_of views) f id v.known seated s.place h s.holds s.below_main c has.0 has.1 has.2 in (x.0, x.3)
 
     child : (f.net.last e ≡ last) × ((k.states e).headed ≡ true) × (f.net.place last ≢ apart)
     child =
         let x = filed cell s.has in
         subst (λ (z : ℕ). (f.net.last z ≡ last) × ((k.states z).headed ≡ true) × (f.net.place last ≢ apart)) x.1
-        (last_child code n k (sights_of views) f id v.known at s.place h s.holds s.makes x.0.entry x.0.it x.0.is x.0.hangs x.0.path last (ap (λ (z : Site). last_of h z) x.0.site ∙ s.last_is))
+        (last_child code n k (sights_of views) f id v.known seated s.place h s.holds s.makes x.0.entry x.0.it x.0.is x.0.hangs x.0.path last (ap (λ (z : Site). last_of h z) x.0.site ∙ s.last_is))
 
     half : Half n f.net k.states k.infos e v.known.words
     half = f.words.flow.words.halves id v.known.words (view_at code fuel n ws homes views stands id v sits) e [] s.half
@@ -108,7 +109,7 @@ module _ (code : CodeParts) (fuel n id : ℕ) (v : SeatView) (cell : Option ℕ)
     rise_stands : Stands code fuel n (set ws (state_word_of (length code.first) last) (state_word c)) homes (set views id (record { known = l }))
     rise_stands =
         let rule = last_links_keep CodeScript (Box Job) (is_job_of code stands.before) (asks code) (code_main code fuel) code.first n k (sights_of views) f id (sight_of v.known) (sight_of l) e states' (record {
-          sits = at;
+          sits = seated;
           word = word;
           unlinked = half.unlinked;
           none = s.unjoined;

@@ -21,8 +21,6 @@ use Rattle.oss_words.specs.Bits.{info_at, state_at}
 use Rattle.oss_words.specs.Causes.{sent}
 use Rattle.oss_words.specs.Views.{Among, Seen}
 use Rattle.oss_roles.specs.JobSteps.{MayGive}
-use Rattle.oss_roles.specs.Numbers.{entry_number}
-use Rattle.oss_roles.specs.Roles.{Site, itself, on}
 use Rattle.oss_roles.specs.Sights.{Fixed, Making}
 use Rattle.oss_field.specs.Asks.{IsGiven}
 use Rattle.oss_field.specs.Heard.{Told}
@@ -30,15 +28,7 @@ use Rattle.oss_field.specs.Known.{Holding, Known, bearing_of, last_of, sight_of}
 use Rattle.oss_field.specs.Layout.{state_word_of}
 use Rattle.oss_field.specs.Messages.{Bounded}
 use Rattle.oss_field.specs.Moves.{loaded_beside, touched, with_body}
-
--- The site of a task's access to a cell, or of the task itself; and its entry there.
-abbrev pub site_of : Option ℕ → Site
-site_of None = itself
-site_of (Some c) = on c
-
-abbrev pub entry_of : Holding → Option ℕ → ℕ
-entry_of h None = h.number
-entry_of h (Some c) = entry_number h.number (right_of h.body.start.context) c
+use Rattle.oss_field.specs.Owning.{HasEntry, entry_of, site_of}
 
 -- The seat has read of the entry that it is not given up, and it stays so.
 pub record IsStillOpen (k : Known) (e : ℕ) : Type 0 where
@@ -111,11 +101,6 @@ pub record GivesRest (n m e last w found : ℕ) (k l : Known) : Type 0 where
   pub bounded : Bounded n l
   pub fits : found + (64 + 65536 * e) < 18446744073709551616
 
--- The task has an entry there.
-abbrev pub HasEntry : Holding → Option ℕ → Type 0
-HasEntry h None = Unit {0}
-HasEntry h (Some c) = (mode : Mode) × (strong : Bool) × (right_of h.body.start.context c ≡ Holds mode strong)
-
 -- The seat has given up this entry of a task, in the first of two steps; its last child, which has this info word, does not lead to it yet.
 pub record IsHalfGiven (k : Known) (cell : Option ℕ) (last w : ℕ) : Type 0 where
   pub place : ℕ
@@ -128,6 +113,36 @@ pub record IsHalfGiven (k : Known) (cell : Option ℕ) (last w : ℕ) : Type 0 w
   pub last_is : last_of holding (site_of cell) ≡ Some last
   pub told : Among (record { entry = last; info = info_at w }) k.told
   pub unjoined : k.joined ≡ []
+
+-- To give up this entry at once: the job has no child there.
+pub record MayGiveWhole (code : CodeParts) (job : Job) (n : ℕ) (k : Known) (cell : Option ℕ) (e w : ℕ) : Type 0 where
+  pub may : StandsToGive code job k cell
+  pub entry : entry_of may.holding cell ≡ e
+  pub none : last_of may.holding (site_of cell) ≡ None
+  pub told : Among (record { entry = e; info = info_at w }) k.told
+  pub inside : e < n
+  pub whole : k.words.half ≡ []
+  pub unjoined : k.joined ≡ []
+
+-- And for the first of two steps: it has one.
+pub record MayGiveHalf (code : CodeParts) (job : Job) (n : ℕ) (k : Known) (cell : Option ℕ) (e last : ℕ) : Type 0 where
+  pub may : StandsToGive code job k cell
+  pub entry : entry_of may.holding cell ≡ e
+  pub last_is : last_of may.holding (site_of cell) ≡ Some last
+  pub inside : e < n
+  pub whole : k.words.half ≡ []
+  pub unjoined : k.joined ≡ []
+
+-- What these steps tell, whatever else the seat holds.
+pub record HasGivenWhole (code : CodeParts) (job : Job) (n m : ℕ) (cell : Option ℕ) (w found : ℕ) (k l : Known) : Type 0 where
+  pub may : StandsToGive code job k cell
+  pub none : last_of may.holding (site_of cell) ≡ None
+  pub step : GivesWhole n m (entry_of may.holding cell) w may.place may.holding may.body found k l
+
+pub record HasGivenHalf (code : CodeParts) (job : Job) (m : ℕ) (cell : Option ℕ) (last found : ℕ) (k l : Known) : Type 0 where
+  pub may : StandsToGive code job k cell
+  pub last_is : last_of may.holding (site_of cell) ≡ Some last
+  pub step : GivesHalf m (entry_of may.holding cell) may.place may.holding may.body found k l
 
 -- What a give leaves held: with no child, what its step completed, which found this state word; and else what the link of the last child completed.
 pub data GiveSends (k : Known) (h : Holding) (cell : Option ℕ) (held : List Message) : Type 0 where

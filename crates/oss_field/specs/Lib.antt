@@ -6,6 +6,7 @@ pub mod Known
 pub mod Layout
 pub mod Messages
 pub mod Moves
+pub mod Owning
 pub mod Reading
 pub mod Standing
 pub mod Steps

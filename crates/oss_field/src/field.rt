@@ -82,13 +82,7 @@ impl Field {
         ensures seat { IfOk result (λ r. (r.1.field ≡ r.0.table) × (r.1.id ≡ 0) × (r.1.known ≡ first_known)) }
     {
         main_is_set(code, fuel);
-        let held = match room(alloc) {
-            Ok(held) => held,
-            Err(why) => {
-                drop(job);
-                return Err(why);
-            }
-        };
+        let held = room(alloc)?;
         let slots = first_slots(alloc, job, entries)?;
         let words = match first_words(alloc, code.first().as_slice(), entries) {
             Ok(words) => words,
