@@ -122,7 +122,7 @@ module _ (code : CodeParts) {main : Start CodeScript} {first : List ℕ} {is_job
         let child = f.roles.below e o r a.0 a.1 is a.2 hangs a.3 (a.4 ∙ ap (λ (z : List ℕ). a.1 ∷ z) (sym path)) a.5 in
         let eld = first_of child in (
           last_children_are_last CodeScript (Box Job) is_job (asks code) main first n k sights f id place (sight_of v) (bearing_of h) r.site o sits bears idle last
-          (record { entry = e; it = r; is = is; hangs = hangs; path = path; site = refl }),
+              (record { entry = e; it = r; is = is; hangs = hangs; path = path; site = refl }),
           (f.words.flow.words.hung_first e eld.0 eld.1).1,
           a.3,
         )

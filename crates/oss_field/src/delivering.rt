@@ -73,7 +73,14 @@ fn set_flag(words: &Words, seat: &mut Place, cells: u32, message: Message, info:
 }
 
 /// Lowers the count of a task, which the seat owes for a flag of this entry: the count as it was.
-fn lower_count(words: &Words, seat: &mut Place, cells: u32, task: u32, _entry: u32, _info: u64) -> u64
+fn lower_count(
+    words: &Words,
+    seat: &mut Place,
+    cells: u32,
+    task: u32,
+    _entry: u32,
+    _info: u64,
+) -> u64
     requires on { On words.now.table_id words.now.key seat.old }
     requires cells { cells ≡ length words.now.key.code.value.first }
     requires inside { task < words.now.key.entries }
@@ -95,14 +102,7 @@ fn free(found: u64, task: u32) -> Option<u32>
 
 /// Lowers the count that waits for a flag of an entry with this info word, if one does: its task, if the count is 0
 /// then.
-fn pay(
-    words: &Words,
-    seat: &mut Place,
-    cells: u32,
-    entry: u32,
-    flag: u8,
-    info: u64,
-) -> Option<u32>
+fn pay(words: &Words, seat: &mut Place, cells: u32, entry: u32, flag: u8, info: u64) -> Option<u32>
     requires on { On words.now.table_id words.now.key seat.old }
     requires cells { cells ≡ length words.now.key.code.value.first }
     requires told { Among (record { entry = entry; info = info_at info }) seat.old.me.0.known.told }

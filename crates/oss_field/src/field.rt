@@ -208,8 +208,12 @@ impl Field {
         ensures delivered { Delivered seat.old.known seat.new.known result }
         ensures bounded { seat.new.known.words.delivered ≤ 6 * self.now.entries }
     {
-        let (freed, last) =
-            deliver_first(&self.table.shared, &mut seat.place, &mut seat.held, self.cells);
+        let (freed, last) = deliver_first(
+            &self.table.shared,
+            &mut seat.place,
+            &mut seat.held,
+            self.cells,
+        );
         seat.last = last;
         freed
     }
