@@ -284,8 +284,8 @@ module _ (code : CodeParts) (fuel n id : ℕ) (v : SeatView) (job : Job) (t : �
     opens_stand =
         let y : ℕ = slice_index ws (count_word_of (length code.first) t) - 1 in
         let ws' : List ℕ = set ws (count_word_of (length code.first) t) y in
-        next_stands code fuel n ws homes views stands id v l sits refl refl told ws' homes stands.cells (length-set ws (count_word_of (length code.first) t) y ∙ stands.size) stands.slots stands.sized
-        (λ c low. cells_same code n ws homes stands.cells t y c low ∙ stands.cell_words c low) (λ e low z. stands.empty e low (sym (bodies_same code n ws homes stands.cells t y e) ∙ z)) (states_same code n ws homes stands.cells t y) (draw_same code n ws homes stands.cells t y)
+        next_stands code fuel n ws homes views stands id v l sits refl refl refl told ws' homes stands.cells (length-set ws (count_word_of (length code.first) t) y ∙ stands.size) stands.slots stands.sized
+        (λ c low. cells_same code n ws homes stands.cells t y c low ∙ stands.cell_words c low) (λ e low z. stands.empty e low (sym (bodies_same code n ws homes stands.cells t y e) ∙ z)) (states_same code n ws homes stands.cells t y) (infos_same code n ws homes stands.cells t y) (draw_same code n ws homes stands.cells t y)
         (plans_stand code n stands.net stands.role ws ws' (set (planned_by views) id (planned_of l)) (planned_by (set views id (record { known = l }))) (states_same code n ws homes stands.cells t y) (infos_same code n ws homes stands.cells t y) (numbers_same code n ws homes stands.cells t y)
         (map-set (λ (z : SeatView). planned_of z.known) views id (record { known = l }))
         (planned_less code n stands.net stands.role k.states k.infos k.cell_of (planned_by views) stands.planned id (planned_of v.known) planned_at t may.linked))

@@ -21,6 +21,7 @@ use Rattle.oss_words.specs.Steps.{no_flags}
 use Rattle.oss_words.specs.Views.{Among}
 use Rattle.oss_roles.specs.Numbers.{entry_number}
 use Rattle.oss_roles.specs.Roles.{Role, itself, on}
+use Rattle.oss_field.specs.Heard.{Told}
 use Rattle.oss_field.specs.Known.{Holding, Known, Plan, Unlinked, last_of}
 
 -- The right of the new task to each cell, if the body x stands before its creation.
@@ -57,13 +58,14 @@ pub record Planned : Type 0 where
 abbrev pub planned_of : Known → Planned
 planned_of k = record { plans = k.plans; unlinked = k.unlinked }
 
--- The same, and what the seat has drawn.
+-- The same, what the seat has drawn, and what it was told of entries.
 pub record Prepared : Type 0 where
   pub drawn : List ℕ
   pub planned : Planned
+  pub told : List Told
 
 abbrev pub prepared_of : Known → Prepared
-prepared_of k = record { drawn = k.drawn; planned = planned_of k }
+prepared_of k = record { drawn = k.drawn; planned = planned_of k; told = k.told }
 
 -- What the role of an entry of a planned task says: it is the task's own, for which its count does not wait, or that on a cell to which it has a right.
 pub data IsRoleOf (code : CodeParts) (y : Plan) (e : ℕ) (r : Role) : Type 0 where

@@ -1,6 +1,6 @@
 //! A field.
 
-ghost use Rattle.std.specs.Prelude.{◌≡◌, ◌<◌, ◌≤◌, ◌+◌, ◌*◌, ◌==◌, ℕ, [], length, None, IfErr, IfNone, IfOk, IfSome, box_value};
+ghost use Rattle.std.specs.Prelude.{◌≡◌, ◌≢◌, ◌<◌, ◌≤◌, ◌+◌, ◌*◌, ◌==◌, ℕ, [], length, None, IfErr, IfNone, IfOk, IfSome, box_value};
 ghost use Rattle.oss_body.specs.Mains.{code_main};
 ghost use Rattle.oss_field.specs.Asks.{IsLoaded, IsStored, MayLoad, MayStore};
 ghost use Rattle.oss_field.specs.Drawing.{IsAboveAll, drew, missed};
@@ -8,6 +8,7 @@ ghost use Rattle.oss_field.specs.Known.{Holding, first_known};
 ghost use Rattle.oss_field.specs.Layout.{words_in};
 ghost use Rattle.oss_field.specs.Linking.{MayLinkFirst, linked_first};
 ghost use Rattle.oss_field.specs.Making.{HasBegun, IsOpened, IsPutFirst, MayBegin, MayOpen, MayPutFirst};
+ghost use Rattle.oss_field.specs.Messages.{Delivered, NoJoinFirst};
 ghost use Rattle.oss_field.specs.Moves.{touched};
 ghost use Rattle.oss_field.specs.Reading.{after_flags};
 ghost use Rattle.oss_field.specs.Seats.{IsIdle, merged, new_known, parted};
@@ -17,8 +18,10 @@ ghost use Rattle.oss_jobs.specs.Jobs.{IsJob, task_of};
 ghost use Rattle.oss_words.specs.Bits.{FitsInfo};
 
 use crate::cells::{load_cell, store_cell};
+use crate::delivering::deliver_first;
 use crate::drawing::add_draw;
 use crate::flags::read_flags;
+use crate::held::room;
 use crate::key::FieldKey;
 use crate::linking::link_first_of;
 use crate::making::{fill_count, open_task, put_new};
@@ -26,6 +29,7 @@ use crate::seat::FieldSeat;
 use crate::seats::{merge, part};
 use crate::slots::{put_slot, take_job};
 use crate::start::{FieldTable, first_slots, first_words, open_table};
+use crate::touched::Touched;
 use oss_body::main_is_set;
 use oss_code::Code;
 use oss_jobs::Job;
@@ -86,6 +90,7 @@ impl Field {
         ensures seat { IfOk result (λ r. (r.1.field ≡ r.0.table) × (r.1.id ≡ 0) × (r.1.known ≡ first_known)) }
     {
         main_is_set(code, fuel);
+        let held = room(alloc)?;
         let slots = first_slots(alloc, job, entries)?;
         let words = match first_words(alloc, code.first().as_slice(), entries) {
             Ok(words) => words,
@@ -105,7 +110,12 @@ impl Field {
             entries,
             cells: code.first().len() as u32,
         };
-        Ok((field, FieldSeat { place }))
+        let last = Touched {
+            entry: 0,
+            state: 0,
+            info: 0,
+        };
+        Ok((field, FieldSeat { place, held, last }))
     }
 
     /// So many new entries, from 1 to 16,777,216: the first of them; the others follow it. No other seat gets one of them,
@@ -296,5 +306,27 @@ impl Field {
     {
         let FieldSeat { place } = other;
         merge(&self.table.shared, &mut seat.place, place);
+    }
+
+    /// Delivers the message that comes first of those that the seat holds, which is no join: its flag stands from then on,
+    /// and what that completes is held. If a count waits for the flag, the call lowers that count in a second step. The
+    /// task whose count became 0 by it; `None` exactly if no count waits for the flag, or the count was not 1. The seat
+    /// knows what it touched. All seats together deliver at most six messages for each entry.
+    pub fn deliver(&self, seat: &mut FieldSeat) -> Option<u32>
+        requires field { seat.old.field ≡ self.now.table }
+        requires some { seat.old.known.words.held ≢ [] }
+        requires join { NoJoinFirst seat.old.known }
+        ensures same { (seat.new.field ≡ seat.old.field) × (seat.new.id ≡ seat.old.id) }
+        ensures delivered { Delivered seat.old.known seat.new.known result }
+        ensures bounded { seat.new.known.words.delivered ≤ 6 * self.now.entries }
+    {
+        let (freed, last) = deliver_first(
+            &self.table.shared,
+            &mut seat.place,
+            &mut seat.held,
+            self.cells,
+        );
+        seat.last = last;
+        freed
     }
 }
