@@ -125,7 +125,11 @@ fn chain_of(alloc: Global, ledger: &Ledger) -> Result<List<Link>, AllocError>
 /// How a task came to be.
 fn link(begun: &Begun) -> Result<Link, AllocError>
     ensures { IfOk result (λ link. link ≡ record {
-        task = begun.now.point; line = begun.now.line; entry = begun.now.entry; included = begun.now.included }) }
+      task = begun.now.point;
+      line = begun.now.line;
+      entry = begun.now.entry;
+      included = begun.now.included;
+    }) }
 {
     Ok(Link {
         task: begun.point.copy()?,

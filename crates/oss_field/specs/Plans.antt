@@ -30,6 +30,7 @@ new_rights code x order = right_of (new_task (asks code) x order).body.start.con
 
 -- The flags for which a new task waits
 
+-- There is none.
 abbrev pub is_missing : Option ℕ → Bool
 is_missing None = true
 is_missing (Some e) = false

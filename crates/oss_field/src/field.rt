@@ -44,7 +44,8 @@ use std::snapshot::Snapshot;
 ///
 /// Whatever the threads do, and however their steps interleave, the words, slots and seats stand for one state of the
 /// machine, which a run from the start of main can reach. What is here so far: a field in which main alone begins, the
-/// touches of cells by a job that a seat holds, draws of entries, and the flags of an entry.
+/// taking and putting of jobs, the touches of cells by a job that a seat holds, draws of entries, the flags of an entry,
+/// the making of a task all of whose entries begin lists of main, and seats that split and join.
 #[derive(Drop)]
 pub struct Field {
     /// The words and slots.

@@ -1,6 +1,6 @@
 -- What the trials know after each call.
-use Rattle.std.proofs.Common.{◌≡◌, ◌≢◌, sym, subst, refl, ◌∙◌, ap, ℕ, zero, suc, Bool, true, false, List, [], ◌∷◌, set}
-use Rattle.std.specs.Prelude.{Option}
+use Rattle.std.proofs.Common.{◌≡◌, ◌≢◌, sym, subst, refl, ◌∙◌, ap, ℕ, zero, suc, ◌<◌, ◌≤◌, ◌+◌, Bool, true, false, List, [], ◌∷◌, set}
+use Rattle.std.specs.Prelude.{Option, Some, None, IfNone, IfSome}
 use mathlib.Core.Option as maybe
 use lib.ListN.{get_elem?}
 use Rattle.oss_body.specs.declared.act.Act.{Act as Pending}
@@ -23,7 +23,9 @@ use Rattle.oss_roles.specs.Roles.{Site}
 use Rattle.oss_roles.specs.Sights.{Making}
 use Rattle.oss_field.specs.Asks.{HoldsOnce, IsGiven, IsLoaded, IsStored, MayLoad, MayStore, StandsBefore, to_load, to_store, has_loaded, has_noted, has_stored, has_folded}
 use Rattle.oss_field.specs.Known.{Holding, Known, last_of}
+use Rattle.oss_field.specs.Drawing.{IsAboveAll, drew, missed}
 use Rattle.oss_field.specs.Moves.{answered, touched, with_body}
+use Rattle.oss_field.specs.Seats.{IsIdle, new_known}
 use Rattle.oss_field.specs.Taking.{IsPut, IsTaken, MayPut, after_count, after_take}
 use Rattle.oss_field_tests.specs.Trials.{Idles, Works}
 
@@ -110,3 +112,12 @@ module _ (code : CodeParts) (job : Job) (k : Known) (w : Works code job k) (runn
   pub stored : (job' : Job) (l : Known) (c v : ℕ) → pending_of (body_of job) ≡ acts.Store c v → IsStored code job c v k l → Advances job' 0 → Works code job' l
   stored job' l c v is (has_stored r) advance = goes_on job' l (Store c v) 0 _ v r.at_store r.once r.known (answers job' (acts.Store c v) 0 is advance)
   stored job' l c v is (has_folded op x r) advance = absurd (store_no_fold c (word_of v) op x (sym (ap act_seen is) ∙ (r.before.at_fold.given.is.body.act running ∙ r.before.at_fold.act)))
+
+-- a new seat has nothing left to do, and so it is after a draw
+pub new_idle : (k : Known) → k ≡ new_known → IsIdle k
+new_idle k is = subst (λ (z : Known). IsIdle z) (sym is) (record { held = refl; half = refl; unsplit = refl; bears = refl; makes = refl; joined = refl; owes = refl; plans = refl; unlinked = refl })
+
+pub drawn_idle : (entries count : ℕ) (found : Option ℕ) (k l : Known) → IsIdle k → IfSome found (λ e. (e + count ≤ entries) × IsAboveAll e k × (l ≡ touched 0 e (drew count e k)))
+    → IfNone found ((n : ℕ) × (entries < n + count) × (l ≡ touched 0 n (missed k))) → IsIdle l
+drawn_idle entries count (Some e) k l i some none = subst (λ (z : Known). IsIdle z) (sym some.2) (record { held = i.held; half = i.half; unsplit = i.unsplit; bears = i.bears; makes = i.makes; joined = i.joined; owes = i.owes; plans = i.plans; unlinked = i.unlinked })
+drawn_idle entries count None k l i some none = subst (λ (z : Known). IsIdle z) (sym none.2) (record { held = i.held; half = i.half; unsplit = i.unsplit; bears = i.bears; makes = i.makes; joined = i.joined; owes = i.owes; plans = i.plans; unlinked = i.unlinked })

@@ -1,6 +1,6 @@
-//! A field in which main alone stores and loads, and entries that are drawn in it.
+//! A field in which main alone stores and loads, entries that are drawn in it, and seats that come and go.
 
-use crate::trials::{main_job, touch_once};
+use crate::trials::{draw_apart, main_job, touch_once};
 use oss_code::{Code, CodeParts, GlobalPlace, Instr};
 use oss_field::Field;
 use oss_syntax::{Cells, List, NumKind, Range};
@@ -79,6 +79,24 @@ fn entries_are_drawn_in_turn(rt: HostRuntime) {
     }
     let flags = field.flags(&mut seat, 2);
     assert!(rt; flags == 0);
+    drop(seat);
+    drop(field);
+    drop(code);
+}
+
+/// A seat that was split off draws what comes next, and after it was joined the first seat draws on.
+#[test]
+fn a_seat_is_split_and_joined(rt: HostRuntime) {
+    let code = code(&rt);
+    if code.first().len() > 1_048_576 {
+        return;
+    }
+    let job = main_job(rt.alloc(), &code, 100).expect(&rt, "memory");
+    let (field, mut seat) = Field::new(rt.alloc(), &code, 100, 8, job).expect(&rt, "memory");
+    let first = draw_apart(&field, &mut seat, 2).expect(&rt, "memory");
+    assert!(rt; first == Some(1));
+    let next = field.draw(&mut seat, 1);
+    assert!(rt; next == Some(3));
     drop(seat);
     drop(field);
     drop(code);

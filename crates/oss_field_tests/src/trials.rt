@@ -124,3 +124,23 @@ pub(crate) fn touch_once(
         }
     }
 }
+
+/// Splits a seat, draws so many entries by the new one, and joins it again: the first that was drawn.
+pub(crate) fn draw_apart(
+    field: &Field,
+    seat: &mut FieldSeat,
+    count: u32,
+) -> Result<Option<u32>, AllocError>
+    requires field { seat.old.field ≡ field.now.table }
+    requires first { (seat.old.id ≡ 0) × (1 < seat.old.known.words.parts) }
+    requires few { seat.old.known.words.splits < 65536 }
+    requires draws { seat.old.known.words.failed ≡ 0 }
+    requires most { (0 < count) × (count ≤ 16777216) }
+    ensures same { seat.new.field ≡ seat.old.field }
+    ensures draws { OnOk result (seat.new.known.words.failed ≡ 0) }
+{
+    let mut other = field.split(seat)?;
+    let found = field.draw(&mut other, count);
+    field.join(seat, other);
+    Ok(found)
+}

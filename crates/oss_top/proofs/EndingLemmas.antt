@@ -1,5 +1,5 @@
 -- The end of a code's run, with the explanation of its fault, is that of its program's run.
-use Rattle.std.proofs.Common.{◌≡◌, subst, ℕ}
+use Rattle.std.proofs.Common.{subst, ℕ}
 use Rattle.oss_syntax.specs.declared.tree.program.Program.{Program}
 use Rattle.oss_model.specs.Agreement.{AreWords}
 use Rattle.oss_meaning.specs.Expressions.{TaskBody, TreeScript}

@@ -1,4 +1,4 @@
-use Rattle.std.proofs.Common.{◌≡◌, ◌≤◌, ◌∙◌, ap, length, subst, sym}
+use Rattle.std.proofs.Common.{◌≤◌, ◌∙◌, ap, length, subst, sym}
 use Rattle.oss_grammar.specs.Layout.{cells_in}
 use Rattle.oss_model.specs.Agreement.{AreWords}
 use Rattle.oss_lower_laws.proofs.OutcomeLaws.{cells_are}
