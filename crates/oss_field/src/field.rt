@@ -205,6 +205,7 @@ impl Field {
     {
         read_flags(&self.table.shared, &mut seat.place, self.cells, entry)
     }
+
     /// Begins to make a task: fills its count. The creation stands next in a job that the seat holds, which since the
     /// seat's last call with it has gone on as before `load`, and by which the seat makes no task yet. The seat has drawn
     /// the task's number, which is above that of the job and above its last children, and behind it one entry for each
@@ -280,10 +281,11 @@ impl Field {
     {
         open_task(&self.table.shared, &mut seat.place, job, self.cells, task)
     }
+
     /// A new seat, which may go to another thread: it holds nothing and knows nothing. The seat is the one with which the
     /// field was made, and was split fewer than 65,536 times; it gives the new one a part of its own. It is an
-    /// error if memory is wanted: the seat is as it was then.
-    pub fn split(&self, seat: &mut FieldSeat) -> Result<FieldSeat, AllocError>
+    /// error if memory is wanted: the seat is as it was then. It takes memory.
+    pub fn split(&self, alloc: Global, seat: &mut FieldSeat) -> Result<FieldSeat, AllocError>
         requires field { seat.old.field ≡ self.now.table }
         requires first { (seat.old.id ≡ 0) × (1 < seat.old.known.words.parts) }
         requires few { seat.old.known.words.splits < 65536 }
@@ -292,8 +294,14 @@ impl Field {
         ensures known { IfOk result (λ _. seat.new.known ≡ parted seat.old.known) }
         ensures other { IfOk result (λ s. (s.field ≡ seat.old.field) × (s.known ≡ new_known)) }
     {
+        let held = room(alloc)?;
         let place = part(&self.table.shared, &mut seat.place);
-        Ok(FieldSeat { place })
+        let last = Touched {
+            entry: 0,
+            state: 0,
+            info: 0,
+        };
+        Ok(FieldSeat { place, held, last })
     }
 
     /// The end of another seat, which has nothing left to do: it holds no message and no job, makes no task and owes
@@ -305,7 +313,8 @@ impl Field {
         ensures same { (seat.new.field ≡ seat.old.field) × (seat.new.id ≡ seat.old.id) }
         ensures known { seat.new.known ≡ merged seat.old.known other.known }
     {
-        let FieldSeat { place } = other;
+        let FieldSeat { place, held, .. } = other;
+        drop(held);
         merge(&self.table.shared, &mut seat.place, place);
     }
 
