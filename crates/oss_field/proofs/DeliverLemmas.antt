@@ -16,6 +16,7 @@ use Rattle.oss_field.specs.declared.touched.Touched.{Touched}
 use Rattle.oss_field.specs.Heard.{Told, Lowered}
 use Rattle.oss_field.specs.Known.{Known, first_known}
 use Rattle.oss_field.specs.Messages.{Bounded, Delivered, IsFirst, IsPaid, JoinFirst, Learns, MayDeliver, NoJoinFirst, NoneBefore, OneInfo, Passes, Ready, Settled, delivered, freed, is_due, lowered_after, lowered_by, message_of, owes_after, passed}
+use Rattle.oss_field.specs.Seats.{new_known}
 use Rattle.oss_field.proofs.MessageLemmas.{as_many, first_held, first_is, first_join, first_later, first_names, first_told, flags_small, left_ready, none_held, still_bounded}
 
 -- what is paid if nothing waits for the flag
@@ -168,6 +169,17 @@ module _ (held : List Held) (n : ℕ) (k : Known) (s : Settled held n k) where
 -- the seat with which a field is made
 pub first_settled : (held : List Held) (n : ℕ) (k : Known) → held ≡ [] → k ≡ first_known → Settled held n k
 first_settled held n k none known = subst (λ (z : Known). Settled held n z) (sym known) (subst (λ (xs : List Held). Settled xs n first_known) (sym none) (record {
+  ready = record { same = λ h. refl; told = λ x a. elim a [ ] };
+  bounded = record { room = omega arith; names = λ m h. elim h [ ] };
+  whole = refl;
+  unjoined = refl;
+  unowed = refl;
+  one = λ e i j a b. elim a [ ];
+}))
+
+-- a seat that was split off
+pub new_settled : (held : List Held) (n : ℕ) (k : Known) → held ≡ [] → k ≡ new_known → Settled held n k
+new_settled held n k none known = subst (λ (z : Known). Settled held n z) (sym known) (subst (λ (xs : List Held). Settled xs n new_known) (sym none) (record {
   ready = record { same = λ h. refl; told = λ x a. elim a [ ] };
   bounded = record { room = omega arith; names = λ m h. elim h [ ] };
   whole = refl;

@@ -34,10 +34,10 @@ use Rattle.oss_field.specs.Layout.{parts_of, info_word_of, state_word_of}
 use Rattle.oss_field.specs.Messages.{Bounded, Hangs, by_entry, by_last, by_message, by_told, Informs, informed}
 use Rattle.oss_field.specs.Owning.{HasEntry, entry_of}
 use Rattle.oss_field.specs.Steps.{Steps}
-use Rattle.oss_field.specs.Table.{Slot, is_job_of, sights_of, Stands}
+use Rattle.oss_field.specs.Table.{Slot, is_job_of, planned_by, sights_of, Stands}
 use Rattle.oss_field.proofs.HeardLemmas.{heard_on}
 use Rattle.oss_field.proofs.OwnLemmas.{borne, cell_filed, own_filed}
-use Rattle.oss_field.proofs.TableLemmas.{chained, read_stands, sits_at}
+use Rattle.oss_field.proofs.TableLemmas.{chained, plans_same, plans_stand, read_stands, sits_at}
 use Rattle.oss_field.proofs.WordTable.{entry_stands, seats_on}
 
 module _ (code : CodeParts) (fuel n : ℕ) (ws : List ℕ) (homes : List (maybe.Option Slot)) (views : List SeatView) (stands : Stands code fuel n ws homes views) (id : ℕ) (v : SeatView) (sits : get_elem? views id ≡ maybe.some v) where
@@ -123,6 +123,7 @@ module _ (code : CodeParts) (fuel n : ℕ) (ws : List ℕ) (homes : List (maybe.
         | among_first q ↦ inr (fresh t q)
         | among_later b ↦ inl b
       ]) (λ j h. refl) stands.heard)
+      (plans_stand code n stands.net stands.role ws ws (planned_by views) (planned_by (set views id (record { known = l }))) (λ j. refl) (λ j. refl) (λ j. refl) (plans_same views id v l sits refl) stands.planned)
       (seats_on code fuel n ws homes views stands id v sits states_now l.words refl refl refl (omega arith))
       rule
     where

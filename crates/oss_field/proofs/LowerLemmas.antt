@@ -25,9 +25,9 @@ use Rattle.oss_field.specs.Known.{Known, sight_of}
 use Rattle.oss_field.specs.Layout.{cell_word, state_word_of, info_word_of, value_word_of, number_word_of, count_word_of, body_word_of, parts_of, job_in}
 use Rattle.oss_field.specs.Messages.{Lowers, lowered_by}
 use Rattle.oss_field.specs.Steps.{Steps}
-use Rattle.oss_field.specs.Table.{Slot, is_job_of, sights_of, Stands}
+use Rattle.oss_field.specs.Table.{Slot, is_job_of, planned_by, sights_of, Stands}
 use Rattle.oss_field.proofs.HearLemmas.{told_hangs}
-use Rattle.oss_field.proofs.TableLemmas.{chained, next_stands, sits_at}
+use Rattle.oss_field.proofs.TableLemmas.{chained, next_stands, plans_same, plans_stand, sits_at}
 
 mod_down : (x : ℕ) → 0 < x → x < 18446744073709551616 → (x + (2 ^ 64 - 1)) % 2 ^ 64 ≡ x - 1
 mod_down x some small = omega (arith, some, small)
@@ -84,8 +84,9 @@ module _ (code : CodeParts) (fuel n : ℕ) (ws : List ℕ) (homes : List (maybe.
       (length-set ws (count_word_of (length code.first) t) y ∙ stands.size) stands.slots stands.sized
       (λ c low. get_or-set_other ws (count_word_of (length code.first) t) (cell_word c) y 0 (λ q. absurd (omega (arith, q, low))) ∙ stands.cell_words c low)
       (λ e low z. stands.empty e low (sym (bodies_same e) ∙ z))
-      states_same infos_same
+      states_same (λ e hangs. infos_same e)
       (get_or-set_other ws (count_word_of (length code.first) t) 0 y 0 (λ q. absurd (omega (arith, q))))
+      (plans_stand code n stands.net stands.role ws ws' (planned_by views) (planned_by (set views id (record { known = l }))) states_same infos_same numbers_same (plans_same views id v l sits refl) stands.planned)
       (subst (λ (z : Parts (Box Job)). FieldAt (asks code) (code_main code fuel) code.first (is_job_of code stands.before) n stands.net stands.gave stands.role z (set (sights_of views) id (sight_of l))) parts_now rule)
 
 module _ (code : CodeParts) (fuel n id : ℕ) (v : SeatView) (e : ℕ) (i : EntryInfo) (told : Among (record { entry = e; info = i }) v.known.told) (t : ℕ) (task : i.task ≡ t) (owes : v.known.owes ≡ t ∷ []) (inside : t < n) where

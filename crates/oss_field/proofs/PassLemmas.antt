@@ -146,7 +146,9 @@ module _ (code : CodeParts) (fuel n id : ℕ) (v : SeatView) (m : Message) (i : 
         (let a = came_one n f.net k.states states' k.infos (words_of (sights_of views)) m (without m v.known.words.held) id v.known.words l.words f.words.flow (view_at code fuel n ws homes views stands id v sits) word (λ y. 1) in omega (arith, a))
 
     passed_stands : Stands code fuel n (set ws (state_word_of (length code.first) m.entry) (state_word c)) homes (set views id (record { known = l }))
-    passed_stands = state_stands code fuel n ws homes views stands m.entry may.inside c fits neat id v l sits refl refl (stands.told id v sits) refl refl refl more stands.gave (chained stands rule)
+    passed_stands = state_stands code fuel n ws homes views stands m.entry may.inside c fits neat id v l sits refl refl refl
+        (subst (λ (z : Net). z.place m.entry ≢ apart) stands.rule.same_net (told_hangs code fuel n ws homes views stands id v sits m.entry (info_at i) may.told).0)
+        (stands.told id v sits) refl refl refl more stands.gave (chained stands rule)
 
     -- the task to whose count a count down is owed is one of the table
     task_inside : is_due (info_at i) m.flag ≡ true → (info_at i).task < n

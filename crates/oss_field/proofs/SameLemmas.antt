@@ -9,8 +9,11 @@ use Rattle.oss_jobs.specs.declared.job.Job.{Job}
 use Rattle.oss_field.specs.Asks.{IsLoaded, IsStored, has_loaded, has_noted, has_stored, has_folded}
 use Rattle.oss_field.specs.Drawing.{IsDrawn}
 use Rattle.oss_field.specs.Known.{Holding, Known}
+use Rattle.oss_field.specs.Linking.{linked_first}
+use Rattle.oss_field.specs.Making.{HasBegun, IsOpened, IsPutFirst}
 use Rattle.oss_field.specs.Messages.{SameMessages}
 use Rattle.oss_field.specs.Reading.{after_flags}
+use Rattle.oss_field.specs.Seats.{merged, parted}
 use Rattle.oss_field.specs.Taking.{IsMissing, IsPut, IsTaken, is_out, is_waiting, after_count, after_miss, after_take}
 
 pub same_then : (k l n : Known) → SameMessages k l → SameMessages l n → SameMessages k n
@@ -35,6 +38,24 @@ pub drawn_messages : (n count found : ℕ) (k l : Known) → IsDrawn n count fou
 drawn_messages n count found k l d = dite (dec_le (found + count) n)
     (λ le. subst (λ (z : Known). SameMessages k z) (sym (d.enough le)) (record { held = refl; half = refl; told = refl; joined = refl; owes = refl; last = refl }))
     (λ gt. subst (λ (z : Known). SameMessages k z) (sym (d.too_few (lt_of_not-le gt))) (record { held = refl; half = refl; told = refl; joined = refl; owes = refl; last = refl }))
+
+pub begun_messages : (code : CodeParts) (n : ℕ) (job : Job) (t count : ℕ) (k l : Known) → HasBegun code n job t count k l → SameMessages k l
+begun_messages code n job t count k l b = subst (λ (z : Known). SameMessages k z) (sym b.known) (record { held = refl; half = refl; told = refl; joined = refl; owes = refl; last = refl })
+
+pub linked_messages : (m e : ℕ) (k l : Known) → l ≡ linked_first m e k → SameMessages k l
+linked_messages m e k l known = subst (λ (z : Known). SameMessages k z) (sym known) (record { held = refl; half = refl; told = refl; joined = refl; owes = refl; last = refl })
+
+pub put_first_messages : (code : CodeParts) (job : Job) (m : ℕ) (k l : Known) → IsPutFirst code job m k l → SameMessages k l
+put_first_messages code job m k l p = subst (λ (z : Known). SameMessages k z) (sym p.known) (record { held = refl; half = refl; told = refl; joined = refl; owes = refl; last = refl })
+
+pub opened_messages : (code : CodeParts) (job : Job) (t found : ℕ) (k l : Known) → IsOpened code job t found k l → SameMessages k l
+opened_messages code job t found k l o = subst (λ (z : Known). SameMessages k z) (sym o.known) (record { held = refl; half = refl; told = refl; joined = refl; owes = refl; last = refl })
+
+pub parted_messages : (k l : Known) → l ≡ parted k → SameMessages k l
+parted_messages k l known = subst (λ (z : Known). SameMessages k z) (sym known) (record { held = refl; half = refl; told = refl; joined = refl; owes = refl; last = refl })
+
+pub merged_messages : (k x l : Known) → l ≡ merged k x → SameMessages k l
+merged_messages k x l known = subst (λ (z : Known). SameMessages k z) (sym known) (record { held = refl; half = refl; told = refl; joined = refl; owes = refl; last = refl })
 
 count_messages : (m t n : ℕ) (k : Known) → SameMessages k (after_count m t n k)
 count_messages m t zero k = record { held = refl; half = refl; told = refl; joined = refl; owes = refl; last = refl }

@@ -151,13 +151,13 @@ module _ (code : CodeParts) (fuel n : ℕ) (ws : List ℕ) (homes : List (maybe.
         | inl h ↦ absurd (some (sym here ∙ (ap (λ (j : ℕ). slice_index ws' (body_word_of (length code.first) j)) (sym h.1) ∙ z)))
         | inr h ↦ set_else homes t e home' h.1 ∙ stands.empty e low (sym (bodies_else e h.1) ∙ z)
       ])
-      states_same infos_same
+      states_same (λ e hangs. infos_same e)
       (get_or-set_other ws (body_word_of (length code.first) t) 0 x 0 (λ q. absurd (omega (arith, q))))
       (plans_stand code n stands.net stands.role ws ws' (planned_by views) (planned_by (set views id (record { known = l }))) states_same infos_same numbers_same (plans_same views id v l sits (ap (λ (z : Prepared). z.planned) drawn)) stands.planned)
       (subst (λ (z : Parts (Box Job)). FieldAt (asks code) (code_main code fuel) code.first (is_job_of code stands.before) n stands.net stands.gave stands.role z (set (sights_of views) id (sight_of l))) parts_now rule)
 
 -- a task whose job a seat holds is within the cells and the entries
-within : (code : CodeParts) (main : Start CodeScript) (first : List ℕ) (is_job : Telling CodeScript (Box Job)) (n : ℕ) (k : Parts (Box Job)) (sights : List (Sight CodeScript)) (f : Field (asks code) main first is_job n k sights)
+pub within : (code : CodeParts) (main : Start CodeScript) (first : List ℕ) (is_job : Telling CodeScript (Box Job)) (n : ℕ) (k : Parts (Box Job)) (sights : List (Sight CodeScript)) (f : Field (asks code) main first is_job n k sights)
     (id : ℕ) (v : Known) (sits : Sits sights id (sight_of v)) (place : ℕ) (h : Holding) → get_elem? v.bears place ≡ maybe.some h → IsWithin (length first) n h
 within code main first is_job n k sights f id v sits place h holds =
     let b = borne code n k sights f id v sits place h holds in

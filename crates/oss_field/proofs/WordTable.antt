@@ -1,5 +1,5 @@
 -- The table after a step that changes the state word of an entry, or the count of a task, and what its seat knows of the words.
-use Rattle.std.proofs.Common.{◌≡◌, ◌≢◌, ◌⊎◌, inl, inr, sym, subst, refl, ◌∙◌, ap, ℕ, ◌<◌, ◌≤◌, ◌+◌, ◌*◌, arith, Bool, List, [], ◌∷◌, length, set}
+use Rattle.std.proofs.Common.{◌≡◌, ◌≢◌, ◌⊎◌, inl, inr, sym, subst, refl, ◌∙◌, ap, ℕ, ◌<◌, ◌≤◌, ◌+◌, ◌*◌, arith, Bool, List, [], ◌∷◌, length, set, Option, Some, None}
 use Rattle.std.specs.Prelude.{slice_index}
 use Rattle.std.specs.Global.{Box}
 use mathlib.Core.Option as maybe
@@ -11,8 +11,10 @@ use Rattle.oss_code.specs.declared.code.CodeParts.{CodeParts}
 use Rattle.oss_jobs.specs.declared.job.Job.{Job}
 use Rattle.oss_machine.specs.Frames.{CodeScript}
 use Rattle.oss_machine.specs.Machines.{asks}
+use Rattle.oss_words.specs.declared.entry.EntryInfo.{EntryInfo}
 use Rattle.oss_words.specs.declared.entry.EntryState.{EntryState}
 use Rattle.oss_words.specs.Bits.{state_at, state_word, info_at, FitsWord}
+use Rattle.oss_words.specs.Net.{Net, apart}
 use Rattle.oss_words.specs.Seats.{came}
 use Rattle.oss_words.specs.Sums.{total}
 use Rattle.oss_words.specs.Views.{View, Among, At}
@@ -21,6 +23,7 @@ use Rattle.oss_words.proofs.SeatLemmas.{length_set}
 use Rattle.oss_words.proofs.SumLemmas.{same_number, total_set}
 use Rattle.oss_roles.specs.Drawing.{AreDrawn, IsFree}
 use Rattle.oss_roles.specs.Field.{FieldAt, Parts, words_of}
+use Rattle.oss_roles.specs.Roles.{Role}
 use Rattle.oss_roles.specs.Sights.{Sight}
 use Rattle.oss_roles.proofs.DrawLaw.{draws_keep}
 use Rattle.oss_roles.proofs.OtherLaw.{words_set}
@@ -29,9 +32,10 @@ use Rattle.oss_field.specs.Heard.{Told}
 use Rattle.oss_field.specs.Known.{Holding, Known, sight_of}
 use Rattle.oss_field.specs.Layout.{cell_word, state_word_of, info_word_of, value_word_of, number_word_of, count_word_of, body_word_of, parts_of, job_in}
 use Rattle.oss_field.specs.Messages.{AreHeard}
-use Rattle.oss_field.specs.Table.{Slot, is_job_of, sights_of, Neat, AreSeats, Stands}
+use Rattle.oss_field.specs.Plans.{ArePlanned, Planned, planned_of}
+use Rattle.oss_field.specs.Table.{Slot, is_job_of, planned_by, sights_of, Neat, AreSeats, Stands}
 use Rattle.oss_field.proofs.HeardLemmas.{heard_on}
-use Rattle.oss_field.proofs.TableLemmas.{free_stays, sights_set, sits_at}
+use Rattle.oss_field.proofs.TableLemmas.{free_stays, plans_same, sights_set, sits_at}
 
 -- what the views tell of seats, after a step by which a seat has delivered no more than has come
 pub seats_on : (code : CodeParts) (fuel n : ℕ) (ws : List ℕ) (homes : List (maybe.Option Slot)) (views : List SeatView) (stands : Stands code fuel n ws homes views) (id : ℕ) (v : SeatView) → get_elem? views id ≡ maybe.some v
@@ -60,6 +64,30 @@ seats_on code fuel n ws homes views stands id v sits states' w parts splits fail
       work = let a = s.work in omega (arith, a, d, work);
     }
 
+-- the entries of tasks that are being made, once the state of an entry that hangs was changed
+planned_beside : (code : CodeParts) (n : ℕ) (net : Net) (role : ℕ → Option Role) (states states' : ℕ → EntryState) (infos : ℕ → EntryInfo) (cell_of : ℕ → ℕ) (seats : List Planned) (o : ℕ) (r : Role)
+    → net.place o ≢ apart → role o ≡ Some r → ((j : ℕ) → j ≢ o → states' j ≡ states j) → ArePlanned code n net role states infos cell_of seats → ArePlanned code n net role states' infos cell_of seats
+planned_beside code n net role states states' infos cell_of seats o r hangs is other a = record {
+  inside = a.inside;
+  blank = λ e none. other e (λ q. let z : None ≡ Some r = sym none ∙ (ap role q ∙ is) in let bad : ⊥ = cc in bad) ∙ a.blank e none;
+  own = a.own;
+  roles = a.roles;
+  rest = a.rest;
+  one = a.one;
+  loose = λ id s at z among. let l = a.loose id s at z among in record {
+    plan = l.plan;
+    among = l.among;
+    task = l.task;
+    it = l.it;
+    is = l.is;
+    of_task = l.of_task;
+    loose = l.loose;
+    state = other z.entry (λ q. hangs (ap (λ (y : ℕ). net.place y) (sym q) ∙ l.loose)) ∙ l.state;
+    info = l.info;
+    cell = l.cell;
+  };
+}
+
 -- the table after a step on one of the words of an entry
 module _ (code : CodeParts) (fuel n : ℕ) (ws : List ℕ) (homes : List (maybe.Option Slot)) (views : List SeatView) (stands : Stands code fuel n ws homes views) (id : ℕ) (v : SeatView) (l : Known) (sits : get_elem? views id ≡ maybe.some v)
     (drawn : l.drawn ≡ v.known.drawn) (told : (h : Holding) → Among h l.bears → stands.before h.number ≡ h.before) where
@@ -70,10 +98,11 @@ module _ (code : CodeParts) (fuel n : ℕ) (ws : List ℕ) (homes : List (maybe.
       → ((e : ℕ) → slice_index ws' (state_word_of (length code.first) e) ≡ state_word (state_at (slice_index ws' (state_word_of (length code.first) e))))
       → ((e : ℕ) → Neat (state_at (slice_index ws' (state_word_of (length code.first) e))))
       → AreHeard stands.net (λ e. info_at (slice_index ws' (info_word_of (length code.first) e))) (set views id (record { known = l }))
+      → ArePlanned code n stands.net stands.role (λ e. state_at (slice_index ws' (state_word_of (length code.first) e))) (λ e. info_at (slice_index ws' (info_word_of (length code.first) e))) (λ e. slice_index ws' (number_word_of (length code.first) e)) (planned_by (set views id (record { known = l })))
       → AreSeats n stands.net (λ e. state_at (slice_index ws' (state_word_of (length code.first) e))) (slice_index ws 0) (set (words_of (sights_of views)) id l.words)
       → FieldAt (asks code) (code_main code fuel) code.first (is_job_of code stands.before) n stands.net gave' stands.role (parts_of (length code.first) ws' homes stands.cells) (set (sights_of views) id (sight_of l))
       → Stands code fuel n ws' homes (set views id (record { known = l }))
-  entry_stands gave' ws' size cells bodies draw whole neat heard seats rule = record {
+  entry_stands gave' ws' size cells bodies draw whole neat heard planned seats rule = record {
     net = stands.net;
     gave = gave';
     role = stands.role;
@@ -99,6 +128,7 @@ module _ (code : CodeParts) (fuel n : ℕ) (ws : List ℕ) (homes : List (maybe.
     heard = heard;
     seats = subst (λ (z : List View). AreSeats n stands.net (λ e. state_at (slice_index ws' (state_word_of (length code.first) e))) (slice_index ws' 0) z) (sym (ap (λ (z : List (Sight CodeScript)). words_of z) (sights_set views id l) ∙ words_set (sights_of views) id (sight_of l)))
         (subst (λ (z : ℕ). AreSeats n stands.net (λ e. state_at (slice_index ws' (state_word_of (length code.first) e))) z (set (words_of (sights_of views)) id l.words)) (sym draw) seats);
+    planned = planned;
   }
 
 -- the words after the state word of an entry has become that of c
@@ -151,15 +181,34 @@ module _ (code : CodeParts) (fuel n : ℕ) (ws : List ℕ) (homes : List (maybe.
     cells = stands.cells;
   }
 
+  -- the entry has a role, since it hangs
+  role_there : stands.net.place o ≢ apart → (r : Role) × (stands.role o ≡ Some r)
+  role_there hangs =
+      let r = stands.rule.field.roles.hung o (subst (λ (z : Net). z.place o ≢ apart) (sym stands.rule.same_net) hangs) in
+      (r.0, ap (λ (z : ℕ → Option Role). z o) (sym stands.rule.same_role) ∙ r.1)
+
+  planned_after : (id : ℕ) (v : SeatView) (l : Known) → get_elem? views id ≡ maybe.some v → planned_of l ≡ planned_of v.known → stands.net.place o ≢ apart
+      → ArePlanned code n stands.net stands.role states_after (λ e. info_at (slice_index after (info_word_of (length code.first) e))) (λ e. slice_index after (number_word_of (length code.first) e)) (planned_by (set views id (record { known = l })))
+  planned_after id v l sits planned hangs =
+      let r = role_there hangs in
+      let states : ℕ → EntryState = λ e. state_at (slice_index ws (state_word_of (length code.first) e)) in
+      let infos : ℕ → EntryInfo = λ e. info_at (slice_index ws (info_word_of (length code.first) e)) in
+      let cell_of : ℕ → ℕ = λ e. slice_index ws (number_word_of (length code.first) e) in
+      subst (λ (z : List Planned). ArePlanned code n stands.net stands.role states_after (λ e. info_at (slice_index after (info_word_of (length code.first) e))) (λ e. slice_index after (number_word_of (length code.first) e)) z) (sym (plans_same views id v l sits planned))
+      (subst (λ (z : ℕ → ℕ). ArePlanned code n stands.net stands.role states_after (λ e. info_at (slice_index after (info_word_of (length code.first) e))) z (planned_by views)) (λ i e. sym (numbers_same e) i)
+      (subst (λ (z : ℕ → EntryInfo). ArePlanned code n stands.net stands.role states_after z cell_of (planned_by views)) (λ i e. info_at (sym (infos_same e) i))
+      (planned_beside code n stands.net stands.role states states_after infos cell_of (planned_by views) o r.0 hangs r.1 state_else stands.planned)))
+
   -- the table, if the rule of the roles is kept, and no more was delivered than has come
-  pub state_stands : (id : ℕ) (v : SeatView) (l : Known) → get_elem? views id ≡ maybe.some v → l.drawn ≡ v.known.drawn → l.told ≡ v.known.told → ((h : Holding) → Among h l.bears → stands.before h.number ≡ h.before)
+  pub state_stands : (id : ℕ) (v : SeatView) (l : Known) → get_elem? views id ≡ maybe.some v → l.drawn ≡ v.known.drawn → l.told ≡ v.known.told → planned_of l ≡ planned_of v.known → stands.net.place o ≢ apart
+      → ((h : Holding) → Among h l.bears → stands.before h.number ≡ h.before)
       → l.words.parts ≡ v.known.words.parts → l.words.splits ≡ v.known.words.splits → l.words.failed ≡ v.known.words.failed
       → l.words.delivered + came n stands.net.place (λ e. state_at (slice_index ws (state_word_of (length code.first) e))) ≤ v.known.words.delivered + came n stands.net.place (λ e. state_at (slice_index (set ws (state_word_of (length code.first) o) (state_word c)) (state_word_of (length code.first) e)))
       → (gave' : ℕ → Bool)
       → FieldAt (asks code) (code_main code fuel) code.first (is_job_of code stands.before) n stands.net gave' stands.role
       (record (parts_of (length code.first) ws homes stands.cells) { states = λ e. state_at (slice_index (set ws (state_word_of (length code.first) o) (state_word c)) (state_word_of (length code.first) e)) }) (set (sights_of views) id (sight_of l))
       → Stands code fuel n (set ws (state_word_of (length code.first) o) (state_word c)) homes (set views id (record { known = l }))
-  state_stands id v l sits drawn heard told parts splits failed work gave' rule =
+  state_stands id v l sits drawn heard planned hangs told parts splits failed work gave' rule =
       entry_stands code fuel n ws homes views stands id v l sits drawn told gave' after
       (length-set ws (state_word_of (length code.first) o) (state_word c))
       (λ d low. get_or-set_other ws (state_word_of (length code.first) o) (cell_word d) (state_word c) 0 (λ q. absurd (omega (arith, q, low))))
@@ -175,5 +224,6 @@ module _ (code : CodeParts) (fuel n : ℕ) (ws : List ℕ) (homes : List (maybe.
       ])
       (heard_on stands.net (λ e. info_at (slice_index ws (info_word_of (length code.first) e))) (λ e. info_at (slice_index after (info_word_of (length code.first) e))) views id v l sits
       (λ t a. inl (subst (λ (z : List Told). Among t z) heard a)) (λ e h. ap info_at (infos_same e)) stands.heard)
+      (planned_after id v l sits planned hangs)
       (seats_on code fuel n ws homes views stands id v sits states_after l.words parts splits failed work)
       (subst (λ (z : Parts (Box Job)). FieldAt (asks code) (code_main code fuel) code.first (is_job_of code stands.before) n stands.net gave' stands.role z (set (sights_of views) id (sight_of l))) parts_now rule)
