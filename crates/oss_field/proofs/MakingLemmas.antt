@@ -295,7 +295,7 @@ module _ (code : CodeParts) (fuel n id : ℕ) (v : SeatView) (job : Job) (t coun
     -- the own entry of a task is none of a reduction
     own_reads : (e : ℕ) (q : Role) → Source path t own (begins_list h) (length code.first) stands.role e q → q.site ≡ itself → (op : Op) → q.mode ≢ Fold op
     own_reads e q (of_old is same) site op = stands.selves e q is site op
-    own_reads e q (of_task it_is it) site op folds = let z : true ≡ false = ap needs_flag (ap (λ (x : Role). x.mode) (sym it) ∙ folds) in let bad : ⊥ = cc in bad
+    own_reads e q (of_task here_is it) site op = λ folds. let z : true ≡ false = ap needs_flag (ap (λ (x : Role). x.mode) (sym it) ∙ folds) in let bad : ⊥ = cc in bad
     own_reads e q (of_cell c) site op = absurd (let z : on c.cell ≡ itself = ap (λ (x : Role). x.site) (sym c.it) ∙ site in let bad : ⊥ = cc in bad)
 
     pub begins_stand : Stands code fuel n (set ws (count_word_of (length code.first) t) count) homes (set views id (record { known = l }))

@@ -11,7 +11,7 @@ use Rattle.oss_field.proofs.field.Field.join.Goals as goal
 pub invariant_of-seat : goal.invariant_of-seat
 invariant_of-seat c =
     let e = c.merge.ensures in
-    let same = merged_messages c.seat.inside.place.me.0.known c.args.other.inside.place.me.0.known c.merge.new.seat.me.0.known e.known in (
+    let same = merged_messages c.seat.inside.place.me.0.known _ c.merge.new.seat.me.0.known e.known in (
       e.stays.slots ∙ (c.seat.invariant.0 ∙ sym (ap (λ (k : Known). carried k.bears) e.known)),
       subst (λ (d : TableId). AreInside d c.merge.new.seat.me.0.known.bears) (sym e.stays.table) (subst (λ (k : Known). AreInside c.seat.inside.place.table_id k.bears) (sym e.known) c.seat.invariant.1),
       subst (λ (d : TableId). Settled c.seat.inside.held.items d.slots c.merge.new.seat.me.0.known) (sym e.stays.table) (settled_on c.seat.inside.held.items c.seat.inside.place.table_id.slots c.seat.inside.place.me.0.known c.merge.new.seat.me.0.known same c.seat.invariant.2),
