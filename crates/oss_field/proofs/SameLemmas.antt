@@ -13,7 +13,7 @@ use Rattle.oss_field.specs.Linking.{linked_first}
 use Rattle.oss_field.specs.Making.{HasBegun, IsOpened, IsPutFirst}
 use Rattle.oss_field.specs.Messages.{SameMessages}
 use Rattle.oss_field.specs.Reading.{after_flags}
-use Rattle.oss_field.specs.Seats.{merged, parted}
+use Rattle.oss_field.specs.Seats.{parted}
 use Rattle.oss_field.specs.Taking.{IsMissing, IsPut, IsTaken, is_out, is_waiting, after_count, after_miss, after_take}
 
 pub same_then : (k l n : Known) → SameMessages k l → SameMessages l n → SameMessages k n
@@ -53,9 +53,6 @@ opened_messages code job t found k l o = subst (λ (z : Known). SameMessages k z
 
 pub parted_messages : (k l : Known) → l ≡ parted k → SameMessages k l
 parted_messages k l known = subst (λ (z : Known). SameMessages k z) (sym known) (record { held = refl; half = refl; told = refl; joined = refl; owes = refl; last = refl })
-
-pub merged_messages : (k x l : Known) → l ≡ merged k x → SameMessages k l
-merged_messages k x l known = subst (λ (z : Known). SameMessages k z) (sym known) (record { held = refl; half = refl; told = refl; joined = refl; owes = refl; last = refl })
 
 count_messages : (m t n : ℕ) (k : Known) → SameMessages k (after_count m t n k)
 count_messages m t zero k = record { held = refl; half = refl; told = refl; joined = refl; owes = refl; last = refl }
