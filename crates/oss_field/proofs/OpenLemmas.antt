@@ -334,6 +334,6 @@ pub opened_inside : (d : TableId) (code : CodeParts) (n : ℕ) (job : Job) (t x 
 opened_inside d code n job t x k l slots inside tells u a =
     let o = tells.opened in
     elim (among_set k.bears o.may.place (created_by job o.may.holding) u (subst (λ (z : Known). Among u z.bears) o.known a)) [
-  | inl e ↦ subst (λ (z : Holding). IsInside d z) e (let i = inside o.may.holding (among_at k.bears o.may.place o.may.holding o.may.holds) in record { number = i.number; inside = i.inside; strongly = i.strongly; entries = i.entries; lasts = λ y e last. subst (λ (s : ℕ). e < s) (sym slots) (tells.lasts y e last) })
-  | inr q ↦ inside u q
-]
+      | inl e ↦ subst (λ (z : Holding). IsInside d z) e (let i = inside o.may.holding (among_at k.bears o.may.place o.may.holding o.may.holds) in record { number = i.number; inside = i.inside; strongly = i.strongly; entries = i.entries; lasts = λ y e last. subst (λ (s : ℕ). e < s) (sym slots) (tells.lasts y e last) })
+      | inr q ↦ inside u q
+    ]

@@ -221,13 +221,15 @@ module _ (code : CodeParts) (fuel n : ℕ) (v : SeatView) (more : 1 < v.known.wo
           (draws_keep CodeScript stands.role (sights_of z.views) 0 (sight_of v.known) (sight_of (parted v.known)) (sits_at z.views 0 v sits) (λ e a. inl a) stands.drawn));
       undrawn = λ e high. subst (λ (y : List (Sight CodeScript)). IsFree stands.role y e) (sym sights_are) (still_free e (stands.undrawn e high));
       selves = stands.selves;
-      heard = record { told = λ j y at t a. elim (at_snoc (set z.views 0 l) r y j at) [
-        | inl old ↦ elim (at_set z.views 0 j l y old) [
-          | inl e ↦ stands.heard.told 0 v sits t (subst (λ (x : SeatView). Among t x.known.told) (sym e.1) a)
-          | inr e ↦ stands.heard.told j y e.1 t a
-        ]
-        | inr new ↦ absurd (none_told t (subst (λ (x : SeatView). Among t x.known.told) (sym new) a))
-      ] };
+      heard = record {
+        told = λ j y at t a. elim (at_snoc (set z.views 0 l) r y j at) [
+          | inl old ↦ elim (at_set z.views 0 j l y old) [
+            | inl e ↦ stands.heard.told 0 v sits t (subst (λ (x : SeatView). Among t x.known.told) (sym e.1) a)
+            | inr e ↦ stands.heard.told j y e.1 t a
+          ]
+          | inr new ↦ absurd (none_told t (subst (λ (x : SeatView). Among t x.known.told) (sym new) a))
+        ];
+      };
       seats = subst (λ (y : List View). AreSeats n stands.net (λ e. state_at (slice_index z.words (state_word_of (length code.first) e))) (slice_index z.words 0) y) (sym words_are) seats_now;
       planned = subst (λ (y : List Planned). ArePlanned code n stands.net stands.role k.states k.infos k.cell_of y) (sym plans_are)
           (planned_more code n stands.net stands.role k.states k.infos k.cell_of (planned_by z.views) stands.planned);
