@@ -1,5 +1,5 @@
 -- The act that stands next in a job, and the cell that it touches.
-use Rattle.std.proofs.Common.{◌≡◌, inl, inr, sym, subst, refl, ◌∙◌, ap, ℕ, ◌<◌, ◌+◌, ◌*◌, arith, Bool, true, false, List, ◌∷◌, set}
+use Rattle.std.proofs.Common.{◌≡◌, ◌≢◌, inl, inr, sym, subst, refl, ◌∙◌, ap, ℕ, ◌<◌, ◌+◌, ◌*◌, arith, Bool, true, false, List, ◌∷◌, set}
 use Rattle.std.specs.Prelude.{None}
 use mathlib.Core.Option as maybe
 use lib.ListN.{get_elem?}
@@ -18,6 +18,7 @@ use Rattle.oss_model.specs.Rights.{Touch, Holds}
 use Rattle.oss_model.proofs.StageLemmas.{StartsWell, stage_touch}
 use Rattle.oss_syntax.specs.declared.access.Mode.{Mode}
 use Rattle.oss_words.specs.Views.{Among, among_first, among_later}
+use Rattle.oss_roles.specs.Numbers.{entry_number}
 use Rattle.oss_field.specs.Asks.{AreInside, IsInside, IsLoaded, IsStored, MayLoad, MayStore, StandsBefore, to_load, to_fold, to_store, to_store_fold, has_loaded, has_noted, has_stored, has_folded}
 use Rattle.oss_field.specs.Known.{Holding, Known, bearing_of, sight_of}
 use Rattle.oss_field.specs.Moves.{with_body}
@@ -49,6 +50,8 @@ module _ (d : TableId) (code : CodeParts) (job : Job) (k : Known) (inside : AreI
       number = held_inside.number;
       inside = subst (λ (z : Start CodeScript). (c : ℕ) (mode : Mode) (strong : Bool) → right_of z.context c ≡ Holds mode strong → 1 + c + 6 * d.slots < d.words) (sym (same ∙ start_is)) held_inside.inside;
       strongly = subst (λ (z : Start CodeScript). StartsWell z.context) (sym (same ∙ start_is)) held_inside.strongly;
+      entries = subst (λ (z : Start CodeScript). at.holding.number ≢ 0 → (c : ℕ) (mode : Mode) (strong : Bool) → right_of z.context c ≡ Holds mode strong → entry_number at.holding.number (right_of z.context) c < d.slots) (sym (same ∙ start_is)) held_inside.entries;
+      lasts = held_inside.lasts;
     })
     | inr a ↦ inside h a
   ]
@@ -97,12 +100,14 @@ module _ (code : CodeParts) (job : Job) (m : ℕ) (k l : Known) (p : IsPut code 
   put_inside d inside h a = inside h (subst (λ (z : List Holding). Among h z) (sym p.may.bears) (among_later (subst (λ (z : Known). Among h z.bears) p.known a)))
 
 -- and after it has taken one
-pub take_inside : (d : TableId) (m n t : ℕ) (h : Holding) (held : List Holding) → d.words ≡ words_in m n → d.slots ≡ n → t < n → h.number ≡ t → IsWithin m h → AreInside d held → AreInside d (h ∷ held)
+pub take_inside : (d : TableId) (m n t : ℕ) (h : Holding) (held : List Holding) → d.words ≡ words_in m n → d.slots ≡ n → t < n → h.number ≡ t → IsWithin m n h → AreInside d held → AreInside d (h ∷ held)
 take_inside d m n t h held words slots small is within inside z a = elim a [
   | among_first p ↦ subst (λ (x : Holding). IsInside d x) p (record {
     number = omega (arith, is, small, slots);
     inside = λ c mode strong right. let l = within.inside c mode strong right in omega (arith, l, words, slots);
     strongly = within.strongly;
+    entries = λ number c mode strong right. subst (λ (z : ℕ). entry_number h.number (right_of h.body.start.context) c < z) (sym slots) (within.entries number c mode strong right);
+    lasts = λ y o last. subst (λ (z : ℕ). o < z) (sym slots) (within.lasts y o last);
   })
   | among_later b ↦ inside z b
 ]

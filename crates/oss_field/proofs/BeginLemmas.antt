@@ -39,10 +39,12 @@ use Rattle.oss_field.specs.declared.view.SeatView.{SeatView}
 use Rattle.oss_field.specs.Known.{Holding, Known, Plan, Unlinked, bearing_of, last_of, sight_of}
 use Rattle.oss_field.specs.Layout.{job_in, cell_word, state_word_of, info_word_of, value_word_of, number_word_of, count_word_of, body_word_of, parts_of}
 use Rattle.oss_field.specs.Linking.{IsFirstThere, MayBeginList, all_open, began_list, of_cell, of_itself, unlinked_beside}
+use Rattle.oss_field.specs.Messages.{AreHeard}
 use Rattle.oss_field.specs.Plans.{ArePlanned, IsLoose, IsRoleOf, is_cell, is_own, Planned, begins_list, is_missing, needs_flag, new_rights, planned_of, waits_for}
 use Rattle.oss_field.specs.Steps.{Steps}
 use Rattle.oss_field.specs.Table.{AreSeats, Neat, Slot, Stands, is_job_of, planned_by, sights_of}
 use Rattle.oss_field.proofs.FillLemmas.{apart_now, blank_of, inside, loose, none, planned_at}
+use Rattle.oss_field.proofs.HeardLemmas.{heard_same}
 use Rattle.oss_field.proofs.LooseLemmas.{planned_linked}
 use Rattle.oss_field.proofs.MakingLemmas.{words_stay}
 use Rattle.oss_field.proofs.PlanLemmas.{fewer, has_held, is_apart}
@@ -359,6 +361,16 @@ module _ (code : CodeParts) (fuel n id : ℕ) (v : SeatView) (e : ℕ) (i : Entr
     planned_now = planned_linked code n stands.net stands.role k.states k.infos k.cell_of (planned_by views) stands.planned id (planned_of v.known) (planned_at code fuel n id v y may.loose refl 39 ws homes views stands sits) y may.loose
         net' states' (put_else stands.net.place e top) (λ q. let z : top ≡ apart = sym (put_here stands.net.place e top) ∙ q in cc) (λ j a ne. else_is j ne) hung
 
+    -- what hangs goes on to hang
+    still_hangs : (j : ℕ) → stands.net.place j ≢ apart → net'.place j ≢ apart
+    still_hangs j hangs q = elim (eqb_tells j e) [
+      | inl s ↦ hangs (ap (λ (z : ℕ). stands.net.place z) s.1 ∙ lies.loose)
+      | inr s ↦ hangs (sym (put_else stands.net.place e top j s.1) ∙ q)
+    ]
+
+    heard_yet : AreHeard stands.net (λ j. info_at (slice_index ws' (info_word_of (length code.first) j))) (set views id (record { known = l }))
+    heard_yet = heard_same stands.net k.infos (λ j. info_at (slice_index ws' (info_word_of (length code.first) j))) views id v l sits refl (λ j. ap info_at (infos_same j)) stands.heard
+
     began_stands : Stands code fuel n (set ws (state_word_of (length code.first) e) 39) homes (set views id (record { known = began_list (length code.first) e v.known }))
     began_stands = record {
       net = net';
@@ -389,6 +401,8 @@ module _ (code : CodeParts) (fuel n id : ℕ) (v : SeatView) (e : ℕ) (i : Entr
           (draws_keep CodeScript stands.role (sights_of views) id (sight_of v.known) (sight_of l) at (λ j a. inl a) stands.drawn);
       undrawn = λ j high. subst (λ (z : List (Sight CodeScript)). IsFree stands.role z j) (sym (sights_set views id l))
           (free_stays stands.role (sights_of views) id (sight_of v.known) (sight_of l) at refl j (stands.undrawn j (subst (λ (z : ℕ). z ≤ j) draw_same high)));
+      selves = stands.selves;
+      heard = record { told = λ j x sx u among. let r = heard_yet.told j x sx u among in (still_hangs u.entry r.0, r.1) };
       seats = subst (λ (z : List View). AreSeats n net' states' (slice_index ws' 0) z) (sym (words_stay views id v l sits refl))
           (subst (λ (z : ℕ). AreSeats n net' states' z (words_of (sights_of views))) (sym draw_same)
           (let s = stands.seats in record {

@@ -221,9 +221,9 @@ module _ (code : CodeParts) (fuel n id : ℕ) (v : SeatView) (job : Job) (cell :
     pub cell_stands : (l : Known) (sits : get_elem? views id ≡ maybe.some v) → l.words ≡ v.known.words → prepared_of l ≡ prepared_of v.known → ((h : Holding) → Among h l.bears → stands.before h.number ≡ h.before)
         → FieldAt (asks code) (code_main code fuel) code.first (is_job_of code stands.before) n stands.net stands.gave stands.role (record (parts_of (length code.first) ws homes stands.cells) { cells = set stands.cells cell value }) (set (sights_of views) id (sight_of l))
         → Stands code fuel n (set ws (cell_word cell) value) homes (set views id (record { known = l }))
-    cell_stands l sits words drawn told rule = next_stands code fuel n ws homes views stands id v l sits words (ap (λ (z : Prepared). z.drawn) drawn) told ws' homes cells'
+    cell_stands l sits words drawn told rule = next_stands code fuel n ws homes views stands id v l sits words (ap (λ (z : Prepared). z.drawn) drawn) (ap (λ (z : Prepared). z.told) drawn) told ws' homes cells'
         (length-set ws (cell_word cell) value ∙ stands.size) stands.slots (length-set stands.cells cell value ∙ stands.sized)
-        cells_now (λ e low z. stands.empty e low (sym (beside e 5) ∙ z)) states_beside
+        cells_now (λ e low z. stands.empty e low (sym (beside e 5) ∙ z)) states_beside (λ e hangs. beside e 1)
         (get_or-set_other ws (cell_word cell) 0 value 0 (λ q. absurd (omega (arith, q))))
         (plans_stand code n stands.net stands.role ws ws' (planned_by views) (planned_by (set views id (record { known = l }))) states_beside (λ e. beside e 1) (λ e. beside e 3) (plans_same views id v l sits (ap (λ (z : Prepared). z.planned) drawn)) stands.planned)
         (subst (λ (z : Parts (Box Job)). FieldAt (asks code) (code_main code fuel) code.first (is_job_of code stands.before) n stands.net stands.gave stands.role z (set (sights_of views) id (sight_of l))) parts_now rule)

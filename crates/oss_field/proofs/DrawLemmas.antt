@@ -37,6 +37,7 @@ use Rattle.oss_field.specs.Moves.{touched}
 use Rattle.oss_field.specs.Plans.{planned_of}
 use Rattle.oss_field.specs.Steps.{Steps}
 use Rattle.oss_field.specs.Table.{AreSeats, Neat, Slot, Stands, is_job_of, planned_by, sights_of}
+use Rattle.oss_field.proofs.HeardLemmas.{heard_same}
 use Rattle.oss_field.proofs.TableLemmas.{chained, plans_same, plans_stand, sights_set, sits_at}
 
 -- all views have failed at most once each
@@ -163,12 +164,12 @@ module _ (code : CodeParts) (fuel n : ℕ) (ws : List ℕ) (homes : List (maybe.
       }
 
   -- the table after a draw
-  pub drawn_stands : (l : Known) → planned_of l ≡ planned_of v.known → ((h : Holding) → Among h l.bears → stands.before h.number ≡ h.before)
+  pub drawn_stands : (l : Known) → planned_of l ≡ planned_of v.known → l.told ≡ v.known.told → ((h : Holding) → Among h l.bears → stands.before h.number ≡ h.before)
       → ((e : ℕ) → Among e l.drawn → Among e v.known.drawn ⊎ ((slice_index ws 0 ≤ e) × (e < slice_index ws 0 + count)))
       → AreSeats n stands.net (λ e. state_at (slice_index ws (state_word_of (length code.first) e))) (slice_index ws 0 + count) (set (words_of (sights_of views)) id l.words)
       → FieldAt (asks code) (code_main code fuel) code.first (is_job_of code stands.before) n stands.net stands.gave stands.role (parts_of (length code.first) ws homes stands.cells) (set (sights_of views) id (sight_of l))
       → Stands code fuel n (set ws 0 (slice_index ws 0 + count)) homes (set views id (record { known = l }))
-  drawn_stands l planned told fresh seats rule = record {
+  drawn_stands l planned heard told fresh seats rule = record {
     net = stands.net;
     gave = stands.gave;
     role = stands.role;
@@ -190,6 +191,8 @@ module _ (code : CodeParts) (fuel n : ℕ) (ws : List ℕ) (homes : List (maybe.
     drawn = subst (λ (z : List (Sight CodeScript)). AreDrawn stands.role z) (sym (sights_set views id l))
         (draws_keep CodeScript stands.role (sights_of views) id (sight_of v.known) (sight_of l) (sits_at views id v sits) (λ e a. elim (fresh e a) [ inl old ↦ inl old | inr r ↦ inr (stands.undrawn e r.0) ]) stands.drawn);
     undrawn = λ e high. subst (λ (z : List (Sight CodeScript)). IsFree stands.role z e) (sym (sights_set views id l)) (still_free e (subst (λ (z : ℕ). z ≤ e) draw_here high));
+    selves = stands.selves;
+    heard = heard_same stands.net (λ e. info_at (slice_index ws (info_word_of (length code.first) e))) (λ e. info_at (slice_index ws' (info_word_of (length code.first) e))) views id v l sits heard (λ e. ap info_at (infos_same e)) stands.heard;
     seats = subst (λ (z : List View). AreSeats n stands.net (λ e. state_at (slice_index ws' (state_word_of (length code.first) e))) (slice_index ws' 0) z) (sym (ap (λ (z : List (Sight CodeScript)). words_of z) (sights_set views id l) ∙ words_set (sights_of views) id (sight_of l)))
         (subst (λ (z : ℕ). AreSeats n stands.net (λ e. state_at (slice_index ws' (state_word_of (length code.first) e))) z (set (words_of (sights_of views)) id l.words)) (sym draw_here)
         (subst (λ (g : ℕ → EntryState). AreSeats n stands.net g (slice_index ws 0 + count) (set (words_of (sights_of views)) id l.words)) (λ i e. state_at (sym (states_same e) i)) seats));
@@ -221,7 +224,7 @@ module _ (code : CodeParts) (fuel n id : ℕ) (v : SeatView) (count : ℕ) (most
     enough_stands : slice_index ws 0 + count ≤ n → Stands code fuel n (set ws 0 (slice_index ws 0 + count)) homes (set views id (record { known = touched 0 (slice_index ws 0) (drew count (slice_index ws 0) v.known) }))
     enough_stands le =
         let l : Known = touched 0 (slice_index ws 0) (drew count (slice_index ws 0) v.known) in
-        drawn_stands code fuel n ws homes views stands id v sits count l refl (stands.told id v sits)
+        drawn_stands code fuel n ws homes views stands id v sits count l refl refl (stands.told id v sits)
         (λ e a. elim (among_append e (numbers (slice_index ws 0) count) v.known.drawn a) [ inl new ↦ inr (number_in (slice_index ws 0) count e new) | inr old ↦ inl old ])
         (seats_after code fuel n ws homes views stands id v sits count l.words most room first refl refl refl (inl (le, first)))
         (quiet l (record { held = refl; half = refl; bears = refl; makes = refl; joined = refl; owes = refl; ready = λ u a. a; loaded = λ y a. a; seen = λ y a. a; still = λ y a. a }))
@@ -229,7 +232,7 @@ module _ (code : CodeParts) (fuel n id : ℕ) (v : SeatView) (count : ℕ) (most
     missed_stands : Stands code fuel n (set ws 0 (slice_index ws 0 + count)) homes (set views id (record { known = touched 0 (slice_index ws 0) (missed v.known) }))
     missed_stands =
         let l : Known = touched 0 (slice_index ws 0) (missed v.known) in
-        drawn_stands code fuel n ws homes views stands id v sits count l refl (stands.told id v sits) (λ e a. inl a)
+        drawn_stands code fuel n ws homes views stands id v sits count l refl refl (stands.told id v sits) (λ e a. inl a)
         (seats_after code fuel n ws homes views stands id v sits count l.words most room first refl refl refl (inr refl))
         (quiet l (record { held = refl; half = refl; bears = refl; makes = refl; joined = refl; owes = refl; ready = λ u a. a; loaded = λ y a. a; seen = λ y a. a; still = λ y a. a }))
 

@@ -34,7 +34,7 @@ use Rattle.oss_field.specs.Layout.{parts_of, state_word_of, info_word_of, number
 use Rattle.oss_field.specs.Plans.{ArePlanned, IsUnlinked, Planned, planned_of}
 use Rattle.oss_field.specs.Seats.{IsIdle, merged, new_known, parted, spent}
 use Rattle.oss_field.specs.Table.{AreSeats, Slot, Stands, is_job_of, planned_by, sights_of}
-use Rattle.oss_field.proofs.SeatLemmas.{no_holding, no_number}
+use Rattle.oss_field.proofs.SeatLemmas.{no_holding, no_number, none_told}
 use Rattle.oss_field.proofs.TableLemmas.{chained, plans_same, sights_set, sits_at, then_at}
 
 -- the rule of a seat that holds nothing is that of what is left of it
@@ -206,6 +206,16 @@ module _ (code : CodeParts) (fuel n id : ℕ) (v : SeatView) (other : ℕ) (x : 
       ];
       drawn = subst (λ (y : List (Sight CodeScript)). AreDrawn stands.role y) (sym sights_are) drawn_now;
       undrawn = λ e high. subst (λ (y : List (Sight CodeScript)). IsFree stands.role y e) (sym sights_are) (still_free e (stands.undrawn e high));
+      selves = stands.selves;
+      heard = record {
+        told = λ j y at t a. elim (at_set (set z.views id (record { known = merged v.known x.known })) other j (record { known = spent }) y at) [
+          | inl e ↦ absurd (none_told t (subst (λ (u : SeatView). Among t u.known.told) (sym e.1) a))
+          | inr e ↦ elim (at_set z.views id j (record { known = merged v.known x.known }) y e.1) [
+            | inl f ↦ stands.heard.told id v sits t (subst (λ (u : SeatView). Among t u.known.told) (sym f.1) a)
+            | inr f ↦ stands.heard.told j y f.1 t a
+          ]
+        ];
+      };
       seats = subst (λ (y : List View). AreSeats n stands.net (λ e. state_at (slice_index z.words (state_word_of (length code.first) e))) (slice_index z.words 0) y) (sym words_are) seats_now;
       planned = subst (λ (y : List Planned). ArePlanned code n stands.net stands.role k.states k.infos k.cell_of y) (sym plans_are) stands.planned;
     }

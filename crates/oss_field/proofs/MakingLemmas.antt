@@ -23,6 +23,8 @@ use Rattle.oss_model.proofs.RecallLemmas.{right_in_memory}
 use Rattle.oss_model.proofs.StageLemmas.{creating}
 use Rattle.oss_model.proofs.TreeLemmas.{covered_stage}
 use Rattle.oss_syntax.specs.declared.access.Mode.{Mode}
+use Rattle.oss_syntax.specs.declared.access.Mode.TheVariants.{Fold}
+use Rattle.oss_syntax.specs.declared.access.Op.{Op}
 use Rattle.oss_words.specs.declared.entry.EntryState.{EntryState}
 use Rattle.oss_words.specs.Bits.{info_at, state_at, state_word}
 use Rattle.oss_words.specs.Net.{Net, apart}
@@ -34,7 +36,7 @@ use Rattle.oss_roles.specs.Drawing.{AreDrawn, IsFree}
 use Rattle.oss_roles.specs.Field.{Bears, Field, FieldAt, Parts, Sits, words_of}
 use Rattle.oss_roles.specs.JobSteps.{of_other}
 use Rattle.oss_roles.specs.Numbers.{entry_number}
-use Rattle.oss_roles.specs.Roles.{Plans, Role}
+use Rattle.oss_roles.specs.Roles.{Plans, Role, itself, on}
 use Rattle.oss_roles.specs.Sights.{Bearing, Making, Sight, Telling}
 use Rattle.oss_roles.proofs.DrawLaw.{plans_draw}
 use Rattle.oss_roles.proofs.JobClaims.{own_acts_keep}
@@ -49,13 +51,14 @@ use Rattle.oss_field.specs.Known.{Holding, Known, Plan, bearing_of, sight_of}
 use Rattle.oss_field.specs.Layout.{job_in, cell_word, state_word_of, info_word_of, value_word_of, number_word_of, count_word_of, body_word_of, parts_of}
 use Rattle.oss_field.specs.Making.{HasBegun, MayBegin, began, new_cells, unlinked_from}
 use Rattle.oss_field.specs.Moves.{loaded_beside, touched, with_body}
-use Rattle.oss_field.specs.Plans.{ArePlanned, Planned, begins_list, new_rights, planned_of, waits_for}
+use Rattle.oss_field.specs.Plans.{ArePlanned, Planned, begins_list, needs_flag, new_rights, planned_of, waits_for}
 use Rattle.oss_field.specs.Standing.{carried}
 use Rattle.oss_field.specs.Steps.{Steps}
 use Rattle.oss_field.specs.Table.{AreSeats, Neat, Slot, Stands, is_job_of, planned_by, sights_of}
 use Rattle.oss_field.proofs.ActLemmas.{carried_on, inside_after}
 use Rattle.oss_field.proofs.CellLemmas.{beside_is, held_once, job_goes, told_on}
-use Rattle.oss_field.proofs.PlanLemmas.{at_cell, drawn_left, each_role, in_block, not_within, numbered, own_role, plans, role_on, source, strongly, with_roles}
+use Rattle.oss_field.proofs.HeardLemmas.{heard_same}
+use Rattle.oss_field.proofs.PlanLemmas.{Source, of_task, of_cell, of_old, at_cell, drawn_left, each_role, in_block, not_within, numbered, own_role, plans, role_on, source, strongly, with_roles}
 use Rattle.oss_field.proofs.PlannedLemmas.{planned_now, role_inside}
 use Rattle.oss_field.proofs.SlotLemmas.{set_twice}
 use Rattle.oss_field.proofs.TableLemmas.{chained, plans_stand, sights_set, sits_at}
@@ -289,6 +292,12 @@ module _ (code : CodeParts) (fuel n id : ℕ) (v : SeatView) (job : Job) (t coun
           ];
         }
 
+    -- the own entry of a task is none of a reduction
+    own_reads : (e : ℕ) (q : Role) → Source path t own (begins_list h) (length code.first) stands.role e q → q.site ≡ itself → (op : Op) → q.mode ≢ Fold op
+    own_reads e q (of_old is same) site op = stands.selves e q is site op
+    own_reads e q (of_task here_is it) site op = λ folds. let z : true ≡ false = ap needs_flag (ap (λ (x : Role). x.mode) (sym it) ∙ folds) in let bad : ⊥ = cc in bad
+    own_reads e q (of_cell c) site op = absurd (let z : on c.cell ≡ itself = ap (λ (x : Role). x.site) (sym c.it) ∙ site in let bad : ⊥ = cc in bad)
+
     pub begins_stand : Stands code fuel n (set ws (count_word_of (length code.first) t) count) homes (set views id (record { known = l }))
     begins_stand = record {
       net = stands.net;
@@ -313,6 +322,8 @@ module _ (code : CodeParts) (fuel n id : ℕ) (v : SeatView) (job : Job) (t coun
       drawn = subst (λ (z : List (Sight CodeScript)). AreDrawn role' z) (sym (sights_set views id l))
           (plans_draw CodeScript stands.role role' (sights_of views) id (sight_of v.known) (sight_of l) (sits_at views id v sits) (λ e. elim (block_drawn e) [ inl q ↦ inl q | inr q ↦ inr (may.drawn e q.0 q.1) ]) left stands.drawn);
       undrawn = λ e high. subst (λ (z : List (Sight CodeScript)). IsFree role' z e) (sym (sights_set views id l)) (still_free e (subst (λ (z : ℕ). z ≤ e) (draw_same code n ws homes stands.cells t count) high));
+      selves = λ e q is. own_reads e q (source path t own (begins_list h) (length code.first) stands.role e q is);
+      heard = heard_same stands.net k.infos (λ e. info_at (slice_index (set ws (count_word_of (length code.first) t) count) (info_word_of (length code.first) e))) views id v l sits refl (λ e. ap info_at (infos_same code n ws homes stands.cells t count e)) stands.heard;
       seats = subst (λ (z : List View). AreSeats n stands.net (λ e. state_at (slice_index (set ws (count_word_of (length code.first) t) count) (state_word_of (length code.first) e))) (slice_index (set ws (count_word_of (length code.first) t) count) 0) z) (sym (words_stay views id v l sits refl))
           (subst (λ (z : ℕ). AreSeats n stands.net (λ e. state_at (slice_index (set ws (count_word_of (length code.first) t) count) (state_word_of (length code.first) e))) z (words_of (sights_of views))) (sym (draw_same code n ws homes stands.cells t count))
           (subst (λ (g : ℕ → EntryState). AreSeats n stands.net g (slice_index ws 0) (words_of (sights_of views))) (λ i e. state_at (sym (states_same code n ws homes stands.cells t count e) i)) stands.seats));

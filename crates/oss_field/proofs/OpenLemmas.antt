@@ -27,6 +27,7 @@ use Rattle.oss_words.specs.declared.entry.EntryState.{EntryState}
 use Rattle.oss_words.specs.Net.{Net, apart}
 use Rattle.oss_words.specs.Sums.{below, num}
 use Rattle.oss_words.specs.Views.{Among, among_first, among_later}
+use Rattle.oss_words.proofs.KeptLaw.{at_here}
 use Rattle.oss_words.proofs.SeatLemmas.{among_none}
 use Rattle.oss_roles.specs.Counting.{weight}
 use Rattle.oss_roles.specs.Field.{Bears, Field, FieldAt, IsMade, IsNumberOf, Parts, Sits, owed_by_all}
@@ -41,7 +42,7 @@ use Rattle.oss_field.specs.declared.view.SeatView.{SeatView}
 use Rattle.oss_field.specs.Asks.{AreInside, IsInside}
 use Rattle.oss_field.specs.Known.{Holding, Known, Plan, Unlinked, bearing_of, last_of, sight_of}
 use Rattle.oss_field.specs.Layout.{count_word_of, parts_of}
-use Rattle.oss_field.specs.Making.{IsOpened, MayOpen, created_by, made_beside, opened, plans_beside}
+use Rattle.oss_field.specs.Making.{IsOpened, MayOpen, Opens, created_by, made_beside, opened, plans_beside}
 use Rattle.oss_field.specs.Moves.{touched}
 use Rattle.oss_field.specs.Plans.{ArePlanned, IsLoose, IsRoleOf, is_cell, is_own, IsUnlinked, Planned, new_rights, planned_of}
 use Rattle.oss_field.specs.Standing.{carried}
@@ -51,6 +52,7 @@ use Rattle.oss_field.proofs.ActLemmas.{carried_one}
 use Rattle.oss_field.proofs.DrawLemmas.{mod_small}
 use Rattle.oss_field.proofs.MakingLemmas.{bodies_same, cells_same, count_here, counts_else, draw_same, infos_same, numbers_same, parts_now, states_same}
 use Rattle.oss_field.proofs.PlanLemmas.{has_held, right_held, site_cell}
+use Rattle.oss_field.proofs.SlotLemmas.{within}
 use Rattle.oss_field.proofs.StageLemmas.{made_is, made_kept}
 use Rattle.oss_field.proofs.TableLemmas.{among_at, among_set, chained, next_stands, plans_stand, sits_at}
 
@@ -284,8 +286,8 @@ module _ (code : CodeParts) (fuel n id : ℕ) (v : SeatView) (job : Job) (t : �
     opens_stand =
         let y : ℕ = slice_index ws (count_word_of (length code.first) t) - 1 in
         let ws' : List ℕ = set ws (count_word_of (length code.first) t) y in
-        next_stands code fuel n ws homes views stands id v l sits refl refl told ws' homes stands.cells (length-set ws (count_word_of (length code.first) t) y ∙ stands.size) stands.slots stands.sized
-        (λ c low. cells_same code n ws homes stands.cells t y c low ∙ stands.cell_words c low) (λ e low z. stands.empty e low (sym (bodies_same code n ws homes stands.cells t y e) ∙ z)) (states_same code n ws homes stands.cells t y) (draw_same code n ws homes stands.cells t y)
+        next_stands code fuel n ws homes views stands id v l sits refl refl refl told ws' homes stands.cells (length-set ws (count_word_of (length code.first) t) y ∙ stands.size) stands.slots stands.sized
+        (λ c low. cells_same code n ws homes stands.cells t y c low ∙ stands.cell_words c low) (λ e low z. stands.empty e low (sym (bodies_same code n ws homes stands.cells t y e) ∙ z)) (states_same code n ws homes stands.cells t y) (λ e hangs. infos_same code n ws homes stands.cells t y e) (draw_same code n ws homes stands.cells t y)
         (plans_stand code n stands.net stands.role ws ws' (set (planned_by views) id (planned_of l)) (planned_by (set views id (record { known = l }))) (states_same code n ws homes stands.cells t y) (infos_same code n ws homes stands.cells t y) (numbers_same code n ws homes stands.cells t y)
         (map-set (λ (z : SeatView). planned_of z.known) views id (record { known = l }))
         (planned_less code n stands.net stands.role k.states k.infos k.cell_of (planned_by views) stands.planned id (planned_of v.known) planned_at t may.linked))
@@ -298,14 +300,27 @@ module _ (code : CodeParts) (fuel n id : ℕ) (v : SeatView) (job : Job) (t : �
       let less : x ≡ suc x - 1 = omega arith in
       ap (λ (z : ℕ). z % 2 ^ 64) e ∙ (add-mul-mod_self_right x 1 (2 ^ 64) ∙ (mod_small x (2 ^ 64) (omega (arith, high)) ∙ less))
 
-  pub opens : Steps code fuel n id v (count_word_of (length code.first) t) (λ y. (y + (2 ^ 64 - 1)) % 2 ^ 64) (λ y k. IsOpened code job t y v.known k)
+  -- the last children that the creator has from then on hang, so they are entries of the table
+  lasts_inside : (ws : List ℕ) (homes : List (maybe.Option Slot)) (views : List SeatView) (stands : Stands code fuel n ws homes views) → get_elem? views id ≡ maybe.some v
+      → (y : Site) (o : ℕ) → last_of (created_by job may.holding) y ≡ Some o → o < n
+  lasts_inside ws homes views stands sits =
+      let x : ℕ = slice_index ws (count_word_of (length code.first) t) in
+      let new : Known = touched (count_word_of (length code.first) t) x (opened may.place may.holding job t v.known) in
+      let s = opens_stand ws homes views stands sits in
+      let views' : List SeatView = set views id (record { known = new }) in
+      let there : get_elem? (set views id (record { known = new })) id ≡ maybe.some (record { known = new }) = at_here views id v (record { known = new }) sits in
+      let holds : get_elem? (set v.known.bears may.place (created_by job may.holding)) may.place ≡ maybe.some (created_by job may.holding) = at_here v.known.bears may.place may.holding (created_by job may.holding) may.holds in
+      (within code (code_main code fuel) code.first (is_job_of code s.before) n (parts_of (length code.first) (set ws (count_word_of (length code.first) t) (x - 1)) homes s.cells) (sights_of views') s.rule.field
+      id new (sits_at views' id (record { known = new }) there) may.place (created_by job may.holding) holds).lasts
+
+  pub opens : Steps code fuel n id v (count_word_of (length code.first) t) (λ y. (y + (2 ^ 64 - 1)) % 2 ^ 64) (λ y k. Opens code n job t y v.known k)
   opens ws homes views stands sits bits =
       let x : ℕ = slice_index ws (count_word_of (length code.first) t) in
       let some : 0 < x = counted ws homes views stands sits in (
         touched (count_word_of (length code.first) t) x (opened may.place may.holding job t v.known),
         subst (λ (y : ℕ). Stands code fuel n (set ws (count_word_of (length code.first) t) y) homes (set views id (record { known = touched (count_word_of (length code.first) t) x (opened may.place may.holding job t v.known) }))) (sym (lowered x some bits))
             (opens_stand ws homes views stands sits),
-        record { may = may; some = some; known = refl },
+        record { opened = record { may = may; some = some; known = refl }; lasts = lasts_inside ws homes views stands sits },
       )
 
 -- what the seat holds after it
@@ -315,8 +330,10 @@ opened_slots code job t n k l o =
     ∙ (map-set (λ (z : Holding). carried_one z) k.bears o.may.place (created_by job o.may.holding)
     ∙ set_again (carried k.bears) o.may.place (o.may.holding.number, None) (at_map (λ (z : Holding). carried_one z) k.bears o.may.place o.may.holding o.may.holds))
 
-pub opened_inside : (d : TableId) (code : CodeParts) (job : Job) (t found : ℕ) (k l : Known) → AreInside d k.bears → IsOpened code job t found k l → AreInside d l.bears
-opened_inside d code job t n k l inside o u a = elim (among_set k.bears o.may.place (created_by job o.may.holding) u (subst (λ (z : Known). Among u z.bears) o.known a)) [
-  | inl e ↦ subst (λ (z : Holding). IsInside d z) e (let i = inside o.may.holding (among_at k.bears o.may.place o.may.holding o.may.holds) in record { number = i.number; inside = i.inside; strongly = i.strongly })
-  | inr q ↦ inside u q
-]
+pub opened_inside : (d : TableId) (code : CodeParts) (n : ℕ) (job : Job) (t x : ℕ) (k l : Known) → d.slots ≡ n → AreInside d k.bears → Opens code n job t x k l → AreInside d l.bears
+opened_inside d code n job t x k l slots inside tells u a =
+    let o = tells.opened in
+    elim (among_set k.bears o.may.place (created_by job o.may.holding) u (subst (λ (z : Known). Among u z.bears) o.known a)) [
+      | inl e ↦ subst (λ (z : Holding). IsInside d z) e (let i = inside o.may.holding (among_at k.bears o.may.place o.may.holding o.may.holds) in record { number = i.number; inside = i.inside; strongly = i.strongly; entries = i.entries; lasts = λ y e last. subst (λ (s : ℕ). e < s) (sym slots) (tells.lasts y e last) })
+      | inr q ↦ inside u q
+    ]

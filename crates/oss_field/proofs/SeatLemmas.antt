@@ -29,6 +29,7 @@ use Rattle.oss_roles.proofs.DrawLaw.{draws_keep, new_seats_draw}
 use Rattle.oss_roles.proofs.OtherLaw.{words_set}
 use Rattle.oss_roles.proofs.WordClaims.{new_seats_keep, quiet_steps_keep}
 use Rattle.oss_field.specs.declared.view.SeatView.{SeatView}
+use Rattle.oss_field.specs.Heard.{Told}
 use Rattle.oss_field.specs.Known.{Holding, Known, Plan, Unlinked, bearing_of, sight_of}
 use Rattle.oss_field.specs.Layout.{parts_of, state_word_of, info_word_of, number_word_of}
 use Rattle.oss_field.specs.Plans.{ArePlanned, IsUnlinked, Planned, planned_of}
@@ -62,6 +63,9 @@ no_holding h a = elim a [ ]
 
 pub no_number : (e : ℕ) → Among e [] → ⊥
 no_number e a = elim a [ ]
+
+pub none_told : (t : Told) → Among t [] → ⊥
+none_told t a = elim a [ ]
 
 no_plan : (y : Plan) → Among y [] → ⊥
 no_plan y a = elim a [ ]
@@ -216,6 +220,16 @@ module _ (code : CodeParts) (fuel n : ℕ) (v : SeatView) (more : 1 < v.known.wo
           (new_seats_draw CodeScript stands.role (set (sights_of z.views) 0 (sight_of (parted v.known))) (sight_of new_known) refl
           (draws_keep CodeScript stands.role (sights_of z.views) 0 (sight_of v.known) (sight_of (parted v.known)) (sits_at z.views 0 v sits) (λ e a. inl a) stands.drawn));
       undrawn = λ e high. subst (λ (y : List (Sight CodeScript)). IsFree stands.role y e) (sym sights_are) (still_free e (stands.undrawn e high));
+      selves = stands.selves;
+      heard = record {
+        told = λ j y at t a. elim (at_snoc (set z.views 0 l) r y j at) [
+          | inl old ↦ elim (at_set z.views 0 j l y old) [
+            | inl e ↦ stands.heard.told 0 v sits t (subst (λ (x : SeatView). Among t x.known.told) (sym e.1) a)
+            | inr e ↦ stands.heard.told j y e.1 t a
+          ]
+          | inr new ↦ absurd (none_told t (subst (λ (x : SeatView). Among t x.known.told) (sym new) a))
+        ];
+      };
       seats = subst (λ (y : List View). AreSeats n stands.net (λ e. state_at (slice_index z.words (state_word_of (length code.first) e))) (slice_index z.words 0) y) (sym words_are) seats_now;
       planned = subst (λ (y : List Planned). ArePlanned code n stands.net stands.role k.states k.infos k.cell_of y) (sym plans_are)
           (planned_more code n stands.net stands.role k.states k.infos k.cell_of (planned_by z.views) stands.planned);

@@ -27,7 +27,7 @@ use Rattle.oss_jobs.specs.Entries.{entry_told}
 use Rattle.oss_words.specs.Bits.{state_at, info_at}
 use Rattle.oss_words.specs.Views.{Among, among_first, among_later}
 use Rattle.oss_words.proofs.KeptLaw.{at_here}
-use Rattle.oss_roles.specs.Field.{Field, FieldAt, Parts, IsBorne}
+use Rattle.oss_roles.specs.Field.{Field, FieldAt, Parts, Sits}
 use Rattle.oss_roles.specs.JobSteps.{of_other}
 use Rattle.oss_roles.specs.Roles.{Site, itself, on}
 use Rattle.oss_roles.specs.Sights.{Bearing, Sight, Telling}
@@ -44,6 +44,7 @@ use Rattle.oss_field.specs.Steps.{Steps}
 use Rattle.oss_field.specs.Table.{Slot, is_job_of, planned_by, sights_of, Stands}
 use Rattle.oss_field.specs.Taking.{IsPut, IsWithin, MayPut, Puts, Takes, after_count, after_miss, after_take}
 use Rattle.oss_field.proofs.CellLemmas.{beside_is, job_goes}
+use Rattle.oss_field.proofs.OwnLemmas.{borne, cell_filed}
 use Rattle.oss_field.proofs.TableLemmas.{sits_at, then_at, chained, quiet_stands, next_stands, plans_same, plans_stand, read_stands}
 
 -- the job that is told to stand in a slot stands there
@@ -143,22 +144,23 @@ module _ (code : CodeParts) (fuel n : ℕ) (ws : List ℕ) (homes : List (maybe.
       → FieldAt (asks code) (code_main code fuel) code.first (is_job_of code stands.before) n stands.net stands.gave stands.role
       (record (parts_of (length code.first) ws homes stands.cells) { bodies = (parts_of (length code.first) ws' homes' stands.cells).bodies; jobs = (parts_of (length code.first) ws' homes' stands.cells).jobs }) (set (sights_of views) id (sight_of l))
       → Stands code fuel n (set ws (body_word_of (length code.first) t) x) (set homes t home') (set views id (record { known = l }))
-  slot_stands id v l sits words drawn told some rule = next_stands code fuel n ws homes views stands id v l sits words (ap (λ (z : Prepared). z.drawn) drawn) told ws' homes' stands.cells
+  slot_stands id v l sits words drawn told some rule = next_stands code fuel n ws homes views stands id v l sits words (ap (λ (z : Prepared). z.drawn) drawn) (ap (λ (z : Prepared). z.told) drawn) told ws' homes' stands.cells
       (length-set ws (body_word_of (length code.first) t) x ∙ stands.size) (length-set homes t home' ∙ stands.slots) stands.sized
       (λ c low. get_or-set_other ws (body_word_of (length code.first) t) (cell_word c) x 0 (λ q. absurd (omega (arith, q, low))) ∙ stands.cell_words c low)
       (λ e low z. elim (eqb_tells e t) [
         | inl h ↦ absurd (some (sym here ∙ (ap (λ (j : ℕ). slice_index ws' (body_word_of (length code.first) j)) (sym h.1) ∙ z)))
         | inr h ↦ set_else homes t e home' h.1 ∙ stands.empty e low (sym (bodies_else e h.1) ∙ z)
       ])
-      states_same
+      states_same (λ e hangs. infos_same e)
       (get_or-set_other ws (body_word_of (length code.first) t) 0 x 0 (λ q. absurd (omega (arith, q))))
       (plans_stand code n stands.net stands.role ws ws' (planned_by views) (planned_by (set views id (record { known = l }))) states_same infos_same numbers_same (plans_same views id v l sits (ap (λ (z : Prepared). z.planned) drawn)) stands.planned)
       (subst (λ (z : Parts (Box Job)). FieldAt (asks code) (code_main code fuel) code.first (is_job_of code stands.before) n stands.net stands.gave stands.role z (set (sights_of views) id (sight_of l))) parts_now rule)
 
--- a task whose job a seat holds is within the cells
-within : (code : CodeParts) (main : Start CodeScript) (first : List ℕ) (is_job : Telling CodeScript (Box Job)) (n : ℕ) (k : Parts (Box Job)) (sights : List (Sight CodeScript)) (f : Field (asks code) main first is_job n k sights) (h : Holding)
-    → IsBorne f.state sights f.net f.role (bearing_of h) → IsWithin (length first) h
-within code main first is_job n k sights f h b =
+-- a task whose job a seat holds is within the cells and the entries
+pub within : (code : CodeParts) (main : Start CodeScript) (first : List ℕ) (is_job : Telling CodeScript (Box Job)) (n : ℕ) (k : Parts (Box Job)) (sights : List (Sight CodeScript)) (f : Field (asks code) main first is_job n k sights)
+    (id : ℕ) (v : Known) (sits : Sits sights id (sight_of v)) (place : ℕ) (h : Holding) → get_elem? v.bears place ≡ maybe.some h → IsWithin (length first) n h
+within code main first is_job n k sights f id v sits place h holds =
+    let b = borne code n k sights f id v sits place h holds in
     let made = (agrees (asks code) main first f.state f.setting f.reached).made in
     let start = ap (λ (z : Body CodeScript). z.start) b.body in record {
       inside = λ c mode strong right. right_in_memory (asks code) main f.state first c h.path mode made f.setting.memory (record {
@@ -169,6 +171,11 @@ within code main first is_job n k sights f h b =
       });
       strongly = subst (λ (z : Start CodeScript). (c : ℕ) (mode : Mode) (strong : Bool) → z.context.final ≡ true → right_of z.context c ≡ Holds mode strong → strong ≡ true) start
           (starts_well (asks code) main f.state f.setting.starts made h.path b.task b.at_).0;
+      entries = λ number c mode strong right.
+          let x = cell_filed code n k sights f id v sits place h holds number c mode strong right in
+          let low = f.words.flow.words.inside x.0.entry x.0.hangs in
+          subst (λ (z : ℕ). z < n) x.3 low;
+      lasts = λ y o last. let a = b.last.some y o last in f.words.flow.words.inside o a.3;
     }
 
 -- what a job keeps of its last children tells them
@@ -179,7 +186,7 @@ kept_lasts code before j t b last h is lasts child (on c) = ap (λ (z : List (Pi
 -- a job is taken
 module _ (code : CodeParts) (fuel n slots id : ℕ) (v : SeatView) (c : List (ℕ × Slot)) (t : ℕ) (inside : t < n) (ready : Among t v.known.ready) where
   abbrev Tells : ℕ → Me Slot SeatView → Type 0
-  Tells x w = Takes code fuel (length code.first) t x (v, c) w
+  Tells x w = Takes code fuel n (length code.first) t x (v, c) w
 
   abbrev i : ℕ
   i = body_word_of (length code.first) t
@@ -211,7 +218,7 @@ module _ (code : CodeParts) (fuel n slots id : ℕ) (v : SeatView) (c : List (�
         let l : Known = after_take (length code.first) t h v.known in
         let w : SeatView = record { known = l } in
         let g = tk.keeps (sight_of l) (record { words = refl; makes = refl; ready = refl; joined = refl; owes = refl; seen = refl }) (ap (λ (y : Bearing CodeScript). y ∷ map bearing_of v.known.bears) same) refl refl in
-        let borne = g.field.borne id (sight_of l) (at_here (sights_of z.views) id (sight_of v.known) (sight_of l) (sits_at z.views id v sits)) 0 (bearing_of h) refl in
+        let has = g.field.borne id (sight_of l) (at_here (sights_of z.views) id (sight_of v.known) (sight_of l) (sits_at z.views id v sits)) 0 (bearing_of h) refl in
         let told : (u : Holding) → Among u (h ∷ v.known.bears) → stands.before u.number ≡ u.before = λ u a. elim a [ among_first p ↦ subst (λ (y : Holding). stands.before y.number ≡ y.before) p refl | among_later b ↦ stands.told id v sits u b ] in
         let rule = slot_stands code fuel n z.words z.homes z.views stands t inside 2 maybe.none id v l sits refl refl told (λ q. absurd (omega (arith, q))) (chained stands g) in (
           w,
@@ -227,12 +234,12 @@ module _ (code : CodeParts) (fuel n slots id : ℕ) (v : SeatView) (c : List (�
                 is = subst (λ (y : Site → Option ℕ). IsJob code (stands.before t) (box_value j) t tk.bearing.body y) (λ e y. sym (lasts y) e) tk.is;
                 state = g.field.state;
                 reached = g.field.reached;
-                task = borne.task;
-                at_ = borne.at_;
-                body = borne.body;
-                ready = borne.ready;
+                task = has.task;
+                at_ = has.at_;
+                body = has.body;
+                ready = has.ready;
               },
-              within code (code_main code fuel) code.first (is_job_of code stands.before) n (record k { bodies = parts'.bodies; jobs = parts'.jobs }) (set (sights_of z.views) id (sight_of l)) g.field h borne,
+              within code (code_main code fuel) code.first (is_job_of code stands.before) n (record k { bodies = parts'.bodies; jobs = parts'.jobs }) (set (sights_of z.views) id (sight_of l)) g.field id l (at_here (sights_of z.views) id (sight_of v.known) (sight_of l) (sits_at z.views id v sits)) 0 h refl,
               refl,
               refl,
             )),

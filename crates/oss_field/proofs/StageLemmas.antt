@@ -209,6 +209,8 @@ stands_retold code fuel n ws homes views stands id v sits a among two = (
     told = λ j y at h in_. retold_else stands.before a.task h.number (other j y at h in_) ∙ stands.told j y at h in_;
     drawn = stands.drawn;
     undrawn = stands.undrawn;
+    selves = stands.selves;
+    heard = stands.heard;
     seats = stands.seats;
     planned = stands.planned;
   },

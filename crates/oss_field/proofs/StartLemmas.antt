@@ -22,6 +22,7 @@ use Rattle.oss_roles.specs.Sights.{Sight}
 use Rattle.oss_roles.proofs.DrawLaw.{nothing_is_drawn}
 use Rattle.oss_roles.proofs.WordClaims.{starts_keep}
 use Rattle.oss_field.specs.declared.view.SeatView.{SeatView}
+use Rattle.oss_field.specs.Heard.{Told}
 use Rattle.oss_field.specs.Known.{Holding, Plan, Unlinked, first_known, sight_of}
 use Rattle.oss_field.specs.Layout.{Home, job_in, state_word_of, count_word_of, body_word_of, parts_of}
 use Rattle.oss_field.specs.Plans.{Planned, planned_of}
@@ -168,6 +169,9 @@ module _ (code : CodeParts) (fuel n : ℕ) (low : 0 < n) (high : n ≤ 16777216)
   no_holding : (h : Holding) → Among h [] → ⊥
   no_holding h a = elim a [ ]
 
+  none_told : (t : Told) → Among t [] → ⊥
+  none_told t a = elim a [ ]
+
   nothing : (e : ℕ) → Among e [] → ⊥
   nothing e a = elim a [ ]
 
@@ -217,6 +221,8 @@ module _ (code : CodeParts) (fuel n : ℕ) (low : 0 < n) (high : n ≤ 16777216)
       none = refl;
       undrawn = λ j x sits a. nothing e (subst (λ (z : Sight CodeScript). Among e z.drawn) (sym (only j x sits)) a);
     };
+    selves = λ t q is. absurd (let z : None ≡ Some q = is in let bad : ⊥ = cc in bad);
+    heard = record { told = λ j x sits t a. absurd (none_told t (subst (λ (z : SeatView). Among t z.known.told) (sym (only_view j x sits)) a)) };
     seats = record {
       main_drawn = omega arith;
       drawn = omega arith;

@@ -2,7 +2,7 @@
 -- Read against: a seat that bears the job of task 7 before a tick, a print and the load of cell 4. Meanwhile its worker has advanced the job over the
 -- tick and the print. It is given to the load: the job is that of 7 with two answers more, none of which needed a wait, and its next act is the load.
 -- The load finds 5, and the seat knows three answers more, of which the last is 5.
-use Rattle.std.specs.Prelude.{◌≡◌, ◌<◌, ◌+◌, ◌*◌, ℕ, Bool, true, false, List}
+use Rattle.std.specs.Prelude.{◌≡◌, ◌≢◌, ◌<◌, ◌+◌, ◌*◌, ℕ, Bool, true, false, List, Some}
 use mathlib.Core.Option as maybe
 use lib.ListN.{get_elem?}
 use Rattle.atomic_table.specs.Seated.{TableId}
@@ -19,7 +19,9 @@ use Rattle.oss_model.specs.Rights.{Holds}
 use Rattle.oss_syntax.specs.declared.access.Mode.{Mode}
 use Rattle.oss_syntax.specs.declared.access.Op.{Op}
 use Rattle.oss_words.specs.Views.{Among}
+use Rattle.oss_roles.specs.Numbers.{entry_number}
 use Rattle.oss_roles.specs.Passing.{MayGo}
+use Rattle.oss_roles.specs.Roles.{Site}
 use Rattle.oss_field.specs.Known.{Holding, Known, bearing_of, last_of, sight_of}
 use Rattle.oss_field.specs.Moves.{answered, noted, touched}
 use Rattle.oss_field.specs.Layout.{cell_word}
@@ -95,11 +97,15 @@ pub data IsStored (code : CodeParts) (job : Job) (cell value : ℕ) (k l : Known
   has_stored : Stored code job cell value k l → IsStored code job cell value k l
   has_folded : (op : Op) (operand : ℕ) → StoredFold code job cell op operand value k l → IsStored code job cell value k l
 
--- The number of a held task is that of a slot of the table, the cells to which it has a right are cells of the table, and a final one has strong rights alone.
+-- The number of a held task is that of a slot of the table, the cells to which it has a right are cells of the table, a final one has strong rights alone, and its entries and its last
+-- children are entries of the table.
 pub record IsInside (d : TableId) (h : Holding) : Type 0 where
   pub number : h.number < d.slots
   pub inside : (c : ℕ) (mode : Mode) (strong : Bool) → right_of h.body.start.context c ≡ Holds mode strong → 1 + c + 6 * d.slots < d.words
   pub strongly : (c : ℕ) (mode : Mode) (strong : Bool) → h.body.start.context.final ≡ true → right_of h.body.start.context c ≡ Holds mode strong → strong ≡ true
+  -- of a task but main, its entries; and the last children of any
+  pub entries : h.number ≢ 0 → (c : ℕ) (mode : Mode) (strong : Bool) → right_of h.body.start.context c ≡ Holds mode strong → entry_number h.number (right_of h.body.start.context) c < d.slots
+  pub lasts : (y : Site) (o : ℕ) → last_of h y ≡ Some o → o < d.slots
 
 -- All tasks whose jobs are held.
 abbrev pub AreInside : TableId → List Holding → Type 0

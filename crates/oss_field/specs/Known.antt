@@ -15,6 +15,8 @@ use Rattle.oss_words.specs.Views.{View, Seen, first_view}
 use Rattle.oss_roles.specs.Roles.{Site, itself, on}
 use Rattle.oss_roles.specs.Sights.{Bearing, Making, Noted, Fixed, Sight}
 use Rattle.oss_jobs.specs.Entries.{entry_told}
+use Rattle.oss_field.specs.declared.touched.Touched.{Touched}
+use Rattle.oss_field.specs.Heard.{Told, Lowered}
 
 -- A job that a seat holds: the task's number and path, its body as the machine has it, the answers that the body had found when the job was made, and
 -- its last children as the job kept them.
@@ -66,6 +68,10 @@ pub record Known : Type 0 where
   -- the tasks that it is making, and their entries that hang nowhere yet
   pub plans : List Plan
   pub unlinked : List Unlinked
+  -- what it was told of entries that hang, what its last delivery touched, and the last count that it lowered
+  pub told : List Told
+  pub last : Touched
+  pub lowered : Lowered
   -- the number of the word that its last step touched, and what stood there then
   pub word : ℕ
   pub found : ℕ
@@ -100,6 +106,9 @@ first_known = record {
   still = [];
   plans = [];
   unlinked = [];
+  told = [];
+  last = record { entry = 0; state = 0; info = 0 };
+  lowered = record { task = 0; found = 0 };
   word = 0;
   found = 0;
 }

@@ -1,10 +1,13 @@
 pub mod Asks
 pub mod Drawing
+pub mod Heard
 pub mod Known
 pub mod Layout
 pub mod Linking
 pub mod Making
+pub mod Messages
 pub mod Moves
+pub mod Owning
 pub mod Plans
 pub mod Reading
 pub mod Seats

@@ -22,6 +22,7 @@ use Rattle.oss_words.specs.Sums.{below, num}
 use Rattle.oss_words.specs.Views.{Among}
 use Rattle.oss_roles.specs.Alone.{with_answer}
 use Rattle.oss_roles.specs.Numbers.{cells_below, has_cell}
+use Rattle.oss_roles.specs.Roles.{Site}
 use Rattle.oss_roles.specs.Sights.{Making}
 use Rattle.oss_field.specs.declared.view.SeatView.{SeatView}
 use Rattle.oss_field.specs.Asks.{HoldsOnce, StandsBefore}
@@ -153,3 +154,8 @@ pub record IsOpened (code : CodeParts) (job : Job) (t : ℕ) (found : ℕ) (k l 
   pub may : MayOpen code job t k
   pub some : 0 < found
   pub known : l ≡ touched (count_word_of (length code.first) t) found (opened may.place may.holding job t k)
+
+-- What its step tells, in a field of n entries: the last children that the creator has from then on are entries of the table, too.
+pub record Opens (code : CodeParts) (n : ℕ) (job : Job) (t : ℕ) (found : ℕ) (k l : Known) : Type 0 where
+  pub opened : IsOpened code job t found k l
+  pub lasts : (y : Site) (o : ℕ) → last_of (created_by job opened.may.holding) y ≡ Some o → o < n

@@ -1,6 +1,6 @@
 -- The entries of tasks that are being made: which have a role and hang nowhere yet, and what stands in their words.
 -- Read against: the task 7 of the cells 4 and 5, whose count a seat has filled. Its plan tells the job of its creator, and with it the rights of 7. The
--- entries 7, 8 and 9 have roles from then on, no word of theirs is written, and they are the ones that are not linked. When 7 was linked, 8 and 9 are. An
+-- entries 7, 8 and 9 have roles from then on, no word of theirs is written, and they are the ones that are not linked. Once 7 is linked, 8 and 9 are those that are not. An
 -- entry with no role has the state word 0, whoever has drawn it.
 use Rattle.std.specs.Prelude.{◌≡◌, ◌≢◌, ◌⊎◌, ◌<◌, ◌==◌, ℕ, Bool, true, false, not, ◌&&◌, List, map, Option, Some, None}
 use mathlib.Core.Option as maybe
@@ -21,6 +21,7 @@ use Rattle.oss_words.specs.Steps.{no_flags}
 use Rattle.oss_words.specs.Views.{Among}
 use Rattle.oss_roles.specs.Numbers.{entry_number}
 use Rattle.oss_roles.specs.Roles.{Role, itself, on}
+use Rattle.oss_field.specs.Heard.{Told}
 use Rattle.oss_field.specs.Known.{Holding, Known, Plan, Unlinked, last_of}
 
 -- The right of the new task to each cell, if the body x stands before its creation.
@@ -58,13 +59,14 @@ pub record Planned : Type 0 where
 abbrev pub planned_of : Known → Planned
 planned_of k = record { plans = k.plans; unlinked = k.unlinked }
 
--- The same, and what the seat has drawn.
+-- The same, what the seat has drawn, and what it was told of entries.
 pub record Prepared : Type 0 where
   pub drawn : List ℕ
   pub planned : Planned
+  pub told : List Told
 
 abbrev pub prepared_of : Known → Prepared
-prepared_of k = record { drawn = k.drawn; planned = planned_of k }
+prepared_of k = record { drawn = k.drawn; planned = planned_of k; told = k.told }
 
 -- What the role of an entry of a planned task says: it is the task's own, for which its count does not wait, or that on a cell to which it has a right.
 pub data IsRoleOf (code : CodeParts) (y : Plan) (e : ℕ) (r : Role) : Type 0 where

@@ -4,7 +4,7 @@
 -- Read against: a field of 2 cells and 3 entries at the start. Word 0 is 1, since entry 0 is drawn; the words 1 and 2 are the first cells; the count
 -- of entry 0 is 0 and its body word is 1; the counts of 1 and 2 are not filled; every other word is 0. Main's job stands in slot 0, and the slots 1
 -- and 2 are at home and empty. One seat has all 65,537 parts. A seat takes main's job: the body word is 2, slot 0 is out, and the seat bears 0.
-use Rattle.std.specs.Prelude.{◌≡◌, ◌<◌, ◌≤◌, ◌+◌, ◌*◌, ℕ, Bool, false, List, map, length, slice_index, Option, None, box_value}
+use Rattle.std.specs.Prelude.{◌≡◌, ◌≢◌, ◌<◌, ◌≤◌, ◌+◌, ◌*◌, ℕ, Bool, false, List, map, length, slice_index, Option, Some, None, box_value}
 use Rattle.std.specs.Global.{Box}
 use mathlib.Core.Option as maybe
 use lib.ListN.{get_elem?}
@@ -14,6 +14,8 @@ use Rattle.oss_jobs.specs.declared.job.Job.{Job}
 use Rattle.oss_jobs.specs.Jobs.{IsJob}
 use Rattle.oss_machine.specs.Frames.{CodeScript}
 use Rattle.oss_machine.specs.Machines.{asks}
+use Rattle.oss_syntax.specs.declared.access.Mode.TheVariants.{Fold}
+use Rattle.oss_syntax.specs.declared.access.Op.{Op}
 use Rattle.oss_words.specs.declared.entry.EntryState.{EntryState}
 use Rattle.oss_words.specs.Bits.{info_at, state_at, state_word}
 use Rattle.oss_words.specs.Net.{Net}
@@ -22,11 +24,12 @@ use Rattle.oss_words.specs.Sums.{total}
 use Rattle.oss_words.specs.Views.{View, Among, At}
 use Rattle.oss_roles.specs.Drawing.{AreDrawn, IsFree}
 use Rattle.oss_roles.specs.Field.{FieldAt, words_of}
-use Rattle.oss_roles.specs.Roles.{Role}
+use Rattle.oss_roles.specs.Roles.{Role, itself}
 use Rattle.oss_roles.specs.Sights.{Sight, Telling}
 use Rattle.oss_field.specs.declared.view.SeatView.{SeatView}
 use Rattle.oss_field.specs.Known.{Holding, sight_of}
 use Rattle.oss_field.specs.Layout.{words_in, cell_word, state_word_of, info_word_of, number_word_of, body_word_of, parts_of}
+use Rattle.oss_field.specs.Messages.{AreHeard}
 use Rattle.oss_field.specs.Plans.{ArePlanned, Planned, planned_of}
 
 -- What a slot of the table holds.
@@ -86,6 +89,10 @@ pub record Stands (code : CodeParts) (fuel n : ℕ) (ws : List ℕ) (homes : Lis
   -- what was drawn has no role, and what was not drawn is free
   pub drawn : AreDrawn role (sights_of views)
   pub undrawn : (e : ℕ) → slice_index ws 0 ≤ e → IsFree role (sights_of views) e
+  -- the own entry of a task is none of a reduction
+  pub selves : (t : ℕ) (q : Role) → role t ≡ Some q → q.site ≡ itself → (op : Op) → q.mode ≢ Fold op
+  -- what seats were told of entries is so
+  pub heard : AreHeard net (λ e. info_at (slice_index ws (info_word_of (length code.first) e))) views
   pub seats : AreSeats n net (λ e. state_at (slice_index ws (state_word_of (length code.first) e))) (slice_index ws 0) (words_of (sights_of views))
   -- the entries of tasks that are being made
   pub planned : ArePlanned code n net role (λ e. state_at (slice_index ws (state_word_of (length code.first) e))) (λ e. info_at (slice_index ws (info_word_of (length code.first) e)))

@@ -19,6 +19,8 @@ use Rattle.oss_model.specs.Moves.{Reached}
 use Rattle.oss_model.specs.Rights.{Holds}
 use Rattle.oss_syntax.specs.declared.access.Mode.{Mode}
 use Rattle.oss_words.specs.Views.{Among}
+use Rattle.oss_roles.specs.Numbers.{entry_number}
+use Rattle.oss_roles.specs.Roles.{Site}
 use Rattle.oss_roles.specs.Sights.{Making}
 use Rattle.oss_field.specs.declared.view.SeatView.{SeatView}
 use Rattle.oss_field.specs.Asks.{IsGiven}
@@ -39,10 +41,12 @@ pub record IsTaken (code : CodeParts) (fuel t : ℕ) (job : Job) (h : Holding) :
   pub body : task.body ≡ h.body
   pub ready : IsReady state h.path h.body.start.context
 
--- The task's rights are to the first m cells, and those of a final task are strong.
-pub record IsWithin (m : ℕ) (h : Holding) : Type 0 where
+-- The task's rights are to the first m cells, those of a final task are strong, and its entries and its last children are among the first n.
+pub record IsWithin (m n : ℕ) (h : Holding) : Type 0 where
   pub inside : (c : ℕ) (mode : Mode) (strong : Bool) → right_of h.body.start.context c ≡ Holds mode strong → c < m
   pub strongly : (c : ℕ) (mode : Mode) (strong : Bool) → h.body.start.context.final ≡ true → right_of h.body.start.context c ≡ Holds mode strong → strong ≡ true
+  pub entries : h.number ≢ 0 → (c : ℕ) (mode : Mode) (strong : Bool) → right_of h.body.start.context c ≡ Holds mode strong → entry_number h.number (right_of h.body.start.context) c < n
+  pub lasts : (y : Site) (o : ℕ) → last_of h y ≡ Some o → o < n
 
 -- What a seat knows once it has read the count of the task t, in a field of m cells.
 abbrev pub after_count : ℕ → ℕ → ℕ → Known → Known
@@ -55,10 +59,10 @@ after_miss m t n k = touched (body_word_of m t) n k
 abbrev pub after_take : ℕ → ℕ → Holding → Known → Known
 after_take m t h k = touched (body_word_of m t) 1 (took h k)
 
--- What the exchange of the body word tells: if it found 1, the job is out with the seat.
-abbrev pub Takes : CodeParts → ℕ → ℕ → ℕ → ℕ → Me Slot SeatView → Me Slot SeatView → Type 0
-Takes code fuel m t n v w =
-    (n ≡ 1 → (j : Box Job) × (h : Holding) × IsTaken code fuel t (box_value j) h × IsWithin m h × (w.0.known ≡ after_take m t h v.0.known) × (w.1 ≡ (t, Some j) ∷ v.1))
+-- What the exchange of the body word tells, in a field of e entries and m cells: if it found 1, the job is out with the seat.
+abbrev pub Takes : CodeParts → ℕ → ℕ → ℕ → ℕ → ℕ → Me Slot SeatView → Me Slot SeatView → Type 0
+Takes code fuel e m t n v w =
+    (n ≡ 1 → (j : Box Job) × (h : Holding) × IsTaken code fuel t (box_value j) h × IsWithin m e h × (w.0.known ≡ after_take m t h v.0.known) × (w.1 ≡ (t, Some j) ∷ v.1))
     × (n ≢ 1 → (w.0.known ≡ after_miss m t n v.0.known) × (w.1 ≡ v.1))
 
 -- Why no job was taken: at the first step the count was not 0, or at the second no job stood in the slot.

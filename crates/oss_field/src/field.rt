@@ -1,6 +1,6 @@
 //! A field.
 
-ghost use Rattle.std.specs.Prelude.{◌≡◌, ◌<◌, ◌≤◌, ◌+◌, ◌*◌, ◌==◌, ℕ, [], length, None, IfErr, IfNone, IfOk, IfSome, box_value};
+ghost use Rattle.std.specs.Prelude.{◌≡◌, ◌≢◌, ◌<◌, ◌≤◌, ◌+◌, ◌*◌, ◌==◌, ℕ, [], length, None, IfErr, IfNone, IfOk, IfSome, box_value};
 ghost use Rattle.oss_body.specs.Mains.{code_main};
 ghost use Rattle.oss_field.specs.Asks.{IsLoaded, IsStored, MayLoad, MayStore};
 ghost use Rattle.oss_field.specs.Drawing.{IsAboveAll, drew, missed};
@@ -8,6 +8,7 @@ ghost use Rattle.oss_field.specs.Known.{Holding, first_known};
 ghost use Rattle.oss_field.specs.Layout.{words_in};
 ghost use Rattle.oss_field.specs.Linking.{MayLinkFirst, linked_first};
 ghost use Rattle.oss_field.specs.Making.{HasBegun, IsOpened, IsPutFirst, MayBegin, MayOpen, MayPutFirst};
+ghost use Rattle.oss_field.specs.Messages.{Delivered, NoJoinFirst};
 ghost use Rattle.oss_field.specs.Moves.{touched};
 ghost use Rattle.oss_field.specs.Reading.{after_flags};
 ghost use Rattle.oss_field.specs.Seats.{IsIdle, merged, new_known, parted};
@@ -17,8 +18,10 @@ ghost use Rattle.oss_jobs.specs.Jobs.{IsJob, task_of};
 ghost use Rattle.oss_words.specs.Bits.{FitsInfo};
 
 use crate::cells::{load_cell, store_cell};
+use crate::delivering::deliver_first;
 use crate::drawing::add_draw;
 use crate::flags::read_flags;
+use crate::held::room;
 use crate::key::FieldKey;
 use crate::linking::link_first_of;
 use crate::making::{fill_count, open_task, put_new};
@@ -26,6 +29,7 @@ use crate::seat::FieldSeat;
 use crate::seats::{merge, part};
 use crate::slots::{put_slot, take_job};
 use crate::start::{FieldTable, first_slots, first_words, open_table};
+use crate::touched::Touched;
 use oss_body::main_is_set;
 use oss_code::Code;
 use oss_jobs::Job;
@@ -87,6 +91,7 @@ impl Field {
         ensures seat { IfOk result (λ r. (r.1.field ≡ r.0.table) × (r.1.id ≡ 0) × (r.1.known ≡ first_known)) }
     {
         main_is_set(code, fuel);
+        let held = room(alloc)?;
         let slots = first_slots(alloc, job, entries)?;
         let words = match first_words(alloc, code.first().as_slice(), entries) {
             Ok(words) => words,
@@ -106,7 +111,12 @@ impl Field {
             entries,
             cells: code.first().len() as u32,
         };
-        Ok((field, FieldSeat { place }))
+        let last = Touched {
+            entry: 0,
+            state: 0,
+            info: 0,
+        };
+        Ok((field, FieldSeat { place, held, last }))
     }
 
     /// So many new entries, from 1 to 16,777,216: the first of them; the others follow it. No other seat gets one of them,
@@ -195,13 +205,15 @@ impl Field {
     {
         read_flags(&self.table.shared, &mut seat.place, self.cells, entry)
     }
-    /// Begins to make a task: fills its count. The creation stands next in a job that the seat holds, which since the
-    /// seat's last call with it has gone on as before `load`, and by which the seat makes no task yet. The seat has drawn
+
+    /// Begins to make a task: fills its count. The creation stands next in a job that the seat holds. Since the seat's last
+    /// call with the job it has gone on as `load` asks. The seat makes no task by it yet. The seat has drawn
     /// the task's number, which is above that of the job and above its last children, and behind it one entry for each
     /// cell of the task. The count is one for the opening, and one for each strong cell that the task reads or writes, but
     /// for those on which main has no child before it. From then on the entries are those of the new task, and
-    /// none of them is linked: the machine has the task once it is opened. A seat that lets a task be half made cannot be
-    /// joined, so what takes memory comes before this call.
+    /// none of them is linked: the machine has the task once it is opened. A seat that leaves a task half made cannot be
+    /// joined, and the job of its creator cannot be put. So what takes memory comes before this call. So far only main's
+    /// first child can be opened, since there is no other link than `link_first`.
     pub fn set_count(&self, seat: &mut FieldSeat, job: &Job, task: u32, count: u32)
         requires field { seat.old.field ≡ self.now.table }
         requires may { MayBegin self.now.code self.now.entries job.now task count seat.old.known }
@@ -243,7 +255,7 @@ impl Field {
 
     /// Puts the first job of a task that the seat makes, and for which it has put none: the job stands at the beginning
     /// of the body that the creation tells, and has the task's number. The first step takes hold of the empty slot, and
-    /// the second leaves the job there. Nobody can take it before the task is opened.
+    /// the second leaves the job there. By the rule nobody takes it before the task is opened: its count is not 0 until then.
     pub fn put_first(&self, seat: &mut FieldSeat, job: Box<Job>)
         requires field { seat.old.field ≡ self.now.table }
         requires inside { task_of (box_value job) < self.now.entries }
@@ -255,11 +267,10 @@ impl Field {
         put_new(&self.table.shared, &mut seat.place, self.cells, job);
     }
 
-    /// Opens a task that the seat makes: lowers its count by one, and whether it is 0 from then on. Its job is put, all
+    /// Opens a task that the seat makes: lowers its count by one, and answers whether it was 1, so that it is 0 then. Its job is put, all
     /// its entries are linked, and the job of its creator has noted it. It is the machine's step of the creation: after
     /// it the body that the seat knows of the creator has done that act, its last children are those that the job
-    /// tells, and the seat makes the task no more. If it is true, the task is ready, and else the count reaches 0 by a
-    /// `deliver`.
+    /// tells, and the seat makes the task no more. Whether it is ready `take_body` tells.
     pub fn count_down(&self, seat: &mut FieldSeat, job: &Job, task: u32) -> bool
         requires field { seat.old.field ≡ self.now.table }
         requires inside { task < self.now.entries }
@@ -270,10 +281,11 @@ impl Field {
     {
         open_task(&self.table.shared, &mut seat.place, job, self.cells, task)
     }
+
     /// A new seat, which may go to another thread: it holds nothing and knows nothing. The seat is the one with which the
     /// field was made, and was split fewer than 65,536 times; it gives the new one a part of its own. It is an
-    /// error if memory is wanted: the seat is as it was then.
-    pub fn split(&self, seat: &mut FieldSeat) -> Result<FieldSeat, AllocError>
+    /// error if memory is wanted: the seat is as it was then. It takes memory.
+    pub fn split(&self, alloc: Global, seat: &mut FieldSeat) -> Result<FieldSeat, AllocError>
         requires field { seat.old.field ≡ self.now.table }
         requires first { (seat.old.id ≡ 0) × (1 < seat.old.known.words.parts) }
         requires few { seat.old.known.words.splits < 65536 }
@@ -282,12 +294,18 @@ impl Field {
         ensures known { IfOk result (λ _. seat.new.known ≡ parted seat.old.known) }
         ensures other { IfOk result (λ s. (s.field ≡ seat.old.field) × (s.known ≡ new_known)) }
     {
+        let held = room(alloc)?;
         let place = part(&self.table.shared, &mut seat.place);
-        Ok(FieldSeat { place })
+        let last = Touched {
+            entry: 0,
+            state: 0,
+            info: 0,
+        };
+        Ok(FieldSeat { place, held, last })
     }
 
     /// The end of another seat, which has nothing left to do: it holds no message and no job, makes no task and owes
-    /// nothing, and was never split. Its part goes to this seat, with what it has drawn, and its deliveries are counted
+    /// nothing, and was never split. Its parts go to this seat, with what it has drawn, and its deliveries are counted
     /// for this one.
     pub fn join(&self, seat: &mut FieldSeat, other: FieldSeat)
         requires field { (seat.old.field ≡ self.now.table) × (other.field ≡ self.now.table) }
@@ -295,7 +313,30 @@ impl Field {
         ensures same { (seat.new.field ≡ seat.old.field) × (seat.new.id ≡ seat.old.id) }
         ensures known { seat.new.known ≡ merged seat.old.known other.known }
     {
-        let FieldSeat { place } = other;
+        let FieldSeat { place, held, .. } = other;
+        drop(held);
         merge(&self.table.shared, &mut seat.place, place);
+    }
+
+    /// Delivers the message that comes first of those that the seat holds, which is no join: its flag stands from then on,
+    /// and what that completes is held. If a count waits for the flag, the call lowers that count in a second step. The
+    /// task whose count became 0 by it; `None` exactly if no count waits for the flag, or the count was not 1. The seat
+    /// knows what it touched. All seats together deliver at most six messages for each entry.
+    pub fn deliver(&self, seat: &mut FieldSeat) -> Option<u32>
+        requires field { seat.old.field ≡ self.now.table }
+        requires some { seat.old.known.words.held ≢ [] }
+        requires join { NoJoinFirst seat.old.known }
+        ensures same { (seat.new.field ≡ seat.old.field) × (seat.new.id ≡ seat.old.id) }
+        ensures delivered { Delivered seat.old.known seat.new.known result }
+        ensures bounded { seat.new.known.words.delivered ≤ 6 * self.now.entries }
+    {
+        let (freed, last) = deliver_first(
+            &self.table.shared,
+            &mut seat.place,
+            &mut seat.held,
+            self.cells,
+        );
+        seat.last = last;
+        freed
     }
 }

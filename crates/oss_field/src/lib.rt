@@ -2,10 +2,14 @@
 //! state of the machine.
 #![tactic(auto)]
 
+mod adding;
 mod cells;
+mod delivering;
 mod drawing;
 mod field;
 mod flags;
+mod held;
+mod holding;
 mod key;
 mod linking;
 mod linking_words;
@@ -17,8 +21,10 @@ mod seat;
 mod seats;
 mod slots;
 mod start;
+mod touched;
 mod view;
 mod words;
 
 pub use field::Field;
 pub use seat::FieldSeat;
+pub use touched::Touched;

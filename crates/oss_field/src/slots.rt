@@ -31,7 +31,7 @@ pub(crate) fn take_slot(words: &Words, seat: &mut Place, cells: u32, task: u32) 
     requires ready { Among task seat.old.me.0.known.ready }
     ensures same { (seat.new.table_id ≡ seat.old.table_id) × (seat.new.id ≡ seat.old.id) }
     ensures some { IfSome result (λ job. (h : Holding) × IsTaken words.now.key.code.value words.now.key.fuel task
-        (box_value job) h × IsWithin cells h ×
+        (box_value job) h × IsWithin cells words.now.key.entries h ×
         (seat.new.me.0.known ≡ after_take cells task h seat.old.me.0.known) ×
         (seat.new.me.1 ≡ (task, None) ∷ seat.old.me.1)) }
     ensures none { IfNone result ((n : ℕ) × (n ≢ 1) ×

@@ -93,7 +93,7 @@ fn a_seat_is_split_and_joined(rt: HostRuntime) {
     }
     let job = main_job(rt.alloc(), &code, 100).expect(&rt, "memory");
     let (field, mut seat) = Field::new(rt.alloc(), &code, 100, 8, job).expect(&rt, "memory");
-    let first = draw_apart(&field, &mut seat, 2).expect(&rt, "memory");
+    let first = draw_apart(rt.alloc(), &field, &mut seat, 2).expect(&rt, "memory");
     assert!(rt; first == Some(1));
     let next = field.draw(&mut seat, 1);
     assert!(rt; next == Some(3));

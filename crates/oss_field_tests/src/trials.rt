@@ -127,6 +127,7 @@ pub(crate) fn touch_once(
 
 /// Splits a seat, draws so many entries by the new one, and joins it again: the first that was drawn.
 pub(crate) fn draw_apart(
+    alloc: Global,
     field: &Field,
     seat: &mut FieldSeat,
     count: u32,
@@ -139,7 +140,7 @@ pub(crate) fn draw_apart(
     ensures same { seat.new.field ≡ seat.old.field }
     ensures draws { OnOk result (seat.new.known.words.failed ≡ 0) }
 {
-    let mut other = field.split(seat)?;
+    let mut other = field.split(alloc, seat)?;
     let found = field.draw(&mut other, count);
     field.join(seat, other);
     Ok(found)

@@ -19,8 +19,8 @@ exchange_word-found-requires-clause-keeps c =
     let me = c.args.seat.now.me in
     let slots = c.args.words.now.table_id.slots in
     let t = c.args.task in
-    subst (λ (i : ℕ). Allows (λ (z : State Slot SeatView). Stands key.code.value key.fuel key.entries z.words z.homes z.views) slots id me i (λ n. either (n == 1) 2 n) (λ n w. Takes key.code.value key.fuel c.args.cells t n me w)) (sym c.body_place.ensures)
-    (subst (λ (m : ℕ). Allows (λ (z : State Slot SeatView). Stands key.code.value key.fuel key.entries z.words z.homes z.views) slots id me (body_word_of m t) (λ n. either (n == 1) 2 n) (λ n w. Takes key.code.value key.fuel m t n me w)) (sym c.requires.cells)
+    subst (λ (i : ℕ). Allows (λ (z : State Slot SeatView). Stands key.code.value key.fuel key.entries z.words z.homes z.views) slots id me i (λ n. either (n == 1) 2 n) (λ n w. Takes key.code.value key.fuel key.entries c.args.cells t n me w)) (sym c.body_place.ensures)
+    (subst (λ (m : ℕ). Allows (λ (z : State Slot SeatView). Stands key.code.value key.fuel key.entries z.words z.homes z.views) slots id me (body_word_of m t) (λ n. either (n == 1) 2 n) (λ n w. Takes key.code.value key.fuel key.entries m t n me w)) (sym c.requires.cells)
     (takes_slot key.code.value key.fuel key.entries slots id me.0 me.1 t c.requires.inside c.requires.ready))
 
 pub exchange-requires : goal.exchange-requires

@@ -2,12 +2,19 @@ use Rattle.std.proofs.Common.{sym, subst, ap, ◌∙◌}
 use Rattle.atomic_table.specs.Seated.{TableId}
 use Rattle.oss_field.specs.Asks.{AreInside}
 use Rattle.oss_field.specs.Known.{Known}
+use Rattle.oss_field.specs.Messages.{Settled}
 use Rattle.oss_field.specs.Standing.{carried}
+use Rattle.oss_field.proofs.MessageLemmas.{settled_on}
+use Rattle.oss_field.proofs.SameLemmas.{linked_messages}
 use Rattle.oss_field.proofs.field.Field.link_first.Goals as goal
 
 pub invariant_of-seat : goal.invariant_of-seat
 invariant_of-seat c =
-    let e = c.link_first_of.ensures in (
+    let e = c.link_first_of.ensures in
+    let same = linked_messages c.self.inside.cells c.args.entry c.seat.inside.place.me.0.known c.link_first_of.new.seat.me.0.known e.known in (
       e.stays.slots ∙ (c.seat.invariant.0 ∙ sym (ap (λ (k : Known). carried k.bears) e.known)),
       subst (λ (d : TableId). AreInside d c.link_first_of.new.seat.me.0.known.bears) (sym e.stays.table) (subst (λ (k : Known). AreInside c.seat.inside.place.table_id k.bears) (sym e.known) c.seat.invariant.1),
+      subst (λ (d : TableId). Settled c.seat.inside.held.items d.slots c.link_first_of.new.seat.me.0.known) (sym e.stays.table) (settled_on c.seat.inside.held.items c.seat.inside.place.table_id.slots c.seat.inside.place.me.0.known c.link_first_of.new.seat.me.0.known same c.seat.invariant.2),
+      c.seat.invariant.3,
+      c.seat.invariant.4 ∙ sym same.last,
     )

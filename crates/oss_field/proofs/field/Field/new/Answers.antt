@@ -1,8 +1,13 @@
-use Rattle.std.proofs.Common.{◌≡◌, sym, subst, ◌∙◌, ap, ℕ, List, length, arith}
+use Rattle.std.proofs.Common.{◌≡◌, sym, subst, ◌∙◌, ap, ℕ, List, [], length, arith}
 use Rattle.oss_code.specs.declared.code.CodeParts.{CodeParts}
 use Rattle.oss_field.specs.declared.key.FieldKey.{FieldKey}
-use Rattle.oss_field.specs.Standing.{at_home, words_at_start, slots_at_start}
+use Rattle.atomic_table.specs.Table.{Me}
+use Rattle.oss_field.specs.declared.view.SeatView.{SeatView}
+use Rattle.oss_field.specs.Asks.{AreInside}
+use Rattle.oss_field.specs.Known.{first_known}
+use Rattle.oss_field.specs.Standing.{at_home, carried, words_at_start, slots_at_start}
 use Rattle.oss_field.specs.Table.{Slot, Stands}
+use Rattle.oss_field.proofs.DeliverLemmas.{first_settled}
 use Rattle.oss_field.proofs.StartLemmas.{begins, slots_length}
 use Rattle.oss_field.proofs.field.Field.new.Goals as goal
 
@@ -38,4 +43,14 @@ invariant_of-field c =
       e0,
       e1,
       omega (arith, cells, few),
+    )
+
+pub invariant_of-result : goal.invariant_of-result
+invariant_of-result c =
+    let me : c.in_ok-table.place.me ≡ (record { known = first_known }, []) = c.in_ok-table.ensures.seat.2 in (
+      ap (λ (x : Me Slot SeatView). x.1) me ∙ ap (λ (x : Me Slot SeatView). carried x.0.known.bears) (sym me),
+      subst (λ (x : Me Slot SeatView). AreInside c.in_ok-table.place.table_id x.0.known.bears) (sym me) (λ h a. elim a [ ]),
+      first_settled c.in_ok-held.held.items c.in_ok-table.place.table_id.slots c.in_ok-table.place.me.0.known c.in_ok-held.ensures.0 (ap (λ (x : Me Slot SeatView). x.0.known) me),
+      c.in_ok-held.ensures.1,
+      sym (ap (λ (x : Me Slot SeatView). x.0.known.last) me),
     )
