@@ -133,7 +133,8 @@ modules() {
 # proves FOLDER WORD..: whether a check of these functions in the folder proves them all; the answer is 1 where it does not, and 2 where it says nothing
 proves() {
   (cd "$1" && shift && rt check --jobs 1 "$@") >"$work/said" 2>&1
-  told=$(sed -n 's/^only=\([0-9]*\) proved=\([0-9]*\)$/\1 \2/p' "$work/said")
+  # (a first check says it of a quick pass too, before)
+  told=$(sed -n 's/^only=\([0-9]*\) proved=\([0-9]*\)$/\1 \2/p' "$work/said" | tail -n 1)
   [ -n "$told" ] || return 2
   [ "${told%% *}" = "${told##* }" ]
 }
@@ -158,7 +159,7 @@ try_functions() {
         *)
           # shellcheck disable=SC2086
           if proves "$folder" $only; then
-            proved="$proved[$only]"
+            proved="${proved}[$only]"
           else
             left=$((left + 1))
             echo "$label: left, since these functions were not proved as they stand:$only"
