@@ -38,7 +38,7 @@ use Rattle.oss_field.proofs.OwnLemmas.{cell_filed, last_child, own_filed}
 use Rattle.oss_field.proofs.TableLemmas.{chained, sits_at}
 use Rattle.oss_field.proofs.WordTable.{state_else, state_here, state_stands}
 
-module _ (code : CodeParts) (fuel n id : ℕ) (v : SeatView) (cell : Option ℕ) (last w : ℕ) (s : IsHalfGiven v.known cell last w) (few : n ≤ 16777216) where
+module _ (code : CodeParts) (fuel n id : ℕ) (v : SeatView) (cell : Option ℕ) (entry last w : ℕ) (s : IsHalfGiven v.known cell entry last w) (few : n ≤ 16777216) where
   abbrev h : Holding
   h = s.holding
 

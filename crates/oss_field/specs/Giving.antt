@@ -102,17 +102,25 @@ pub record GivesRest (n m e last w found : ℕ) (k l : Known) : Type 0 where
   pub fits : found + (64 + 65536 * e) < 18446744073709551616
 
 -- The seat has given up this entry of a task, in the first of two steps; its last child, which has this info word, does not lead to it yet.
-pub record IsHalfGiven (k : Known) (cell : Option ℕ) (last w : ℕ) : Type 0 where
+pub record IsHalfGiven (k : Known) (cell : Option ℕ) (e last w : ℕ) : Type 0 where
   pub place : ℕ
   pub holding : Holding
   pub holds : get_elem? k.bears place ≡ maybe.some holding
   pub below_main : holding.number ≢ 0
   pub makes : (a : Making) → Among a k.makes → a.by ≢ holding.number
   pub has : HasEntry holding cell
+  pub entry : entry_of holding cell ≡ e
   pub half : k.words.half ≡ entry_of holding cell ∷ []
   pub last_is : last_of holding (site_of cell) ≡ Some last
   pub told : Among (record { entry = last; info = info_at w }) k.told
   pub unjoined : k.joined ≡ []
+
+-- The entry of a give, and the last child there.
+pub record MayGiveHere (code : CodeParts) (job : Job) (n : ℕ) (k : Known) (cell : Option ℕ) (e : ℕ) (last : Option ℕ) : Type 0 where
+  pub may : StandsToGive code job k cell
+  pub entry : entry_of may.holding cell ≡ e
+  pub last_is : last_of may.holding (site_of cell) ≡ last
+  pub inside : e < n
 
 -- To give up this entry at once: the job has no child there.
 pub record MayGiveWhole (code : CodeParts) (job : Job) (n : ℕ) (k : Known) (cell : Option ℕ) (e w : ℕ) : Type 0 where
@@ -134,15 +142,18 @@ pub record MayGiveHalf (code : CodeParts) (job : Job) (n : ℕ) (k : Known) (cel
   pub unjoined : k.joined ≡ []
 
 -- What these steps tell, whatever else the seat holds.
-pub record HasGivenWhole (code : CodeParts) (job : Job) (n m : ℕ) (cell : Option ℕ) (w found : ℕ) (k l : Known) : Type 0 where
+pub record HasGivenWhole (code : CodeParts) (job : Job) (n m : ℕ) (cell : Option ℕ) (e w found : ℕ) (k l : Known) : Type 0 where
   pub may : StandsToGive code job k cell
+  pub entry : entry_of may.holding cell ≡ e
   pub none : last_of may.holding (site_of cell) ≡ None
-  pub step : GivesWhole n m (entry_of may.holding cell) w may.place may.holding may.body found k l
+  pub told : Among (record { entry = e; info = info_at w }) k.told
+  pub step : GivesWhole n m e w may.place may.holding may.body found k l
 
-pub record HasGivenHalf (code : CodeParts) (job : Job) (m : ℕ) (cell : Option ℕ) (last found : ℕ) (k l : Known) : Type 0 where
+pub record HasGivenHalf (code : CodeParts) (job : Job) (m : ℕ) (cell : Option ℕ) (e last found : ℕ) (k l : Known) : Type 0 where
   pub may : StandsToGive code job k cell
+  pub entry : entry_of may.holding cell ≡ e
   pub last_is : last_of may.holding (site_of cell) ≡ Some last
-  pub step : GivesHalf m (entry_of may.holding cell) may.place may.holding may.body found k l
+  pub step : GivesHalf m e may.place may.holding may.body found k l
 
 -- What a give leaves held: with no child, what its step completed, which found this state word; and else what the link of the last child completed.
 pub data GiveSends (k : Known) (h : Holding) (cell : Option ℕ) (held : List Message) : Type 0 where

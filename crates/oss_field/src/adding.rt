@@ -57,6 +57,7 @@ pub(crate) fn add_given<T: Tells>(
     _cells: u32,
     _job: &Job,
     _cell: Option<u32>,
+    _entry: u32,
     _info: u64,
 ) -> u64
     requires table { seat.old.table_id ≡ words.now.table_id }

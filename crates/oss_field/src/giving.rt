@@ -8,10 +8,9 @@ ghost use Rattle.oss_machine.specs.Frames.{CodeScript};
 ghost use Rattle.oss_model.specs.Bodies.{Body};
 ghost use Rattle.oss_model.specs.Context.{right_of};
 ghost use Rattle.oss_roles.specs.Roles.{Site};
-ghost use Rattle.oss_field.specs.Asks.{AreInside};
-ghost use Rattle.oss_field.specs.Giving.{Gave, GivesRest, HasGivenHalf, HasGivenWhole, IsHalfGiven, MayGiveHalf, MayGiveWhole, StandsToGive};
+ghost use Rattle.oss_field.specs.Giving.{Gave, GivesRest, HasGivenHalf, HasGivenWhole, IsHalfGiven, MayGiveHalf, MayGiveHere, MayGiveWhole};
 ghost use Rattle.oss_field.specs.Messages.{Settled};
-ghost use Rattle.oss_field.specs.Owning.{entry_of, entry_told_at, site_of};
+ghost use Rattle.oss_field.specs.Owning.{entry_told_at, site_of};
 ghost use Rattle.oss_field.specs.Standing.{On, Stays};
 
 use crate::adding::{add_given, add_link};
@@ -55,7 +54,7 @@ fn give_whole(
     requires may { MayGiveWhole words.now.key.code.value job.now words.now.key.entries seat.old.me.0.known cell entry
         info }
     ensures stays { Stays seat.old seat.new }
-    ensures gave { HasGivenWhole words.now.key.code.value job.now words.now.key.entries cells cell info result
+    ensures gave { HasGivenWhole words.now.key.code.value job.now words.now.key.entries cells cell entry info result
         seat.old.me.0.known seat.new.me.0.known }
 {
     add_given::<Brand>(
@@ -66,6 +65,7 @@ fn give_whole(
         cells,
         job,
         cell,
+        entry,
         info,
     )
 }
@@ -85,7 +85,7 @@ fn give_half(
     requires may { MayGiveHalf words.now.key.code.value job.now words.now.key.entries seat.old.me.0.known cell entry
         last }
     ensures stays { Stays seat.old seat.new }
-    ensures gave { HasGivenHalf words.now.key.code.value job.now cells cell last result seat.old.me.0.known
+    ensures gave { HasGivenHalf words.now.key.code.value job.now cells cell entry last result seat.old.me.0.known
         seat.new.me.0.known }
 {
     add_given::<Brand>(
@@ -96,6 +96,7 @@ fn give_half(
         cells,
         job,
         cell,
+        entry,
         last as u64,
     )
 }
@@ -113,9 +114,8 @@ fn give_rest(
     requires on { On words.now.table_id words.now.key seat.old }
     requires cells { cells ≡ length words.now.key.code.value.first }
     requires few { words.now.key.entries ≤ 16777216 }
-    requires half { IsHalfGiven seat.old.me.0.known _cell last info }
-    requires entry { entry_of half.holding _cell ≡ entry }
-    requires inside { (last < words.now.key.entries) × (entry < words.now.key.entries) }
+    requires half { IsHalfGiven seat.old.me.0.known _cell entry last info }
+    requires inside { last < words.now.key.entries }
     ensures stays { Stays seat.old seat.new }
     ensures gave { GivesRest words.now.key.entries cells entry last info result seat.old.me.0.known
         seat.new.me.0.known }
@@ -130,4 +130,62 @@ fn give_rest(
         last,
         info,
     )
+}
+
+/// Gives up an entry of a job's task, with no child there.
+fn give_childless(
+    words: &Words,
+    place: &mut Place,
+    held: &mut Vec<Held>,
+    cells: u32,
+    job: &Job,
+    cell: Option<u32>,
+    entry: u32,
+)
+    requires on { On words.now.table_id words.now.key place.old }
+    requires cells { cells ≡ length words.now.key.code.value.first }
+    requires may { MayGiveHere words.now.key.code.value job.now words.now.key.entries place.old.me.0.known cell entry
+        None }
+    requires settled { Settled held.old.items words.now.key.entries place.old.me.0.known }
+    requires room { 1024 ≤ vec_capacity held.old }
+    ensures stays { Stays place.old place.new }
+    ensures settled { Settled held.new.items words.now.key.entries place.new.me.0.known }
+    ensures gave { Gave words.now.key.code.value job.now cell place.old.me.0.known place.new.me.0.known }
+    ensures room { 1024 ≤ vec_capacity held.new }
+{
+    let info = read_info(words, place, cells, entry);
+    let found = give_whole(words, place, cells, job, cell, entry, info);
+    let now = found + GIVEN_DONE;
+    hold_sent(words, place, held, cells, entry, info, found, now);
+}
+
+/// Gives up an entry of a job's task, whose last child there is this one.
+fn give_above(
+    words: &Words,
+    place: &mut Place,
+    held: &mut Vec<Held>,
+    cells: u32,
+    job: &Job,
+    cell: Option<u32>,
+    entry: u32,
+    last: u32,
+)
+    requires on { On words.now.table_id words.now.key place.old }
+    requires cells { cells ≡ length words.now.key.code.value.first }
+    requires few { words.now.key.entries ≤ 16777216 }
+    requires may { MayGiveHere words.now.key.code.value job.now words.now.key.entries place.old.me.0.known cell entry
+        (Some last) }
+    requires inside { last < words.now.key.entries }
+    requires settled { Settled held.old.items words.now.key.entries place.old.me.0.known }
+    requires room { 1024 ≤ vec_capacity held.old }
+    ensures stays { Stays place.old place.new }
+    ensures settled { Settled held.new.items words.now.key.entries place.new.me.0.known }
+    ensures gave { Gave words.now.key.code.value job.now cell place.old.me.0.known place.new.me.0.known }
+    ensures room { 1024 ≤ vec_capacity held.new }
+{
+    let info = read_info(words, place, cells, last);
+    give_half(words, place, cells, job, cell, entry, last);
+    let found = give_rest(words, place, cells, cell, entry, last, info);
+    let now = found + (64 + 65_536 * entry as u64);
+    hold_sent(words, place, held, cells, last, info, found, now);
 }

@@ -13,6 +13,6 @@ add_given-requires-clause-keeps c =
     let key = c.args.words.now.key in
     let id = c.args.seat.now.id in
     let v = c.args.seat.now.me.0 in
-    subst (λ (i : ℕ). Steps key.code.value key.fuel key.entries id v i (λ x. (x + 24) % 2 ^ 64) (λ x l. HasGivenWhole key.code.value c.args.job.now key.entries c.args.cells c.args.cell c.args.info x v.known l)) (sym c.state_place.ensures)
-    (subst (λ (m : ℕ). Steps key.code.value key.fuel key.entries id v (state_word_of m c.args.entry) (λ x. (x + 24) % 2 ^ 64) (λ x l. HasGivenWhole key.code.value c.args.job.now key.entries m c.args.cell c.args.info x v.known l)) (sym c.requires.cells)
+    subst (λ (i : ℕ). Steps key.code.value key.fuel key.entries id v i (λ x. (x + 24) % 2 ^ 64) (λ x l. HasGivenWhole key.code.value c.args.job.now key.entries c.args.cells c.args.cell c.args.entry c.args.info x v.known l)) (sym c.state_place.ensures)
+    (subst (λ (m : ℕ). Steps key.code.value key.fuel key.entries id v (state_word_of m c.args.entry) (λ x. (x + 24) % 2 ^ 64) (λ x l. HasGivenWhole key.code.value c.args.job.now key.entries m c.args.cell c.args.entry c.args.info x v.known l)) (sym c.requires.cells)
     (steps_whole key.code.value key.fuel key.entries id v c.args.job.now c.args.cell c.args.entry c.args.info c.requires.may))
