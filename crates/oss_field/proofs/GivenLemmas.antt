@@ -1,14 +1,19 @@
 -- The give of an entry as a call of several steps: what the seat knows between them and after them.
 use Rattle.std.proofs.Common.{◌≡◌, ◌≢◌, sym, subst, refl, ◌∙◌, ap, ℕ, ◌<◌, ◌≤◌, ◌+◌, ◌*◌, ◌%◌, ◌^◌, arith, Bool, List, [], ◌∷◌, ◌++◌, map, length, set, Option, Some, None}
+use Rattle.std.specs.Prelude.{if◌then◌else◌}
 use mathlib.Core.Option as maybe
 use lib.ListN.{get_elem?}
+use Rattle.atomic_table.specs.Seated.{TableId}
 use Rattle.oss_code.specs.declared.code.CodeParts.{CodeParts}
 use Rattle.oss_jobs.specs.declared.job.Job.{Job}
+use Rattle.oss_jobs.specs.Entries.{or_zero}
+use Rattle.oss_jobs.specs.Jobs.{IsJob}
 use Rattle.oss_machine.specs.Frames.{CodeScript}
 use Rattle.oss_machine.specs.Machines.{asks}
 use Rattle.oss_model.specs.Bodies.{Body, Start}
 use Rattle.oss_model.specs.Context.{right_of}
-use Rattle.oss_model.specs.Rights.{Holds}
+use Rattle.oss_model.specs.Moves.{act_now}
+use Rattle.oss_model.specs.Rights.{Right, Holds}
 use Rattle.oss_syntax.specs.declared.access.Mode.{Mode}
 use Rattle.oss_words.specs.declared.entry.EntryInfo.{EntryInfo}
 use Rattle.oss_words.specs.declared.message.Message.{Message}
@@ -17,20 +22,25 @@ use Rattle.oss_words.specs.Causes.{sent}
 use Rattle.oss_words.specs.Sums.{total}
 use Rattle.oss_words.specs.Views.{Among, among_first, among_later}
 use Rattle.oss_words.proofs.KeptLaw.{at_here}
+use Rattle.oss_roles.specs.Numbers.{entry_number, has_cell}
 use Rattle.oss_roles.specs.Roles.{Site, itself, on}
 use Rattle.oss_field.specs.declared.held.Held.{Held}
 use Rattle.oss_field.specs.declared.view.SeatView.{SeatView}
+use Rattle.oss_field.specs.Asks.{AreInside, IsInside, StandsBefore}
 use Rattle.oss_field.specs.Giving.{Gave, GiveSends, GivesRest, HasGivenHalf, HasGivenWhole, IsHalfGiven, MayGiveHalf, MayGiveHere, MayGiveUp, MayGiveWhole, StandsToGive, gave_half, gave_rest, gave_whole, gives_cell, gives_own, gone_on, with_last, with_none}
 use Rattle.oss_field.specs.Heard.{Told}
 use Rattle.oss_field.specs.Known.{Holding, Known, bearing_of, last_of, sight_of}
 use Rattle.oss_field.specs.Layout.{state_word_of}
 use Rattle.oss_field.specs.Messages.{Bounded, Hangs, Learns, Ready, Settled, by_entry, by_last, informed, message_of}
 use Rattle.oss_field.specs.Moves.{with_body}
-use Rattle.oss_field.specs.Owning.{HasEntry, entry_of, site_of}
+use Rattle.oss_field.specs.Owning.{HasEntry, entry_of, entry_told_at, site_of}
+use Rattle.oss_field.specs.Standing.{carried}
 use Rattle.oss_field.specs.Steps.{Steps}
+use Rattle.oss_field.proofs.ActLemmas.{carried_on, inside_after}
 use Rattle.oss_field.proofs.CellLemmas.{may_start}
 use Rattle.oss_field.proofs.GiveLemmas.{gives_half, gives_whole}
 use Rattle.oss_field.proofs.MessageLemmas.{learns_one, still_bounded}
+use Rattle.oss_field.proofs.TableLemmas.{among_at}
 
 -- the step by which an entry with no child is given up
 pub steps_whole : (code : CodeParts) (fuel n id : ℕ) (v : SeatView) (job : Job) (cell : Option ℕ) (e w : ℕ) (may : MayGiveWhole code job n v.known cell e w)
@@ -38,9 +48,9 @@ pub steps_whole : (code : CodeParts) (fuel n id : ℕ) (v : SeatView) (job : Job
 steps_whole code fuel n id v job cell e w may =
     subst (λ (z : ℕ). Steps code fuel n id v (state_word_of (length code.first) z) (λ x. (x + 24) % 2 ^ 64) (λ x l. HasGivenWhole code job n (length code.first) cell z w x v.known l)) may.entry
     (λ ws homes views stands sits bits.
-        let told = subst (λ (z : ℕ). Among (record { entry = z; info = info_at w }) v.known.told) (sym may.entry) may.told in
-        let r = gives_whole code fuel n id v job cell may.may may.whole may.unjoined w told may.none ws homes views stands sits bits in
-        (r.0, r.1, record { may = may.may; entry = refl; none = may.none; told = told; step = r.2 }))
+    let told = subst (λ (z : ℕ). Among (record { entry = z; info = info_at w }) v.known.told) (sym may.entry) may.told in
+    let r = gives_whole code fuel n id v job cell may.may may.whole may.unjoined w told may.none ws homes views stands sits bits in
+    (r.0, r.1, record { may = may.may; entry = refl; none = may.none; told = told; step = r.2 }))
 
 -- and the first of two steps
 pub steps_half : (code : CodeParts) (fuel n id : ℕ) (v : SeatView) (job : Job) (cell : Option ℕ) (e last : ℕ) (may : MayGiveHalf code job n v.known cell e last)
@@ -48,8 +58,8 @@ pub steps_half : (code : CodeParts) (fuel n id : ℕ) (v : SeatView) (job : Job)
 steps_half code fuel n id v job cell e last may =
     subst (λ (z : ℕ). Steps code fuel n id v (state_word_of (length code.first) z) (λ x. (x + 8) % 2 ^ 64) (λ x l. HasGivenHalf code job (length code.first) cell z last x v.known l)) may.entry
     (λ ws homes views stands sits bits.
-        let r = gives_half code fuel n id v job cell may.may may.whole may.unjoined last may.last_is ws homes views stands sits bits in
-        (r.0, r.1, record { may = may.may; entry = refl; last_is = may.last_is; step = r.2 }))
+    let r = gives_half code fuel n id v job cell may.may may.whole may.unjoined last may.last_is ws homes views stands sits bits in
+    (r.0, r.1, record { may = may.may; entry = refl; last_is = may.last_is; step = r.2 }))
 
 -- what may be given up does not depend on what was told
 module _ (code : CodeParts) (job : Job) (k : Known) (told : List Told) (word found : ℕ) where
@@ -239,3 +249,49 @@ module _ (code : CodeParts) (job : Job) (held : List Held) (n m : ℕ) (k : Know
       both_ready left k1 ready none known g r = sent_ready left (sent l (state_at f2) (state_at (f2 + (64 + 65536 * e))) (info_at w)) k k3 ready none
           (ap (λ (z : Known). z.words.held) r.known ∙ ap (λ (z : Known). z.words.held ++ sent l (state_at f2) (state_at (f2 + (64 + 65536 * e))) (info_at w)) g.step.known)
           (λ t a. subst (λ (z : List Told). Among t z) (sym (both_told k1 known g r ∙ ap (λ (z : Known). z.told) known)) (among_later a))
+
+-- the entry and the last child, as the job tells them
+told_is : (t : ℕ) (own : ℕ → Right) (c : ℕ) (mode : Mode) (strong : Bool) → own c ≡ Holds mode strong → or_zero (if has_cell (own c) then Some (entry_number t own c) else None) ≡ entry_number t own c
+told_is t own c mode strong right = ap (λ (r : Right). or_zero (if has_cell r then Some (entry_number t own c) else None)) right
+
+abbrev pub Tells : Job → Option ℕ → ℕ → Option ℕ → Type 0
+Tells job cell e last = (code : CodeParts) (before : List ℕ) (t : ℕ) (b : Body CodeScript) (l : Site → Option ℕ) → IsJob code before job t b l → (e ≡ entry_told_at t (right_of b.start.context) cell) × (last ≡ l (site_of cell))
+
+module _ (code : CodeParts) (job : Job) (d : TableId) (n : ℕ) (k : Known) (slots : d.slots ≡ n) (inside : AreInside d k.bears) where
+  entry_is : (h : Holding) (x : Body CodeScript) (cell : Option ℕ) → x.start ≡ h.body.start → MayGiveUp code k h x cell → entry_told_at h.number (right_of x.start.context) cell ≡ entry_of h cell
+  entry_is h x (Some _) same (gives_cell c mode strong right plainly may) =
+      ap (λ (z : Start CodeScript). entry_told_at h.number (right_of z.context) (Some c)) same ∙ told_is h.number (right_of h.body.start.context) c mode strong right
+  entry_is h x None same (gives_own over all) = refl
+
+  entry_inside : (h : Holding) (x : Body CodeScript) (cell : Option ℕ) → IsInside d h → h.number ≢ 0 → MayGiveUp code k h x cell → entry_of h cell < d.slots
+  entry_inside h x (Some _) within number (gives_cell c mode strong right plainly may) = within.entries number c mode strong right
+  entry_inside h x None within number (gives_own over all) = within.number
+
+  module _ (cell : Option ℕ) (e : ℕ) (last : Option ℕ) (s : StandsToGive code job k cell) (tells : Tells job cell e last) where
+    held_inside : IsInside d s.holding
+    held_inside = inside s.holding (among_at k.bears s.place s.holding s.given.holds)
+
+    pub here_given : MayGiveHere code job n k cell e last
+    here_given =
+        let r = tells code s.holding.before s.holding.number s.body (last_of s.holding) s.given.is in
+        let start = may_start (asks code) (sight_of k) (bearing_of s.holding) s.body s.given.may in
+        let same : entry_of s.holding cell ≡ e = sym (r.0 ∙ entry_is s.holding s.body cell start s.may) in record {
+          may = s;
+          entry = same;
+          last_is = sym r.1;
+          inside = subst (λ (z : ℕ). z < n) same (subst (λ (z : ℕ). entry_of s.holding cell < z) slots (entry_inside s.holding s.body cell held_inside s.below_main s.may));
+        }
+
+    pub last_inside : (l : ℕ) → last ≡ Some l → l < n
+    last_inside l is =
+        let r = tells code s.holding.before s.holding.number s.body (last_of s.holding) s.given.is in
+        subst (λ (z : ℕ). l < z) slots (held_inside.lasts (site_of cell) l (sym r.1 ∙ is))
+
+-- the jobs that the seat holds after a give
+pub given_slots : (code : CodeParts) (job : Job) (cell : Option ℕ) (k l : Known) → Gave code job cell k l → carried l.bears ≡ carried k.bears
+given_slots code job cell k l g = ap (λ (z : Known). carried z.bears) g.known ∙ carried_on k.bears g.may.place g.may.holding g.may.body g.may.given.holds
+
+pub given_inside : (d : TableId) (code : CodeParts) (job : Job) (cell : Option ℕ) (k l : Known) → AreInside d k.bears → Gave code job cell k l → AreInside d l.bears
+given_inside d code job cell k l inside g =
+    let b : StandsBefore code job k (act_now (asks code) g.may.body) = record { place = g.may.place; holding = g.may.holding; body = g.may.body; given = g.may.given; act = refl } in
+    subst (λ (z : Known). AreInside d z.bears) (sym g.known) (inside_after d code job k inside (act_now (asks code) g.may.body) b g.may.body refl)

@@ -8,7 +8,8 @@ ghost use Rattle.oss_machine.specs.Frames.{CodeScript};
 ghost use Rattle.oss_model.specs.Bodies.{Body};
 ghost use Rattle.oss_model.specs.Context.{right_of};
 ghost use Rattle.oss_roles.specs.Roles.{Site};
-ghost use Rattle.oss_field.specs.Giving.{Gave, GivesRest, HasGivenHalf, HasGivenWhole, IsHalfGiven, MayGiveHalf, MayGiveHere, MayGiveWhole};
+ghost use Rattle.oss_field.specs.Asks.{AreInside};
+ghost use Rattle.oss_field.specs.Giving.{Gave, GivesRest, HasGivenHalf, HasGivenWhole, IsHalfGiven, MayGiveHalf, MayGiveHere, MayGiveWhole, StandsToGive};
 ghost use Rattle.oss_field.specs.Messages.{Settled};
 ghost use Rattle.oss_field.specs.Owning.{entry_told_at, site_of};
 ghost use Rattle.oss_field.specs.Standing.{On, Stays};
@@ -188,4 +189,59 @@ fn give_above(
     let found = give_rest(words, place, cells, cell, entry, last, info);
     let now = found + (64 + 65_536 * entry as u64);
     hold_sent(words, place, held, cells, last, info, found, now);
+}
+
+/// Gives up an entry of a job's task, whose last child there is this one.
+fn give_there(
+    words: &Words,
+    place: &mut Place,
+    held: &mut Vec<Held>,
+    cells: u32,
+    job: &Job,
+    cell: Option<u32>,
+    entry: u32,
+    last: Option<u32>,
+)
+    requires on { On words.now.table_id words.now.key place.old }
+    requires cells { cells ≡ length words.now.key.code.value.first }
+    requires few { words.now.key.entries ≤ 16777216 }
+    requires may { MayGiveHere words.now.key.code.value job.now words.now.key.entries place.old.me.0.known cell entry
+        last }
+    requires inside { (l : ℕ) → last ≡ Some l → l < words.now.key.entries }
+    requires settled { Settled held.old.items words.now.key.entries place.old.me.0.known }
+    requires room { 1024 ≤ vec_capacity held.old }
+    ensures stays { Stays place.old place.new }
+    ensures settled { Settled held.new.items words.now.key.entries place.new.me.0.known }
+    ensures gave { Gave words.now.key.code.value job.now cell place.old.me.0.known place.new.me.0.known }
+    ensures room { 1024 ≤ vec_capacity held.new }
+{
+    match last {
+        None => give_childless(words, place, held, cells, job, cell, entry),
+        Some(last) => give_above(words, place, held, cells, job, cell, entry, last),
+    }
+}
+
+/// Gives up an entry of a job's task, on a cell or its own.
+pub(crate) fn give_entry(
+    words: &Words,
+    place: &mut Place,
+    held: &mut Vec<Held>,
+    cells: u32,
+    job: &Job,
+    cell: Option<u32>,
+)
+    requires on { On words.now.table_id words.now.key place.old }
+    requires cells { cells ≡ length words.now.key.code.value.first }
+    requires few { words.now.key.entries ≤ 16777216 }
+    requires may { StandsToGive words.now.key.code.value job.now place.old.me.0.known cell }
+    requires inside { AreInside words.now.table_id place.old.me.0.known.bears }
+    requires settled { Settled held.old.items words.now.key.entries place.old.me.0.known }
+    requires room { 1024 ≤ vec_capacity held.old }
+    ensures stays { Stays place.old place.new }
+    ensures settled { Settled held.new.items words.now.key.entries place.new.me.0.known }
+    ensures gave { Gave words.now.key.code.value job.now cell place.old.me.0.known place.new.me.0.known }
+    ensures room { 1024 ≤ vec_capacity held.new }
+{
+    let there = entry_there(job, cell);
+    give_there(words, place, held, cells, job, cell, there.0, there.1);
 }
