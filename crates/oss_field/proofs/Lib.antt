@@ -3,6 +3,8 @@ pub mod CellLemmas
 pub mod DeliverLemmas
 pub mod DrawLemmas
 pub mod FlagLemmas
+pub mod GiveLemmas
+pub mod GivenLemmas
 pub mod HearLemmas
 pub mod HeardLemmas
 pub mod LowerLemmas
@@ -10,6 +12,7 @@ pub mod MessageLemmas
 pub mod OwnLemmas
 pub mod PassLemmas
 pub mod ReadLemmas
+pub mod RiseLemmas
 pub mod SameLemmas
 pub mod SendLemmas
 pub mod SlotLemmas
