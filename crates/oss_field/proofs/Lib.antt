@@ -6,6 +6,8 @@ pub mod DrawLemmas
 pub mod FillLemmas
 pub mod FirstLinkLemmas
 pub mod FlagLemmas
+pub mod GiveLemmas
+pub mod GivenLemmas
 pub mod HearLemmas
 pub mod HeardLemmas
 pub mod JoinLemmas
@@ -19,6 +21,7 @@ pub mod PassLemmas
 pub mod PlanLemmas
 pub mod PlannedLemmas
 pub mod ReadLemmas
+pub mod RiseLemmas
 pub mod SameLemmas
 pub mod SeatLemmas
 pub mod SendLemmas

@@ -1,5 +1,6 @@
 pub mod Asks
 pub mod Drawing
+pub mod Giving
 pub mod Heard
 pub mod Known
 pub mod Layout

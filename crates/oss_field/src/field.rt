@@ -4,6 +4,7 @@ ghost use Rattle.std.specs.Prelude.{◌≡◌, ◌≢◌, ◌<◌, ◌≤◌, �
 ghost use Rattle.oss_body.specs.Mains.{code_main};
 ghost use Rattle.oss_field.specs.Asks.{IsLoaded, IsStored, MayLoad, MayStore};
 ghost use Rattle.oss_field.specs.Drawing.{IsAboveAll, drew, missed};
+ghost use Rattle.oss_field.specs.Giving.{Gave, StandsToGive};
 ghost use Rattle.oss_field.specs.Known.{Holding, first_known};
 ghost use Rattle.oss_field.specs.Layout.{words_in};
 ghost use Rattle.oss_field.specs.Linking.{MayLinkFirst, linked_first};
@@ -21,6 +22,7 @@ use crate::cells::{load_cell, store_cell};
 use crate::delivering::deliver_first;
 use crate::drawing::add_draw;
 use crate::flags::read_flags;
+use crate::giving::give_entry;
 use crate::held::room;
 use crate::key::FieldKey;
 use crate::linking::link_first_of;
@@ -338,5 +340,26 @@ impl Field {
         );
         seat.last = last;
         freed
+    }
+
+    /// Gives up an entry of the task of a job that the seat holds: that on a cell, or, for `None`, the task's own. The seat
+    /// holds no message, makes no task by the job, and has read of the entry that it is not given up. A cell may be given
+    /// up if the task has released it, or has ended and the clause `wait` is met; one with a strong reduction is left for
+    /// a join instead. Its own entry may be given up if the task has ended and the seat has seen that all its cells are
+    /// given up. After it what the give completes is held, and what was loaded for a fold of the job is forgotten.
+    pub fn give(&self, seat: &mut FieldSeat, job: &Job, cell: Option<u32>)
+        requires field { seat.old.field ≡ self.now.table }
+        requires may { StandsToGive self.now.code job.now seat.old.known cell }
+        ensures same { (seat.new.field ≡ seat.old.field) × (seat.new.id ≡ seat.old.id) }
+        ensures gave { Gave self.now.code job.now cell seat.old.known seat.new.known }
+    {
+        give_entry(
+            &self.table.shared,
+            &mut seat.place,
+            &mut seat.held,
+            self.cells,
+            job,
+            cell,
+        );
     }
 }

@@ -8,6 +8,7 @@ mod delivering;
 mod drawing;
 mod field;
 mod flags;
+mod giving;
 mod held;
 mod holding;
 mod key;
