@@ -1,5 +1,5 @@
 -- An entry of a new task begins a list of main.
-use Rattle.std.proofs.Common.{◌≡◌, ◌≢◌, ◌⊎◌, inl, inr, sym, subst, refl, ◌∙◌, ap, ℕ, ◌<◌, ◌≤◌, ◌+◌, ◌*◌, arith, Bool, true, false, ◌==◌, List, [], length, set, Option, Some, None}
+use Rattle.std.proofs.Common.{◌≡◌, ◌≢◌, ◌⊎◌, inl, inr, sym, subst, refl, ◌∙◌, ap, ℕ, ◌<◌, ◌≤◌, ◌+◌, arith, Bool, true, false, ◌==◌, List, [], length, set, Option, Some, None}
 use Rattle.std.specs.Prelude.{slice_index, cond, not, ◌&&◌}
 use Rattle.std.specs.Global.{Box}
 use mathlib.Core.Option as maybe
@@ -30,7 +30,7 @@ use Rattle.oss_roles.specs.Counting.{stands as has_flag}
 use Rattle.oss_roles.specs.Drawing.{AreDrawn, IsFree}
 use Rattle.oss_roles.specs.Field.{Bears, Field, FieldAt, IsNumberOf, of_main, of_entry, Parts, Sits, words_of}
 use Rattle.oss_roles.specs.MakeSteps.{begins_list as begins}
-use Rattle.oss_roles.specs.Numbers.{cells_below, entry_number}
+use Rattle.oss_roles.specs.Numbers.{cells_below}
 use Rattle.oss_roles.specs.Roles.{Role, Site, itself, on}
 use Rattle.oss_roles.specs.Sights.{Making, Sight}
 use Rattle.oss_roles.proofs.DrawLaw.{draws_keep}
@@ -38,7 +38,7 @@ use Rattle.oss_roles.proofs.MakeClaims.{fills_keep, links_keep}
 use Rattle.oss_field.specs.declared.view.SeatView.{SeatView}
 use Rattle.oss_field.specs.Known.{Holding, Known, Plan, Unlinked, bearing_of, last_of, sight_of}
 use Rattle.oss_field.specs.Layout.{job_in, cell_word, state_word_of, info_word_of, value_word_of, number_word_of, count_word_of, body_word_of, parts_of}
-use Rattle.oss_field.specs.Linking.{IsFirstThere, MayBeginList, all_open, began_list, of_cell, of_itself, unlinked_beside}
+use Rattle.oss_field.specs.Linking.{IsFirstThere, MayBeginList, all_open, began_list, of_cell, of_itself}
 use Rattle.oss_field.specs.Messages.{AreHeard}
 use Rattle.oss_field.specs.Plans.{ArePlanned, IsLoose, IsRoleOf, is_cell, is_own, Planned, begins_list, is_missing, needs_flag, new_rights, planned_of, waits_for}
 use Rattle.oss_field.specs.Steps.{Steps}

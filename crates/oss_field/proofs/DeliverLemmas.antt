@@ -1,23 +1,21 @@
 -- A delivery as a call of several steps: what the seat knows between them and after them.
-use Rattle.std.proofs.Common.{◌≡◌, ◌≢◌, ◌⊎◌, inl, inr, sym, subst, refl, ◌∙◌, ap, ℕ, zero, suc, ◌<◌, ◌≤◌, ◌+◌, ◌*◌, arith, Bool, true, false, not, ◌&&◌, ◌==◌, List, [], ◌∷◌, ◌++◌, length}
+use Rattle.std.proofs.Common.{◌≡◌, ◌≢◌, ◌⊎◌, inl, inr, sym, subst, refl, ◌∙◌, ap, ℕ, zero, suc, ◌<◌, ◌≤◌, ◌+◌, ◌*◌, arith, Bool, true, false, not, ◌&&◌, ◌==◌, List, [], ◌∷◌, length}
 use Rattle.std.specs.List.{swap_remove}
 use Rattle.std.specs.Prelude.{if◌then◌else◌, MatchBool, Option, Some, None, IfSome, IfNone, slice_index_or}
 use Rattle.std.proofs.lemmas.Bool.Decides.{eqb_tells}
-use Rattle.oss_words.specs.declared.entry.EntryInfo.{EntryInfo}
 use Rattle.oss_words.specs.declared.message.Message.{Message}
 use Rattle.oss_words.specs.Bits.{info_at, state_at, weight}
 use Rattle.oss_words.specs.Causes.{sent}
 use Rattle.oss_words.specs.Members.{Has}
-use Rattle.oss_words.specs.Sums.{total}
 use Rattle.oss_words.specs.Views.{Among}
 use Rattle.oss_words.proofs.CauseLemmas.{clash}
 use Rattle.oss_field.specs.declared.held.Held.{Held}
 use Rattle.oss_field.specs.declared.touched.Touched.{Touched}
 use Rattle.oss_field.specs.Heard.{Told, Lowered}
 use Rattle.oss_field.specs.Known.{Known, first_known}
-use Rattle.oss_field.specs.Messages.{Bounded, Delivered, IsFirst, IsPaid, JoinFirst, Learns, MayDeliver, NoJoinFirst, NoneBefore, OneInfo, Passes, Ready, Settled, delivered, freed, is_due, lowered_after, lowered_by, message_of, owes_after, passed}
+use Rattle.oss_field.specs.Messages.{Bounded, Delivered, IsFirst, IsPaid, JoinFirst, Learns, MayDeliver, NoJoinFirst, NoneBefore, Passes, Ready, Settled, delivered, is_due, lowered_after, lowered_by, message_of, owes_after}
 use Rattle.oss_field.specs.Seats.{new_known}
-use Rattle.oss_field.proofs.MessageLemmas.{as_many, first_held, first_is, first_join, first_later, first_names, first_told, flags_small, left_ready, none_held, still_bounded}
+use Rattle.oss_field.proofs.MessageLemmas.{as_many, first_held, first_is, first_join, first_later, first_names, first_told, left_ready, none_held, still_bounded}
 
 -- what is paid if nothing waits for the flag
 pub nothing_paid : (i f : ℕ) (k : Known) → is_due (info_at i) f ≡ false → k.owes ≡ owes_after (info_at i) f [] → IsPaid i f k k None

@@ -1,5 +1,5 @@
 -- A draw of entries.
-use Rattle.std.proofs.Common.{◌≡◌, ◌⊎◌, inl, inr, sym, subst, refl, ◌∙◌, ap, ℕ, zero, suc, ◌<◌, ◌≤◌, ◌+◌, ◌*◌, ◌%◌, ◌^◌, arith, List, [], ◌∷◌, ◌++◌, length, set, lt_of_not-le, Option, Some, None}
+use Rattle.std.proofs.Common.{◌≡◌, ◌⊎◌, inl, inr, sym, subst, refl, ◌∙◌, ap, ℕ, zero, suc, ◌<◌, ◌≤◌, ◌+◌, ◌%◌, ◌^◌, arith, List, [], ◌∷◌, length, set, lt_of_not-le, Option, Some, None}
 use Rattle.std.proofs.Math.Nat.{mod-eq_of_lt}
 use Rattle.std.proofs.lemmas.List.{get_or-set_same, get_or-set_other, length-set}
 use Rattle.std.specs.Prelude.{slice_index}
@@ -23,7 +23,7 @@ use Rattle.oss_words.proofs.SeatLemmas.{among_append, among_none, length_set}
 use Rattle.oss_words.proofs.SumLemmas.{total_set}
 use Rattle.oss_roles.specs.Drawing.{AreDrawn, IsFree}
 use Rattle.oss_roles.specs.Field.{FieldAt, IsNumberOf, Parts, of_entry, of_main, words_of}
-use Rattle.oss_roles.specs.Roles.{Role, Site}
+use Rattle.oss_roles.specs.Roles.{Role}
 use Rattle.oss_roles.specs.Sights.{Sight}
 use Rattle.oss_roles.specs.WordSteps.{HoldsAsBefore}
 use Rattle.oss_roles.proofs.DrawLaw.{draws_keep}
@@ -31,7 +31,7 @@ use Rattle.oss_roles.proofs.OtherLaw.{words_set}
 use Rattle.oss_roles.proofs.WordClaims.{quiet_steps_keep}
 use Rattle.oss_field.specs.declared.view.SeatView.{SeatView}
 use Rattle.oss_field.specs.Drawing.{IsAbove, IsAboveAll, IsDrawn, drew, missed}
-use Rattle.oss_field.specs.Known.{Holding, Known, bearing_of, last_of, sight_of}
+use Rattle.oss_field.specs.Known.{Holding, Known, bearing_of, sight_of}
 use Rattle.oss_field.specs.Layout.{job_in, cell_word, state_word_of, info_word_of, value_word_of, number_word_of, count_word_of, body_word_of, parts_of}
 use Rattle.oss_field.specs.Moves.{touched}
 use Rattle.oss_field.specs.Plans.{planned_of}

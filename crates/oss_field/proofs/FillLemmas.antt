@@ -1,5 +1,5 @@
 -- The info word of an entry that hangs nowhere is written, and the number of its cell.
-use Rattle.std.proofs.Common.{◌≡◌, ◌≢◌, ◌⊎◌, inl, inr, sym, subst, refl, ◌∙◌, ap, ℕ, ◌<◌, ◌+◌, ◌*◌, arith, List, length, set, Option, Some, None}
+use Rattle.std.proofs.Common.{◌≡◌, ◌≢◌, inl, sym, subst, refl, ◌∙◌, ap, ℕ, ◌<◌, arith, List, length, set, Some}
 use Rattle.std.specs.Prelude.{slice_index}
 use Rattle.std.specs.Global.{Box}
 use mathlib.Core.Option as maybe
@@ -24,7 +24,7 @@ use Rattle.oss_roles.proofs.MakeClaims.{fills_keep}
 use Rattle.oss_field.specs.declared.view.SeatView.{SeatView}
 use Rattle.oss_field.specs.Known.{Known, Unlinked, sight_of}
 use Rattle.oss_field.specs.Layout.{job_in, cell_word, state_word_of, info_word_of, value_word_of, number_word_of, count_word_of, body_word_of, parts_of}
-use Rattle.oss_field.specs.Linking.{refill, told_cell, told_info, with_cell, with_info}
+use Rattle.oss_field.specs.Linking.{told_cell, told_info, with_cell, with_info}
 use Rattle.oss_field.specs.Plans.{ArePlanned, IsLoose, Planned, planned_of}
 use Rattle.oss_field.specs.Steps.{Steps}
 use Rattle.oss_field.specs.Table.{Slot, is_job_of, planned_by, sights_of, Stands}

@@ -1,5 +1,5 @@
 -- The three steps by which an entry begins a list of main, one after the other.
-use Rattle.std.proofs.Common.{◌≡◌, ◌≢◌, ◌⊎◌, inl, inr, sym, subst, refl, ◌∙◌, ap, ℕ, List, Option, Some, None}
+use Rattle.std.proofs.Common.{◌≡◌, inl, inr, sym, subst, refl, ◌∙◌, ap, ℕ, List, Option, Some, None}
 use mathlib.Core.Option as maybe
 use lib.ListN.{get_elem?}
 use Rattle.oss_code.specs.declared.code.CodeParts.{CodeParts}
@@ -11,7 +11,7 @@ use Rattle.oss_words.proofs.BitLemmas.{infos_are_read}
 use Rattle.oss_roles.specs.Sights.{Making}
 use Rattle.oss_field.specs.Known.{Holding, Known, Plan, Unlinked}
 use Rattle.oss_field.specs.Layout.{state_word_of}
-use Rattle.oss_field.specs.Linking.{IsFresh, MayBeginList, MayLinkFirst, began_list, linked_first, refill, told_cell, told_cell_of, told_info, unlinked_beside, with_cell, with_info}
+use Rattle.oss_field.specs.Linking.{IsFresh, MayBeginList, MayLinkFirst, began_list, linked_first, refill, told_cell_of, told_info, with_cell, with_info}
 use Rattle.oss_field.specs.Moves.{touched}
 use Rattle.oss_field.proofs.LooseLemmas.{beside_refill, refill_kept}
 

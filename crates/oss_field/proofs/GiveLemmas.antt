@@ -1,5 +1,5 @@
 -- An entry of a task whose job a seat holds is given up: at once, or in two steps if its task has a child there.
-use Rattle.std.proofs.Common.{◌≡◌, ◌≢◌, ◌⊎◌, inl, inr, sym, subst, refl, ◌∙◌, ap, ℕ, ◌<◌, ◌≤◌, ◌+◌, ◌*◌, ◌%◌, ◌^◌, arith, Bool, true, false, ◌==◌, cond, List, [], ◌∷◌, ◌++◌, length, set, Option, Some, None}
+use Rattle.std.proofs.Common.{◌≡◌, ◌≢◌, ◌⊎◌, inl, inr, sym, subst, refl, ◌∙◌, ap, ℕ, ◌<◌, ◌+◌, ◌%◌, ◌^◌, arith, Bool, true, false, ◌==◌, cond, List, [], ◌∷◌, length, set, Option, Some, None}
 use Rattle.std.specs.Prelude.{slice_index}
 use Rattle.std.specs.Global.{Box}
 use Rattle.std.proofs.lemmas.Bool.Decides.{eqb_tells}
@@ -10,32 +10,28 @@ use Rattle.oss_code.specs.declared.code.CodeParts.{CodeParts}
 use Rattle.oss_jobs.specs.declared.job.Job.{Job}
 use Rattle.oss_machine.specs.Frames.{CodeScript}
 use Rattle.oss_machine.specs.Machines.{asks}
-use Rattle.oss_model.specs.Bodies.{Body, Start}
+use Rattle.oss_model.specs.Bodies.{Body}
 use Rattle.oss_model.specs.Context.{right_of}
 use Rattle.oss_model.specs.Machine.{Task, At}
 use Rattle.oss_model.specs.Rights.{Holds}
 use Rattle.oss_model.proofs.TreeLemmas.{at_same}
-use Rattle.oss_syntax.specs.declared.access.Mode.{Mode}
 use Rattle.oss_syntax.specs.declared.access.Mode.TheVariants.{Fold}
 use Rattle.oss_syntax.specs.declared.access.Op.{Op}
-use Rattle.oss_words.specs.declared.entry.EntryInfo.{EntryInfo}
 use Rattle.oss_words.specs.declared.entry.EntryState.{EntryState}
-use Rattle.oss_words.specs.declared.message.Message.{Message}
 use Rattle.oss_words.specs.Bits.{info_at, state_at, state_word, FitsWord}
 use Rattle.oss_words.specs.Causes.{sent}
 use Rattle.oss_words.specs.Grown.{Grown}
 use Rattle.oss_words.specs.Net.{Net, apart}
-use Rattle.oss_words.specs.Seats.{came}
 use Rattle.oss_words.specs.Steps.{GivesUp}
-use Rattle.oss_words.specs.Views.{Among, Seen, among_first, among_later}
+use Rattle.oss_words.specs.Views.{Among, among_first, among_later}
 use Rattle.oss_words.proofs.CauseLemmas.{bools, clash}
 use Rattle.oss_words.proofs.KeptLaw.{at_here}
 use Rattle.oss_words.proofs.SeatLemmas.{came_more}
 use Rattle.oss_words.proofs.StillLemmas.{all_of, begun_grown, given_grown, grown_same}
-use Rattle.oss_roles.specs.Field.{Field, FieldAt, Parts, Sits, words_of}
+use Rattle.oss_roles.specs.Field.{Field, FieldAt, Parts, Sits}
 use Rattle.oss_roles.specs.JobSteps.{GivesEntry, GivesWord, at_once, begins, of_other}
-use Rattle.oss_roles.specs.Roles.{Role, Site, itself, on, Filed}
-use Rattle.oss_roles.specs.Sights.{Bearing, Fixed, Sight}
+use Rattle.oss_roles.specs.Roles.{Role, Site, itself, on}
+use Rattle.oss_roles.specs.Sights.{Fixed, Sight}
 use Rattle.oss_roles.proofs.JobClaims.{gives_keep, own_gives_keep}
 use Rattle.oss_field.specs.declared.view.SeatView.{SeatView}
 use Rattle.oss_field.specs.Giving.{GivesHalf, GivesWhole, MayGiveUp, StandsToGive, gave_half, gave_whole, gives_cell, gives_own, gone_on, still_beside}
@@ -50,7 +46,7 @@ use Rattle.oss_field.proofs.CellLemmas.{beside_is, job_goes, told_on}
 use Rattle.oss_field.proofs.FlagLemmas.{added, num_off, parts_fit}
 use Rattle.oss_field.proofs.HearLemmas.{bounded, told_hangs}
 use Rattle.oss_field.proofs.OwnLemmas.{borne, cell_filed, childless, last_child, own_filed}
-use Rattle.oss_field.proofs.TableLemmas.{chained, sits_at}
+use Rattle.oss_field.proofs.TableLemmas.{sits_at}
 use Rattle.oss_field.proofs.WordTable.{state_else, state_here, state_stands}
 
 -- the gives with one more

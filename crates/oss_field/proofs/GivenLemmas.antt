@@ -1,8 +1,6 @@
 -- The give of an entry as a call of several steps: what the seat knows between them and after them.
-use Rattle.std.proofs.Common.{◌≡◌, ◌≢◌, sym, subst, refl, ◌∙◌, ap, ℕ, ◌<◌, ◌≤◌, ◌+◌, ◌*◌, ◌%◌, ◌^◌, arith, Bool, List, [], ◌∷◌, ◌++◌, map, length, set, Option, Some, None}
+use Rattle.std.proofs.Common.{◌≡◌, ◌≢◌, sym, subst, refl, ◌∙◌, ap, ℕ, ◌<◌, ◌+◌, ◌*◌, ◌%◌, ◌^◌, arith, Bool, List, [], ◌∷◌, ◌++◌, length, Option, Some, None}
 use Rattle.std.specs.Prelude.{if◌then◌else◌}
-use mathlib.Core.Option as maybe
-use lib.ListN.{get_elem?}
 use Rattle.atomic_table.specs.Seated.{TableId}
 use Rattle.oss_code.specs.declared.code.CodeParts.{CodeParts}
 use Rattle.oss_jobs.specs.declared.job.Job.{Job}
@@ -27,11 +25,11 @@ use Rattle.oss_roles.specs.Roles.{Site, itself, on}
 use Rattle.oss_field.specs.declared.held.Held.{Held}
 use Rattle.oss_field.specs.declared.view.SeatView.{SeatView}
 use Rattle.oss_field.specs.Asks.{AreInside, IsInside, StandsBefore}
-use Rattle.oss_field.specs.Giving.{Gave, GiveSends, GivesRest, HasGivenHalf, HasGivenWhole, IsHalfGiven, MayGiveHalf, MayGiveHere, MayGiveUp, MayGiveWhole, StandsToGive, gave_half, gave_rest, gave_whole, gives_cell, gives_own, gone_on, with_last, with_none}
+use Rattle.oss_field.specs.Giving.{Gave, GivesRest, HasGivenHalf, HasGivenWhole, IsHalfGiven, MayGiveHalf, MayGiveHere, MayGiveUp, MayGiveWhole, StandsToGive, gave_rest, gives_cell, gives_own, gone_on, with_last, with_none}
 use Rattle.oss_field.specs.Heard.{Told}
 use Rattle.oss_field.specs.Known.{Holding, Known, bearing_of, last_of, sight_of}
 use Rattle.oss_field.specs.Layout.{state_word_of}
-use Rattle.oss_field.specs.Messages.{Bounded, Hangs, Learns, Ready, Settled, by_entry, by_last, informed, message_of}
+use Rattle.oss_field.specs.Messages.{Bounded, Hangs, Learns, Ready, Settled, by_entry, by_last, informed}
 use Rattle.oss_field.specs.Moves.{with_body}
 use Rattle.oss_field.specs.Owning.{HasEntry, entry_of, entry_told_at, site_of}
 use Rattle.oss_field.specs.Standing.{carried}

@@ -1,5 +1,5 @@
 -- What a seat holds and is told of, in any table that meets the rule; and the read of an info word.
-use Rattle.std.proofs.Common.{◌≡◌, ◌≢◌, ◌⊎◌, inl, inr, sym, subst, refl, ◌∙◌, ap, ℕ, ◌<◌, ◌≤◌, ◌+◌, ◌*◌, arith, List, [], ◌∷◌, length, set, Option, Some, None}
+use Rattle.std.proofs.Common.{◌≡◌, ◌≢◌, inl, inr, sym, subst, refl, ◌∙◌, ap, ℕ, ◌<◌, ◌≤◌, ◌*◌, arith, List, length, set, Option, Some, None}
 use Rattle.std.specs.Prelude.{slice_index}
 use Rattle.std.specs.Global.{Box}
 use mathlib.Core.Option as maybe
@@ -17,14 +17,13 @@ use Rattle.oss_words.specs.Bits.{info_at, state_at}
 use Rattle.oss_words.specs.Causes.{Due}
 use Rattle.oss_words.specs.Members.{Has}
 use Rattle.oss_words.specs.Net.{Net, apart}
-use Rattle.oss_words.specs.Sums.{total}
 use Rattle.oss_words.specs.Views.{View, Among, At, among_first, among_later}
 use Rattle.oss_words.proofs.BoundLemmas.{room_bound}
 use Rattle.oss_words.proofs.CountLemmas.{held_due}
 use Rattle.oss_words.proofs.DeliverLemmas.{small, target_hangs, target_in}
 use Rattle.oss_words.proofs.SumLemmas.{total_at}
 use Rattle.oss_words.proofs.WorkLemmas.{work_bound}
-use Rattle.oss_roles.specs.Field.{FieldAt, Parts, words_of}
+use Rattle.oss_roles.specs.Field.{words_of}
 use Rattle.oss_roles.specs.Sights.{Sight}
 use Rattle.oss_roles.proofs.WordClaims.{quiet_steps_keep}
 use Rattle.oss_field.specs.declared.view.SeatView.{SeatView}

@@ -1,38 +1,31 @@
 -- A seat is joined to another.
-use Rattle.std.proofs.Common.{◌≡◌, ◌≢◌, ◌⊎◌, inl, inr, sym, subst, refl, ◌∙◌, ap, ℕ, zero, suc, ◌<◌, ◌≤◌, ◌+◌, ◌-◌, ◌*◌, arith, List, [], ◌∷◌, ◌++◌, length, set, Option, Some, None, map}
+use Rattle.std.proofs.Common.{◌≡◌, inl, inr, sym, subst, refl, ◌∙◌, ap, ℕ, zero, suc, ◌≤◌, arith, List, [], ◌∷◌, length, set, map}
 use Rattle.std.specs.Prelude.{slice_index}
 use Rattle.std.specs.Global.{Box}
 use mathlib.Core.Option as maybe
 use lib.ListN.{get_elem?}
-use Rattle.std.proofs.Math.Seq.{map-set}
-use Rattle.atomic_table.specs.Table.{State, Splits, Joins}
-use Rattle.atomic_table.proofs.Lists.{at_map, at_set, at_snoc, at_longer, set_again, set_else}
+use Rattle.atomic_table.specs.Table.{State, Joins}
+use Rattle.atomic_table.proofs.Lists.{at_map, at_set, set_else}
 use Rattle.oss_body.specs.Mains.{code_main}
 use Rattle.oss_code.specs.declared.code.CodeParts.{CodeParts}
 use Rattle.oss_jobs.specs.declared.job.Job.{Job}
 use Rattle.oss_machine.specs.Frames.{CodeScript}
 use Rattle.oss_machine.specs.Machines.{asks}
-use Rattle.oss_words.specs.declared.entry.EntryInfo.{EntryInfo}
-use Rattle.oss_words.specs.declared.entry.EntryState.{EntryState}
-use Rattle.oss_words.specs.Bits.{info_at, state_at}
-use Rattle.oss_words.specs.Net.{Net}
-use Rattle.oss_words.specs.Sums.{total}
+use Rattle.oss_words.specs.Bits.{state_at}
 use Rattle.oss_words.specs.Views.{View, Among, At}
-use Rattle.oss_words.proofs.KeptLaw.{at_here}
 use Rattle.oss_words.proofs.SeatLemmas.{among_append, length_set}
 use Rattle.oss_words.proofs.SumLemmas.{total_set}
 use Rattle.oss_roles.specs.Drawing.{AreDrawn, IsFree}
 use Rattle.oss_roles.specs.Field.{FieldAt, Parts, words_of}
-use Rattle.oss_roles.specs.Roles.{Role}
 use Rattle.oss_roles.specs.Sights.{Sight}
-use Rattle.oss_roles.proofs.DrawLaw.{draws_keep, new_seats_draw}
+use Rattle.oss_roles.proofs.DrawLaw.{draws_keep}
 use Rattle.oss_roles.proofs.OtherLaw.{words_set}
-use Rattle.oss_roles.proofs.WordClaims.{new_seats_keep, quiet_steps_keep}
+use Rattle.oss_roles.proofs.WordClaims.{quiet_steps_keep}
 use Rattle.oss_field.specs.declared.view.SeatView.{SeatView}
-use Rattle.oss_field.specs.Known.{Holding, Known, Plan, Unlinked, bearing_of, sight_of}
-use Rattle.oss_field.specs.Layout.{parts_of, state_word_of, info_word_of, number_word_of}
-use Rattle.oss_field.specs.Plans.{ArePlanned, IsUnlinked, Planned, planned_of}
-use Rattle.oss_field.specs.Seats.{IsIdle, merged, new_known, parted, spent}
+use Rattle.oss_field.specs.Known.{Holding, Known, bearing_of, sight_of}
+use Rattle.oss_field.specs.Layout.{parts_of, state_word_of}
+use Rattle.oss_field.specs.Plans.{ArePlanned, Planned, planned_of}
+use Rattle.oss_field.specs.Seats.{IsIdle, merged, spent}
 use Rattle.oss_field.specs.Table.{AreSeats, Slot, Stands, is_job_of, planned_by, sights_of}
 use Rattle.oss_field.proofs.SeatLemmas.{no_holding, no_number, none_told}
 use Rattle.oss_field.proofs.TableLemmas.{chained, plans_same, sights_set, sits_at, then_at}

@@ -1,5 +1,5 @@
 -- What seats keep of entries that are not linked, after a step that writes a word of one, and after one that links it.
-use Rattle.std.proofs.Common.{◌≡◌, ◌≢◌, ◌⊎◌, inl, inr, sym, subst, refl, ◌∙◌, ap, ℕ, zero, suc, ◌<◌, Bool, true, false, ◌==◌, List, [], ◌∷◌, length, set, Option, Some, None}
+use Rattle.std.proofs.Common.{◌≡◌, ◌≢◌, ◌⊎◌, inl, inr, sym, subst, refl, ◌∙◌, ap, ℕ, Bool, true, false, ◌==◌, List, [], ◌∷◌, set, Option, Some, None}
 use Rattle.std.specs.Prelude.{cond}
 use mathlib.Core.Option as maybe
 use lib.ListN.{get_elem?}

@@ -1,5 +1,5 @@
 -- A count is lowered that is owed, by the law of count downs.
-use Rattle.std.proofs.Common.{◌≡◌, ◌≢◌, ◌⊎◌, inl, inr, sym, subst, refl, ◌∙◌, ap, ℕ, zero, suc, ◌<◌, ◌≤◌, ◌+◌, ◌-◌, ◌*◌, ◌%◌, ◌^◌, arith, Bool, true, false, List, [], ◌∷◌, length, set, Option, Some}
+use Rattle.std.proofs.Common.{◌≡◌, ◌≢◌, ◌⊎◌, inl, inr, sym, subst, refl, ◌∙◌, ap, ℕ, ◌<◌, ◌+◌, ◌-◌, ◌%◌, ◌^◌, arith, Bool, true, false, List, [], ◌∷◌, length, set}
 use Rattle.std.specs.Prelude.{slice_index, ◌==◌}
 use Rattle.std.specs.Global.{Box}
 use Rattle.std.proofs.lemmas.Bool.Decides.{eqb_tells}
@@ -15,9 +15,8 @@ use Rattle.oss_words.specs.declared.entry.EntryInfo.{EntryInfo}
 use Rattle.oss_words.specs.Bits.{info_at, state_at}
 use Rattle.oss_words.specs.Sums.{num}
 use Rattle.oss_words.specs.Views.{Among}
-use Rattle.oss_words.proofs.SumLemmas.{same_number, total_at}
+use Rattle.oss_words.proofs.SumLemmas.{total_at}
 use Rattle.oss_roles.specs.Field.{Field, FieldAt, Parts, times}
-use Rattle.oss_roles.specs.Roles.{Role}
 use Rattle.oss_roles.specs.Sights.{Sight}
 use Rattle.oss_roles.proofs.WordClaims.{count_downs_keep}
 use Rattle.oss_field.specs.declared.view.SeatView.{SeatView}

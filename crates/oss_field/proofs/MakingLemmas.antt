@@ -1,5 +1,5 @@
 -- The count of a new task is filled: its entries have their roles from then on.
-use Rattle.std.proofs.Common.{◌≡◌, ◌≢◌, ◌⊎◌, inl, inr, sym, subst, refl, ◌∙◌, ap, ℕ, ◌<◌, ◌≤◌, ◌+◌, ◌*◌, arith, Bool, true, false, List, [], ◌∷◌, ◌++◌, length, set, Option, Some, None}
+use Rattle.std.proofs.Common.{◌≡◌, ◌≢◌, ◌⊎◌, inl, inr, sym, subst, refl, ◌∙◌, ap, ℕ, ◌<◌, ◌≤◌, ◌+◌, arith, Bool, true, false, List, [], ◌∷◌, length, set, Option, Some, None}
 use Rattle.std.specs.Prelude.{slice_index}
 use Rattle.std.specs.Global.{Box}
 use mathlib.Core.Option as maybe
@@ -13,7 +13,7 @@ use Rattle.oss_code.specs.declared.code.CodeParts.{CodeParts}
 use Rattle.oss_jobs.specs.declared.job.Job.{Job}
 use Rattle.oss_machine.specs.Frames.{CodeScript}
 use Rattle.oss_machine.specs.Machines.{asks}
-use Rattle.oss_model.specs.Bodies.{Body, Order, Program, Start}
+use Rattle.oss_model.specs.Bodies.{Body, Order, Start}
 use Rattle.oss_model.specs.Bodies.Act.{Created}
 use Rattle.oss_model.specs.Context.{right_of}
 use Rattle.oss_model.specs.Moves.{act_now, created_now, new_task}
@@ -47,18 +47,18 @@ use Rattle.oss_roles.proofs.OtherLaw.{words_set}
 use Rattle.oss_roles.proofs.WordClaims.{new_paths_are_free}
 use Rattle.oss_field.specs.declared.view.SeatView.{SeatView}
 use Rattle.oss_field.specs.Asks.{AreInside}
-use Rattle.oss_field.specs.Known.{Holding, Known, Plan, bearing_of, sight_of}
+use Rattle.oss_field.specs.Known.{Holding, Known, bearing_of, sight_of}
 use Rattle.oss_field.specs.Layout.{job_in, cell_word, state_word_of, info_word_of, value_word_of, number_word_of, count_word_of, body_word_of, parts_of}
-use Rattle.oss_field.specs.Making.{HasBegun, MayBegin, began, new_cells, unlinked_from}
+use Rattle.oss_field.specs.Making.{HasBegun, MayBegin, began, new_cells}
 use Rattle.oss_field.specs.Moves.{loaded_beside, touched, with_body}
-use Rattle.oss_field.specs.Plans.{ArePlanned, Planned, begins_list, needs_flag, new_rights, planned_of, waits_for}
+use Rattle.oss_field.specs.Plans.{begins_list, needs_flag, new_rights, planned_of, waits_for}
 use Rattle.oss_field.specs.Standing.{carried}
 use Rattle.oss_field.specs.Steps.{Steps}
 use Rattle.oss_field.specs.Table.{AreSeats, Neat, Slot, Stands, is_job_of, planned_by, sights_of}
 use Rattle.oss_field.proofs.ActLemmas.{carried_on, inside_after}
 use Rattle.oss_field.proofs.CellLemmas.{beside_is, held_once, job_goes, told_on}
 use Rattle.oss_field.proofs.HeardLemmas.{heard_same}
-use Rattle.oss_field.proofs.PlanLemmas.{Source, of_task, of_cell, of_old, at_cell, drawn_left, each_role, in_block, not_within, numbered, own_role, plans, role_on, source, strongly, with_roles}
+use Rattle.oss_field.proofs.PlanLemmas.{Source, of_task, of_cell, of_old, at_cell, drawn_left, each_role, in_block, not_within, numbered, plans, role_on, source, strongly, with_roles}
 use Rattle.oss_field.proofs.PlannedLemmas.{planned_now, role_inside}
 use Rattle.oss_field.proofs.SlotLemmas.{set_twice}
 use Rattle.oss_field.proofs.TableLemmas.{chained, plans_stand, sights_set, sits_at}

@@ -1,5 +1,5 @@
 -- The count down that opens a new task.
-use Rattle.std.proofs.Common.{◌≡◌, ◌≢◌, ◌⊎◌, inl, inr, sym, subst, refl, ◌∙◌, ap, ℕ, zero, suc, ◌<◌, ◌≤◌, ◌+◌, ◌-◌, ◌*◌, ◌%◌, ◌^◌, arith, Bool, true, false, ◌==◌, List, [], ◌∷◌, length, set, Option, Some, None}
+use Rattle.std.proofs.Common.{◌≡◌, ◌≢◌, ◌⊎◌, inl, inr, sym, subst, refl, ◌∙◌, ap, ℕ, zero, suc, ◌<◌, ◌+◌, ◌-◌, ◌*◌, ◌%◌, ◌^◌, arith, Bool, true, false, ◌==◌, List, [], ◌∷◌, length, set, Option, Some, None}
 use Rattle.std.specs.Prelude.{slice_index, cond, not, if◌then◌else◌}
 use Rattle.std.specs.Global.{Box}
 use mathlib.Core.Option as maybe
@@ -16,21 +16,19 @@ use Rattle.oss_jobs.specs.declared.job.Job.{Job}
 use Rattle.oss_jobs.specs.Jobs.{noted, or_else}
 use Rattle.oss_machine.specs.Frames.{CodeScript}
 use Rattle.oss_machine.specs.Machines.{asks}
-use Rattle.oss_model.specs.Bodies.{Body, Order, Start}
+use Rattle.oss_model.specs.Bodies.{Order, Start}
 use Rattle.oss_model.specs.Bodies.Act.{Created}
-use Rattle.oss_model.specs.Context.{right_of}
-use Rattle.oss_model.specs.Moves.{act_now, new_task}
+use Rattle.oss_model.specs.Moves.{act_now}
 use Rattle.oss_model.specs.Rights.{Right, Holds}
 use Rattle.oss_syntax.specs.declared.access.Mode.{Mode}
 use Rattle.oss_words.specs.declared.entry.EntryInfo.{EntryInfo}
 use Rattle.oss_words.specs.declared.entry.EntryState.{EntryState}
 use Rattle.oss_words.specs.Net.{Net, apart}
-use Rattle.oss_words.specs.Sums.{below, num}
+use Rattle.oss_words.specs.Sums.{num}
 use Rattle.oss_words.specs.Views.{Among, among_first, among_later}
 use Rattle.oss_words.proofs.KeptLaw.{at_here}
 use Rattle.oss_words.proofs.SeatLemmas.{among_none}
-use Rattle.oss_roles.specs.Counting.{weight}
-use Rattle.oss_roles.specs.Field.{Bears, Field, FieldAt, IsMade, IsNumberOf, Parts, Sits, owed_by_all}
+use Rattle.oss_roles.specs.Field.{Bears, Field, FieldAt, IsMade, IsNumberOf, Parts, Sits}
 use Rattle.oss_roles.specs.MakeSteps.{MovesLast}
 use Rattle.oss_roles.specs.Numbers.{entry_number, has_cell}
 use Rattle.oss_roles.specs.Roles.{Role, Site, itself, on}
@@ -42,7 +40,7 @@ use Rattle.oss_field.specs.declared.view.SeatView.{SeatView}
 use Rattle.oss_field.specs.Asks.{AreInside, IsInside}
 use Rattle.oss_field.specs.Known.{Holding, Known, Plan, Unlinked, bearing_of, last_of, sight_of}
 use Rattle.oss_field.specs.Layout.{count_word_of, parts_of}
-use Rattle.oss_field.specs.Making.{IsOpened, MayOpen, Opens, created_by, made_beside, opened, plans_beside}
+use Rattle.oss_field.specs.Making.{IsOpened, MayOpen, Opens, created_by, opened, plans_beside}
 use Rattle.oss_field.specs.Moves.{touched}
 use Rattle.oss_field.specs.Plans.{ArePlanned, IsLoose, IsRoleOf, is_cell, is_own, IsUnlinked, Planned, new_rights, planned_of}
 use Rattle.oss_field.specs.Standing.{carried}

@@ -1,5 +1,5 @@
 -- The entries of a task whose job a seat holds, and what hangs below them.
-use Rattle.std.proofs.Common.{◌≡◌, ◌≢◌, ◌⊎◌, inl, inr, sym, subst, refl, ◌∙◌, ap, ℕ, ◌<◌, ◌+◌, arith, Bool, true, false, List, [], ◌∷◌, Option, Some, None}
+use Rattle.std.proofs.Common.{◌≡◌, ◌≢◌, inl, inr, sym, subst, refl, ◌∙◌, ap, ℕ, ◌<◌, Bool, true, false, List, [], ◌∷◌, Option, Some, None}
 use Rattle.std.specs.Global.{Box}
 use mathlib.Core.Option as maybe
 use lib.ListN.{get_elem?}
@@ -8,7 +8,7 @@ use Rattle.oss_code.specs.declared.code.CodeParts.{CodeParts}
 use Rattle.oss_jobs.specs.declared.job.Job.{Job}
 use Rattle.oss_machine.specs.Frames.{CodeScript}
 use Rattle.oss_machine.specs.Machines.{asks}
-use Rattle.oss_model.specs.Bodies.{Body, Start}
+use Rattle.oss_model.specs.Bodies.{Start}
 use Rattle.oss_model.specs.Context.{right_of}
 use Rattle.oss_model.specs.Machine.{At}
 use Rattle.oss_model.specs.Rights.{Holds}
@@ -18,7 +18,7 @@ use Rattle.oss_words.specs.Net.{apart, top, first as first_place, after, Child, 
 use Rattle.oss_words.proofs.CauseLemmas.{bools}
 use Rattle.oss_roles.specs.Field.{Field, Parts, Sits, Bears, IsBorne, IsNumberOf, of_entry, of_main}
 use Rattle.oss_roles.specs.Numbers.{entry_number}
-use Rattle.oss_roles.specs.Roles.{Role, Site, itself, on, Filed}
+use Rattle.oss_roles.specs.Roles.{Role, itself, on, Filed}
 use Rattle.oss_roles.specs.Sights.{Making, Sight, Telling}
 use Rattle.oss_roles.proofs.CallLemmas.{free_idle}
 use Rattle.oss_roles.proofs.NumberLaw.{entries_follow}

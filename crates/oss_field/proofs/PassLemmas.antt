@@ -1,5 +1,5 @@
 -- The flag of a message is set, by the law of deliveries.
-use Rattle.std.proofs.Common.{◌≡◌, ◌≢◌, ◌⊎◌, inl, inr, sym, subst, refl, ◌∙◌, ap, ℕ, zero, suc, ◌<◌, ◌≤◌, ◌+◌, ◌*◌, ◌%◌, ◌^◌, arith, Bool, true, false, List, [], ◌∷◌, ◌++◌, length, set, lt_of_not-le, Option, Some}
+use Rattle.std.proofs.Common.{◌≡◌, ◌≢◌, ◌⊎◌, inl, inr, sym, subst, refl, ◌∙◌, ap, ℕ, zero, suc, ◌<◌, ◌≤◌, ◌+◌, ◌%◌, ◌^◌, arith, Bool, true, false, List, [], ◌∷◌, ◌++◌, length, set, lt_of_not-le, Option, Some}
 use Rattle.std.specs.Prelude.{slice_index, ◌==◌, ◌&&◌, if◌then◌else◌}
 use Rattle.std.specs.Global.{Box}
 use Rattle.std.proofs.lemmas.Bool.Decides.{eqb_tells}
@@ -23,7 +23,6 @@ use Rattle.oss_words.specs.Room.{Behind}
 use Rattle.oss_words.specs.Seats.{came}
 use Rattle.oss_words.specs.Steps.{Delivers}
 use Rattle.oss_words.specs.Sums.{num}
-use Rattle.oss_words.specs.Views.{View, Among}
 use Rattle.oss_words.proofs.DeliverLaw.{came_one}
 use Rattle.oss_words.proofs.FirstLemmas.{held_unset, strictly}
 use Rattle.oss_words.proofs.SumLemmas.{total_at}

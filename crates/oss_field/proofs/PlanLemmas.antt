@@ -1,6 +1,6 @@
 -- The roles of a new task's entries: its own, and one for each of its cells, by their numbers.
-use Rattle.std.proofs.Common.{◌≡◌, ◌≢◌, ◌⊎◌, inl, inr, sym, subst, refl, ◌∙◌, ap, ℕ, zero, suc, ◌<◌, ◌≤◌, ◌+◌, arith, Bool, true, false, List, [], ◌∷◌, ◌++◌, Option, Some, None}
-use Rattle.std.specs.Prelude.{◌==◌, ◌&&◌, not, if◌then◌else◌}
+use Rattle.std.proofs.Common.{◌≡◌, ◌≢◌, ◌⊎◌, inl, inr, sym, subst, refl, ◌∙◌, ap, ℕ, zero, suc, ◌<◌, ◌≤◌, ◌+◌, arith, Bool, true, false, List, [], ◌∷◌, Option, Some, None}
+use Rattle.std.specs.Prelude.{◌==◌, ◌&&◌, if◌then◌else◌}
 use Rattle.std.proofs.lemmas.Bool.Decides.{eqb_tells, nat_tests}
 use Rattle.oss_model.specs.Rights.{Right, Holds, NoRight, Released}
 use Rattle.oss_ranges.specs.Cells.{is_within}
@@ -9,12 +9,12 @@ use Rattle.oss_syntax.specs.declared.access.Mode.TheVariants.{Read, Write, Fold}
 use Rattle.oss_words.specs.declared.entry.EntryState.{EntryState}
 use Rattle.oss_words.specs.Net.{Net, Place, apart, top, first, after}
 use Rattle.oss_words.specs.Steps.{no_flags}
-use Rattle.oss_words.specs.Sums.{below, num}
+use Rattle.oss_words.specs.Sums.{num}
 use Rattle.oss_words.specs.Views.{Among, among_first, among_later}
 use Rattle.oss_words.proofs.SeatLemmas.{among_none}
 use Rattle.oss_roles.specs.Counting.{AreNumbered, stands}
 use Rattle.oss_roles.specs.Numbers.{cells_below, entry_number, has_cell}
-use Rattle.oss_roles.specs.Roles.{Role, Site, itself, on, Plans, AreRoles}
+use Rattle.oss_roles.specs.Roles.{Role, itself, on, Plans}
 use Rattle.oss_field.specs.Known.{Unlinked}
 use Rattle.oss_field.specs.Making.{drawn_beside, unlinked_from}
 use Rattle.oss_field.specs.Plans.{needs_flag, waits_for}

@@ -1,8 +1,7 @@
 -- What seats keep of the tasks that they are making, after a step: the plan of a task.
-use Rattle.std.proofs.Common.{◌≡◌, ◌≢◌, ◌⊎◌, inl, inr, sym, subst, refl, ◌∙◌, ap, ℕ, zero, suc, ◌<◌, ◌≤◌, ◌+◌, arith, Bool, true, false, List, [], ◌∷◌, ◌++◌, length, set, Option, Some, None}
+use Rattle.std.proofs.Common.{◌≡◌, ◌≢◌, ◌⊎◌, inl, inr, sym, subst, refl, ◌∙◌, ap, ℕ, suc, ◌<◌, ◌≤◌, ◌+◌, arith, List, ◌∷◌, ◌++◌, length, set, Option, Some, None}
 use mathlib.Core.Option as maybe
 use lib.ListN.{get_elem?}
-use Rattle.std.proofs.lemmas.Bool.Decides.{eqb_tells}
 use Rattle.atomic_table.proofs.Lists.{at_set}
 use Rattle.oss_code.specs.declared.code.CodeParts.{CodeParts}
 use Rattle.oss_machine.specs.Frames.{CodeScript}
@@ -18,7 +17,7 @@ use Rattle.oss_roles.specs.Roles.{Role}
 use Rattle.oss_field.specs.Known.{Holding, Plan, Unlinked}
 use Rattle.oss_field.specs.Making.{new_cells, unlinked_from}
 use Rattle.oss_field.specs.Plans.{ArePlanned, IsLoose, IsRoleOf, is_cell, is_own, IsUnlinked, Planned, begins_list, new_rights}
-use Rattle.oss_field.proofs.PlanLemmas.{FromCell, Source, of_task, of_cell, of_old, at_cell, at_own, each_role, in_block, is_apart, own_role, right_held, source, unlinked_is, unlinked_of, with_roles}
+use Rattle.oss_field.proofs.PlanLemmas.{Source, of_task, of_cell, of_old, at_cell, at_own, each_role, in_block, is_apart, own_role, right_held, source, unlinked_is, unlinked_of, with_roles}
 use Rattle.oss_field.proofs.ReadLemmas.{cell_of_number}
 
 module _ (code : CodeParts) (n : ℕ) (net : Net) (role : ℕ → Option Role) (states : ℕ → EntryState) (infos : ℕ → EntryInfo) (cell_of : ℕ → ℕ) (seats : List Planned) (a : ArePlanned code n net role states infos cell_of seats)

@@ -1,5 +1,5 @@
 -- State words that are read: an entry of a job that the seat holds has a role with the path of its task.
-use Rattle.std.proofs.Common.{◌≡◌, ◌⊎◌, inl, inr, sym, subst, refl, ◌∙◌, ap, ℕ, zero, suc, ◌+◌, ◌<◌, ◌≤◌, arith, Bool, true, false, ◌==◌, List, [], ◌∷◌, length, set, Option, Some, None}
+use Rattle.std.proofs.Common.{◌≡◌, ◌⊎◌, inl, inr, sym, subst, refl, ◌∙◌, ap, ℕ, zero, suc, ◌+◌, ◌<◌, ◌≤◌, arith, Bool, true, false, ◌==◌, List, [], ◌∷◌, length, set, Some, None}
 use Rattle.std.specs.Prelude.{slice_index, not, ◌&&◌, ◌||◌}
 use Rattle.std.specs.Global.{Box}
 use Rattle.std.proofs.lemmas.Bool.Decides.{nat_tests}
@@ -11,7 +11,7 @@ use Rattle.oss_code.specs.declared.code.CodeParts.{CodeParts}
 use Rattle.oss_jobs.specs.declared.job.Job.{Job}
 use Rattle.oss_machine.specs.Frames.{CodeScript}
 use Rattle.oss_machine.specs.Machines.{asks}
-use Rattle.oss_model.specs.Bodies.{Program, Start}
+use Rattle.oss_model.specs.Bodies.{Start}
 use Rattle.oss_model.specs.Context.{right_of}
 use Rattle.oss_model.specs.Rights.{Right, Holds, NoRight, Released}
 use Rattle.oss_ranges.specs.Cells.{is_within}
@@ -27,7 +27,7 @@ use Rattle.oss_roles.proofs.WordClaims.{word_reads_keep}
 use Rattle.oss_field.specs.declared.view.SeatView.{SeatView}
 use Rattle.oss_field.specs.Known.{Holding, Known, bearing_of, sight_of}
 use Rattle.oss_field.specs.Layout.{parts_of, state_word_of}
-use Rattle.oss_field.specs.Reading.{after_flags, is_entry_of, is_own, kept_still, saw}
+use Rattle.oss_field.specs.Reading.{after_flags, is_entry_of, is_own, kept_still}
 use Rattle.oss_field.specs.Steps.{Steps}
 use Rattle.oss_field.specs.Table.{Slot, is_job_of, sights_of, Stands}
 use Rattle.oss_field.proofs.TableLemmas.{chained, quiet_stands, read_stands, sits_at}

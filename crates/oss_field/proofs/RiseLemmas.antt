@@ -1,5 +1,5 @@
 -- The second step of a give: the last child leads to the entry that was given up.
-use Rattle.std.proofs.Common.{◌≡◌, ◌≢◌, ◌⊎◌, inl, inr, sym, subst, refl, ◌∙◌, ap, ℕ, ◌<◌, ◌≤◌, ◌+◌, ◌*◌, ◌%◌, ◌^◌, arith, Bool, true, false, List, [], ◌∷◌, ◌++◌, length, set, Option, Some, None}
+use Rattle.std.proofs.Common.{◌≡◌, ◌≢◌, sym, subst, refl, ◌∙◌, ap, ℕ, ◌<◌, ◌≤◌, ◌+◌, ◌*◌, ◌%◌, ◌^◌, arith, true, false, List, [], ◌++◌, length, set, Option, Some, None}
 use Rattle.std.specs.Prelude.{slice_index}
 use Rattle.std.specs.Global.{Box}
 use mathlib.Core.Option as maybe
@@ -10,7 +10,6 @@ use Rattle.oss_jobs.specs.declared.job.Job.{Job}
 use Rattle.oss_machine.specs.Frames.{CodeScript}
 use Rattle.oss_machine.specs.Machines.{asks}
 use Rattle.oss_words.specs.declared.entry.EntryState.{EntryState}
-use Rattle.oss_words.specs.declared.message.Message.{Message}
 use Rattle.oss_words.specs.Bits.{info_at, state_at, state_word, FitsWord}
 use Rattle.oss_words.specs.Causes.{sent}
 use Rattle.oss_words.specs.Flow.{Half}
@@ -21,14 +20,13 @@ use Rattle.oss_words.proofs.CauseLemmas.{clash}
 use Rattle.oss_words.proofs.KeptLaw.{at_here}
 use Rattle.oss_words.proofs.SeatLemmas.{came_more}
 use Rattle.oss_words.proofs.StillLemmas.{all_of, grown_same, risen_grown_word}
-use Rattle.oss_roles.specs.Field.{Field, FieldAt, Parts, Sits, words_of}
-use Rattle.oss_roles.specs.Roles.{Role, Site, itself, on, Filed}
-use Rattle.oss_roles.specs.Sights.{Sight}
+use Rattle.oss_roles.specs.Field.{Field, Parts, Sits}
+use Rattle.oss_roles.specs.Roles.{Site, Filed}
 use Rattle.oss_roles.proofs.WordClaims.{last_links_keep}
 use Rattle.oss_field.specs.declared.view.SeatView.{SeatView}
 use Rattle.oss_field.specs.Giving.{GivesRest, IsHalfGiven, gave_rest}
 use Rattle.oss_field.specs.Known.{Holding, Known, last_of, sight_of}
-use Rattle.oss_field.specs.Layout.{info_word_of, parts_of, state_word_of}
+use Rattle.oss_field.specs.Layout.{parts_of, state_word_of}
 use Rattle.oss_field.specs.Owning.{HasEntry, entry_of, site_of}
 use Rattle.oss_field.specs.Steps.{Steps}
 use Rattle.oss_field.specs.Table.{Neat, Slot, is_job_of, sights_of, Stands}

@@ -1,5 +1,5 @@
 -- Calls that leave what a seat knows of its messages.
-use Rattle.std.proofs.Common.{◌≡◌, ◌≢◌, sym, subst, refl, ◌∙◌, ap, ℕ, zero, suc, ◌≤◌, ◌+◌, List, lt_of_not-le}
+use Rattle.std.proofs.Common.{◌≡◌, sym, subst, refl, ◌∙◌, ℕ, zero, suc, ◌+◌, lt_of_not-le}
 use Rattle.std.specs.Prelude.{Option, Some, None, IfSome, IfNone, box_value}
 use Rattle.std.specs.Global.{Box}
 use mathlib.Core.Logic.{dite}
@@ -14,7 +14,7 @@ use Rattle.oss_field.specs.Making.{HasBegun, IsOpened, IsPutFirst}
 use Rattle.oss_field.specs.Messages.{SameMessages}
 use Rattle.oss_field.specs.Reading.{after_flags}
 use Rattle.oss_field.specs.Seats.{parted}
-use Rattle.oss_field.specs.Taking.{IsMissing, IsPut, IsTaken, is_out, is_waiting, after_count, after_miss, after_take}
+use Rattle.oss_field.specs.Taking.{IsMissing, IsPut, IsTaken, is_out, is_waiting, after_count, after_take}
 
 pub same_then : (k l n : Known) → SameMessages k l → SameMessages l n → SameMessages k n
 same_then k l n a b = record { held = b.held ∙ a.held; half = b.half ∙ a.half; told = b.told ∙ a.told; joined = b.joined ∙ a.joined; owes = b.owes ∙ a.owes; last = b.last ∙ a.last }

@@ -1,5 +1,5 @@
 -- What a step has sent: what goes to other entries, and the join of the entry itself.
-use Rattle.std.proofs.Common.{◌≡◌, sym, subst, refl, ◌∙◌, ap, ℕ, ◌+◌, arith, Bool, true, false, not, ◌&&◌, List, [], ◌∷◌, ◌++◌, append-nil}
+use Rattle.std.proofs.Common.{◌≡◌, subst, ◌∙◌, ap, ℕ, ◌+◌, arith, Bool, true, false, not, ◌&&◌, List, [], ◌∷◌, ◌++◌, append-nil}
 use Rattle.oss_words.specs.declared.entry.EntryInfo.{EntryInfo}
 use Rattle.oss_words.specs.declared.entry.EntryState.{EntryState}
 use Rattle.oss_words.specs.declared.message.Message.{Message}
@@ -11,7 +11,7 @@ use Rattle.oss_words.proofs.SendLemmas.{sent_is_posted}
 use Rattle.oss_words.proofs.SumLemmas.{total_append}
 use Rattle.oss_field.specs.declared.held.Held.{Held}
 use Rattle.oss_field.specs.Known.{Known}
-use Rattle.oss_field.specs.Messages.{Ready, message_of}
+use Rattle.oss_field.specs.Messages.{Ready}
 use Rattle.oss_field.proofs.MessageLemmas.{one_ready}
 
 -- if the cause of the entry's own join is not completed, what is posted is all

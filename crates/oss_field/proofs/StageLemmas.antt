@@ -1,11 +1,11 @@
 -- The first job of a task that is being made is put: the empty slot is taken hold of, and the job stands in it.
-use Rattle.std.proofs.Common.{◌≡◌, ◌≢◌, ◌⊎◌, inl, inr, sym, subst, refl, ◌∙◌, ap, ℕ, zero, suc, ◌<◌, arith, Bool, true, false, ◌==◌, List, [], ◌∷◌, length, set}
+use Rattle.std.proofs.Common.{◌≡◌, ◌≢◌, ◌⊎◌, inl, inr, sym, subst, refl, ◌∙◌, ap, ℕ, ◌<◌, arith, Bool, true, false, ◌==◌, List, [], ◌∷◌, length, set}
 use Rattle.std.specs.Prelude.{slice_index, cond, Option, Some, None, box_value}
 use Rattle.std.specs.Global.{Box}
 use mathlib.Core.Option as maybe
 use lib.ListN.{get_elem?}
 use Rattle.std.proofs.lemmas.Bool.Decides.{eqb_tells}
-use Rattle.atomic_table.specs.Table.{State, Me, Allows, takes, gives, rest}
+use Rattle.atomic_table.specs.Table.{State, Allows, takes, gives, rest}
 use Rattle.atomic_table.proofs.Lists.{at_map, set_here}
 use Rattle.oss_body.specs.Mains.{code_main}
 use Rattle.oss_code.specs.declared.code.CodeParts.{CodeParts}
@@ -20,7 +20,7 @@ use Rattle.oss_words.specs.Views.{Among, among_first, among_later}
 use Rattle.oss_words.proofs.SeatLemmas.{among_none}
 use Rattle.oss_roles.specs.Field.{Field, FieldAt, Parts, IsNumberOf, of_main, of_entry, IsSomewhere, at_home, is_out, IsPut, not_put, going, is_put, IsMade}
 use Rattle.oss_roles.specs.Roles.{Role, Site}
-use Rattle.oss_roles.specs.Sights.{Making, Sight, Telling}
+use Rattle.oss_roles.specs.Sights.{Making, Sight}
 use Rattle.oss_roles.proofs.MakeClaims.{first_puts_keep}
 use Rattle.oss_field.specs.declared.view.SeatView.{SeatView}
 use Rattle.oss_field.specs.Known.{Holding, Known, bearing_of, sight_of}

@@ -1,5 +1,5 @@
 -- The table after a step that changes the state word of an entry, or the count of a task, and what its seat knows of the words.
-use Rattle.std.proofs.Common.{◌≡◌, ◌≢◌, ◌⊎◌, inl, inr, sym, subst, refl, ◌∙◌, ap, ℕ, ◌<◌, ◌≤◌, ◌+◌, ◌*◌, arith, Bool, List, [], ◌∷◌, length, set, Option, Some, None}
+use Rattle.std.proofs.Common.{◌≡◌, ◌≢◌, inl, inr, sym, subst, ◌∙◌, ap, ℕ, ◌<◌, ◌≤◌, ◌+◌, arith, Bool, List, length, set, Option, Some, None}
 use Rattle.std.specs.Prelude.{slice_index}
 use Rattle.std.specs.Global.{Box}
 use mathlib.Core.Option as maybe
@@ -16,7 +16,6 @@ use Rattle.oss_words.specs.declared.entry.EntryState.{EntryState}
 use Rattle.oss_words.specs.Bits.{state_at, state_word, info_at, FitsWord}
 use Rattle.oss_words.specs.Net.{Net, apart}
 use Rattle.oss_words.specs.Seats.{came}
-use Rattle.oss_words.specs.Sums.{total}
 use Rattle.oss_words.specs.Views.{View, Among, At}
 use Rattle.oss_words.proofs.BitLemmas.{states_are_read}
 use Rattle.oss_words.proofs.SeatLemmas.{length_set}

@@ -1,7 +1,7 @@
 -- What a draw of entries tells.
 -- Read against: in a field of 10 entries of which 7 are drawn a seat draws 3: the draw word is 7, and the seat gets 7, 8 and 9, which are above the numbers of all tasks whose jobs
 -- it holds, and above their last children. Another seat then draws 1: the word is 10, and 10 + 1 is above 10, so it gets none, and draws no more.
-use Rattle.std.specs.Prelude.{◌≡◌, ◌<◌, ◌≤◌, ◌+◌, ℕ, List, ◌++◌, Some}
+use Rattle.std.specs.Prelude.{◌≡◌, ◌<◌, ◌≤◌, ◌+◌, ℕ, ◌++◌, Some}
 use Rattle.oss_words.specs.SeatSteps.{numbers}
 use Rattle.oss_words.specs.Views.{Among}
 use Rattle.oss_roles.specs.Roles.{Site}

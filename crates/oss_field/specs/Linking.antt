@@ -1,7 +1,7 @@
 -- The links of the entries of a new task: what their calls ask, and what they tell.
 -- Read against: main makes its first child, 1, which has no cells. Entry 1 is the task's own and begins a list of main: its info word is written, which tells a weak
 -- read of depth 1 of task 1, and then its state word, 39: it may read, fold and write, and has nothing before it. From then on no entry of 1 is left that is not linked.
-use Rattle.std.specs.Prelude.{◌≡◌, ◌==◌, ℕ, true, false, cond, List, [], ◌∷◌, length, Option, Some, None}
+use Rattle.std.specs.Prelude.{◌≡◌, ◌==◌, ℕ, true, false, cond, List, [], ◌∷◌, Option, Some, None}
 use mathlib.Core.Option as maybe
 use lib.ListN.{get_elem?}
 use Rattle.oss_code.specs.declared.code.CodeParts.{CodeParts}
@@ -19,7 +19,7 @@ use Rattle.oss_words.specs.Steps.{no_flags}
 use Rattle.oss_words.specs.Views.{Among}
 use Rattle.oss_roles.specs.Numbers.{entry_number}
 use Rattle.oss_roles.specs.Roles.{on}
-use Rattle.oss_field.specs.Known.{Holding, Known, Plan, Unlinked, last_of}
+use Rattle.oss_field.specs.Known.{Holding, Known, Unlinked, last_of}
 use Rattle.oss_field.specs.Layout.{info_word_of, number_word_of, state_word_of}
 use Rattle.oss_field.specs.Moves.{touched}
 use Rattle.oss_field.specs.Plans.{new_rights}

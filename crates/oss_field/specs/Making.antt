@@ -3,7 +3,7 @@
 -- child on cell 4 alone. It has drawn 7, 8 and 9. The fill of the count of 7 writes 2: one for the opening, and one for the flag `reads` of 8. From then on it
 -- is making 7, and 7, 8 and 9 are not linked. The first put of the job of 7 takes hold of the slot, and the job stands there. When all three are linked, and
 -- main's job has noted 7, the count down opens 7: the count is 1, main's body has the answer of the creation, and the seat makes no task.
-use Rattle.std.specs.Prelude.{◌≡◌, ◌≢◌, ◌<◌, ◌≤◌, ◌+◌, ◌==◌, ℕ, zero, suc, Bool, true, false, not, ◌&&◌, cond, if◌then◌else◌, List, [], ◌∷◌, ◌++◌, length, set, Option, Some, None, box_value}
+use Rattle.std.specs.Prelude.{◌≡◌, ◌≢◌, ◌<◌, ◌≤◌, ◌+◌, ◌==◌, ℕ, zero, suc, false, ◌&&◌, cond, if◌then◌else◌, List, [], ◌∷◌, ◌++◌, length, set, Some, None, box_value}
 use Rattle.std.specs.Global.{Box}
 use mathlib.Core.Option as maybe
 use lib.ListN.{get_elem?}

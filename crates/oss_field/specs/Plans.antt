@@ -2,7 +2,7 @@
 -- Read against: the task 7 of the cells 4 and 5, whose count a seat has filled. Its plan tells the job of its creator, and with it the rights of 7. The
 -- entries 7, 8 and 9 have roles from then on, no word of theirs is written, and they are the ones that are not linked. Once 7 is linked, 8 and 9 are those that are not. An
 -- entry with no role has the state word 0, whoever has drawn it.
-use Rattle.std.specs.Prelude.{◌≡◌, ◌≢◌, ◌⊎◌, ◌<◌, ◌==◌, ℕ, Bool, true, false, not, ◌&&◌, List, map, Option, Some, None}
+use Rattle.std.specs.Prelude.{◌≡◌, ◌≢◌, ◌⊎◌, ◌<◌, ◌==◌, ℕ, Bool, true, false, not, ◌&&◌, List, Option, Some, None}
 use mathlib.Core.Option as maybe
 use lib.ListN.{get_elem?}
 use Rattle.oss_code.specs.declared.code.CodeParts.{CodeParts}

@@ -2,7 +2,7 @@
 -- Read against: a field whose one seat has all 65,537 parts. It is split: it has 65,536 parts, and the new seat has one, knows nothing and holds nothing. The new
 -- seat draws 7 and 8, delivers 3 messages, and is joined: the first seat has 65,537 parts again, has drawn 7 and 8 too, and 3 deliveries more are counted for it.
 -- What is left of the joined one has no part, and draws no more.
-use Rattle.std.specs.Prelude.{◌≡◌, ◌+◌, ◌-◌, ℕ, [], ◌++◌}
+use Rattle.std.specs.Prelude.{◌≡◌, ◌+◌, ◌-◌, [], ◌++◌}
 use Rattle.oss_words.specs.Views.{View}
 use Rattle.oss_field.specs.Known.{Known, first_known}
 

@@ -1,13 +1,12 @@
-use Rattle.std.proofs.Common.{◌≡◌, sym, subst, ap, ◌∙◌, ℕ, ◌<◌, ◌≤◌, ◌+◌, arith, List, length}
+use Rattle.std.proofs.Common.{sym, subst, ap, ◌∙◌, ℕ, ◌<◌, ◌≤◌, ◌+◌, List, length}
 use Rattle.std.specs.Prelude.{slice_index_or}
-use Rattle.oss_words.specs.Bits.{info_at, state_at, weight}
+use Rattle.oss_words.specs.Bits.{info_at, state_at}
 use Rattle.oss_words.specs.Causes.{sent}
 use Rattle.oss_field.specs.declared.held.Held.{Held}
-use Rattle.oss_field.specs.declared.touched.Touched.{Touched}
 use Rattle.oss_field.specs.Known.{Known}
 use Rattle.oss_field.specs.Messages.{NoneBefore, Ready, owes_after}
 use Rattle.oss_words.specs.Views.{Among}
-use Rattle.oss_field.proofs.DeliverLemmas.{all_settled, all_work, delivered_is, last_is, may_deliver, paid_bounded, paid_ready, paid_told, pays}
+use Rattle.oss_field.proofs.DeliverLemmas.{all_settled, all_work, delivered_is, last_is, may_deliver, paid_bounded, paid_ready, paid_told}
 use Rattle.oss_field.proofs.MessageLemmas.{first_told, flags_small, learns_none}
 use Rattle.oss_field.proofs.delivering.deliver_first.Goals as goal
 

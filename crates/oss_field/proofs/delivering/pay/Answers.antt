@@ -1,4 +1,4 @@
-use Rattle.std.proofs.Common.{◌≡◌, sym, subst, ap, ◌∙◌, ◌<◌, ◌==◌, [], ◌∷◌, false, true, Bool}
+use Rattle.std.proofs.Common.{◌≡◌, sym, subst, ap, ◌∙◌, ◌<◌, ◌==◌, [], ◌∷◌, true}
 use Rattle.std.specs.Prelude.{Some, None, if◌then◌else◌}
 use Rattle.oss_words.specs.declared.entry.EntryInfo.{EntryInfo}
 use Rattle.oss_words.specs.Bits.{info_at}

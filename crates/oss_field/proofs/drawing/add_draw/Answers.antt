@@ -1,4 +1,4 @@
-use Rattle.std.proofs.Common.{◌≡◌, sym, subst, ℕ, ◌≤◌, ◌+◌, ◌%◌, ◌^◌, arith}
+use Rattle.std.proofs.Common.{sym, subst, ℕ, ◌≤◌, ◌+◌, ◌%◌, ◌^◌, arith}
 use Rattle.oss_field.specs.Drawing.{IsDrawn}
 use Rattle.oss_field.specs.Steps.{Steps}
 use Rattle.oss_field.proofs.DrawLemmas.{draws}

@@ -1,4 +1,4 @@
-use Rattle.std.proofs.Common.{refl, sym, subst, ap, ◌∙◌}
+use Rattle.std.proofs.Common.{refl, sym, subst}
 use Rattle.std.specs.Prelude.{Some}
 use Rattle.oss_words.specs.Bits.{info_at}
 use Rattle.oss_words.specs.Views.{Among}

@@ -1,4 +1,4 @@
-use Rattle.std.proofs.Common.{◌≡◌, ◌≤◌, drop, length}
+use Rattle.std.proofs.Common.{◌≤◌, drop}
 use Rattle.std.specs.Prelude.{vec_capacity}
 use Rattle.oss_field.specs.Messages.{Bounded, Learns, Ready}
 use Rattle.oss_field.specs.Standing.{On, Stays}

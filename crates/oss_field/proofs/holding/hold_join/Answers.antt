@@ -1,4 +1,4 @@
-use Rattle.std.proofs.Common.{sym, subst, ◌++◌, [], ◌∷◌, List, ◌∙◌}
+use Rattle.std.proofs.Common.{sym, subst, List, ◌∙◌}
 use Rattle.oss_words.specs.Bits.{info_at, state_at}
 use Rattle.oss_words.specs.Causes.{posted}
 use Rattle.oss_field.specs.declared.held.Held.{Held}

@@ -1,4 +1,4 @@
-use Rattle.std.proofs.Common.{refl, sym, subst, ◌+◌, ◌++◌, ◌∷◌, [], List, arith, drop, get_or}
+use Rattle.std.proofs.Common.{refl, sym, subst, ◌+◌, List, arith, drop, get_or}
 use Rattle.std.specs.Prelude.{IsOk}
 use Rattle.oss_words.proofs.CauseLemmas.{clash}
 use Rattle.oss_field.specs.declared.held.Held.{Held}

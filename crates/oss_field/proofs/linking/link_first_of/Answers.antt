@@ -1,4 +1,3 @@
-use Rattle.std.proofs.Common.{◌≡◌, sym, subst, ◌∙◌, ap}
 use Rattle.std.specs.Prelude.{Some}
 use Rattle.oss_field.proofs.FirstLinkLemmas.{info_written, linked_whole, may_begin}
 use Rattle.oss_field.proofs.linking.link_first_of.Goals as goal

@@ -1,4 +1,4 @@
-use Rattle.std.proofs.Common.{sym, subst, ℕ, arith, length}
+use Rattle.std.proofs.Common.{sym, subst, ℕ, arith}
 use Rattle.oss_field.specs.Layout.{count_word_of}
 use Rattle.oss_field.specs.Making.{HasBegun}
 use Rattle.oss_field.specs.Steps.{Steps}

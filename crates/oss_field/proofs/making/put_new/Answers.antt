@@ -4,7 +4,6 @@ use Rattle.atomic_table.specs.Table.{State, Me, Allows, rest}
 use Rattle.oss_jobs.specs.declared.job.Job.{Job}
 use Rattle.oss_jobs.specs.Jobs.{task_of}
 use Rattle.oss_field.specs.declared.view.SeatView.{SeatView}
-use Rattle.oss_field.specs.Known.{Known}
 use Rattle.oss_field.specs.Layout.{body_word_of}
 use Rattle.oss_field.specs.Making.{HoldsNew, MayPutAt, PutsNew}
 use Rattle.oss_field.specs.Table.{Slot, Stands}

@@ -1,4 +1,4 @@
-use Rattle.std.proofs.Common.{◌≡◌, sym, subst, ap, ◌∙◌, List}
+use Rattle.std.proofs.Common.{sym, subst, ap, ◌∙◌}
 use Rattle.atomic_table.specs.Seated.{TableId}
 use Rattle.oss_field.specs.Asks.{AreInside}
 use Rattle.oss_field.specs.Known.{Known}

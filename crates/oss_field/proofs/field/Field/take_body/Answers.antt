@@ -1,5 +1,4 @@
 use Rattle.std.proofs.Common.{sym, subst, ap, ◌∙◌}
-use Rattle.std.specs.Prelude.{box_value}
 use Rattle.atomic_table.specs.Seated.{TableId}
 use Rattle.oss_field.specs.Asks.{AreInside}
 use Rattle.oss_field.specs.Messages.{Settled}

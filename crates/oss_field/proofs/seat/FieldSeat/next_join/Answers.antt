@@ -1,4 +1,4 @@
-use Rattle.std.proofs.Common.{◌≡◌, sym, subst, ap, ℕ}
+use Rattle.std.proofs.Common.{subst, ap}
 use Rattle.std.specs.Prelude.{IfNone, IfSome}
 use Rattle.oss_field.specs.Known.{Known}
 use Rattle.oss_field.specs.Messages.{JoinFirst, NoJoinFirst}
