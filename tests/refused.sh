@@ -104,13 +104,9 @@ if is_asked soaks; then
   row soak 7 9
   row soak 7 9 --mode=serial
 fi
-# (these make threads, and take most of the time)
+# (these make threads, and take most of the time: task_fibonacci alone asks for 60,000 pieces)
 for name in $(programs); do
-  case $name in
-    # (60,000 calls that make threads are more than an hour allows)
-    task_fibonacci) ;;
-    *) is_asked "$name" && row run "$name.c" --workers=4 ;;
-  esac
+  is_asked "$name" && row run "$name.c" --workers=4
 done
 echo "$passed passed, $failed failed"
 [ "$failed" = 0 ]
