@@ -72,7 +72,7 @@ RiseTo n (k ∷ j ∷ more) = (k.number < j.number) × RiseTo n (j ∷ more)
 
 -- What is noted is right
 
--- The child is a holder of the cell, and its accesses are noted, and where its body begins.
+-- The child is a holder of the cell; its accesses are noted, and the place where its body begins.
 pub record IsHeldBy (P : Program CodeScript) (s : State CodeScript) (q : List ℕ) (c : ℕ) (touch : Touch) (k : Child) : Type 0 where
   pub context : Context
   pub holder : IsHolder P s q c touch k.number k.line context

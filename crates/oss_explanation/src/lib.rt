@@ -1,9 +1,9 @@
 //! What explains why a program comes to a fault: what an explanation holds, what it means that it is one of a program's
 //! sequential run, and its text, sentence by sentence.
 //!
-//! An explanation has no labels of tasks, but the instruction with which the body of each task begins that it tells the
-//! creation of; and of a shift and of a place outside of its global it has no numbers. Labels (`Labels` of `oss_labels`) and
-//! what failed (`Failure` of `oss_machine`) stand beside it, and its text takes them all.
+//! An explanation keeps no label of a task, but the instruction with which its body begins; and of a shift, or of a place
+//! outside of its global, it keeps no numbers. Its text is written with the labels (`Labels` of `oss_labels`) and what failed
+//! (`Failure` of `oss_machine`) beside it.
 #![tactic(auto)]
 
 mod chain;

@@ -53,8 +53,8 @@ impl Siblings {
     }
 
     /// Adds the child with this number, and answers the edges to it, their cells as pieces over the globals of the layout. Its
-    /// accesses are joined: each cell once, in rising order. It costs the pieces of these, and for each edge its cells. Want of
-    /// memory is the one error; after it the siblings are let go, as if there were no child. Condition: the accesses rise.
+    /// accesses are joined: each cell once, in rising order. Each range of them costs a search in what is kept, and so does each
+    /// range and each piece of an edge. Want of memory is the one error; after it no child is kept. Condition: the accesses rise.
     pub fn add(
         &mut self,
         layout: &Layout,
@@ -77,7 +77,7 @@ impl Siblings {
         }
     }
 
-    /// The same, where want of memory leaves the child at some of its cells.
+    /// The same, but after want of memory the child may be kept at some of its cells and not at others.
     fn enter_child(
         &mut self,
         layout: &Layout,
