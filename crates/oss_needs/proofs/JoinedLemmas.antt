@@ -6,11 +6,10 @@ use Rattle.oss_syntax.specs.declared.access.Mode.TheVariants.{Read, Write, Fold 
 use Rattle.oss_syntax.specs.declared.access.Op.{Op}
 use Rattle.oss_model.specs.Rights.{joined_mode, op_eq}
 use Rattle.oss_needs.specs.declared.clause.Clause.{Clause}
-use Rattle.oss_needs.specs.declared.clause.Given.TheVariants as given
 use Rattle.oss_needs.specs.declared.demand.Demand.{Demand}
 use Rattle.oss_needs.specs.declared.lack.Lack.{Lack}
 use Rattle.oss_needs.specs.declared.lack.Lack.TheVariants as lack
-use Rattle.oss_needs.specs.Lacks.{mode_eq, least, or_weak_read, any_refused, any_unmet, beside, added_mode, adds, lack_of, lack_of_clause, lack_of_fold, joined}
+use Rattle.oss_needs.specs.Lacks.{mode_eq, least, or_weak_read, any_refused, any_unmet, beside, added_mode, adds, lack_of_clause, lack_of_fold}
 use Rattle.oss_needs.specs.Claims.{AddedIsJoined}
 use Rattle.oss_needs.proofs.ModeLemmas.{mode_eq_self}
 

@@ -8,3 +8,4 @@ pub mod FewerLemmas
 pub mod NeedLemmas
 pub mod LackingLemmas
 pub mod JoinedLemmas
+pub mod GivenLemmas

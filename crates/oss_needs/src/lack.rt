@@ -3,7 +3,7 @@
 use crate::clause::Clause;
 
 /// What a task's clauses lack for what it asks of a cell.
-#[derive(Clone, Copy)]
+#[derive(Clone, Copy, PartialEq, Eq)]
 pub enum Lack {
     /// They will do.
     Nothing,

@@ -1,6 +1,8 @@
 //! What holds of each task and each cell: laws, each carried by a function that does nothing. A crate above calls the function, and then has the law.
 
-ghost use Rattle.oss_needs.specs.Claims.{AddedIsJoined, FewerAreNotMet, LacksAreTold, MendedIsMet};
+ghost use Rattle.std.specs.Prelude.{ℕ, Bool, List as Items};
+ghost use Rattle.oss_syntax.specs.declared.access.Access.{Access as Clauses};
+ghost use Rattle.oss_needs.specs.Claims.{AddedIsJoined, FewerAreNotMet, GivenIsRight, LacksAreFaults, LacksAreTold, MendedIsMet};
 
 /// Clauses that can be joined lack something exactly where the judge would find a fault of what the task asks of the cell.
 pub fn lacks_are_told()
@@ -21,4 +23,15 @@ pub fn added_is_joined()
 /// is it with one to read in place of one of another mode, if no clause beside it does more than read.
 pub fn fewer_are_not_met()
     ensures { FewerAreNotMet }
+{}
+
+/// Where clauses can be joined, what they say together gives the right and the mark that the judge gives to the new task.
+pub fn given_is_right()
+    ensures { (final : Bool) (clauses : Items Clauses) (c : ℕ) → GivenIsRight final clauses c }
+{}
+
+/// The clauses of a task lack nothing of a cell for which they can be joined exactly if the judge would find no fault of what the task asks of it,
+/// if nothing is lent and nothing was released.
+pub fn lacks_are_faults()
+    ensures { LacksAreFaults }
 {}

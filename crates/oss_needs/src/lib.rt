@@ -14,5 +14,8 @@ mod need;
 pub use clause::{Clause, Given};
 pub use demand::Demand;
 pub use lack::Lack;
-pub use laws::{added_is_joined, fewer_are_not_met, lacks_are_told, mended_is_met};
+pub use laws::{
+    added_is_joined, fewer_are_not_met, given_is_right, lacks_are_faults, lacks_are_told,
+    mended_is_met,
+};
 pub use need::Need;

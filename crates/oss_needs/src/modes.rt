@@ -1,7 +1,7 @@
 //! Modes of clauses, beside each other.
 
 ghost use Rattle.std.specs.Prelude.{◌≡◌, true};
-ghost use Rattle.oss_model.specs.Rights.{covers, op_eq};
+ghost use Rattle.oss_model.specs.Rights.{covers, joined_mode, op_eq};
 ghost use Rattle.oss_needs.specs.Demands.{is_write as is_to_write};
 ghost use Rattle.oss_needs.specs.Lacks.{mode_eq, mode_when, refuses};
 ghost use Rattle.oss_needs.specs.Needs.{is_there};
@@ -90,5 +90,34 @@ pub(crate) fn is_some(mode: Option<Mode>) -> bool
     match mode {
         Some(_) => true,
         None => false,
+    }
+}
+
+/// The mode of two clauses that name one cell; `None` if they cannot be joined.
+pub(crate) fn joined_mode_of(left: Mode, right: Mode) -> Option<Mode>
+    ensures { result ≡ joined_mode left right }
+{
+    match left {
+        Mode::Read => match right {
+            Mode::Read => Some(Mode::Read),
+            Mode::Write => Some(Mode::Write),
+            Mode::Fold(_) => None,
+        },
+        Mode::Write => match right {
+            Mode::Read => Some(Mode::Write),
+            Mode::Write => Some(Mode::Write),
+            Mode::Fold(_) => None,
+        },
+        Mode::Fold(op) => match right {
+            Mode::Fold(other) => {
+                if is_same_op(op, other) {
+                    Some(left)
+                } else {
+                    None
+                }
+            }
+            Mode::Read => None,
+            Mode::Write => None,
+        },
     }
 }
