@@ -1,0 +1,4 @@
+pub mod WithinLemmas
+pub mod SayLemmas
+pub mod AskLemmas
+pub mod MendLemmas
