@@ -30,6 +30,8 @@ mod sections_tests;
 #[cfg(test)]
 mod slots_tests;
 #[cfg(test)]
+mod task_needs_tests;
+#[cfg(test)]
 mod thread_groups_tests;
 #[cfg(test)]
 mod tree_tests;
