@@ -1,15 +1,12 @@
 -- What is kept of open tasks, act by act.
-use Rattle.std.proofs.Common.{◌≡◌, refl, sym, subst, ap, ◌∙◌, ℕ, List, [], ◌∷◌, ◌++◌, Option, Some, None, Result, Ok, Err, OnOk, IfOk}
+use Rattle.std.proofs.Common.{◌≡◌, refl, sym, subst, ap, ◌∙◌, List, [], ◌∷◌, ◌++◌, Option, Some, None, Result, Ok, Err, OnOk, IfOk}
 use Rattle.std.specs.Prelude.{reverse}
 use Rattle.std.proofs.lemmas.List.{reverse-append}
 use Rattle.oss_syntax.specs.declared.access.Access.{Access}
 use Rattle.oss_syntax.specs.declared.access.Range.{Range}
-use Rattle.oss_ranges.specs.declared.piece.Piece.{Piece}
 use Rattle.oss_ranges.specs.Cells.{value_at}
 use Rattle.oss_needs.specs.declared.clause.Clause.{Clause}
-use Rattle.oss_needs.specs.declared.demand.Demand.{Demand}
 use Rattle.oss_needs.specs.declared.demand.Demand.TheVariants.{Release, Wait}
-use Rattle.oss_needs.specs.declared.need.Need.{Need}
 use Rattle.oss_task_needs.specs.Asking.{AreKept, Asked, IsKept, asks, asks_for, creates}
 use Rattle.oss_task_needs.specs.Mends.{IsMending, kept_lack, only_before}
 use Rattle.oss_task_needs.specs.Saying.{given_at}
@@ -19,7 +16,7 @@ use Rattle.oss_task_needs.specs.declared.mending.Mending.{Mending}
 use Rattle.oss_open_needs.specs.declared.open_needs.OpenNeeds.{OpenNeeds}
 use Rattle.oss_open_needs.specs.declared.open_task.OpenTask.{OpenTask}
 use Rattle.oss_open_needs.specs.Opening.{Asks, AsksFor, IsMendingOf, IsOpen, Open, OpenWith, asking, mended_of, releases, waits}
-use Rattle.oss_open_needs.specs.Stacks.{AreOpen, AreTasks, Closes, IsClosedTo}
+use Rattle.oss_open_needs.specs.Stacks.{AreOpen, Closes, IsClosedTo}
 
 pub on_ok : {A E P Q : Type 0} (r : Result A E) → (P → Q) → OnOk r P → OnOk r Q
 on_ok (Ok v) f p = f p

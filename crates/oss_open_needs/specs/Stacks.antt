@@ -1,7 +1,7 @@
 -- The open tasks of a run: the one that acts, and its creators, the nearest first.
 -- Read against: main creates a task with `weakinout(x)`, which creates one with `in(x)`. That one acts, and two are above it: the first task, and main. It stores into x and ends: it lacks `out(x)`, and is mended with `inout(x)`. The first task acts then, and has asked of x the creation of a task
 -- with `inout(x)`, for which its own clause will do. When it ends, main acts, and has asked the creation of one with a weak `inout(x)`. Main's own end closes nothing.
-use Rattle.std.specs.Prelude.{◌≡◌, ℕ, List, [], ◌∷◌, Option, Some, None, reverse}
+use Rattle.std.specs.Prelude.{Bool, List, [], ◌∷◌, Option, Some, None, reverse}
 use Rattle.oss_needs.specs.declared.clause.Given.TheVariants as given
 use Rattle.oss_task_needs.specs.Asking.{Asked, asks_for, nothing_asked}
 use Rattle.oss_task_needs.specs.Mends.{IsMending}
@@ -10,7 +10,6 @@ use Rattle.oss_open_needs.specs.declared.open_needs.OpenNeeds.{OpenNeeds}
 use Rattle.oss_open_needs.specs.declared.open_task.OpenTask.{OpenTask}
 use Rattle.oss_open_needs.specs.Opening.{IsOpen, Open, asking, mended_of, opened}
 use Rattle.oss_syntax.specs.declared.access.Access.{Access}
-use Rattle.std.specs.Prelude.{Bool}
 
 -- These are kept of these tasks, one by one.
 abbrev pub AreOpen : List Open → List OpenTask → Type 0
