@@ -146,7 +146,7 @@ module _ (code : CodeParts) (fuel n id : ℕ) (v : SeatView) (job : Job) (cell :
         let y = s.still in
         let t = f.still id (sight_of v.known) seated y.it y.among in
         let one : t.it ≡ mine.it = one_role t.it mine.it (f.role e) (ap f.role (sym y.entry) ∙ t.is) mine.is in
-        ap (λ (z : ℕ). (k.states z).given) (sym y.entry) ∙ (t.given (λ op q strong. mine.plain op (ap (λ (z : Role). z.mode) (sym one) ∙ q) (ap (λ (z : Role). z.strong) (sym one) ∙ strong)) ∙ y.open_yet)
+        ap (λ (z : ℕ). (k.states z).given) (sym y.entry) ∙ (t.given (λ op q strong left. mine.plain op (ap (λ (z : Role). z.mode) (sym one) ∙ q) (ap (λ (z : Role). z.strong) (sym one) ∙ strong)) ∙ y.open_yet)
 
     inside : e < n
     inside = f.words.flow.words.inside e mine.hangs

@@ -113,7 +113,7 @@ entry_on h x None same = refl
 entry_on h x (Some c) same = subst (λ (z : Start CodeScript). entry_of (record h { body = record { start = z; found = x.found } }) (Some c) ≡ entry_of h (Some c)) (sym same) refl
 
 -- what is ready is what was sent, if nothing was held
-sent_ready : (held : List Held) (items : List Message) (k l : Known) → Ready held [] k → k.words.held ≡ [] → l.words.held ≡ items → ((t : Told) → Among t k.told → Among t l.told) → Ready held items l
+pub sent_ready : (held : List Held) (items : List Message) (k l : Known) → Ready held [] k → k.words.held ≡ [] → l.words.held ≡ items → ((t : Told) → Among t k.told → Among t l.told) → Ready held items l
 sent_ready held items k l ready none is told = record {
   same = λ h. let x = ready.same h in let y = ap (λ z. total h z) none in let z = ap (λ z. total h z) is in omega (arith, x, y, z);
   told = λ x m. told (record { entry = x.entry; info = info_at x.info }) (ready.told x m);

@@ -11,9 +11,12 @@ pub mod GivenLemmas
 pub mod HearLemmas
 pub mod HeardLemmas
 pub mod JoinLemmas
+pub mod LeaveLemmas
+pub mod LeftLemmas
 pub mod LooseLemmas
 pub mod LowerLemmas
 pub mod MakingLemmas
+pub mod MeetLemmas
 pub mod MessageLemmas
 pub mod OpenLemmas
 pub mod OwnLemmas
@@ -29,4 +32,5 @@ pub mod SlotLemmas
 pub mod StageLemmas
 pub mod StartLemmas
 pub mod TableLemmas
+pub mod ValueTable
 pub mod WordTable

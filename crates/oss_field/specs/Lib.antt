@@ -4,8 +4,10 @@ pub mod Giving
 pub mod Heard
 pub mod Known
 pub mod Layout
+pub mod Leaving
 pub mod Linking
 pub mod Making
+pub mod Meeting
 pub mod Messages
 pub mod Moves
 pub mod Owning

@@ -1,6 +1,6 @@
 -- What a seat knows once it has read the state word of an entry.
 -- Read against: a seat bears the job of the task 7 of two cells, whose entries are 7, 8 and 9. It reads 8: it has seen that state, all of whose flags stand from then on; and
--- it keeps that the value of 8 is left or not, and, but for a strong reduction, that 8 is given up or not, until it does so itself or puts the job. It reads 12, an
+-- it keeps that the value of 8 is left or not, and, but for a strong reduction that is left, that 8 is given up or not, until it does so itself or puts the job. It reads 12, an
 -- entry of another task: it has seen that state, and no more. Of main no entry is its own: entry 0 never hangs, and main has no accesses.
 use Rattle.std.specs.Prelude.{◌+◌, ◌==◌, ℕ, Bool, false, not, ◌&&◌, ◌||◌, if◌then◌else◌, List, [], ◌∷◌, None}
 use Rattle.oss_model.specs.Context.{right_of}

@@ -7,6 +7,7 @@ ghost use Rattle.oss_field.specs.Drawing.{IsAboveAll, drew, missed};
 ghost use Rattle.oss_field.specs.Giving.{Gave, StandsToGive};
 ghost use Rattle.oss_field.specs.Known.{Holding, first_known};
 ghost use Rattle.oss_field.specs.Layout.{words_in};
+ghost use Rattle.oss_field.specs.Leaving.{HasLeft, StandsToLeave};
 ghost use Rattle.oss_field.specs.Linking.{MayLinkFirst, linked_first};
 ghost use Rattle.oss_field.specs.Making.{HasBegun, IsOpened, IsPutFirst, MayBegin, MayOpen, MayPutFirst};
 ghost use Rattle.oss_field.specs.Messages.{Delivered, NoJoinFirst};
@@ -25,6 +26,7 @@ use crate::flags::read_flags;
 use crate::giving::give_entry;
 use crate::held::room;
 use crate::key::FieldKey;
+use crate::leaving::leave_value;
 use crate::linking::link_first_of;
 use crate::making::{fill_count, open_task, put_new};
 use crate::seat::FieldSeat;
@@ -198,7 +200,8 @@ impl Field {
 
     /// The state word of an entry, as it stands at this step. All its flags stand from then on. If the entry is one of
     /// the task of a job that the seat holds, the flag of a value that is left stays as it was found, and so does, but
-    /// for a strong reduction, that of an entry that is given up: until the seat sets it itself, or puts the job.
+    /// for a strong reduction that is left, that of an entry that is given up: until the seat sets it itself, or puts
+    /// the job.
     pub fn flags(&self, seat: &mut FieldSeat, entry: u32) -> u64
         requires field { seat.old.field ≡ self.now.table }
         requires inside { entry < self.now.entries }
@@ -360,6 +363,29 @@ impl Field {
             self.cells,
             job,
             cell,
+        );
+    }
+
+    /// Leaves the value of a strong reduction for its join, by a job that the seat holds: the value is what the slot of its
+    /// task for the cell is. The task has ended and its clause `wait` is met. The seat holds no message, and has read of
+    /// the entry that it is neither left nor given up. The first step reads what is told of the entry, the second writes
+    /// the value beside its state word, and the third sets the flag that says so. If the entry could be joined at that
+    /// step, the seat holds its join after it, and else nothing. What was loaded for a fold of the job is forgotten, and
+    /// so is what was read of whether the entry is left.
+    pub fn leave(&self, seat: &mut FieldSeat, job: &Job, cell: u32, value: u64)
+        requires field { seat.old.field ≡ self.now.table }
+        requires may { StandsToLeave self.now.code job.now seat.old.known cell value }
+        ensures same { (seat.new.field ≡ seat.old.field) × (seat.new.id ≡ seat.old.id) }
+        ensures left { HasLeft self.now.code job.now cell value seat.old.known seat.new.known }
+    {
+        leave_value(
+            &self.table.shared,
+            &mut seat.place,
+            &mut seat.held,
+            self.cells,
+            job,
+            cell,
+            value,
         );
     }
 }

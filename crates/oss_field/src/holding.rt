@@ -88,7 +88,7 @@ fn completes_join(old: u64, new: u64) -> bool
 }
 
 /// Holds the join of an entry, if a step has completed its cause. The seat was told of the entry.
-fn hold_join(held: &mut Vec<Held>, entry: u32, info: u64, old: u64, new: u64)
+pub(crate) fn hold_join(held: &mut Vec<Held>, entry: u32, info: u64, old: u64, new: u64)
     requires few { length held.old.items ≤ 390 }
     requires room { 1024 ≤ vec_capacity held.old }
     ensures ready { (k : Known) → Among (record { entry = entry; info = info_at info }) k.told →

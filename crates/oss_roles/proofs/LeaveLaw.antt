@@ -184,7 +184,10 @@ module _ {S J : Type 0} (P : Program S) (main : Start S) (first : List ℕ) (is_
         nothing : (z : ℕ) → Among z [] → ⊥
         nothing z h = elim h [ ]
 
-        -- the entry is that of a strong reduction, of whose give nothing is kept
+        left_here : (k.states e).left ≡ true
+        left_here = (cause P main first is_job n k sights f id v at e (f.joined id v at e among_here)).3
+
+        -- the entry is that of a strong reduction that is left, of whose give nothing is kept
         again : (o u : Sight S) → u.bears ≡ o.bears → {a : Fixed} → IsStill f.role k.states k.values o a → IsStill f.role states' k.values u a
         again o u bears {a} g =
             record {
@@ -197,7 +200,7 @@ module _ {S J : Type 0} (P : Program S) (main : Start S) (first : List ℕ) (is_
               left = each_of (λ (x c : EntryState). c.left ≡ x.left) (λ x. refl) word.left a.entry ∙ g.left;
               value = g.value;
               given = λ no. elim (same_number a.entry e) [
-                | inl q ↦ absurd (no_fold g.it (ap (λ (z : ℕ). f.role z) (sym q) ∙ g.is) no)
+                | inl q ↦ absurd (no_fold g.it (ap (λ (z : ℕ). f.role z) (sym q) ∙ g.is) (λ op mode strong. no op mode strong (sym g.left ∙ (ap (λ (z : ℕ). (k.states z).left) q ∙ left_here))))
                 | inr ne ↦ ap (λ (z : EntryState). z.given) (others a.entry ne) ∙ g.given no
               ];
             }

@@ -161,8 +161,8 @@ pub record IsPending {S : Type 0} (P : Program S) (cells : List ℕ) (v : Sight 
   pub act : act_now P bearing.body ≡ Folded cell op operand false
   pub value : slice_index cells cell ≡ x.value
 
--- What was read of an entry of a job that the seat holds is still so: whether its value is left, and but for a strong reduction whether it is
--- given up; and so is the value beside it.
+-- What was read of an entry of a job that the seat holds is still so: whether its value is left, and but for a strong reduction that is left
+-- whether it is given up; and so is the value beside it.
 pub record IsStill {S : Type 0} (role : ℕ → Option Role) (states : ℕ → EntryState) (values : ℕ → ℕ) (v : Sight S) (x : Fixed) : Type 0 where
   pub bearing : Bearing S
   pub place : ℕ
@@ -171,7 +171,7 @@ pub record IsStill {S : Type 0} (role : ℕ → Option Role) (states : ℕ → E
   pub is : role x.entry ≡ Some it
   pub path : it.path ≡ bearing.path
   pub left : (states x.entry).left ≡ x.state.left
-  pub given : ((op : Op) → it.mode ≡ Fold op → it.strong ≡ true → ⊥) → (states x.entry).given ≡ x.state.given
+  pub given : ((op : Op) → it.mode ≡ Fold op → it.strong ≡ true → x.state.left ≡ true → ⊥) → (states x.entry).given ≡ x.state.given
   pub value : (z : ℕ) → x.value ≡ Some z → values x.entry ≡ z
 
 -- The entry is that of a cell which its task has given up.

@@ -56,6 +56,6 @@ pub record Sight (S : Type 0) : Type 0 where
   -- tasks to whose counts a count down is owed
   pub owes : List ℕ
   -- words that it read, all of whose flags still stand; and of entries of the jobs that it holds, whose left, and but for reductions
-  -- whose given, are still as they were read
+  -- that are left whose given, are still as they were read
   pub seen : List Seen
   pub still : List Fixed

@@ -1,0 +1,25 @@
+use Rattle.std.proofs.Common.{sym, subst, ap, ◌∙◌, ℕ}
+use Rattle.atomic_table.specs.Seated.{TableId}
+use Rattle.oss_field.specs.Asks.{AreInside}
+use Rattle.oss_field.specs.Known.{Known}
+use Rattle.oss_field.specs.Messages.{Settled}
+use Rattle.oss_field.specs.Standing.{Fielded, Standing}
+use Rattle.oss_field.proofs.LeftLemmas.{left_inside, left_slots}
+use Rattle.oss_field.proofs.field.Field.leave.Goals as goal
+
+pub leave_value-requires-clause-settled : goal.leave_value-requires-clause-settled
+leave_value-requires-clause-settled c =
+    let q = ap (λ (z : Standing). z.field) c.seat.view_is ∙ (c.requires.field ∙ sym (ap (λ (z : Fielded). z.table) c.self.view_is)) in
+    subst (λ (n : ℕ). Settled c.seat.inside.held.items n c.seat.inside.place.me.0.known) (ap (λ (d : TableId). d.slots) q ∙ (c.self.invariant.3 ∙ sym c.self.invariant.0)) c.seat.invariant.2
+
+pub invariant_of-seat : goal.invariant_of-seat
+invariant_of-seat c =
+    let e = c.leave_value.ensures in
+    let code = c.self.inside.table.shared.key.code.value in
+    let q = ap (λ (z : Standing). z.field) c.seat.view_is ∙ (c.requires.field ∙ sym (ap (λ (z : Fielded). z.table) c.self.view_is)) in (
+      e.stays.slots ∙ (c.seat.invariant.0 ∙ sym (left_slots code c.args.job.now c.args.cell c.args.value c.seat.inside.place.me.0.known c.leave_value.new.place.me.0.known e.left)),
+      subst (λ (d : TableId). AreInside d c.leave_value.new.place.me.0.known.bears) (sym e.stays.table) (left_inside c.seat.inside.place.table_id code c.args.job.now c.args.cell c.args.value c.seat.inside.place.me.0.known c.leave_value.new.place.me.0.known c.seat.invariant.1 e.left),
+      subst (λ (n : ℕ). Settled c.leave_value.new.held.items n c.leave_value.new.place.me.0.known) (sym (ap (λ (d : TableId). d.slots) (e.stays.table ∙ q) ∙ (c.self.invariant.3 ∙ sym c.self.invariant.0))) e.settled,
+      e.room,
+      c.seat.invariant.4 ∙ sym (ap (λ (k : Known). k.last) e.left.known),
+    )

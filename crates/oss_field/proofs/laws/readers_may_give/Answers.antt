@@ -1,0 +1,5 @@
+use Rattle.oss_field.proofs.MeetLemmas as lemmas
+use Rattle.oss_field.proofs.laws.readers_may_give.Goals as goal
+
+pub returns : goal.returns
+returns c = lemmas.readers_may_give
