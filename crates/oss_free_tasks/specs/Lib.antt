@@ -1,0 +1,2 @@
+pub mod OpenTasks
+pub mod Claims
