@@ -1,3 +1,4 @@
 pub mod ShareLemmas
 pub mod OpenLemmas
 pub mod NestLemmas
+pub mod DeedLemmas

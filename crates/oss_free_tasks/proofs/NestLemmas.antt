@@ -1,12 +1,12 @@
 -- Open tasks stay nested: each act leaves each of them as deep as there are open tasks behind it.
-use Rattle.std.proofs.Common.{◌≡◌, ℕ, ◌+◌, ◌-◌, refl, sym, ap, ◌∙◌, List, [], ◌∷◌, length, arith, Bool, true, false}
+use Rattle.std.proofs.Common.{◌≡◌, ℕ, ◌+◌, ◌-◌, refl, sym, ap, ◌∙◌, List, [], ◌∷◌, arith, Bool, true, false}
 use Rattle.std.specs.Prelude.{if◌then◌else◌}
 use Rattle.oss_model.specs.Context.{Context, child_context, right_of}
 use Rattle.oss_model.specs.Rights.{Right}
 use Rattle.oss_model.specs.Bodies.{Act, Frame, Order, Program, Start, after_creation, child_frame, frame_after, including_frame, lent_when, one_more_created, settled_frame, start_frame}
 use Rattle.oss_model.specs.Bodies.Act.{Created, Ended}
 use Rattle.oss_model.proofs.BodyLemmas.{settle_same}
-use Rattle.oss_free_tasks.specs.OpenTasks.{AreNested, IsNested, behind, behind_act, behind_end, path_under}
+use Rattle.oss_free_tasks.specs.OpenTasks.{AreNested, IsNested, behind, behind_act, behind_end}
 
 module _ {S : Type 0} (P : Program S) (fuel : ℕ) where
   settled_nested : (f : Frame S) (older : List (Frame S)) → IsNested fuel f older → IsNested fuel (settled_frame P f) older
@@ -65,8 +65,7 @@ module _ {S : Type 0} (P : Program S) (fuel : ℕ) where
   first_nested (Created o false) v f rest h hs =
       let given = right_of (child_context f.context o.clauses o.last) in
       let g = settled_frame P (after_creation o f) in
-      let k = settle_same P (after_creation o f) in
-      (
+      let k = settle_same P (after_creation o f) in (
         settled_nested (child_frame f o) (g ∷ rest) (child_nested o f g rest h (ap (λ (x : Context). x.created) k.context ∙ lent_created o.when given (one_more_created f.context)) k.path),
         (settled_nested (after_creation o f) rest (creator_nested o f rest h), hs),
       )

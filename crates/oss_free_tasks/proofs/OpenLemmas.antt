@@ -1,9 +1,9 @@
 -- Each act of the sequential run is a turn of the open tasks.
-use Rattle.std.proofs.Common.{◌≡◌, ◌≢◌, ℕ, ◌+◌, ◌<◌, refl, sym, subst, ap, ◌∙◌, List, [], ◌∷◌, ◌++◌, Bool, true, false, Some}
+use Rattle.std.proofs.Common.{◌≡◌, ◌≢◌, ℕ, ◌+◌, refl, sym, subst, ap, ◌∙◌, List, [], ◌∷◌, ◌++◌, Bool, true, false, Some}
 use Rattle.std.specs.Prelude.{if◌then◌else◌}
 use Rattle.oss_model.specs.Order.{IsSuffix, whole, longer, here, there}
 use Rattle.oss_model.specs.Context.{right_of}
-use Rattle.oss_model.specs.Bodies.{Act, Body, Frame, IsHalt, Order, Program, Stack, Start, after_creation, base_after, child_frame, child_start, frame_act, frame_after, including_frame, inner_after, settled_frame, settled_parts, settled_stack, stack_act, stack_from, start_frame}
+use Rattle.oss_model.specs.Bodies.{Act, Body, Frame, IsHalt, Order, Program, Stack, Start, after_creation, base_after, child_frame, child_start, frame_act, frame_after, including_frame, inner_after, settled_frame, settled_parts, settled_stack, stack_from, start_frame}
 use Rattle.oss_model.specs.Bodies.Act.{Created, Ended, Over}
 use Rattle.oss_model.specs.Machine.{At, Task}
 use Rattle.oss_model.specs.Moves.{act_now, after_answer, created_now, found_by, is_ended, new_task, opening}
@@ -16,7 +16,7 @@ use Rattle.oss_model.proofs.TreeLemmas.{at_same, over_stops, path_found}
 use Rattle.oss_model.proofs.SequenceLemmas.{opening_main}
 use Rattle.oss_model.proofs.RunLemmas.{AboveSame, above_next, next, no_creation_path}
 use Rattle.oss_model.proofs.TerminationTheorem.{Kind, act_at, active_down, active_stay, active_up, creates, halts, kind, last_act, next_at, plain, start_at}
-use Rattle.oss_free_tasks.specs.OpenTasks.{AreWaiting, Begins, Ends, Goes, IsCreator, Leads, Stands, answered, behind, behind_act, behind_end, whole_task}
+use Rattle.oss_free_tasks.specs.OpenTasks.{AreWaiting, Begins, Ends, Goes, IsCreator, Leads, Stands, answered, behind, whole_task}
 use Rattle.oss_free_tasks.specs.Claims.{OpenTasksGoOn}
 use Rattle.oss_free_tasks.proofs.ShareLemmas.{down_less, end_less, on_less, open_share}
 
@@ -225,7 +225,7 @@ module _ {S : Type 0} (P : Program S) (main : Start S) (first : List ℕ) where
           let v = found_by (act_now P b) cells in
           led (base ∷ older) a e
           (led_on (settled_frame P (frame_after a v base)) older (base ∷ older) a (behind_plain a v base older ne nc)
-              (stays z b older before cells w had (settled_frame P (frame_after a v base)) [] (settled_frame P (frame_after a v base) ∷ older) (λ o h. nc o false (sym e ∙ h)) (after a e ∙ ap (λ (x : Stack S). settled_stack P x) (eb v base)) refl))
+          (stays z b older before cells w had (settled_frame P (frame_after a v base)) [] (settled_frame P (frame_after a v base) ∷ older) (λ o h. nc o false (sym e ∙ h)) (after a e ∙ ap (λ (x : Stack S). settled_stack P x) (eb v base)) refl))
 
     -- an included task acts
     module _ (w : Went z b older cells) (f : Frame S) (fs : List (Frame S)) (s : stack_from P b.start b.found ≡ record { base = base; inner = f ∷ fs; ended = false }) where
@@ -242,14 +242,14 @@ module _ {S : Type 0} (P : Program S) (main : Start S) (first : List ℕ) where
       inner_ends [] r e =
           subst (λ (ts : List (Frame S)). Led (f ∷ (ts ++ (base ∷ older))) Ended) (sym r)
           (led_on (settled_frame P base) older (f ∷ base ∷ older) Ended (ap (λ (x : Frame S). x ∷ older) (chosen base.context.final (settled_frame P base) base (sound.inner f here).owner))
-              (stays z b older before cells w had (settled_frame P base) [] (settled_frame P base ∷ older) (λ o h. let x : Ended ≡ Created o false = sym e ∙ h in cc)
-                  (behind_inner Ended e ∙ ap (λ (ts : List (Frame S)). settled_parts P base ts false) r) refl))
+          (stays z b older before cells w had (settled_frame P base) [] (settled_frame P base ∷ older) (λ o h. let x : Ended ≡ Created o false = sym e ∙ h in cc)
+          (behind_inner Ended e ∙ ap (λ (ts : List (Frame S)). settled_parts P base ts false) r) refl))
       inner_ends (g ∷ gs) r e =
           subst (λ (ts : List (Frame S)). Led (f ∷ (ts ++ (base ∷ older))) Ended) (sym r)
           (led_on (settled_frame P g) (gs ++ (base ∷ older)) (f ∷ g ∷ (gs ++ (base ∷ older))) Ended
-              (ap (λ (x : Frame S). x ∷ (gs ++ (base ∷ older))) (chosen g.context.final (settled_frame P g) g ((sound.inner g (subst (λ (ts : List (Frame S)). Rattle.oss_model.specs.Order.IsIn g (f ∷ ts)) (sym r) (there here))).final)))
-              (stays z b older before cells w had base (settled_frame P g ∷ gs) (settled_frame P g ∷ (gs ++ (base ∷ older))) (λ o h. let x : Ended ≡ Created o false = sym e ∙ h in cc)
-                  (behind_inner Ended e ∙ ap (λ (ts : List (Frame S)). settled_parts P base ts false) r) refl))
+          (ap (λ (x : Frame S). x ∷ (gs ++ (base ∷ older))) (chosen g.context.final (settled_frame P g) g ((sound.inner g (subst (λ (ts : List (Frame S)). Rattle.oss_model.specs.Order.IsIn g (f ∷ ts)) (sym r) (there here))).final)))
+          (stays z b older before cells w had base (settled_frame P g ∷ gs) (settled_frame P g ∷ (gs ++ (base ∷ older))) (λ o h. let x : Ended ≡ Created o false = sym e ∙ h in cc)
+          (behind_inner Ended e ∙ ap (λ (ts : List (Frame S)). settled_parts P base ts false) r) refl))
 
       at_inner : (a : Act S) → act_now P b ≡ a → Kind a → Led (f ∷ (fs ++ (base ∷ older))) (act_now P b)
       at_inner a e (halts h) = absurd (w.alive (subst IsHalt (sym e) h))
@@ -265,7 +265,7 @@ module _ {S : Type 0} (P : Program S) (main : Start S) (first : List ℕ) where
           let v = found_by (act_now P b) cells in
           led (f ∷ (fs ++ (base ∷ older))) a e
           (led_on (settled_frame P (frame_after a v f)) (fs ++ (base ∷ older)) (f ∷ (fs ++ (base ∷ older))) a (behind_plain a v f (fs ++ (base ∷ older)) ne nc)
-              (stays z b older before cells w had base (settled_frame P (frame_after a v f) ∷ fs) (settled_frame P (frame_after a v f) ∷ (fs ++ (base ∷ older))) (λ o h. nc o false (sym e ∙ h)) (behind_inner a e ∙ ap (λ (x : Stack S). settled_stack P x) (ei v base f fs)) refl))
+          (stays z b older before cells w had base (settled_frame P (frame_after a v f) ∷ fs) (settled_frame P (frame_after a v f) ∷ (fs ++ (base ∷ older))) (λ o h. nc o false (sym e ∙ h)) (behind_inner a e ∙ ap (λ (x : Stack S). settled_stack P x) (ei v base f fs)) refl))
 
     by_inner : Went z b older cells → (inner : List (Frame S)) → stack_from P b.start b.found ≡ record { base = base; inner = inner; ended = false } → Led (inner ++ (base ∷ older)) (act_now P b)
     by_inner w [] s = at_base w s (act_now P b) refl (kind (act_now P b))

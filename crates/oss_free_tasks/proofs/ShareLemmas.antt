@@ -1,5 +1,5 @@
 -- What is left of open tasks together falls with each act of the first of them.
-use Rattle.std.proofs.Common.{◌≡◌, ◌≢◌, ℕ, ◌+◌, ◌<◌, refl, sym, ap, ◌∙◌, List, [], ◌∷◌, ◌++◌, arith, false}
+use Rattle.std.proofs.Common.{◌≡◌, ◌≢◌, ℕ, ◌+◌, ◌<◌, ap, List, [], ◌∷◌, ◌++◌, arith, false}
 use Rattle.oss_model.specs.Bodies.{Body, Frame, IsHalt, Order, Program, Stack, stack_from}
 use Rattle.oss_model.specs.Bodies.Act.{Created}
 use Rattle.oss_model.specs.Moves.{act_now, new_task}

@@ -3,7 +3,7 @@
 -- Read against: a main that creates a final task, which creates a task in its turn. While that one acts three tasks are open, though there are two bodies. At its
 -- end the final task goes on, which first passes what it asks without an act; at the end of that one main does, which has passed it at the creation.
 use Rattle.std.specs.Prelude.{◌≡◌, ◌<◌, ℕ, ◌-◌, false, true, if◌then◌else◌, List, [], ◌∷◌, ◌++◌, length}
-use Rattle.oss_model.specs.Bodies.{Act, Body, Frame, Order, Program, Start, after_creation, child_frame, frame_after, including_frame, settled_frame, stack_from}
+use Rattle.oss_model.specs.Bodies.{Act, Body, Frame, Program, Start, after_creation, child_frame, frame_after, including_frame, settled_frame, stack_from}
 use Rattle.oss_model.specs.Bodies.Act.{Created, Ended, Over}
 use Rattle.oss_model.specs.Machine.{At, State, Task}
 use Rattle.oss_model.specs.Moves.{act_now, opening}

@@ -43,7 +43,7 @@ step_starts P n s p t v h at_ all q u (new o e) = new_starts P n t o h (all p t 
 step_starts P n s p t v h at_ all q u (old ne k) = all q u k
 
 -- each task of each stage of the run
-run_starts : {S : Type 0} (P : Program S) (order : Order S) (cells : List ℕ) (fuel : ℕ) (z : Running S) → length cells ≤ 1048576 → Sequential (freed (length cells) P) (main_start order (length cells) fuel) cells z → (q : List ℕ) (u : Task S) → At z.state q u → IsWhole (length cells) u.body.start.context
+pub run_starts : {S : Type 0} (P : Program S) (order : Order S) (cells : List ℕ) (fuel : ℕ) (z : Running S) → length cells ≤ 1048576 → Sequential (freed (length cells) P) (main_start order (length cells) fuel) cells z → (q : List ℕ) (u : Task S) → At z.state q u → IsWhole (length cells) u.body.start.context
 run_starts P order cells fuel z h opens q u k =
     let e = (opening_at (main_start order (length cells) fuel) cells q u refl k).1 in
     subst (λ (x : Task _). IsWhole (length cells) x.body.start.context) (sym e) (main_whole (length cells) fuel)
