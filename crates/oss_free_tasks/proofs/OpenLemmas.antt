@@ -180,7 +180,7 @@ module _ {S : Type 0} (P : Program S) (main : Start S) (first : List ℕ) where
         less = λ lively. down_less lively b (found_by (act_now P b) cells) o (settled_frame P (child_frame base o)) (settled_frame P (after_creation o base)) older before a (had lively) ns k;
       }
 
-  behind_plain : (a : Act S) (v : ℕ) (f : Frame S) (rest : List (Frame S)) → a ≢ Ended → ((o : Order S) (i : Bool) → a ≢ Created o i) → behind P a v (f ∷ rest) ≡ settled_frame P (frame_after a v f) ∷ rest
+  pub behind_plain : (a : Act S) (v : ℕ) (f : Frame S) (rest : List (Frame S)) → a ≢ Ended → ((o : Order S) (i : Bool) → a ≢ Created o i) → behind P a v (f ∷ rest) ≡ settled_frame P (frame_after a v f) ∷ rest
   behind_plain Ended v f rest e c = absurd (e refl)
   behind_plain (Created o i) v f rest e c = absurd (c o i refl)
   behind_plain _ v f rest e c = refl

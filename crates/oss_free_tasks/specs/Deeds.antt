@@ -42,6 +42,11 @@ abbrev pub free_deed : {S : Type 0} → ℕ → ℕ → ℕ → ℕ → ℕ → 
 free_deed n fuel depth ticks created true cells q line = deeds.Awaits
 free_deed n fuel depth ticks created false cells q line = asked_deed n fuel depth ticks created cells q line
 
+-- the ask is for a creation
+abbrev pub creates : {S : Type 0} → Ask S → Bool
+creates (Ask.Create o) = true
+creates _ = false
+
 -- The memory behind what a task asks for and goes on from.
 abbrev pub cells_behind : {S : Type 0} → Ask S → List ℕ → List ℕ
 cells_behind (Ask.Write c v) cells = slice_set cells c (word_of v)
