@@ -79,7 +79,7 @@ freed_runs_need_no_clauses S P order cells fuel kind line output h t l (fails {z
     no_own (length cells) kind (ask_of P f).ask (t f.script f.answers) (l f.script f.answers) a
     (freed_faults_are_its_own S P order cells fuel z z.active stop.task kind line key h run stop.at_ e a)
 
-busy_still : {S : Type 0} (n : ℕ) (q : Ask S) → IsBusy (freed_ask n q) → IsBusy q
+pub busy_still : {S : Type 0} (n : ℕ) (q : Ask S) → IsBusy (freed_ask n q) → IsBusy q
 busy_still n Ask.Begin h = tt
 busy_still n Ask.Tick h = h
 busy_still n (Ask.Read c) h = tt
@@ -94,7 +94,7 @@ busy_still n (Ask.Print text) h = tt
 busy_still n Ask.End h = h
 busy_still n (Ask.Fails kind) h = h
 
-pub freed_is_lively : (S : Type 0) → FreedIsLively S
+unfoldable pub freed_is_lively : (S : Type 0) → FreedIsLively S
 freed_is_lively S P n live = record {
   bound = live.bound;
   rank = live.rank;
