@@ -1,0 +1,2 @@
+pub mod FreeTasks
+pub mod Stages
