@@ -1,5 +1,5 @@
 -- What is left to do at a stage is what is left of its open tasks.
-use Rattle.std.proofs.Common.{◌≡◌, ℕ, ◌+◌, refl, sym, subst, ap, ◌∙◌, List, [], ◌∷◌, length, arith}
+use Rattle.std.proofs.Common.{◌≡◌, ℕ, refl, sym, ap, ◌∙◌, List, [], ◌∷◌, length, arith}
 use Rattle.std.specs.Prelude.{map, reverse, suc}
 use Rattle.oss_model.specs.Bodies.{Frame}
 use Rattle.oss_model.specs.Potential.{share, share_of, shares, left_of}

@@ -1,5 +1,5 @@
 -- What is kept of an open task goes on as the task does.
-use Rattle.std.proofs.Common.{◌≡◌, ℕ, ◌+◌, refl, sym, subst, ap, ◌∙◌, ◌∷◌, Bool, true, false, Option, Some, None}
+use Rattle.std.proofs.Common.{◌≡◌, ℕ, refl, sym, subst, ap, ◌∙◌, Bool, true, false, Option, Some, None}
 use Rattle.std.specs.Prelude.{◌||◌, if◌then◌else◌, length, nat_le, not, Result, Ok, Err, IfOk}
 use Rattle.oss_syntax.specs.declared.fault.FaultKind.{FaultKind}
 use Rattle.oss_syntax.specs.declared.fault.FaultKind.TheVariants as fault
@@ -11,7 +11,7 @@ use Rattle.oss_machine.specs.Asks.{meant_ask, meant_order, script_of}
 use Rattle.oss_machine.specs.declared.ask.Ask.{Ask as CodeAsk}
 use Rattle.oss_machine.specs.declared.ask.Ask.TheVariants as asked
 use Rattle.oss_machine.specs.Frames.{CodeScript}
-use Rattle.oss_machine.specs.Machines.{asks, machine_after, machine_at, poised}
+use Rattle.oss_machine.specs.Machines.{asks, machine_at, poised}
 use Rattle.oss_free_tasks.specs.Deeds.{IsAnswered}
 use Rattle.oss_free_tasks.proofs.FreeTurns.{settled_freed}
 use Rattle.oss_free_run.specs.declared.task.FreeTask.{FreeTask}

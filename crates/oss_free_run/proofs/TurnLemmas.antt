@@ -1,11 +1,10 @@
 -- Each turn of the kept stage is one of the free run.
-use Rattle.std.proofs.Common.{◌≡◌, ℕ, ◌+◌, ◌<◌, ◌≤◌, refl, sym, subst, ap, ◌∙◌, List, [], ◌∷◌, ◌++◌, length, arith, Bool, true, false}
+use Rattle.std.proofs.Common.{◌≡◌, ℕ, ◌+◌, ◌-◌, ◌≤◌, refl, sym, subst, ap, ◌∙◌, List, [], ◌∷◌, ◌++◌, length, arith, Bool, true, false}
 use Rattle.std.specs.Prelude.{◌||◌, if◌then◌else◌, map, reverse}
 use Rattle.std.proofs.lemmas.List.{length-reverse, reverse-append}
 use Rattle.oss_syntax.specs.declared.fault.FaultKind.{FaultKind}
 use Rattle.oss_model.specs.Bodies.{Act, Ask, Frame, IsHalt, Order, after_creation, ask_of, child_frame, frame_after, including_frame, settled_frame, start_frame}
 use Rattle.oss_model.specs.Bodies.Act.{Awaited, Created, Ended, Fault, Ticked}
-use Rattle.oss_model.specs.Context.{Context}
 use Rattle.oss_model.specs.Moves.{act_now, found_by}
 use Rattle.oss_model.proofs.TerminationTheorem.{after_depth}
 use Rattle.oss_code.specs.declared.code.CodeParts.{CodeParts}
@@ -15,7 +14,7 @@ use Rattle.oss_freed.specs.Freed.{freed_order}
 use Rattle.oss_free_tasks.specs.declared.deed.Deed.{Deed}
 use Rattle.oss_free_tasks.specs.declared.deed.Deed.TheVariants as deeds
 use Rattle.oss_free_tasks.specs.Deeds.{IsDeed, IsFinding, cells_behind, free_deed}
-use Rattle.oss_free_tasks.specs.OpenTasks.{AreNested, Begins, Ends, Goes, Leads, behind, behind_end, whole_task}
+use Rattle.oss_free_tasks.specs.OpenTasks.{AreNested, Begins, Ends, Goes, Leads, behind, behind_end, path_under, whole_task}
 use Rattle.oss_free_tasks.proofs.DeedLemmas.{free_deeds_are_acts}
 use Rattle.oss_free_tasks.proofs.FreeTurns.{led_await, led_created, led_end, led_found, led_included, led_tick}
 use Rattle.oss_free_tasks.proofs.NestLemmas.{behind_nested, start_nested}
@@ -25,15 +24,36 @@ use Rattle.oss_free_run.specs.declared.run.FreeRun.{FreeRun}
 use Rattle.oss_free_run.specs.declared.run.Turned.{Turned}
 use Rattle.oss_free_run.specs.declared.run.Turned.TheVariants as turned
 use Rattle.oss_free_run.specs.declared.task.FreeTask.{FreeTask}
-use Rattle.oss_free_run.specs.FreeTasks.{created_task, first_task, free_main, free_program, main_order, more_created, new_task, resumed_task, seen, settled_task, went_on}
-use Rattle.oss_free_run.specs.Stages.{IsBack, IsBeside, IsDown, IsFailed, IsFirstStage, IsNext, IsStage, IsTurned, IsUp}
+use Rattle.oss_free_run.specs.FreeTasks.{created_task, first_task, free_main, free_program, main_order, more_created, new_task, newest, resumed_task, seen, settled_task, went_on}
+use Rattle.oss_free_run.specs.Stages.{IsBack, IsDown, IsFailed, IsFirstStage, IsNext, IsStage, IsTurned, IsUp}
 use Rattle.oss_free_run.proofs.LeftLemmas.{free_lively, left_is, same_length}
 use Rattle.oss_free_run.proofs.SeenLemmas.{answered_is, settled_is}
 
 reversed : (rest : List FreeTask) (k : FreeTask) → reverse (rest ++ k ∷ []) ≡ k ∷ reverse rest
 reversed rest k = reverse-append rest (k ∷ [])
 
+-- numbers in the other order
+append_one : (ks : List FreeTask) (k : FreeTask) → map newest (ks ++ k ∷ []) ≡ map newest ks ++ newest k ∷ []
+append_one [] k = refl
+append_one (x ∷ ks) k = ap (λ (ns : List ℕ). newest x ∷ ns) (append_one ks k)
+
+reversed_numbers : (ks : List FreeTask) → reverse (map newest ks) ≡ map newest (reverse ks)
+reversed_numbers [] = refl
+reversed_numbers (k ∷ ks) =
+    reverse-append (newest k ∷ []) (map newest ks) ∙ ap (λ (ns : List ℕ). ns ++ newest k ∷ []) (reversed_numbers ks)
+    ∙ sym (ap (λ (ts : List FreeTask). map newest ts) (reverse-append (k ∷ []) ks) ∙ append_one (reverse ks) k)
+
 module _ (code : CodeParts) (fuel : ℕ) where
+  -- the path of the task that acts, by the numbers of the tasks that each of the others created last
+  under_is : (older : List (Frame CodeScript)) → AreNested fuel older → path_under older ≡ map newest (map (seen code) older)
+  under_is [] h = refl
+  under_is (g ∷ rest) h = ap (λ (q : List ℕ). (g.context.created - 1) ∷ q) (h.0.path ∙ under_is rest h.1)
+
+  pub path_is : (r : FreeRun) (s : IsStage code fuel r) (xs : List ℕ) → xs ≡ map newest r.above → reverse xs ≡ s.task.path
+  path_is r s xs e =
+      ap (λ (ns : List ℕ). reverse ns) e ∙ reversed_numbers r.above ∙ ap (λ (ks : List FreeTask). map newest ks) s.above
+      ∙ sym (s.nested.0.path ∙ under_is s.older s.nested.1)
+
   -- the run at its beginning
   pub begun : (r : FreeRun) → length code.first ≤ 1048576 → r.fuel ≡ fuel → r.current ≡ first_task code → r.above ≡ [] → r.cells.items ≡ code.first → IsFirstStage code fuel r
   begun r few f c a m =

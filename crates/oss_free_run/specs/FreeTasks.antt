@@ -1,7 +1,7 @@
 -- How an open task of the free run is kept: of its answers the machine alone, and of its context the counts. All tasks have the same rights, so none is kept.
 -- Read against: of a task with 2 ticks done that has created one task, the machine behind its answers, 2 and 1. Behind a creation it has 2 and 2, and awaits the new task; if it is
 -- final it awaits none.
-use Rattle.std.specs.Prelude.{ℕ, ◌+◌, Bool, true, false, not, ◌||◌, if◌then◌else◌, nat_le, [], pos, length}
+use Rattle.std.specs.Prelude.{ℕ, ◌+◌, ◌-◌, Bool, true, false, not, ◌||◌, if◌then◌else◌, nat_le, [], pos, length}
 use Rattle.oss_model.specs.Agreement.{main_start}
 use Rattle.oss_model.specs.Bodies.{Ask, Frame, Order, Program, Start}
 use Rattle.oss_code.specs.declared.code.CodeParts.{CodeParts}
@@ -68,3 +68,7 @@ resumed_task code depth k = if k.last then settled_task code depth k else k
 -- main before its first act
 abbrev pub first_task : CodeParts → FreeTask
 first_task code = settled_task code 0 (new_task code false main_order.script)
+
+-- the number of the task that this one created last
+abbrev pub newest : FreeTask → ℕ
+newest k = k.created - 1

@@ -3,8 +3,10 @@
 #![tactic(auto)]
 
 mod counts;
+mod laws;
 mod memory;
 mod run;
 mod task;
 
+pub use laws::{codes_leave_clauses, free_runs_need_no_clauses};
 pub use run::{FreeRun, Turned};

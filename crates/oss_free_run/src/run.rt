@@ -1,6 +1,6 @@
 //! The free run, act by act.
 
-ghost use Rattle.std.specs.Prelude.{◌≡◌, ◌<◌, ◌≤◌, ℕ, length, true, IfOk, OnOk};
+ghost use Rattle.std.specs.Prelude.{◌≡◌, ◌<◌, ◌≤◌, ℕ, length, reverse, true, IfOk, OnOk};
 ghost use Rattle.oss_code.specs.declared.code.CodeParts.{CodeParts};
 ghost use Rattle.oss_free_tasks.specs.Deeds.{IsDeed, creates};
 ghost use Rattle.oss_free_tasks.specs.declared.deed.Deed.TheVariants as deeds;
@@ -11,7 +11,7 @@ ghost use Rattle.oss_model.specs.Moves.{act_now};
 ghost use Rattle.oss_free_run.specs.FreeTasks.{first_task, free_program, main_order as order_of_main};
 
 use crate::memory::happen;
-use crate::task::FreeTask;
+use crate::task::{FreeTask, newest_of};
 use oss_code::{Code, TaskOrder};
 use oss_free_tasks::Deed;
 use oss_machine::Ask;
@@ -142,6 +142,29 @@ impl FreeRun {
         ensures { (code : CodeParts) (fuel : ℕ) (s : IsStage code fuel self.now) → result ≡ length s.older }
     {
         self.above.len()
+    }
+
+    /// The numbers on the way from main down to the task that acts: each tells how many tasks the creator had created
+    /// before it. Of main there is none. Want of memory is the one error.
+    pub fn path(&self) -> Result<Vec<u32>, AllocError>
+        ensures { IfOk result (λ path. (code : CodeParts) (fuel : ℕ) (s : IsStage code fuel self.now) →
+            reverse path.items ≡ s.task.path) }
+    {
+        newest_of(self.alloc, self.above.as_slice())
+    }
+
+    /// How many tasks the task that acts has created.
+    pub fn created(&self) -> u32
+        ensures { (code : CodeParts) (fuel : ℕ) (s : IsStage code fuel self.now) → result ≡ s.task.context.created }
+    {
+        self.current.created
+    }
+
+    /// Whether the task that acts is final. A final task includes the tasks that it creates.
+    pub fn is_final(&self) -> bool
+        ensures { (code : CodeParts) (fuel : ℕ) (s : IsStage code fuel self.now) → result ≡ s.task.context.final }
+    {
+        self.current.last
     }
 
     /// One act of the task that acts. An end goes up to the creator, and a creation down to the new task. The code is that

@@ -1,13 +1,13 @@
 //! An open task of the free run.
 
-ghost use Rattle.std.specs.Prelude.{◌≡◌, ◌<◌, ◌+◌, ◌||◌, true, false, IfOk, OnOk};
+ghost use Rattle.std.specs.Prelude.{◌≡◌, ◌<◌, ◌+◌, ◌||◌, true, false, map, IfOk, OnOk};
 ghost use Rattle.oss_machine.specs.Asks.{meant_ask, script_of};
 ghost use Rattle.oss_machine.specs.Frames.{CodeScript};
 ghost use Rattle.oss_machine.specs.Machines.{machine_start, poised};
 ghost use Rattle.oss_model.specs.Bodies.{Create, Order};
 ghost use Rattle.oss_free_tasks.specs.Deeds.{creates, free_deed};
 ghost use Rattle.oss_free_tasks.specs.declared.deed.Deed.TheVariants as deeds;
-ghost use Rattle.oss_free_run.specs.FreeTasks.{is_silent};
+ghost use Rattle.oss_free_run.specs.FreeTasks.{is_silent, newest};
 
 use crate::counts::{Counts, deed_of};
 use oss_code::{Code, TaskOrder};
@@ -43,7 +43,7 @@ impl Drop for FreeTask {
 }
 
 impl FreeTask {
-    ghost use Rattle.oss_free_run.specs.FreeTasks.{created_task, is_silent, may_create, new_task, past_task, resumed_task, settled_task, went_on};
+    ghost use Rattle.oss_free_run.specs.FreeTasks.{created_task, is_silent, may_create, new_task, newest, past_task, resumed_task, settled_task, went_on};
 
     /// A task that has done nothing, final or not.
     pub(crate) fn new(
@@ -98,6 +98,13 @@ impl FreeTask {
             created: self.created,
         };
         deed_of(counts, cells, self.machine.ask(), self.machine.line())
+    }
+
+    /// The number of the task that it created last, counted from 0; 0 if there is none.
+    fn newest(&self) -> u32
+        ensures { result ≡ newest self.now }
+    {
+        self.created.saturating_sub(1)
     }
 
     /// Whether it may create one more task, as far as the limits go.
@@ -210,6 +217,17 @@ impl FreeTask {
             _ => unreachable!(),
         }
     }
+}
+
+/// The numbers of the tasks that these created last: each is how many its creator had created before it.
+pub(crate) fn newest_of(alloc: Global, tasks: &[FreeTask]) -> Result<Vec<u32>, AllocError>
+    ensures { IfOk result (λ found. found.items ≡ map newest tasks.now) }
+{
+    let mut found = Vec::new(alloc);
+    for task in tasks {
+        found.push(task.newest())?;
+    }
+    Ok(found)
 }
 
 /// Whether one of the two holds.
