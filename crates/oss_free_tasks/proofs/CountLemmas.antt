@@ -1,5 +1,5 @@
 -- What a deed tells of the counts of its task.
-use Rattle.std.proofs.Common.{◌≡◌, ℕ, ◌<◌, ◌≤◌, refl, List, arith, Bool, true, false}
+use Rattle.std.proofs.Common.{◌≡◌, ℕ, ◌<◌, refl, List, arith, Bool, true, false}
 use Rattle.std.specs.Prelude.{if◌then◌else◌, nat_le, nat_lt, slice_index}
 use Rattle.std.proofs.lemmas.Bool.Decides.{nat_tests}
 use Rattle.oss_syntax.specs.declared.fault.FaultKind.{FaultKind}
@@ -7,7 +7,7 @@ use Rattle.oss_syntax.specs.declared.fault.FaultKind.TheVariants as fault
 use Rattle.oss_model.specs.Bodies.{Ask}
 use Rattle.oss_free_tasks.specs.declared.deed.Deed.{Deed}
 use Rattle.oss_free_tasks.specs.declared.deed.Deed.TheVariants as deeds
-use Rattle.oss_free_tasks.specs.Deeds.{asked_deed, creates, free_deed}
+use Rattle.oss_free_tasks.specs.Deeds.{creates, free_deed}
 
 -- the deed is neither a tick nor a creation
 abbrev IsOther : Deed → Type 0

@@ -1,8 +1,7 @@
 -- What each deed of the first open task leads to.
-use Rattle.std.proofs.Common.{◌≡◌, ℕ, refl, sym, subst, ap, ◌∙◌, List, [], ◌∷◌, Bool, true, false, Option, Some, None}
-use Rattle.std.specs.Prelude.{if◌then◌else◌}
+use Rattle.std.proofs.Common.{◌≡◌, ℕ, refl, sym, subst, ap, ◌∙◌, List, ◌∷◌, true, false}
 use Rattle.oss_model.specs.Bodies.{Act, Ask, Frame, IsHalt, Order, Program, Start, after_creation, ask_of, child_frame, frame_after, including_frame, past_ask, past_silent, settled_frame}
-use Rattle.oss_model.specs.Bodies.Act.{Awaited, Created, Ended, Fault, Ticked}
+use Rattle.oss_model.specs.Bodies.Act.{Awaited, Created, Ended, Ticked}
 use Rattle.oss_model.specs.Moves.{act_now, found_by}
 use Rattle.oss_model.specs.Sequence.{IsAtEnd, direct_cells}
 use Rattle.oss_model.proofs.TerminationTheorem.{not_halting}
