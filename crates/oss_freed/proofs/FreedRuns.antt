@@ -43,7 +43,7 @@ step_starts P n s p t v h at_ all q u (new o e) = new_starts P n t o h (all p t 
 step_starts P n s p t v h at_ all q u (old ne k) = all q u k
 
 -- each task of each stage of the run
-run_starts : {S : Type 0} (P : Program S) (order : Order S) (cells : List ℕ) (fuel : ℕ) (z : Running S) → length cells ≤ 1048576 → Sequential (freed (length cells) P) (main_start order (length cells) fuel) cells z → (q : List ℕ) (u : Task S) → At z.state q u → IsWhole (length cells) u.body.start.context
+pub run_starts : {S : Type 0} (P : Program S) (order : Order S) (cells : List ℕ) (fuel : ℕ) (z : Running S) → length cells ≤ 1048576 → Sequential (freed (length cells) P) (main_start order (length cells) fuel) cells z → (q : List ℕ) (u : Task S) → At z.state q u → IsWhole (length cells) u.body.start.context
 run_starts P order cells fuel z h opens q u k =
     let e = (opening_at (main_start order (length cells) fuel) cells q u refl k).1 in
     subst (λ (x : Task _). IsWhole (length cells) x.body.start.context) (sym e) (main_whole (length cells) fuel)
@@ -79,7 +79,7 @@ freed_runs_need_no_clauses S P order cells fuel kind line output h t l (fails {z
     no_own (length cells) kind (ask_of P f).ask (t f.script f.answers) (l f.script f.answers) a
     (freed_faults_are_its_own S P order cells fuel z z.active stop.task kind line key h run stop.at_ e a)
 
-busy_still : {S : Type 0} (n : ℕ) (q : Ask S) → IsBusy (freed_ask n q) → IsBusy q
+pub busy_still : {S : Type 0} (n : ℕ) (q : Ask S) → IsBusy (freed_ask n q) → IsBusy q
 busy_still n Ask.Begin h = tt
 busy_still n Ask.Tick h = h
 busy_still n (Ask.Read c) h = tt
@@ -94,7 +94,7 @@ busy_still n (Ask.Print text) h = tt
 busy_still n Ask.End h = h
 busy_still n (Ask.Fails kind) h = h
 
-pub freed_is_lively : (S : Type 0) → FreedIsLively S
+unfoldable pub freed_is_lively : (S : Type 0) → FreedIsLively S
 freed_is_lively S P n live = record {
   bound = live.bound;
   rank = live.rank;

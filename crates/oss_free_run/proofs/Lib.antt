@@ -1,0 +1,4 @@
+pub mod SeenLemmas
+pub mod LeftLemmas
+pub mod TurnLemmas
+pub mod MachineFaults

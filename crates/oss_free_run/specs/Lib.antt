@@ -1,0 +1,3 @@
+pub mod FreeTasks
+pub mod Stages
+pub mod Claims

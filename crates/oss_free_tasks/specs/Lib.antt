@@ -1,0 +1,3 @@
+pub mod OpenTasks
+pub mod Deeds
+pub mod Claims
