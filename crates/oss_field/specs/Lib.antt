@@ -1,11 +1,14 @@
 pub mod Asks
 pub mod Drawing
+pub mod Folding
 pub mod Giving
 pub mod Heard
 pub mod Known
 pub mod Layout
 pub mod Linking
 pub mod Making
+pub mod Marked
+pub mod Marks
 pub mod Messages
 pub mod Moves
 pub mod Owning

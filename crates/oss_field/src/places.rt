@@ -1,7 +1,7 @@
 //! Where the words of a field lie.
 
 ghost use Rattle.std.specs.Prelude.{◌≡◌};
-ghost use Rattle.oss_field.specs.Layout.{body_word_of, cell_word, count_word_of, info_word_of, number_word_of, state_word_of};
+ghost use Rattle.oss_field.specs.Layout.{body_word_of, cell_word, count_word_of, info_word_of, number_word_of, state_word_of, value_word_of};
 
 /// The number of the word of a cell.
 pub(crate) fn cell_place(cell: u32) -> usize
@@ -43,4 +43,11 @@ pub(crate) fn number_place(cells: u32, entry: u32) -> usize
     ensures { result ≡ number_word_of cells entry }
 {
     1 + cells as usize + 6 * entry as usize + 3
+}
+
+/// The number of the word that has the value which is left in an entry.
+pub(crate) fn value_place(cells: u32, entry: u32) -> usize
+    ensures { result ≡ value_word_of cells entry }
+{
+    1 + cells as usize + 6 * entry as usize + 2
 }
