@@ -1,5 +1,5 @@
 -- Loads and stores of cells, each by its law.
-use Rattle.std.proofs.Common.{◌≡◌, ◌≢◌, ◌⊎◌, inl, inr, sym, subst, refl, ◌∙◌, ap, ℕ, ◌<◌, ◌+◌, ◌*◌, arith, Bool, true, false, List, [], ◌∷◌, length, set}
+use Rattle.std.proofs.Common.{◌≡◌, ◌≢◌, ◌⊎◌, inl, inr, sym, subst, refl, ◌∙◌, ap, ℕ, ◌<◌, Bool, true, false, List, [], ◌∷◌, length, set}
 use Rattle.std.specs.Prelude.{slice_index, ◌==◌, cond, map}
 use Rattle.std.specs.Global.{Box}
 use mathlib.Core.Option as maybe
@@ -18,7 +18,7 @@ use Rattle.oss_model.specs.Moves.{act_now, combine}
 use Rattle.oss_syntax.specs.declared.access.Op.{Op}
 use Rattle.oss_words.specs.Views.{Among, among_first, among_later}
 use Rattle.oss_roles.specs.Alone.{IsOwnAct, with_answer}
-use Rattle.oss_roles.specs.Field.{Field, FieldAt, Parts, Bears, Sits, IsNumberOf, IsPending}
+use Rattle.oss_roles.specs.Field.{Field, Parts, Bears, Sits, IsNumberOf, IsPending}
 use Rattle.oss_roles.specs.JobSteps.{of_other, of_this, stores, folds}
 use Rattle.oss_roles.specs.Passing.{MayGo, still_there, went_on}
 use Rattle.oss_roles.specs.Sights.{Bearing, Noted, Sight, Telling}
@@ -32,7 +32,7 @@ use Rattle.oss_field.specs.Known.{Holding, Known, bearing_of, sight_of}
 use Rattle.oss_field.specs.Layout.{cell_word, parts_of}
 use Rattle.oss_field.specs.Moves.{answered, noted, touched, loaded_beside, with_body}
 use Rattle.oss_field.specs.Steps.{Steps}
-use Rattle.oss_field.specs.Table.{Slot, is_job_of, sights_of, Stands}
+use Rattle.oss_field.specs.Table.{is_job_of, sights_of}
 use Rattle.oss_field.proofs.CellTable.{cell_stands}
 use Rattle.oss_field.proofs.TableLemmas.{among_at, among_set, sits_at, chained, quiet_stands, read_stands}
 

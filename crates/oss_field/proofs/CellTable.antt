@@ -1,5 +1,5 @@
 -- The table after the word of a cell is written.
-use Rattle.std.proofs.Common.{◌≡◌, inl, inr, sym, subst, refl, ◌∙◌, ap, ℕ, ◌<◌, ◌+◌, ◌*◌, arith, List, length, set}
+use Rattle.std.proofs.Common.{◌≡◌, inl, inr, sym, subst, ◌∙◌, ap, ℕ, ◌<◌, ◌+◌, ◌*◌, arith, List, length, set}
 use Rattle.std.specs.Prelude.{slice_index}
 use Rattle.std.specs.Global.{Box}
 use mathlib.Core.Option as maybe

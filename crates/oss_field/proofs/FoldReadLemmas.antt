@@ -1,5 +1,5 @@
 -- What a seat reads of an entry whose join it holds, and keeps.
-use Rattle.std.proofs.Common.{◌≡◌, ◌≢◌, ◌⊎◌, inl, inr, sym, subst, refl, ◌∙◌, ap, ℕ, ◌<◌, ◌+◌, arith, Bool, true, false, not, ◌&&◌, ◌==◌, List, ◌∷◌, length, set, Option, Some}
+use Rattle.std.proofs.Common.{◌≡◌, ◌≢◌, ◌⊎◌, inl, inr, sym, subst, refl, ◌∙◌, ap, ℕ, ◌<◌, arith, Bool, true, false, not, ◌==◌, List, ◌∷◌, length, set, Option, Some}
 use Rattle.std.specs.Prelude.{slice_index, if◌then◌else◌}
 use Rattle.std.specs.Global.{Box}
 use mathlib.Core.Option as maybe
@@ -13,24 +13,22 @@ use Rattle.oss_model.proofs.RecallLemmas.{right_in_memory}
 use Rattle.oss_syntax.specs.declared.access.Mode.TheVariants.{Fold}
 use Rattle.oss_syntax.specs.declared.access.Op.{Op}
 use Rattle.oss_words.specs.declared.entry.EntryInfo.{EntryInfo}
-use Rattle.oss_words.specs.declared.entry.EntryState.{EntryState}
-use Rattle.oss_words.specs.Bits.{info_at, state_at}
+use Rattle.oss_words.specs.Bits.{state_at}
 use Rattle.oss_words.specs.Members.{Has}
-use Rattle.oss_words.specs.Net.{Net, Place, Child, Earlier, apart, first, after, eldest, younger, next, back}
+use Rattle.oss_words.specs.Net.{Net, Place, Child, Earlier, apart, after, eldest, younger, next, back}
 use Rattle.oss_words.specs.Views.{Among, among_first, among_later}
 use Rattle.oss_words.proofs.CauseLemmas.{bools, clash}
 use Rattle.oss_words.proofs.DeliverLemmas.{and_and}
 use Rattle.oss_words.proofs.NetLemmas.{child_hangs, child_parent}
 use Rattle.oss_roles.specs.Field.{Field, Parts, Sits}
 use Rattle.oss_roles.specs.Roles.{Role, on}
-use Rattle.oss_roles.specs.Sights.{Sight}
 use Rattle.oss_roles.proofs.FoldLaw.{cause, join_left, joined_mode, not_given}
 use Rattle.oss_roles.proofs.MoveLaw.{agrees}
 use Rattle.oss_roles.proofs.WordClaims.{quiet_steps_keep}
 use Rattle.oss_field.specs.declared.view.SeatView.{SeatView}
 use Rattle.oss_field.specs.Folding.{ReadsBelow, ReadsChild, ReadsNumber, behind_it, below_it, join_to, marking, read_value}
 use Rattle.oss_field.specs.Known.{Known, sight_of}
-use Rattle.oss_field.specs.Layout.{info_word_of, number_word_of, parts_of, state_word_of, value_word_of}
+use Rattle.oss_field.specs.Layout.{number_word_of, parts_of, state_word_of, value_word_of}
 use Rattle.oss_field.specs.Marked.{IsFact, IsMarked}
 use Rattle.oss_field.specs.Marks.{Fact, Mark, value_is, cell_is, has_none, has_child, has_last}
 use Rattle.oss_field.specs.Moves.{touched}

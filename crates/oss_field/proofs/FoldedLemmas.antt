@@ -1,5 +1,5 @@
 -- A fold as a call of several steps: what the seat knows between them and after them.
-use Rattle.std.proofs.Common.{◌≡◌, ◌≢◌, ◌⊎◌, inl, inr, sym, subst, refl, ◌∙◌, ap, ℕ, zero, suc, ◌<◌, ◌≤◌, ◌+◌, ◌-◌, ◌*◌, arith, Bool, true, false, List, [], ◌∷◌, ◌++◌, length}
+use Rattle.std.proofs.Common.{◌≡◌, ◌⊎◌, inl, inr, sym, subst, refl, ◌∙◌, ap, ℕ, zero, suc, ◌<◌, ◌≤◌, ◌+◌, ◌-◌, ◌*◌, arith, Bool, true, false, List, [], ◌∷◌, ◌++◌, length}
 use Rattle.std.specs.List.{swap_remove}
 use Rattle.std.specs.Prelude.{if◌then◌else◌, slice_index_or}
 use Rattle.oss_syntax.specs.declared.access.Mode.{Mode}
@@ -20,9 +20,9 @@ use Rattle.oss_field.specs.Heard.{Told}
 use Rattle.oss_field.specs.Known.{Known}
 use Rattle.oss_field.specs.Layout.{number_word_of, state_word_of, value_word_of}
 use Rattle.oss_field.specs.Marks.{Fact, Mark, cell_is, has_child, has_last, has_none, value_is}
-use Rattle.oss_field.specs.Messages.{Bounded, Informs, IsFirst, JoinFirst, Later, Learns, NoneBefore, OneInfo, Ready, Settled, informed, later, message_of, rank, without}
+use Rattle.oss_field.specs.Messages.{Informs, JoinFirst, Later, Learns, NoneBefore, OneInfo, Ready, Settled, later, message_of, rank, without}
 use Rattle.oss_field.specs.Moves.{touched}
-use Rattle.oss_field.proofs.MessageLemmas.{at_among, first_held, first_is, held_ready, learns_one, left_ready, ready_held, still_bounded}
+use Rattle.oss_field.proofs.MessageLemmas.{at_among, held_ready, learns_one, left_ready, ready_held, still_bounded}
 
 -- What is read
 

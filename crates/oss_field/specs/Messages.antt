@@ -19,7 +19,7 @@ use Rattle.oss_field.specs.declared.held.Held.{Held}
 use Rattle.oss_field.specs.declared.view.SeatView.{SeatView}
 use Rattle.oss_field.specs.Heard.{Told, Lowered}
 use Rattle.oss_field.specs.Known.{Holding, Known, last_of}
-use Rattle.oss_field.specs.Marks.{Mark, has_last}
+use Rattle.oss_field.specs.Marks.{has_last}
 use Rattle.oss_field.specs.Layout.{count_word_of, info_word_of, state_word_of}
 use Rattle.oss_field.specs.Moves.{touched}
 use Rattle.oss_field.specs.Owning.{HasEntry, entry_of}

@@ -1,4 +1,4 @@
-use Rattle.std.proofs.Common.{sym, ◌∙◌, ap}
+use Rattle.std.proofs.Common.{◌∙◌}
 use Rattle.oss_field.specs.Known.{Known}
 use Rattle.oss_field.proofs.FoldedLemmas.{along, notes_held, notes_none}
 use Rattle.oss_field.proofs.folding.last_below.Goals as goal

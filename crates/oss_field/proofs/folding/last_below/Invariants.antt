@@ -1,4 +1,4 @@
-use Rattle.std.proofs.Common.{◌<◌, ◌-◌, ℕ}
+use Rattle.std.proofs.Common.{◌<◌, ◌-◌}
 use Rattle.oss_words.specs.Members.{Has}
 use Rattle.oss_field.specs.Folding.{join_to}
 use Rattle.oss_field.specs.Standing.{On, Stays}
