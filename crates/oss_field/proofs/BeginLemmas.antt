@@ -45,6 +45,7 @@ use Rattle.oss_field.specs.Steps.{Steps}
 use Rattle.oss_field.specs.Table.{AreSeats, Neat, Slot, Stands, is_job_of, planned_by, sights_of}
 use Rattle.oss_field.proofs.FillLemmas.{apart_now, blank_of, inside, loose, none, planned_at}
 use Rattle.oss_field.proofs.HeardLemmas.{heard_same}
+use Rattle.oss_field.proofs.MarkLemmas.{marked_on, stays_same}
 use Rattle.oss_field.proofs.LooseLemmas.{planned_linked}
 use Rattle.oss_field.proofs.MakingLemmas.{words_stay}
 use Rattle.oss_field.proofs.PlanLemmas.{fewer, has_held, is_apart}
@@ -368,6 +369,12 @@ module _ (code : CodeParts) (fuel n id : ℕ) (v : SeatView) (e : ℕ) (i : Entr
       | inr s ↦ hangs (sym (put_else stands.net.place e top j s.1) ∙ q)
     ]
 
+    not_it : (j : ℕ) → stands.net.place j ≢ apart → j ≢ e
+    not_it j hangs q = hangs (ap (λ (z : ℕ). stands.net.place z) q ∙ lies.loose)
+
+    main_apart : stands.net.place 0 ≡ apart
+    main_apart = ap (λ (z : Net). z.place 0) (sym stands.rule.same_net) ∙ f.words.flow.words.shaped.main.0
+
     heard_yet : AreHeard stands.net (λ j. info_at (slice_index ws' (info_word_of (length code.first) j))) (set views id (record { known = l }))
     heard_yet = heard_same stands.net k.infos (λ j. info_at (slice_index ws' (info_word_of (length code.first) j))) views id v l sits refl (λ j. ap info_at (infos_same j)) stands.heard
 
@@ -403,6 +410,14 @@ module _ (code : CodeParts) (fuel n id : ℕ) (v : SeatView) (e : ℕ) (i : Entr
           (free_stays stands.role (sights_of views) id (sight_of v.known) (sight_of l) at refl j (stands.undrawn j (subst (λ (z : ℕ). z ≤ j) draw_same high)));
       selves = stands.selves;
       heard = record { told = λ j x sx u among. let r = heard_yet.told j x sx u among in (still_hangs u.entry r.0, r.1) };
+      marked = marked_on stands.net net' stands.role stands.role k.states states' k.values (λ j. slice_index ws' (value_word_of (length code.first) j))
+          (record {
+            place = λ j hangs. put_else stands.net.place e top j (not_it j hangs);
+            last = λ j hangs left. put_else stands.net.last 0 e j (λ q. hangs (ap (λ (z : ℕ). stands.net.place z) q ∙ main_apart));
+            role_is = λ j r is. is;
+            stays = λ j hangs. stays_same (k.states j) (states' j) (else_is j (not_it j hangs));
+            value = λ j hangs left. values_same j;
+          }) views id v l sits refl stands.marked;
       seats = subst (λ (z : List View). AreSeats n net' states' (slice_index ws' 0) z) (sym (words_stay views id v l sits refl))
           (subst (λ (z : ℕ). AreSeats n net' states' z (words_of (sights_of views))) (sym draw_same)
           (let s = stands.seats in record {

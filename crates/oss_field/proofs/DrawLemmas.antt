@@ -34,10 +34,11 @@ use Rattle.oss_field.specs.Drawing.{IsAbove, IsAboveAll, IsDrawn, drew, missed}
 use Rattle.oss_field.specs.Known.{Holding, Known, bearing_of, sight_of}
 use Rattle.oss_field.specs.Layout.{job_in, cell_word, state_word_of, info_word_of, value_word_of, number_word_of, count_word_of, body_word_of, parts_of}
 use Rattle.oss_field.specs.Moves.{touched}
-use Rattle.oss_field.specs.Plans.{planned_of}
+use Rattle.oss_field.specs.Plans.{Hearing, hearing_of, planned_of}
 use Rattle.oss_field.specs.Steps.{Steps}
 use Rattle.oss_field.specs.Table.{AreSeats, Neat, Slot, Stands, is_job_of, planned_by, sights_of}
 use Rattle.oss_field.proofs.HeardLemmas.{heard_same}
+use Rattle.oss_field.proofs.MarkLemmas.{marked_on, same_keeps, stays_same}
 use Rattle.oss_field.proofs.TableLemmas.{chained, plans_same, plans_stand, sights_set, sits_at}
 
 -- all views have failed at most once each
@@ -164,7 +165,7 @@ module _ (code : CodeParts) (fuel n : ℕ) (ws : List ℕ) (homes : List (maybe.
       }
 
   -- the table after a draw
-  pub drawn_stands : (l : Known) → planned_of l ≡ planned_of v.known → l.told ≡ v.known.told → ((h : Holding) → Among h l.bears → stands.before h.number ≡ h.before)
+  pub drawn_stands : (l : Known) → planned_of l ≡ planned_of v.known → hearing_of l ≡ hearing_of v.known → ((h : Holding) → Among h l.bears → stands.before h.number ≡ h.before)
       → ((e : ℕ) → Among e l.drawn → Among e v.known.drawn ⊎ ((slice_index ws 0 ≤ e) × (e < slice_index ws 0 + count)))
       → AreSeats n stands.net (λ e. state_at (slice_index ws (state_word_of (length code.first) e))) (slice_index ws 0 + count) (set (words_of (sights_of views)) id l.words)
       → FieldAt (asks code) (code_main code fuel) code.first (is_job_of code stands.before) n stands.net stands.gave stands.role (parts_of (length code.first) ws homes stands.cells) (set (sights_of views) id (sight_of l))
@@ -192,7 +193,10 @@ module _ (code : CodeParts) (fuel n : ℕ) (ws : List ℕ) (homes : List (maybe.
         (draws_keep CodeScript stands.role (sights_of views) id (sight_of v.known) (sight_of l) (sits_at views id v sits) (λ e a. elim (fresh e a) [ inl old ↦ inl old | inr r ↦ inr (stands.undrawn e r.0) ]) stands.drawn);
     undrawn = λ e high. subst (λ (z : List (Sight CodeScript)). IsFree stands.role z e) (sym (sights_set views id l)) (still_free e (subst (λ (z : ℕ). z ≤ e) draw_here high));
     selves = stands.selves;
-    heard = heard_same stands.net (λ e. info_at (slice_index ws (info_word_of (length code.first) e))) (λ e. info_at (slice_index ws' (info_word_of (length code.first) e))) views id v l sits heard (λ e. ap info_at (infos_same e)) stands.heard;
+    heard = heard_same stands.net (λ e. info_at (slice_index ws (info_word_of (length code.first) e))) (λ e. info_at (slice_index ws' (info_word_of (length code.first) e))) views id v l sits (ap (λ (z : Hearing). z.told) heard) (λ e. ap info_at (infos_same e)) stands.heard;
+    marked = marked_on stands.net stands.net stands.role stands.role (λ e. state_at (slice_index ws (state_word_of (length code.first) e))) (λ e. state_at (slice_index ws' (state_word_of (length code.first) e))) (λ e. slice_index ws (value_word_of (length code.first) e)) (λ e. slice_index ws' (value_word_of (length code.first) e))
+        (same_keeps stands.net stands.role (λ e. state_at (slice_index ws (state_word_of (length code.first) e))) (λ e. state_at (slice_index ws' (state_word_of (length code.first) e))) (λ e. slice_index ws (value_word_of (length code.first) e)) (λ e. slice_index ws' (value_word_of (length code.first) e))
+        (λ e. stays_same (state_at (slice_index ws (state_word_of (length code.first) e))) (state_at (slice_index ws' (state_word_of (length code.first) e))) (ap state_at (states_same e))) (λ e left. values_same e)) views id v l sits (ap (λ (z : Hearing). z.marks) heard) stands.marked;
     seats = subst (λ (z : List View). AreSeats n stands.net (λ e. state_at (slice_index ws' (state_word_of (length code.first) e))) (slice_index ws' 0) z) (sym (ap (λ (z : List (Sight CodeScript)). words_of z) (sights_set views id l) ∙ words_set (sights_of views) id (sight_of l)))
         (subst (λ (z : ℕ). AreSeats n stands.net (λ e. state_at (slice_index ws' (state_word_of (length code.first) e))) z (set (words_of (sights_of views)) id l.words)) (sym draw_here)
         (subst (λ (g : ℕ → EntryState). AreSeats n stands.net g (slice_index ws 0 + count) (set (words_of (sights_of views)) id l.words)) (λ i e. state_at (sym (states_same e) i)) seats));

@@ -151,7 +151,7 @@ module _ (code : CodeParts) (fuel n id : ℕ) (v : SeatView) (y : Unlinked) (amo
         let p = planned_filled code n stands.net stands.role k.states k.infos k.cell_of (planned_by views) stands.planned id (planned_of v.known) planned_at y among k.states infos1 k.cell_of (with_info (info_at x)) (λ j ne. refl) else1 (λ j ne. refl) (λ z. refl) told1 in
         next_stands code fuel n ws homes views stands id v l sits refl refl refl (stands.told id v sits) ws1 homes stands.cells (length-set ws (info_word_of (length code.first) y.entry) x ∙ stands.size) stands.slots stands.sized
         (λ c low. get_or-set_other ws (info_word_of (length code.first) y.entry) (cell_word c) x 0 (λ q. absurd (omega (arith, q, low))) ∙ stands.cell_words c low)
-        (λ e low z. stands.empty e low (sym (bodies1 e) ∙ z)) states1 hung1 (get_or-set_other ws (info_word_of (length code.first) y.entry) 0 x 0 (λ q. absurd (omega (arith, q))))
+        (λ e low z. stands.empty e low (sym (bodies1 e) ∙ z)) states1 hung1 (λ j left. values1 j) (get_or-set_other ws (info_word_of (length code.first) y.entry) 0 x 0 (λ q. absurd (omega (arith, q))))
         (subst (λ (z : List Planned). ArePlanned code n stands.net stands.role (λ e. state_at (slice_index ws1 (state_word_of (length code.first) e))) infos1 (λ e. slice_index ws1 (number_word_of (length code.first) e)) z) (sym (map-set (λ (z : SeatView). planned_of z.known) views id (record { known = l })))
         (subst (λ (z : ℕ → ℕ). ArePlanned code n stands.net stands.role (λ e. state_at (slice_index ws1 (state_word_of (length code.first) e))) infos1 z (set (planned_by views) id (planned_of l))) (λ i e. sym (numbers1 e) i)
         (subst (λ (z : ℕ → EntryState). ArePlanned code n stands.net stands.role z infos1 k.cell_of (set (planned_by views) id (planned_of l))) (λ i e. state_at (sym (states1 e) i)) p)))
@@ -217,7 +217,7 @@ module _ (code : CodeParts) (fuel n id : ℕ) (v : SeatView) (y : Unlinked) (amo
         let p = planned_filled code n stands.net stands.role k.states k.infos k.cell_of (planned_by views) stands.planned id (planned_of v.known) planned_at y among k.states k.infos cells2 (with_cell x) (λ j ne. refl) (λ j ne. refl) else2 (λ z. refl) told2 in
         next_stands code fuel n ws homes views stands id v l sits refl refl refl (stands.told id v sits) ws2 homes stands.cells (length-set ws (number_word_of (length code.first) y.entry) x ∙ stands.size) stands.slots stands.sized
         (λ c low. get_or-set_other ws (number_word_of (length code.first) y.entry) (cell_word c) x 0 (λ q. absurd (omega (arith, q, low))) ∙ stands.cell_words c low)
-        (λ e low z. stands.empty e low (sym (bodies2 e) ∙ z)) states2 (λ j hangs. infos2 j) (get_or-set_other ws (number_word_of (length code.first) y.entry) 0 x 0 (λ q. absurd (omega (arith, q))))
+        (λ e low z. stands.empty e low (sym (bodies2 e) ∙ z)) states2 (λ j hangs. infos2 j) (λ j left. values2 j) (get_or-set_other ws (number_word_of (length code.first) y.entry) 0 x 0 (λ q. absurd (omega (arith, q))))
         (subst (λ (z : List Planned). ArePlanned code n stands.net stands.role (λ e. state_at (slice_index ws2 (state_word_of (length code.first) e))) (λ e. info_at (slice_index ws2 (info_word_of (length code.first) e))) cells2 z) (sym (map-set (λ (z : SeatView). planned_of z.known) views id (record { known = l })))
         (subst (λ (z : ℕ → EntryInfo). ArePlanned code n stands.net stands.role (λ e. state_at (slice_index ws2 (state_word_of (length code.first) e))) z cells2 (set (planned_by views) id (planned_of l))) (λ i e. info_at (sym (infos2 e) i))
         (subst (λ (z : ℕ → EntryState). ArePlanned code n stands.net stands.role z k.infos cells2 (set (planned_by views) id (planned_of l))) (λ i e. state_at (sym (states2 e) i)) p)))

@@ -7,6 +7,7 @@ use Rattle.oss_words.specs.Bits.{state_at, state_word, FitsWord, weight}
 use Rattle.oss_words.specs.Causes.{Sets, sets_done, sets_folds, sets_reads, sets_writes, sets_clear, Unset}
 use Rattle.oss_words.specs.Sums.{num}
 use Rattle.oss_words.proofs.BitLemmas.{states_are_read}
+use Rattle.oss_field.specs.Marked.{StaysLeft}
 use Rattle.oss_field.specs.Table.{Neat}
 
 num_small : (b : Bool) → num b ≤ 1
@@ -73,3 +74,12 @@ flag_neat a (suc (suc (suc zero))) l h u = record { next = u.next; child = u.chi
 flag_neat a (suc (suc (suc (suc zero)))) l h u = record { next = u.next; child = u.child }
 flag_neat a (suc (suc (suc (suc (suc zero))))) l h u = record { next = u.next; child = u.child }
 flag_neat a (suc (suc (suc (suc (suc (suc f)))))) l h u = absurd (omega (arith, h))
+
+pub flag_stays : (a : EntryState) (f : ℕ) → 1 ≤ f → f ≤ 5 → StaysLeft a (with_flag a f)
+flag_stays a zero l h = absurd (omega (arith, l))
+flag_stays a (suc zero) l h = record { left = λ q. q; none = λ q z. z }
+flag_stays a (suc (suc zero)) l h = record { left = λ q. q; none = λ q z. z }
+flag_stays a (suc (suc (suc zero))) l h = record { left = λ q. q; none = λ q z. z }
+flag_stays a (suc (suc (suc (suc zero)))) l h = record { left = λ q. q; none = λ q z. z }
+flag_stays a (suc (suc (suc (suc (suc zero))))) l h = record { left = λ q. q; none = λ q z. z }
+flag_stays a (suc (suc (suc (suc (suc (suc f)))))) l h = absurd (omega (arith, h))

@@ -37,7 +37,8 @@ use Rattle.oss_field.specs.declared.view.SeatView.{SeatView}
 use Rattle.oss_field.specs.Giving.{GivesHalf, GivesWhole, MayGiveUp, StandsToGive, gave_half, gave_whole, gives_cell, gives_own, gone_on, still_beside}
 use Rattle.oss_field.specs.Known.{Holding, Known, bearing_of, last_of, sight_of}
 use Rattle.oss_field.specs.Layout.{info_word_of, parts_of, state_word_of}
-use Rattle.oss_field.specs.Plans.{planned_of}
+use Rattle.oss_field.specs.Marked.{StaysLeft}
+use Rattle.oss_field.specs.Plans.{hearing_of, planned_of}
 use Rattle.oss_field.specs.Moves.{with_body}
 use Rattle.oss_field.specs.Owning.{entry_of, site_of}
 use Rattle.oss_field.specs.Steps.{Steps}
@@ -197,8 +198,8 @@ module _ (code : CodeParts) (fuel n id : ℕ) (v : SeatView) (job : Job) (cell :
         })
 
     -- what is so of each such step, if the word of the entry becomes that of c
-    module _ (c : EntryState) (fits : FitsWord c) (neat : Neat c) (grown : Grown (k.states e) c) (l : Known) (bears : l.bears ≡ set v.known.bears s.place (with_body s.body h)) (loaded : l.loaded ≡ (gone_on s.place h s.body e v.known).loaded) (still : l.still ≡ still_beside e v.known.still)
-        (makes : l.makes ≡ v.known.makes) (ready : l.ready ≡ v.known.ready) (joined : l.joined ≡ v.known.joined) (owes : l.owes ≡ v.known.owes) (seen : l.seen ≡ v.known.seen) (drawn : l.drawn ≡ v.known.drawn) (told : l.told ≡ v.known.told) (planned : planned_of l ≡ planned_of v.known)
+    module _ (c : EntryState) (fits : FitsWord c) (neat : Neat c) (grown : Grown (k.states e) c) (stays : StaysLeft (k.states e) c) (l : Known) (bears : l.bears ≡ set v.known.bears s.place (with_body s.body h)) (loaded : l.loaded ≡ (gone_on s.place h s.body e v.known).loaded) (still : l.still ≡ still_beside e v.known.still)
+        (makes : l.makes ≡ v.known.makes) (ready : l.ready ≡ v.known.ready) (joined : l.joined ≡ v.known.joined) (owes : l.owes ≡ v.known.owes) (seen : l.seen ≡ v.known.seen) (drawn : l.drawn ≡ v.known.drawn) (told : hearing_of l ≡ hearing_of v.known) (planned : planned_of l ≡ planned_of v.known)
         (parts : l.words.parts ≡ v.known.words.parts) (splits : l.words.splits ≡ v.known.words.splits) (failed : l.words.failed ≡ v.known.words.failed) (delivered : l.words.delivered ≡ v.known.words.delivered) where
       abbrev states' : ℕ → EntryState
       states' j = state_at (slice_index (set ws (state_word_of (length code.first) e) (state_word c)) (state_word_of (length code.first) j))
@@ -230,7 +231,7 @@ module _ (code : CodeParts) (fuel n id : ℕ) (v : SeatView) (job : Job) (cell :
           }) in
           let each : (j : ℕ) → Grown (k.states j) (states' j) = all_of Grown grown_same k.states states' e others (subst (λ (z : EntryState). Grown (k.states e) z) (sym now) grown) in
           let come = came_more n stands.net.place k.states states' each in
-          state_stands code fuel n ws homes views stands e inside c fits neat id v l sits drawn told planned (subst (λ (z : Net). z.place e ≢ apart) stands.rule.same_net mine.hangs)
+          state_stands code fuel n ws homes views stands e inside c fits neat id v l sits drawn told planned (subst (λ (z : Net). z.place e ≢ apart) stands.rule.same_net mine.hangs) stays
           (λ g a. told_on stands.before v.known.bears s.place h s.body s.given.holds (stands.told id v sits) g (subst (λ (z : List Holding). Among g z) bears a))
           parts splits failed (omega (arith, come, delivered)) (more f.gave e)
           (record { field = rule.field; same_net = rule.same_net ∙ stands.rule.same_net; same_gave = rule.same_gave; same_role = rule.same_role ∙ stands.rule.same_role })
@@ -245,6 +246,7 @@ module _ (code : CodeParts) (fuel n id : ℕ) (v : SeatView) (job : Job) (cell :
       let x : ℕ = slice_index ws (state_word_of (length code.first) e) in
       let old : EntryState = state_at x in
       let c : EntryState = record old { given = true; done = true } in
+      let kept : StaysLeft old c = record { left = λ q. q; none = λ q h. h } in
       let my = mine ws homes views stands sits in
       let off = ungiven ws homes views stands sits in
       let open_yet = undone ws homes views stands sits in
@@ -252,16 +254,16 @@ module _ (code : CodeParts) (fuel n id : ℕ) (v : SeatView) (job : Job) (cell :
       let neat : Neat c = record { next = (stands.neat e).next; child = (stands.neat e).child } in
       let sum = added old c x 24 (stands.whole e) (let p = num_off old.given off in let q = num_off old.done open_yet in omega (arith, p, q)) fits in
       let l : Known = gave_whole (length code.first) e w x (gone_on s.place s.holding s.body e v.known) in
-      let now_is = now ws homes views stands sits c fits neat (given_grown old) l refl refl refl refl refl refl refl refl refl refl refl refl refl refl refl in
+      let now_is = now ws homes views stands sits c fits neat (given_grown old) kept l refl refl refl refl refl refl refl refl refl refl refl refl refl refl refl in
       let parts' = parts_of (length code.first) ws homes stands.cells in
-      let new = step_stands ws homes views stands sits c fits neat (given_grown old) l refl refl refl refl refl refl refl refl refl refl refl refl refl refl refl
+      let new = step_stands ws homes views stands sits c fits neat (given_grown old) kept l refl refl refl refl refl refl refl refl refl refl refl refl refl refl refl
       (at_once (record {
         empty = s.empty;
         full = whole;
         childless = childless code n parts' (sights_of views) stands.rule.field id v.known (sits_at views id v sits) s.place s.holding s.given.holds s.makes e my.it my.is my.hangs my.path (ap (λ (z : Site). last_of s.holding z) my.site ∙ none);
         stays = unleft ws homes views stands sits;
         sets = now_is;
-        others = others ws homes views stands sits c fits neat (given_grown old) l refl refl refl refl refl refl refl refl refl refl refl refl refl refl refl;
+        others = others ws homes views stands sits c fits neat (given_grown old) kept l refl refl refl refl refl refl refl refl refl refl refl refl refl refl refl;
         sends = λ j. sent e old ((sum.1 ∙ sym now_is) j) (sym (info_is ws homes views stands sits w told) j);
         whole = whole;
       })) in
@@ -278,6 +280,7 @@ module _ (code : CodeParts) (fuel n id : ℕ) (v : SeatView) (job : Job) (cell :
       let x : ℕ = slice_index ws (state_word_of (length code.first) e) in
       let old : EntryState = state_at x in
       let c : EntryState = record old { given = true } in
+      let kept : StaysLeft old c = record { left = λ q. q; none = λ q h. h } in
       let my = mine ws homes views stands sits in
       let off = ungiven ws homes views stands sits in
       let fits : FitsWord c = record { next = (parts_fit x).next; child = (parts_fit x).child } in
@@ -286,13 +289,13 @@ module _ (code : CodeParts) (fuel n id : ℕ) (v : SeatView) (job : Job) (cell :
       let l : Known = gave_half (length code.first) e x (gone_on s.place s.holding s.body e v.known) in
       let parts' = parts_of (length code.first) ws homes stands.cells in
       let child = last_child code n parts' (sights_of views) stands.rule.field id v.known (sits_at views id v sits) s.place s.holding s.given.holds s.makes e my.it my.is my.hangs my.path o (ap (λ (z : Site). last_of s.holding z) my.site ∙ last) in
-      let new = step_stands ws homes views stands sits c fits neat (begun_grown old) l refl refl refl refl refl refl refl refl refl refl refl refl refl refl refl
+      let new = step_stands ws homes views stands sits c fits neat (begun_grown old) kept l refl refl refl refl refl refl refl refl refl refl refl refl refl refl refl
       (begins child.1 (record {
         empty = s.empty;
         full = whole;
         stays = unleft ws homes views stands sits;
-        sets = now ws homes views stands sits c fits neat (begun_grown old) l refl refl refl refl refl refl refl refl refl refl refl refl refl refl refl;
-        others = others ws homes views stands sits c fits neat (begun_grown old) l refl refl refl refl refl refl refl refl refl refl refl refl refl refl refl;
+        sets = now ws homes views stands sits c fits neat (begun_grown old) kept l refl refl refl refl refl refl refl refl refl refl refl refl refl refl refl;
+        others = others ws homes views stands sits c fits neat (begun_grown old) kept l refl refl refl refl refl refl refl refl refl refl refl refl refl refl refl;
         sends = refl;
         whole = refl;
       })) in (

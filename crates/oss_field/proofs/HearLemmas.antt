@@ -21,6 +21,7 @@ use Rattle.oss_words.specs.Views.{View, Among, At, among_first, among_later}
 use Rattle.oss_words.proofs.BoundLemmas.{room_bound}
 use Rattle.oss_words.proofs.CountLemmas.{held_due}
 use Rattle.oss_words.proofs.DeliverLemmas.{small, target_hangs, target_in}
+use Rattle.oss_words.proofs.NetLemmas.{child_hangs}
 use Rattle.oss_words.proofs.SumLemmas.{total_at}
 use Rattle.oss_words.proofs.WorkLemmas.{work_bound}
 use Rattle.oss_roles.specs.Field.{words_of}
@@ -29,12 +30,14 @@ use Rattle.oss_roles.proofs.WordClaims.{quiet_steps_keep}
 use Rattle.oss_field.specs.declared.view.SeatView.{SeatView}
 use Rattle.oss_field.specs.Heard.{Told}
 use Rattle.oss_field.specs.Known.{Holding, Known, sight_of}
-use Rattle.oss_field.specs.Layout.{parts_of, info_word_of, state_word_of}
-use Rattle.oss_field.specs.Messages.{Bounded, Hangs, by_entry, by_last, by_message, by_told, Informs, informed}
+use Rattle.oss_field.specs.Layout.{parts_of, info_word_of, state_word_of, value_word_of}
+use Rattle.oss_field.specs.Marks.{has_last}
+use Rattle.oss_field.specs.Messages.{Bounded, Hangs, by_entry, by_last, by_mark, by_message, by_told, Informs, informed}
 use Rattle.oss_field.specs.Owning.{HasEntry, entry_of}
 use Rattle.oss_field.specs.Steps.{Steps}
 use Rattle.oss_field.specs.Table.{Slot, is_job_of, planned_by, sights_of, Stands}
 use Rattle.oss_field.proofs.HeardLemmas.{heard_on}
+use Rattle.oss_field.proofs.MarkLemmas.{marked_on, same_keeps, stays_same}
 use Rattle.oss_field.proofs.OwnLemmas.{borne, cell_filed, own_filed}
 use Rattle.oss_field.proofs.TableLemmas.{chained, plans_same, plans_stand, read_stands, sits_at}
 use Rattle.oss_field.proofs.WordTable.{entry_stands, seats_on}
@@ -98,6 +101,9 @@ module _ (code : CodeParts) (fuel n : ℕ) (ws : List ℕ) (homes : List (maybe.
   hangs_is e (by_message m h q) = subst (λ (z : ℕ). stands.rule.field.net.place z ≢ apart) q (held_hangs m h)
   hangs_is e (by_entry i h holds number cell has q) = subst (λ (z : ℕ). stands.rule.field.net.place z ≢ apart) q (entry_hangs i h holds number cell has)
   hangs_is e (by_last i h holds y last) = ((borne code n (parts_of (length code.first) ws homes stands.cells) (sights_of views) stands.rule.field id v.known (sits_at views id v sits) i h holds).last.some y e last).3
+  hangs_is e (by_mark f a) =
+      let m = stands.marked.each id v sits (record { entry = f; fact = has_last e }) a in
+      subst (λ (z : Net). z.place e ≢ apart) (sym stands.rule.same_net) (child_hangs stands.net f e m.fact.0)
 
   pub informed_stands : (e : ℕ) → Hangs v.known e → Stands code fuel n ws homes (set views id (record { known = informed (length code.first) e (slice_index ws (info_word_of (length code.first) e)) v.known }))
   informed_stands e hangs =
@@ -122,6 +128,8 @@ module _ (code : CodeParts) (fuel n : ℕ) (ws : List ℕ) (homes : List (maybe.
         | among_first q ↦ inr (fresh t q)
         | among_later b ↦ inl b
       ]) (λ j h. refl) stands.heard)
+      (marked_on stands.net stands.net stands.role stands.role states_now states_now (λ j. slice_index ws (value_word_of (length code.first) j)) (λ j. slice_index ws (value_word_of (length code.first) j))
+      (same_keeps stands.net stands.role states_now states_now (λ j. slice_index ws (value_word_of (length code.first) j)) (λ j. slice_index ws (value_word_of (length code.first) j)) (λ j. stays_same (states_now j) (states_now j) refl) (λ j left. refl)) views id v l sits refl stands.marked)
       (plans_stand code n stands.net stands.role ws ws (planned_by views) (planned_by (set views id (record { known = l }))) (λ j. refl) (λ j. refl) (λ j. refl) (plans_same views id v l sits refl) stands.planned)
       (seats_on code fuel n ws homes views stands id v sits states_now l.words refl refl refl (omega arith))
       rule

@@ -27,7 +27,7 @@ use Rattle.oss_field.specs.Layout.{parts_of, state_word_of}
 use Rattle.oss_field.specs.Plans.{ArePlanned, Planned, planned_of}
 use Rattle.oss_field.specs.Seats.{IsIdle, merged, spent}
 use Rattle.oss_field.specs.Table.{AreSeats, Slot, Stands, is_job_of, planned_by, sights_of}
-use Rattle.oss_field.proofs.SeatLemmas.{no_holding, no_number, none_told}
+use Rattle.oss_field.proofs.SeatLemmas.{no_holding, no_number, none_marked, none_told}
 use Rattle.oss_field.proofs.TableLemmas.{chained, plans_same, sights_set, sits_at, then_at}
 
 -- the rule of a seat that holds nothing is that of what is left of it
@@ -206,6 +206,15 @@ module _ (code : CodeParts) (fuel n id : ℕ) (v : SeatView) (other : ℕ) (x : 
           | inr e ↦ elim (at_set z.views id j (record { known = merged v.known x.known }) y e.1) [
             | inl f ↦ stands.heard.told id v sits t (subst (λ (u : SeatView). Among t u.known.told) (sym f.1) a)
             | inr f ↦ stands.heard.told j y f.1 t a
+          ]
+        ];
+      };
+      marked = record {
+        each = λ j y at t a. elim (at_set (set z.views id (record { known = merged v.known x.known })) other j (record { known = spent }) y at) [
+          | inl e ↦ absurd (none_marked t (subst (λ (u : SeatView). Among t u.known.marks) (sym e.1) a))
+          | inr e ↦ elim (at_set z.views id j (record { known = merged v.known x.known }) y e.1) [
+            | inl f ↦ stands.marked.each id v sits t (subst (λ (u : SeatView). Among t u.known.marks) (sym f.1) a)
+            | inr f ↦ stands.marked.each j y f.1 t a
           ]
         ];
       };

@@ -160,7 +160,7 @@ module _ (code : CodeParts) (fuel n id : ℕ) (v : SeatView) (job : Job) (cell v
         others = value_else code fuel n ws homes views stands e my.inside value;
         still = λ y a. with_is e value v.known.still y a;
       }) in
-      value_stands code fuel n ws homes views stands e my.inside value id v l sits refl refl (told_on stands.before v.known.bears s.place s.holding s.body s.given.holds (stands.told id v sits)) (chained stands rule)
+      value_stands code fuel n ws homes views stands e my.inside value id v l sits refl refl as_read.unleft (told_on stands.before v.known.bears s.place s.holding s.body s.given.holds (stands.told id v sits)) (chained stands rule)
 
   writes : Steps code fuel n id v (value_word_of (length code.first) (entry_of s.holding (Some cell))) (λ x. value) (λ x z. WroteValue code job (length code.first) cell value (entry_of s.holding (Some cell)) v.known z)
   writes ws homes views stands sits bits = (wrote (length code.first) (entry_of s.holding (Some cell)) value s.place s.holding s.body v.known, write_stands ws homes views stands sits, record { may = s; entry = refl; known = refl })
@@ -267,7 +267,7 @@ module _ (code : CodeParts) (fuel n id : ℕ) (v : SeatView) (cell value entry :
         }) in
         let each : (j : ℕ) → Grown (k.states j) (states' j) = all_of Grown grown_same k.states states' e others (subst (λ (z : EntryState). Grown (k.states e) z) (sym now) (left_grown old)) in
         let come = came_more n stands.net.place k.states states' each in
-        state_stands code fuel n ws homes views stands e my.inside c fits neat id v l sits refl refl refl (subst (λ (z : Net). z.place e ≢ apart) stands.rule.same_net my.hangs) (stands.told id v sits) refl refl refl (omega (arith, come)) stands.gave (chained stands rule)
+        state_stands code fuel n ws homes views stands e my.inside c fits neat id v l sits refl refl refl (subst (λ (z : Net). z.place e ≢ apart) stands.rule.same_net my.hangs) (record { left = λ q. refl; none = λ q h. h }) (stands.told id v sits) refl refl refl (omega (arith, come)) stands.gave (chained stands rule)
 
   leaves : Steps code fuel n id v (state_word_of (length code.first) (entry_of s.holding (Some cell))) (λ y. (y + 256) % 2 ^ 64) (λ y z. SetsLeft n (length code.first) (entry_of s.holding (Some cell)) y v.known z)
   leaves ws homes views stands sits bits =

@@ -1,11 +1,16 @@
 pub mod ActLemmas
 pub mod BeginLemmas
 pub mod CellLemmas
+pub mod CellTable
 pub mod DeliverLemmas
 pub mod DrawLemmas
 pub mod FillLemmas
 pub mod FirstLinkLemmas
 pub mod FlagLemmas
+pub mod FoldCellLemmas
+pub mod FoldFlagLemmas
+pub mod FoldReadLemmas
+pub mod FoldedLemmas
 pub mod GiveLemmas
 pub mod GivenLemmas
 pub mod HearLemmas
@@ -17,6 +22,7 @@ pub mod LooseLemmas
 pub mod LowerLemmas
 pub mod MakingLemmas
 pub mod MeetLemmas
+pub mod MarkLemmas
 pub mod MessageLemmas
 pub mod OpenLemmas
 pub mod OwnLemmas
@@ -32,5 +38,6 @@ pub mod SlotLemmas
 pub mod StageLemmas
 pub mod StartLemmas
 pub mod TableLemmas
+pub mod UnleftLemmas
 pub mod ValueTable
 pub mod WordTable

@@ -83,7 +83,7 @@ module _ (code : CodeParts) (fuel n : ℕ) (ws : List ℕ) (homes : List (maybe.
       (length-set ws (count_word_of (length code.first) t) y ∙ stands.size) stands.slots stands.sized
       (λ c low. get_or-set_other ws (count_word_of (length code.first) t) (cell_word c) y 0 (λ q. absurd (omega (arith, q, low))) ∙ stands.cell_words c low)
       (λ e low z. stands.empty e low (sym (bodies_same e) ∙ z))
-      states_same (λ e hangs. infos_same e)
+      states_same (λ e hangs. infos_same e) (λ e left. values_same e)
       (get_or-set_other ws (count_word_of (length code.first) t) 0 y 0 (λ q. absurd (omega (arith, q))))
       (plans_stand code n stands.net stands.role ws ws' (planned_by views) (planned_by (set views id (record { known = l }))) states_same infos_same numbers_same (plans_same views id v l sits refl) stands.planned)
       (subst (λ (z : Parts (Box Job)). FieldAt (asks code) (code_main code fuel) code.first (is_job_of code stands.before) n stands.net stands.gave stands.role z (set (sights_of views) id (sight_of l))) parts_now rule)

@@ -58,6 +58,7 @@ use Rattle.oss_field.specs.Table.{AreSeats, Neat, Slot, Stands, is_job_of, plann
 use Rattle.oss_field.proofs.ActLemmas.{carried_on, inside_after}
 use Rattle.oss_field.proofs.CellLemmas.{beside_is, held_once, job_goes, told_on}
 use Rattle.oss_field.proofs.HeardLemmas.{heard_same}
+use Rattle.oss_field.proofs.MarkLemmas.{marked_on, stays_same}
 use Rattle.oss_field.proofs.PlanLemmas.{Source, of_task, of_cell, of_old, at_cell, drawn_left, each_role, in_block, not_within, numbered, plans, role_on, source, strongly, with_roles}
 use Rattle.oss_field.proofs.PlannedLemmas.{planned_now, role_inside}
 use Rattle.oss_field.proofs.SlotLemmas.{set_twice}
@@ -102,7 +103,7 @@ module _ (code : CodeParts) (n : ℕ) (ws : List ℕ) (homes : List (maybe.Optio
   pub infos_same : (e : ℕ) → slice_index (set ws (count_word_of (length code.first) t) x) (info_word_of (length code.first) e) ≡ slice_index ws (info_word_of (length code.first) e)
   infos_same e = get_or-set_other ws (count_word_of (length code.first) t) (info_word_of (length code.first) e) x 0 (λ q. absurd (omega (arith, q)))
 
-  values_same : (e : ℕ) → slice_index (set ws (count_word_of (length code.first) t) x) (value_word_of (length code.first) e) ≡ slice_index ws (value_word_of (length code.first) e)
+  pub values_same : (e : ℕ) → slice_index (set ws (count_word_of (length code.first) t) x) (value_word_of (length code.first) e) ≡ slice_index ws (value_word_of (length code.first) e)
   values_same e = get_or-set_other ws (count_word_of (length code.first) t) (value_word_of (length code.first) e) x 0 (λ q. absurd (omega (arith, q)))
 
   pub numbers_same : (e : ℕ) → slice_index (set ws (count_word_of (length code.first) t) x) (number_word_of (length code.first) e) ≡ slice_index ws (number_word_of (length code.first) e)
@@ -221,6 +222,13 @@ module _ (code : CodeParts) (fuel n id : ℕ) (v : SeatView) (job : Job) (t coun
         (subst (λ (z : Net). Plans z stands.role role' t path) (sym went.same_net)
         (plans path t own (begins_list h) (length code.first) stands.role stands.net hung no_role fresh old_task main pos (created_now (asks code) may.before.body) may.before.holding.path refl))
 
+    -- what has a role keeps it
+    old_role : (e : ℕ) (r : Role) → stands.role e ≡ Some r → role' e ≡ Some r
+    old_role e r is = elim (plans_of.each e) [
+      | inl q ↦ q ∙ (ap (λ (z : ℕ → Option Role). z e) went.same_role ∙ is)
+      | inr q ↦ absurd (let z : None ≡ Some r = sym q.0 ∙ (ap (λ (z : ℕ → Option Role). z e) went.same_role ∙ is) in let bad : ⊥ = cc in bad)
+    ]
+
     filled : slice_index (set ws (count_word_of (length code.first) t) count) (count_word_of (length code.first) t) ≡ 1 + below (λ e. weight t (role' e) (k.states e)) n
     filled =
         let i = may.inside in
@@ -324,6 +332,14 @@ module _ (code : CodeParts) (fuel n id : ℕ) (v : SeatView) (job : Job) (t coun
       undrawn = λ e high. subst (λ (z : List (Sight CodeScript)). IsFree role' z e) (sym (sights_set views id l)) (still_free e (subst (λ (z : ℕ). z ≤ e) (draw_same code n ws homes stands.cells t count) high));
       selves = λ e q is. own_reads e q (source path t own (begins_list h) (length code.first) stands.role e q is);
       heard = heard_same stands.net k.infos (λ e. info_at (slice_index (set ws (count_word_of (length code.first) t) count) (info_word_of (length code.first) e))) views id v l sits refl (λ e. ap info_at (infos_same code n ws homes stands.cells t count e)) stands.heard;
+      marked = marked_on stands.net stands.net stands.role role' k.states (λ e. state_at (slice_index (set ws (count_word_of (length code.first) t) count) (state_word_of (length code.first) e))) k.values (λ e. slice_index (set ws (count_word_of (length code.first) t) count) (value_word_of (length code.first) e))
+          (record {
+            place = λ e hangs. refl;
+            last = λ e hangs left. refl;
+            role_is = old_role;
+            stays = λ e hangs. stays_same (k.states e) (state_at (slice_index (set ws (count_word_of (length code.first) t) count) (state_word_of (length code.first) e))) (ap state_at (states_same code n ws homes stands.cells t count e));
+            value = λ e hangs left. values_same code n ws homes stands.cells t count e;
+          }) views id v l sits refl stands.marked;
       seats = subst (λ (z : List View). AreSeats n stands.net (λ e. state_at (slice_index (set ws (count_word_of (length code.first) t) count) (state_word_of (length code.first) e))) (slice_index (set ws (count_word_of (length code.first) t) count) 0) z) (sym (words_stay views id v l sits refl))
           (subst (λ (z : ℕ). AreSeats n stands.net (λ e. state_at (slice_index (set ws (count_word_of (length code.first) t) count) (state_word_of (length code.first) e))) z (words_of (sights_of views))) (sym (draw_same code n ws homes stands.cells t count))
           (subst (λ (g : ℕ → EntryState). AreSeats n stands.net g (slice_index ws 0) (words_of (sights_of views))) (λ i e. state_at (sym (states_same code n ws homes stands.cells t count e) i)) stands.seats));

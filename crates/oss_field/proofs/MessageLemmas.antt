@@ -163,7 +163,7 @@ pub without_has : (m : Message) (xs : List Message) → Has m xs → (b : Messag
 without_has m xs has b h = let a = without_one m xs has (only b) in let c = has_total b (without m xs) h in total_has b xs (omega (arith, a, c))
 
 -- an element at its place is in the list
-at_among : (xs : List Held) (k : ℕ) (d : Held) → k < length xs → Among (get_or xs k d) xs
+pub at_among : (xs : List Held) (k : ℕ) (d : Held) → k < length xs → Among (get_or xs k d) xs
 at_among [] k d h = absurd (omega (arith, h))
 at_among (x ∷ xs) zero d h = among_first refl
 at_among (x ∷ xs) (suc k) d h = among_later (at_among xs k d (omega (arith, h)))
@@ -182,14 +182,14 @@ among_has (y ∷ xs) x (among_first q) = head (ap (λ (z : Held). z.entry) q) (a
 among_has (y ∷ xs) x (among_later t) = tail (among_has xs x t)
 
 -- a ready message is held
-ready_held : (held : List Held) (k : Known) → Ready held [] k → (x : Held) → Among x held → Has (message_of x) k.words.held
+pub ready_held : (held : List Held) (k : Known) → Ready held [] k → (x : Held) → Among x held → Has (message_of x) k.words.held
 ready_held held k ready x m =
     let a = has_total (message_of x) (map message_of held) (among_has held x m) in
     let b = ready.same (only (message_of x)) in
     total_has (message_of x) k.words.held (omega (arith, a, b))
 
 -- and one that is held is ready
-held_ready : (held : List Held) (k : Known) (d : Held) → Ready held [] k → (m : Message) → Has m k.words.held → (j : ℕ) × (j < length held) × ((get_or held j d).entry ≡ m.entry) × ((get_or held j d).flag ≡ m.flag)
+pub held_ready : (held : List Held) (k : Known) (d : Held) → Ready held [] k → (m : Message) → Has m k.words.held → (j : ℕ) × (j < length held) × ((get_or held j d).entry ≡ m.entry) × ((get_or held j d).flag ≡ m.flag)
 held_ready held k d ready m h =
     let a = has_total m k.words.held h in
     let b = ready.same (only m) in

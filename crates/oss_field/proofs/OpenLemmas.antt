@@ -48,7 +48,7 @@ use Rattle.oss_field.specs.Steps.{Steps}
 use Rattle.oss_field.specs.Table.{Slot, is_job_of, planned_by, sights_of, Stands}
 use Rattle.oss_field.proofs.ActLemmas.{carried_one}
 use Rattle.oss_field.proofs.DrawLemmas.{mod_small}
-use Rattle.oss_field.proofs.MakingLemmas.{bodies_same, cells_same, count_here, counts_else, draw_same, infos_same, numbers_same, parts_now, states_same}
+use Rattle.oss_field.proofs.MakingLemmas.{bodies_same, cells_same, count_here, counts_else, draw_same, infos_same, numbers_same, parts_now, states_same, values_same}
 use Rattle.oss_field.proofs.PlanLemmas.{has_held, right_held, site_cell}
 use Rattle.oss_field.proofs.SlotLemmas.{within}
 use Rattle.oss_field.proofs.StageLemmas.{made_is, made_kept}
@@ -285,7 +285,7 @@ module _ (code : CodeParts) (fuel n id : ℕ) (v : SeatView) (job : Job) (t : �
         let y : ℕ = slice_index ws (count_word_of (length code.first) t) - 1 in
         let ws' : List ℕ = set ws (count_word_of (length code.first) t) y in
         next_stands code fuel n ws homes views stands id v l sits refl refl refl told ws' homes stands.cells (length-set ws (count_word_of (length code.first) t) y ∙ stands.size) stands.slots stands.sized
-        (λ c low. cells_same code n ws homes stands.cells t y c low ∙ stands.cell_words c low) (λ e low z. stands.empty e low (sym (bodies_same code n ws homes stands.cells t y e) ∙ z)) (states_same code n ws homes stands.cells t y) (λ e hangs. infos_same code n ws homes stands.cells t y e) (draw_same code n ws homes stands.cells t y)
+        (λ c low. cells_same code n ws homes stands.cells t y c low ∙ stands.cell_words c low) (λ e low z. stands.empty e low (sym (bodies_same code n ws homes stands.cells t y e) ∙ z)) (states_same code n ws homes stands.cells t y) (λ e hangs. infos_same code n ws homes stands.cells t y e) (λ e left. values_same code n ws homes stands.cells t y e) (draw_same code n ws homes stands.cells t y)
         (plans_stand code n stands.net stands.role ws ws' (set (planned_by views) id (planned_of l)) (planned_by (set views id (record { known = l }))) (states_same code n ws homes stands.cells t y) (infos_same code n ws homes stands.cells t y) (numbers_same code n ws homes stands.cells t y)
         (map-set (λ (z : SeatView). planned_of z.known) views id (record { known = l }))
         (planned_less code n stands.net stands.role k.states k.infos k.cell_of (planned_by views) stands.planned id (planned_of v.known) planned_at t may.linked))

@@ -37,7 +37,7 @@ use Rattle.oss_field.specs.Layout.{count_word_of, info_word_of, parts_of, state_
 use Rattle.oss_field.specs.Messages.{Later, later, MayDeliver, Passes, is_due, owes_after, passed, without}
 use Rattle.oss_field.specs.Steps.{Steps}
 use Rattle.oss_field.specs.Table.{Slot, is_job_of, sights_of, Neat, Stands}
-use Rattle.oss_field.proofs.FlagLemmas.{added, flag_adds, flag_fits, flag_neat, flag_sets, parts_fit, with_flag}
+use Rattle.oss_field.proofs.FlagLemmas.{added, flag_adds, flag_fits, flag_neat, flag_sets, flag_stays, parts_fit, with_flag}
 use Rattle.oss_field.proofs.HearLemmas.{bounded, held_names, told_depth, told_hangs, view_at, work_bounded}
 use Rattle.oss_field.proofs.MessageLemmas.{without_has, without_one}
 use Rattle.oss_field.proofs.TableLemmas.{chained, sits_at}
@@ -147,7 +147,7 @@ module _ (code : CodeParts) (fuel n id : ℕ) (v : SeatView) (m : Message) (i : 
     passed_stands : Stands code fuel n (set ws (state_word_of (length code.first) m.entry) (state_word c)) homes (set views id (record { known = l }))
     passed_stands = state_stands code fuel n ws homes views stands m.entry may.inside c fits neat id v l sits refl refl refl
         (subst (λ (z : Net). z.place m.entry ≢ apart) stands.rule.same_net (told_hangs code fuel n ws homes views stands id v sits m.entry (info_at i) may.told).0)
-        (stands.told id v sits) refl refl refl more stands.gave (chained stands rule)
+        (flag_stays (state_at x) m.flag may.flag names.1) (stands.told id v sits) refl refl refl more stands.gave (chained stands rule)
 
     -- the task to whose count a count down is owed is one of the table
     task_inside : is_due (info_at i) m.flag ≡ true → (info_at i).task < n

@@ -1,5 +1,5 @@
--- The second step of a give: the last child leads to the entry that was given up.
-use Rattle.std.proofs.Common.{◌≡◌, ◌≢◌, sym, subst, refl, ◌∙◌, ap, ℕ, ◌<◌, ◌≤◌, ◌+◌, ◌*◌, ◌%◌, ◌^◌, arith, true, false, List, [], ◌++◌, length, set, Option, Some, None}
+-- The second step of a give, or of the join of an entry with children: the last child leads to the entry that was given up.
+use Rattle.std.proofs.Common.{◌≡◌, ◌≢◌, sym, subst, refl, ◌∙◌, ap, ℕ, ◌<◌, ◌≤◌, ◌+◌, ◌*◌, ◌%◌, ◌^◌, arith, true, false, List, [], ◌∷◌, ◌++◌, length, set, Option, Some, None}
 use Rattle.std.specs.Prelude.{slice_index}
 use Rattle.std.specs.Global.{Box}
 use mathlib.Core.Option as maybe
@@ -16,6 +16,7 @@ use Rattle.oss_words.specs.Flow.{Half}
 use Rattle.oss_words.specs.Grown.{Grown}
 use Rattle.oss_words.specs.Net.{Net, apart}
 use Rattle.oss_words.specs.Steps.{Rises}
+use Rattle.oss_words.specs.Views.{Among}
 use Rattle.oss_words.proofs.CauseLemmas.{clash}
 use Rattle.oss_words.proofs.KeptLaw.{at_here}
 use Rattle.oss_words.proofs.SeatLemmas.{came_more}
@@ -36,14 +37,12 @@ use Rattle.oss_field.proofs.OwnLemmas.{cell_filed, last_child, own_filed}
 use Rattle.oss_field.proofs.TableLemmas.{chained, sits_at}
 use Rattle.oss_field.proofs.WordTable.{state_else, state_here, state_stands}
 
-module _ (code : CodeParts) (fuel n id : ℕ) (v : SeatView) (cell : Option ℕ) (entry last w : ℕ) (s : IsHalfGiven v.known cell entry last w) (few : n ≤ 16777216) where
-  abbrev h : Holding
-  h = s.holding
+module _ (code : CodeParts) (fuel n id : ℕ) (v : SeatView) (e last w : ℕ) (halved : v.known.words.half ≡ e ∷ []) (told : Among (record { entry = last; info = info_at w }) v.known.told) (unjoined : v.known.joined ≡ []) (few : n ≤ 16777216) where
+  -- in each table the last child of the entry is this one
+  abbrev pub IsLastOf : Type 0
+  IsLastOf = (ws : List ℕ) (homes : List (maybe.Option Slot)) (views : List SeatView) (stands : Stands code fuel n ws homes views) → get_elem? views id ≡ maybe.some v → (stands.rule.field.net.last e ≡ last) × (stands.rule.field.net.place last ≢ apart)
 
-  abbrev e : ℕ
-  e = entry_of s.holding cell
-
-  module _ (ws : List ℕ) (homes : List (maybe.Option Slot)) (views : List SeatView) (stands : Stands code fuel n ws homes views) (sits : get_elem? views id ≡ maybe.some v) where
+  module _ (ws : List ℕ) (homes : List (maybe.Option Slot)) (views : List SeatView) (stands : Stands code fuel n ws homes views) (sits : get_elem? views id ≡ maybe.some v) (last_is : stands.rule.field.net.last e ≡ last) (hangs : stands.rule.field.net.place last ≢ apart) where
     abbrev k : Parts (Box Job)
     k = parts_of (length code.first) ws homes stands.cells
 
@@ -53,33 +52,23 @@ module _ (code : CodeParts) (fuel n id : ℕ) (v : SeatView) (cell : Option ℕ)
     seated : Sits (sights_of views) id (sight_of v.known)
     seated = sits_at views id v sits
 
-    filed : (o : Option ℕ) → HasEntry h o → (x : Filed f.net f.role h.path (site_of o)) × (x.entry ≡ entry_of h o)
-    filed None has = own_filed code n k (sights_of views) f id v.known seated s.place h s.holds s.below_main
-    filed (Some c) has = let x = cell_filed code n k (sights_of views) f id v.known seated s.place h s.holds s.below_main c has.0 has.1 has.2 in (x.0, x.3)
-
-    child : (f.net.last e ≡ last) × ((k.states e).headed ≡ true) × (f.net.place last ≢ apart)
-    child =
-        let x = filed cell s.has in
-        subst (λ (z : ℕ). (f.net.last z ≡ last) × ((k.states z).headed ≡ true) × (f.net.place last ≢ apart)) x.1
-        (last_child code n k (sights_of views) f id v.known seated s.place h s.holds s.makes x.0.entry x.0.it x.0.is x.0.hangs x.0.path last (ap (λ (z : Site). last_of h z) x.0.site ∙ s.last_is))
-
     half : Half n f.net k.states k.infos e v.known.words
-    half = f.words.flow.words.halves id v.known.words (view_at code fuel n ws homes views stands id v sits) e [] s.half
+    half = f.words.flow.words.halves id v.known.words (view_at code fuel n ws homes views stands id v sits) e [] halved
 
     unlinked : (k.states last).linked ≡ false
-    unlinked = subst (λ (z : ℕ). (k.states z).linked ≡ false) child.0 half.unlinked
+    unlinked = subst (λ (z : ℕ). (k.states z).linked ≡ false) last_is half.unlinked
 
     inside : last < n
-    inside = subst (λ (z : ℕ). z < n) child.0 half.inside_last
+    inside = subst (λ (z : ℕ). z < n) last_is half.inside_last
 
     abbrev x : ℕ
     x = slice_index ws (state_word_of (length code.first) last)
 
     abbrev c : EntryState
-    c = record (state_at (slice_index ws (state_word_of (length code.first) last))) { linked = true; next = entry_of s.holding cell }
+    c = record (state_at (slice_index ws (state_word_of (length code.first) last))) { linked = true; next = e }
 
     abbrev l : Known
-    l = gave_rest (length code.first) (entry_of s.holding cell) last w (slice_index ws (state_word_of (length code.first) last)) v.known
+    l = gave_rest (length code.first) e last w (slice_index ws (state_word_of (length code.first) last)) v.known
 
     fits : FitsWord c
     fits = record { next = (let p = half.inside in omega (arith, p, few)); child = (parts_fit x).child }
@@ -100,9 +89,9 @@ module _ (code : CodeParts) (fuel n id : ℕ) (v : SeatView) (cell : Option ℕ)
     others = state_else code fuel n ws homes views stands last inside c fits neat
 
     word : Rises f.net k.states states' k.infos e v.known.words l.words
-    word = subst (λ (z : ℕ). (states' z ≡ record (k.states z) { linked = true; next = e }) → ((j : ℕ) → j ≢ z → states' j ≡ k.states j) → (l.words.held ≡ v.known.words.held ++ sent z (k.states z) (states' z) (k.infos z)) → Rises f.net k.states states' k.infos e v.known.words l.words) child.0
-        (λ sets rest sends. record { full = s.half; sets = sets; others = rest; sends = sends; whole = refl }) now others
-        (ap (λ z. v.known.words.held ++ z) (λ j. sent last (state_at x) ((sum.1 ∙ sym now) j) (sym (told_hangs code fuel n ws homes views stands id v sits last (info_at w) s.told).1 j)))
+    word = subst (λ (z : ℕ). (states' z ≡ record (k.states z) { linked = true; next = e }) → ((j : ℕ) → j ≢ z → states' j ≡ k.states j) → (l.words.held ≡ v.known.words.held ++ sent z (k.states z) (states' z) (k.infos z)) → Rises f.net k.states states' k.infos e v.known.words l.words) last_is
+        (λ sets rest sends. record { full = halved; sets = sets; others = rest; sends = sends; whole = refl }) now others
+        (ap (λ z. v.known.words.held ++ z) (λ j. sent last (state_at x) ((sum.1 ∙ sym now) j) (sym (told_hangs code fuel n ws homes views stands id v sits last (info_at w) told).1 j)))
 
     rise_stands : Stands code fuel n (set ws (state_word_of (length code.first) last) (state_word c)) homes (set views id (record { known = l }))
     rise_stands =
@@ -110,22 +99,49 @@ module _ (code : CodeParts) (fuel n id : ℕ) (v : SeatView) (cell : Option ℕ)
           sits = seated;
           word = word;
           unlinked = half.unlinked;
-          none = s.unjoined;
+          none = unjoined;
           owes = refl;
           same = record { bears = refl; makes = refl; ready = refl; loaded = refl; joined = refl; seen = refl; still = refl };
         }) in
         let each : (j : ℕ) → Grown (k.states j) (states' j) = all_of Grown grown_same k.states states' last others (subst (λ (z : EntryState). Grown (k.states last) z) (sym now) (risen_grown_word e (k.states last) unlinked)) in
         let come = came_more n stands.net.place k.states states' each in
-        state_stands code fuel n ws homes views stands last inside c fits neat id v l sits refl refl refl (subst (λ (z : Net). z.place last ≢ apart) stands.rule.same_net child.2) (stands.told id v sits) refl refl refl (omega (arith, come)) stands.gave (chained stands rule)
+        state_stands code fuel n ws homes views stands last inside c fits neat id v l sits refl refl refl (subst (λ (z : Net). z.place last ≢ apart) stands.rule.same_net hangs) (record { left = λ q. q; none = λ q h. h }) (stands.told id v sits) refl refl refl (omega (arith, come)) stands.gave (chained stands rule)
 
-  pub rises : Steps code fuel n id v (state_word_of (length code.first) last) (λ y. (y + (64 + 65536 * entry_of s.holding cell)) % 2 ^ 64) (λ y z. GivesRest n (length code.first) (entry_of s.holding cell) last w y v.known z)
-  rises ws homes views stands sits bits =
+  pub rises_to : IsLastOf → Steps code fuel n id v (state_word_of (length code.first) last) (λ y. (y + (64 + 65536 * e)) % 2 ^ 64) (λ y z. GivesRest n (length code.first) e last w y v.known z)
+  rises_to is ws homes views stands sits bits =
       let y : ℕ = slice_index ws (state_word_of (length code.first) last) in
       let z : Known = gave_rest (length code.first) e last w y v.known in
-      let total = sum ws homes views stands sits in
-      let new = rise_stands ws homes views stands sits in
+      let child = is ws homes views stands sits in
+      let total = sum ws homes views stands sits child.0 child.1 in
+      let new = rise_stands ws homes views stands sits child.0 child.1 in
       let ws' = set ws (state_word_of (length code.first) last) (state_word (record (state_at y) { linked = true; next = e })) in (
         z,
         subst (λ (u : ℕ). Stands code fuel n (set ws (state_word_of (length code.first) last) u) homes (set views id (record { known = z }))) (sym total.0) new,
         record { known = refl; bounded = bounded code fuel n ws' homes (set views id (record { known = z })) new id (record { known = z }) (at_here views id v (record { known = z }) sits); fits = total.2 },
       )
+
+-- the last child that a job tells
+module _ (code : CodeParts) (fuel n id : ℕ) (v : SeatView) (cell : Option ℕ) (entry last w : ℕ) (s : IsHalfGiven v.known cell entry last w) (few : n ≤ 16777216) where
+  abbrev h : Holding
+  h = s.holding
+
+  module _ (ws : List ℕ) (homes : List (maybe.Option Slot)) (views : List SeatView) (stands : Stands code fuel n ws homes views) (sits : get_elem? views id ≡ maybe.some v) where
+    abbrev parts : Parts (Box Job)
+    parts = parts_of (length code.first) ws homes stands.cells
+
+    abbrev field : Field (asks code) (code_main code fuel) code.first (is_job_of code stands.before) n parts (sights_of views)
+    field = stands.rule.field
+
+    filed : (o : Option ℕ) → HasEntry h o → (x : Filed field.net field.role h.path (site_of o)) × (x.entry ≡ entry_of h o)
+    filed None has = own_filed code n parts (sights_of views) field id v.known (sits_at views id v sits) s.place h s.holds s.below_main
+    filed (Some c) has = let x = cell_filed code n parts (sights_of views) field id v.known (sits_at views id v sits) s.place h s.holds s.below_main c has.0 has.1 has.2 in (x.0, x.3)
+
+    told_last : (field.net.last (entry_of s.holding cell) ≡ last) × (field.net.place last ≢ apart)
+    told_last =
+        let x = filed cell s.has in
+        let r = subst (λ (z : ℕ). (field.net.last z ≡ last) × ((parts.states z).headed ≡ true) × (field.net.place last ≢ apart)) x.1
+        (last_child code n parts (sights_of views) field id v.known (sits_at views id v sits) s.place h s.holds s.makes x.0.entry x.0.it x.0.is x.0.hangs x.0.path last (ap (λ (z : Site). last_of h z) x.0.site ∙ s.last_is)) in
+        (r.0, r.2)
+
+  pub rises : Steps code fuel n id v (state_word_of (length code.first) last) (λ y. (y + (64 + 65536 * entry_of s.holding cell)) % 2 ^ 64) (λ y z. GivesRest n (length code.first) (entry_of s.holding cell) last w y v.known z)
+  rises = rises_to code fuel n id v (entry_of s.holding cell) last w s.half s.told s.unjoined few (λ ws homes views stands sits. told_last ws homes views stands sits)

@@ -31,6 +31,7 @@ use Rattle.oss_field.specs.declared.view.SeatView.{SeatView}
 use Rattle.oss_field.specs.Heard.{Told}
 use Rattle.oss_field.specs.Known.{Holding, Plan, Unlinked, sight_of}
 use Rattle.oss_field.specs.Layout.{parts_of, state_word_of}
+use Rattle.oss_field.specs.Marks.{Mark}
 use Rattle.oss_field.specs.Plans.{ArePlanned, Planned, planned_of}
 use Rattle.oss_field.specs.Seats.{new_known, parted}
 use Rattle.oss_field.specs.Table.{AreSeats, Slot, Stands, is_job_of, planned_by, sights_of}
@@ -65,6 +66,9 @@ no_number e a = elim a [ ]
 
 pub none_told : (t : Told) → Among t [] → ⊥
 none_told t a = elim a [ ]
+
+pub none_marked : (t : Mark) → Among t [] → ⊥
+none_marked t a = elim a [ ]
 
 no_plan : (y : Plan) → Among y [] → ⊥
 no_plan y a = elim a [ ]
@@ -227,6 +231,15 @@ module _ (code : CodeParts) (fuel n : ℕ) (v : SeatView) (more : 1 < v.known.wo
             | inr e ↦ stands.heard.told j y e.1 t a
           ]
           | inr new ↦ absurd (none_told t (subst (λ (x : SeatView). Among t x.known.told) (sym new) a))
+        ];
+      };
+      marked = record {
+        each = λ j y at t a. elim (at_snoc (set z.views 0 l) r y j at) [
+          | inl old ↦ elim (at_set z.views 0 j l y old) [
+            | inl e ↦ stands.marked.each 0 v sits t (subst (λ (x : SeatView). Among t x.known.marks) (sym e.1) a)
+            | inr e ↦ stands.marked.each j y e.1 t a
+          ]
+          | inr new ↦ absurd (none_marked t (subst (λ (x : SeatView). Among t x.known.marks) (sym new) a))
         ];
       };
       seats = subst (λ (y : List View). AreSeats n stands.net (λ e. state_at (slice_index z.words (state_word_of (length code.first) e))) (slice_index z.words 0) y) (sym words_are) seats_now;

@@ -144,14 +144,14 @@ module _ (code : CodeParts) (fuel n : ℕ) (ws : List ℕ) (homes : List (maybe.
       → FieldAt (asks code) (code_main code fuel) code.first (is_job_of code stands.before) n stands.net stands.gave stands.role
       (record (parts_of (length code.first) ws homes stands.cells) { bodies = (parts_of (length code.first) ws' homes' stands.cells).bodies; jobs = (parts_of (length code.first) ws' homes' stands.cells).jobs }) (set (sights_of views) id (sight_of l))
       → Stands code fuel n (set ws (body_word_of (length code.first) t) x) (set homes t home') (set views id (record { known = l }))
-  slot_stands id v l sits words drawn told some rule = next_stands code fuel n ws homes views stands id v l sits words (ap (λ (z : Prepared). z.drawn) drawn) (ap (λ (z : Prepared). z.told) drawn) told ws' homes' stands.cells
+  slot_stands id v l sits words drawn told some rule = next_stands code fuel n ws homes views stands id v l sits words (ap (λ (z : Prepared). z.drawn) drawn) (ap (λ (z : Prepared). z.heard) drawn) told ws' homes' stands.cells
       (length-set ws (body_word_of (length code.first) t) x ∙ stands.size) (length-set homes t home' ∙ stands.slots) stands.sized
       (λ c low. get_or-set_other ws (body_word_of (length code.first) t) (cell_word c) x 0 (λ q. absurd (omega (arith, q, low))) ∙ stands.cell_words c low)
       (λ e low z. elim (eqb_tells e t) [
         | inl h ↦ absurd (some (sym here ∙ (ap (λ (j : ℕ). slice_index ws' (body_word_of (length code.first) j)) (sym h.1) ∙ z)))
         | inr h ↦ set_else homes t e home' h.1 ∙ stands.empty e low (sym (bodies_else e h.1) ∙ z)
       ])
-      states_same (λ e hangs. infos_same e)
+      states_same (λ e hangs. infos_same e) (λ e left. values_same e)
       (get_or-set_other ws (body_word_of (length code.first) t) 0 x 0 (λ q. absurd (omega (arith, q))))
       (plans_stand code n stands.net stands.role ws ws' (planned_by views) (planned_by (set views id (record { known = l }))) states_same infos_same numbers_same (plans_same views id v l sits (ap (λ (z : Prepared). z.planned) drawn)) stands.planned)
       (subst (λ (z : Parts (Box Job)). FieldAt (asks code) (code_main code fuel) code.first (is_job_of code stands.before) n stands.net stands.gave stands.role z (set (sights_of views) id (sight_of l))) parts_now rule)

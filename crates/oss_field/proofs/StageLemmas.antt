@@ -211,6 +211,7 @@ stands_retold code fuel n ws homes views stands id v sits a among two = (
     undrawn = stands.undrawn;
     selves = stands.selves;
     heard = stands.heard;
+    marked = stands.marked;
     seats = stands.seats;
     planned = stands.planned;
   },

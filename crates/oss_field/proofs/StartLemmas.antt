@@ -25,6 +25,7 @@ use Rattle.oss_field.specs.declared.view.SeatView.{SeatView}
 use Rattle.oss_field.specs.Heard.{Told}
 use Rattle.oss_field.specs.Known.{Holding, Plan, Unlinked, first_known, sight_of}
 use Rattle.oss_field.specs.Layout.{Home, job_in, state_word_of, count_word_of, body_word_of, parts_of}
+use Rattle.oss_field.specs.Marks.{Mark}
 use Rattle.oss_field.specs.Plans.{Planned, planned_of}
 use Rattle.oss_field.specs.Standing.{blanks, first_entry, blank_entry, words_at_start, slots_at_start, at_home}
 use Rattle.oss_field.specs.Table.{Slot, is_job_of, Neat, Stands}
@@ -172,6 +173,9 @@ module _ (code : CodeParts) (fuel n : ℕ) (low : 0 < n) (high : n ≤ 16777216)
   none_told : (t : Told) → Among t [] → ⊥
   none_told t a = elim a [ ]
 
+  none_marked : (t : Mark) → Among t [] → ⊥
+  none_marked t a = elim a [ ]
+
   nothing : (e : ℕ) → Among e [] → ⊥
   nothing e a = elim a [ ]
 
@@ -222,6 +226,7 @@ module _ (code : CodeParts) (fuel n : ℕ) (low : 0 < n) (high : n ≤ 16777216)
       undrawn = λ j x sits a. nothing e (subst (λ (z : Sight CodeScript). Among e z.drawn) (sym (only j x sits)) a);
     };
     selves = λ t q is. absurd (let z : None ≡ Some q = is in let bad : ⊥ = cc in bad);
+    marked = record { each = λ j x sits t a. absurd (none_marked t (subst (λ (z : SeatView). Among t z.known.marks) (sym (only_view j x sits)) a)) };
     heard = record { told = λ j x sits t a. absurd (none_told t (subst (λ (z : SeatView). Among t z.known.told) (sym (only_view j x sits)) a)) };
     seats = record {
       main_drawn = omega arith;

@@ -1,5 +1,5 @@
 -- The table after a step of one seat: what a law of `oss_roles` gives for the words as functions is so of the words where they lie.
-use Rattle.std.proofs.Common.{◌≡◌, ◌≢◌, ◌⊎◌, inl, inr, sym, subst, refl, ◌∙◌, ap, ℕ, zero, suc, ◌<◌, ◌≤◌, Bool, List, [], ◌∷◌, length, set}
+use Rattle.std.proofs.Common.{◌≡◌, ◌≢◌, ◌⊎◌, inl, inr, sym, subst, refl, ◌∙◌, ap, ℕ, zero, suc, ◌<◌, ◌≤◌, Bool, true, List, [], ◌∷◌, length, set}
 use Rattle.std.specs.Prelude.{slice_index, Option, None}
 use mathlib.Core.Option as maybe
 use lib.ListN.{get_elem?}
@@ -28,11 +28,12 @@ use Rattle.oss_jobs.specs.declared.job.Job.{Job}
 use Rattle.oss_field.specs.declared.view.SeatView.{SeatView}
 use Rattle.oss_field.specs.Heard.{Told}
 use Rattle.oss_field.specs.Known.{Holding, Known, sight_of}
-use Rattle.oss_field.specs.Layout.{words_in, cell_word, state_word_of, info_word_of, number_word_of, body_word_of, parts_of}
-use Rattle.oss_field.specs.Plans.{ArePlanned, Planned, Prepared, planned_of, prepared_of}
+use Rattle.oss_field.specs.Layout.{words_in, cell_word, state_word_of, info_word_of, value_word_of, number_word_of, body_word_of, parts_of}
+use Rattle.oss_field.specs.Plans.{ArePlanned, Hearing, Planned, Prepared, hearing_of, planned_of, prepared_of}
 use Rattle.oss_field.specs.Steps.{Steps}
 use Rattle.oss_field.specs.Table.{Slot, is_job_of, planned_by, sights_of, Neat, AreSeats, Stands}
 use Rattle.oss_field.proofs.HeardLemmas.{heard_on}
+use Rattle.oss_field.proofs.MarkLemmas.{marked_on, same_keeps, stays_same}
 
 -- what is in a list, and in one of which a member was changed
 pub among_at : {A : Type 0} (l : List A) (i : ℕ) (a : A) → get_elem? l i ≡ maybe.some a → Among a l
@@ -103,7 +104,7 @@ plans_stand code n net role ws ws' seats seats' states infos numbers same p =
 
 -- the table after a step that leaves the state words, the draw word, the roles and what the seat has drawn
 module _ (code : CodeParts) (fuel n : ℕ) (ws : List ℕ) (homes : List (maybe.Option Slot)) (views : List SeatView) (stands : Stands code fuel n ws homes views)
-    (id : ℕ) (v : SeatView) (l : Known) (at : get_elem? views id ≡ maybe.some v) (words : l.words ≡ v.known.words) (drawn : l.drawn ≡ v.known.drawn) (heard : l.told ≡ v.known.told)
+    (id : ℕ) (v : SeatView) (l : Known) (at : get_elem? views id ≡ maybe.some v) (words : l.words ≡ v.known.words) (drawn : l.drawn ≡ v.known.drawn) (heard : hearing_of l ≡ hearing_of v.known)
     (told : (h : Holding) → Among h l.bears → stands.before h.number ≡ h.before) where
   abbrev m : ℕ
   m = length code.first
@@ -123,11 +124,12 @@ module _ (code : CodeParts) (fuel n : ℕ) (ws : List ℕ) (homes : List (maybe.
       → ((e : ℕ) → e < n → slice_index ws' (body_word_of (length code.first) e) ≡ 0 → get_elem? homes' e ≡ maybe.some (maybe.some None))
       → ((e : ℕ) → slice_index ws' (state_word_of (length code.first) e) ≡ slice_index ws (state_word_of (length code.first) e))
       → ((e : ℕ) → stands.net.place e ≢ apart → slice_index ws' (info_word_of (length code.first) e) ≡ slice_index ws (info_word_of (length code.first) e))
+      → ((e : ℕ) → (state_at (slice_index ws (state_word_of (length code.first) e))).left ≡ true → slice_index ws' (value_word_of (length code.first) e) ≡ slice_index ws (value_word_of (length code.first) e))
       → slice_index ws' 0 ≡ slice_index ws 0
       → ArePlanned code n stands.net stands.role (λ e. state_at (slice_index ws' (state_word_of (length code.first) e))) (λ e. info_at (slice_index ws' (info_word_of (length code.first) e))) (λ e. slice_index ws' (number_word_of (length code.first) e)) (planned_by (set views id (record { known = l })))
       → FieldAt (asks code) (code_main code fuel) code.first (is_job_of code stands.before) n stands.net stands.gave stands.role (parts_of (length code.first) ws' homes' cells') (set (sights_of views) id (sight_of l))
       → Stands code fuel n ws' homes' (set views id (record { known = l }))
-  next_stands ws' homes' cells' size slots sized cell_words empty same infos draw planned rule = record {
+  next_stands ws' homes' cells' size slots sized cell_words empty same infos values draw planned rule = record {
     net = stands.net;
     gave = stands.gave;
     role = stands.role;
@@ -151,7 +153,10 @@ module _ (code : CodeParts) (fuel n : ℕ) (ws : List ℕ) (homes : List (maybe.
         (free_stays stands.role (sights_of views) id (sight_of v.known) (sight_of l) (sits_at views id v at) drawn e (stands.undrawn e (subst (λ (z : ℕ). z ≤ e) draw high)));
     selves = stands.selves;
     heard = heard_on stands.net (λ e. info_at (slice_index ws (info_word_of m e))) (λ e. info_at (slice_index ws' (info_word_of m e))) views id v l at
-        (λ t a. inl (subst (λ (z : List Told). Among t z) heard a)) (λ e hangs. ap info_at (infos e hangs)) stands.heard;
+        (λ t a. inl (subst (λ (z : List Told). Among t z) (ap (λ (z : Hearing). z.told) heard) a)) (λ e hangs. ap info_at (infos e hangs)) stands.heard;
+    marked = marked_on stands.net stands.net stands.role stands.role (λ e. state_at (slice_index ws (state_word_of m e))) (λ e. state_at (slice_index ws' (state_word_of m e))) (λ e. slice_index ws (value_word_of m e)) (λ e. slice_index ws' (value_word_of m e))
+        (same_keeps stands.net stands.role (λ e. state_at (slice_index ws (state_word_of m e))) (λ e. state_at (slice_index ws' (state_word_of m e))) (λ e. slice_index ws (value_word_of m e)) (λ e. slice_index ws' (value_word_of m e))
+        (λ e. stays_same (state_at (slice_index ws (state_word_of m e))) (state_at (slice_index ws' (state_word_of m e))) (ap state_at (same e))) values) views id v l at (ap (λ (z : Hearing). z.marks) heard) stands.marked;
     seats = subst (λ (z : List View). AreSeats n stands.net (λ e. state_at (slice_index ws' (state_word_of m e))) (slice_index ws' 0) z) (sym views_stay)
         (subst (λ (z : ℕ). AreSeats n stands.net (λ e. state_at (slice_index ws' (state_word_of m e))) z (words_of (sights_of views))) (sym draw)
         (subst (λ (g : ℕ → EntryState). AreSeats n stands.net g (slice_index ws 0) (words_of (sights_of views))) (λ i e. state_at (sym (same e) i)) stands.seats));
@@ -164,7 +169,7 @@ pub quiet_stands : (code : CodeParts) (fuel n : ℕ) (ws : List ℕ) (homes : Li
     → FieldAt (asks code) (code_main code fuel) code.first (is_job_of code stands.before) n stands.net stands.gave stands.role (parts_of (length code.first) ws homes stands.cells) (set (sights_of views) id (sight_of l))
     → Stands code fuel n ws homes (set views id (record { known = l }))
 quiet_stands code fuel n ws homes views stands id v l at words same told rule =
-    next_stands code fuel n ws homes views stands id v l at words (ap (λ (z : Prepared). z.drawn) same) (ap (λ (z : Prepared). z.told) same) told ws homes stands.cells stands.size stands.slots stands.sized stands.cell_words stands.empty (λ e. refl) (λ e hangs. refl) refl
+    next_stands code fuel n ws homes views stands id v l at words (ap (λ (z : Prepared). z.drawn) same) (ap (λ (z : Prepared). z.heard) same) told ws homes stands.cells stands.size stands.slots stands.sized stands.cell_words stands.empty (λ e. refl) (λ e hangs. refl) (λ e left. refl) refl
     (plans_stand code n stands.net stands.role ws ws (planned_by views) (planned_by (set views id (record { known = l }))) (λ e. refl) (λ e. refl) (λ e. refl) (plans_same views id v l at (ap (λ (z : Prepared). z.planned) same)) stands.planned) rule
 
 -- a word that was read is as it was

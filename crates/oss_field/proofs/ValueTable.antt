@@ -11,6 +11,7 @@ use Rattle.oss_jobs.specs.declared.job.Job.{Job}
 use Rattle.oss_machine.specs.Machines.{asks}
 use Rattle.oss_words.specs.Bits.{info_at, state_at}
 use Rattle.oss_words.specs.Views.{Among}
+use Rattle.oss_words.proofs.CauseLemmas.{clash}
 use Rattle.oss_roles.specs.Field.{FieldAt, Parts}
 use Rattle.oss_field.specs.declared.view.SeatView.{SeatView}
 use Rattle.oss_field.specs.Known.{Holding, Known, sight_of}
@@ -59,15 +60,16 @@ module _ (code : CodeParts) (fuel n : ℕ) (ws : List ℕ) (homes : List (maybe.
     cells = stands.cells;
   }
 
-  pub value_stands : (id : ℕ) (v : SeatView) (l : Known) → get_elem? views id ≡ maybe.some v → l.words ≡ v.known.words → prepared_of l ≡ prepared_of v.known → ((h : Holding) → Among h l.bears → stands.before h.number ≡ h.before)
+  pub value_stands : (id : ℕ) (v : SeatView) (l : Known) → get_elem? views id ≡ maybe.some v → l.words ≡ v.known.words → prepared_of l ≡ prepared_of v.known → (state_at (slice_index ws (state_word_of (length code.first) o))).left ≡ false
+      → ((h : Holding) → Among h l.bears → stands.before h.number ≡ h.before)
       → FieldAt (asks code) (code_main code fuel) code.first (is_job_of code stands.before) n stands.net stands.gave stands.role
       (record (parts_of (length code.first) ws homes stands.cells) { values = λ e. slice_index (set ws (value_word_of (length code.first) o) x) (value_word_of (length code.first) e) }) (set (sights_of views) id (sight_of l))
       → Stands code fuel n (set ws (value_word_of (length code.first) o) x) homes (set views id (record { known = l }))
-  value_stands id v l sits words same told rule =
-      next_stands code fuel n ws homes views stands id v l sits words (ap (λ (z : Prepared). z.drawn) same) (ap (λ (z : Prepared). z.told) same) told ws' homes stands.cells
+  value_stands id v l sits words same unleft told rule =
+      next_stands code fuel n ws homes views stands id v l sits words (ap (λ (z : Prepared). z.drawn) same) (ap (λ (z : Prepared). z.heard) same) told ws' homes stands.cells
       (length-set ws (value_word_of (length code.first) o) x ∙ stands.size) stands.slots stands.sized
       (λ c low. get_or-set_other ws (value_word_of (length code.first) o) (cell_word c) x 0 (λ q. absurd (omega (arith, q, low))) ∙ stands.cell_words c low)
-      (λ e low z. stands.empty e low (sym (bodies_same e) ∙ z)) states_same (λ e hangs. infos_same e)
+      (λ e low z. stands.empty e low (sym (bodies_same e) ∙ z)) states_same (λ e hangs. infos_same e) (λ e left. value_else e (λ q. clash (ap (λ (z : ℕ). (state_at (slice_index ws (state_word_of (length code.first) z))).left) (sym q) ∙ left) unleft))
       (get_or-set_other ws (value_word_of (length code.first) o) 0 x 0 (λ q. absurd (omega (arith, q))))
       (plans_stand code n stands.net stands.role ws ws' (planned_by views) (planned_by (set views id (record { known = l }))) states_same infos_same numbers_same (plans_same views id v l sits (ap (λ (z : Prepared). z.planned) same)) stands.planned)
       (subst (λ (z : Parts (Box Job)). FieldAt (asks code) (code_main code fuel) code.first (is_job_of code stands.before) n stands.net stands.gave stands.role z (set (sights_of views) id (sight_of l))) parts_now rule)

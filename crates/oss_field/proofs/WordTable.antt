@@ -19,6 +19,7 @@ use Rattle.oss_words.specs.Seats.{came}
 use Rattle.oss_words.specs.Views.{View, Among, At}
 use Rattle.oss_words.proofs.BitLemmas.{states_are_read}
 use Rattle.oss_words.proofs.SeatLemmas.{length_set}
+use Rattle.oss_words.proofs.StillLemmas.{all_of}
 use Rattle.oss_words.proofs.SumLemmas.{same_number, total_set}
 use Rattle.oss_roles.specs.Drawing.{AreDrawn, IsFree}
 use Rattle.oss_roles.specs.Field.{FieldAt, Parts, words_of}
@@ -30,10 +31,12 @@ use Rattle.oss_field.specs.declared.view.SeatView.{SeatView}
 use Rattle.oss_field.specs.Heard.{Told}
 use Rattle.oss_field.specs.Known.{Holding, Known, sight_of}
 use Rattle.oss_field.specs.Layout.{cell_word, state_word_of, info_word_of, value_word_of, number_word_of, count_word_of, body_word_of, parts_of, job_in}
+use Rattle.oss_field.specs.Marked.{AreMarked, StaysLeft}
 use Rattle.oss_field.specs.Messages.{AreHeard}
-use Rattle.oss_field.specs.Plans.{ArePlanned, Planned, planned_of}
+use Rattle.oss_field.specs.Plans.{ArePlanned, Hearing, Planned, hearing_of, planned_of}
 use Rattle.oss_field.specs.Table.{Slot, is_job_of, planned_by, sights_of, Neat, AreSeats, Stands}
 use Rattle.oss_field.proofs.HeardLemmas.{heard_on}
+use Rattle.oss_field.proofs.MarkLemmas.{marked_on, same_keeps, stays_same}
 use Rattle.oss_field.proofs.TableLemmas.{free_stays, plans_same, sights_set, sits_at}
 
 -- what the views tell of seats, after a step by which a seat has delivered no more than has come
@@ -97,11 +100,12 @@ module _ (code : CodeParts) (fuel n : ℕ) (ws : List ℕ) (homes : List (maybe.
       → ((e : ℕ) → slice_index ws' (state_word_of (length code.first) e) ≡ state_word (state_at (slice_index ws' (state_word_of (length code.first) e))))
       → ((e : ℕ) → Neat (state_at (slice_index ws' (state_word_of (length code.first) e))))
       → AreHeard stands.net (λ e. info_at (slice_index ws' (info_word_of (length code.first) e))) (set views id (record { known = l }))
+      → AreMarked stands.net stands.role (λ e. state_at (slice_index ws' (state_word_of (length code.first) e))) (λ e. slice_index ws' (value_word_of (length code.first) e)) (set views id (record { known = l }))
       → ArePlanned code n stands.net stands.role (λ e. state_at (slice_index ws' (state_word_of (length code.first) e))) (λ e. info_at (slice_index ws' (info_word_of (length code.first) e))) (λ e. slice_index ws' (number_word_of (length code.first) e)) (planned_by (set views id (record { known = l })))
       → AreSeats n stands.net (λ e. state_at (slice_index ws' (state_word_of (length code.first) e))) (slice_index ws 0) (set (words_of (sights_of views)) id l.words)
       → FieldAt (asks code) (code_main code fuel) code.first (is_job_of code stands.before) n stands.net gave' stands.role (parts_of (length code.first) ws' homes stands.cells) (set (sights_of views) id (sight_of l))
       → Stands code fuel n ws' homes (set views id (record { known = l }))
-  entry_stands gave' ws' size cells bodies draw whole neat heard planned seats rule = record {
+  entry_stands gave' ws' size cells bodies draw whole neat heard marked planned seats rule = record {
     net = stands.net;
     gave = gave';
     role = stands.role;
@@ -125,6 +129,7 @@ module _ (code : CodeParts) (fuel n : ℕ) (ws : List ℕ) (homes : List (maybe.
         (free_stays stands.role (sights_of views) id (sight_of v.known) (sight_of l) (sits_at views id v sits) drawn e (stands.undrawn e (subst (λ (z : ℕ). z ≤ e) draw high)));
     selves = stands.selves;
     heard = heard;
+    marked = marked;
     seats = subst (λ (z : List View). AreSeats n stands.net (λ e. state_at (slice_index ws' (state_word_of (length code.first) e))) (slice_index ws' 0) z) (sym (ap (λ (z : List (Sight CodeScript)). words_of z) (sights_set views id l) ∙ words_set (sights_of views) id (sight_of l)))
         (subst (λ (z : ℕ). AreSeats n stands.net (λ e. state_at (slice_index ws' (state_word_of (length code.first) e))) z (set (words_of (sights_of views)) id l.words)) (sym draw) seats);
     planned = planned;
@@ -199,7 +204,8 @@ module _ (code : CodeParts) (fuel n : ℕ) (ws : List ℕ) (homes : List (maybe.
       (planned_beside code n stands.net stands.role states states_after infos cell_of (planned_by views) o r.0 hangs r.1 state_else stands.planned)))
 
   -- the table, if the rule of the roles is kept, and no more was delivered than has come
-  pub state_stands : (id : ℕ) (v : SeatView) (l : Known) → get_elem? views id ≡ maybe.some v → l.drawn ≡ v.known.drawn → l.told ≡ v.known.told → planned_of l ≡ planned_of v.known → stands.net.place o ≢ apart
+  pub state_stands : (id : ℕ) (v : SeatView) (l : Known) → get_elem? views id ≡ maybe.some v → l.drawn ≡ v.known.drawn → hearing_of l ≡ hearing_of v.known → planned_of l ≡ planned_of v.known → stands.net.place o ≢ apart
+      → StaysLeft (state_at (slice_index ws (state_word_of (length code.first) o))) c
       → ((h : Holding) → Among h l.bears → stands.before h.number ≡ h.before)
       → l.words.parts ≡ v.known.words.parts → l.words.splits ≡ v.known.words.splits → l.words.failed ≡ v.known.words.failed
       → l.words.delivered + came n stands.net.place (λ e. state_at (slice_index ws (state_word_of (length code.first) e))) ≤ v.known.words.delivered + came n stands.net.place (λ e. state_at (slice_index (set ws (state_word_of (length code.first) o) (state_word c)) (state_word_of (length code.first) e)))
@@ -207,7 +213,7 @@ module _ (code : CodeParts) (fuel n : ℕ) (ws : List ℕ) (homes : List (maybe.
       → FieldAt (asks code) (code_main code fuel) code.first (is_job_of code stands.before) n stands.net gave' stands.role
       (record (parts_of (length code.first) ws homes stands.cells) { states = λ e. state_at (slice_index (set ws (state_word_of (length code.first) o) (state_word c)) (state_word_of (length code.first) e)) }) (set (sights_of views) id (sight_of l))
       → Stands code fuel n (set ws (state_word_of (length code.first) o) (state_word c)) homes (set views id (record { known = l }))
-  state_stands id v l sits drawn heard planned hangs told parts splits failed work gave' rule =
+  state_stands id v l sits drawn heard planned hangs stays told parts splits failed work gave' rule =
       entry_stands code fuel n ws homes views stands id v l sits drawn told gave' after
       (length-set ws (state_word_of (length code.first) o) (state_word c))
       (λ d low. get_or-set_other ws (state_word_of (length code.first) o) (cell_word d) (state_word c) 0 (λ q. absurd (omega (arith, q, low))))
@@ -222,7 +228,11 @@ module _ (code : CodeParts) (fuel n : ℕ) (ws : List ℕ) (homes : List (maybe.
         | inr ne ↦ subst Neat (sym (state_else e ne)) (stands.neat e)
       ])
       (heard_on stands.net (λ e. info_at (slice_index ws (info_word_of (length code.first) e))) (λ e. info_at (slice_index after (info_word_of (length code.first) e))) views id v l sits
-      (λ t a. inl (subst (λ (z : List Told). Among t z) heard a)) (λ e h. ap info_at (infos_same e)) stands.heard)
+      (λ t a. inl (subst (λ (z : List Told). Among t z) (ap (λ (z : Hearing). z.told) heard) a)) (λ e h. ap info_at (infos_same e)) stands.heard)
+      (marked_on stands.net stands.net stands.role stands.role (λ e. state_at (slice_index ws (state_word_of (length code.first) e))) states_after (λ e. slice_index ws (value_word_of (length code.first) e)) (λ e. slice_index after (value_word_of (length code.first) e))
+      (same_keeps stands.net stands.role (λ e. state_at (slice_index ws (state_word_of (length code.first) e))) states_after (λ e. slice_index ws (value_word_of (length code.first) e)) (λ e. slice_index after (value_word_of (length code.first) e))
+      (all_of StaysLeft stays_same (λ e. state_at (slice_index ws (state_word_of (length code.first) e))) states_after o state_else (subst (λ (z : EntryState). StaysLeft (state_at (slice_index ws (state_word_of (length code.first) o))) z) (sym state_here) stays))
+      (λ e left. values_same e)) views id v l sits (ap (λ (z : Hearing). z.marks) heard) stands.marked)
       (planned_after id v l sits planned hangs)
       (seats_on code fuel n ws homes views stands id v sits states_after l.words parts splits failed work)
       (subst (λ (z : Parts (Box Job)). FieldAt (asks code) (code_main code fuel) code.first (is_job_of code stands.before) n stands.net gave' stands.role z (set (sights_of views) id (sight_of l))) parts_now rule)

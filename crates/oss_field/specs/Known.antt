@@ -17,6 +17,7 @@ use Rattle.oss_roles.specs.Sights.{Bearing, Making, Noted, Fixed, Sight}
 use Rattle.oss_jobs.specs.Entries.{entry_told}
 use Rattle.oss_field.specs.declared.touched.Touched.{Touched}
 use Rattle.oss_field.specs.Heard.{Told, Lowered}
+use Rattle.oss_field.specs.Marks.{Mark}
 
 -- A job that a seat holds: the task's number and path, its body as the machine has it, the answers that the body had found when the job was made, and
 -- its last children as the job kept them.
@@ -68,8 +69,9 @@ pub record Known : Type 0 where
   -- the tasks that it is making, and their entries that hang nowhere yet
   pub plans : List Plan
   pub unlinked : List Unlinked
-  -- what it was told of entries that hang, what its last delivery touched, and the last count that it lowered
+  -- what it was told of entries that hang, what it keeps of those whose values are left, what its last delivery touched, and the last count that it lowered
   pub told : List Told
+  pub marks : List Mark
   pub last : Touched
   pub lowered : Lowered
   -- the number of the word that its last step touched, and what stood there then
@@ -107,6 +109,7 @@ first_known = record {
   plans = [];
   unlinked = [];
   told = [];
+  marks = [];
   last = record { entry = 0; state = 0; info = 0 };
   lowered = record { task = 0; found = 0 };
   word = 0;

@@ -1,5 +1,6 @@
 pub mod Asks
 pub mod Drawing
+pub mod Folding
 pub mod Giving
 pub mod Heard
 pub mod Known
@@ -7,6 +8,8 @@ pub mod Layout
 pub mod Leaving
 pub mod Linking
 pub mod Making
+pub mod Marked
+pub mod Marks
 pub mod Meeting
 pub mod Messages
 pub mod Moves

@@ -19,6 +19,7 @@ use Rattle.oss_field.specs.declared.held.Held.{Held}
 use Rattle.oss_field.specs.declared.view.SeatView.{SeatView}
 use Rattle.oss_field.specs.Heard.{Told, Lowered}
 use Rattle.oss_field.specs.Known.{Holding, Known, last_of}
+use Rattle.oss_field.specs.Marks.{has_last}
 use Rattle.oss_field.specs.Layout.{count_word_of, info_word_of, state_word_of}
 use Rattle.oss_field.specs.Moves.{touched}
 use Rattle.oss_field.specs.Owning.{HasEntry, entry_of}
@@ -139,12 +140,13 @@ pub record SameMessages (a b : Known) : Type 0 where
   pub owes : b.owes ≡ a.owes
   pub last : b.last ≡ a.last
 
--- What a seat needs to know of an entry to read its info word: it was told of it, holds a message to it, or holds the job of a task of which it is an entry, or the last child on a site.
+-- What a seat needs to know of an entry to read its info word: it was told of it, holds a message to it, or holds the job of a task of which it is an entry, or the last child on a site; or it keeps that it is the last child of another.
 pub data Hangs (k : Known) (e : ℕ) : Type 0 where
   by_told : (i : EntryInfo) → Among (record { entry = e; info = i }) k.told → Hangs k e
   by_message : (m : Message) → Has m k.words.held → m.entry ≡ e → Hangs k e
   by_entry : (i : ℕ) (h : Holding) → get_elem? k.bears i ≡ maybe.some h → h.number ≢ 0 → (cell : Option ℕ) → HasEntry h cell → entry_of h cell ≡ e → Hangs k e
   by_last : (i : ℕ) (h : Holding) → get_elem? k.bears i ≡ maybe.some h → (y : Site) → last_of h y ≡ Some e → Hangs k e
+  by_mark : (f : ℕ) → Among (record { entry = f; fact = has_last e }) k.marks → Hangs k e
 
 -- What the read of an info word tells: if the seat was told of the entry before, it was told the same.
 pub record Informs (m e n : ℕ) (k l : Known) : Type 0 where

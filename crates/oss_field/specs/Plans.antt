@@ -23,6 +23,7 @@ use Rattle.oss_roles.specs.Numbers.{entry_number}
 use Rattle.oss_roles.specs.Roles.{Role, itself, on}
 use Rattle.oss_field.specs.Heard.{Told}
 use Rattle.oss_field.specs.Known.{Holding, Known, Plan, Unlinked, last_of}
+use Rattle.oss_field.specs.Marks.{Mark}
 
 -- The right of the new task to each cell, if the body x stands before its creation.
 abbrev pub new_rights : CodeParts → Body CodeScript → Order CodeScript → ℕ → Right
@@ -59,14 +60,22 @@ pub record Planned : Type 0 where
 abbrev pub planned_of : Known → Planned
 planned_of k = record { plans = k.plans; unlinked = k.unlinked }
 
--- The same, what the seat has drawn, and what it was told of entries.
+-- What it was told of entries, and what it keeps of those whose values are left.
+pub record Hearing : Type 0 where
+  pub told : List Told
+  pub marks : List Mark
+
+abbrev pub hearing_of : Known → Hearing
+hearing_of k = record { told = k.told; marks = k.marks }
+
+-- What it keeps of both, and what it has drawn.
 pub record Prepared : Type 0 where
   pub drawn : List ℕ
   pub planned : Planned
-  pub told : List Told
+  pub heard : Hearing
 
 abbrev pub prepared_of : Known → Prepared
-prepared_of k = record { drawn = k.drawn; planned = planned_of k; told = k.told }
+prepared_of k = record { drawn = k.drawn; planned = planned_of k; heard = hearing_of k }
 
 -- What the role of an entry of a planned task says: it is the task's own, for which its count does not wait, or that on a cell to which it has a right.
 pub data IsRoleOf (code : CodeParts) (y : Plan) (e : ℕ) (r : Role) : Type 0 where

@@ -28,7 +28,8 @@ use Rattle.oss_roles.specs.Roles.{Role, itself}
 use Rattle.oss_roles.specs.Sights.{Sight, Telling}
 use Rattle.oss_field.specs.declared.view.SeatView.{SeatView}
 use Rattle.oss_field.specs.Known.{Holding, sight_of}
-use Rattle.oss_field.specs.Layout.{words_in, cell_word, state_word_of, info_word_of, number_word_of, body_word_of, parts_of}
+use Rattle.oss_field.specs.Layout.{words_in, cell_word, state_word_of, info_word_of, value_word_of, number_word_of, body_word_of, parts_of}
+use Rattle.oss_field.specs.Marked.{AreMarked}
 use Rattle.oss_field.specs.Messages.{AreHeard}
 use Rattle.oss_field.specs.Plans.{ArePlanned, Planned, planned_of}
 
@@ -93,6 +94,8 @@ pub record Stands (code : CodeParts) (fuel n : ℕ) (ws : List ℕ) (homes : Lis
   pub selves : (t : ℕ) (q : Role) → role t ≡ Some q → q.site ≡ itself → (op : Op) → q.mode ≢ Fold op
   -- what seats were told of entries is so
   pub heard : AreHeard net (λ e. info_at (slice_index ws (info_word_of (length code.first) e))) views
+  -- and so is what they keep of entries whose values are left
+  pub marked : AreMarked net role (λ e. state_at (slice_index ws (state_word_of (length code.first) e))) (λ e. slice_index ws (value_word_of (length code.first) e)) views
   pub seats : AreSeats n net (λ e. state_at (slice_index ws (state_word_of (length code.first) e))) (slice_index ws 0) (words_of (sights_of views))
   -- the entries of tasks that are being made
   pub planned : ArePlanned code n net role (λ e. state_at (slice_index ws (state_word_of (length code.first) e))) (λ e. info_at (slice_index ws (info_word_of (length code.first) e)))

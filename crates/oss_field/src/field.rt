@@ -4,13 +4,14 @@ ghost use Rattle.std.specs.Prelude.{◌≡◌, ◌≢◌, ◌<◌, ◌≤◌, �
 ghost use Rattle.oss_body.specs.Mains.{code_main};
 ghost use Rattle.oss_field.specs.Asks.{IsLoaded, IsStored, MayLoad, MayStore};
 ghost use Rattle.oss_field.specs.Drawing.{IsAboveAll, drew, missed};
+ghost use Rattle.oss_field.specs.Folding.{Folded};
 ghost use Rattle.oss_field.specs.Giving.{Gave, StandsToGive};
 ghost use Rattle.oss_field.specs.Known.{Holding, first_known};
 ghost use Rattle.oss_field.specs.Layout.{words_in};
 ghost use Rattle.oss_field.specs.Leaving.{HasLeft, StandsToLeave};
 ghost use Rattle.oss_field.specs.Linking.{MayLinkFirst, linked_first};
 ghost use Rattle.oss_field.specs.Making.{HasBegun, IsOpened, IsPutFirst, MayBegin, MayOpen, MayPutFirst};
-ghost use Rattle.oss_field.specs.Messages.{Delivered, NoJoinFirst};
+ghost use Rattle.oss_field.specs.Messages.{Delivered, JoinFirst, NoJoinFirst};
 ghost use Rattle.oss_field.specs.Moves.{touched};
 ghost use Rattle.oss_field.specs.Reading.{after_flags};
 ghost use Rattle.oss_field.specs.Seats.{IsIdle, merged, new_known, parted};
@@ -23,6 +24,7 @@ use crate::cells::{load_cell, store_cell};
 use crate::delivering::deliver_first;
 use crate::drawing::add_draw;
 use crate::flags::read_flags;
+use crate::folding::fold_first;
 use crate::giving::give_entry;
 use crate::held::room;
 use crate::key::FieldKey;
@@ -343,6 +345,29 @@ impl Field {
         );
         seat.last = last;
         freed
+    }
+
+    /// Joins the value that was left in an entry, whose join comes first of the messages that the seat holds. One step
+    /// combines the value into the cell by the entry's operator: it is the join of the machine. Then the entry is given
+    /// up: in one step if it has no children, and else in two, of which the second links the last child to it. That
+    /// child is found by the child link and the next links, to which nobody adds any more. What these steps complete
+    /// is held. The join is delivered, and the seat knows what it touched. All seats together deliver at most six
+    /// messages for each entry. The call answers nothing, and has no error.
+    pub fn fold(&self, seat: &mut FieldSeat, entry: u32)
+        requires field { seat.old.field ≡ self.now.table }
+        requires first { JoinFirst seat.old.known entry }
+        ensures same { (seat.new.field ≡ seat.old.field) × (seat.new.id ≡ seat.old.id) }
+        ensures folded { Folded entry seat.old.known seat.new.known }
+        ensures bounded { seat.new.known.words.delivered ≤ 6 * self.now.entries }
+    {
+        let last = fold_first(
+            &self.table.shared,
+            &mut seat.place,
+            &mut seat.held,
+            self.cells,
+            entry,
+        );
+        seat.last = last;
     }
 
     /// Gives up an entry of the task of a job that the seat holds: that on a cell, or, for `None`, the task's own. The seat

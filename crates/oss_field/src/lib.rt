@@ -4,10 +4,12 @@
 
 mod adding;
 mod cells;
+mod combining;
 mod delivering;
 mod drawing;
 mod field;
 mod flags;
+mod folding;
 mod giving;
 mod held;
 mod holding;

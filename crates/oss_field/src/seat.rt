@@ -51,8 +51,8 @@ impl FieldSeat {
         join_of(&self.held)
     }
 
-    /// The entry that the seat's last delivery touched, with its state word after it and its info word. Before the first
-    /// delivery all three are 0.
+    /// The entry that the seat's last delivery touched, with its state word after it and its info word. A fold delivers
+    /// the join of its entry. Before the first delivery all three are 0.
     pub fn touched(&self) -> Touched
         ensures { result ≡ self.now.known.last }
     {

@@ -1,0 +1,11 @@
+use Rattle.oss_field.proofs.TableLemmas.{allowed}
+use Rattle.oss_field.proofs.combining.read_below_word.Goals as goal
+
+pub load-requires : goal.load-requires
+load-requires g c =
+    let key = c.args.words.now.key in
+    let me = c.args.seat.now.me in (
+      c.requires.table,
+      c.requires.inside,
+      allowed key.code.value key.fuel key.entries c.args.words.now.table_id.slots c.args.seat.now.id c.args.word me (λ n. n) (λ n l. g.T.Tells.tells n me.0.known l) c.requires.keeps,
+    )

@@ -1,0 +1,18 @@
+use Rattle.std.proofs.Common.{sym, subst, ℕ, ◌+◌, ◌*◌, ◌%◌, ◌^◌, arith}
+use Rattle.oss_field.specs.Giving.{GivesRest}
+use Rattle.oss_field.specs.Layout.{state_word_of}
+use Rattle.oss_field.specs.Steps.{Steps}
+use Rattle.oss_field.proofs.FoldFlagLemmas.{joins_rest}
+use Rattle.oss_field.proofs.folding.join_rest.Goals as goal
+
+pub add_link-requires-clause-inside : goal.add_link-requires-clause-inside
+add_link-requires-clause-inside c = let i = c.state_place.ensures in let w = c.requires.on.words in let m = c.requires.cells in let l = c.requires.inside in omega (arith, i, w, m, l)
+
+pub add_link-requires-clause-keeps : goal.add_link-requires-clause-keeps
+add_link-requires-clause-keeps c =
+    let key = c.args.words.now.key in
+    let id = c.args.seat.now.id in
+    let v = c.args.seat.now.me.0 in
+    subst (λ (i : ℕ). Steps key.code.value key.fuel key.entries id v i (λ x. (x + (64 + 65536 * c.args.entry)) % 2 ^ 64) (λ x l. GivesRest key.entries c.args.cells c.args.entry c.args.last c.args.info x v.known l)) (sym c.state_place.ensures)
+    (subst (λ (m : ℕ). Steps key.code.value key.fuel key.entries id v (state_word_of m c.args.last) (λ x. (x + (64 + 65536 * c.args.entry)) % 2 ^ 64) (λ x l. GivesRest key.entries m c.args.entry c.args.last c.args.info x v.known l)) (sym c.requires.cells)
+    (joins_rest key.code.value key.fuel key.entries id v c.args.entry c.args.last c.args.info c.requires.half c.requires.told c.requires.unjoined c.requires.few c.requires.last))
