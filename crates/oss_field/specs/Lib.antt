@@ -1,11 +1,14 @@
 pub mod Asks
 pub mod Drawing
 pub mod Giving
+pub mod Hanging
 pub mod Heard
 pub mod Known
 pub mod Layout
+pub mod LinkMeeting
 pub mod Linking
 pub mod Making
+pub mod Masks
 pub mod Messages
 pub mod Moves
 pub mod Owning
