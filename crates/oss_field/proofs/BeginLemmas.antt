@@ -1,5 +1,5 @@
 -- An entry of a new task begins a list of main.
-use Rattle.std.proofs.Common.{◌≡◌, ◌≢◌, ◌⊎◌, inl, inr, sym, subst, refl, ◌∙◌, ap, ℕ, suc, ◌<◌, ◌≤◌, ◌+◌, arith, Bool, true, false, ◌==◌, List, [], length, set, Option, Some, None}
+use Rattle.std.proofs.Common.{◌≡◌, ◌≢◌, inl, inr, sym, subst, refl, ◌∙◌, ap, ℕ, suc, ◌<◌, ◌≤◌, arith, Bool, true, false, ◌==◌, List, [], length, set, Option, Some, None}
 use Rattle.std.specs.Prelude.{slice_index, cond}
 use Rattle.std.specs.Global.{Box}
 use mathlib.Core.Option as maybe
@@ -30,7 +30,7 @@ use Rattle.oss_roles.specs.Counting.{stands as has_flag}
 use Rattle.oss_roles.specs.Drawing.{AreDrawn, IsFree}
 use Rattle.oss_roles.specs.Field.{Bears, Field, FieldAt, IsNumberOf, of_main, of_entry, Parts, Sits, words_of}
 use Rattle.oss_roles.specs.MakeSteps.{begins_list as begins}
-use Rattle.oss_roles.specs.Roles.{Role, Site, on}
+use Rattle.oss_roles.specs.Roles.{Role, Site}
 use Rattle.oss_roles.specs.Sights.{Making, Sight}
 use Rattle.oss_roles.proofs.DrawLaw.{draws_keep}
 use Rattle.oss_roles.proofs.MakeClaims.{fills_keep, links_keep}

@@ -32,7 +32,7 @@ use Rattle.oss_field.specs.Linking.{clear_alone, told_clear, with_state}
 use Rattle.oss_field.specs.Plans.{ArePlanned, IsLoose, Planned, planned_of}
 use Rattle.oss_field.specs.Steps.{Steps}
 use Rattle.oss_field.specs.Table.{Neat, Slot, is_job_of, planned_by, sights_of, Stands}
-use Rattle.oss_field.proofs.FillLemmas.{apart_now, blank_of, inside, loose, none, planned_at}
+use Rattle.oss_field.proofs.FillLemmas.{apart_now, blank_of, inside, none, planned_at}
 use Rattle.oss_field.proofs.HeardLemmas.{heard_same}
 use Rattle.oss_field.proofs.LooseLemmas.{planned_filled}
 use Rattle.oss_field.proofs.TableLemmas.{chained, sits_at}

@@ -1,5 +1,5 @@
 -- Where a new entry hangs, in terms of the net: behind the last of its elder siblings, behind which nothing hangs, or below a parent that has no child there.
-use Rattle.std.proofs.Common.{◌≡◌, ◌≢◌, ◌⊎◌, inl, inr, sym, subst, refl, ◌∙◌, ap, ℕ, ◌<◌, ◌+◌, arith, Bool, true, false, not, ◌&&◌, ◌==◌, List, ◌∷◌, Option, Some}
+use Rattle.std.proofs.Common.{◌≡◌, ◌≢◌, ◌⊎◌, inl, inr, sym, subst, refl, ◌∙◌, ap, ℕ, ◌<◌, arith, Bool, true, false, not, ◌&&◌, ◌==◌, List, ◌∷◌, Option, Some}
 use Rattle.oss_words.specs.declared.entry.EntryInfo.{EntryInfo}
 use Rattle.oss_words.specs.declared.entry.EntryState.{EntryState}
 use Rattle.oss_words.specs.Flow.{Words}

@@ -17,14 +17,14 @@ use Rattle.oss_syntax.specs.declared.access.Mode.TheVariants.{Read, Write, Fold}
 use Rattle.oss_syntax.specs.declared.access.Op.{Op}
 use Rattle.oss_words.specs.declared.entry.EntryInfo.{EntryInfo}
 use Rattle.oss_words.specs.declared.entry.EntryState.{EntryState}
-use Rattle.oss_words.specs.Net.{Net, Place, Child, apart, first as first_place, after}
+use Rattle.oss_words.specs.Net.{Net, Child, apart, first as first_place, after}
 use Rattle.oss_words.specs.Views.{Among}
 use Rattle.oss_words.proofs.NetLemmas.{child_parent}
 use Rattle.oss_words.proofs.SumLemmas.{same_number}
 use Rattle.oss_roles.specs.Field.{Bears, Field, IsBorne, IsMade, IsNumberOf, of_entry, of_main, Parts, Sits}
 use Rattle.oss_roles.specs.Numbers.{cells_below}
-use Rattle.oss_roles.specs.Roles.{Filed, Role, Site, itself, on}
-use Rattle.oss_roles.specs.Sights.{Bearing, Making, Sight}
+use Rattle.oss_roles.specs.Roles.{Filed, Role, Site}
+use Rattle.oss_roles.specs.Sights.{Bearing, Making}
 use Rattle.oss_roles.proofs.GoesLaw.{one_holder}
 use Rattle.oss_roles.proofs.LinkField.{hangs_behind, hangs_under}
 use Rattle.oss_roles.proofs.MoveLaw.{agrees}

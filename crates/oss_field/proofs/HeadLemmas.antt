@@ -1,5 +1,5 @@
 -- An entry of a new task is made the first child of its creator's entry there.
-use Rattle.std.proofs.Common.{◌≡◌, ◌≢◌, ◌⊎◌, inl, inr, sym, subst, refl, ◌∙◌, ap, ℕ, ◌<◌, ◌≤◌, ◌+◌, ◌%◌, ◌^◌, arith, Bool, true, false, List, length, set, Option, Some, None}
+use Rattle.std.proofs.Common.{◌≡◌, ◌≢◌, inl, inr, sym, subst, refl, ◌∙◌, ap, ℕ, ◌<◌, ◌≤◌, ◌+◌, ◌%◌, ◌^◌, arith, true, false, List, length, set, Option, Some}
 use Rattle.std.specs.Prelude.{slice_index}
 use Rattle.std.specs.Global.{Box}
 use mathlib.Core.Option as maybe
@@ -10,7 +10,6 @@ use Rattle.oss_jobs.specs.declared.job.Job.{Job}
 use Rattle.oss_machine.specs.Frames.{CodeScript}
 use Rattle.oss_machine.specs.Machines.{asks}
 use Rattle.oss_syntax.specs.declared.access.Mode.{Mode}
-use Rattle.oss_syntax.specs.declared.access.Mode.TheVariants.{Write}
 use Rattle.oss_words.specs.declared.entry.EntryInfo.{EntryInfo}
 use Rattle.oss_words.specs.declared.entry.EntryState.{EntryState}
 use Rattle.oss_words.specs.declared.message.Message.{Message}
@@ -29,7 +28,7 @@ use Rattle.oss_roles.specs.Roles.{Filed, Site}
 use Rattle.oss_roles.proofs.MakeClaims.{links_keep}
 use Rattle.oss_field.specs.declared.view.SeatView.{SeatView}
 use Rattle.oss_field.specs.Hanging.{LinksAt, MayHead, linked_at}
-use Rattle.oss_field.specs.Known.{Known, Unlinked, bearing_of, last_of, sight_of}
+use Rattle.oss_field.specs.Known.{Known, bearing_of, last_of, sight_of}
 use Rattle.oss_field.specs.Layout.{parts_of, state_word_of}
 use Rattle.oss_field.specs.Linking.{clear_alone}
 use Rattle.oss_field.specs.Masks.{child_mask, same_fold}

@@ -6,7 +6,6 @@ use Rattle.oss_jobs.specs.declared.job.Job.{Job}
 use Rattle.oss_words.specs.declared.entry.After.{After}
 use Rattle.oss_words.specs.declared.entry.After.TheVariants.{FirstOf, FirstOfMain, Sibling}
 use Rattle.oss_words.specs.declared.entry.EntryInfo.{EntryInfo}
-use Rattle.oss_words.specs.declared.message.Message.{Message}
 use Rattle.oss_words.specs.Bits.{FitsInfo, info_at, info_word, state_at}
 use Rattle.oss_words.specs.Causes.{sent}
 use Rattle.oss_words.specs.Steps.{no_flags}
@@ -15,8 +14,7 @@ use Rattle.oss_words.specs.Views.{Among, among_first, among_later}
 use Rattle.oss_field.specs.declared.held.Held.{Held}
 use Rattle.oss_field.specs.Asks.{AreInside, IsInside}
 use Rattle.oss_field.specs.Hanging.{LinkSends, Linked, LinksAt, MayFollow, MayHead, StandsToLink, linked_at}
-use Rattle.oss_field.specs.Heard.{Told}
-use Rattle.oss_field.specs.Known.{Holding, Known, Unlinked}
+use Rattle.oss_field.specs.Known.{Holding, Known}
 use Rattle.oss_field.specs.Linking.{IsFresh, MayLink, MayLinkFirst, clear_alone, linked_first, began_list, told_cell_of, told_clear, told_info, unlinked_beside, with_cell, with_info, with_state}
 use Rattle.oss_field.specs.Masks.{child_mask, next_mask}
 use Rattle.oss_field.specs.Messages.{Hangs, Learns, Ready, Settled, by_entry, by_last, informed}

@@ -13,7 +13,7 @@ use Rattle.oss_words.specs.declared.entry.EntryState.{EntryState}
 use Rattle.oss_words.proofs.CauseLemmas.{clash}
 use Rattle.oss_roles.specs.Counting.{stands as has_flag}
 use Rattle.oss_roles.specs.Numbers.{cells_below}
-use Rattle.oss_roles.specs.Roles.{Role, itself, on}
+use Rattle.oss_roles.specs.Roles.{Role, on}
 use Rattle.oss_field.specs.Known.{Holding, Plan, last_of}
 use Rattle.oss_field.specs.Linking.{IsEntryFor, cell_entry, own_entry}
 use Rattle.oss_field.specs.Owning.{site_of}

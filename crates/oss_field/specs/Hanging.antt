@@ -4,7 +4,6 @@
 -- began a list of main, and is 262247. The task 1 has not given up the cell, so 4 is told nothing yet. When 1 makes 5 with a read of cell 4, whose entry there is 6, then 6 is its first
 -- child there: 6 has nothing before it, and 128 + 1099511627776 * 6 is added to the state word of 2. It may read then, since 2 may.
 use Rattle.std.specs.Prelude.{◌≡◌, ◌≢◌, ◌<◌, ◌+◌, ℕ, List, [], Option, Some, None}
-use mathlib.Core.Option as maybe
 use Rattle.oss_code.specs.declared.code.CodeParts.{CodeParts}
 use Rattle.oss_jobs.specs.declared.job.Job.{Job}
 use Rattle.oss_jobs.specs.Jobs.{IsJob}

@@ -1,4 +1,4 @@
-use Rattle.oss_field.proofs.LinkedLemmas.{parent_linked, parent_named}
+use Rattle.oss_field.proofs.LinkedLemmas.{parent_named}
 use Rattle.oss_field.proofs.hanging.link_entry.Goals as goal
 
 pub link_below-requires-clause-may : goal.link_below-requires-clause-may
