@@ -1,6 +1,6 @@
 -- An entry of a new task begins a list of main.
-use Rattle.std.proofs.Common.{◌≡◌, ◌≢◌, ◌⊎◌, inl, inr, sym, subst, refl, ◌∙◌, ap, ℕ, ◌<◌, ◌≤◌, ◌+◌, arith, Bool, true, false, ◌==◌, List, [], length, set, Option, Some, None}
-use Rattle.std.specs.Prelude.{slice_index, cond, not, ◌&&◌}
+use Rattle.std.proofs.Common.{◌≡◌, ◌≢◌, inl, inr, sym, subst, refl, ◌∙◌, ap, ℕ, suc, ◌<◌, ◌≤◌, arith, Bool, true, false, ◌==◌, List, [], length, set, Option, Some, None}
+use Rattle.std.specs.Prelude.{slice_index, cond}
 use Rattle.std.specs.Global.{Box}
 use mathlib.Core.Option as maybe
 use lib.ListN.{get_elem?}
@@ -13,7 +13,7 @@ use Rattle.oss_code.specs.declared.code.CodeParts.{CodeParts}
 use Rattle.oss_jobs.specs.declared.job.Job.{Job}
 use Rattle.oss_machine.specs.Frames.{CodeScript}
 use Rattle.oss_machine.specs.Machines.{asks}
-use Rattle.oss_model.specs.Rights.{Holds}
+use Rattle.oss_model.specs.Bodies.{Body}
 use Rattle.oss_syntax.specs.declared.access.Mode.{Mode}
 use Rattle.oss_syntax.specs.declared.access.Mode.TheVariants.{Read, Write, Fold}
 use Rattle.oss_words.specs.declared.entry.EntryInfo.{EntryInfo}
@@ -30,35 +30,37 @@ use Rattle.oss_roles.specs.Counting.{stands as has_flag}
 use Rattle.oss_roles.specs.Drawing.{AreDrawn, IsFree}
 use Rattle.oss_roles.specs.Field.{Bears, Field, FieldAt, IsNumberOf, of_main, of_entry, Parts, Sits, words_of}
 use Rattle.oss_roles.specs.MakeSteps.{begins_list as begins}
-use Rattle.oss_roles.specs.Numbers.{cells_below}
-use Rattle.oss_roles.specs.Roles.{Role, Site, itself, on}
+use Rattle.oss_roles.specs.Roles.{Role, Site}
 use Rattle.oss_roles.specs.Sights.{Making, Sight}
 use Rattle.oss_roles.proofs.DrawLaw.{draws_keep}
 use Rattle.oss_roles.proofs.MakeClaims.{fills_keep, links_keep}
+use Rattle.oss_roles.proofs.MoveLaw.{agrees}
 use Rattle.oss_field.specs.declared.view.SeatView.{SeatView}
 use Rattle.oss_field.specs.Known.{Holding, Known, Plan, Unlinked, bearing_of, last_of, sight_of}
 use Rattle.oss_field.specs.Layout.{job_in, cell_word, state_word_of, info_word_of, value_word_of, number_word_of, count_word_of, body_word_of, parts_of}
-use Rattle.oss_field.specs.Linking.{IsFirstThere, MayBeginList, all_open, began_list, of_cell, of_itself}
+use Rattle.oss_field.specs.Linking.{MayBeginList, all_open, began_list}
 use Rattle.oss_field.specs.Messages.{AreHeard}
-use Rattle.oss_field.specs.Plans.{ArePlanned, IsLoose, IsRoleOf, is_cell, is_own, Planned, begins_list, is_missing, needs_flag, new_rights, planned_of, waits_for}
+use Rattle.oss_field.specs.Plans.{ArePlanned, IsLoose, Planned, planned_of}
 use Rattle.oss_field.specs.Steps.{Steps}
 use Rattle.oss_field.specs.Table.{AreSeats, Neat, Slot, Stands, is_job_of, planned_by, sights_of}
+use Rattle.oss_field.proofs.DepthLemmas.{path_depth}
 use Rattle.oss_field.proofs.FillLemmas.{apart_now, blank_of, inside, loose, none, planned_at}
 use Rattle.oss_field.proofs.HeardLemmas.{heard_same}
 use Rattle.oss_field.proofs.MarkLemmas.{marked_on, stays_same}
 use Rattle.oss_field.proofs.LooseLemmas.{planned_linked}
 use Rattle.oss_field.proofs.MakingLemmas.{words_stay}
-use Rattle.oss_field.proofs.PlanLemmas.{fewer, has_held, is_apart}
+use Rattle.oss_field.proofs.PlanLemmas.{is_apart}
+use Rattle.oss_field.proofs.RoleFacts.{RoleFacts, cell_is, counts_off, role_facts}
 use Rattle.oss_field.proofs.TableLemmas.{free_stays, sights_set, sits_at}
 
 -- a function with one value changed
 abbrev pub put : {A : Type 0} → (ℕ → A) → ℕ → A → ℕ → A
 put f e x j = cond (j == e) x (f j)
 
-put_here : {A : Type 0} (f : ℕ → A) (e : ℕ) (x : A) → put f e x e ≡ x
+pub put_here : {A : Type 0} (f : ℕ → A) (e : ℕ) (x : A) → put f e x e ≡ x
 put_here f e x = elim (eqb_tells e e) [ inl h ↦ ap (λ (b : Bool). cond b x (f e)) h.0 | inr h ↦ absurd (h.1 refl) ]
 
-put_else : {A : Type 0} (f : ℕ → A) (e : ℕ) (x : A) (j : ℕ) → j ≢ e → put f e x j ≡ f j
+pub put_else : {A : Type 0} (f : ℕ → A) (e : ℕ) (x : A) (j : ℕ) → j ≢ e → put f e x j ≡ f j
 put_else f e x j ne = elim (eqb_tells j e) [ inl h ↦ absurd (ne h.1) | inr h ↦ ap (λ (b : Bool). cond b x (f j)) h.0 ]
 
 some_is : {A : Type 0} (x y : A) → Some x ≡ Some y → x ≡ y
@@ -69,72 +71,6 @@ open_flag Read = refl
 open_flag Write = refl
 open_flag (Fold op) = refl
 
--- a count does not wait for an entry that begins a list of main
-waits_no : (mode : Mode) (strong : Bool) → waits_for (Holds mode strong) true ≡ false
-waits_no mode strong = go strong (needs_flag mode)
-  where
-    go : (a b : Bool) → (a && (b && not true)) ≡ false
-    go true true = refl
-    go true false = refl
-    go false b = refl
-
--- what the role of the entry says
-record Facts (code : CodeParts) (h : Holding) (i : EntryInfo) (cell : Option ℕ) (r : Role) : Type 0 where
-  last : last_of h r.site ≡ None
-  mode : r.mode ≡ i.mode
-  strong : r.strong ≡ i.strong
-  counts : r.counts ≡ false
-  cell_is : (c : ℕ) → r.site ≡ on c → cell ≡ Some c
-
-site_of : (c d : ℕ) → on c ≡ on d → c ≡ d
-site_of c d q = cc
-
-holds_mode : (m k : Mode) (s t : Bool) → Holds m s ≡ Holds k t → m ≡ k
-holds_mode m k s t q = cc
-
-holds_strong : (m k : Mode) (s t : Bool) → Holds m s ≡ Holds k t → s ≡ t
-holds_strong m k s t q = cc
-
-same_or_far : (c d : ℕ) → (c ≡ d) ⊎ ((c < d) ⊎ (d < c))
-same_or_far c d = grind arith
-
-module _ (code : CodeParts) (h : Holding) (zero_is : h.number ≡ 0) (plan : Plan) (same_job : plan.holding ≡ h) (e : ℕ) (i : EntryInfo) (task : plan.task ≡ i.task) (cell : Option ℕ) (r : Role) where
-  facts : IsFirstThere code plan.holding plan.order e i cell → IsRoleOf code plan e r → Facts code h i cell r
-  facts (of_itself last own mode strong) (is_own q site m s counts) = record {
-    last = ap (λ (z : Site). last_of h z) site ∙ (ap (λ (z : Holding). z.last_child) (sym same_job) ∙ last);
-    mode = m ∙ sym mode;
-    strong = s ∙ sym strong;
-    counts = counts;
-    cell_is = λ c on_c. absurd (let z : itself ≡ on c = sym site ∙ on_c in let bad : ⊥ = cc in bad);
-  }
-  facts (of_itself last own mode strong) (is_cell c m s right number site rm rs counts) = absurd (let z : e ≡ plan.task + 1 + cells_below (new_rights code plan.holding.body plan.order) c = number in omega (arith, z, own, task))
-  facts (of_cell c last right number cell_c) (is_own q site m s counts) = absurd (let z : e ≡ i.task + 1 + cells_below (new_rights code plan.holding.body plan.order) c = number in omega (arith, z, q, task))
-  facts (of_cell c last right number cell_c) (is_cell d m s right' number' site rm rs counts) =
-      let own = new_rights code plan.holding.body plan.order in
-      let a : e ≡ i.task + 1 + cells_below (new_rights code plan.holding.body plan.order) c = number in
-      let b : e ≡ plan.task + 1 + cells_below (new_rights code plan.holding.body plan.order) d = number' in
-      let same : d ≡ c = elim (same_or_far d c) [
-        | inl q ↦ q
-        | inr g ↦ elim g [
-          | inl low ↦ absurd (let f = fewer own c d low (has_held (own d) m s right') in omega (arith, a, b, f, task))
-          | inr low ↦ absurd (let f = fewer own d c low (has_held (own c) i.mode i.strong right) in omega (arith, a, b, f, task))
-        ]
-      ] in
-      let held : Holds m s ≡ Holds i.mode i.strong = sym right' ∙ (ap (λ (z : ℕ). own z) same ∙ right) in
-      let begin : begins_list plan.holding d ≡ true = begin_is d (ap (λ (z : ℕ). last_of plan.holding (on z)) same ∙ last) in
-      record {
-        last = ap (λ (z : Site). last_of h z) (site ∙ ap on same) ∙ (ap (λ (z : Holding). last_of z (on c)) (sym same_job) ∙ last);
-        mode = rm ∙ holds_mode m i.mode s i.strong held;
-        strong = rs ∙ holds_strong m i.mode s i.strong held;
-        counts = counts ∙ (ap (λ (z : Bool). waits_for (Holds m s) z) begin ∙ waits_no m s);
-        cell_is = λ x on_x. cell_c ∙ ap (λ (z : ℕ). Some z) (sym same ∙ site_of d x (sym site ∙ on_x));
-      }
-    where
-      begin_is : (d : ℕ) → last_of plan.holding (on d) ≡ None → begins_list plan.holding d ≡ true
-      begin_is d none_there =
-          let zero_too : plan.holding.number ≡ 0 = ap (λ (z : Holding). z.number) same_job ∙ zero_is in
-          ap (λ (z : ℕ). (z == 0) && is_missing (last_of plan.holding (on d))) zero_too ∙ ap (λ (z : Option ℕ). (0 == 0) && is_missing z) none_there
-
 -- The table after the step
 
 module _ (code : CodeParts) (fuel n id : ℕ) (v : SeatView) (e : ℕ) (i : EntryInfo) (cell : Option ℕ) (may : MayBeginList code e i cell v.known) where
@@ -142,13 +78,13 @@ module _ (code : CodeParts) (fuel n id : ℕ) (v : SeatView) (e : ℕ) (i : Entr
   y = record { task = i.task; entry = e; state = no_flags; info = Some i; cell = cell }
 
   abbrev h : Holding
-  h = may.holding
+  h = may.may.holding
 
   abbrev plan : Plan
-  plan = record { task = i.task; holding = may.holding; order = may.order }
+  plan = record { task = i.task; holding = may.may.holding; order = may.may.order }
 
   abbrev making : Making
-  making = record { by = may.holding.number; task = i.task; stage = may.stage }
+  making = record { by = may.may.holding.number; task = i.task; stage = may.may.stage }
 
   abbrev l : Known
   l = began_list (length code.first) e v.known
@@ -220,17 +156,27 @@ module _ (code : CodeParts) (fuel n id : ℕ) (v : SeatView) (e : ℕ) (i : Entr
     at : Sits (sights_of views) id (sight_of v.known)
     at = sits_at views id v sits
 
-    has : Bears (sight_of v.known) may.place (bearing_of may.holding)
-    has = at_map bearing_of v.known.bears may.place may.holding may.holds
+    has : Bears (sight_of v.known) may.may.place (bearing_of may.may.holding)
+    has = at_map bearing_of v.known.bears may.may.place may.may.holding may.may.holds
 
     -- main's path
     at_main : (t : ℕ) (p : List ℕ) → IsNumberOf f.role t p → t ≡ 0 → p ≡ []
     at_main t p of_main zero_is = refl
     at_main t p (of_entry r is site path) zero_is = absurd (let z : None ≡ Some r = sym f.roles.main ∙ (ap f.role (sym zero_is) ∙ is) in let bad : ⊥ = cc in bad)
 
-    told : Facts code may.holding i cell lies.it
-    told = facts code may.holding may.of_main plan refl e i refl cell lies.it may.there
-        (stands.planned.roles id (planned_of v.known) (planned_at code fuel n id v y may.loose refl 39 ws homes views stands sits) plan may.plan e lies.it lies.is lies.of_task)
+    told : RoleFacts may.may.holding i cell lies.it
+    told = role_facts code plan e i refl lies.it cell may.may.entry
+        (stands.planned.roles id (planned_of v.known) (planned_at code fuel n id v y may.loose refl 39 ws homes views stands sits) plan may.may.plan e lies.it lies.is lies.of_task)
+
+    -- main's path, and how deep the entry lies
+    main_path : may.may.holding.path ≡ []
+    main_path = at_main may.may.holding.number may.may.holding.path (f.borne id (sight_of v.known) at may.may.place (bearing_of may.may.holding) has).number may.main
+
+    depth_one : i.depth ≡ 1
+    depth_one =
+        let b = f.borne id (sight_of v.known) at may.may.place (bearing_of may.may.holding) has in
+        let d = path_depth (asks code) (code_main code fuel) f.state (agrees (asks code) (code_main code fuel) code.first f.state f.setting f.reached).made refl may.may.holding.path b.task b.at_ in
+        may.may.depth ∙ ap (λ (z : ℕ). suc z) (ap (λ (z : Body CodeScript). z.start.context.depth) (sym b.body) ∙ (d ∙ ap (λ (z : List ℕ). length z) main_path))
 
     not_main : e ≢ 0
     not_main q = let z : None ≡ Some lies.it = sym f.roles.main ∙ (ap f.role (sym q) ∙ (ap (λ (z : ℕ → Option Role). z e) stands.rule.same_role ∙ lies.is)) in cc
@@ -273,11 +219,11 @@ module _ (code : CodeParts) (fuel n id : ℕ) (v : SeatView) (e : ℕ) (i : Entr
       begins = put_here stands.net.place e top;
       inside = low;
       blank = subst (λ (z : Place). Blank z (states' e)) (sym (put_here stands.net.place e top)) (subst (λ (z : EntryState). Blank top z) (sym here) (record { linked = refl; headed = refl; left = refl; folds = refl; reads = refl; writes = refl; clear = refl }));
-      info = ap (λ (z : EntryInfo). z.parent) (lies.info i refl) ∙ (may.parent ∙ sym (put_here stands.net.parent e 0));
+      info = ap (λ (z : EntryInfo). z.parent) (lies.info i refl) ∙ (may.may.of_main may.main ∙ sym (put_here stands.net.parent e 0));
       open_yet = ap (λ (z : ℕ). (states' z).given) (put_here stands.net.parent e 0) ∙ (ap (λ (z : EntryState). z.given) (else_is 0 (λ q. not_main (sym q))) ∙ main_open);
       tells = record {
         mode = ap (λ (z : EntryInfo). z.mode) (lies.info i refl) ∙ sym (put_here stands.net.mode e i.mode);
-        depth = ap (λ (z : EntryInfo). z.depth) (lies.info i refl) ∙ (may.depth ∙ sym (put_here stands.net.depth e 1));
+        depth = ap (λ (z : EntryInfo). z.depth) (lies.info i refl) ∙ (depth_one ∙ sym (put_here stands.net.depth e 1));
         shallow = let d = put_here stands.net.depth e 1 in omega (arith, d);
       };
       ungiven = ap (λ (z : EntryState). z.given) here;
@@ -309,21 +255,21 @@ module _ (code : CodeParts) (fuel n id : ℕ) (v : SeatView) (e : ℕ) (i : Entr
         other_infos = λ j ne. refl;
       };
       cells = λ j ne. refl;
-      flags = inr (λ r is. ap (λ (z : Role). z.counts) (some_is r lies.it (sym is ∙ is_role)) ∙ told.counts);
+      flags = inr (λ r is. ap (λ (z : Role). z.counts) (some_is r lies.it (sym is ∙ is_role)) ∙ counts_off may.may.holding i cell lies.it.counts may.main may.none told.counts);
     })
 
     linked : FieldAt (asks code) (code_main code fuel) code.first (is_job_of code stands.before) n net' stands.gave stands.role (record k { states = states' }) (set (sights_of views) id (sight_of l))
     linked =
         let net_is : written.field.net ≡ stands.net = written.same_net ∙ stands.rule.same_net in
         let g = links_keep CodeScript (Box Job) (is_job_of code stands.before) (asks code) (code_main code fuel) code.first n (record k { states = states' }) (sights_of views) written.field
-        id (sight_of v.known) (sight_of l) may.place (bearing_of may.holding) making e lies.it net' states' (record {
+        id (sight_of v.known) (sight_of l) may.may.place (bearing_of may.may.holding) making e lies.it net' states' (record {
           sits = at;
           has = has;
           by = refl;
-          among = may.among;
+          among = may.may.among;
           is = ap (λ (z : ℕ → Option Role). z e) written.same_role ∙ is_role;
           task = lies.of_task;
-          linked = begins (at_main may.holding.number may.holding.path (f.borne id (sight_of v.known) at may.place (bearing_of may.holding) has).number may.of_main) told.last
+          linked = begins main_path (ap (λ (z : Site). last_of may.may.holding z) told.site ∙ may.none)
               (subst (λ (z : Net). Begun n z net' states' k.infos e) (sym net_is) begun) refl refl refl;
           told = (
             put_here stands.net.mode e i.mode ∙ sym told.mode,
@@ -331,7 +277,7 @@ module _ (code : CodeParts) (fuel n id : ℕ) (v : SeatView) (e : ℕ) (i : Entr
             ap (λ (z : EntryInfo). z.task) (lies.info i refl) ∙ sym lies.of_task,
           );
           starts = λ c s. ap (λ (z : EntryState). has_flag lies.it.mode z) here ∙ open_flag lies.it.mode;
-          cell = λ c on_c. lies.cell c (told.cell_is c on_c);
+          cell = λ c on_c. lies.cell c (cell_is cell c (sym told.site ∙ on_c));
           same = record { bears = refl; makes = refl; ready = refl; loaded = refl; joined = refl; seen = refl; still = refl };
           owes = refl;
         }) in

@@ -2,8 +2,11 @@ pub mod ActLemmas
 pub mod BeginLemmas
 pub mod CellLemmas
 pub mod CellTable
+pub mod ClearLemmas
 pub mod DeliverLemmas
+pub mod DepthLemmas
 pub mod DrawLemmas
+pub mod ElderLemmas
 pub mod FillLemmas
 pub mod FirstLinkLemmas
 pub mod FlagLemmas
@@ -11,10 +14,14 @@ pub mod FoldCellLemmas
 pub mod FoldFlagLemmas
 pub mod FoldReadLemmas
 pub mod FoldedLemmas
+pub mod FollowLemmas
 pub mod GiveLemmas
 pub mod GivenLemmas
+pub mod HangLemmas
+pub mod HeadLemmas
 pub mod HearLemmas
 pub mod HeardLemmas
+pub mod HungTable
 pub mod JoinLemmas
 pub mod LeaveLemmas
 pub mod LeftLemmas
@@ -23,6 +30,9 @@ pub mod LowerLemmas
 pub mod MakingLemmas
 pub mod MeetLemmas
 pub mod MarkLemmas
+pub mod LinkMeetingLemmas
+pub mod LinkedLemmas
+pub mod MaskLemmas
 pub mod MessageLemmas
 pub mod OpenLemmas
 pub mod OwnLemmas
@@ -31,6 +41,7 @@ pub mod PlanLemmas
 pub mod PlannedLemmas
 pub mod ReadLemmas
 pub mod RiseLemmas
+pub mod RoleFacts
 pub mod SameLemmas
 pub mod SeatLemmas
 pub mod SendLemmas

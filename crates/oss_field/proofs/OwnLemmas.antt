@@ -71,7 +71,7 @@ module _ (code : CodeParts) {main : Start CodeScript} {first : List ℕ} {is_job
   one_role r q x a b = let z : Some r ≡ Some q = sym a ∙ b in cc
 
   -- what hangs first below an entry is that of a child on its site
-  child_path : (e c : ℕ) (r q : Role) → f.role e ≡ Some r → f.role c ≡ Some q → f.net.place c ≡ first_place e → (j : ℕ) × (q.path ≡ j ∷ r.path) × (q.site ≡ r.site)
+  pub child_path : (e c : ℕ) (r q : Role) → f.role e ≡ Some r → f.role c ≡ Some q → f.net.place c ≡ first_place e → (j : ℕ) × (q.path ≡ j ∷ r.path) × (q.site ≡ r.site)
   child_path e c r q is_e is_c at =
       let b = f.roles.below_main c q is_c in
       under b.0 b.1 b.2

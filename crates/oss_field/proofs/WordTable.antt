@@ -146,10 +146,10 @@ module _ (code : CodeParts) (fuel n : ℕ) (ws : List ℕ) (homes : List (maybe.
   in_table : state_word_of (length code.first) o < length ws
   in_table = let s = stands.size in omega (arith, s, inside)
 
-  word_here : slice_index after (state_word_of (length code.first) o) ≡ state_word c
+  pub word_here : slice_index after (state_word_of (length code.first) o) ≡ state_word c
   word_here = get_or-set_same ws (state_word_of (length code.first) o) (state_word c) 0 in_table
 
-  word_else : (j : ℕ) → j ≢ o → slice_index after (state_word_of (length code.first) j) ≡ slice_index ws (state_word_of (length code.first) j)
+  pub word_else : (j : ℕ) → j ≢ o → slice_index after (state_word_of (length code.first) j) ≡ slice_index ws (state_word_of (length code.first) j)
   word_else j ne = get_or-set_other ws (state_word_of (length code.first) o) (state_word_of (length code.first) j) (state_word c) 0 (λ q. ne (omega (arith, q)))
 
   pub state_here : states_after o ≡ c
@@ -158,22 +158,22 @@ module _ (code : CodeParts) (fuel n : ℕ) (ws : List ℕ) (homes : List (maybe.
   pub state_else : (j : ℕ) → j ≢ o → states_after j ≡ state_at (slice_index ws (state_word_of (length code.first) j))
   state_else j ne = ap state_at (word_else j ne)
 
-  infos_same : (e : ℕ) → slice_index after (info_word_of (length code.first) e) ≡ slice_index ws (info_word_of (length code.first) e)
+  pub infos_same : (e : ℕ) → slice_index after (info_word_of (length code.first) e) ≡ slice_index ws (info_word_of (length code.first) e)
   infos_same e = get_or-set_other ws (state_word_of (length code.first) o) (info_word_of (length code.first) e) (state_word c) 0 (λ q. absurd (omega (arith, q)))
 
   values_same : (e : ℕ) → slice_index after (value_word_of (length code.first) e) ≡ slice_index ws (value_word_of (length code.first) e)
   values_same e = get_or-set_other ws (state_word_of (length code.first) o) (value_word_of (length code.first) e) (state_word c) 0 (λ q. absurd (omega (arith, q)))
 
-  numbers_same : (e : ℕ) → slice_index after (number_word_of (length code.first) e) ≡ slice_index ws (number_word_of (length code.first) e)
+  pub numbers_same : (e : ℕ) → slice_index after (number_word_of (length code.first) e) ≡ slice_index ws (number_word_of (length code.first) e)
   numbers_same e = get_or-set_other ws (state_word_of (length code.first) o) (number_word_of (length code.first) e) (state_word c) 0 (λ q. absurd (omega (arith, q)))
 
   counts_same : (e : ℕ) → slice_index after (count_word_of (length code.first) e) ≡ slice_index ws (count_word_of (length code.first) e)
   counts_same e = get_or-set_other ws (state_word_of (length code.first) o) (count_word_of (length code.first) e) (state_word c) 0 (λ q. absurd (omega (arith, q)))
 
-  bodies_same : (e : ℕ) → slice_index after (body_word_of (length code.first) e) ≡ slice_index ws (body_word_of (length code.first) e)
+  pub bodies_same : (e : ℕ) → slice_index after (body_word_of (length code.first) e) ≡ slice_index ws (body_word_of (length code.first) e)
   bodies_same e = get_or-set_other ws (state_word_of (length code.first) o) (body_word_of (length code.first) e) (state_word c) 0 (λ q. absurd (omega (arith, q)))
 
-  parts_now : ◌≡◌ {A = Parts (Box Job)} (record (parts_of (length code.first) ws homes stands.cells) { states = states_after }) (parts_of (length code.first) after homes stands.cells)
+  pub parts_now : ◌≡◌ {A = Parts (Box Job)} (record (parts_of (length code.first) ws homes stands.cells) { states = states_after }) (parts_of (length code.first) after homes stands.cells)
   parts_now = λ i. record {
     states = states_after;
     infos = λ e. info_at (sym (infos_same e) i);

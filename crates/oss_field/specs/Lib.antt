@@ -2,6 +2,7 @@ pub mod Asks
 pub mod Drawing
 pub mod Folding
 pub mod Giving
+pub mod Hanging
 pub mod Heard
 pub mod Known
 pub mod Layout
@@ -11,6 +12,8 @@ pub mod Making
 pub mod Marked
 pub mod Marks
 pub mod Meeting
+pub mod LinkMeeting
+pub mod Masks
 pub mod Messages
 pub mod Moves
 pub mod Owning

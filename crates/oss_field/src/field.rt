@@ -6,10 +6,10 @@ ghost use Rattle.oss_field.specs.Asks.{IsLoaded, IsStored, MayLoad, MayStore};
 ghost use Rattle.oss_field.specs.Drawing.{IsAboveAll, drew, missed};
 ghost use Rattle.oss_field.specs.Folding.{Folded};
 ghost use Rattle.oss_field.specs.Giving.{Gave, StandsToGive};
+ghost use Rattle.oss_field.specs.Hanging.{Linked, StandsToLink};
 ghost use Rattle.oss_field.specs.Known.{Holding, first_known};
 ghost use Rattle.oss_field.specs.Layout.{words_in};
 ghost use Rattle.oss_field.specs.Leaving.{HasLeft, StandsToLeave};
-ghost use Rattle.oss_field.specs.Linking.{MayLinkFirst, linked_first};
 ghost use Rattle.oss_field.specs.Making.{HasBegun, IsOpened, IsPutFirst, MayBegin, MayOpen, MayPutFirst};
 ghost use Rattle.oss_field.specs.Messages.{Delivered, JoinFirst, NoJoinFirst};
 ghost use Rattle.oss_field.specs.Moves.{touched};
@@ -26,10 +26,10 @@ use crate::drawing::add_draw;
 use crate::flags::read_flags;
 use crate::folding::fold_first;
 use crate::giving::give_entry;
+use crate::hanging::link_entry;
 use crate::held::room;
 use crate::key::FieldKey;
 use crate::leaving::leave_value;
-use crate::linking::link_first_of;
 use crate::making::{fill_count, open_task, put_new};
 use crate::seat::FieldSeat;
 use crate::seats::{merge, part};
@@ -39,7 +39,7 @@ use crate::touched::Touched;
 use oss_body::main_is_set;
 use oss_code::Code;
 use oss_jobs::Job;
-use oss_words::EntryInfo;
+use oss_words::{After, EntryInfo};
 use std::alloc::{AllocError, Global};
 use std::marker::Model;
 use std::snapshot::Snapshot;
@@ -51,7 +51,8 @@ use std::snapshot::Snapshot;
 /// Whatever the threads do, and however their steps interleave, the words, slots and seats stand for one state of the
 /// machine, which a run from the start of main can reach. What is here so far: a field in which main alone begins, the
 /// taking and putting of jobs, the touches of cells by a job that a seat holds, draws of entries, the flags of an entry,
-/// the making of a task all of whose entries begin lists of main, and seats that split and join.
+/// the making of tasks, the giving up of entries, the delivery of messages that are no joins, and seats that split and
+/// join.
 #[derive(Drop)]
 pub struct Field {
     /// The words and slots.
@@ -219,8 +220,7 @@ impl Field {
     /// cell of the task. The count is one for the opening, and one for each strong cell that the task reads or writes, but
     /// for those on which main has no child before it. From then on the entries are those of the new task, and
     /// none of them is linked: the machine has the task once it is opened. A seat that leaves a task half made cannot be
-    /// joined, and the job of its creator cannot be put. So what takes memory comes before this call. So far only main's
-    /// first child can be opened, since there is no other link than `link_first`.
+    /// joined, and the job of its creator cannot be put. So what takes memory comes before this call.
     pub fn set_count(&self, seat: &mut FieldSeat, job: &Job, task: u32, count: u32)
         requires field { seat.old.field ≡ self.now.table }
         requires may { MayBegin self.now.code self.now.entries job.now task count seat.old.known }
@@ -237,26 +237,40 @@ impl Field {
         );
     }
 
-    /// Links an entry of a task that the seat makes by the job of main, which begins a list of main: the own entry of
-    /// main's first child, or that on a cell on which main has no child. The info tells the entry's mode and whether it is
-    /// strong, the task, depth 1 and the parent 0; for an entry on a cell that cell is told too. The words are
-    /// written one after the other, and by the last of them the entry hangs. It may read, fold and write, and
-    /// has nothing before it. None of these steps is one of the machine, and no message follows.
-    pub fn link_first(&self, seat: &mut FieldSeat, entry: u32, info: &EntryInfo, cell: Option<u32>)
+    /// Links an entry of a task that the seat makes: that on a cell, or, for `None`, the task's own. The job is that of the
+    /// creator, which stands before the creation. The seat holds no message, and no word of the entry was written. The info
+    /// tells the mode and whether it is strong, as the task's accesses name the cell together; for its own entry a weak
+    /// read. It tells the task's number, how deep the task stands, and as parent the creator's entry there, which is 0 for
+    /// main. What is named is the creator's last child there, if it has one, and else its own entry there, or main. The
+    /// words of the entry are written first. By the last step it hangs, and what that completes is held. A first child
+    /// has nothing before it. The first of a list of main may read, fold and write too, and no message follows. None of the steps
+    /// is one of the machine.
+    pub fn link(
+        &self,
+        seat: &mut FieldSeat,
+        job: &Job,
+        entry: u32,
+        info: &EntryInfo,
+        cell: Option<u32>,
+        after: After,
+    )
         requires field { seat.old.field ≡ self.now.table }
         requires inside { entry < self.now.entries }
         requires fits { FitsInfo info.now }
-        requires may { MayLinkFirst self.now.code entry info.now cell seat.old.known }
+        requires may { StandsToLink self.now.code job.now entry info.now cell after seat.old.known }
         ensures same { (seat.new.field ≡ seat.old.field) × (seat.new.id ≡ seat.old.id) }
-        ensures known { seat.new.known ≡ linked_first (length self.now.code.first) entry seat.old.known }
+        ensures linked { Linked entry info.now after seat.old.known seat.new.known }
     {
-        link_first_of(
+        link_entry(
             &self.table.shared,
             &mut seat.place,
+            &mut seat.held,
             self.cells,
+            job,
             entry,
             info,
             cell,
+            after,
         );
     }
 

@@ -1,7 +1,7 @@
 //! The steps by which an entry of a new task is linked.
 
 ghost use Rattle.std.specs.Prelude.{◌≡◌, ◌<◌, None, Option as Maybe, ℕ, length};
-ghost use Rattle.oss_field.specs.Linking.{IsFresh, MayBeginList, MayLinkFirst, began_list, linked_first, told_cell, told_cell_of, told_info};
+ghost use Rattle.oss_field.specs.Linking.{IsFresh, MayBeginList, MayLinkFirst, began_list, linked_first, told_cell, told_cell_of, told_clear, told_info};
 ghost use Rattle.oss_field.specs.Standing.{On, Stays};
 ghost use Rattle.oss_words.specs.Bits.{FitsInfo};
 ghost use Rattle.oss_words.specs.declared.entry.EntryInfo.{EntryInfo as Info};
@@ -14,6 +14,9 @@ use std::marker::Brand;
 
 /// The state word of an entry which begins a list of main.
 const OPEN: u64 = 39;
+
+/// That of an entry which has nothing before it and no other flag.
+const CLEAR: u64 = 32;
 
 /// Writes the info word of a new entry of a task.
 pub(crate) fn fill_info(
@@ -72,8 +75,20 @@ pub(crate) fn open_list(words: &Words, seat: &mut Place, cells: u32, entry: u32,
     write_entry::<Brand>(words, seat, state_place(cells, entry), OPEN, cells, entry);
 }
 
-/// The same, if the entry is that of a cell.
-fn fill_cell_of(
+/// Writes the state word of a new entry that is to be a first child: nothing is before it.
+pub(crate) fn fill_clear(words: &Words, seat: &mut Place, cells: u32, entry: u32, _task: u32)
+    requires on { On words.now.table_id words.now.key seat.old }
+    requires cells { cells ≡ length words.now.key.code.value.first }
+    requires inside { entry < words.now.key.entries }
+    requires fresh { (info : Maybe Info) × (cell : Maybe ℕ) × IsFresh _task entry info cell seat.old.me.0.known }
+    ensures stays { Stays seat.old seat.new }
+    ensures known { seat.new.me.0.known ≡ told_clear cells entry seat.old.me.0.known }
+{
+    write_entry::<Brand>(words, seat, state_place(cells, entry), CLEAR, cells, entry);
+}
+
+/// Writes the number of the cell of a new entry, if it is that of a cell.
+pub(crate) fn fill_cell_of(
     words: &Words,
     seat: &mut Place,
     cells: u32,
