@@ -27,7 +27,7 @@ use Rattle.oss_roles.specs.Sights.{Sight}
 use Rattle.oss_roles.proofs.MakeClaims.{fills_keep}
 use Rattle.oss_field.specs.declared.view.SeatView.{SeatView}
 use Rattle.oss_field.specs.Known.{Known, Unlinked, sight_of}
-use Rattle.oss_field.specs.Layout.{cell_word, state_word_of, info_word_of, number_word_of, parts_of}
+use Rattle.oss_field.specs.Layout.{cell_word, state_word_of, info_word_of, number_word_of, parts_of, value_word_of}
 use Rattle.oss_field.specs.Linking.{clear_alone, told_clear, with_state}
 use Rattle.oss_field.specs.Plans.{ArePlanned, IsLoose, Planned, planned_of}
 use Rattle.oss_field.specs.Steps.{Steps}
@@ -36,7 +36,10 @@ use Rattle.oss_field.proofs.FillLemmas.{apart_now, blank_of, inside, none, plann
 use Rattle.oss_field.proofs.HeardLemmas.{heard_same}
 use Rattle.oss_field.proofs.LooseLemmas.{planned_filled}
 use Rattle.oss_field.proofs.TableLemmas.{chained, sits_at}
-use Rattle.oss_field.proofs.WordTable.{bodies_same, entry_stands, infos_same, numbers_same, parts_now, seats_on, state_else, state_here, word_else, word_here}
+use Rattle.oss_field.proofs.WordTable.{bodies_same, entry_stands, infos_same, numbers_same, parts_now, seats_on, state_else, state_here, word_else, word_here, values_same}
+use Rattle.oss_field.specs.Marked.{StaysLeft}
+use Rattle.oss_field.proofs.MarkLemmas.{marked_on, same_keeps, stays_same}
+use Rattle.oss_words.proofs.CauseLemmas.{clash}
 
 clear_fits : FitsWord clear_alone
 clear_fits = record { next = omega arith; child = omega arith }
@@ -129,6 +132,13 @@ module _ (code : CodeParts) (fuel n id : ℕ) (v : SeatView) (y : Unlinked) (amo
     each : (j : ℕ) → Grown (k.states j) (states' j)
     each = all_of Grown grown_same k.states states' y.entry others (subst (λ (z : EntryState). Grown z (states' y.entry)) (sym unset) (subst (λ (z : EntryState). Grown no_flags z) (sym now) clear_grown))
 
+    stays_at : (j : ℕ) → StaysLeft (k.states j) (states' j)
+    stays_at j = elim (same_number j y.entry) [
+      | inl q ↦ subst (λ (z : ℕ). StaysLeft (k.states z) (states' z)) (sym q)
+          (record { left = λ h. absurd (clash h (ap (λ (z : EntryState). z.left) unset)); none = λ h b. absurd (clash h (ap (λ (z : EntryState). z.left) unset)) })
+      | inr ne ↦ stays_same (k.states j) (states' j) (others j ne)
+    ]
+
     clear_stands : Stands code fuel n (set ws (state_word_of (length code.first) y.entry) (state_word clear_alone)) homes (set views id (record { known = told_clear (length code.first) y.entry v.known }))
     clear_stands =
         let come = came_more n stands.net.place k.states states' each in
@@ -146,6 +156,8 @@ module _ (code : CodeParts) (fuel n id : ℕ) (v : SeatView) (y : Unlinked) (amo
           | inr ne ↦ subst Neat (sym (others j ne)) (stands.neat j)
         ])
         (heard_same stands.net k.infos (λ j. info_at (slice_index ws' (info_word_of (length code.first) j))) views id v l sits refl (λ j. ap info_at (infos_stay j)) stands.heard)
+        (marked_on stands.net stands.net stands.role stands.role k.states states' k.values (λ j. slice_index ws' (value_word_of (length code.first) j))
+        (same_keeps stands.net stands.role k.states states' k.values (λ j. slice_index ws' (value_word_of (length code.first) j)) stays_at (λ j left. values_same code fuel n ws homes views stands y.entry low clear_alone clear_fits clear_neat j)) views id v l sits refl stands.marked)
         (subst (λ (z : List Planned). ArePlanned code n stands.net stands.role states' (λ j. info_at (slice_index ws' (info_word_of (length code.first) j))) (λ j. slice_index ws' (number_word_of (length code.first) j)) z) (sym (map-set (λ (z : SeatView). planned_of z.known) views id (record { known = l })))
         (subst (λ (z : ℕ → ℕ). ArePlanned code n stands.net stands.role states' (λ j. info_at (slice_index ws' (info_word_of (length code.first) j))) z (set (planned_by views) id (planned_of l))) (λ t j. sym (numbers_stay j) t)
         (subst (λ (z : ℕ → EntryInfo). ArePlanned code n stands.net stands.role states' z k.cell_of (set (planned_by views) id (planned_of l))) (λ t j. info_at (sym (infos_stay j) t)) planned_then)))

@@ -38,7 +38,7 @@ use Rattle.oss_field.specs.Table.{Neat, Slot, is_job_of, sights_of, Stands}
 use Rattle.oss_field.proofs.BeginLemmas.{put, put_else, put_here}
 use Rattle.oss_field.proofs.ElderLemmas.{last_unlinked}
 use Rattle.oss_field.proofs.FlagLemmas.{added, num_off, parts_fit}
-use Rattle.oss_field.proofs.HangLemmas.{at, covered, elder_below, elder_depth, elder_last, elder_parent, facts, has, is_role, lies, low, making, none_behind, not_main, parent_open}
+use Rattle.oss_field.proofs.HangLemmas.{at, covered, elder_below, elder_depth, elder_last, elder_parent, facts, has, is_role, lies, low, making, none_behind, not_main, parent_open, not_parent}
 use Rattle.oss_field.proofs.HearLemmas.{bounded, told_hangs}
 use Rattle.oss_field.proofs.HungTable.{hung_stands}
 use Rattle.oss_field.proofs.MaskLemmas.{compares}
@@ -221,7 +221,9 @@ module _ (code : CodeParts) (fuel n id : ℕ) (v : SeatView) (e o w : ℕ) (i : 
         hung_stands code fuel n ws homes views stands id v sits (record { task = i.task; entry = e; state = no_flags; info = Some i; cell = cell }) may.loose loosely o inside c fits neat
         (subst (λ (z : Net). z.place o ≢ apart) stands.rule.same_net told.0) (sibling_grown e (is_fold i.mode) (same_fold (info_at w).mode i.mode) old unlinked) net'
         (λ j ne. put_else f.net.place e (after o) j ne ∙ ap (λ (z : Net). z.place j) stands.rule.same_net) (λ q. let z : after o ≡ apart = sym place_is ∙ q in cc)
-        (ap (λ (z : Place). total (λ (m : Message). 1) (got z e no_flags)) place_is) l refl refl refl refl refl refl refl refl rule
+        (ap (λ (z : Place). total (λ (m : Message). 1) (got z e no_flags)) place_is)
+        (λ j there is_left. put_else f.net.last i.parent e j (not_parent code fuel n id v e i cell may.may no_flags may.loose ws homes views stands sits j (subst (λ (z : Net). z.place j ≢ apart) (sym stands.rule.same_net) there) is_left) ∙ ap (λ (z : Net). z.last j) stands.rule.same_net)
+        (record { left = λ q. q; none = λ q h. h }) l refl refl refl refl refl refl refl refl refl rule
 
   pub follows : Steps code fuel n id v (state_word_of (length code.first) o) (λ z. (z + next_mask e (info_at w).mode i.mode) % 2 ^ 64) (λ z l. LinksAt n (length code.first) e o w (next_mask e (info_at w).mode i.mode) z v.known l)
   follows ws homes views stands sits bits =

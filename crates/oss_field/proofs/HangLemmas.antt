@@ -45,6 +45,8 @@ use Rattle.oss_field.proofs.PlanLemmas.{right_held}
 use Rattle.oss_field.proofs.ReadLemmas.{cell_of_number}
 use Rattle.oss_field.proofs.RoleFacts.{RoleFacts, role_facts}
 use Rattle.oss_field.proofs.TableLemmas.{sits_at}
+use Rattle.oss_field.proofs.UnleftLemmas.{creator_unleft}
+use Rattle.oss_words.proofs.CauseLemmas.{clash}
 
 -- the creator has an entry there
 pub has_entry : (code : CodeParts) (e : ℕ) (i : EntryInfo) (cell : Option ℕ) (k : Known) (may : MayLink code e i cell k) → HasEntry may.holding cell
@@ -191,6 +193,19 @@ module _ (code : CodeParts) (fuel n id : ℕ) (v : SeatView) (e : ℕ) (i : Entr
     parent_open = elim (same_number may.holding.number 0) [
       | inl z ↦ ap (λ (p : ℕ). (k.states p).given) (may.of_main z) ∙ main_open
       | inr ne ↦ (above ne).open_yet
+    ]
+
+    -- its value is not left, since its task stands before a creation, and has not ended
+    pub parent_unleft : may.holding.number ≢ 0 → (k.states i.parent).left ≡ false
+    parent_unleft ne =
+        let a = above ne in
+        subst (λ (z : ℕ). (k.states z).left ≡ false) a.entry (creator_unleft code n k (sights_of views) f id v.known at may.place may.holding may.holds may.order may.act a.up.entry a.up.it a.up.is a.up.path)
+
+    -- what hangs, and has its value left, is not the parent
+    pub not_parent : (j : ℕ) → f.net.place j ≢ apart → (k.states j).left ≡ true → j ≢ i.parent
+    not_parent j hangs left q = elim (same_number may.holding.number 0) [
+      | inl z ↦ hangs (ap (λ (p : ℕ). f.net.place p) (q ∙ may.of_main z) ∙ f.words.flow.words.shaped.main.0)
+      | inr ne ↦ clash (ap (λ (p : ℕ). (k.states p).left) (sym q) ∙ left) (parent_unleft ne)
     ]
 
     pub covered : i.parent ≢ 0 → (f.net.mode i.parent ≡ Write) ⊎ (f.net.mode i.parent ≡ i.mode)

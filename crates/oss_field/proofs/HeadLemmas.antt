@@ -39,7 +39,7 @@ use Rattle.oss_field.proofs.BeginLemmas.{put, put_else, put_here}
 use Rattle.oss_field.proofs.DepthLemmas.{creates_shallow}
 use Rattle.oss_field.proofs.ElderLemmas.{undone, unheaded}
 use Rattle.oss_field.proofs.FlagLemmas.{added, num_off, parts_fit}
-use Rattle.oss_field.proofs.HangLemmas.{above, at, covered, depth_is, facts, has, is_role, lies, low, making, none_below, not_main, parent_below, parent_depth, parent_open}
+use Rattle.oss_field.proofs.HangLemmas.{above, at, covered, depth_is, facts, has, is_role, lies, low, making, none_below, not_main, parent_below, parent_depth, parent_open, not_parent, parent_unleft}
 use Rattle.oss_field.proofs.HearLemmas.{bounded, told_hangs}
 use Rattle.oss_field.proofs.HungTable.{hung_stands}
 use Rattle.oss_field.proofs.MaskLemmas.{compares}
@@ -225,7 +225,9 @@ module _ (code : CodeParts) (fuel n id : ℕ) (v : SeatView) (e w : ℕ) (i : En
         hung_stands code fuel n ws homes views stands id v sits (record { task = i.task; entry = e; state = clear_alone; info = Some i; cell = cell }) may.loose loosely i.parent inside c fits neat
         (subst (λ (z : Net). z.place i.parent ≢ apart) stands.rule.same_net told.0) (child_grown e (is_fold i.mode) (same_fold (info_at w).mode i.mode) old bare) net'
         (λ j ne. put_else f.net.place e (first_place i.parent) j ne ∙ ap (λ (z : Net). z.place j) stands.rule.same_net) (λ q. let z : first_place i.parent ≡ apart = sym place_is ∙ q in cc)
-        (ap (λ (z : Place). total (λ (m : Message). 1) (got z e clear_alone)) place_is) l refl refl refl refl refl refl refl refl rule
+        (ap (λ (z : Place). total (λ (m : Message). 1) (got z e clear_alone)) place_is)
+        (λ j there is_left. put_else f.net.last i.parent e j (not_parent code fuel n id v e i cell may.may clear_alone may.loose ws homes views stands sits j (subst (λ (z : Net). z.place j ≢ apart) (sym stands.rule.same_net) there) is_left) ∙ ap (λ (z : Net). z.last j) stands.rule.same_net)
+        (record { left = λ q. q; none = λ q h. absurd (clash q (parent_unleft code fuel n id v e i cell may.may clear_alone may.loose ws homes views stands sits may.below_main)) }) l refl refl refl refl refl refl refl refl refl rule
 
   pub heads : Steps code fuel n id v (state_word_of (length code.first) i.parent) (λ z. (z + child_mask e (info_at w).mode i.mode) % 2 ^ 64) (λ z l. LinksAt n (length code.first) e i.parent w (child_mask e (info_at w).mode i.mode) z v.known l)
   heads ws homes views stands sits bits =

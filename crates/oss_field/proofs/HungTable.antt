@@ -1,5 +1,5 @@
 -- The table after a step that links an entry of a new task to another, whose state word it changes.
-use Rattle.std.proofs.Common.{◌≡◌, ◌≢◌, inl, inr, sym, subst, ◌∙◌, ap, ℕ, ◌<◌, ◌≤◌, arith, List, length, set, Option, Some, None}
+use Rattle.std.proofs.Common.{◌≡◌, ◌≢◌, inl, inr, sym, subst, ◌∙◌, ap, ℕ, ◌<◌, ◌≤◌, arith, List, length, set, Option, Some, None, true}
 use Rattle.std.specs.Prelude.{slice_index}
 use Rattle.std.specs.Global.{Box}
 use mathlib.Core.Option as maybe
@@ -33,7 +33,7 @@ use Rattle.oss_roles.proofs.DrawLaw.{draws_keep}
 use Rattle.oss_roles.proofs.OtherLaw.{words_set}
 use Rattle.oss_field.specs.declared.view.SeatView.{SeatView}
 use Rattle.oss_field.specs.Known.{Known, Unlinked, sight_of}
-use Rattle.oss_field.specs.Layout.{cell_word, state_word_of, info_word_of, number_word_of, parts_of}
+use Rattle.oss_field.specs.Layout.{cell_word, state_word_of, info_word_of, number_word_of, parts_of, value_word_of}
 use Rattle.oss_field.specs.Linking.{unlinked_beside}
 use Rattle.oss_field.specs.Messages.{AreHeard}
 use Rattle.oss_field.specs.Plans.{ArePlanned, IsLoose, Planned, planned_of}
@@ -42,14 +42,18 @@ use Rattle.oss_field.proofs.HeardLemmas.{heard_same}
 use Rattle.oss_field.proofs.LooseLemmas.{planned_linked}
 use Rattle.oss_field.proofs.PlanLemmas.{is_apart}
 use Rattle.oss_field.proofs.TableLemmas.{free_stays, sights_set, sits_at}
-use Rattle.oss_field.proofs.WordTable.{bodies_same, infos_same, numbers_same, parts_now, seats_on, state_else, state_here, word_else, word_here}
+use Rattle.oss_field.proofs.WordTable.{bodies_same, infos_same, numbers_same, parts_now, seats_on, state_else, state_here, word_else, word_here, values_same}
+use Rattle.oss_field.specs.Marked.{StaysLeft}
+use Rattle.oss_field.proofs.MarkLemmas.{marked_on, stays_same}
 
 -- the entry y hangs in the net after the step, and the seat keeps it no more; the state word of o has become that of c
 module _ (code : CodeParts) (fuel n : ℕ) (ws : List ℕ) (homes : List (maybe.Option Slot)) (views : List SeatView) (stands : Stands code fuel n ws homes views) (id : ℕ) (v : SeatView) (sits : get_elem? views id ≡ maybe.some v)
     (y : Unlinked) (among : Among y v.known.unlinked) (lies : IsLoose stands.net stands.role (parts_of (length code.first) ws homes stands.cells).states (parts_of (length code.first) ws homes stands.cells).infos (parts_of (length code.first) ws homes stands.cells).cell_of v.known.plans y)
     (o : ℕ) (inside : o < n) (c : EntryState) (fits : FitsWord c) (neat : Neat c) (hangs : stands.net.place o ≢ apart) (grown : Grown (state_at (slice_index ws (state_word_of (length code.first) o))) c)
     (net' : Net) (places : (j : ℕ) → j ≢ y.entry → net'.place j ≡ stands.net.place j) (placed : net'.place y.entry ≢ apart)
-    (quiet : total (λ (m : Message). 1) (got (net'.place y.entry) y.entry y.state) ≡ total (λ (m : Message). 1) (got apart y.entry y.state)) where
+    (quiet : total (λ (m : Message). 1) (got (net'.place y.entry) y.entry y.state) ≡ total (λ (m : Message). 1) (got apart y.entry y.state))
+    (lasts : (j : ℕ) → stands.net.place j ≢ apart → (state_at (slice_index ws (state_word_of (length code.first) j))).left ≡ true → net'.last j ≡ stands.net.last j)
+    (stays : StaysLeft (state_at (slice_index ws (state_word_of (length code.first) o))) c) where
   abbrev k : Parts (Box Job)
   k = parts_of (length code.first) ws homes stands.cells
 
@@ -111,7 +115,7 @@ module _ (code : CodeParts) (fuel n : ℕ) (ws : List ℕ) (homes : List (maybe.
     | inr s ↦ there (sym (places j s) ∙ q)
   ]
 
-  module _ (l : Known) (bears : l.bears ≡ v.known.bears) (drawn : l.drawn ≡ v.known.drawn) (told : l.told ≡ v.known.told) (planned : planned_of l ≡ record { plans = v.known.plans; unlinked = unlinked_beside y.entry v.known.unlinked })
+  module _ (l : Known) (bears : l.bears ≡ v.known.bears) (drawn : l.drawn ≡ v.known.drawn) (told : l.told ≡ v.known.told) (marks : l.marks ≡ v.known.marks) (planned : planned_of l ≡ record { plans = v.known.plans; unlinked = unlinked_beside y.entry v.known.unlinked })
       (parts : l.words.parts ≡ v.known.words.parts) (splits : l.words.splits ≡ v.known.words.splits) (failed : l.words.failed ≡ v.known.words.failed) (delivered : l.words.delivered ≡ v.known.words.delivered)
       (rule : FieldAt (asks code) (code_main code fuel) code.first (is_job_of code stands.before) n net' stands.gave stands.role (record (parts_of (length code.first) ws homes stands.cells) { states = λ j. state_at (slice_index (set ws (state_word_of (length code.first) o) (state_word c)) (state_word_of (length code.first) j)) }) (set (sights_of views) id (sight_of l))) where
     planned_now : ArePlanned code n net' stands.role states' k.infos k.cell_of (set (planned_by views) id (planned_of l))
@@ -122,6 +126,12 @@ module _ (code : CodeParts) (fuel n : ℕ) (ws : List ℕ) (homes : List (maybe.
 
     heard_yet : AreHeard stands.net (λ j. info_at (slice_index ws' (info_word_of (length code.first) j))) (set views id (record { known = l }))
     heard_yet = heard_same stands.net k.infos (λ j. info_at (slice_index ws' (info_word_of (length code.first) j))) views id v l sits told (λ j. ap info_at (infos_stay j)) stands.heard
+
+    stays_at : (j : ℕ) → StaysLeft (k.states j) (states' j)
+    stays_at j = elim (same_number j o) [
+      | inl q ↦ subst (λ (z : ℕ). StaysLeft (k.states z) (states' z)) (sym q) (subst (λ (z : EntryState). StaysLeft (k.states o) z) (sym now) stays)
+      | inr ne ↦ stays_same (k.states j) (states' j) (others j ne)
+    ]
 
     seats_now : AreSeats n net' states' (slice_index ws 0) (set (words_of (sights_of views)) id l.words)
     seats_now =
@@ -168,6 +178,14 @@ module _ (code : CodeParts) (fuel n : ℕ) (ws : List ℕ) (homes : List (maybe.
           (free_stays stands.role (sights_of views) id (sight_of v.known) (sight_of l) (sits_at views id v sits) drawn j (stands.undrawn j (subst (λ (z : ℕ). z ≤ j) draw_same high)));
       selves = stands.selves;
       heard = record { told = λ j x sx u a. let r = heard_yet.told j x sx u a in (still_hangs u.entry r.0, r.1) };
+      marked = marked_on stands.net net' stands.role stands.role k.states states' k.values (λ j. slice_index ws' (value_word_of (length code.first) j))
+          (record {
+            place = λ j there. places j (λ q. there (ap (λ (z : ℕ). stands.net.place z) q ∙ lies.loose));
+            last = lasts;
+            role_is = λ j r is. is;
+            stays = λ j there. stays_at j;
+            value = λ j there left. values_same code fuel n ws homes views stands o inside c fits neat j;
+          }) views id v l sits marks stands.marked;
       seats = subst (λ (z : List View). AreSeats n net' states' (slice_index ws' 0) z) (sym (ap (λ (z : List (Sight CodeScript)). words_of z) (sights_set views id l) ∙ words_set (sights_of views) id (sight_of l)))
           (subst (λ (z : ℕ). AreSeats n net' states' z (set (words_of (sights_of views)) id l.words)) (sym draw_same) seats_now);
       planned = subst (λ (z : List Planned). ArePlanned code n net' stands.role states' (λ j. info_at (slice_index ws' (info_word_of (length code.first) j))) (λ j. slice_index ws' (number_word_of (length code.first) j)) z) (sym (map-set (λ (z : SeatView). planned_of z.known) views id (record { known = l })))

@@ -1,7 +1,6 @@
 -- A seat that has begun to make a task may link its entries.
-use Rattle.std.proofs.Common.{◌≡◌, ◌≢◌, sym, subst, refl, ◌∙◌, ap, ℕ, suc, ◌<◌, ◌≤◌, ◌+◌, arith, List, [], ◌∷◌, ◌++◌, length, Option, Some, None}
+use Rattle.std.proofs.Common.{◌≡◌, sym, subst, refl, ◌∙◌, ap, ℕ, suc, ◌<◌, ◌≤◌, ◌+◌, arith, ◌∷◌, ◌++◌, length, Option, Some, None}
 use Rattle.oss_code.specs.declared.code.CodeParts.{CodeParts}
-use Rattle.oss_jobs.specs.declared.job.Job.{Job}
 use Rattle.oss_machine.specs.Frames.{CodeScript}
 use Rattle.oss_model.specs.Bodies.{Body, Order}
 use Rattle.oss_words.specs.declared.entry.EntryInfo.{EntryInfo}
@@ -11,10 +10,9 @@ use Rattle.oss_words.proofs.KeptLaw.{at_here}
 use Rattle.oss_words.proofs.SeatLemmas.{among_left}
 use Rattle.oss_roles.specs.Numbers.{cells_below}
 use Rattle.oss_roles.specs.Roles.{Site, itself, on}
-use Rattle.oss_roles.specs.Sights.{Making}
 use Rattle.oss_field.specs.Hanging.{StandsToLink}
-use Rattle.oss_field.specs.Known.{Holding, Known, Plan, Unlinked, last_of}
-use Rattle.oss_field.specs.LinkMeeting.{BegunMayLink, IsInfoFor, OthersMayLink}
+use Rattle.oss_field.specs.Known.{Holding, Known, last_of}
+use Rattle.oss_field.specs.LinkMeeting.{BegunMayLink, OthersMayLink}
 use Rattle.oss_field.specs.Linking.{IsEntryFor, IsFresh, cell_entry, own_entry}
 use Rattle.oss_field.specs.Making.{new_cells, unlinked_from}
 use Rattle.oss_field.specs.Moves.{with_body}

@@ -66,11 +66,6 @@ module _ (code : CodeParts) (job : Job) (e : ℕ) (i : EntryInfo) (cell : Option
       let t : StandsToLink code job e i cell (FirstOf q) k = subst (λ (z : After). StandsToLink code job e i cell z k) is s in
       subst (λ (z : ℕ). StandsToLink code job e i cell (FirstOf z) k) t.names.2 t
 
-  pub parent_linked : (after : After) (q : ℕ) (l : Known) → after ≡ FirstOf q → StandsToLink code job e i cell after k → Linked e i (FirstOf i.parent) k l → Linked e i after k l
-  parent_linked after q l is s linked =
-      let t : StandsToLink code job e i cell (FirstOf q) k = subst (λ (z : After). StandsToLink code job e i cell z k) is s in
-      subst (λ (z : After). Linked e i z k l) (sym is) (subst (λ (z : ℕ). Linked e i (FirstOf z) k l) (sym t.names.2) linked)
-
   pub parent_hangs : StandsToLink code job e i cell (FirstOf i.parent) k → Hangs k i.parent
   parent_hangs s = by_entry s.may.place s.may.holding s.may.holds s.names.0 cell (has_entry code e i cell k s.may) (sym (s.may.of_task s.names.0))
 

@@ -161,7 +161,7 @@ module _ (code : CodeParts) (fuel n : ℕ) (ws : List ℕ) (homes : List (maybe.
   pub infos_same : (e : ℕ) → slice_index after (info_word_of (length code.first) e) ≡ slice_index ws (info_word_of (length code.first) e)
   infos_same e = get_or-set_other ws (state_word_of (length code.first) o) (info_word_of (length code.first) e) (state_word c) 0 (λ q. absurd (omega (arith, q)))
 
-  values_same : (e : ℕ) → slice_index after (value_word_of (length code.first) e) ≡ slice_index ws (value_word_of (length code.first) e)
+  pub values_same : (e : ℕ) → slice_index after (value_word_of (length code.first) e) ≡ slice_index ws (value_word_of (length code.first) e)
   values_same e = get_or-set_other ws (state_word_of (length code.first) o) (value_word_of (length code.first) e) (state_word c) 0 (λ q. absurd (omega (arith, q)))
 
   pub numbers_same : (e : ℕ) → slice_index after (number_word_of (length code.first) e) ≡ slice_index ws (number_word_of (length code.first) e)

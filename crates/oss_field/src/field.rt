@@ -49,10 +49,9 @@ use std::snapshot::Snapshot;
 /// nobody, unless it says otherwise.
 ///
 /// Whatever the threads do, and however their steps interleave, the words, slots and seats stand for one state of the
-/// machine, which a run from the start of main can reach. What is here so far: a field in which main alone begins, the
-/// taking and putting of jobs, the touches of cells by a job that a seat holds, draws of entries, the flags of an entry,
-/// the making of tasks, the giving up of entries, the delivery of messages that are no joins, and seats that split and
-/// join.
+/// machine, which a run from the start of main can reach. So far a field begins with main alone, and none is closed to a
+/// state. A job that a seat holds touches cells, makes tasks, gives up entries, and leaves values for their joins. A seat
+/// draws entries, reads flags, takes and puts jobs, delivers messages and makes joins; seats split and join.
 #[derive(Drop)]
 pub struct Field {
     /// The words and slots.
