@@ -1,0 +1,4 @@
+pub mod Nests
+pub mod Asking
+pub mod Walks
+pub mod Lacks
