@@ -14,8 +14,8 @@
 -- to run the generated program from 7 on with 9 tasks; `soak 18446744073709551615 9000 --mode=serial` is one too, and `soak 7`, `soak 07 9`, `soak 7 0`, `soak 7 9001`, `soak 7 9 --fuel=5`
 -- and `soak 18446744073709551616 9` are refused.
 -- And: `audit a.c` asks for what the tasks of the program in `a.c` name and never touch, with fuel for 1,000,000 ticks a task, and `audit --fuel=5 a.c` with fuel for 5; `audit`, `audit a.c b.c`,
--- `audit a.c --dump` and `audit a.c --fuel=0` are refused. `span`, `explain` and `graph` take the same words: `span a.c` asks how parallel the program in `a.c` can be at best, `explain a.c` for
--- the explanation of its fault, and `graph a.c` for the graph of its tasks.
+-- `audit a.c --dump` and `audit a.c --fuel=0` are refused. `span`, `explain`, `graph` and `missing` take the same words: `span a.c` asks how parallel the program in `a.c` can be at best, `explain a.c` for
+-- the explanation of its fault, `graph a.c` for the graph of its tasks, and `missing a.c` for all that its clauses lack.
 use Rattle.std.specs.Prelude.{◌≡◌, ◌<◌, ℕ, Bool, true, false, not, ◌&&◌, ◌||◌, ◌==◌, if◌then◌else◌, nat_le, List, [], ◌∷◌, ◌++◌, length, take, drop, Option, Some, None, Result, Ok, Err, codes, option_map}
 use Rattle.std.specs.Str.{bytes_eq}
 use Rattle.oss_sched.specs.Reading.{number_in}
@@ -30,7 +30,7 @@ use Rattle.oss_command.specs.declared.command.WordsRefused.{WordsRefused}
 
 -- What is asked for, of the program in the file of this name. A replay is of the schedule in a second file, and each task in it has so much fuel. A soak is a run of a program without a
 -- file: the generated one from a number on, of so many tasks. An audit is what its tasks name and never touch, a span how parallel it can be at best, to explain it is to tell why it comes to
--- its fault, and its graph has its tasks and what they wait for, where each task has so much fuel.
+-- its fault, its graph has its tasks and what they wait for, and what is missing is all that its clauses lack, where each task has so much fuel.
 pub data Command : Type 0 where
   run : (file : List ℕ) (options : Options) → Command
   check : (file : List ℕ) → Command
@@ -41,6 +41,7 @@ pub data Command : Type 0 where
   span : (file : List ℕ) (fuel : ℕ) → Command
   explain : (file : List ℕ) (fuel : ℕ) → Command
   graph : (file : List ℕ) (fuel : ℕ) → Command
+  missing : (file : List ℕ) (fuel : ℕ) → Command
 
 -- the name of the file with its program, where it has one
 abbrev pub file_of : Command → Option (List ℕ)
@@ -53,6 +54,7 @@ file_of (audit file fuel) = Some file
 file_of (span file fuel) = Some file
 file_of (explain file fuel) = Some file
 file_of (graph file fuel) = Some file
+file_of (missing file fuel) = Some file
 
 -- the name of the file with its schedule, where it has one
 abbrev pub schedule_of : Command → Option (List ℕ)
@@ -65,6 +67,7 @@ schedule_of (audit file fuel) = None
 schedule_of (span file fuel) = None
 schedule_of (explain file fuel) = None
 schedule_of (graph file fuel) = None
+schedule_of (missing file fuel) = None
 
 -- Operands
 
@@ -220,7 +223,7 @@ is_trace_word w = is_operand w || is_there (behind deps_name w) || is_there (beh
 abbrev pub is_soak_word : List ℕ → Bool
 is_soak_word w = is_operand w || is_there (behind mode_name w) || is_there (behind deps_name w) || is_there (behind workers_name w)
 
--- a word that `replay`, `span`, `audit`, `explain` and `graph` may have
+-- a word that `replay`, `span`, `audit`, `explain`, `graph` and `missing` may have
 abbrev pub is_fuel_word : List ℕ → Bool
 is_fuel_word w = is_operand w || is_there (behind fuel_name w)
 
@@ -318,6 +321,9 @@ explain_asked words = option_map (λ asked. explain asked.0 asked.1) (file_and_f
 abbrev pub graph_asked : List (List ℕ) → Option Command
 graph_asked words = option_map (λ asked. graph asked.0 asked.1) (file_and_fuel_in words)
 
+abbrev pub missing_asked : List (List ℕ) → Option Command
+missing_asked words = option_map (λ asked. missing asked.0 asked.1) (file_and_fuel_in words)
+
 abbrev pub trace_asked : List (List ℕ) → Option Command
 trace_asked words = if all_by is_trace_word words then trace_of (the_one (operands_in words)) (options_in words) else None
 
@@ -329,7 +335,7 @@ asked_by word rest = if bytes_eq word (codes "run") then run_asked rest else if 
     else if bytes_eq word (codes "trace") then trace_asked rest else if bytes_eq word (codes "replay") then replay_asked rest
     else if bytes_eq word (codes "soak") then soak_asked rest else if bytes_eq word (codes "span") then span_asked rest
     else if bytes_eq word (codes "audit") then audit_asked rest else if bytes_eq word (codes "explain") then explain_asked rest
-    else if bytes_eq word (codes "graph") then graph_asked rest else None
+    else if bytes_eq word (codes "graph") then graph_asked rest else if bytes_eq word (codes "missing") then missing_asked rest else None
 
 -- what the words ask for; none where they are refused
 abbrev pub asked_of : List (List ℕ) → Option Command
@@ -347,6 +353,7 @@ meant (told.Audit file fuel) = audit file.now fuel
 meant (told.Span file fuel) = span file.now fuel
 meant (told.Explain file fuel) = explain file.now fuel
 meant (told.Graph file fuel) = graph file.now fuel
+meant (told.Missing file fuel) = missing file.now fuel
 
 -- the mode is that of workers
 abbrev pub is_by_workers : RunMode → Bool
@@ -365,6 +372,7 @@ runs_by_workers (audit file fuel) = false
 runs_by_workers (span file fuel) = false
 runs_by_workers (explain file fuel) = false
 runs_by_workers (graph file fuel) = false
+runs_by_workers (missing file fuel) = false
 
 -- A run in another mode has no lines that tell of workers or of the order.
 abbrev pub HasLinesFor : RunMode → Bool → Bool → Type 0
@@ -388,6 +396,7 @@ IsFit (audit file fuel) = Unit {0}
 IsFit (span file fuel) = Unit {0}
 IsFit (explain file fuel) = Unit {0}
 IsFit (graph file fuel) = Unit {0}
+IsFit (missing file fuel) = Unit {0}
 
 abbrev pub IsAskedBy : Option Command → Result Told WordsRefused → Type 0
 IsAskedBy command (Ok t) = command ≡ Some (meant t)
@@ -396,6 +405,6 @@ IsAskedBy command (Err e) = command ≡ None
 abbrev pub IsAsked : List (List ℕ) → Result Told WordsRefused → Type 0
 IsAsked words told = IsAskedBy (asked_of words) told
 
--- What is told of words that are refused. The line names the commands that it named before there were `explain` and `graph`.
+-- What is told of words that are refused. The line names the commands that it named before there were `explain`, `graph` and `missing`.
 abbrev pub usage_line : List ℕ
 usage_line = codes "usage: nest6 run FILE | check FILE | trace FILE | replay FILE SCHEDULE | soak NUMBER SIZE | span FILE | audit FILE" ++ 10 ∷ []

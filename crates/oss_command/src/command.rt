@@ -2,7 +2,7 @@
 
 ghost use Rattle.std.specs.Prelude.{◌≡◌, ◌≤◌, map, option_map, Some, IfOk, IfSome};
 ghost use Rattle.std.specs.String.{string_bytes};
-ghost use Rattle.oss_command.specs.Commands.{IsFit, IsAsked, IsAskedBy, asked_by, audit_asked, check_asked, explain_asked, file_and_fuel_in, file_of, graph_asked, meant, replay_asked, run_asked, runs_by_workers, soak_asked, soak_of, span_asked, trace_asked};
+ghost use Rattle.oss_command.specs.Commands.{IsFit, IsAsked, IsAskedBy, asked_by, audit_asked, check_asked, explain_asked, file_and_fuel_in, file_of, graph_asked, meant, missing_asked, replay_asked, run_asked, runs_by_workers, soak_asked, soak_of, span_asked, trace_asked};
 ghost use Rattle.oss_command.specs.Commands.Command.{soak};
 
 use crate::operands::{
@@ -51,6 +51,9 @@ pub enum Command<'w> {
     /// To tell the graph of the tasks of the program in a file, where a task may do so many ticks, 1 to 1,000,000,000;
     /// 1,000,000 where nothing is said.
     Graph(&'w str, u32),
+    /// To tell all that the clauses of the program in a file lack, where a task may do so many ticks, 1 to 1,000,000,000;
+    /// 1,000,000 where nothing is said.
+    Missing(&'w str, u32),
 }
 
 /// Why words are refused.
@@ -104,6 +107,9 @@ fn command_on<'w>(command: &str, rest: &'w [String]) -> Result<Command<'w>, Word
     }
     if command == "graph" {
         return graph_on(rest);
+    }
+    if command == "missing" {
+        return missing_on(rest);
     }
     Err(WordsRefused::Usage)
 }
@@ -239,7 +245,18 @@ fn graph_on(rest: &[String]) -> Result<Command<'_>, WordsRefused>
     }
 }
 
-/// The file and the fuel that `audit`, `span`, `explain` and `graph` take from the words behind them; none where the words
+/// What `missing` asks for with the words behind it.
+fn missing_on(rest: &[String]) -> Result<Command<'_>, WordsRefused>
+    ensures asked { IsAskedBy (missing_asked (map string_bytes rest.now)) result }
+    ensures fit { IfOk result (λ told. IsFit (meant told)) }
+{
+    match file_and_fuel(rest) {
+        Some((file, fuel)) => Ok(Command::Missing(file, fuel)),
+        None => Err(WordsRefused::Usage),
+    }
+}
+
+/// The file and the fuel that `audit`, `span`, `explain`, `graph` and `missing` take from the words behind them; none where the words
 /// are something else.
 fn file_and_fuel(rest: &[String]) -> Option<(&str, u32)>
     ensures { option_map (λ asked. (asked.0.now, asked.1)) result ≡ file_and_fuel_in (map string_bytes rest.now) }
@@ -283,6 +300,7 @@ impl<'w> Command<'w> {
             Command::Span(file, _) => Some(file),
             Command::Explain(file, _) => Some(file),
             Command::Graph(file, _) => Some(file),
+            Command::Missing(file, _) => Some(file),
         }
     }
 
@@ -300,6 +318,7 @@ impl<'w> Command<'w> {
             Command::Span(_, _) => false,
             Command::Explain(_, _) => false,
             Command::Graph(_, _) => false,
+            Command::Missing(_, _) => false,
         }
     }
 }

@@ -57,7 +57,7 @@ fn can_be_soak_word(word: &str) -> bool
         || behind(b"--workers=", bytes).is_some()
 }
 
-/// Whether a word may stand behind `replay`, `span`, `audit`, `explain` and `graph`.
+/// Whether a word may stand behind `replay`, `span`, `audit`, `explain`, `graph` and `missing`.
 fn can_be_fuel_word(word: &str) -> bool
     ensures { result ≡ is_fuel_word word.now }
 {
@@ -88,7 +88,7 @@ pub(crate) fn are_listed(words: &[String]) -> bool
     true
 }
 
-/// Whether each of the words may stand behind `replay`, `span`, `audit`, `explain` and `graph`.
+/// Whether each of the words may stand behind `replay`, `span`, `audit`, `explain`, `graph` and `missing`.
 pub(crate) fn are_fuel_words(words: &[String]) -> bool
     ensures { result ≡ all_by is_fuel_word (map string_bytes words.now) }
 {

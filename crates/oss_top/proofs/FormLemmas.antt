@@ -6,7 +6,7 @@ use Rattle.std.proofs.lemmas.List.{append-nil, length-replicate}
 use Rattle.oss_io.specs.Faults.{Rises}
 use Rattle.oss_io.specs.Spans.{ShelfFailed, ShelfQuiet, ShelfSeen, ShelfSpan, SinkSpan, TookWhole}
 use Rattle.oss_command.specs.Commands.{Command, file_of}
-use Rattle.oss_command.specs.Commands.Command.{audit, check, explain, graph, replay, run, soak, span, trace}
+use Rattle.oss_command.specs.Commands.Command.{audit, check, explain, graph, missing, replay, run, soak, span, trace}
 use Rattle.oss_report.specs.Replays.{schedule_line}
 use Rattle.oss_top.specs.Forms.{error_reply, most_bytes, too_large_line}
 use Rattle.oss_top.specs.Reads.{IsReadReply, IsScheduleRead}
@@ -59,6 +59,7 @@ long_command held (audit file fuel) name text reply e same more is = (record { f
 long_command held (span file fuel) name text reply e same more is = (record { file = text; schedule = [] }, at_name held file name text e same, too_large more is)
 long_command held (explain file fuel) name text reply e same more is = (record { file = text; schedule = [] }, at_name held file name text e same, too_large more is)
 long_command held (graph file fuel) name text reply e same more is = (record { file = text; schedule = [] }, at_name held file name text e same, too_large more is)
+long_command held (missing file fuel) name text reply e same more is = (record { file = text; schedule = [] }, at_name held file name text e same, too_large more is)
 
 -- the reply to a file that is too long
 pub long_replies : (shelf : ShelfSpan) (c : Command) (file : List ℕ) (reply : Reply) → file_of c ≡ Some file → ShelfQuiet shelf → IfSome (shelf.before.held file) (λ t. most_bytes < length t)
@@ -97,6 +98,8 @@ module _ (before mid after : ShelfSeen) (same : (name : List ℕ) → mid.held n
       by_texts (record { file = text; schedule = [] }) (quiet ∙ still) (at_name before.held file name text e told) (fits few is)
   read_replies (graph file fuel) name text reply e told few (quiet, is) =
       by_texts (record { file = text; schedule = [] }) (quiet ∙ still) (at_name before.held file name text e told) (fits few is)
+  read_replies (missing file fuel) name text reply e told few (quiet, is) =
+      by_texts (record { file = text; schedule = [] }) (quiet ∙ still) (at_name before.held file name text e told) (fits few is)
   read_replies (replay file schedule fuel) name text reply e told few (schedule_unread failed last is) = unread_schedule name schedule text e refl told few (failed_whole failed) last is
   read_replies (replay file schedule fuel) name text reply e told few (by_schedule listing quiet shows is) =
       by_texts (record { file = text; schedule = listing }) (quiet ∙ still) (at_name before.held file name text e told, subst (λ o. IfSome o (λ t. listing ≡ t)) (same schedule) shows) is
@@ -111,6 +114,7 @@ unfiled_replies shelf (audit file fuel) reply e is = absurd (no_name file (sym e
 unfiled_replies shelf (span file fuel) reply e is = absurd (no_name file (sym e))
 unfiled_replies shelf (explain file fuel) reply e is = absurd (no_name file (sym e))
 unfiled_replies shelf (graph file fuel) reply e is = absurd (no_name file (sym e))
+unfiled_replies shelf (missing file fuel) reply e is = absurd (no_name file (sym e))
 unfiled_replies shelf (soak number size options) reply e (quiet, is) = by_texts (record { file = []; schedule = [] }) quiet tt is
 
 nothing_more : (known : Option (List ℕ)) → known ≡ append_known known []

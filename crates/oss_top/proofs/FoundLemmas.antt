@@ -3,7 +3,7 @@ use Rattle.std.proofs.Common.{◌≡◌, ℕ, List, sym, subst}
 use Rattle.oss_syntax.specs.declared.tree.program.Program.{Program}
 use Rattle.oss_io.specs.Spans.{ShelfQuiet, ShelfSpan}
 use Rattle.oss_command.specs.Commands.{Command}
-use Rattle.oss_command.specs.Commands.Command.{audit, check, explain, graph, replay, run, soak, span, trace}
+use Rattle.oss_command.specs.Commands.Command.{audit, check, explain, graph, missing, replay, run, soak, span, trace}
 use Rattle.oss_command.specs.declared.options.Options.{Options}
 use Rattle.oss_gen.specs.Generated.{generated_text}
 use Rattle.oss_top.specs.Reads.{IsReadReply}
@@ -33,6 +33,7 @@ ReadsOneFile (audit file fuel) = Unit {0}
 ReadsOneFile (span file fuel) = Unit {0}
 ReadsOneFile (explain file fuel) = Unit {0}
 ReadsOneFile (graph file fuel) = Unit {0}
+ReadsOneFile (missing file fuel) = Unit {0}
 
 -- what was found in its text
 pub found_of_text : (c : Command) → ReadsOneFile c → (text : List ℕ) (shelf : ShelfSpan) (found : Found) → ShelfQuiet shelf → IsFound c (IsTextReply c text) found → IsFound c (IsReadReply c text shelf) found
@@ -45,6 +46,7 @@ found_of_text (audit file fuel) one text shelf found quiet is = found_quiet (aud
 found_of_text (span file fuel) one text shelf found quiet is = found_quiet (span file fuel) (IsTextReply (span file fuel) text) shelf found quiet is
 found_of_text (explain file fuel) one text shelf found quiet is = found_quiet (explain file fuel) (IsTextReply (explain file fuel) text) shelf found quiet is
 found_of_text (graph file fuel) one text shelf found quiet is = found_quiet (graph file fuel) (IsTextReply (graph file fuel) text) shelf found quiet is
+found_of_text (missing file fuel) one text shelf found quiet is = found_quiet (missing file fuel) (IsTextReply (missing file fuel) text) shelf found quiet is
 
 -- and in a text that was generated
 pub found_of_soak : (number size : ℕ) (options : Options) (text : List ℕ) (shelf : ShelfSpan) (found : Found) → ShelfQuiet shelf

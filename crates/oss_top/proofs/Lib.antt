@@ -2,6 +2,7 @@ pub mod CallLemmas
 pub mod FormLemmas
 pub mod FoundLemmas
 pub mod GraphLemmas
+pub mod MissingLemmas
 pub mod EndingLemmas
 pub mod LineLemmas
 pub mod TurnMoves

@@ -11,7 +11,7 @@ use Rattle.oss_grammar.specs.TaskLoops.{program_written}
 use Rattle.oss_model.specs.Texts.{refusal_line}
 use Rattle.oss_parse.proofs.OneProgram.{parsed_once}
 use Rattle.oss_command.specs.Commands.{Command, asked_of}
-use Rattle.oss_command.specs.Commands.Command.{audit, check, explain, graph, replay, run, soak, span, trace}
+use Rattle.oss_command.specs.Commands.Command.{audit, check, explain, graph, missing, replay, run, soak, span, trace}
 use Rattle.oss_command.specs.declared.options.Options.{Options}
 use Rattle.oss_gen.specs.Generated.{generated_text}
 use Rattle.oss_meaning.specs.Expressions.{TreeScript}
@@ -43,6 +43,7 @@ use Rattle.oss_labels.specs.declared.labels.Labelled.{Labelled}
 use Rattle.oss_task_graph.specs.declared.graph.Graph.{Graph}
 use Rattle.oss_top.specs.Audits.{IsAuditReply}
 use Rattle.oss_top.specs.Drawn.{IsGraphReply, drawn_reply, entry_in}
+use Rattle.oss_top.proofs.MissingLemmas.{missing_alike}
 use Rattle.oss_top.specs.Explained.{IsExplainReply, IsFailureOfEnding, ending_reply}
 use Rattle.oss_top.specs.Spans.{IsSpanReply}
 use Rattle.oss_top.specs.Forms.{error_reply, run_reply, soak_reply, told_reply, too_large_line, trace_reply}
@@ -58,7 +59,7 @@ use Rattle.oss_top.specs.Replays.IsScheduleReply.{replayed, wrong_line}
 use Rattle.oss_top.specs.Replays.IsTextsReply.{accepted as texts_accepted, refused_text as texts_refused}
 use Rattle.oss_top.specs.Replays.IsFilesReply.{fit, too_large as files_too_large, too_long}
 use Rattle.oss_top.specs.Reply.{AreHeld, AreShown, IsCommandReply, IsComplete, IsFileReply, IsOutcome, IsProgramReply, IsReply, IsRunReply, IsShelfReply, IsTextReply, IsUnwritten, Texts}
-use Rattle.oss_top.specs.Reply.IsProgramReply.{audited, checked, drawn, explained, ran, soaked, spanned, traced}
+use Rattle.oss_top.specs.Reply.IsProgramReply.{audited, checked, drawn, explained, missed, ran, soaked, spanned, traced}
 use Rattle.oss_top.specs.Soaks.{IsSoakReply}
 use Rattle.oss_top.specs.Traces.{IsTraceOf, IsTraceReply, text_of}
 use Rattle.oss_top.specs.Reply.IsTextReply.{accepted, refused_text}
@@ -160,6 +161,7 @@ program_once c of p reply other (audited {fuel} x) (audited y) = audit_once fuel
 program_once c of p reply other (spanned {fuel} x) (spanned y) = absurd of
 program_once c of p reply other (explained {fuel} x) (explained y) = absurd of
 program_once c of p reply other (drawn {fuel} x) (drawn y) = absurd of
+program_once c of p reply other (missed {fuel} x) (missed y) = absurd of
 
 program_alike : (c : Command) (p : Program) (reply other : Reply) → IsProgramReply c p reply → IsProgramReply c p other → status_of reply ≡ status_of other
 program_alike c p reply other (checked x) (checked y) = ap status_of (x ∙ sym y)
@@ -170,6 +172,7 @@ program_alike c p reply other (audited {fuel} x) (audited y) = ap status_of (aud
 program_alike c p reply other (spanned {fuel} x) (spanned y) = (span_alike fuel p reply other x y).status
 program_alike c p reply other (explained {fuel} x) (explained y) = ap status_of (explain_once fuel p reply other x y)
 program_alike c p reply other (drawn {fuel} x) (drawn y) = ap status_of (graph_once fuel p reply other x y)
+program_alike c p reply other (missed {fuel} x) (missed y) = missing_alike fuel p reply other x y
 
 module _ (text : List ℕ) (once : IsParsedOnce text) where
   -- a text that is accepted is not refused
@@ -245,6 +248,7 @@ one_text (audit file fuel) of = tt
 one_text (span file fuel) of = tt
 one_text (explain file fuel) of = of
 one_text (graph file fuel) of = of
+one_text (missing file fuel) of = of
 one_text (soak number size options) of = tt
 
 pub replied : (text : List ℕ) → IsReplied text
@@ -294,6 +298,7 @@ command_alike (audit file fuel) texts reply other x y = file_alike texts.file (a
 command_alike (span file fuel) texts reply other x y = file_alike texts.file (span file fuel) reply other x y
 command_alike (explain file fuel) texts reply other x y = file_alike texts.file (explain file fuel) reply other x y
 command_alike (graph file fuel) texts reply other x y = file_alike texts.file (graph file fuel) reply other x y
+command_alike (missing file fuel) texts reply other x y = file_alike texts.file (missing file fuel) reply other x y
 command_alike (replay file schedule fuel) texts reply other x y = ap status_of ((replied_once texts.file texts.schedule).one fuel reply other x y)
 
 -- the text that is shown is the one that is held
@@ -310,6 +315,7 @@ by_held held (audit file fuel) told texts reply same is x = subst (λ t. IsFileR
 by_held held (span file fuel) told texts reply same is x = subst (λ t. IsFileReply (span file fuel) t reply) (same_text texts.file told.file (held file) same is) x
 by_held held (explain file fuel) told texts reply same is x = subst (λ t. IsFileReply (explain file fuel) t reply) (same_text texts.file told.file (held file) same is) x
 by_held held (graph file fuel) told texts reply same is x = subst (λ t. IsFileReply (graph file fuel) t reply) (same_text texts.file told.file (held file) same is) x
+by_held held (missing file fuel) told texts reply same is x = subst (λ t. IsFileReply (missing file fuel) t reply) (same_text texts.file told.file (held file) same is) x
 by_held held (replay file schedule fuel) told texts reply (same, shows) (is, holds) x =
     subst (λ t. IsFilesReply fuel t texts.schedule reply) (same_text texts.file told.file (held file) same is)
     (subst (λ t. IsFilesReply fuel told.file t reply) (same_text texts.schedule told.schedule (held schedule) shows holds) x)

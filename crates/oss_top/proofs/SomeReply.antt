@@ -25,7 +25,7 @@ use Rattle.oss_parse.specs.Parsed.{told_of}
 use Rattle.oss_parse.specs.ProgramReading.{read_text}
 use Rattle.oss_parse.proofs.ParsedLemmas.{parsed}
 use Rattle.oss_command.specs.Commands.{Command}
-use Rattle.oss_command.specs.Commands.Command.{audit, explain, graph, run, check, trace, replay, soak, span}
+use Rattle.oss_command.specs.Commands.Command.{audit, explain, graph, missing, run, check, trace, replay, soak, span}
 use Rattle.oss_wave_laws.proofs.ExistLemmas.{has_trace}
 use Rattle.oss_meaning.specs.Expressions.{TreeScript}
 use Rattle.oss_meaning.specs.Meaning.{asks_of}
@@ -120,6 +120,7 @@ HasOneText (audit file fuel) = Unit {0}
 HasOneText (span file fuel) = Unit {0}
 HasOneText (explain file fuel) = ⊥
 HasOneText (graph file fuel) = ⊥
+HasOneText (missing file fuel) = ⊥
 HasOneText (soak number size options) = Unit {0}
 
 program_reply : (c : Command) → HasOneText c → (text : List ℕ) (p : Program) → Accepts text p → (reply : Reply) × IsProgramReply c (program_written p) reply
@@ -128,6 +129,7 @@ program_reply (replay file schedule fuel) of text p a = absurd of
 program_reply (audit file fuel) of text p a = let (reply, is) = audit_reply fuel (program_written p) (some_outcome text p a fuel) in (reply, audited is)
 program_reply (explain file fuel) of text p a = absurd of
 program_reply (graph file fuel) of text p a = absurd of
+program_reply (missing file fuel) of text p a = absurd of
 program_reply (span file fuel) of text p a =
     let (o, is) = some_outcome text p a fuel in
     let (reply, told) = span_reply fuel (program_written p) (accepted_setting text p a.is_text a.obeys fuel).starts o is in

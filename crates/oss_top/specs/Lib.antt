@@ -1,5 +1,6 @@
 pub mod Audits
 pub mod Drawn
+pub mod Missed
 pub mod Explained
 pub mod Calls
 pub mod Spans

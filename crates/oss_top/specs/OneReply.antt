@@ -5,7 +5,7 @@
 -- wrong line; and its moves lead to one state, or one of them is the first that is not enabled. Of two tasks that wait for nothing and have one tick each, either may stand in the chain of a span.
 use Rattle.std.specs.Prelude.{◌≡◌, ℕ, false, List, []}
 use Rattle.oss_command.specs.Commands.{Command}
-use Rattle.oss_command.specs.Commands.Command.{audit, explain, graph, run, check, trace, replay, soak, span}
+use Rattle.oss_command.specs.Commands.Command.{audit, explain, graph, missing, run, check, trace, replay, soak, span}
 use Rattle.oss_span.specs.Reply.{span_text}
 use Rattle.oss_span.specs.declared.link.Link.{Link}
 use Rattle.oss_top.specs.Replays.{IsFilesReply}
@@ -23,6 +23,7 @@ IsOfOneText (audit file fuel) = Unit {0}
 IsOfOneText (span file fuel) = ⊥
 IsOfOneText (explain file fuel) = ⊥
 IsOfOneText (graph file fuel) = ⊥
+IsOfOneText (missing file fuel) = ⊥
 IsOfOneText (soak number size options) = Unit {0}
 
 -- A text has a reply to each such command, and two are one.

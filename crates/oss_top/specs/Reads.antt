@@ -4,7 +4,7 @@ use Rattle.std.specs.Prelude.{◌≡◌, ℕ, false, List, IfSome}
 use Rattle.oss_io.specs.Spans.{ShelfSpan, ShelfFailed, ShelfQuiet}
 use Rattle.oss_syntax.specs.declared.tree.program.Program.{Program}
 use Rattle.oss_command.specs.Commands.{Command}
-use Rattle.oss_command.specs.Commands.Command.{audit, explain, graph, run, check, trace, replay, soak, span}
+use Rattle.oss_command.specs.Commands.Command.{audit, explain, graph, missing, run, check, trace, replay, soak, span}
 use Rattle.oss_gen.specs.Generated.{generated_text}
 use Rattle.oss_report.specs.Replays.{not_enabled_line, unfinished_line}
 use Rattle.oss_replay.specs.declared.replayed.Replayed.{Replayed}
@@ -32,6 +32,7 @@ IsReadReply (audit file fuel) text shelf reply = ShelfQuiet shelf × IsTextReply
 IsReadReply (span file fuel) text shelf reply = ShelfQuiet shelf × IsTextReply (span file fuel) text reply
 IsReadReply (explain file fuel) text shelf reply = ShelfQuiet shelf × IsTextReply (explain file fuel) text reply
 IsReadReply (graph file fuel) text shelf reply = ShelfQuiet shelf × IsTextReply (graph file fuel) text reply
+IsReadReply (missing file fuel) text shelf reply = ShelfQuiet shelf × IsTextReply (missing file fuel) text reply
 
 -- The reply to what comes of moves.
 abbrev pub replayed_reply : Program → Replayed → Reply

@@ -12,11 +12,11 @@
 -- What a command tells: `check` the line `ok`; `run`, `replay` and `soak` the program's output, and before a fault the output up to it; `run` after it the final cells, and
 -- which worker began each task and in which order, if it is asked for these; `soak` before it the number of tasks, if there is no fault; `trace` the trace of the run by waves;
 -- `span` and `audit` their lines, and nothing of a program with a fault; `explain` the explanation of the fault, or `no fault`; `graph` the graph of the tasks, with the fault marked
--- in it.
+-- in it; `missing` all that the clauses of the tasks lack, up to the fault.
 --
 -- Read against: of `long x; int main() { x = 1; }` the reply to `check` is Done with `ok`, to `run` Done with nothing, and to `run --dump` Done with the line
 -- `x = 1`; with `x = 1 / x;` in its place the reply to `run`, with a dump or without, is Fault with nothing on the output and DivideByZero at line 1; of the empty text
--- it is TextRefused with NoMain at line 1 to all three, to `trace`, `span`, `audit`, `explain` and `graph`, and to a replay, whatever lines its schedule has; and of words that are refused, no file is read.
+-- it is TextRefused with NoMain at line 1 to all three, to `trace`, `span`, `audit`, `explain`, `graph` and `missing`, and to a replay, whatever lines its schedule has; and of words that are refused, no file is read.
 use Rattle.std.specs.Prelude.{◌≡◌, ◌≤◌, ◌<◌, ◌⊎◌, ℕ, List, [], length, Option, Some, None, IfSome}
 use Rattle.oss_io.specs.Spans.{ShelfSpan, ShelfFailed, ShelfQuiet, SinkSpan, SinkFailed, TookWhole, TookPart, Untouched}
 use Rattle.oss_syntax.specs.declared.tree.program.Program.{Program}
@@ -25,12 +25,13 @@ use Rattle.oss_model.specs.Texts.{refusal_line}
 use Rattle.oss_grammar.specs.TaskLoops.{program_written}
 use Rattle.oss_meaning.specs.Results.{IsOutcomeOf, Outcome}
 use Rattle.oss_command.specs.Commands.{Command, asked_of, file_of, schedule_of, usage_line}
-use Rattle.oss_command.specs.Commands.Command.{audit, explain, graph, run, check, trace, replay, soak, span}
+use Rattle.oss_command.specs.Commands.Command.{audit, explain, graph, missing, run, check, trace, replay, soak, span}
 use Rattle.oss_command.specs.declared.options.Options.{Options}
 use Rattle.oss_gen.specs.Generated.{generated_text}
 use Rattle.oss_top.specs.Audits.{IsAuditReply}
 use Rattle.oss_top.specs.Drawn.{IsGraphReply}
 use Rattle.oss_top.specs.Explained.{IsExplainReply}
+use Rattle.oss_top.specs.Missed.{IsMissingReply}
 use Rattle.oss_top.specs.Forms.{accepted_line, done_reply, run_reply, error_reply, most_bytes, too_large_line, unread_line}
 use Rattle.oss_top.specs.ProgramTexts.{Accepts, Refuses}
 use Rattle.oss_top.specs.Replays.{IsFilesReply}
@@ -52,7 +53,8 @@ pub record IsRunReply (options : Options) (program : Program) (reply : Reply) : 
   pub is_reply : reply ≡ run_reply options.dump program lines outcome.answer
 
 -- The reply of a command with one text to a program that breaks no rule: a check accepts it, a run runs it, a trace tells of its run by waves, a soak runs it and counts its tasks, an
--- audit tells which cells its tasks name and never touch, a span how parallel it can be at best, an explanation why it comes to its fault, and a graph which of its tasks wait for which.
+-- audit tells which cells its tasks name and never touch, a span how parallel it can be at best, an explanation why it comes to its fault, a graph which of its tasks wait for which, and what is missing
+-- all that its clauses lack.
 pub data IsProgramReply : Command → Program → Reply → Type 0 where
   checked : {file : List ℕ} {program : Program} {reply : Reply} → reply ≡ done_reply accepted_line → IsProgramReply (check file) program reply
   ran : {file : List ℕ} {options : Options} {program : Program} {reply : Reply} → IsRunReply options program reply → IsProgramReply (run file options) program reply
@@ -62,6 +64,7 @@ pub data IsProgramReply : Command → Program → Reply → Type 0 where
   spanned : {file : List ℕ} {fuel : ℕ} {program : Program} {reply : Reply} → IsSpanReply fuel program reply → IsProgramReply (span file fuel) program reply
   explained : {file : List ℕ} {fuel : ℕ} {program : Program} {reply : Reply} → IsExplainReply fuel program reply → IsProgramReply (explain file fuel) program reply
   drawn : {file : List ℕ} {fuel : ℕ} {program : Program} {reply : Reply} → IsGraphReply fuel program reply → IsProgramReply (graph file fuel) program reply
+  missed : {file : List ℕ} {fuel : ℕ} {program : Program} {reply : Reply} → IsMissingReply fuel program reply → IsProgramReply (missing file fuel) program reply
 
 -- the reply of such a command to a text of at most 1,048,576 bytes: that to its program with each task loop written out, where it is accepted
 pub data IsTextReply (c : Command) (text : List ℕ) (reply : Reply) : Type 0 where
@@ -89,6 +92,7 @@ IsCommandReply (audit file fuel) texts reply = IsFileReply (audit file fuel) tex
 IsCommandReply (span file fuel) texts reply = IsFileReply (span file fuel) texts.file reply
 IsCommandReply (explain file fuel) texts reply = IsFileReply (explain file fuel) texts.file reply
 IsCommandReply (graph file fuel) texts reply = IsFileReply (graph file fuel) texts.file reply
+IsCommandReply (missing file fuel) texts reply = IsFileReply (missing file fuel) texts.file reply
 
 -- These are the texts that are told under the names of the files, as far as any are told.
 abbrev pub AreShown : (List ℕ → Option (List ℕ)) → Command → Texts → Type 0
@@ -100,6 +104,7 @@ AreShown held (audit file fuel) texts = IfSome (held file) (λ t. texts.file ≡
 AreShown held (span file fuel) texts = IfSome (held file) (λ t. texts.file ≡ t)
 AreShown held (explain file fuel) texts = IfSome (held file) (λ t. texts.file ≡ t)
 AreShown held (graph file fuel) texts = IfSome (held file) (λ t. texts.file ≡ t)
+AreShown held (missing file fuel) texts = IfSome (held file) (λ t. texts.file ≡ t)
 AreShown held (replay file schedule fuel) texts = IfSome (held file) (λ t. texts.file ≡ t) × IfSome (held schedule) (λ t. texts.schedule ≡ t)
 
 -- The texts are told under the names of the files, and are these.
@@ -112,6 +117,7 @@ AreHeld held (audit file fuel) texts = held file ≡ Some texts.file
 AreHeld held (span file fuel) texts = held file ≡ Some texts.file
 AreHeld held (explain file fuel) texts = held file ≡ Some texts.file
 AreHeld held (graph file fuel) texts = held file ≡ Some texts.file
+AreHeld held (missing file fuel) texts = held file ≡ Some texts.file
 AreHeld held (replay file schedule fuel) texts = (held file ≡ Some texts.file) × (held schedule ≡ Some texts.schedule)
 
 -- The reply to a command, by what is seen of the shelf:

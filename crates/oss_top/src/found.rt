@@ -94,6 +94,7 @@ fn found_by_text<S: Shelf>(
         Command::Audit(_, _) => found_in_text(alloc, command, text),
         Command::Explain(_, _) => found_in_text(alloc, command, text),
         Command::Graph(_, _) => found_in_text(alloc, command, text),
+        Command::Missing(_, _) => found_in_text(alloc, command, text),
         Command::Span(_, _) => found_in_text(alloc, command, text),
     }
 }

@@ -1,6 +1,6 @@
 //! The top call: it reads words and files, checks, runs and traces programs, replays schedules, tells how
-//! parallel programs can be, audits them, explains their faults, draws their tasks, runs generated ones, and tells what
-//! comes of it.
+//! parallel programs can be, audits them, explains their faults, draws their tasks, tells what their clauses lack,
+//! runs generated ones, and tells what comes of it.
 #![tactic(auto)]
 
 mod audit;
@@ -9,6 +9,7 @@ mod found;
 mod graph;
 mod known;
 mod laws;
+mod missing;
 mod replay;
 mod reply;
 mod run;

@@ -11,6 +11,7 @@ use crate::audit::reply_to_audit;
 use crate::explain::reply_to_explain;
 use crate::found::{Found, found_for};
 use crate::graph::reply_to_graph;
+use crate::missing::reply_to_missing;
 use crate::run::{reply_to_generated, reply_to_run};
 use crate::span::reply_to_span;
 use crate::status::Status;
@@ -117,6 +118,7 @@ fn reply_to_program<R: Threads + Sync, G: Gate>(
         Command::Span(_, fuel) => reply_to_span(alloc, fuel, known),
         Command::Explain(_, fuel) => reply_to_explain(alloc, fuel, known),
         Command::Graph(_, fuel) => reply_to_graph(alloc, fuel, known),
+        Command::Missing(_, fuel) => reply_to_missing(alloc, fuel, known),
     }
 }
 

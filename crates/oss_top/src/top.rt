@@ -24,8 +24,8 @@ pub struct Sinks<O, E> {
 
 /// Reads the words behind the program's name, reads the files that they name from the shelf, does what the
 /// command asks for, and writes the texts, the output first: it checks a program, runs it, traces its waves,
-/// measures its span, audits its clauses, explains its fault, draws the graph of its tasks, replays a schedule,
-/// or runs a program that it has generated. The result is the number of a `Status`. A run by waves has its
+/// measures its span, audits its clauses, explains its fault, draws the graph of its tasks, tells all that its clauses
+/// lack, replays a schedule, or runs a program that it has generated. The result is the number of a `Status`. A run by waves has its
 /// workers from `rt`, and each task passes the gate before its first step, in a run by workers too.
 ///
 /// It is 0 where the command is done: a check that accepts the file, a program that ran to its end. It is 1

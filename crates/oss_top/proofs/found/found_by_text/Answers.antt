@@ -40,6 +40,11 @@ returns-in-Graph g c =
     if_ok c.found_in_text-in-Graph.result
     (λ found is. found_of_text (meant c.args.command) (rw (ap meant c.in-Graph.is) tt) c.args.text.now (shelf_span g.S.Shelf.held g.S.Shelf.faults g.S.Shelf.last c.args.shelf.now c.args.shelf.now) found refl is) c.found_in_text-in-Graph.ensures
 
+pub returns-in-Missing : goal.returns-in-Missing
+returns-in-Missing g c =
+    if_ok c.found_in_text-in-Missing.result
+    (λ found is. found_of_text (meant c.args.command) (rw (ap meant c.in-Missing.is) tt) c.args.text.now (shelf_span g.S.Shelf.held g.S.Shelf.faults g.S.Shelf.last c.args.shelf.now c.args.shelf.now) found refl is) c.found_in_text-in-Missing.ensures
+
 pub returns-in-Soak : goal.returns-in-Soak
 returns-in-Soak g c =
     let asked = c.in-Soak.asked in

@@ -1,6 +1,6 @@
 use Rattle.std.proofs.Common.{ap}
 use Rattle.oss_command.specs.Commands.{meant}
-use Rattle.oss_top.specs.Reply.IsProgramReply.{audited, checked, drawn, explained, ran, soaked, spanned, traced}
+use Rattle.oss_top.specs.Reply.IsProgramReply.{audited, checked, drawn, explained, missed, ran, soaked, spanned, traced}
 use Rattle.oss_top.proofs.FormLemmas.{if_ok}
 use Rattle.oss_top.proofs.reply.reply_to_program.Goals as goal
 
@@ -27,3 +27,6 @@ returns-in-Explain g c = if_ok c.reply_to_explain.result (λ reply is. rw (ap me
 
 pub returns-in-Graph : goal.returns-in-Graph
 returns-in-Graph g c = if_ok c.reply_to_graph.result (λ reply is. rw (ap meant c.in-Graph.is) (drawn is)) c.reply_to_graph.ensures
+
+pub returns-in-Missing : goal.returns-in-Missing
+returns-in-Missing g c = if_ok c.reply_to_missing.result (λ reply is. rw (ap meant c.in-Missing.is) (missed is)) c.reply_to_missing.ensures
