@@ -14,7 +14,7 @@ use Rattle.oss_machine.specs.Machines.{asks}
 use Rattle.oss_freed.specs.Freed.{freed}
 use Rattle.oss_free_run.specs.FreeTasks.{free_main, free_program}
 use Rattle.oss_lower_laws.specs.Lowered.{IsLowered}
-use Rattle.oss_lower_laws.proofs.OneCode.{codes_are_one}
+use Rattle.oss_lower_laws.proofs.OneCode.{lowered_once}
 use Rattle.oss_lower_laws.proofs.OneResult.{Same, one_end}
 use Rattle.oss_lacks.specs.Asking.{Asking}
 use Rattle.oss_lacks.specs.Lacks.{IsWalked}
@@ -63,7 +63,7 @@ one_stop code fuel n m f g text other x y =
 
 pub missing_alike : (fuel : ℕ) (p : Tree) (reply other : Reply) → IsMissingReply fuel p reply → IsMissingReply fuel p other → ◌≡◌ {A = Status} reply.status other.status
 missing_alike fuel p reply other x y =
-    let codes : x.is_missing.code ≡ y.is_missing.code = codes_are_one p.items x.is_missing.code y.is_missing.code x.is_missing.lowered y.is_missing.lowered in
+    let codes : x.is_missing.code ≡ y.is_missing.code = lowered_once p.items x.is_missing.code y.is_missing.code x.is_missing.lowered y.is_missing.lowered in
     let first : IsMissing y.is_missing.code fuel p.items x.missing = subst (λ (c : CodeParts). IsMissing c fuel p.items x.missing) codes x.is_missing.is in
     ap (λ (r : Reply). r.status) x.is_reply
     ∙ one_stop y.is_missing.code fuel first.nest y.is_missing.is.nest x.missing.fault y.missing.fault (missing_text p.items x.missing) (missing_text p.items y.missing) first.walked y.is_missing.is.walked
