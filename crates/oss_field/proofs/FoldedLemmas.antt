@@ -200,11 +200,11 @@ module _ (left : List Held) (n m e w x : ℕ) (k k1 k2 : Known) (s : Midway left
       ∙ ((λ j. record (g.known j) { told = k2.told; word = k2.word; found = k2.found })
       ∙ (λ j. record (joined_whole m e w x k) { told = k2.told; marks = sym whole_marks j; word = k2.word; found = k2.found }))
 
-  pub whole_gives : GivesJoin e w k k2
-  whole_gives = record {
+  pub whole_gives : Among (record { entry = e; fact = has_none }) k.marks → GivesJoin e w k k2
+  whole_gives childless_is = record {
     state = x + 24;
     sends = sent e (state_at x) (state_at (x + 24)) (info_at w);
-    sends_is = childless x refl refl;
+    sends_is = childless x (subst (λ (z : List Mark). Among (record { entry = e; fact = has_none }) z) (sym whole_marks) childless_is) refl refl;
     known = whole_known;
     told = λ t a. learns.told t (subst (λ (z : List Told). Among t z) (sym told_whole) a);
     marks = λ y a. subst (λ (z : List Mark). Among y z) (sym whole_marks) a;
@@ -291,11 +291,11 @@ module _ (left : List Held) (n m e w l u : ℕ) (k k1 : Known) (s : Midway left 
             found = k4.found;
           }))))
 
-      pub rest_gives : GivesJoin e w k k4
-      rest_gives = record {
+      pub rest_gives : Among (record { entry = e; fact = has_last l }) k.marks → GivesJoin e w k k4
+      rest_gives last_is = record {
         state = x + 8;
         sends = sent l (state_at y) (state_at (y + (64 + 65536 * e))) (info_at u);
-        sends_is = above x l u y refl (learns.told (record { entry = l; info = info_at u }) rest_told) refl;
+        sends_is = above x l u y (subst (λ (z : List Mark). Among (record { entry = e; fact = has_last l }) z) (sym rest_marks) last_is) refl (learns.told (record { entry = l; info = info_at u }) rest_told) refl;
         known = rest_known;
         told = λ t a. learns.told t (subst (λ (z : List Told). Among t z) (sym told_rest) (learned.told t a));
         marks = λ z a. subst (λ (q : List Mark). Among z q) (sym rest_marks) a;

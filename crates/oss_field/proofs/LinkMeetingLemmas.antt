@@ -1,5 +1,5 @@
 -- A seat that has begun to make a task may link its entries.
-use Rattle.std.proofs.Common.{◌≡◌, sym, subst, refl, ◌∙◌, ap, ℕ, suc, ◌<◌, ◌≤◌, ◌+◌, arith, ◌∷◌, ◌++◌, length, Option, Some, None}
+use Rattle.std.proofs.Common.{◌≡◌, sym, subst, refl, ◌∙◌, ap, ℕ, suc, ◌<◌, ◌≤◌, ◌+◌, arith, List, ◌∷◌, ◌++◌, length, Option, Some, None}
 use Rattle.oss_code.specs.declared.code.CodeParts.{CodeParts}
 use Rattle.oss_machine.specs.Frames.{CodeScript}
 use Rattle.oss_model.specs.Bodies.{Body, Order}
@@ -11,8 +11,8 @@ use Rattle.oss_words.proofs.SeatLemmas.{among_left}
 use Rattle.oss_roles.specs.Numbers.{cells_below}
 use Rattle.oss_roles.specs.Roles.{Site, itself, on}
 use Rattle.oss_field.specs.Hanging.{StandsToLink}
-use Rattle.oss_field.specs.Known.{Holding, Known, last_of}
-use Rattle.oss_field.specs.LinkMeeting.{BegunMayLink, OthersMayLink}
+use Rattle.oss_field.specs.Known.{Holding, Known, Unlinked, last_of}
+use Rattle.oss_field.specs.LinkMeeting.{BegunMayLink, DeliveriesKeepMaking, FoldsKeepMaking, IsMakingStill, OthersMayLink}
 use Rattle.oss_field.specs.Linking.{IsEntryFor, IsFresh, cell_entry, own_entry}
 use Rattle.oss_field.specs.Making.{new_cells, unlinked_from}
 use Rattle.oss_field.specs.Moves.{with_body}
@@ -68,11 +68,29 @@ begun_may_link code n job t count k l b empty e i cell after info names =
     })
 
 pub others_may_link : OthersMayLink
-others_may_link code job e d i j cell after before k l s linked ne empty = record {
-  may = may_on code e i cell k l (ap (λ (z : Known). z.bears) linked.known) (ap (λ (z : Known). z.makes) linked.known) (ap (λ (z : Known). z.plans) linked.known) s.may;
-  fresh = subst (λ (z : Known). IsFresh i.task e None None z) (sym linked.known) (beside_kept d k.unlinked (record { task = i.task; entry = e; state = no_flags; info = None; cell = None }) s.fresh ne);
+others_may_link code job e d i j cell after before k l m s linked ne still empty = record {
+  may = may_on code e i cell k m (still.bears ∙ ap (λ (z : Known). z.bears) linked.known) (still.makes ∙ ap (λ (z : Known). z.makes) linked.known)
+      (still.plans ∙ ap (λ (z : Known). z.plans) linked.known) s.may;
+  fresh = subst (λ (z : List Unlinked). Among (record { task = i.task; entry = e; state = no_flags; info = None; cell = None }) z) (sym (still.unlinked ∙ ap (λ (z : Known). z.unlinked) linked.known))
+      (beside_kept d k.unlinked (record { task = i.task; entry = e; state = no_flags; info = None; cell = None }) s.fresh ne);
   names = s.names;
   empty = empty;
   last = s.last;
   is = s.is;
+}
+
+pub deliveries_keep_making : DeliveriesKeepMaking
+deliveries_keep_making k l result d = record {
+  bears = ap (λ (z : Known). z.bears) d.known;
+  makes = ap (λ (z : Known). z.makes) d.known;
+  plans = ap (λ (z : Known). z.plans) d.known;
+  unlinked = ap (λ (z : Known). z.unlinked) d.known;
+}
+
+pub folds_keep_making : FoldsKeepMaking
+folds_keep_making e k l f = record {
+  bears = ap (λ (z : Known). z.bears) f.known;
+  makes = ap (λ (z : Known). z.makes) f.known;
+  plans = ap (λ (z : Known). z.plans) f.known;
+  unlinked = ap (λ (z : Known). z.unlinked) f.known;
 }

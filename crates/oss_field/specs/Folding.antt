@@ -152,10 +152,10 @@ pub record Midway (left : List Held) (n e w : ℕ) (js : List ℕ) (k : Known) :
   pub bounded : Bounded n k
   pub ready : (c : Known) (items : List Message) → c.words.held ≡ without (join_to e) k.words.held ++ items → ((t : Told) → Among t k.told → Among t c.told) → Ready left items c
 
--- What a fold leaves held, with its state word after it: with no child, what its own step completed; and else what the link of the last child completed.
+-- What a fold leaves held, with its state word after it: with no child, what its own step completed; and else what the link of the last child completed. The seat has read which it is.
 pub data FoldSends (k : Known) (e w state : ℕ) (sends : List Message) : Type 0 where
-  childless : (x : ℕ) → state ≡ x + 24 → sends ≡ sent e (state_at x) (state_at (x + 24)) (info_at w) → FoldSends k e w state sends
-  above : (x l u y : ℕ) → state ≡ x + 8 → Among (record { entry = l; info = info_at u }) k.told → sends ≡ sent l (state_at y) (state_at (y + (64 + 65536 * e))) (info_at u) → FoldSends k e w state sends
+  childless : (x : ℕ) → Among (record { entry = e; fact = has_none }) k.marks → state ≡ x + 24 → sends ≡ sent e (state_at x) (state_at (x + 24)) (info_at w) → FoldSends k e w state sends
+  above : (x l u y : ℕ) → Among (record { entry = e; fact = has_last l }) k.marks → state ≡ x + 8 → Among (record { entry = l; info = info_at u }) k.told → sends ≡ sent l (state_at y) (state_at (y + (64 + 65536 * e))) (info_at u) → FoldSends k e w state sends
 
 -- The entry was given up, and its join was delivered.
 pub record GivesJoin (e w : ℕ) (k l : Known) : Type 0 where

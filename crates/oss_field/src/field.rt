@@ -189,7 +189,8 @@ impl Field {
 
     /// Puts the job that the seat took last back into its slot. Since the seat's last call with the job it was advanced
     /// by that call's act, and else by its own acts alone, and by waits that the seat has seen to be met; and the seat
-    /// is making no task by it. The seat does not hold it any more, and forgets what it loaded for a fold of it.
+    /// is making no task by it. The seat does not hold it any more, and forgets what it loaded for a fold of it, and what it
+    /// has read of the flags of entries, those of its other jobs too.
     pub fn put_body(&self, seat: &mut FieldSeat, job: Box<Job>)
         requires field { seat.old.field ≡ self.now.table }
         requires may { MayPut self.now.code (box_value job) seat.old.known }
@@ -203,7 +204,7 @@ impl Field {
     /// The state word of an entry, as it stands at this step. All its flags stand from then on. If the entry is one of
     /// the task of a job that the seat holds, the flag of a value that is left stays as it was found, and so does, but
     /// for a strong reduction that is left, that of an entry that is given up: until the seat sets it itself, or puts
-    /// the job.
+    /// a job back.
     pub fn flags(&self, seat: &mut FieldSeat, entry: u32) -> u64
         requires field { seat.old.field ≡ self.now.table }
         requires inside { entry < self.now.entries }
@@ -241,8 +242,8 @@ impl Field {
     /// tells the mode and whether it is strong, as the task's accesses name the cell together; for its own entry a weak
     /// read. It tells the task's number, how deep the task stands, and as parent the creator's entry there, which is 0 for
     /// main. What is named is the creator's last child there, if it has one, and else its own entry there, or main. The
-    /// words of the entry are written first. By the last step it hangs, and what that completes is held. A first child
-    /// has nothing before it. The first of a list of main may read, fold and write too, and no message follows. None of the steps
+    /// words of the entry are written first. By the last of these steps it hangs. Then the infos of entries are read to which what
+    /// that completes goes, and it is held. A first child has nothing before it. The first of a list of main may read, fold and write too, and no message follows. None of the steps
     /// is one of the machine.
     pub fn link(
         &self,

@@ -21,7 +21,7 @@ returns-clause-settled c =
 
 pub returns-clause-gives : goal.returns-clause-gives
 returns-clause-gives c =
-    whole_gives c.args.held.now.items c.args.words.now.key.entries c.args.cells c.args.entry c.args.info c.join_whole-found.result c.args.place.now.me.0.known c.join_whole-found.new.seat.me.0.known c.hold_sent.new.place.me.0.known c.requires.midway c.join_whole-found.ensures.joins c.hold_sent.ensures.learns
+    whole_gives c.args.held.now.items c.args.words.now.key.entries c.args.cells c.args.entry c.args.info c.join_whole-found.result c.args.place.now.me.0.known c.join_whole-found.new.seat.me.0.known c.hold_sent.new.place.me.0.known c.requires.midway c.join_whole-found.ensures.joins c.hold_sent.ensures.learns c.requires.none
 
 pub returns-clause-last : goal.returns-clause-last
 returns-clause-last c =

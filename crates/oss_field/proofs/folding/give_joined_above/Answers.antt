@@ -46,7 +46,7 @@ returns-clause-settled c =
 
 pub returns-clause-gives : goal.returns-clause-gives
 returns-clause-gives c =
-    rest_gives c.args.held.now.items c.args.words.now.key.entries c.args.cells c.args.entry c.args.info c.args.last c.read_info-child.result c.args.place.now.me.0.known c.read_info-child.new.seat.me.0.known c.requires.midway c.read_info-child.ensures.informs c.join_half-was.result c.join_half-was.new.seat.me.0.known c.join_half-was.ensures.joins c.join_rest-found.result c.join_rest-found.new.seat.me.0.known c.hold_sent.new.place.me.0.known c.join_rest-found.ensures.gave c.hold_sent.ensures.learns
+    rest_gives c.args.held.now.items c.args.words.now.key.entries c.args.cells c.args.entry c.args.info c.args.last c.read_info-child.result c.args.place.now.me.0.known c.read_info-child.new.seat.me.0.known c.requires.midway c.read_info-child.ensures.informs c.join_half-was.result c.join_half-was.new.seat.me.0.known c.join_half-was.ensures.joins c.join_rest-found.result c.join_rest-found.new.seat.me.0.known c.hold_sent.new.place.me.0.known c.join_rest-found.ensures.gave c.hold_sent.ensures.learns c.requires.last
 
 pub returns-clause-last : goal.returns-clause-last
 returns-clause-last c =
