@@ -92,6 +92,7 @@ if is_asked commands; then
     row audit "$name.c"
     row explain "$name.c"
     row graph "$name.c"
+    row missing "$name.c"
     row run "$name.c" --dump
   done
 fi

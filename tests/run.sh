@@ -9,6 +9,7 @@
 # trace, where there is such a file. Each NAME.schedule leads NAME.c to its end. Where gcc is there, it compiles each NAME.c without a
 # warning, and what it compiles has the same output where the run has no fault. NAME.explained is the explanation of the fault of NAME.c; where the
 # run has no fault, that is what is told. NAME.graph is the graph of NAME.c, where there is such a file. Where dot is there, it reads each graph without a complaint.
+# NAME.missing is what the clauses of NAME.c lack, where there is such a file; those of the others lack nothing.
 #
 # In README.md and docs/GUIDE.md, each block `c` is the program of examples/ that the line before it names, and each block `console` is what
 # its commands, the lines that begin with `$ `, write where they are given one after the other; so the blocks `console` of docs/COMMANDS.md. tests/tables.sh tries the
@@ -254,6 +255,15 @@ for file in *.graph; do
   expect "the graph of examples/${file%.graph}.c" "$status" "$file" "$err" graph "${file%.graph}.c"
   drawn "the graph of examples/${file%.graph}.c" "$file"
 done
+echo 'nothing is missing' >"$work/all_there"
+for file in *.c; do
+  describe "${file%.c}"
+  lines=$work/all_there
+  [ ! -e "${file%.c}.missing" ] || lines=${file%.c}.missing
+  case $status in
+    [01]) expect "what the clauses of examples/$file lack" 0 "$lines" "$work/nothing" missing "$file" ;;
+  esac
+done
 for file in *.schedule; do
   describe "${file%.schedule}"
   expect "examples/$file" "$status" "$out" "$err" replay "${file%.schedule}.c" "$file"
@@ -355,7 +365,7 @@ expect "a file of 1,048,576 bytes to check" 0 ok ../nothing check full.c
 expect "a file of 1,048,577 bytes" 3 ../nothing too_large run long.c
 expect "a file of 1,048,577 bytes to check" 3 ../nothing too_large check long.c
 expect "a file of 1,048,577 bytes with a bad byte" 3 ../nothing too_large check long_bytes.c
-for command in trace span audit explain graph; do
+for command in trace span audit explain graph missing; do
   expect "a file of 1,048,577 bytes, $command" 3 ../nothing too_large "$command" long.c
 done
 echo 'int main() { }' >none.c

@@ -234,7 +234,7 @@ page_options() {
 
 # try_completion: what is offered, in a folder with some files
 try_completion() {
-  check "commands" offers 'audit check explain graph replay run soak span trace ' nest6 ''
+  check "commands" offers 'audit check explain graph missing replay run soak span trace ' nest6 ''
   check "commands with s" offers 'soak span ' nest6 s
   check "no option as a command" offers '' nest6 --mode =
   check "options of run" offers '--deps= --dump --fuel= --mode= --order --who --workers= ' nest6 run --
@@ -245,6 +245,7 @@ try_completion() {
   check "options of audit" offers '--fuel= ' nest6 audit --
   check "options of explain" offers '--fuel= ' nest6 explain --
   check "options of graph" offers '--fuel= ' nest6 graph --
+  check "options of missing" offers '--fuel= ' nest6 missing --
   check "check has no options" offers '' nest6 check --
   check "options of no command" offers '' nest6 walk --
   check "an option that is begun" offers '--deps= --dump ' nest6 run --d
@@ -272,7 +273,7 @@ try_completion() {
   check "no third file" offers '' nest6 replay a.c b.txt ''
   check "no file for numbers" offers '' nest6 soak ''
   check "a file of the shell" offers 'b.txt ' nest6 trace a.c '>' b
-  for command in check run trace replay soak span audit explain graph; do
+  for command in check run trace replay soak span audit explain graph missing; do
     check "the man page has the options of $command" offers "$(page_options "$command")" nest6 "$command" --
   done
   BREAKS=' '
@@ -283,9 +284,9 @@ try_completion() {
 # What the program takes is what is offered: the commands, for each command the options, and their values.
 try_agreement() {
   usage=$("$program" 2>&1 </dev/null)
-  # The usage line does not name `explain` and `graph`.
-  check "the commands of the usage line are offered, and two more" offers "$({ echo "$usage" | sed 's/^usage: nest6 //' | tr '|' '\n' && echo explain && echo graph; } | awk '{ print $1 }' | each_once)" nest6 ''
-  for command in check run trace replay soak span audit explain graph; do
+  # The usage line does not name `explain`, `graph` and `missing`.
+  check "the commands of the usage line are offered, and three more" offers "$({ echo "$usage" | sed 's/^usage: nest6 //' | tr '|' '\n' && echo explain && echo graph && echo missing; } | awk '{ print $1 }' | each_once)" nest6 ''
+  for command in check run trace replay soak span audit explain graph missing; do
     offered=$(completions nest6 "$command" --)
     for option in --mode=waves --deps=plain --fuel=7 --workers=2 --dump; do
       # The operands are parted here.

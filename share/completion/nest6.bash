@@ -3,7 +3,7 @@
 # It is also found by itself as ~/.local/share/bash-completion/completions/nest6, where the package bash-completion is there.
 
 # The commands.
-_nest6_commands='check run trace replay soak span audit explain graph'
+_nest6_commands='check run trace replay soak span audit explain graph missing'
 
 # The options of a command. One that ends with = has a value.
 _nest6_options() {
@@ -11,7 +11,7 @@ _nest6_options() {
     run) echo '--mode= --deps= --fuel= --workers= --dump --who --order' ;;
     trace) echo '--deps= --fuel=' ;;
     soak) echo '--mode= --deps= --workers=' ;;
-    replay | span | audit | explain | graph) echo '--fuel=' ;;
+    replay | span | audit | explain | graph | missing) echo '--fuel=' ;;
   esac
 }
 

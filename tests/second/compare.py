@@ -7,7 +7,7 @@ Without OTHER each file is run by the interpreter too: with a dump, with ample f
 run may stop. Each answer has an output, an error output and a status, and these must be the same
 
     for ample fuel   of `run` in the mode serial, by waves over each dependency system with 1 and with 4 workers, and by one worker; of `audit`
-                     and `graph`; of the error output of each `trace` and its number of tasks; of the `replay` of each; of the ticks of `span`
+                     `graph` and `missing`; of the error output of each `trace` and its number of tasks; of the `replay` of each; of the ticks of `span`
     for little fuel  of `run` in the mode serial and in one of the others, in turn
 
 The traces over the dependency systems must be the same as well. Little fuels are every eighth from 1 to 40, beginning with another one for each file;
@@ -133,6 +133,8 @@ class Comparison:
         self.same(file.name, words, self.call(*words, str(file)), answers.audit())
         words = ["graph", f"--fuel={AMPLE}"]
         self.same(file.name, words, self.call(*words, str(file)), answers.graph())
+        words = ["missing", f"--fuel={AMPLE}"]
+        self.same(file.name, words, self.call(*words, str(file)), answers.missing())
         self.span(file, wanted)
         self.traces(file, answers.run())
 
@@ -171,7 +173,7 @@ class Comparison:
         self.same_call(file, "check")
         for mode in ["--mode=serial", *OTHERS]:
             self.same_call(file, "run", *mode.split(), f"--fuel={AMPLE}", "--dump")
-        for command in ("audit", "graph", "span", "trace"):
+        for command in ("audit", "graph", "missing", "span", "trace"):
             self.same_call(file, command, f"--fuel={AMPLE}")
         for system in SYSTEMS[1:]:
             self.same_call(file, "trace", f"--deps={system}", f"--fuel={AMPLE}")
