@@ -64,9 +64,14 @@ IsBehindAsk w f Ask.Wait line old new = new ≡ with_acting (with_lent nothing_l
 IsBehindAsk w f Ask.End line old new = new ≡ closed tell_nothing old
 IsBehindAsk w f ask line old new = new ≡ old
 
+-- The same, where the task awaits the one that it has created, or does not: that it awaits it is no ask.
+abbrev pub IsBehindIf : {S : Type 0} → Bool → Mended → Frame S → Ask S → ℕ → Nest Holding → Nest Holding → Type 0
+IsBehindIf true w f ask line old new = new ≡ old
+IsBehindIf false w f ask line old new = IsBehindAsk w f ask line old new
+
 -- What is known behind the act of this task.
 abbrev pub IsBehind : {S : Type 0} → Mended → Program S → Frame S → Nest Holding → Nest Holding → Type 0
-IsBehind w P f old new = if f.awaits then new ≡ old else IsBehindAsk w f (ask_of P f).ask (ask_of P f).line old new
+IsBehind w P f old new = IsBehindIf f.awaits w f (ask_of P f).ask (ask_of P f).line old new
 
 -- The free run comes to this stage, and this is known of its tasks.
 pub data Waits {S : Type 0} (w : Mended) (P : Program S) (main : Start S) (first : List ℕ) : Running S → Nest Holding → Type 0 where
