@@ -5,8 +5,9 @@
 
 Makes the programs of generator.py with these numbers, and looks at each with ample fuel and with little:
 
-    nothing is told exactly if the run has none of the faults that a clause, a wait or the want of a release can make, and then both end alike
-    the run in which each task has its mended accesses has none of these faults, with waits where lines tell of one, and ends as the free run
+    nothing is told exactly if the run has none of the faults that a clause, a wait or a release makes, and then both end alike
+    the run in which each task has its mended accesses has none of these faults, with waits where lines tell of one, and ends as the free run; it uses
+        what was released where lines tell of that
     without one added access, or with a weaker one in its place, that run has such a fault; these are tried for some accesses of each program
 
 Each program for which one of these is not so is told. The last line counts, and the status is 1 if there is one.
@@ -30,18 +31,29 @@ OF_CLAUSES = ("MixedAccess", "Released", "NoRight", "NotCovered", "BadReduction"
 
 
 class MendedRun(Run):
-    """A run in which the tasks have these accesses, each a dictionary, in the order of their creations. What was released keeps its right, and with
-    `waits` each touch of what is lent waits first."""
+    """A run in which the tasks have these accesses, each a dictionary, in the order of their creations. What was released keeps its right, and a touch
+    of what is lent waits first. The points and lines of both are noted."""
 
     def __init__(self, program, fuel, accesses):
         super().__init__(program, fuel, MOST_TICKS)
         self.accesses = accesses
         self.count = 0
+        # of each task, by its point, what it has released
+        self.given_up = {}
+        self.waits = set()
+        self.uses = set()
+
+    def use(self, cells):
+        if not self.given_up.get(self.task.point, set()).isdisjoint(cells):
+            self.uses.add((self.task.point, self.line))
 
     def touch(self, place, how):
         global_, index = place
-        if global_ is not None and 0 <= index < global_.size and self.task.refusal(global_.start + index, how) == "Lent":
-            self.task.lent.clear()
+        if global_ is not None and 0 <= index < global_.size:
+            self.use([global_.start + index])
+            if self.task.refusal(global_.start + index, how) == "Lent":
+                self.waits.add((self.task.point, self.line))
+                self.task.lent.clear()
         return super().touch(place, how)
 
     def create(self, clauses, frame, body):
@@ -52,6 +64,7 @@ class MendedRun(Run):
         self.count += 1
         if not all(creator.covers(cell, access.mode) for cell, access in accesses.items()):
             self.fault("NotCovered")
+        self.use(accesses.keys())
         rights = {cell: (access.mode, access.strong) for cell, access in accesses.items()}
         point = (*creator.point, creator.created)
         creator.created += 1
@@ -62,10 +75,13 @@ class MendedRun(Run):
         self.begin(Task(point, creator.above + 1, final, rights, unwritten), list(frame), body)
 
     def test_released(self, lists):
-        pass
+        for cells in lists:
+            self.use(cells)
 
     def run_Release(self, release):
-        self.test_clauses(self.named_by(release))
+        named = self.named_by(release)
+        self.test_clauses(named)
+        self.given_up.setdefault(self.task.point, set()).update(*(cells for _, cells in named))
 
 
 def end_of(run):
@@ -117,14 +133,18 @@ class Trial:
             yield f"{ordinary[0]}, and {found!r} is told"
         if found == "" and ordinary != wanted:
             yield "nothing is told, and the run ends otherwise"
-        yield from self.mended(program, fuel, free.bodies[1:], wanted)
+        yield from self.mended(program, fuel, free.bodies[1:], wanted, found)
 
-    def mended(self, program, fuel, bodies, wanted):
+    def mended(self, program, fuel, bodies, wanted, found):
         accesses = [body.mended for body in bodies]
-        end = end_of(MendedRun(program, fuel, accesses))
+        run = MendedRun(program, fuel, accesses)
+        end = end_of(run)
         if end != wanted:
             yield f"the mended run ends by {end[0]}, and the free run by {wanted[0]}"
             return
+        for name, wanted_lines, mark in (("waits", run.waits, " lacks a taskwait "), ("uses", run.uses, " after a release.")):
+            if len(wanted_lines) != found.count(mark):
+                yield f"{len(wanted_lines)} {name} of the mended run, and {found.count(mark)} are told"
         for place, cell, lesser in some_of(list(lesser_of(bodies))):
             self.lesser += 1
             less = dict(accesses[place])
