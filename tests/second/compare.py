@@ -6,9 +6,9 @@
 Without OTHER each file is run by the interpreter too: with a dump, with ample fuel and with little, so that each tick of a task is a place where a
 run may stop. Each answer has an output, an error output and a status, and these must be the same
 
-    for ample fuel   of `run` in the mode serial, by waves over each dependency system with 1 and with 4 workers, and by one worker; of `audit`
+    for ample fuel   of `run` in the mode serial, by waves over each dependency system with 1 and with 4 workers, and by one worker; of `audit`,
                      `graph` and `missing`; of the error output of each `trace` and its number of tasks; of the `replay` of each; of the ticks of `span`
-    for little fuel  of `run` in the mode serial and in one of the others, in turn
+    for little fuel  of `run` in the mode serial and in one of the others, in turn; of `missing`
 
 The traces over the dependency systems must be the same as well. Little fuels are every eighth from 1 to 40, beginning with another one for each file;
 with --all-fuels each of them. A text that is refused is compared in `check` and `run` alone. With OTHER the calls are those, with `check` and all of
@@ -24,7 +24,7 @@ import signal
 import sys
 import tempfile
 
-from interpreter import Answer, Answers, TooLong, deeply
+from interpreter import Answer, Answers, TooLong, deeply, lacking
 from rules import judge
 from words import Refused
 
@@ -112,6 +112,7 @@ class Comparison:
             raise TooLong
         answers = Answers(program, AMPLE, MOST_TICKS)
         self.ample(file, answers)
+        self.missing(file, program, AMPLE)
         for fuel in self.little(place):
             if answers.fault or fuel < answers.made.longest:
                 wanted = Answers(program, fuel).run(True)
@@ -119,6 +120,7 @@ class Comparison:
                 wanted = answers.run(True)
             for mode in ("--mode=serial", OTHERS[(place + fuel) % len(OTHERS)]):
                 self.same_run(file, mode, fuel, wanted)
+            self.missing(file, program, fuel)
 
     def same_run(self, file, mode, fuel, wanted):
         words = ["run", *mode.split(), f"--fuel={fuel}", "--dump"]
@@ -133,10 +135,14 @@ class Comparison:
         self.same(file.name, words, self.call(*words, str(file)), answers.audit())
         words = ["graph", f"--fuel={AMPLE}"]
         self.same(file.name, words, self.call(*words, str(file)), answers.graph())
-        words = ["missing", f"--fuel={AMPLE}"]
-        self.same(file.name, words, self.call(*words, str(file)), answers.missing())
         self.span(file, wanted)
         self.traces(file, answers.run())
+
+    def missing(self, file, program, fuel):
+        # the run without the tests of clauses may be too long where the other one is not
+        wanted = lacking(program, fuel, MOST_TICKS)
+        words = ["missing", f"--fuel={fuel}"]
+        self.same(file.name, words, self.call(*words, str(file)), wanted)
 
     def span(self, file, wanted):
         words = ["span", f"--fuel={AMPLE}"]
@@ -173,7 +179,7 @@ class Comparison:
         self.same_call(file, "check")
         for mode in ["--mode=serial", *OTHERS]:
             self.same_call(file, "run", *mode.split(), f"--fuel={AMPLE}", "--dump")
-        for command in ("audit", "graph", "missing", "span", "trace"):
+        for command in ("audit", "graph", "span", "trace"):
             self.same_call(file, command, f"--fuel={AMPLE}")
         for system in SYSTEMS[1:]:
             self.same_call(file, "trace", f"--deps={system}", f"--fuel={AMPLE}")

@@ -3,6 +3,8 @@
 It was written from the description of such a graph alone, before the program wrote any.
 """
 
+import bisect
+
 MOST_PIECES = 4
 MOST_LABELS = 100
 
@@ -127,9 +129,10 @@ def named(program, cells):
 
 def pieces(program, cells):
     """The pieces of a set of cells, each with its number of cells, in the order of their first cells."""
-    found = []
+    found, ordered = [], sorted(cells)
     for each in program.globals:
-        inside = [cell - each.start for cell in range(each.start, each.start + each.size) if cell in cells]
+        first, last = (bisect.bisect_left(ordered, cell) for cell in (each.start, each.start + each.size))
+        inside = [cell - each.start for cell in ordered[first:last]]
         if each.size > 1 and len(inside) == each.size:
             found.append((each.name, each.size))
         elif inside:
