@@ -42,7 +42,15 @@ fn add_tasks(
     ensures { OnOk result (text.new.items ≡ text.old.items ++ lines_from names.now table.now 0 tasks.now) }
 {
     for (place, task) in tasks.iter().enumerate() {
-        add_task(alloc, names, table, place, task, told[place].as_slice(), text)?;
+        add_task(
+            alloc,
+            names,
+            table,
+            place,
+            task,
+            told[place].as_slice(),
+            text,
+        )?;
     }
     Ok(())
 }

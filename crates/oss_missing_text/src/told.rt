@@ -28,11 +28,7 @@ pub(crate) fn all_told(
 }
 
 /// What is told of the clauses of one task.
-fn told_by(
-    alloc: Global,
-    names: &Names<'_>,
-    task: &TaskMissing,
-) -> Result<List<Bytes>, AllocError>
+fn told_by(alloc: Global, names: &Names<'_>, task: &TaskMissing) -> Result<List<Bytes>, AllocError>
     ensures { IfOk result (λ told. told ≡ told_of names.now task.now) }
 {
     let mut told = Vec::new(alloc);
