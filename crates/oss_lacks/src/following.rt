@@ -171,7 +171,8 @@ impl Following {
         ensures { OnOk result (HaveEnded self.old self.new) }
     {
         'ends: loop {
-            if !self.close()? {
+            let more = self.close()?;
+            if !more {
                 return Ok(());
             }
         }
