@@ -30,8 +30,8 @@ pub data Told {S : Type 0} (n depth created : ℕ) (final : Bool) (a : Act S) (q
   ends : q ≡ Ask.End → a ≡ Ended → Told n depth created final a q false
 
 module _ {S : Type 0} (n : ℕ) (f : Frame S) (a : Act S) (cells : List ℕ) where
-  halted : {q : Ask S} {kind : FaultKind} {line : ℕ} → IsDeed n f a q cells (deeds.Stops kind line) → IsHalt a
-  halted (key, e) = subst IsHalt (sym e) tt
+  halted : (q : Ask S) {kind : FaultKind} {line : ℕ} → IsDeed n f a q cells (deeds.Stops kind line) → IsHalt a
+  halted q (key, e) = subst IsHalt (sym e) tt
 
   never_awaited : (q : Ask S) (v : ℕ) → IsFinding f a q cells v → a ≢ Awaited
   never_awaited q v d e =
@@ -46,22 +46,22 @@ module _ {S : Type 0} (n : ℕ) (f : Frame S) (a : Act S) (cells : List ℕ) whe
 
     touched : (q : Ask S) (c v : ℕ) → IsPlain q → ((x : ℕ) → AsksFor q x → c ≡ x) → (b : Bool) → nat_lt c n ≡ b → IsDeed n f a q cells (if b then deeds.Finds v else deeds.Stops fault.NoRight line) → Told n depth created f.context.final a q false
     touched q c v p one true e d = let l : c < n = grind (arith, nat_tests, e) in found q v p (λ x h. subst (λ (k : ℕ). k < n) (one x h) l) d
-    touched q c v p one false e d = stops (halted {q = q} d)
+    touched q c v p one false e d = stops (halted q d)
 
     begins : (q : Ask S) (x y : Bool) → IsDeed n f a q cells (if x then deeds.Stops fault.TooDeep line else if y then deeds.Stops fault.TooManyTasks line else deeds.Stops fault.TooManyTasks line) → IsHalt a
-    begins q true y d = halted {q = q} d
-    begins q false true d = halted {q = q} d
-    begins q false false d = halted {q = q} d
+    begins q true y d = halted q d
+    begins q false true d = halted q d
+    begins q false false d = halted q d
 
     created_one : (q : Ask S) (x y : Bool) → nat_le 64 depth ≡ x → nat_le 65535 created ≡ y
         → IsDeed n f a q cells (if x then deeds.Stops fault.TooDeep line else if y then deeds.Stops fault.TooManyTasks line else deeds.Creates) → Told n depth created f.context.final a q false
-    created_one q true y e k d = stops (halted {q = q} d)
-    created_one q false true e k d = stops (halted {q = q} d)
+    created_one q true y e k d = stops (halted q d)
+    created_one q false true e k d = stops (halted q d)
     created_one q false false e k (o, is, act, calm) = creates o is act (grind (arith, nat_tests, e)) (grind (arith, nat_tests, k))
 
     ticked : (b : Bool) → IsDeed n f a Ask.Tick cells (if b then deeds.Ticks else deeds.Stops fault.OutOfFuel line) → Told n depth created f.context.final a Ask.Tick false
     ticked true d = on tt (λ c h. absurd h) (λ h. subst IsHalt d h) (λ e. let x : Ticked ≡ Ended = sym d ∙ e in cc) (λ o i e. let x : Ticked ≡ Created o i = sym d ∙ e in cc) (λ e. let x : Ticked ≡ Awaited = sym d ∙ e in cc)
-    ticked false d = stops (halted {q = Ask.Tick} d)
+    ticked false d = stops (halted Ask.Tick d)
 
     pub told : (fuel ticks : ℕ) (q : Ask S) (b : Bool) → IsDeed n f a q cells (free_deed n fuel depth ticks created b cells q line) → Told n depth created f.context.final a q b
     told fuel ticks q true d = waits d
@@ -71,13 +71,13 @@ module _ {S : Type 0} (n : ℕ) (f : Frame S) (a : Act S) (cells : List ℕ) whe
     told fuel ticks (Ask.Write c v) false d = touched (Ask.Write c v) c 0 tt (λ x h. h) (nat_lt c n) refl d
     told fuel ticks (Ask.Fold c op v) false d = touched (Ask.Fold c op v) c 0 tt (λ x h. h) (nat_lt c n) refl d
     told fuel ticks (Ask.Create o) false d = created_one (Ask.Create o) (nat_le 64 depth) (nat_le 65535 created) refl refl d
-    told fuel ticks Ask.Await false d = stops (halted {q = Ask.Await} d)
+    told fuel ticks Ask.Await false d = stops (halted Ask.Await d)
     told fuel ticks Ask.Wait false d = found Ask.Wait 0 tt (λ c h. absurd h) d
     told fuel ticks (Ask.WaitOn named) false d = found (Ask.WaitOn named) 0 tt (λ c h. absurd h) d
     told fuel ticks (Ask.Release clauses) false d = found (Ask.Release clauses) 0 tt (λ c h. absurd h) d
     told fuel ticks (Ask.Print text) false d = found (Ask.Print text) 0 tt (λ c h. absurd h) d
     told fuel ticks Ask.End false d = ends refl d
-    told fuel ticks (Ask.Fails kind) false d = stops (halted {q = Ask.Fails kind} d)
+    told fuel ticks (Ask.Fails kind) false d = stops (halted (Ask.Fails kind) d)
 
   -- the deed tells whether the task does what it asks
   goes_of : (q : Ask S) (d : Deed) → goes_on d ≡ true → IsDeed n f a q cells d → (IsHalt a → ⊥) × (a ≢ Awaited)
@@ -100,7 +100,7 @@ module _ {S : Type 0} (n : ℕ) (f : Frame S) (a : Act S) (cells : List ℕ) whe
   stays_still depth created q b (deeds.Finds v) t g h go = let x : true ≡ false = g in absurd cc
   stays_still depth created q b deeds.Creates t g h go = let x : true ≡ false = g in absurd cc
   stays_still depth created q b deeds.Ends t g h go = let x : true ≡ false = g in absurd cc
-  stays_still depth created q b (deeds.Stops kind line) t g h go = absurd (go (halted {q = q} h))
+  stays_still depth created q b (deeds.Stops kind line) t g h go = absurd (go (halted q h))
   stays_still depth created q b deeds.Awaits t g h go = awaited b t h go
     where
       awaited : (b : Bool) → Told n depth created f.context.final a q b → a ≡ Awaited → (IsHalt a → ⊥) → b ≡ true

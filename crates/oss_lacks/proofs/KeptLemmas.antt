@@ -41,11 +41,21 @@ begun f needs current above tasks = record {
   ends = tt;
 }
 
+-- What it asks says nothing of how it was created.
+created_still : (t : Asking) (k : Numbered Asking) (c : Creation) → IsCreation k c → k.task.path ≡ t.path → k.task.line ≡ t.line → k.task.clauses ≡ t.clauses → k.task.final ≡ t.final → IsCreation (record { number = k.number; task = t }) c
+created_still t k c h path line clauses final = record {
+  number = h.number;
+  point = h.point ∙ ap written path;
+  line = h.line ∙ line;
+  clauses = h.clauses ∙ clauses;
+  final = h.final ∙ final;
+}
+
 -- The task that acts asks something.
 pub asked_more : (up : Asked → Asked) (old new : Following) → Goes up old.needs new.needs → new.current ≡ old.current → new.above ≡ old.above → new.tasks ≡ old.tasks → Asks up old new
 asked_more up old new goes current above tasks n s = record {
   needs = goes (open_in n.acting) (map open_in n.above) s.needs;
-  current = subst (λ (c : Creation). IsCreation n.acting c) (sym current) s.current;
+  current = created_still (asking up n.acting.task) n.acting new.current (subst (λ (c : Creation). IsCreation n.acting c) (sym current) s.current) refl refl refl refl;
   older = subst (λ (cs : List Creation). AreCreations n.above cs) (ap reverse (sym above)) s.older;
   told = subst (λ (ks : _). AreTold n.ended ks.items) (sym tasks) s.told;
   ends = s.ends;

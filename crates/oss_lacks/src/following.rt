@@ -1,6 +1,6 @@
 //! What is kept beside the free run.
 
-ghost use Rattle.std.specs.Prelude.{◌≡◌, ◌<◌, true, length, IfOk, OnOk};
+ghost use Rattle.std.specs.Prelude.{◌≡◌, ◌<◌, ◌+◌, ◌||◌, ℕ, true, length, IfOk, OnOk};
 ghost use Rattle.oss_lacks.specs.Asking.{main};
 ghost use Rattle.oss_lacks.specs.Nests.{alone};
 ghost use Rattle.oss_machine.specs.Asks.{meant_ask, meant_order};
@@ -48,6 +48,13 @@ impl Drop for Following {
     }
 }
 
+/// Whether a task that is created by an order is final: it is, or its creator is.
+fn is_final_below(creator: bool, order: &TaskOrder) -> bool
+    ensures { result ≡ (creator || order.now.last) }
+{
+    creator || order.last
+}
+
 impl Following {
     ghost use Rattle.oss_lacks.specs.Following.{Asks, Ends, HaveEnded, IsBack, IsClosed, IsFollowing, Notes, Opens};
 
@@ -90,7 +97,7 @@ impl Following {
         requires few { created < 65536 }
         ensures { OnOk result (Opens (meant_order order.now) line created is_final self.old self.new) }
     {
-        let is_final = is_final || order.last;
+        let is_final = is_final_below(is_final, order);
         self.needs.open(order.accesses.as_slice(), is_final)?;
         let number = add_slot(self.alloc, &mut self.tasks)?;
         let child = self
