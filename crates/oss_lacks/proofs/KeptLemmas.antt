@@ -31,16 +31,6 @@ pub if_ok : {A E : Type 0} {F G : A → Type 0} (r : Result A E) → ((x : A) �
 if_ok (Ok v) f p = f v p
 if_ok (Err e) f p = p
 
--- The beginning
-pub begun : (f : Following) → AreTasks (open_of main) [] f.needs → IsCreation (record { number = 0; task = main }) f.current → f.above ≡ [] → f.tasks.items ≡ [] → IsFollowing (alone main) f
-begun f needs current above tasks = record {
-  needs = needs;
-  current = current;
-  older = subst (λ (cs : List Creation). AreCreations [] cs) (sym (ap reverse above)) tt;
-  told = subst (λ (ks : List TaskLacks). AreTold [] ks) (sym tasks) tt;
-  ends = tt;
-}
-
 -- What it asks says nothing of how it was created.
 created_still : (t : Asking) (k : Numbered Asking) (c : Creation) → IsCreation k c → k.task.path ≡ t.path → k.task.line ≡ t.line → k.task.clauses ≡ t.clauses → k.task.final ≡ t.final → IsCreation (record { number = k.number; task = t }) c
 created_still t k c h path line clauses final = record {
@@ -52,12 +42,12 @@ created_still t k c h path line clauses final = record {
 }
 
 -- The task that acts asks something.
-pub asked_more : (up : Asked → Asked) (old new : Following) → Goes up old.needs new.needs → new.current ≡ old.current → new.above ≡ old.above → new.tasks ≡ old.tasks → Asks up old new
+pub asked_more : (up : Asked → Asked) (old new : Following) → Goes up old.needs new.needs → new.current ≡ old.current → new.above ≡ old.above → new.tasks.items ≡ old.tasks.items → Asks up old new
 asked_more up old new goes current above tasks n s = record {
   needs = goes (open_in n.acting) (map open_in n.above) s.needs;
   current = created_still (asking up n.acting.task) n.acting new.current (subst (λ (c : Creation). IsCreation n.acting c) (sym current) s.current) refl refl refl refl;
   older = subst (λ (cs : List Creation). AreCreations n.above cs) (ap reverse (sym above)) s.older;
-  told = subst (λ (ks : _). AreTold n.ended ks.items) (sym tasks) s.told;
+  told = subst (λ (ks : List TaskLacks). AreTold n.ended ks) (sym tasks) s.told;
   ends = s.ends;
 }
 
@@ -94,7 +84,7 @@ task_told : (k : Numbered Asking) (c : Creation) (m : Mending) → IsCreation k 
 task_told k c m is mends = record { point = is.point; line = is.line; clauses = is.clauses; final = is.final; mending = mends }
 
 returned : (m : Mending) (old mid new : Following) (k : Numbered Asking) (above : List (Numbered Asking)) (ended : List (Option Asking)) → Follows k above ended old
-    → mid.current ≡ old.current → mid.above ≡ old.above → mid.tasks ≡ old.tasks → IsReturned m mid new
+    → mid.current ≡ old.current → mid.above ≡ old.above → mid.tasks.items ≡ old.tasks.items → IsReturned m mid new
     → IsClosedTo (open_in k) (map open_in above) mid.needs (Some m)
     → Follows (closed_to tell_creator k above ended).acting (closed_to tell_creator k above ended).above (closed_to tell_creator k above ended).ended new
 returned m old mid new k [] ended s c a t back h = absurd h
@@ -102,7 +92,7 @@ returned m old mid new k (creator ∷ above) ended s c a t back h =
     let all : AreCreations (creator ∷ above) (back.creator ∷ reverse new.above) = subst (λ (cs : List Creation). AreCreations (creator ∷ above) cs) (ap reverse (sym a ∙ back.above) ∙ reversed new.above back.creator) s.older in
     let number : old.current.number ≡ k.number = s.current.number in
     let tasks : new.tasks.items ≡ slice_set old.tasks.items k.number (told_of old.current m) =
-    back.tasks ∙ ap (λ (x : Creation). slice_set mid.tasks.items x.number (told_of x m)) c ∙ ap (λ (v : _). slice_set v.items old.current.number (told_of old.current m)) t
+    back.tasks ∙ ap (λ (x : Creation). slice_set mid.tasks.items x.number (told_of x m)) c ∙ ap (λ (ks : List TaskLacks). slice_set ks old.current.number (told_of old.current m)) t
     ∙ ap (λ (i : ℕ). slice_set old.tasks.items i (told_of old.current m)) number in
     record {
       needs = subst (λ (x : OpenNeeds). AreTasks (open_in (record { number = creator.number; task = tell_creator k.task creator.task })) (map open_in above) x) (sym back.needs) h.1;
@@ -119,7 +109,7 @@ none_above k [] ended f s e = refl
 none_above k (c ∷ above) ended f s e = absurd (subst (λ (cs : List Creation). AreCreations (c ∷ above) cs) (ap reverse e) s.older)
 
 -- The creator acts, if there is one.
-pub closed_some : (m : Mending) (old mid new : Following) (more : Bool) → mid.current ≡ old.current → mid.above ≡ old.above → mid.tasks ≡ old.tasks → Closes old.needs mid.needs (Some m) → IsBack m mid new more → IsClosed old new more
+pub closed_some : (m : Mending) (old mid new : Following) (more : Bool) → mid.current ≡ old.current → mid.above ≡ old.above → mid.tasks.items ≡ old.tasks.items → Closes old.needs mid.needs (Some m) → IsBack m mid new more → IsClosed old new more
 closed_some m old mid new true c a t closes back = record {
   ends = λ n s. returned m old mid new n.acting n.above n.ended s c a t back (closes (open_in n.acting) (map open_in n.above) s.needs);
   last = λ e. let x : true ≡ false = e in absurd cc;
@@ -137,14 +127,14 @@ closed_some m old mid new false c a t closes back = record {
     none n s (k ∷ ks) us u h e = let y : k ∷ ks ≡ [] = e in absurd cc
 
 alone_still : (k : Numbered Asking) (above : List (Numbered Asking)) (ended : List (Option Asking)) (old new : Following) → Follows k above ended old
-    → new.current ≡ old.current → new.above ≡ old.above → new.tasks ≡ old.tasks → IsClosedTo (open_in k) (map open_in above) new.needs None
+    → new.current ≡ old.current → new.above ≡ old.above → new.tasks.items ≡ old.tasks.items → IsClosedTo (open_in k) (map open_in above) new.needs None
     → Follows (closed_to tell_creator k above ended).acting (closed_to tell_creator k above ended).above (closed_to tell_creator k above ended).ended new × (above ≡ [])
 alone_still k [] ended old new s c a t h = (
   record {
     needs = h;
     current = subst (λ (x : Creation). IsCreation k x) (sym c) s.current;
     older = subst (λ (cs : List Creation). AreCreations [] cs) (ap reverse (sym a)) s.older;
-    told = subst (λ (v : _). AreTold ended v.items) (sym t) s.told;
+    told = subst (λ (ks : List TaskLacks). AreTold ended ks) (sym t) s.told;
     ends = s.ends;
   },
   refl,
@@ -152,7 +142,7 @@ alone_still k [] ended old new s c a t h = (
 alone_still k (creator ∷ above) ended old new s c a t h = absurd h
 
 -- There is none: that was main.
-pub closed_none : (old new : Following) → new.current ≡ old.current → new.above ≡ old.above → new.tasks ≡ old.tasks → Closes old.needs new.needs None → IsClosed old new false
+pub closed_none : (old new : Following) → new.current ≡ old.current → new.above ≡ old.above → new.tasks.items ≡ old.tasks.items → Closes old.needs new.needs None → IsClosed old new false
 closed_none old new c a t closes = record {
   ends = λ n s. (alone_still n.acting n.above n.ended old new s c a t (closes (open_in n.acting) (map open_in n.above) s.needs)).0;
   last = λ e n s. (alone_still n.acting n.above n.ended old new s c a t (closes (open_in n.acting) (map open_in n.above) s.needs)).1;

@@ -29,11 +29,11 @@ use Rattle.oss_free_run.specs.Stages.{IsFailed, IsFirstStage, IsNext, IsStage}
 use Rattle.oss_missing_lines.specs.declared.missing.RunFault.{RunFault}
 use Rattle.oss_lacks.specs.declared.following.Following.{Following}
 use Rattle.oss_lacks.specs.declared.lacks.Lacks.{Lacks}
-use Rattle.oss_lacks.specs.Asking.{Asking, behind_ask, main as main_asking, tell_creator}
+use Rattle.oss_lacks.specs.Asking.{Asking, asked_by, asking, behind_ask, main as main_asking, tell_creator}
 use Rattle.oss_lacks.specs.Beside.{AreNamed, IsBeside, IsEnded, IsFinished, IsNoted, IsNotedAt, goes_on}
 use Rattle.oss_lacks.specs.Following.{IsFollowing, Notes}
 use Rattle.oss_lacks.specs.Lacks.{IsLacks, IsWalked}
-use Rattle.oss_lacks.specs.Nests.{Nest, Numbered, alone, closed, closed_to}
+use Rattle.oss_lacks.specs.Nests.{Nest, Numbered, alone, closed, closed_to, with_acting}
 use Rattle.oss_lacks.specs.Walks.{IsActing, Walks, behind, opens, runs_on}
 use Rattle.oss_lacks.proofs.DeedLemmas.{IsPlain, Told, acts_on, creates, ends, on, plain_behind, stays_still, stops, told, waits}
 
@@ -110,7 +110,7 @@ module _ (P : Program CodeScript) (f : Frame CodeScript) (older : List (Frame Co
       named_plain a n.acting n.acting n.above (g ∷ gs) refl (λ x. let y : Awaited ≡ Ended = sym e ∙ x in cc) (λ o i x. let y : Awaited ≡ Created o i = sym e ∙ x in cc) t h
   named_behind a q line b n g gs (stops x) go t h = absurd (go x)
   named_behind a q line _ n g gs (on p i x k l m) go t h =
-      subst (λ (y : Nest Asking). AreNamed (y.acting ∷ y.above) (g ∷ gs)) (sym (plain_behind f q line n p)) (named_plain a n.acting _ n.above (g ∷ gs) refl k l t h)
+      subst (λ (y : Nest Asking). AreNamed (y.acting ∷ y.above) (g ∷ gs)) (sym (plain_behind f q line n p)) (named_plain a n.acting (with_acting (asking (asked_by q) n.acting.task) n).acting n.above (g ∷ gs) refl k l t h)
   named_behind {count = count} a q line _ n g gs (creates o is act x y) go t h =
       subst (λ (z : Ask CodeScript). AreNamed ((behind_ask f z line n).acting ∷ (behind_ask f z line n).above) (g ∷ gs)) (sym is)
       (named_down (freed_order count o) f.context.final (behind_ask f (Ask.Create o) line n).acting n (g ∷ gs) refl (ap (λ (z : Act CodeScript). tasks_behind P z v (f ∷ older)) (sym act) ∙ t) h)
@@ -212,7 +212,7 @@ module _ (code : CodeParts) (fuel : ℕ) where
       stage = next.stage;
       nest = behind (asks code) b.stage.task b.nest;
       walks = runs_on b.walks (acting_here r b.stage) next.runs;
-      named = named_behind (free_program code) b.stage.task b.stage.older _ (act r b.stage) (ask r b.stage) (line r b.stage) b.stage.task.awaits b.nest next.stage.task next.stage.older (told_here r b.stage) (runs_still r b.stage next.runs) next.tasks b.named;
+      named = named_behind (free_program code) b.stage.task b.stage.older (found_by (act r b.stage) r.cells.items) (act r b.stage) (ask r b.stage) (line r b.stage) b.stage.task.awaits b.nest next.stage.task next.stage.older (told_here r b.stage) (runs_still r b.stage next.runs) next.tasks b.named;
       follows = at_now.goes (runs_still r b.stage next.runs);
     }
 
