@@ -2,3 +2,5 @@ pub mod Nests
 pub mod Asking
 pub mod Walks
 pub mod Lacks
+pub mod Following
+pub mod Beside
