@@ -2,6 +2,7 @@
 
 ghost use Rattle.std.specs.Prelude.{◌≡◌, ◌≤◌, length, Some, IfOk};
 ghost use Rattle.oss_lower_laws.specs.Lowered.{IsLowered};
+ghost use Rattle.oss_missing_text.specs.Text.{missing_text as text_told};
 ghost use Rattle.oss_top.specs.Missed.{IsMissingOfProgram, IsMissingReply, missed_reply};
 
 use crate::reply::Reply;
@@ -27,8 +28,16 @@ pub(crate) fn reply_to_missing(
 {
     let code = lower(alloc, known)?;
     let missing = missing_of(alloc, fuel, known, &code)?;
-    let text = missing_text(alloc, known.program(), &missing)?;
+    let text = text_of(alloc, known, &missing)?;
     reply_to_missed(alloc, missing.fault, text)
+}
+
+/// The lines of what is missing of a program.
+fn text_of(alloc: Global, known: &Known, missing: &Missing) -> Result<Bytes, AllocError>
+    ensures { IfOk result (λ text. text ≡ text_told known.now.items missing.now) }
+{
+    let text = missing_text(alloc, known.program(), missing)?;
+    Ok(Bytes::from_vec(text))
 }
 
 /// What is missing of a program, by its code. Condition: that is what lowering makes of the program.
