@@ -1,7 +1,7 @@
 -- What is told of one task, behind its name: its clauses that are missing, those that have to give way, and what it does too early or too late. The line of its creation belongs to that, and so lines of tasks of two lines never read alike.
 -- Read against: behind `Task 0.0` stand ` (line 3) lacks out(a[0:3])` and ` (line 3) wants inout(s) in place of reduction(+)`, and behind `Main` ` lacks a taskwait before it reads x at line 7: task 0.0 (line 3) has x by out.` A fold by `+` into s is told as
 -- `folds into s by +=`. A task that uses a[1] and a[2] on line 8, which it has released, has ` (line 3) uses a[1:2] at line 8 after a release.`
-use Rattle.std.specs.Prelude.{ℕ, if◌then◌else◌, List, [], ◌∷◌, ◌++◌, map, codes}
+use Rattle.std.specs.Prelude.{ℕ, if◌then◌else◌, List, [], ◌++◌, map, codes}
 use Rattle.std.specs.Fmt.{decimal}
 use Rattle.oss_syntax.specs.declared.tree.program.Item.{Item}
 use Rattle.oss_model.specs.Points.{text_of}

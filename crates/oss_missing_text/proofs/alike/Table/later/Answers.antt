@@ -1,5 +1,5 @@
 use Rattle.std.proofs.Common.{◌≡◌, ◌∙◌, length, rules, subst, sym}
-use Rattle.oss_missing_text.specs.Tables.{IsKept, behind_of, found, kept_at}
+use Rattle.oss_missing_text.specs.Tables.{IsKept, found, kept_at}
 use Rattle.oss_missing_text.proofs.AlikeLemmas.{told_later}
 use Rattle.oss_missing_text.proofs.alike.Table.later.Goals as goal
 
