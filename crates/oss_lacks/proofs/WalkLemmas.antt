@@ -1,14 +1,13 @@
 -- What is kept follows the free run.
-use Rattle.std.proofs.Common.{◌≡◌, ℕ, suc, ◌+◌, ◌<◌, ◌≤◌, refl, sym, subst, ap, ◌∙◌, List, [], ◌∷◌, ◌++◌, length, arith, Bool, true, false, Option, Some, None}
+use Rattle.std.proofs.Common.{◌≡◌, ℕ, suc, ◌<◌, ◌≤◌, refl, sym, subst, ap, ◌∙◌, List, [], ◌∷◌, ◌++◌, length, arith, Bool, true, false, Option, Some, None}
 use Rattle.std.specs.Prelude.{if◌then◌else◌, reverse}
 use Rattle.std.proofs.lemmas.List.{length-reverse}
 use Rattle.oss_syntax.specs.declared.fault.FaultKind.{FaultKind}
-use Rattle.oss_model.specs.Bodies.{Act, Ask, Body, Frame, IsHalt, Order, Program, Stack, Start, after_creation, ask_of, child_frame, frame_after, including_frame, settled_frame, stack_from, start_frame, top_frame}
+use Rattle.oss_model.specs.Bodies.{Act, Ask, Body, Frame, IsHalt, Order, Program, Stack, after_creation, ask_of, child_frame, frame_after, including_frame, settled_frame, stack_from, top_frame}
 use Rattle.oss_model.specs.Bodies.Act.{Awaited, Created, Ended}
 use Rattle.oss_model.specs.Machine.{At, State, Task}
 use Rattle.oss_model.specs.Marks.{AsksFor}
 use Rattle.oss_model.specs.Moves.{act_now, found_by, opening}
-use Rattle.oss_model.specs.Order.{written}
 use Rattle.oss_model.specs.Sequence.{IsAtEnd, Running, RunsOn}
 use Rattle.oss_model.proofs.BodyLemmas.{frame_after_kept, settle_kept}
 use Rattle.oss_model.proofs.SequenceLemmas.{opening_at}
@@ -32,7 +31,7 @@ use Rattle.oss_lacks.specs.Asking.{Asking, asked_by, asking, behind_ask, main as
 use Rattle.oss_lacks.specs.Beside.{AreNamed, IsBeside, IsEnded, IsFinished, IsNoted, IsNotedAt, goes_on}
 use Rattle.oss_lacks.specs.Following.{IsFollowing, Notes}
 use Rattle.oss_lacks.specs.Lacks.{IsLacks, IsWalked}
-use Rattle.oss_lacks.specs.Nests.{Nest, Numbered, alone, closed, closed_to, with_acting}
+use Rattle.oss_lacks.specs.Nests.{Nest, Numbered, alone, closed_to, with_acting}
 use Rattle.oss_lacks.specs.Walks.{IsActing, Walks, behind, opens, runs_on}
 use Rattle.oss_lacks.proofs.DeedLemmas.{IsPlain, Told, acts_on, creates, ends, on, plain_behind, stays_still, stops, told, waits}
 
