@@ -1,5 +1,5 @@
 -- What an act of the free run is, by what the program asks there.
-use Rattle.std.proofs.Common.{◌≡◌, ◌≢◌, ℕ, ◌+◌, ◌<◌, ◌≤◌, refl, sym, subst, ap, ◌∙◌, List, [], ◌∷◌, length, arith, Bool, true, false}
+use Rattle.std.proofs.Common.{◌≡◌, ◌≢◌, ℕ, ◌<◌, refl, sym, subst, ap, ◌∙◌, List, ◌∷◌, length, arith, Bool, true, false}
 use Rattle.std.specs.Prelude.{if◌then◌else◌, nat_le, nat_lt, slice_index}
 use Rattle.std.proofs.lemmas.Bool.Decides.{nat_tests}
 use Rattle.oss_syntax.specs.declared.fault.FaultKind.{FaultKind}
@@ -10,7 +10,7 @@ use Rattle.oss_model.specs.Marks.{AsksFor}
 use Rattle.oss_freed.specs.Freed.{freed_order}
 use Rattle.oss_free_tasks.specs.declared.deed.Deed.{Deed}
 use Rattle.oss_free_tasks.specs.declared.deed.Deed.TheVariants as deeds
-use Rattle.oss_free_tasks.specs.Deeds.{IsDeed, IsFinding, asked_deed, free_deed}
+use Rattle.oss_free_tasks.specs.Deeds.{IsDeed, IsFinding, free_deed}
 use Rattle.oss_lacks.specs.Asking.{Asking, asked_by, asking, behind_ask}
 use Rattle.oss_lacks.specs.Beside.{goes_on}
 use Rattle.oss_lacks.specs.Nests.{Nest, with_acting}

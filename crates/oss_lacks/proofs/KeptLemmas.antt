@@ -1,13 +1,11 @@
 -- What is kept of the open tasks, step by step.
-use Rattle.std.proofs.Common.{◌≡◌, ℕ, zero, suc, ◌+◌, ◌<◌, refl, sym, subst, ap, ◌∙◌, List, [], ◌∷◌, ◌++◌, length, arith, Option, Some, None, Bool, true, false, Result, Ok, Err, OnOk, IfOk}
+use Rattle.std.proofs.Common.{◌≡◌, ℕ, refl, sym, subst, ap, ◌∙◌, List, [], ◌∷◌, ◌++◌, length, arith, Option, Some, None, Bool, true, false, Result, Ok, Err, OnOk, IfOk}
 use Rattle.std.specs.Prelude.{◌||◌, map, reverse, slice_set}
 use Rattle.std.proofs.lemmas.List.{length-append, reverse-append}
-use Rattle.oss_syntax.specs.declared.access.Access.{Access}
-use Rattle.oss_model.specs.Bodies.{Frame, Order}
+use Rattle.oss_model.specs.Bodies.{Order}
 use Rattle.oss_model.specs.Order.{written}
 use Rattle.oss_machine.specs.Frames.{CodeScript}
-use Rattle.oss_needs.specs.Givens.{given_of}
-use Rattle.oss_task_needs.specs.Asking.{Asked, nothing_asked}
+use Rattle.oss_task_needs.specs.Asking.{Asked}
 use Rattle.oss_task_needs.specs.Mends.{IsMending}
 use Rattle.oss_task_needs.specs.declared.mending.Mending.{Mending}
 use Rattle.oss_open_needs.specs.declared.open_needs.OpenNeeds.{OpenNeeds}
@@ -16,10 +14,10 @@ use Rattle.oss_open_needs.specs.Stacks.{AreTasks, Closes, Goes, IsClosedTo, Open
 use Rattle.oss_lacks.specs.declared.creation.Creation.{Creation}
 use Rattle.oss_lacks.specs.declared.following.Following.{Following}
 use Rattle.oss_lacks.specs.declared.lacks.TaskLacks.{TaskLacks}
-use Rattle.oss_lacks.specs.Asking.{Asking, asking, created_by, main, open_of, tell_creator}
-use Rattle.oss_lacks.specs.Following.{AllWillEnd, AreCreations, AreTold, Asks, Ends, Follows, IsBack, IsClosed, IsCreation, IsFollowing, IsOneMore, IsReturned, Opens, open_in, told_of}
+use Rattle.oss_lacks.specs.Asking.{Asking, asking, created_by, tell_creator}
+use Rattle.oss_lacks.specs.Following.{AreCreations, AreTold, Asks, Follows, IsBack, IsClosed, IsCreation, IsFollowing, IsOneMore, IsReturned, Opens, open_in, told_of}
 use Rattle.oss_lacks.specs.Lacks.{AreTaskLacks, IsTaskLacks}
-use Rattle.oss_lacks.specs.Nests.{Nest, Numbered, alone, closed, closed_to, opened}
+use Rattle.oss_lacks.specs.Nests.{Nest, Numbered, closed, closed_to}
 use Rattle.oss_lacks.specs.Walks.{at_stop}
 use Rattle.oss_lacks.proofs.NestLemmas.{all_told, ends_opened, told_length, told_more, told_set}
 

@@ -1,14 +1,13 @@
 -- All that are open will end, and of each that has ended something is told.
-use Rattle.std.proofs.Common.{◌≡◌, ℕ, zero, suc, ◌+◌, ◌<◌, refl, sym, subst, ap, ◌∙◌, List, [], ◌∷◌, ◌++◌, length, arith, Option, Some, None}
+use Rattle.std.proofs.Common.{◌≡◌, ℕ, zero, suc, ◌<◌, refl, sym, subst, ap, List, [], ◌∷◌, ◌++◌, length, arith, Option, Some, None}
 use Rattle.std.specs.Prelude.{slice_set}
 use Rattle.std.proofs.lemmas.List.{length-append, set-append_left}
 use Rattle.std.proofs.Math.Seq.{set-append_seam}
 use Rattle.oss_lacks.specs.declared.lacks.TaskLacks.{TaskLacks}
-use Rattle.oss_lacks.specs.Asking.{Asking, tell_creator}
+use Rattle.oss_lacks.specs.Asking.{Asking}
 use Rattle.oss_lacks.specs.Following.{AllEnded, AllWillEnd, AreTold}
 use Rattle.oss_lacks.specs.Lacks.{AreTaskLacks, IsTaskLacks}
-use Rattle.oss_lacks.specs.Nests.{Nest, Numbered, all_closed, all_closed_to}
-use Rattle.oss_lacks.specs.Walks.{at_stop}
+use Rattle.oss_lacks.specs.Nests.{Numbered}
 
 -- One more that has ended.
 more_ended : {A : Type 0} (xs : List (Option A)) (t : A) → AllEnded xs → AllEnded (xs ++ Some t ∷ [])

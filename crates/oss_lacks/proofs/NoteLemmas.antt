@@ -1,9 +1,10 @@
 -- What is noted of one ask.
-use Rattle.std.proofs.Common.{◌≡◌, ℕ, ◌+◌, refl, sym, subst, ap, ◌∙◌, List, [], ◌∷◌, Bool, Option}
+use Rattle.std.proofs.Common.{◌≡◌, ℕ, refl, sym, subst, ap, ◌∙◌, List, [], ◌∷◌, Bool, Option}
 use Rattle.std.specs.Prelude.{map}
 use Rattle.oss_syntax.specs.declared.access.Access.{Access}
 use Rattle.oss_syntax.specs.declared.access.Range.{Range}
 use Rattle.oss_model.specs.Bodies.{Ask}
+use Rattle.oss_model.specs.Marks.{AsksFor}
 use Rattle.oss_meaning.specs.Clauses.{waited_for}
 use Rattle.oss_meaning.specs.Sections.{declared_on}
 use Rattle.oss_code.specs.declared.order.TaskOrder.{TaskOrder}
@@ -48,6 +49,10 @@ module _ {code : CodeAsk} (line created : ℕ) (final : Bool) (old new : Followi
 
   pub noted_end : code ≡ ask.End → Ends old new → Notes (meant_ask code) line created final old new
   noted_end e ends = asked_so e (λ f n way made last s. ends n s)
+
+-- what it touches
+pub asked_cell : {code q : CodeAsk} → code ≡ q → (c : ℕ) → AsksFor (meant_ask q) c → AsksFor (meant_ask code) c
+asked_cell e c h = subst (λ (x : CodeAsk). AsksFor (meant_ask x) c) (sym e) h
 
 -- Nothing is noted of the other asks.
 pub noted_none : {code q : CodeAsk} (line created : ℕ) (final : Bool) (k : Following) → code ≡ q → IsPlain (meant_ask q) → ((asked : Asked) → asked_by (meant_ask q) asked ≡ asked) → Notes (meant_ask code) line created final k k

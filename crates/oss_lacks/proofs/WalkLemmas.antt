@@ -1,14 +1,13 @@
 -- What is kept follows the free run.
-use Rattle.std.proofs.Common.{◌≡◌, ℕ, suc, ◌+◌, ◌<◌, ◌≤◌, refl, sym, subst, ap, ◌∙◌, List, [], ◌∷◌, ◌++◌, length, arith, Bool, true, false, Option, Some, None}
+use Rattle.std.proofs.Common.{◌≡◌, ℕ, suc, ◌<◌, ◌≤◌, refl, sym, subst, ap, ◌∙◌, List, [], ◌∷◌, ◌++◌, length, arith, Bool, true, false, Option, Some, None}
 use Rattle.std.specs.Prelude.{if◌then◌else◌, reverse}
 use Rattle.std.proofs.lemmas.List.{length-reverse}
 use Rattle.oss_syntax.specs.declared.fault.FaultKind.{FaultKind}
-use Rattle.oss_model.specs.Bodies.{Act, Ask, Body, Frame, IsHalt, Order, Program, Stack, Start, after_creation, ask_of, child_frame, frame_after, including_frame, settled_frame, stack_from, start_frame, top_frame}
+use Rattle.oss_model.specs.Bodies.{Act, Ask, Body, Frame, IsHalt, Order, Program, Stack, after_creation, ask_of, child_frame, frame_after, including_frame, settled_frame, stack_from, top_frame}
 use Rattle.oss_model.specs.Bodies.Act.{Awaited, Created, Ended}
 use Rattle.oss_model.specs.Machine.{At, State, Task}
 use Rattle.oss_model.specs.Marks.{AsksFor}
 use Rattle.oss_model.specs.Moves.{act_now, found_by, opening}
-use Rattle.oss_model.specs.Order.{written}
 use Rattle.oss_model.specs.Sequence.{IsAtEnd, Running, RunsOn}
 use Rattle.oss_model.proofs.BodyLemmas.{frame_after_kept, settle_kept}
 use Rattle.oss_model.proofs.SequenceLemmas.{opening_at}
@@ -22,7 +21,6 @@ use Rattle.oss_free_tasks.specs.declared.deed.Deed.{Deed}
 use Rattle.oss_free_tasks.specs.Deeds.{IsDeed, creates as makes}
 use Rattle.oss_free_tasks.specs.OpenTasks.{AreNested, AreWaiting, Ends, behind as tasks_behind, behind_end, path_under, whole_task}
 use Rattle.oss_free_tasks.proofs.DeedLemmas.{free_deeds_are_acts}
-use Rattle.oss_free_tasks.proofs.OpenLemmas.{behind_plain}
 use Rattle.oss_free_run.specs.declared.run.FreeRun.{FreeRun}
 use Rattle.oss_free_run.specs.FreeTasks.{free_main, free_program, main_order}
 use Rattle.oss_free_run.specs.Stages.{IsFailed, IsFirstStage, IsNext, IsStage}
@@ -33,18 +31,18 @@ use Rattle.oss_lacks.specs.Asking.{Asking, asked_by, asking, behind_ask, main as
 use Rattle.oss_lacks.specs.Beside.{AreNamed, IsBeside, IsEnded, IsFinished, IsNoted, IsNotedAt, goes_on}
 use Rattle.oss_lacks.specs.Following.{IsFollowing, Notes}
 use Rattle.oss_lacks.specs.Lacks.{IsLacks, IsWalked}
-use Rattle.oss_lacks.specs.Nests.{Nest, Numbered, alone, closed, closed_to, with_acting}
+use Rattle.oss_lacks.specs.Nests.{Nest, Numbered, alone, closed_to, with_acting}
 use Rattle.oss_lacks.specs.Walks.{IsActing, Walks, behind, opens, runs_on}
 use Rattle.oss_lacks.proofs.DeedLemmas.{IsPlain, Told, acts_on, creates, ends, on, plain_behind, stays_still, stops, told, waits}
 
 -- Of any program
 
-module _ {S : Type 0} {n depth created : ℕ} {final : Bool} {a : Act S} where
-  plain_makes : (q : Ask S) → IsPlain q → makes q ≡ true → ⊥
-  plain_makes (Ask.Create o) p e = p
-  plain_makes Ask.End p e = p
-  plain_makes _ p e = let x : false ≡ true = e in cc
+plain_makes : {S : Type 0} (q : Ask S) → IsPlain q → makes q ≡ true → ⊥
+plain_makes (Ask.Create o) p e = p
+plain_makes Ask.End p e = p
+plain_makes _ p e = let x : false ≡ true = e in absurd cc
 
+module _ {S : Type 0} {n depth created : ℕ} {final : Bool} {a : Act S} where
   -- what it touches is a cell of the program
   pub inside : (q : Ask S) (b : Bool) → Told n depth created final a q b → (IsHalt a → ⊥) → b ≡ false → (c : ℕ) → AsksFor q c → c < n
   inside q _ (waits e) go f c h = let x : true ≡ false = f in absurd cc
@@ -78,10 +76,15 @@ module _ (P : Program CodeScript) (f : Frame CodeScript) (older : List (Frame Co
   went_path : (a : Act CodeScript) → (settled_frame P (frame_after a v f)).path ≡ f.path
   went_path a = (settle_kept P (frame_after a v f)).path ∙ (frame_after_kept a v f).path
 
+  plain_is : (a : Act CodeScript) → (a ≡ Ended → ⊥) → ((o : Order CodeScript) (i : Bool) → a ≡ Created o i → ⊥) → tasks_behind P a v (f ∷ older) ≡ settled_frame P (frame_after a v f) ∷ older
+  plain_is Ended e c = absurd (e refl)
+  plain_is (Created o i) e c = absurd (c o i refl)
+  plain_is _ e c = refl
+
   named_plain : (a : Act CodeScript) (k l : Numbered Asking) (above : List (Numbered Asking)) (ts : List (Frame CodeScript)) → l.task.path ≡ k.task.path → (a ≡ Ended → ⊥) → ((o : Order CodeScript) (i : Bool) → a ≡ Created o i → ⊥)
       → tasks_behind P a v (f ∷ older) ≡ ts → AreNamed (k ∷ above) (f ∷ older) → AreNamed (l ∷ above) ts
   named_plain a k l above ts e n c t h =
-      subst (λ (us : List (Frame CodeScript)). AreNamed (l ∷ above) us) (sym (behind_plain P a v f older n c) ∙ t) (named_first k l above f (settled_frame P (frame_after a v f)) older e (went_path a) h)
+      subst (λ (us : List (Frame CodeScript)). AreNamed (l ∷ above) us) (sym (plain_is a n c) ∙ t) (named_first k l above f (settled_frame P (frame_after a v f)) older e (went_path a) h)
 
   named_down : (o : Order CodeScript) (i : Bool) (child : Numbered Asking) (n : Nest Asking) (ts : List (Frame CodeScript)) → child.task.path ≡ f.context.created ∷ f.path
       → tasks_behind P (Created o i) v (f ∷ older) ≡ ts → AreNamed (n.acting ∷ n.above) (f ∷ older) → AreNamed (child ∷ n.acting ∷ n.above) ts

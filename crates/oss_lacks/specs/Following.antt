@@ -1,13 +1,13 @@
 -- What is kept beside the free run is right for what is known of its tasks.
 -- Read against: while a child of main acts, it is kept how it was created, and of main nothing but its point; of the child nothing is told yet. At its end it is told what its clauses lack, and main acts.
-use Rattle.std.specs.Prelude.{◌≡◌, ◌<◌, ℕ, ◌||◌, Bool, true, false, List, [], ◌∷◌, ◌++◌, length, map, reverse, Option, Some, None, slice_set}
+use Rattle.std.specs.Prelude.{◌≡◌, ◌<◌, ℕ, Bool, true, false, List, [], ◌∷◌, ◌++◌, length, map, reverse, Option, Some, None, slice_set}
 use Rattle.oss_model.specs.Bodies.{Ask, Frame, Order}
 use Rattle.oss_model.specs.Order.{written}
 use Rattle.oss_machine.specs.Frames.{CodeScript}
 use Rattle.oss_task_needs.specs.Asking.{Asked}
 use Rattle.oss_task_needs.specs.declared.mending.Mending.{Mending}
 use Rattle.oss_open_needs.specs.Opening.{Open}
-use Rattle.oss_open_needs.specs.Stacks.{AreTasks, IsClosedTo}
+use Rattle.oss_open_needs.specs.Stacks.{AreTasks}
 use Rattle.oss_lacks.specs.declared.creation.Creation.{Creation}
 use Rattle.oss_lacks.specs.declared.following.Following.{Following}
 use Rattle.oss_lacks.specs.declared.lacks.TaskLacks.{TaskLacks}

@@ -1,7 +1,7 @@
 -- What the clauses of each task lack, as the free run shows it.
 -- Read against: of a main that creates a task with `in(x)`, which stores into x, one task is told of, at the point 0.0, with the lack of `out(x)`. If it divides by 0 behind the store, the same is told, and the fault.
 use Rattle.std.specs.Prelude.{◌≡◌, ℕ, List, [], ◌∷◌, Option, Some, None}
-use Rattle.oss_model.specs.Bodies.{Program, Start}
+use Rattle.oss_model.specs.Bodies.{Program}
 use Rattle.oss_model.specs.Bodies.Act.{Fault, Over}
 use Rattle.oss_model.specs.Moves.{act_now}
 use Rattle.oss_model.specs.Order.{written}
@@ -11,7 +11,6 @@ use Rattle.oss_machine.specs.Frames.{CodeScript}
 use Rattle.oss_machine.specs.Machines.{asks}
 use Rattle.oss_needs.specs.Givens.{given_of}
 use Rattle.oss_task_needs.specs.Mends.{IsMending}
-use Rattle.oss_freed.specs.Freed.{freed}
 use Rattle.oss_free_run.specs.FreeTasks.{free_main, free_program}
 use Rattle.oss_missing_lines.specs.declared.missing.RunFault.{RunFault}
 use Rattle.oss_lacks.specs.declared.lacks.Lacks.{Lacks}

@@ -20,7 +20,7 @@ pub fn find_lacks(alloc: Global, code: &Code, fuel: u32) -> Result<Lacks, AllocE
     requires { length code.now.first ≤ 1048576 }
     ensures { IfOk result (λ lacks. IsLacks code.now fuel lacks) }
 {
-    let mut following = Following::new(alloc)?;
+    let following = Following::new(alloc)?;
     match FreeRun::begin(alloc, code, fuel) {
         Ok(mut run) => lacks_from(code, fuel, &mut run, following),
         Err(full) => {

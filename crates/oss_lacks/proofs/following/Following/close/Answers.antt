@@ -1,4 +1,4 @@
-use Rattle.std.proofs.Common.{refl, subst, Option, Some, None}
+use Rattle.std.proofs.Common.{refl, subst, Option}
 use Rattle.oss_task_needs.specs.declared.mending.Mending.{Mending}
 use Rattle.oss_open_needs.specs.Stacks.{Closes}
 use Rattle.oss_lacks.proofs.KeptLemmas.{closed_none, closed_some}

@@ -1,4 +1,4 @@
-use Rattle.std.proofs.Common.{◌≡◌, ap, subst, ◌∙◌, ◌++◌, ◌∷◌, [], Bool, List}
+use Rattle.std.proofs.Common.{ap, subst, ◌∙◌, ◌++◌, ◌∷◌, [], Bool, List}
 use Rattle.oss_syntax.specs.declared.access.Access.{Access}
 use Rattle.oss_machine.specs.Asks.{meant_order}
 use Rattle.oss_open_needs.specs.Stacks.{Opens as NeedsOpen}

@@ -1,7 +1,7 @@
 use Rattle.std.proofs.Common.{refl}
 use Rattle.oss_open_needs.specs.Opening.{releases, waits}
 use Rattle.oss_lacks.proofs.KeptLemmas.{asked_more, on_ok}
-use Rattle.oss_lacks.proofs.NoteLemmas.{noted_create, noted_end, noted_none, noted_plain, noted_release, noted_wait}
+use Rattle.oss_lacks.proofs.NoteLemmas.{asked_cell, noted_create, noted_end, noted_none, noted_plain, noted_release, noted_wait}
 use Rattle.oss_lacks.proofs.following.Following.note.Goals as goal
 
 pub returns-in-Read : goal.returns-in-Read
@@ -42,3 +42,12 @@ returns-in-Print c = noted_none c.args.line c.args.created c.args.is_final c.arg
 
 pub returns-in-Fault : goal.returns-in-Fault
 returns-in-Fault c = noted_none c.args.line c.args.created c.args.is_final c.args.self.now c.in-Fault.is tt (λ asked. refl)
+
+pub touch-requires : goal.touch-requires
+touch-requires c = c.requires.touches c.in-Read.cell (asked_cell c.in-Read.is c.in-Read.cell refl)
+
+pub touch-requires-in-Write : goal.touch-requires-in-Write
+touch-requires-in-Write c = c.requires.touches c.in-Write.cell (asked_cell c.in-Write.is c.in-Write.cell refl)
+
+pub touch-requires-in-Fold : goal.touch-requires-in-Fold
+touch-requires-in-Fold c = c.requires.touches c.in-Fold.cell (asked_cell c.in-Fold.is c.in-Fold.cell refl)
