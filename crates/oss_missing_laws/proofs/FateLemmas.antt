@@ -77,9 +77,10 @@ module _ {A : Type 0} (Later : A → A → Type 0) (still : (t : A) → Later t 
     pub at_ : ended_at all k.number ≡ Some last
     pub more : Later k.task last
 
+  -- A task that waits goes on where the one before it has ended, with what is known of that one at the end.
   abbrev pub HaveFates : List (Option A) → A → Numbered A → List (Numbered A) → Type 0
   HaveFates all main k [] = Later k.task main
-  HaveFates all main k (c ∷ above) = HasFate all k × HaveFates all main c above
+  HaveFates all main k (c ∷ above) = (h : HasFate all k) × HaveFates all main (record { number = c.number; task = tell h.last c.task }) above
 
   pub record IsFated (all : List (Option A)) (main : A) (n : Nest A) : Type 0 where
     pub ended : (i : ℕ) (t : A) → ended_at n.ended i ≡ Some t → ended_at all i ≡ Some t
@@ -88,7 +89,8 @@ module _ {A : Type 0} (Later : A → A → Type 0) (still : (t : A) → Later t 
   earlier : (all : List (Option A)) (main : A) (k j : Numbered A) (above : List (Numbered A)) → j.number ≡ k.number → Later j.task k.task → HaveFates all main k above → HaveFates all main j above
   earlier all main k j [] e l h = later j.task k.task main l h
   earlier all main k j (c ∷ above) e l h =
-      (record { last = h.0.last; at_ = ap (λ (x : ℕ). ended_at all x) e ∙ h.0.at_; more = later j.task k.task h.0.last l h.0.more }, h.1)
+      let f : HasFate all j = record { last = h.0.last; at_ = ap (λ (x : ℕ). ended_at all x) e ∙ h.0.at_; more = later j.task k.task h.0.last l h.0.more } in
+      (f, h.1)
 
   -- before the task that acts asked more
   pub fated_acting : (all : List (Option A)) (main t : A) (n : Nest A) → Later n.acting.task t → IsFated all main (with_acting t n) → IsFated all main n
@@ -104,12 +106,21 @@ module _ {A : Type 0} (Later : A → A → Type 0) (still : (t : A) → Later t 
       go (inl l) = get_or_append_left ended (None ∷ []) None i l ∙ e
       go (inr l) = let x : ended_at ended i ≡ None = get_or_past ended i None l in let y : None ≡ Some t = sym x ∙ e in cc
 
-  -- before it created one
-  pub fated_opened : (all : List (Option A)) (main child : A) (n : Nest A) → IsFated all main (opened child n) → IsFated all main n
-  fated_opened all main child n h = record { ended = λ i t e. h.ended i t (kept n.ended i t e); open_ = h.open_.1 }
-
+  -- what is known at the end of a new task, and of its creator behind it
   pub fate_of_new : (all : List (Option A)) (main child : A) (n : Nest A) → IsFated all main (opened child n) → HasFate all (record { number = length n.ended; task = child })
   fate_of_new all main child n h = h.open_.0
+
+  pub fate_behind : (all : List (Option A)) (main child : A) (n : Nest A) (h : IsFated all main (opened child n))
+      → HaveFates all main (record { number = n.acting.number; task = tell (fate_of_new all main child n h).last n.acting.task }) n.above
+  unfolding fate_of_new
+  fate_behind all main child n h = h.open_.1
+
+  -- before it created one
+  pub fated_opened : (all : List (Option A)) (main child : A) (n : Nest A) → IsFated all main (opened child n) → IsFated all main n
+  fated_opened all main child n h = record {
+    ended = λ i t e. h.ended i t (kept n.ended i t e);
+    open_ = earlier all main (record { number = n.acting.number; task = tell h.open_.0.last n.acting.task }) n.acting n.above refl (told h.open_.0.last n.acting.task) h.open_.1;
+  }
 
   same_or : (i n : ℕ) → (i ≡ n) ⊎ (i ≢ n)
   same_or i n = go (less_or i n) (less_or n i)
@@ -126,12 +137,12 @@ module _ {A : Type 0} (Later : A → A → Type 0) (still : (t : A) → Later t 
   fated_closed_to all main ended k (c ∷ above) num h =
       record {
         ended = λ i t e. by i t e (same_or i k.number);
-        open_ = (
-          record { last = k.task; at_ = h.ended k.number k.task (get_or-set_same ended k.number (Some k.task) None num.0); more = still k.task },
-          earlier all main (record { number = c.number; task = tell k.task c.task }) c above refl (told k.task c.task) h.open_,
-        );
+        open_ = (fate, h.open_);
       }
     where
+      fate : HasFate all k
+      fate = record { last = k.task; at_ = h.ended k.number k.task (get_or-set_same ended k.number (Some k.task) None num.0); more = still k.task }
+
       by : (i : ℕ) (t : A) → ended_at ended i ≡ Some t → (i ≡ k.number) ⊎ (i ≢ k.number) → ended_at all i ≡ Some t
       by i t e (inl s) = let x : None ≡ Some t = sym num.1 ∙ ap (λ (j : ℕ). ended_at ended j) (sym s) ∙ e in cc
       by i t e (inr ne) = h.ended i t (get_or-set_other ended k.number i (Some k.task) None ne ∙ e)

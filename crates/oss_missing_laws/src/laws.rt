@@ -1,6 +1,7 @@
 //! Laws, each carried by a function that does nothing.
 
 ghost use Rattle.oss_missing_laws.specs.Claims.{LacksGrow, LendingIsKept, MarksAreKept, MetIsUnbroken, NamesAreJudged, TouchesAreJudged};
+ghost use Rattle.oss_missing_laws.specs.Missing.{NothingIsMissing, NothingIsWrong, RunsEndAlike};
 
 /// The judge finds no fault of a touch exactly where the cell is not released, no child hinders the touch, and the clauses meet it.
 pub fn touches_are_judged()
@@ -30,4 +31,19 @@ pub fn lending_is_kept()
 /// Lacks only grow.
 pub fn lacks_grow()
     ensures { LacksGrow }
+{}
+
+/// Where the free run of a program shows that nothing is missing, the program's own run ends as it does.
+pub fn runs_end_alike<S>()
+    ensures { RunsEndAlike S }
+{}
+
+/// So no fault of annotations stops it.
+pub fn nothing_is_wrong<S>()
+    ensures { NothingIsWrong S }
+{}
+
+/// The other way round: where the program's own run ends without a fault of annotations, the walks over its free run show that nothing is missing.
+pub fn nothing_is_missing<S>()
+    ensures { NothingIsMissing S }
 {}
