@@ -1,0 +1,4 @@
+pub mod Entries
+pub mod Claims
+pub mod Programs
+pub mod Missing
