@@ -23,13 +23,7 @@ fn use_of(mode: Mode, is_fresh: bool) -> Use
 {
     match mode {
         Mode::Read => Use::In,
-        Mode::Write => {
-            if is_fresh {
-                Use::Out
-            } else {
-                Use::Inout
-            }
-        }
+        Mode::Write => { if is_fresh { Use::Out } else { Use::Inout } }
         Mode::Fold(op) => Use::Reduction(op),
     }
 }

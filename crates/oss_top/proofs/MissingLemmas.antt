@@ -58,7 +58,7 @@ one_stop code fuel n m f g text other x y =
     let P = free_program code in
     let same : Same P x.stage y.stage = one_end P (walk_run (asks code) (free_main code fuel) code.first x.stage n x.walks) x.end (walk_run (asks code) (free_main code fuel) code.first y.stage m y.walks) y.end in
     let task : x.end.task ≡ y.end.task =
-        at_same x.stage.state x.stage.active x.end.task y.end.task x.end.at_ (same.found x.stage.active ∙ ap (λ p. find y.stage.state.tasks p) same.active ∙ y.end.at_) in
+    at_same x.stage.state x.stage.active x.end.task y.end.task x.end.at_ (same.found x.stage.active ∙ ap (λ p. find y.stage.state.tasks p) same.active ∙ y.end.at_) in
     status_is (act_now P x.end.task.body) (act_now P y.end.task.body) (ap (λ (t : Task CodeScript). act_now P t.body) task) f g text other x.stop y.stop
 
 pub missing_alike : (fuel : ℕ) (p : Tree) (reply other : Reply) → IsMissingReply fuel p reply → IsMissingReply fuel p other → ◌≡◌ {A = Status} reply.status other.status

@@ -19,11 +19,7 @@ use std::alloc::{AllocError, Global};
 
 /// Runs a program that breaks no rule as if no clause bound it, and tells all that its clauses lack, with the fault to which that run
 /// comes, if it comes to one.
-pub(crate) fn reply_to_missing(
-    alloc: Global,
-    fuel: u32,
-    known: &Known,
-) -> Result<Reply, AllocError>
+pub(crate) fn reply_to_missing(alloc: Global, fuel: u32, known: &Known) -> Result<Reply, AllocError>
     ensures { IfOk result (λ reply. IsMissingReply fuel known.now reply) }
 {
     let code = lower(alloc, known)?;
@@ -52,11 +48,7 @@ fn missing_of(alloc: Global, fuel: u32, known: &Known, code: &Code) -> Result<Mi
 }
 
 /// The reply with this text to a run that came to its end, or to this fault.
-fn reply_to_missed(
-    alloc: Global,
-    fault: Option<RunFault>,
-    text: Bytes,
-) -> Result<Reply, AllocError>
+fn reply_to_missed(alloc: Global, fault: Option<RunFault>, text: Bytes) -> Result<Reply, AllocError>
     ensures { IfOk result (λ reply. reply ≡ missed_reply text fault) }
 {
     match fault {
