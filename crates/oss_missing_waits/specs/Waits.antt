@@ -1,7 +1,7 @@
 -- The second walk over the free run.
 -- Read against: of a main that creates a task with `out(y)` on line 3, which writes x, and then reads x on line 5: once what is lacking is mended the task has x by `out`, so a wait is missing before the read. A final task includes what it creates, and lends it nothing;
 -- nor does a creation under a false `if` lend.
-use Rattle.std.specs.Prelude.{◌≡◌, ℕ, ◌-◌, ◌==◌, ◌&&◌, not, if◌then◌else◌, Bool, true, false, List, [], ◌∷◌, length, Option, Some, None}
+use Rattle.std.specs.Prelude.{◌≡◌, ℕ, ◌-◌, ◌==◌, ◌&&◌, is_some, not, if◌then◌else◌, Bool, true, false, List, [], ◌∷◌, length, Option, Some, None}
 use Rattle.oss_model.specs.Bodies.{Ask, Frame, Program, Start, ask_of}
 use Rattle.oss_model.specs.Context.{in_clauses}
 use Rattle.oss_model.specs.Moves.{opening}
@@ -24,10 +24,6 @@ abbrev pub mended_in : List (Option Asking) → Mended
 mended_in [] k c = None
 mended_in (Some t ∷ rest) k c = if k == 0 then mended_clauses t c else mended_in rest (k - 1) c
 mended_in (None ∷ rest) k c = if k == 0 then None else mended_in rest (k - 1) c
-
-abbrev pub is_some : Option Clause → Bool
-is_some None = false
-is_some (Some c) = true
 
 -- the end of a task tells its creator nothing
 abbrev pub tell_nothing : Holding → Holding → Holding
@@ -64,9 +60,14 @@ IsBehindAsk w f Ask.Wait line old new = new ≡ with_acting (with_lent nothing_l
 IsBehindAsk w f Ask.End line old new = new ≡ closed tell_nothing old
 IsBehindAsk w f ask line old new = new ≡ old
 
+-- The same, where the task awaits the one that it has created, or does not: that it awaits it is no ask.
+abbrev pub IsBehindIf : {S : Type 0} → Bool → Mended → Frame S → Ask S → ℕ → Nest Holding → Nest Holding → Type 0
+IsBehindIf true w f ask line old new = new ≡ old
+IsBehindIf false w f ask line old new = IsBehindAsk w f ask line old new
+
 -- What is known behind the act of this task.
 abbrev pub IsBehind : {S : Type 0} → Mended → Program S → Frame S → Nest Holding → Nest Holding → Type 0
-IsBehind w P f old new = if f.awaits then new ≡ old else IsBehindAsk w f (ask_of P f).ask (ask_of P f).line old new
+IsBehind w P f old new = IsBehindIf f.awaits w f (ask_of P f).ask (ask_of P f).line old new
 
 -- The free run comes to this stage, and this is known of its tasks.
 pub data Waits {S : Type 0} (w : Mended) (P : Program S) (main : Start S) (first : List ℕ) : Running S → Nest Holding → Type 0 where
