@@ -160,11 +160,15 @@ Gives layout created line lends said old new = Leads layout (IsUseThen (λ c. is
 pub gives_here : (layout : List Grid) (ks : List TaskLacks) (n created line : ℕ) (lends : Bool) (k : TaskLacks) (old new : HoldingTask) → n < length ks → k ≡ get_or ks n k
     → Gives layout created line lends (value_at k.mending.clauses.pieces) old new → Gives layout created line lends (said_in ks n) old new
 gives_here layout ks n created line lends k old new l is h =
-    subst (λ (said : ℕ → Option Clause). Gives layout created line lends said old new) (fun_ext (λ c. said_here ks n c k (value_at k.mending.clauses.pieces c) l is refl)) h
+    let each : (c : ℕ) → value_at k.mending.clauses.pieces c ≡ said_in ks n c = λ c. said_here ks n c k (value_at k.mending.clauses.pieces c) l is refl in
+    subst (λ (said : ℕ → Option Clause). Gives layout created line lends said old new) (fun_ext each) h
 
 pub gives_nothing : (layout : List Grid) (ks : List TaskLacks) (n created line : ℕ) (lends : Bool) (t : HoldingTask) → length ks ≤ n → Gives layout created line lends (said_in ks n) t t
-gives_nothing layout ks n created line lends t l = subst (λ (said : ℕ → Option Clause). Gives layout created line lends said t t) (fun_ext (λ c. said_past ks n c l)) (go lends)
+gives_nothing layout ks n created line lends t l = subst (λ (said : ℕ → Option Clause). Gives layout created line lends said t t) (fun_ext each) (go lends)
   where
+    each : (c : ℕ) → None ≡ said_in ks n c
+    each c = said_past ks n c l
+
     go : (b : Bool) → Gives layout created line b (λ c. None) t t
     go true all h laid s = (h, (record { used = h; use_is = none (λ c x y. let z : false ≡ true = x in absurd cc); new_is = refl }, s))
     go false all h laid s = (h, (record { used = h; use_is = none (λ c x y. let z : false ≡ true = x in absurd cc); new_is = refl }, s))
@@ -183,7 +187,9 @@ pub opened_more : (layout : List Grid) (ks : List TaskLacks) (created line : ℕ
     → Steps layout ks (IsOpened created line lends) old new
 opened_more layout ks created line lends number old new creator child point more gives below born current above all w n laid said s =
     let number_is : number ≡ length n.ended = more.number_is ∙ sym (told_length all n.ended old.told.items s.told) in
-    let said_is : said_in ks number ≡ w (length n.ended) = fun_ext (λ c. sym (said number c)) ∙ ap w number_is in
+    let each : (c : ℕ) → said_in ks number c ≡ w number c = λ c. sym (said number c) in
+    let said_number : said_in ks number ≡ w number = fun_ext each in
+    let said_is : said_in ks number ≡ w (length n.ended) = said_number ∙ ap w number_is in
     let gives_w : Gives layout created line lends (w (length n.ended)) old.current.task creator = subst (λ (f : ℕ → Option Clause). Gives layout created line lends f old.current.task creator) said_is gives in
     let k = gives_w all n.acting.task laid s.current.holds in
     let u = k.1.0.used in
@@ -193,16 +199,19 @@ opened_more layout ks created line lends number old new creator child point more
     let t : Holding = new_task (created ∷ n.acting.task.path) line (w (length n.ended)) in
     let point_is : point ≡ written (created ∷ n.acting.task.path) = below ∙ ap (λ (p : List ℕ). p ++ created ∷ []) k.1.1.point ∙ point_below created k.0.path ∙ ap (λ (p : List ℕ). written (created ∷ p)) path in
     let first : IsTask all (record { number = length n.ended; task = t }) (record { number = number; task = child }) = record { number = number_is; holds = born all (created ∷ n.acting.task.path) line (w (length n.ended)) point_is } in
-    let second : IsTask all (record { number = n.acting.number; task = k.0 }) (record { number = old.current.number; task = creator }) = record { number = s.current.number; holds = k.1.1 } in
-    (opened t (with_acting k.0 n),
-     (record { used = u; use_is = use_is; new_is = ap (λ (h : Holding). opened t (with_acting h n)) k.1.0.new_is },
-      record {
-        current = subst (λ (x : OpenTask). IsTask all (record { number = length n.ended; task = t }) x) (sym current) first;
-        older = subst (λ (xs : List OpenTask). AreTasks all (record { number = n.acting.number; task = k.0 } ∷ n.above) xs) (sym (ap reverse above ∙ reversed old.above (record { number = old.current.number; task = creator }))) (second, s.older);
-        mended = (λ c. refl, mended_now w n.acting n.above k.0 path has s.mended);
-        told = subst (λ (xs : List (List Late)). AreTold all (n.ended ++ None ∷ []) xs) (sym more.more) (told_more all n.ended old.told.items more.slot s.told);
-        ends = ends_opened n.acting n.above n.ended s.ends;
-      }))
+    let second : IsTask all (record { number = n.acting.number; task = k.0 }) (record { number = old.current.number; task = creator }) = record { number = s.current.number; holds = k.1.1 } in (
+      opened t (with_acting k.0 n),
+      (
+        record { used = u; use_is = use_is; new_is = ap (λ (h : Holding). opened t (with_acting h n)) k.1.0.new_is },
+        record {
+          current = subst (λ (x : OpenTask). IsTask all (record { number = length n.ended; task = t }) x) (sym current) first;
+          older = subst (λ (xs : List OpenTask). AreTasks all (record { number = n.acting.number; task = k.0 } ∷ n.above) xs) (sym (ap reverse above ∙ reversed old.above (record { number = old.current.number; task = creator }))) (second, s.older);
+          mended = (λ c. refl, mended_now w n.acting n.above k.0 path has s.mended);
+          told = subst (λ (xs : List (List Late)). AreTold all (n.ended ++ None ∷ []) xs) (sym more.more) (told_more all n.ended old.told.items more.slot s.told);
+          ends = ends_opened n.acting n.above n.ended s.ends;
+        },
+      ),
+    )
 
 -- The end of a task.
 mended_up : (w : Mended) (k : Numbered Holding) (above : List (Numbered Holding)) → AreMended w k above → AreMended w (record { number = k.number; task = k.task }) above
@@ -293,11 +302,11 @@ stop_tasks all w k (c ∷ above) ended f s e = let x : c ∷ above ≡ [] = e in
 pub closes_last : (old mid new : Following) → ClosesOn old mid → IsClosed mid new false → HaveEnded old new
 closes_last old mid new on step = record {
   main = λ all w n s. let k = on all w n s in let j = now all w k.nest k.follows in
-    subst (λ (m : Nest Holding). AreLines all [] m.acting.task.told new.current.task.told) (stop_same k.nest.acting k.nest.above k.nest.ended ∙ k.same)
-    (stop_main all w (closed tell_nothing k.nest).acting (closed tell_nothing k.nest).above (closed tell_nothing k.nest).ended new j (still k.nest.acting k.nest.above k.nest.ended (step.last refl all w k.nest k.follows)));
+      subst (λ (m : Nest Holding). AreLines all [] m.acting.task.told new.current.task.told) (stop_same k.nest.acting k.nest.above k.nest.ended ∙ k.same)
+      (stop_main all w (closed tell_nothing k.nest).acting (closed tell_nothing k.nest).above (closed tell_nothing k.nest).ended new j (still k.nest.acting k.nest.above k.nest.ended (step.last refl all w k.nest k.follows)));
   tasks = λ all w n s. let k = on all w n s in let j = now all w k.nest k.follows in
-    subst (λ (m : Nest Holding). AreTaskLines all m.ended new.told.items) (stop_same k.nest.acting k.nest.above k.nest.ended ∙ k.same)
-    (stop_tasks all w (closed tell_nothing k.nest).acting (closed tell_nothing k.nest).above (closed tell_nothing k.nest).ended new j (still k.nest.acting k.nest.above k.nest.ended (step.last refl all w k.nest k.follows)));
+      subst (λ (m : Nest Holding). AreTaskLines all m.ended new.told.items) (stop_same k.nest.acting k.nest.above k.nest.ended ∙ k.same)
+      (stop_tasks all w (closed tell_nothing k.nest).acting (closed tell_nothing k.nest).above (closed tell_nothing k.nest).ended new j (still k.nest.acting k.nest.above k.nest.ended (step.last refl all w k.nest k.follows)));
 }
   where
     now : (all : List Item) (w : Mended) (m : Nest Holding) → IsFollowing all w m mid → IsFollowing all w (closed tell_nothing m) new
@@ -323,6 +332,30 @@ first_follows k p point born number above lines all w = record {
 steps_to : (layout : List Grid) (ks : List TaskLacks) (Goes Comes : Mended → Nest Holding → Nest Holding → Type 0) (old new : Following) → ((w : Mended) (n m : Nest Holding) → Goes w n m → Comes w n m)
     → Steps layout ks Goes old new → Steps layout ks Comes old new
 steps_to layout ks Goes Comes old new turn h all w n laid said s = let k = h all w n laid said s in (k.0, (turn w n k.0 k.1.0, k.1.1))
+
+-- Of this ask nothing is noted.
+abbrev pub IsSilent : Ask CodeScript → Type 0
+IsSilent Ask.Begin = Unit {0}
+IsSilent Ask.Tick = Unit {0}
+IsSilent Ask.Await = Unit {0}
+IsSilent (Ask.Print text) = Unit {0}
+IsSilent (Ask.Fails kind) = Unit {0}
+IsSilent _ = ⊥
+
+silent : (w : Mended) (f : Frame CodeScript) (q : Ask CodeScript) (line : ℕ) (n m : Nest Holding) → IsSilent q → m ≡ n → IsBehindAsk w f q line n m
+silent w f Ask.Begin line n m p e = e
+silent w f Ask.Tick line n m p e = e
+silent w f (Ask.Read c) line n m p e = absurd p
+silent w f (Ask.Write c v) line n m p e = absurd p
+silent w f (Ask.Fold c op v) line n m p e = absurd p
+silent w f (Ask.Create o) line n m p e = absurd p
+silent w f Ask.Await line n m p e = e
+silent w f Ask.Wait line n m p e = absurd p
+silent w f (Ask.WaitOn named) line n m p e = absurd p
+silent w f (Ask.Release clauses) line n m p e = absurd p
+silent w f (Ask.Print text) line n m p e = e
+silent w f Ask.End line n m p e = absurd p
+silent w f (Ask.Fails kind) line n m p e = e
 
 module _ (layout : List Grid) (ks : List TaskLacks) (line created : ℕ) (final : Bool) where
   abbrev pub Notes : Ask CodeScript → Following → Following → Type 0
@@ -373,31 +406,8 @@ module _ (layout : List Grid) (ks : List TaskLacks) (line created : ℕ) (final 
       noted (λ w n m. m ≡ closed tell_nothing n) code asked.End old new e (λ w n m g f way made last. g) (λ all w n laid said s. (closed tell_nothing n, (refl, h.ends all w n s)))
 
   -- Of the other asks nothing is.
-  IsSilent : Ask CodeScript → Type 0
-  IsSilent Ask.Begin = Unit {0}
-  IsSilent Ask.Tick = Unit {0}
-  IsSilent Ask.Await = Unit {0}
-  IsSilent (Ask.Print text) = Unit {0}
-  IsSilent (Ask.Fails kind) = Unit {0}
-  IsSilent _ = ⊥
-
-  silent : (w : Mended) (f : Frame CodeScript) (q : Ask CodeScript) (n m : Nest Holding) → IsSilent q → m ≡ n → IsBehindAsk w f q line n m
-  silent w f Ask.Begin n m p e = e
-  silent w f Ask.Tick n m p e = e
-  silent w f (Ask.Read c) n m p e = absurd p
-  silent w f (Ask.Write c v) n m p e = absurd p
-  silent w f (Ask.Fold c op v) n m p e = absurd p
-  silent w f (Ask.Create o) n m p e = absurd p
-  silent w f Ask.Await n m p e = e
-  silent w f Ask.Wait n m p e = absurd p
-  silent w f (Ask.WaitOn named) n m p e = absurd p
-  silent w f (Ask.Release clauses) n m p e = absurd p
-  silent w f (Ask.Print text) n m p e = e
-  silent w f Ask.End n m p e = absurd p
-  silent w f (Ask.Fails kind) n m p e = e
-
   pub noted_none : (code q : CodeAsk) (k : Following) → code ≡ q → IsSilent (meant_ask q) → Notes (meant_ask code) k k
-  noted_none code q k e p = noted (λ w n m. m ≡ n) code q k k e (λ w n m g f way made last. silent w f (meant_ask q) n m p g) (λ all w n laid said s. (n, (refl, s)))
+  noted_none code q k e p = noted (λ w n m. m ≡ n) code q k k e (λ w n m g f way made last. silent w f (meant_ask q) line n m p g) (λ all w n laid said s. (n, (refl, s)))
 
   -- A creation.
   opened_by : (w : Mended) (n m : Nest Holding) (o : Order CodeScript) (lends : Bool) → lends ≡ (o.when && not final) → IsOpened created line lends w n m → (f : Frame CodeScript) → n.acting.task.path ≡ f.path → created ≡ f.context.created
@@ -406,9 +416,9 @@ module _ (layout : List Grid) (ks : List TaskLacks) (line created : ℕ) (final 
     used = h.used;
     use_is = h.use_is;
     new_is = h.new_is
-    ∙ ap (λ (b : Bool). opened (new_task (created ∷ n.acting.task.path) line (w (length n.ended))) (with_acting (lent_when b created line (w (length n.ended)) h.used) n)) (lent ∙ ap (λ (x : Bool). o.when && not x) last)
-    ∙ ap (λ (k : ℕ). opened (new_task (k ∷ n.acting.task.path) line (w (length n.ended))) (with_acting (lent_when (o.when && not f.context.final) k line (w (length n.ended)) h.used) n)) made
-    ∙ ap (λ (p : List ℕ). opened (new_task (f.context.created ∷ p) line (w (length n.ended))) (with_acting (lent_when (o.when && not f.context.final) f.context.created line (w (length n.ended)) h.used) n)) way;
+        ∙ ap (λ (b : Bool). opened (new_task (created ∷ n.acting.task.path) line (w (length n.ended))) (with_acting (lent_when b created line (w (length n.ended)) h.used) n)) (lent ∙ ap (λ (x : Bool). o.when && not x) last)
+        ∙ ap (λ (k : ℕ). opened (new_task (k ∷ n.acting.task.path) line (w (length n.ended))) (with_acting (lent_when (o.when && not f.context.final) k line (w (length n.ended)) h.used) n)) made
+        ∙ ap (λ (p : List ℕ). opened (new_task (f.context.created ∷ p) line (w (length n.ended))) (with_acting (lent_when (o.when && not f.context.final) f.context.created line (w (length n.ended)) h.used) n)) way;
   }
 
   pub noted_create : (code : CodeAsk) (o t : TaskOrder) (lends : Bool) (old new : Following) → code ≡ asked.Create o → t ≡ o → lends ≡ (t.when && not final) → Steps layout ks (IsOpened created line lends) old new → Notes (meant_ask code) old new

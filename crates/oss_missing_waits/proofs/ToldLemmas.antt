@@ -102,19 +102,22 @@ pub use_told : (layout : List Grid) (used : SetOfCells) (line cell : ℕ) (found
     → new.point ≡ old.point → new.lent ≡ old.lent → new.released ≡ old.released → new.told ≡ old.told ++ late.Use (record { cells = found; line = line }) ∷ [] → IsToldUse layout used line old new
 use_told layout used line cell found old new held has_none pieces point lent released lines cells are all h laid s =
     let same : (c : ℕ) → has used c ≡ (cells c && h.released c) = λ c. are c ∙ ap (λ (b : Bool). cells c && b) (s.released c) in
-    let yes = both (cells cell) (h.released cell) (sym (same cell) ∙ held) in
-    (with_told (Uses (λ d. cells d && h.released d) line) h,
-     (told cell yes.0 yes.1 (sym (uses_alike all h.path h.told old.told line s.told) ∙ has_none),
-      record {
-        point = point ∙ s.point;
-        lent = subst (λ (ps : List (Piece Lent)). AreLent h.lent ps) (sym lent) s.lent;
-        released = λ c. ap (λ (r : SetOfCells). has r c) released ∙ s.released c;
-        past = s.past;
-        told =
-            subst (λ (ls : List Late). AreLines all h.path (h.told ++ Uses (λ d. cells d && h.released d) line ∷ []) ls) (sym lines)
-            (lines_more all h.path h.told old.told (Uses (λ d. cells d && h.released d) line) (late.Use (record { cells = found; line = line })) s.told
-             (record { pieces = subst (λ (test : ℕ → Bool). ArePieces test all 0 0 found) (fun_ext same) (pieces all laid); line_is = refl }));
-      }))
+    let yes = both (cells cell) (h.released cell) (sym (same cell) ∙ held) in (
+      with_told (Uses (λ d. cells d && h.released d) line) h,
+      (
+        told cell yes.0 yes.1 (sym (uses_alike all h.path h.told old.told line s.told) ∙ has_none),
+        record {
+          point = point ∙ s.point;
+          lent = subst (λ (ps : List (Piece Lent)). AreLent h.lent ps) (sym lent) s.lent;
+          released = λ c. ap (λ (r : SetOfCells). has r c) released ∙ s.released c;
+          past = s.past;
+          told =
+              subst (λ (ls : List Late). AreLines all h.path (h.told ++ Uses (λ d. cells d && h.released d) line ∷ []) ls) (sym lines)
+              (lines_more all h.path h.told old.told (Uses (λ d. cells d && h.released d) line) (late.Use (record { cells = found; line = line })) s.told
+              (record { pieces = subst (λ (test : ℕ → Bool). ArePieces test all 0 0 found) (fun_ext same) (pieces all laid); line_is = refl }));
+        },
+      ),
+    )
 
 -- A missing wait
 
@@ -135,22 +138,22 @@ wait_told touch c line child old new p word has_none below word_is point lent re
     let t : Told = Waits (touch_of touch) c line child in
     subst (λ (b : Bool). IsHolding all (if b then h else with_told t h) new) (sym e)
     (record {
-       point = point ∙ s.point;
-       lent = subst (λ (ps : List (Piece Lent)). AreLent h.lent ps) (sym lent) s.lent;
-       released = λ d. ap (λ (r : SetOfCells). has r d) released ∙ s.released d;
-       past = s.past;
-       told =
-           subst (λ (ls : List Late). AreLines all h.path (h.told ++ t ∷ []) ls) (sym lines)
-           (lines_more all h.path h.told old.told t (late.Wait w) s.told
-            (record {
-               touch = touching_is touch;
-               cell = refl;
-               line_is = refl;
-               point = below ∙ ap (λ (q : List ℕ). q ++ child.number ∷ []) s.point ∙ point_of_child child.number h.path;
-               created = refl;
-               word = word_is;
-             }));
-     })
+      point = point ∙ s.point;
+      lent = subst (λ (ps : List (Piece Lent)). AreLent h.lent ps) (sym lent) s.lent;
+      released = λ d. ap (λ (r : SetOfCells). has r d) released ∙ s.released d;
+      past = s.past;
+      told =
+          subst (λ (ls : List Late). AreLines all h.path (h.told ++ t ∷ []) ls) (sym lines)
+          (lines_more all h.path h.told old.told t (late.Wait w) s.told
+          (record {
+            touch = touching_is touch;
+            cell = refl;
+            line_is = refl;
+            point = below ∙ ap (λ (q : List ℕ). q ++ child.number ∷ []) s.point ∙ point_of_child child.number h.path;
+            created = refl;
+            word = word_is;
+          }));
+    })
 
 -- What is lent
 

@@ -41,7 +41,7 @@ use Rattle.oss_missing_waits.specs.declared.following.Following.{Following}
 use Rattle.oss_missing_waits.specs.declared.waits.TaskWaits.{TaskWaits}
 use Rattle.oss_missing_waits.specs.Beside.{AreFound, AreNamed, IsAt, IsBeside, IsEnded, IsEndedAt, IsFinished, IsNotedAt, IsNotedBeside}
 use Rattle.oss_missing_waits.specs.Following.{AreSaid, IsFollowing, IsNoted, Steps, said_in}
-use Rattle.oss_missing_waits.specs.Holding.{Holding, IsUse, hinderer, main as main_holding, touched, with_lent}
+use Rattle.oss_missing_waits.specs.Holding.{Holding, hinderer, lent_when, main as main_holding, new_task, releases, waits_on}
 use Rattle.oss_missing_waits.specs.Lines.{AreWaits}
 use Rattle.oss_missing_waits.specs.Waits.{IsBehind, IsBehindAsk, IsCreation, IsDirective, IsTouched, Mended, Waits, mended_in, opens, runs_on, tell_nothing}
 use Rattle.oss_missing_waits.proofs.FollowLemmas.{before_path, lent_path, use_path}
@@ -85,8 +85,8 @@ plain_alike w f (Ask.Fold c op v) line n m p h = touch_alike (Folds op) c line n
 plain_alike w f (Ask.Create o) line n m p h = absurd p
 plain_alike w f Ask.Await line n m p h = still_alike n m h
 plain_alike w f Ask.Wait line n m p h = record { path = ap (λ (x : Nest Holding). x.acting.task.path) h; above = ap (λ (x : Nest Holding). x.above) h }
-plain_alike w f (Ask.WaitOn named) line n m p h = directive_alike (in_clauses named) line _ n m (λ x. refl) h
-plain_alike w f (Ask.Release clauses) line n m p h = directive_alike (in_clauses clauses) line _ n m (λ x. refl) h
+plain_alike w f (Ask.WaitOn named) line n m p h = directive_alike (in_clauses named) line (waits_on named) n m (λ x. refl) h
+plain_alike w f (Ask.Release clauses) line n m p h = directive_alike (in_clauses clauses) line (releases clauses) n m (λ x. refl) h
 plain_alike w f (Ask.Print text) line n m p h = still_alike n m h
 plain_alike w f Ask.End line n m p h = absurd p
 plain_alike w f (Ask.Fails kind) line n m p h = still_alike n m h
@@ -124,8 +124,8 @@ module _ (P : Program CodeScript) (f : Frame CodeScript) (older : List (Frame Co
       → tasks_behind P (Created (freed_order count o) f.context.final) v (f ∷ older) ≡ ts → AreNamed (n.acting ∷ n.above) (f ∷ older) → AreNamed (m.acting ∷ m.above) ts
   named_created {count} w o line n m ts c t h =
       subst (λ (x : Nest Holding). AreNamed (x.acting ∷ x.above) ts) (sym c.new_is)
-      (named_down (freed_order count o) f.context.final _ _ n ts refl
-       (lent_path (o.when && not f.context.final) f.context.created line (w (length n.ended)) c.used ∙ use_path (λ d. is_some (w (length n.ended) d)) line n.acting.task c.used c.use_is) t h)
+      (named_down (freed_order count o) f.context.final (record { number = length n.ended; task = new_task (f.context.created ∷ f.path) line (w (length n.ended)) }) (record { number = n.acting.number; task = lent_when (o.when && not f.context.final) f.context.created line (w (length n.ended)) c.used }) n ts refl
+      (lent_path (o.when && not f.context.final) f.context.created line (w (length n.ended)) c.used ∙ use_path (λ d. is_some (w (length n.ended) d)) line n.acting.task c.used c.use_is) t h)
 
   pub named_behind : {count depth : ℕ} (w : Mended) (a : Act CodeScript) (q : Ask CodeScript) (line : ℕ) (b : Bool) (n m : Nest Holding) (g : Frame CodeScript) (gs : List (Frame CodeScript)) → Told count depth f.context.created f.context.final a q b
       → (IsHalt a → ⊥) → (if b then m ≡ n else IsBehindAsk w f q line n m) → tasks_behind P a v (f ∷ older) ≡ g ∷ gs → AreNamed (n.acting ∷ n.above) (f ∷ older) → AreNamed (m.acting ∷ m.above) (g ∷ gs)
@@ -221,7 +221,7 @@ module _ (code : CodeParts) (fuel : ℕ) where
           record {
             nest = m.0;
             walks = runs_on k.walks (acting_here r b.stage) next.runs m.1.0;
-            named = named_behind (free_program code) b.stage.task b.stage.older _ w (act r b.stage) (ask r b.stage) (line r b.stage) b.stage.task.awaits k.nest m.0 next.stage.task next.stage.older (told_here r b.stage) go m.1.0 next.tasks k.named;
+            named = named_behind (free_program code) b.stage.task b.stage.older (found_by (act r b.stage) r.cells.items) w (act r b.stage) (ask r b.stage) (line r b.stage) b.stage.task.awaits k.nest m.0 next.stage.task next.stage.older (told_here r b.stage) go m.1.0 next.tasks k.named;
             follows = m.1.1;
           };
     }

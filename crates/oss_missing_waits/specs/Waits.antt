@@ -40,7 +40,7 @@ pub record IsCreation {S : Type 0} (w : Mended) (f : Frame S) (lends : Bool) (li
   pub used : Holding
   pub use_is : IsUse (λ d. is_some (w (length old.ended) d)) line old.acting.task used
   pub new_is : new ≡ opened (new_task (f.context.created ∷ f.path) line (w (length old.ended)))
-    (with_acting (lent_when lends f.context.created line (w (length old.ended)) used) old)
+      (with_acting (lent_when lends f.context.created line (w (length old.ended)) used) old)
 
 -- It releases what clauses name, or waits for what clauses name.
 pub record IsDirective (cells : ℕ → Bool) (line : ℕ) (after : Holding → Holding) (old new : Nest Holding) : Type 0 where

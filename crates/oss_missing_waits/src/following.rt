@@ -36,6 +36,16 @@ impl Drop for OpenTask {
     }
 }
 
+impl OpenTask {
+    /// The lines that were told of it.
+    fn into_told(self) -> List<Late>
+        ensures { result ≡ self.task.told }
+    {
+        let OpenTask { number: _, task } = self;
+        task.into_told()
+    }
+}
+
 /// The task that acts, those that wait for it, main first, and what was told of each that was created, by its number, once it has
 /// ended. After want of memory a call has done a part of its work, and all is given up.
 pub(crate) struct Following {
@@ -123,7 +133,15 @@ impl Following {
         ensures { OnOk result (Steps layout.now tasks.now (IsOpened created line lends) self.old self.new) }
     {
         let number = add_slot(self.alloc, &mut self.told)?;
-        give(&mut self.current.task, layout, tasks, number, created, line, lends)?;
+        give(
+            &mut self.current.task,
+            layout,
+            tasks,
+            number,
+            created,
+            line,
+            lends,
+        )?;
         let point = point_below(&self.current.task.point, created)?;
         let task = HoldingTask::new(self.alloc, point);
         let creator = mem::replace(&mut self.current, OpenTask { number, task });
@@ -213,9 +231,8 @@ impl Following {
             told,
         } = self;
         drop(above);
-        let OpenTask { number: _, task } = current;
         TaskWaits {
-            main: task.into_told(),
+            main: current.into_told(),
             tasks: List::from_vec(told),
         }
     }
@@ -289,8 +306,8 @@ fn add_slot(alloc: Global, slots: &mut Vec<List<Late>>) -> Result<usize, AllocEr
 fn fill_slot(slots: &mut Vec<List<Late>>, ended: OpenTask)
     ensures { slots.new.items ≡ slice_set slots.old.items ended.number ended.task.told }
 {
-    let OpenTask { number, task } = ended;
-    set_slot(slots, number, task.into_told());
+    let number = ended.number;
+    set_slot(slots, number, ended.into_told());
 }
 
 /// Puts lines into a place, if there is one with this number.

@@ -180,12 +180,7 @@ impl HoldingTask {
     }
 
     /// It uses the cells of these ranges.
-    fn use_ranges(
-        &mut self,
-        layout: &Layout,
-        named: &[Range],
-        line: u32,
-    ) -> Result<(), AllocError>
+    fn use_ranges(&mut self, layout: &Layout, named: &[Range], line: u32) -> Result<(), AllocError>
         ensures { OnOk result (Leads layout.now (IsUse (in_ranges named.now) line) self.old self.new) }
     {
         let used = used_by_ranges(self.alloc, &self.released, named)?;

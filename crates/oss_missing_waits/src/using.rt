@@ -14,11 +14,7 @@ use oss_syntax::{Access, Range};
 use std::alloc::{AllocError, Global};
 
 /// Of one cell.
-pub(crate) fn used_cell(
-    alloc: Global,
-    released: &CellSet,
-    cell: u32,
-) -> Result<CellSet, AllocError>
+pub(crate) fn used_cell(alloc: Global, released: &CellSet, cell: u32) -> Result<CellSet, AllocError>
     ensures { IfOk result (λ used. IsBounded released.now → AreReleased (λ c. cell == c) released.now used) }
 {
     let mut used = CellSet::new(alloc);
@@ -98,11 +94,7 @@ pub(crate) fn used_by_map(
 }
 
 /// Adds the cells of a range that are released.
-fn add_released(
-    used: &mut CellSet,
-    released: &CellSet,
-    range: Range,
-) -> Result<(), AllocError>
+fn add_released(used: &mut CellSet, released: &CellSet, range: Range) -> Result<(), AllocError>
     ensures { OnOk result (IsAddedFrom range.lo range.hi released.now used.old used.new) }
 {
     let mut from = range.lo;

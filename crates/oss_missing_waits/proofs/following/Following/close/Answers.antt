@@ -9,11 +9,11 @@ returns-in-Some c =
     let old = c.args.self.now in
     closed_some old (record { alloc = old.alloc; current = c.replace-ended.new.dest; above = c.pop.new.self; told = c.fill_slot.new.slots })
     (record {
-       creator = c.in-Some.creator;
-       above = c.in-Some.ensures;
-       current = c.replace-ended.ensures.after;
-       told = c.fill_slot.ensures ∙ ap (λ (k : OpenTask). slice_set old.told.items k.number k.task.told) c.replace-ended.ensures.value;
-     })
+      creator = c.in-Some.creator;
+      above = c.in-Some.ensures;
+      current = c.replace-ended.ensures.after;
+      told = c.fill_slot.ensures ∙ ap (λ (k : OpenTask). slice_set old.told.items k.number k.task.told) c.replace-ended.ensures.value;
+    })
 
 pub returns-in-None : goal.returns-in-None
 returns-in-None c =
