@@ -129,10 +129,13 @@ main_has old c e all w n s = go n.above (subst (λ (ks : List OpenTask). AreTask
     go (j ∷ above) a h = absurd a
 
 pub none_of : {P : Type 0} (b : Bool) → (IsTrue b ↔ P) → b ≡ true → P
-none_of b i e = i.0 (subst (λ (x : Bool). IsTrue x) (sym e) tt)
+none_of b i e = i.0 e
 
 pub some_of : {P : Type 0} (b : Bool) → (IsTrue b ↔ P) → b ≡ false → P → ⊥
-some_of b i e p = subst (λ (x : Bool). IsTrue x) e (i.1 p)
+some_of b i e p =
+    let x : b ≡ true = i.1 p in
+    let y : true ≡ false = sym x ∙ e in
+    cc
 
 reverse_some : (ks : List OpenTask) → (ks ≡ [] → ⊥) → reverse ks ≡ [] → ⊥
 reverse_some ks h e = h (sym (reverse-reverse ks) ∙ ap reverse e)

@@ -1,6 +1,7 @@
 -- What is kept follows the free run.
 use Rattle.std.proofs.Common.{◌≡◌, ℕ, suc, ◌+◌, ◌-◌, ◌<◌, ◌≤◌, refl, sym, subst, ap, ◌∙◌, List, [], ◌∷◌, ◌++◌, length, arith, Bool, true, false, Option, Some, None, zero}
 use Rattle.std.specs.Prelude.{if◌then◌else◌, ◌==◌, is_some, slice_get, ◌&&◌, not}
+use Rattle.std.proofs.lemmas.Bool.Decides.{nat_tests}
 use Rattle.oss_syntax.specs.declared.tree.program.Item.{Item}
 use Rattle.oss_syntax.specs.declared.fault.FaultKind.{FaultKind}
 use Rattle.oss_model.specs.Bodies.{Act, Ask, Body, Frame, IsHalt, Order, Program, Stack, Start, after_creation, ask_of, child_frame, frame_after, including_frame, settled_frame, stack_from, start_frame, top_frame}
@@ -26,7 +27,6 @@ use Rattle.oss_free_tasks.specs.declared.deed.Deed.{Deed}
 use Rattle.oss_free_tasks.specs.Deeds.{IsDeed}
 use Rattle.oss_free_tasks.specs.OpenTasks.{AreNested, AreWaiting, Ends, behind as tasks_behind, behind_end, path_under, whole_task}
 use Rattle.oss_free_tasks.proofs.DeedLemmas.{free_deeds_are_acts}
-use Rattle.oss_free_tasks.proofs.OpenLemmas.{behind_plain}
 use Rattle.oss_free_run.specs.declared.run.FreeRun.{FreeRun}
 use Rattle.oss_free_run.specs.FreeTasks.{free_main, free_program, main_order}
 use Rattle.oss_free_run.specs.Stages.{IsFailed, IsFirstStage, IsNext, IsStage}
@@ -43,7 +43,7 @@ use Rattle.oss_missing_waits.specs.Beside.{AreFound, AreNamed, IsAt, IsBeside, I
 use Rattle.oss_missing_waits.specs.Following.{AreSaid, IsFollowing, IsNoted, Steps, said_in}
 use Rattle.oss_missing_waits.specs.Holding.{Holding, hinderer, lent_when, main as main_holding, new_task, releases, waits_on}
 use Rattle.oss_missing_waits.specs.Lines.{AreWaits}
-use Rattle.oss_missing_waits.specs.Waits.{IsBehind, IsBehindAsk, IsCreation, IsDirective, IsTouched, Mended, Waits, mended_in, opens, runs_on, tell_nothing}
+use Rattle.oss_missing_waits.specs.Waits.{IsBehind, IsBehindAct, IsBehindAsk, IsCreation, IsDirective, IsTouched, Mended, Waits, mended_in, opens, runs_on, tell_nothing}
 use Rattle.oss_missing_waits.proofs.FollowLemmas.{before_path, lent_path, use_path}
 
 -- Of any program
@@ -95,10 +95,15 @@ module _ (P : Program CodeScript) (f : Frame CodeScript) (older : List (Frame Co
   went_path : (a : Act CodeScript) → (settled_frame P (frame_after a v f)).path ≡ f.path
   went_path a = (settle_kept P (frame_after a v f)).path ∙ (frame_after_kept a v f).path
 
+  behind_plain : (a : Act CodeScript) → (a ≡ Ended → ⊥) → ((o : Order CodeScript) (i : Bool) → a ≡ Created o i → ⊥) → tasks_behind P a v (f ∷ older) ≡ settled_frame P (frame_after a v f) ∷ older
+  behind_plain Ended e c = absurd (e refl)
+  behind_plain (Created o i) e c = absurd (c o i refl)
+  behind_plain _ e c = refl
+
   named_plain : (a : Act CodeScript) (n m : Nest Holding) (ts : List (Frame CodeScript)) → IsAlike n m → (a ≡ Ended → ⊥) → ((o : Order CodeScript) (i : Bool) → a ≡ Created o i → ⊥)
       → tasks_behind P a v (f ∷ older) ≡ ts → AreNamed (n.acting ∷ n.above) (f ∷ older) → AreNamed (m.acting ∷ m.above) ts
   named_plain a n m ts alike e c t h =
-      subst (λ (us : List (Frame CodeScript)). AreNamed (m.acting ∷ m.above) us) (sym (behind_plain P a v f older e c) ∙ t)
+      subst (λ (us : List (Frame CodeScript)). AreNamed (m.acting ∷ m.above) us) (sym (behind_plain a e c) ∙ t)
       (alike.path ∙ h.0 ∙ sym (went_path a), subst (λ (ks : List (Numbered Holding)). AreNamed ks older) (sym alike.above) h.1)
 
   named_down : (o : Order CodeScript) (i : Bool) (child creator : Numbered Holding) (n : Nest Holding) (ts : List (Frame CodeScript)) → child.task.path ≡ f.context.created ∷ f.path → creator.task.path ≡ n.acting.task.path
@@ -120,21 +125,21 @@ module _ (P : Program CodeScript) (f : Frame CodeScript) (older : List (Frame Co
   named_up k (c ∷ above) ended [] g gs t h = absurd h.1
   named_up k (c ∷ above) ended (y ∷ rest) g gs t h = subst (λ (us : List (Frame CodeScript)). AreNamed (record { number = c.number; task = c.task } ∷ above) us) t (h.1.0 ∙ sym (resumed_path y y.context.final), h.1.1)
 
-  named_created : {count : ℕ} (w : Mended) (o : Order CodeScript) (line : ℕ) (n m : Nest Holding) (ts : List (Frame CodeScript)) → IsCreation w f (o.when && not f.context.final) line n m
+  named_created : (count : ℕ) (w : Mended) (o : Order CodeScript) (line : ℕ) (n m : Nest Holding) (ts : List (Frame CodeScript)) → IsCreation w f (o.when && not f.context.final) line n m
       → tasks_behind P (Created (freed_order count o) f.context.final) v (f ∷ older) ≡ ts → AreNamed (n.acting ∷ n.above) (f ∷ older) → AreNamed (m.acting ∷ m.above) ts
-  named_created {count} w o line n m ts c t h =
+  named_created count w o line n m ts c t h =
       subst (λ (x : Nest Holding). AreNamed (x.acting ∷ x.above) ts) (sym c.new_is)
       (named_down (freed_order count o) f.context.final (record { number = length n.ended; task = new_task (f.context.created ∷ f.path) line (w (length n.ended)) }) (record { number = n.acting.number; task = lent_when (o.when && not f.context.final) f.context.created line (w (length n.ended)) c.used }) n ts refl
       (lent_path (o.when && not f.context.final) f.context.created line (w (length n.ended)) c.used ∙ use_path (λ d. is_some (w (length n.ended) d)) line n.acting.task c.used c.use_is) t h)
 
   pub named_behind : {count depth : ℕ} (w : Mended) (a : Act CodeScript) (q : Ask CodeScript) (line : ℕ) (b : Bool) (n m : Nest Holding) (g : Frame CodeScript) (gs : List (Frame CodeScript)) → Told count depth f.context.created f.context.final a q b
-      → (IsHalt a → ⊥) → (if b then m ≡ n else IsBehindAsk w f q line n m) → tasks_behind P a v (f ∷ older) ≡ g ∷ gs → AreNamed (n.acting ∷ n.above) (f ∷ older) → AreNamed (m.acting ∷ m.above) (g ∷ gs)
+      → (IsHalt a → ⊥) → IsBehindAct b w f q line n m → tasks_behind P a v (f ∷ older) ≡ g ∷ gs → AreNamed (n.acting ∷ n.above) (f ∷ older) → AreNamed (m.acting ∷ m.above) (g ∷ gs)
   named_behind w a q line _ n m g gs (waits e) go is t h =
       named_plain a n m (g ∷ gs) (still_alike n m is) (λ x. let y : Awaited ≡ Ended = sym e ∙ x in cc) (λ o i x. let y : Awaited ≡ Created o i = sym e ∙ x in cc) t h
   named_behind w a q line b n m g gs (stops x) go is t h = absurd (go x)
   named_behind w a q line _ n m g gs (on p i x k l y) go is t h = named_plain a n m (g ∷ gs) (plain_alike w f q line n m p is) k l t h
   named_behind {count = count} w a q line _ n m g gs (creates o is_ask act x y) go is t h =
-      named_created {count = count} w o line n m (g ∷ gs) (subst (λ (z : Ask CodeScript). IsBehindAsk w f z line n m) is_ask is) (ap (λ (z : Act CodeScript). tasks_behind P z v (f ∷ older)) (sym act) ∙ t) h
+      named_created count w o line n m (g ∷ gs) (subst (λ (z : Ask CodeScript). IsBehindAsk w f z line n m) is_ask is) (ap (λ (z : Act CodeScript). tasks_behind P z v (f ∷ older)) (sym act) ∙ t) h
   named_behind w a q line _ n m g gs (ends is_ask act) go is t h =
       let e : m ≡ closed tell_nothing n = subst (λ (z : Ask CodeScript). IsBehindAsk w f z line n m) is_ask is in
       subst (λ (x : Nest Holding). AreNamed (x.acting ∷ x.above) (g ∷ gs)) (sym e) (named_up n.acting n.above n.ended older g gs (ap (λ (z : Act CodeScript). tasks_behind P z v (f ∷ older)) (sym act) ∙ t) h)
@@ -186,7 +191,7 @@ module _ (code : CodeParts) (fuel : ℕ) where
       pub noted_still : goes_on d ≡ false → (all : List Item) (w : Mended) (n : Nest Holding) (k : Following) → IsFollowing all w n k → IsNotedAt code fuel r s all w n k
       noted_still g all w n k h = record {
         stops = λ x. h;
-        goes = λ go. (n, (subst (λ (b : Bool). if b then n ≡ n else IsBehindAsk w s.task ask line n n) (sym (waits_here g go)) refl, h));
+        goes = λ go. (n, (subst (λ (b : Bool). IsBehindAct b w s.task ask line n n) (sym (waits_here g go)) refl, h));
       }
 
       pub noted_here : goes_on d ≡ true → (layout : List Grid) (ks : List TaskLacks) (q : Ask CodeScript) → q ≡ ask → (l : ℕ) → l ≡ line → (created : ℕ) → created ≡ s.task.context.created → (final : Bool) → final ≡ s.task.context.final
@@ -199,7 +204,7 @@ module _ (code : CodeParts) (fuel : ℕ) where
           let here : IsBehindAsk w s.task ask line n m.0 = subst (λ (x : ℕ). IsBehindAsk w s.task ask x n m.0) le (subst (λ (z : Ask CodeScript). IsBehindAsk w s.task z l n m.0) e now) in
           record {
             stops = λ x. absurd (k.0 x);
-            goes = λ go. (m.0, (subst (λ (b : Bool). if b then m.0 ≡ n else IsBehindAsk w s.task ask line n m.0) (sym k.1) here, m.1.1));
+            goes = λ go. (m.0, (subst (λ (b : Bool). IsBehindAct b w s.task ask line n m.0) (sym k.1) here, m.1.1));
           }
 
   -- One turn
@@ -287,5 +292,11 @@ said_of_lacks (Some t ∷ ts) [] h n c = absurd h
 said_of_lacks (Some t ∷ ts) (k ∷ ks) h zero c = sym (h.0.mending.clauses c)
 said_of_lacks (Some t ∷ ts) (k ∷ ks) h (suc n) c = step ∙ said_of_lacks ts ks h.1 n c
   where
+    other : (suc n == 0) ≡ false
+    other = grind (arith, nat_tests)
+
+    less : suc n - 1 ≡ n
+    less = omega arith
+
     step : mended_in (Some t ∷ ts) (suc n) c ≡ mended_in ts n c
-    step = ap (λ (i : ℕ). mended_in ts i c) (omega arith)
+    step = ap (λ (b : Bool). if b then mended_clauses t c else mended_in ts (suc n - 1) c) other ∙ ap (λ (i : ℕ). mended_in ts i c) less

@@ -2,6 +2,7 @@ use Rattle.std.proofs.Common.{refl}
 use Rattle.oss_model.specs.Context.{in_clauses}
 use Rattle.oss_lent_cells.specs.Kept.{in_ranges}
 use Rattle.oss_missing_waits.specs.Holding.{releases}
+use Rattle.oss_missing_waits.specs.declared.following.Following.{Following}
 use Rattle.oss_missing_waits.specs.Kept.{waits_for}
 use Rattle.oss_machine.specs.declared.ask.Ask.TheVariants as asked
 use Rattle.oss_missing_waits.proofs.FollowLemmas.{directive_more, noted_create, noted_end, noted_fold, noted_none, noted_read, noted_release, noted_wait, noted_wait_on, noted_write}
@@ -19,7 +20,7 @@ returns-in_ok-touch-in-Fold c =
     noted_fold c.args.layout.now c.args.tasks.now c.args.line c.args.created c.args.is_final c.args.ask.now _ _ _ c.args.self.now c.touch-in-Fold.new.self c.in-Fold.is c.in_ok-touch-in-Fold.ensures
 
 pub returns-in-End : goal.returns-in-End
-returns-in-End c = noted_end c.args.layout.now c.args.tasks.now c.args.line c.args.created c.args.is_final c.args.ask.now c.args.self.now c.close-_more.new.self c.close-_more.result c.in-End.is c.close-_more.ensures
+returns-in-End c = noted_end c.args.layout.now c.args.tasks.now c.args.line c.args.created c.args.is_final c.args.ask.now c.args.self.now c.close-more.new.self c.close-more.result c.in-End.is c.close-more.ensures
 
 pub returns-in-Wait : goal.returns-in-Wait
 returns-in-Wait c =
@@ -31,7 +32,7 @@ pub returns-in_ok-wait_on-in-WaitOn : goal.returns-in_ok-wait_on-in-WaitOn
 returns-in_ok-wait_on-in-WaitOn c =
     let old = c.args.self.now in
     let xs = c.as_slice.result.now in
-    let new = record { alloc = old.alloc; current = record { number = old.current.number; task = c.wait_on.new.self }; above = old.above; told = old.told } in
+    let new : Following = record { alloc = old.alloc; current = record { number = old.current.number; task = c.wait_on.new.self }; above = old.above; told = old.told } in
     noted_wait_on c.args.layout.now c.args.tasks.now c.args.line c.args.created c.args.is_final c.args.ask.now _ xs old new c.in-WaitOn.is c.as_slice.ensures
     (directive_more c.args.layout.now c.args.tasks.now (in_ranges xs) c.args.line (waits_for xs) old new (λ h. refl) (λ h. refl) c.in_ok-wait_on-in-WaitOn.ensures (record { number = refl; above = refl; told = refl }))
 
@@ -39,7 +40,7 @@ pub returns-in_ok-release-in-Release : goal.returns-in_ok-release-in-Release
 returns-in_ok-release-in-Release c =
     let old = c.args.self.now in
     let xs = c.as_slice-in-Release.result.now in
-    let new = record { alloc = old.alloc; current = record { number = old.current.number; task = c.release.new.self }; above = old.above; told = old.told } in
+    let new : Following = record { alloc = old.alloc; current = record { number = old.current.number; task = c.release.new.self }; above = old.above; told = old.told } in
     noted_release c.args.layout.now c.args.tasks.now c.args.line c.args.created c.args.is_final c.args.ask.now _ xs old new c.in-Release.is c.as_slice-in-Release.ensures
     (directive_more c.args.layout.now c.args.tasks.now (in_clauses xs) c.args.line (releases xs) old new (λ h. refl) (λ h. refl) c.in_ok-release-in-Release.ensures (record { number = refl; above = refl; told = refl }))
 
