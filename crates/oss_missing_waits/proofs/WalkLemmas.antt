@@ -43,7 +43,7 @@ use Rattle.oss_missing_waits.specs.Beside.{AreFound, AreNamed, IsAt, IsBeside, I
 use Rattle.oss_missing_waits.specs.Following.{AreSaid, IsFollowing, IsNoted, Steps, said_in}
 use Rattle.oss_missing_waits.specs.Holding.{Holding, hinderer, lent_when, main as main_holding, new_task, releases, waits_on}
 use Rattle.oss_missing_waits.specs.Lines.{AreWaits}
-use Rattle.oss_missing_waits.specs.Waits.{IsBehind, IsBehindAct, IsBehindAsk, IsCreation, IsDirective, IsTouched, Mended, Waits, mended_in, opens, runs_on, tell_nothing}
+use Rattle.oss_missing_waits.specs.Waits.{IsBehind, IsBehindIf, IsBehindAsk, IsCreation, IsDirective, IsTouched, Mended, Waits, mended_in, opens, runs_on, tell_nothing}
 use Rattle.oss_missing_waits.proofs.FollowLemmas.{before_path, lent_path, use_path}
 
 -- Of any program
@@ -133,7 +133,7 @@ module _ (P : Program CodeScript) (f : Frame CodeScript) (older : List (Frame Co
       (lent_path (o.when && not f.context.final) f.context.created line (w (length n.ended)) c.used ∙ use_path (λ d. is_some (w (length n.ended) d)) line n.acting.task c.used c.use_is) t h)
 
   pub named_behind : {count depth : ℕ} (w : Mended) (a : Act CodeScript) (q : Ask CodeScript) (line : ℕ) (b : Bool) (n m : Nest Holding) (g : Frame CodeScript) (gs : List (Frame CodeScript)) → Told count depth f.context.created f.context.final a q b
-      → (IsHalt a → ⊥) → IsBehindAct b w f q line n m → tasks_behind P a v (f ∷ older) ≡ g ∷ gs → AreNamed (n.acting ∷ n.above) (f ∷ older) → AreNamed (m.acting ∷ m.above) (g ∷ gs)
+      → (IsHalt a → ⊥) → IsBehindIf b w f q line n m → tasks_behind P a v (f ∷ older) ≡ g ∷ gs → AreNamed (n.acting ∷ n.above) (f ∷ older) → AreNamed (m.acting ∷ m.above) (g ∷ gs)
   named_behind w a q line _ n m g gs (waits e) go is t h =
       named_plain a n m (g ∷ gs) (still_alike n m is) (λ x. let y : Awaited ≡ Ended = sym e ∙ x in cc) (λ o i x. let y : Awaited ≡ Created o i = sym e ∙ x in cc) t h
   named_behind w a q line b n m g gs (stops x) go is t h = absurd (go x)
@@ -191,7 +191,7 @@ module _ (code : CodeParts) (fuel : ℕ) where
       pub noted_still : goes_on d ≡ false → (all : List Item) (w : Mended) (n : Nest Holding) (k : Following) → IsFollowing all w n k → IsNotedAt code fuel r s all w n k
       noted_still g all w n k h = record {
         stops = λ x. h;
-        goes = λ go. (n, (subst (λ (b : Bool). IsBehindAct b w s.task ask line n n) (sym (waits_here g go)) refl, h));
+        goes = λ go. (n, (subst (λ (b : Bool). IsBehindIf b w s.task ask line n n) (sym (waits_here g go)) refl, h));
       }
 
       pub noted_here : goes_on d ≡ true → (layout : List Grid) (ks : List TaskLacks) (q : Ask CodeScript) → q ≡ ask → (l : ℕ) → l ≡ line → (created : ℕ) → created ≡ s.task.context.created → (final : Bool) → final ≡ s.task.context.final
@@ -204,7 +204,7 @@ module _ (code : CodeParts) (fuel : ℕ) where
           let here : IsBehindAsk w s.task ask line n m.0 = subst (λ (x : ℕ). IsBehindAsk w s.task ask x n m.0) le (subst (λ (z : Ask CodeScript). IsBehindAsk w s.task z l n m.0) e now) in
           record {
             stops = λ x. absurd (k.0 x);
-            goes = λ go. (m.0, (subst (λ (b : Bool). IsBehindAct b w s.task ask line n m.0) (sym k.1) here, m.1.1));
+            goes = λ go. (m.0, (subst (λ (b : Bool). IsBehindIf b w s.task ask line n m.0) (sym k.1) here, m.1.1));
           }
 
   -- One turn
