@@ -1,6 +1,6 @@
 -- What is kept of the open tasks, event by event.
-use Rattle.std.proofs.Common.{◌≡◌, ◌<◌, ◌≤◌, ◌+◌, refl, sym, subst, ap, ◌∙◌, ℕ, suc, Bool, true, false, List, [], ◌∷◌, ◌++◌, length, get_or, Option, Some, None, arith}
-use Rattle.std.specs.Prelude.{◌==◌, ◌↔◌, IsTrue, ◌||◌, ◌&&◌, not, if◌then◌else◌, is_some, reverse, slice_get, slice_set}
+use Rattle.std.proofs.Common.{◌≡◌, ◌<◌, ◌≤◌, refl, sym, subst, ap, ◌∙◌, ℕ, Bool, true, false, List, [], ◌∷◌, ◌++◌, length, get_or, Option, Some, None, arith}
+use Rattle.std.specs.Prelude.{◌==◌, ◌↔◌, IsTrue, ◌||◌, ◌&&◌, not, if◌then◌else◌, is_some, reverse, slice_set}
 use Rattle.std.proofs.lemmas.List.{length-append, reverse-append, reverse-reverse}
 use Rattle.std.proofs.lemmas.Option.{slice_get-get_or, slice_get_past}
 use Rattle.std.proofs.Math.Path.{fun_ext}
@@ -20,7 +20,6 @@ use Rattle.oss_syntax.specs.declared.access.Op.{Op}
 use Rattle.oss_machine.specs.declared.ask.Ask.{Ask as CodeAsk}
 use Rattle.oss_machine.specs.Frames.{CodeScript}
 use Rattle.oss_ranges.specs.Cells.{is_within, value_at}
-use Rattle.oss_pieces.specs.Layouts.{grids_from}
 use Rattle.oss_pieces.specs.Rows.{Grid}
 use Rattle.oss_needs.specs.declared.clause.Clause.{Clause}
 use Rattle.oss_lent_cells.specs.Kept.{in_ranges}
@@ -28,16 +27,15 @@ use Rattle.oss_lent_cells.specs.Lent.{nothing_lent, waited_for}
 use Rattle.oss_lent_cells.specs.declared.holder.Holder.{Holder}
 use Rattle.oss_missing_lines.specs.declared.missing.Late.{Late}
 use Rattle.oss_lacks.specs.declared.lacks.TaskLacks.{TaskLacks}
-use Rattle.oss_lacks.specs.Nests.{Nest, Numbered, all_closed, all_closed_to, alone, closed, closed_to, opened, with_acting}
+use Rattle.oss_lacks.specs.Nests.{Nest, Numbered, alone, closed, closed_to, opened, with_acting}
 use Rattle.oss_missing_waits.specs.declared.following.Following.{Following}
 use Rattle.oss_missing_waits.specs.declared.following.OpenTask.{OpenTask}
 use Rattle.oss_missing_waits.specs.declared.holding.HoldingTask.{HoldingTask}
-use Rattle.oss_missing_waits.specs.Ending.{AllWillEnd}
 use Rattle.oss_missing_waits.specs.Following.{AreMended, AreSaid, AreTasks, AreTold, Follows, HaveEnded, IsClosed, IsFollowing, IsNoted, IsOneMore, IsOpened, IsReturned, IsTask, Steps, may_write, said_by, said_in}
-use Rattle.oss_missing_waits.specs.Holding.{Holding, IsUse, Waits, has_wait, hinderer, known, lent_when, main as main_holding, new_task, none, releases, told, told_wait, touched, waits_before, waits_on, with_lent, with_told}
+use Rattle.oss_missing_waits.specs.Holding.{Holding, IsUse, Waits, has_wait, hinderer, known, lent_when, main as main_holding, new_task, none, releases, told, touched, waits_before, with_lent, with_told}
 use Rattle.oss_missing_waits.specs.Kept.{IsHolding, IsUseThen, Leads, LeadsTo, touched_under, waits_for}
 use Rattle.oss_missing_waits.specs.Lines.{AreLines, AreTaskLines}
-use Rattle.oss_missing_waits.specs.Waits.{IsBehindAsk, IsCreation, IsDirective, IsTouched, Mended, at_stop, tell_nothing}
+use Rattle.oss_missing_waits.specs.Waits.{IsBehindAsk, IsDirective, IsTouched, Mended, at_stop, tell_nothing}
 use Rattle.oss_missing_waits.proofs.EndLemmas.{all_told, ends_opened, told_length, told_more, told_set}
 
 -- What no event changes

@@ -1,11 +1,10 @@
 -- What each event makes of a task that is kept.
 use Rattle.std.proofs.Common.{◌≡◌, ◌≤◌, ◌<◌, ◌⊎◌, inl, inr, refl, sym, subst, ap, ◌∙◌, ℕ, Bool, true, false, List, [], ◌∷◌, ◌++◌, Option, Some, None, arith}
-use Rattle.std.specs.Prelude.{◌||◌, ◌&&◌, ◌==◌, if◌then◌else◌, is_some, reverse}
+use Rattle.std.specs.Prelude.{◌||◌, ◌&&◌, ◌==◌, if◌then◌else◌}
 use Rattle.std.proofs.lemmas.List.{reverse-append}
 use Rattle.std.proofs.Math.Path.{fun_ext}
 use Rattle.std.proofs.lemmas.Bool.Decides.{nat_tests}
 use Rattle.oss_syntax.specs.declared.access.Access.{Access}
-use Rattle.oss_syntax.specs.declared.access.Op.{Op}
 use Rattle.oss_syntax.specs.declared.access.Range.{Range}
 use Rattle.oss_syntax.specs.declared.tree.program.Item.{Item}
 use Rattle.oss_model.specs.Context.{in_clauses}
@@ -21,7 +20,7 @@ use Rattle.oss_pieces.specs.Layouts.{grids_from}
 use Rattle.oss_pieces.specs.Pieces.{ArePieces}
 use Rattle.oss_pieces.specs.Rows.{Grid}
 use Rattle.oss_pieces.specs.declared.piece.Piece.{Piece as Part}
-use Rattle.oss_lent_cells.specs.Kept.{AreLends, AreLent, AreWaitedFor, in_ranges}
+use Rattle.oss_lent_cells.specs.Kept.{AreLends, AreLent, AreWaitedFor}
 use Rattle.oss_lent_cells.specs.Lent.{nothing_lent}
 use Rattle.oss_lent_cells.specs.declared.holder.Holder.{Holder}
 use Rattle.oss_lent_cells.specs.declared.holder.Lent.{Lent}
@@ -29,14 +28,12 @@ use Rattle.oss_missing_lines.specs.declared.missing.Late.{Late}
 use Rattle.oss_missing_lines.specs.declared.missing.Late.TheVariants as late
 use Rattle.oss_missing_lines.specs.declared.missing.MissingWait.{MissingWait}
 use Rattle.oss_explanation.specs.declared.explained.Word.{Word}
-use Rattle.oss_missing_lines.specs.declared.missing.LateUse.{LateUse}
 use Rattle.oss_missing_lines.specs.Words.{word_by}
 use Rattle.oss_missing_waits.specs.declared.holding.HoldingTask.{HoldingTask}
-use Rattle.oss_missing_waits.specs.Holding.{Holding, IsUse, Told, Uses, Waits, has_use, has_wait, hinderer, known, lent_when, new_task, none, releases, told, told_wait, waits_before, with_lent, with_released, with_told}
-use Rattle.oss_missing_waits.specs.Kept.{AreReleased, IsBounded, IsHolding, IsToldUse, IsUseThen, Leads, LeadsTo, lines_have_use, lines_have_wait, touch_of, touched_under, waits_for}
+use Rattle.oss_missing_waits.specs.Holding.{Holding, IsUse, Told, Uses, Waits, has_use, has_wait, hinderer, known, lent_when, new_task, none, releases, told, told_wait, waits_before, with_lent, with_told}
+use Rattle.oss_missing_waits.specs.Kept.{IsHolding, IsToldUse, IsUseThen, Leads, LeadsTo, lines_have_use, lines_have_wait, touch_of, touched_under, waits_for}
 use Rattle.oss_missing_waits.specs.Lines.{AreLines, IsLine, touching_by}
 use Rattle.oss_missing_waits.proofs.UsingLemmas.{AreAdded, clauses_bounded}
-use Rattle.oss_missing_waits.proofs.WithinLemmas.{bools}
 
 -- Lines
 

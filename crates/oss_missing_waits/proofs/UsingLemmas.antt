@@ -10,7 +10,7 @@ use Rattle.oss_ranges.specs.Cells.{is_within, value_at}
 use Rattle.oss_needs.specs.declared.clause.Clause.{Clause}
 use Rattle.oss_pieces.specs.CellSets.{SetOfCells, has}
 use Rattle.oss_lent_cells.specs.Kept.{in_ranges}
-use Rattle.oss_missing_waits.specs.Kept.{AreReleased, IsAddedFrom, IsBounded}
+use Rattle.oss_missing_waits.specs.Kept.{AreReleased, IsAddedFrom}
 use Rattle.oss_missing_waits.proofs.WithinLemmas.{bools, is_behind, is_none, last_alone, last_too, same_beside, within_of}
 
 -- Tests

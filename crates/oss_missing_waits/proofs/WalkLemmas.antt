@@ -1,10 +1,10 @@
 -- What is kept follows the free run.
-use Rattle.std.proofs.Common.{◌≡◌, ℕ, suc, ◌+◌, ◌-◌, ◌<◌, ◌≤◌, refl, sym, subst, ap, ◌∙◌, List, [], ◌∷◌, ◌++◌, length, arith, Bool, true, false, Option, Some, None, zero}
-use Rattle.std.specs.Prelude.{if◌then◌else◌, ◌==◌, is_some, slice_get, ◌&&◌, not}
+use Rattle.std.proofs.Common.{◌≡◌, ℕ, suc, ◌-◌, refl, sym, subst, ap, ◌∙◌, List, [], ◌∷◌, ◌++◌, length, arith, Bool, true, false, Option, Some, None, zero}
+use Rattle.std.specs.Prelude.{if◌then◌else◌, ◌==◌, is_some, ◌&&◌, not}
 use Rattle.std.proofs.lemmas.Bool.Decides.{nat_tests}
 use Rattle.oss_syntax.specs.declared.tree.program.Item.{Item}
 use Rattle.oss_syntax.specs.declared.fault.FaultKind.{FaultKind}
-use Rattle.oss_model.specs.Bodies.{Act, Ask, Body, Frame, IsHalt, Order, Program, Stack, Start, after_creation, ask_of, child_frame, frame_after, including_frame, settled_frame, stack_from, start_frame, top_frame}
+use Rattle.oss_model.specs.Bodies.{Act, Ask, Body, Frame, IsHalt, Order, Program, Stack, after_creation, ask_of, child_frame, frame_after, settled_frame, stack_from, top_frame}
 use Rattle.oss_model.specs.Bodies.Act.{Awaited, Created, Ended}
 use Rattle.oss_model.specs.Context.{in_clauses}
 use Rattle.oss_model.specs.Machine.{At, State, Task}
@@ -18,14 +18,12 @@ use Rattle.oss_model.proofs.TreeLemmas.{at_same}
 use Rattle.oss_code.specs.declared.code.CodeParts.{CodeParts}
 use Rattle.oss_machine.specs.Frames.{CodeScript}
 use Rattle.oss_machine.specs.Machines.{asks}
-use Rattle.oss_ranges.specs.Cells.{value_at}
 use Rattle.oss_pieces.specs.Layouts.{grids_from}
 use Rattle.oss_pieces.specs.Rows.{Grid}
 use Rattle.oss_freed.specs.Freed.{freed_order}
-use Rattle.oss_needs.specs.declared.clause.Clause.{Clause}
 use Rattle.oss_free_tasks.specs.declared.deed.Deed.{Deed}
 use Rattle.oss_free_tasks.specs.Deeds.{IsDeed}
-use Rattle.oss_free_tasks.specs.OpenTasks.{AreNested, AreWaiting, Ends, behind as tasks_behind, behind_end, path_under, whole_task}
+use Rattle.oss_free_tasks.specs.OpenTasks.{AreWaiting, Ends, behind as tasks_behind, behind_end, path_under, whole_task}
 use Rattle.oss_free_tasks.proofs.DeedLemmas.{free_deeds_are_acts}
 use Rattle.oss_free_run.specs.declared.run.FreeRun.{FreeRun}
 use Rattle.oss_free_run.specs.FreeTasks.{free_main, free_program, main_order}
@@ -34,16 +32,15 @@ use Rattle.oss_lacks.specs.declared.lacks.TaskLacks.{TaskLacks}
 use Rattle.oss_lacks.specs.Asking.{Asking, mended_clauses}
 use Rattle.oss_lacks.specs.Beside.{goes_on}
 use Rattle.oss_lacks.specs.Lacks.{AreTaskLacks}
-use Rattle.oss_lacks.specs.Nests.{Nest, Numbered, alone, closed, closed_to, opened, with_acting}
+use Rattle.oss_lacks.specs.Nests.{Nest, Numbered, alone, closed, closed_to}
 use Rattle.oss_lacks.specs.Walks.{IsActing}
 use Rattle.oss_lacks.proofs.DeedLemmas.{IsPlain, Told, acts_on, creates, ends, on, stays_still, stops, told, waits}
 use Rattle.oss_missing_waits.specs.declared.following.Following.{Following}
 use Rattle.oss_missing_waits.specs.declared.waits.TaskWaits.{TaskWaits}
-use Rattle.oss_missing_waits.specs.Beside.{AreFound, AreNamed, IsAt, IsBeside, IsEnded, IsEndedAt, IsFinished, IsNotedAt, IsNotedBeside}
-use Rattle.oss_missing_waits.specs.Following.{AreSaid, IsFollowing, IsNoted, Steps, said_in}
+use Rattle.oss_missing_waits.specs.Beside.{AreFound, AreNamed, IsAt, IsBeside, IsEnded, IsFinished, IsNotedAt, IsNotedBeside}
+use Rattle.oss_missing_waits.specs.Following.{AreSaid, IsFollowing, IsNoted, Steps}
 use Rattle.oss_missing_waits.specs.Holding.{Holding, hinderer, lent_when, main as main_holding, new_task, releases, waits_on}
-use Rattle.oss_missing_waits.specs.Lines.{AreWaits}
-use Rattle.oss_missing_waits.specs.Waits.{IsBehind, IsBehindIf, IsBehindAsk, IsCreation, IsDirective, IsTouched, Mended, Waits, mended_in, opens, runs_on, tell_nothing}
+use Rattle.oss_missing_waits.specs.Waits.{IsBehindIf, IsBehindAsk, IsCreation, IsDirective, IsTouched, Mended, Waits, mended_in, opens, runs_on, tell_nothing}
 use Rattle.oss_missing_waits.proofs.FollowLemmas.{before_path, lent_path, use_path}
 
 -- Of any program

@@ -1,6 +1,6 @@
 -- What is kept beside the free run on the second walk is right at its stage.
 -- Read against: before the first act of a main that reads x, nothing is lent, and so it is kept. Before a fault nothing is noted.
-use Rattle.std.specs.Prelude.{◌≡◌, ℕ, List, [], ◌∷◌, Option}
+use Rattle.std.specs.Prelude.{◌≡◌, ℕ, List, [], ◌∷◌}
 use Rattle.oss_syntax.specs.declared.tree.program.Item.{Item}
 use Rattle.oss_model.specs.Bodies.{Frame, IsHalt}
 use Rattle.oss_model.specs.Moves.{act_now}

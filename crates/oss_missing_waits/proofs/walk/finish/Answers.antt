@@ -1,5 +1,4 @@
-use Rattle.std.proofs.Common.{subst, sym, ap, List, []}
-use Rattle.oss_missing_lines.specs.declared.missing.Late.{Late}
+use Rattle.std.proofs.Common.{subst, sym, []}
 use Rattle.oss_missing_waits.specs.Lines.{AreLines, AreTaskLines}
 use Rattle.oss_missing_waits.specs.Waits.{at_stop}
 use Rattle.oss_missing_waits.specs.declared.waits.TaskWaits.{TaskWaits}

@@ -1,4 +1,4 @@
-use Rattle.std.proofs.Common.{refl, sym, subst, ◌≡◌, ◌∙◌, List, [], ap}
+use Rattle.std.proofs.Common.{refl, sym, ◌∙◌, ap}
 use Rattle.std.specs.Prelude.{slice_set}
 use Rattle.oss_missing_waits.specs.declared.following.OpenTask.{OpenTask}
 use Rattle.oss_missing_waits.proofs.FollowLemmas.{closed_none, closed_some}

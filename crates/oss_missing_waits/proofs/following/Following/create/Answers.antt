@@ -1,4 +1,4 @@
-use Rattle.std.proofs.Common.{refl, ◌∙◌, ap, ◌++◌, ◌∷◌, []}
+use Rattle.std.proofs.Common.{◌∙◌, ap, ◌++◌, ◌∷◌, []}
 use Rattle.oss_missing_waits.specs.declared.following.OpenTask.{OpenTask}
 use Rattle.oss_missing_waits.proofs.FollowLemmas.{opened_more}
 use Rattle.oss_missing_waits.proofs.following.Following.create.Goals as goal

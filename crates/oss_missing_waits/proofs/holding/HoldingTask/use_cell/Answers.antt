@@ -1,8 +1,5 @@
-use Rattle.std.proofs.Common.{◌≡◌, ◌≤◌, ◌∙◌, ◌==◌, ℕ, false, List}
-use Rattle.oss_syntax.specs.declared.tree.program.Item.{Item}
+use Rattle.std.proofs.Common.{◌≡◌, ◌≤◌, ◌∙◌, ◌==◌, ℕ, false}
 use Rattle.oss_pieces.specs.CellSets.{has}
-use Rattle.oss_missing_waits.specs.Holding.{Holding}
-use Rattle.oss_missing_waits.specs.Kept.{IsHolding}
 use Rattle.oss_missing_waits.proofs.holding.HoldingTask.use_cell.Goals as goal
 
 pub returns : goal.returns
