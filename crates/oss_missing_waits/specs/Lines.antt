@@ -1,6 +1,6 @@
 -- How what was told of a task on the second walk is kept as lines.
 -- Read against: that main's child 0, created on line 3, hinders a read of x on line 7 is kept with the point 0.0 of the child, the lines 3 and 7, and the word of x in the child's clauses as they are mended.
-use Rattle.std.specs.Prelude.{◌≡◌, ℕ, List, [], ◌∷◌, map, Option, Some, None}
+use Rattle.std.specs.Prelude.{◌≡◌, ℕ, Bool, List, [], ◌∷◌, Option, Some}
 use Rattle.oss_syntax.specs.declared.tree.program.Item.{Item}
 use Rattle.oss_model.specs.Order.{written}
 use Rattle.oss_model.specs.Rights.{Folds, Reads, Touch, Writes}

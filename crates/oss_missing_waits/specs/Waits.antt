@@ -1,7 +1,7 @@
 -- The second walk over the free run.
 -- Read against: of a main that creates a task with `out(y)` on line 3, which writes x, and then reads x on line 5: once what is lacking is mended the task has x by `out`, so a wait is missing before the read. A final task includes what it creates, and lends it nothing;
 -- nor does a creation under a false `if` lend.
-use Rattle.std.specs.Prelude.{◌≡◌, ℕ, ◌-◌, ◌==◌, ◌&&◌, not, if◌then◌else◌, Bool, true, false, List, [], ◌∷◌, length, Option, Some, None}
+use Rattle.std.specs.Prelude.{◌≡◌, ℕ, ◌-◌, ◌==◌, ◌&&◌, is_some, not, if◌then◌else◌, Bool, true, false, List, [], ◌∷◌, length, Option, Some, None}
 use Rattle.oss_model.specs.Bodies.{Ask, Frame, Program, Start, ask_of}
 use Rattle.oss_model.specs.Context.{in_clauses}
 use Rattle.oss_model.specs.Moves.{opening}
@@ -25,10 +25,6 @@ mended_in [] k c = None
 mended_in (Some t ∷ rest) k c = if k == 0 then mended_clauses t c else mended_in rest (k - 1) c
 mended_in (None ∷ rest) k c = if k == 0 then None else mended_in rest (k - 1) c
 
-abbrev pub is_some : Option Clause → Bool
-is_some None = false
-is_some (Some c) = true
-
 -- the end of a task tells its creator nothing
 abbrev pub tell_nothing : Holding → Holding → Holding
 tell_nothing child creator = creator
@@ -44,7 +40,7 @@ pub record IsCreation {S : Type 0} (w : Mended) (f : Frame S) (lends : Bool) (li
   pub used : Holding
   pub use_is : IsUse (λ d. is_some (w (length old.ended) d)) line old.acting.task used
   pub new_is : new ≡ opened (new_task (f.context.created ∷ f.path) line (w (length old.ended)))
-    (with_acting (lent_when lends f.context.created line (w (length old.ended)) used) old)
+      (with_acting (lent_when lends f.context.created line (w (length old.ended)) used) old)
 
 -- It releases what clauses name, or waits for what clauses name.
 pub record IsDirective (cells : ℕ → Bool) (line : ℕ) (after : Holding → Holding) (old new : Nest Holding) : Type 0 where

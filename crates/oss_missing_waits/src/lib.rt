@@ -2,6 +2,13 @@
 //! once what they lack is mended.
 #![tactic(auto)]
 
+mod following;
+mod hindering;
+mod holding;
+mod told;
+mod using;
 mod waits;
+mod walk;
 
 pub use waits::TaskWaits;
+pub use walk::find_waits;

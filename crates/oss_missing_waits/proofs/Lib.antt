@@ -1,0 +1,6 @@
+pub mod WithinLemmas
+pub mod UsingLemmas
+pub mod ToldLemmas
+pub mod EndLemmas
+pub mod FollowLemmas
+pub mod WalkLemmas

@@ -1,0 +1,29 @@
+use Rattle.std.proofs.Common.{◌≡◌, ◌∷◌, ◌<◌, ℕ, suc, sym, ap, ◌∙◌, subst, length, drop, arith, List, ◌-◌}
+use Rattle.std.proofs.Math.Seq.{drop-cons}
+use Rattle.oss_syntax.specs.declared.access.Range.{Range}
+use Rattle.oss_lent_cells.specs.Kept.{in_ranges}
+use Rattle.oss_missing_waits.specs.Kept.{AreReleased}
+use Rattle.oss_missing_waits.proofs.UsingLemmas.{ranges_more}
+use Rattle.oss_missing_waits.proofs.using.used_by_ranges.Goals as goal
+
+pub loop-left-preserved : goal.loop-left-preserved
+loop-left-preserved c =
+    let xs = c.args.named.now in
+    let at = c.loop-left.left - 1 in
+    let x = c.index-named-left.result in
+    let rest = drop c.loop-left.left xs in
+    let within : at < length xs = let upper = c.loop-left.invariant.within in omega arith in
+    let next : suc at ≡ c.loop-left.left = omega arith in
+    let split : drop at xs ≡ x ∷ rest = drop-cons xs at x within ∙ ap (λ y. y ∷ drop (suc at) xs) (sym c.index-named-left.is) ∙ ap (λ k. x ∷ drop k xs) next in
+    record {
+      within = omega arith;
+      released =
+          subst (λ (ys : List Range). AreReleased (in_ranges ys) c.args.released.now c.add_released.new.used) (sym split)
+          (ranges_more x rest c.args.released.now c.loop-left.used c.add_released.new.used c.loop-left.invariant.released c.in_ok-add_released.ensures);
+    }
+
+pub returns : goal.returns
+returns c =
+    let t = c.loop-left-test.false in
+    let e : c.loop-left.left ≡ 0 = omega (arith, t) in
+    subst (λ (n : ℕ). AreReleased (in_ranges (drop n c.args.named.now)) c.args.released.now c.loop-left.used) e c.loop-left.invariant.released

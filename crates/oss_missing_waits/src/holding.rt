@@ -1,0 +1,321 @@
+//! An open task of the second walk, and what each event makes of it.
+
+ghost use Rattle.std.specs.Prelude.{◌≡◌, ◌==◌, ◌++◌, ◌∷◌, [], ℕ, Bool as Truth, List as Items, Option as Maybe, IfOk, OnOk, is_some};
+ghost use Rattle.oss_syntax.specs.declared.tree.program.Item.{Item};
+ghost use Rattle.oss_model.specs.Context.{in_clauses};
+ghost use Rattle.oss_model.specs.Order.{written};
+ghost use Rattle.oss_ranges.specs.Cells.{value_at};
+ghost use Rattle.oss_needs.specs.declared.clause.Clause.{Clause as Said};
+ghost use Rattle.oss_lent_cells.specs.Kept.{in_ranges};
+ghost use Rattle.oss_lent_cells.specs.Lent.{nothing_lent};
+ghost use Rattle.oss_missing_waits.specs.Holding.{IsUse, lent_when, new_task, releases, told_wait, with_lent};
+ghost use Rattle.oss_missing_waits.specs.Kept.{IsHolding, IsToldUse, IsUseThen, Leads, LeadsTo, touch_of, touched_under, waits_for};
+
+use crate::hindering::hinderer;
+use crate::told::{has_use, has_wait};
+use crate::using::{cell_of, release_all, used_by_clauses, used_by_map, used_by_ranges, used_cell};
+use oss_explanation::Touching;
+use oss_lent_cells::{Holder, LentCells};
+use oss_missing_lines::{Late, LateUse, MissingWait, word_of_clause};
+use oss_model::Point;
+use oss_needs::Clause;
+use oss_pieces::{CellSet, Layout};
+use oss_ranges::RangeMap;
+use oss_syntax::{Access, List, Range};
+use std::alloc::{AllocError, Global};
+
+/// An open task: what it has lent to its children, what it has released, and what was told of it, in the order of the run.
+pub(crate) struct HoldingTask {
+    alloc: Global,
+    pub(crate) point: Point,
+    pub(crate) lent: LentCells,
+    pub(crate) released: CellSet,
+    pub(crate) told: List<Late>,
+}
+
+// By hand, so that who lets one go calls this, and does not take it apart at each exit.
+impl Drop for HoldingTask {
+    fn drop(self) {
+        let HoldingTask {
+            alloc: _,
+            point,
+            lent,
+            released,
+            told,
+        } = self;
+        drop(point);
+        drop(lent);
+        drop(released);
+        drop(told);
+    }
+}
+
+impl HoldingTask {
+    /// The task with this point, before its first act.
+    pub(crate) fn new(alloc: Global, point: Point) -> HoldingTask
+        ensures { (all : Items Item) (path : Items ℕ) (line : ℕ) (clauses : ℕ → Maybe Said) → point ≡ written path →
+            IsHolding all (new_task path line clauses) result }
+    {
+        let lent = LentCells::new(alloc);
+        let released = CellSet::new(alloc);
+        let told = List::new(alloc);
+        HoldingTask {
+            alloc,
+            point,
+            lent,
+            released,
+            told,
+        }
+    }
+
+    /// The lines that were told of it.
+    pub(crate) fn into_told(self) -> List<Late>
+        ensures { result ≡ self.told }
+    {
+        let HoldingTask {
+            alloc: _,
+            point,
+            lent,
+            released,
+            told,
+        } = self;
+        drop(point);
+        drop(lent);
+        drop(released);
+        told
+    }
+
+    /// It touches a cell on this line, which it has by this clause.
+    pub(crate) fn touch(
+        &mut self,
+        layout: &Layout,
+        touch: Touching,
+        cell: u32,
+        line: u32,
+        clause: Option<Clause>,
+    ) -> Result<(), AllocError>
+        ensures { OnOk result (Leads layout.now
+            (IsUseThen (λ c. cell == c) line (touched_under clause (touch_of touch) cell line)) self.old self.new) }
+    {
+        self.use_cell(layout, cell, line)?;
+        self.touch_lent(touch, cell, line, clause)?;
+        Ok(())
+    }
+
+    /// It creates the child with this number on this line, which has cells by these clauses, and lends it these, or does not.
+    pub(crate) fn create(
+        &mut self,
+        layout: &Layout,
+        clauses: &RangeMap<Clause>,
+        number: u32,
+        line: u32,
+        lends: bool,
+    ) -> Result<(), AllocError>
+        ensures { OnOk result (Leads layout.now (IsUseThen (λ c. is_some (value_at clauses.now.pieces c)) line
+            (lent_when lends number line (value_at clauses.now.pieces))) self.old self.new) }
+    {
+        self.use_map(layout, clauses, line)?;
+        self.lend(clauses, number, line, lends)?;
+        Ok(())
+    }
+
+    /// It releases the cells of these clauses on this line.
+    pub(crate) fn release(
+        &mut self,
+        layout: &Layout,
+        clauses: &[Access],
+        line: u32,
+    ) -> Result<(), AllocError>
+        ensures { OnOk result (Leads layout.now (IsUseThen (in_clauses clauses.now) line (releases clauses.now))
+            self.old self.new) }
+    {
+        self.use_clauses(layout, clauses, line)?;
+        self.give_up(clauses)?;
+        Ok(())
+    }
+
+    /// It waits on this line for its children's accesses to the cells of these ranges.
+    pub(crate) fn wait_on(
+        &mut self,
+        layout: &Layout,
+        named: &[Range],
+        line: u32,
+    ) -> Result<(), AllocError>
+        ensures { OnOk result (Leads layout.now (IsUseThen (in_ranges named.now) line (waits_for named.now))
+            self.old self.new) }
+    {
+        self.use_ranges(layout, named, line)?;
+        self.take_back(named)?;
+        Ok(())
+    }
+
+    /// It waits for all its children.
+    pub(crate) fn wait(&mut self)
+        ensures { LeadsTo (with_lent nothing_lent) self.old self.new }
+    {
+        self.lent.wait();
+    }
+
+    /// It uses a cell.
+    fn use_cell(&mut self, layout: &Layout, cell: u32, line: u32) -> Result<(), AllocError>
+        ensures { OnOk result (Leads layout.now (IsUse (λ c. cell == c) line) self.old self.new) }
+    {
+        let used = used_cell(self.alloc, &self.released, cell)?;
+        self.tell_use(layout, &used, line)?;
+        Ok(())
+    }
+
+    /// It uses the cells of these clauses.
+    fn use_clauses(
+        &mut self,
+        layout: &Layout,
+        clauses: &[Access],
+        line: u32,
+    ) -> Result<(), AllocError>
+        ensures { OnOk result (Leads layout.now (IsUse (in_clauses clauses.now) line) self.old self.new) }
+    {
+        let used = used_by_clauses(self.alloc, &self.released, clauses)?;
+        self.tell_use(layout, &used, line)?;
+        Ok(())
+    }
+
+    /// It uses the cells of these ranges.
+    fn use_ranges(&mut self, layout: &Layout, named: &[Range], line: u32) -> Result<(), AllocError>
+        ensures { OnOk result (Leads layout.now (IsUse (in_ranges named.now) line) self.old self.new) }
+    {
+        let used = used_by_ranges(self.alloc, &self.released, named)?;
+        self.tell_use(layout, &used, line)?;
+        Ok(())
+    }
+
+    /// It uses the cells of which these clauses say something.
+    fn use_map(
+        &mut self,
+        layout: &Layout,
+        clauses: &RangeMap<Clause>,
+        line: u32,
+    ) -> Result<(), AllocError>
+        ensures { OnOk result (Leads layout.now (IsUse (λ c. is_some (value_at clauses.now.pieces c)) line)
+            self.old self.new) }
+    {
+        let used = used_by_map(self.alloc, &self.released, clauses)?;
+        self.tell_use(layout, &used, line)?;
+        Ok(())
+    }
+
+    /// Tells that it uses these cells on this line, which it has released, if there is one and no such use was told on the line.
+    fn tell_use(&mut self, layout: &Layout, used: &CellSet, line: u32) -> Result<(), AllocError>
+        ensures { OnOk result (IsToldUse layout.now used.now line self.old self.new) }
+    {
+        match cell_of(used) {
+            None => Ok(()),
+            Some(_cell) => {
+                let known = has_use(self.told.as_slice(), line);
+                if known {
+                    return Ok(());
+                }
+                let cells = layout.pieces(used)?;
+                self.told.push(Late::Use(LateUse { cells, line }))?;
+                Ok(())
+            }
+        }
+    }
+
+    /// It touches a cell which it may have lent: it waits before, if a child hinders that.
+    fn touch_lent(
+        &mut self,
+        touch: Touching,
+        cell: u32,
+        line: u32,
+        clause: Option<Clause>,
+    ) -> Result<(), AllocError>
+        ensures { OnOk result (LeadsTo (touched_under clause (touch_of touch) cell line) self.old self.new) }
+    {
+        match hinderer(&self.lent, clause, touch, cell) {
+            Some(child) => {
+                self.tell_wait(touch, cell, line, child)?;
+                self.wait();
+                Ok(())
+            }
+            None => Ok(()),
+        }
+    }
+
+    /// Tells that a wait is missing on this line, if that was not told.
+    fn tell_wait(
+        &mut self,
+        touch: Touching,
+        cell: u32,
+        line: u32,
+        child: Holder,
+    ) -> Result<(), AllocError>
+        ensures { OnOk result (LeadsTo (told_wait (touch_of touch) cell line child) self.old self.new) }
+    {
+        let known = has_wait(self.told.as_slice(), line);
+        if known {
+            return Ok(());
+        }
+        let word = word_of_clause(child.clause);
+        let point = point_below(&self.point, child.number)?;
+        self.told.push(Late::Wait(MissingWait {
+            touch,
+            cell,
+            line,
+            child: point,
+            created: child.line,
+            word,
+        }))?;
+        Ok(())
+    }
+
+    /// Lends a child its cells, or does not.
+    fn lend(
+        &mut self,
+        clauses: &RangeMap<Clause>,
+        number: u32,
+        line: u32,
+        lends: bool,
+    ) -> Result<(), AllocError>
+        ensures { OnOk result (LeadsTo (lent_when lends number line (value_at clauses.now.pieces)) self.old self.new) }
+    {
+        if lends {
+            self.lent.lend(clauses, number, line)?;
+            Ok(())
+        } else {
+            Ok(())
+        }
+    }
+
+    /// The cells of these clauses are released.
+    fn give_up(&mut self, clauses: &[Access]) -> Result<(), AllocError>
+        ensures { OnOk result (LeadsTo (releases clauses.now) self.old self.new) }
+    {
+        release_all(&mut self.released, clauses)?;
+        Ok(())
+    }
+
+    /// The cells of these ranges are no longer lent.
+    fn take_back(&mut self, named: &[Range]) -> Result<(), AllocError>
+        ensures { OnOk result (LeadsTo (waits_for named.now) self.old self.new) }
+    {
+        self.lent.wait_on(named)?;
+        Ok(())
+    }
+}
+
+/// The point with this number behind it. A number past 65,535 is in no point, and none has more than 66 numbers: such a one is told as
+/// want of memory, and no task of a run has it.
+pub(crate) fn point_below(point: &Point, number: u32) -> Result<Point, AllocError>
+    ensures { IfOk result (λ child. child ≡ point.now ++ number ∷ []) }
+{
+    match u16::try_from(number) {
+        Ok(number) => {
+            if point.as_slice().len() < 66 {
+                point.child(number)
+            } else {
+                Err(AllocError)
+            }
+        }
+        Err(_) => Err(AllocError),
+    }
+}
