@@ -21,3 +21,4 @@ pub mod FineLemmas
 pub mod ForwardLemmas
 pub mod LackTheorem
 pub mod ToldTheorem
+pub mod AnswerLemmas

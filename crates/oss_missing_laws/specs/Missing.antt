@@ -3,7 +3,9 @@
 -- main, and nothing is claimed: the program's own run stands before Lent.
 use Rattle.std.specs.Prelude.{◌≡◌, ℕ, ◌≤◌, List, length}
 use Rattle.oss_syntax.specs.declared.fault.FaultKind.{FaultKind}
+use Rattle.oss_model.specs.declared.answer.Answer.{Answer}
 use Rattle.oss_model.specs.Agreement.{main_start}
+use Rattle.oss_model.specs.Answers.{IsResult}
 use Rattle.oss_model.specs.Bodies.{Order, Program}
 use Rattle.oss_model.specs.Bodies.Act.{Fault}
 use Rattle.oss_model.specs.Moves.{act_now}
@@ -49,3 +51,9 @@ abbrev pub NothingIsMissing : Type 0 → Type 0
 NothingIsMissing S = (P : Program S) (order : Order S) (first : List ℕ) (fuel : ℕ) (s : Running S) → Sequential P (main_start order (length first) fuel) first s → (own : IsAtEnd P s) → IsNotWrong (act_now P own.task.body)
     → length first ≤ 1048576 → SettlesInTwo P → NamesItsCells (length first) P → ReleasesPlainly P
     → (z : Running S) → IsAtEnd (freed (length first) P) z → (asked : Nest Asking) → Walks P (main_start order (length first) fuel) first z asked → ShowsNothing P order first fuel asked
+
+-- The answer of the free run is then that of the program's own run: its kind and its line, if it is a fault, the output and the memory.
+abbrev pub AnswersAreOne : Type 0 → Type 0
+AnswersAreOne S = (P : Program S) (order : Order S) (first : List ℕ) (fuel : ℕ) (z : Running S) (end : IsAtEnd (freed (length first) P) z)
+    → length first ≤ 1048576 → SettlesInTwo P → NamesItsCells (length first) P → NothingMissing P order first fuel z end
+    → (answer : Answer) → IsResult (freed (length first) P) (main_start order (length first) fuel) first answer → IsResult P (main_start order (length first) fuel) first answer
