@@ -22,3 +22,5 @@ pub mod ForwardLemmas
 pub mod LackTheorem
 pub mod ToldTheorem
 pub mod AnswerLemmas
+pub mod ExistLemmas
+pub mod ExactTheorem
