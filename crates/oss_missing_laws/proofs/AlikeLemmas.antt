@@ -1,10 +1,10 @@
 -- Tasks of a program's own run and of its free run, side by side.
-use Rattle.std.proofs.Common.{◌≡◌, refl, sym, subst, ap, ◌∙◌, ℕ, ◌⊎◌, inl, inr, Bool, true, false, List, [], ◌∷◌, Option, Some, None}
+use Rattle.std.proofs.Common.{◌≡◌, refl, sym, subst, ap, ◌∙◌, ℕ, Bool, true, false, List, ◌∷◌, Option, Some, None}
 use Rattle.std.specs.Prelude.{if◌then◌else◌, nat_le, nat_lt}
 use Rattle.oss_syntax.specs.declared.fault.FaultKind.{FaultKind}
 use Rattle.oss_syntax.specs.declared.fault.FaultKind.TheVariants as fault
-use Rattle.oss_model.specs.Context.{Context, create_fault, tick_fault}
-use Rattle.oss_model.specs.Bodies.{Ask, Asked, Frame, Program, answered_frame, ask_of, past_ask, past_silent, settled_frame}
+use Rattle.oss_model.specs.Context.{create_fault, tick_fault}
+use Rattle.oss_model.specs.Bodies.{Ask, Frame, Program, answered_frame, ask_of, past_ask, past_silent, settled_frame}
 use Rattle.oss_missing_laws.specs.Programs.{IsSilent, SettlesInTwo}
 
 -- Both run the same, with the same answers and the same counts. What they may do is another matter.

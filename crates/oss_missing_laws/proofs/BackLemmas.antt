@@ -1,17 +1,16 @@
 -- Where the judge finds no fault of clauses, nothing is lacking, released or lent.
-use Rattle.std.proofs.Common.{◌≡◌, refl, sym, subst, ap, ◌∙◌, ℕ, ◌+◌, ◌<◌, ◌≤◌, Bool, true, false, List, [], ◌∷◌, length, arith, Option, Some, None}
-use Rattle.std.specs.Prelude.{◌&&◌, ◌||◌, not, if◌then◌else◌, map, slice_index_or}
+use Rattle.std.proofs.Common.{◌≡◌, refl, sym, ap, ◌∙◌, ℕ, ◌<◌, Bool, true, false, List, [], ◌∷◌, Option, Some, None}
+use Rattle.std.specs.Prelude.{◌&&◌, ◌||◌, not, if◌then◌else◌, map}
 use Rattle.oss_syntax.specs.declared.access.Access.{Access}
 use Rattle.oss_syntax.specs.declared.access.Mode.{Mode}
 use Rattle.oss_syntax.specs.declared.access.Mode.TheVariants.{Read, Write, Fold as Folding}
-use Rattle.oss_syntax.specs.declared.fault.FaultKind.{FaultKind}
 use Rattle.oss_syntax.specs.declared.fault.FaultKind.TheVariants as fault
-use Rattle.oss_model.specs.Context.{Context, Entry, clause_fault, in_clauses, lacks_right, lent_of, mark_of, no_entry, release_fault, right_of, wait_on_fault}
-use Rattle.oss_model.specs.Rights.{Holds, Mark, NoRight, Released, Right, Touch, any_cell, covers, holds_uncovered, in_access, is_mixed, is_released, joined_right, right_covers, right_from, touch_fault}
+use Rattle.oss_model.specs.Context.{Context, Entry, clause_fault, in_clauses, lacks_right, lent_of, mark_of, release_fault, right_of, wait_on_fault}
+use Rattle.oss_model.specs.Rights.{Holds, Mark, NoRight, Released, Right, Touch, any_cell, holds_uncovered, in_access, is_mixed, is_released, joined_right, right_covers, right_from, touch_fault}
 use Rattle.oss_model.proofs.JudgeLemmas.{any_cell_none}
 use Rattle.oss_needs.specs.declared.clause.Clause.{Clause}
 use Rattle.oss_needs.specs.declared.demand.Demand.{Demand}
-use Rattle.oss_needs.specs.declared.demand.Demand.TheVariants.{Create, Release, Wait}
+use Rattle.oss_needs.specs.declared.demand.Demand.TheVariants.{Release, Wait}
 use Rattle.oss_needs.specs.Claims.{all_right, said}
 use Rattle.oss_needs.specs.Givens.{given_of}
 use Rattle.oss_needs.specs.Meeting.{is_met, is_right, mark_behind, mark_by, right_by}
@@ -25,7 +24,7 @@ use Rattle.oss_lent_cells.specs.Lent.{LentCells}
 use Rattle.oss_missing_waits.specs.Holding.{hinderer}
 use Rattle.oss_missing_laws.specs.Entries.{demand_by, is_free, right_now}
 use Rattle.oss_missing_laws.specs.Programs.{AllUnfolded, IsUnfolded}
-use Rattle.oss_missing_laws.proofs.EntryLemmas.{names, touches}
+use Rattle.oss_missing_laws.proofs.EntryLemmas.{touches}
 use Rattle.oss_missing_laws.proofs.KnownLemmas.{IsKnown}
 
 free_none : (o : Option Holder) → is_free o ≡ true → o ≡ None

@@ -1,40 +1,37 @@
 -- A creation by both runs, and the end of a task.
-use Rattle.std.proofs.Common.{◌≡◌, refl, sym, subst, ap, ◌∙◌, ℕ, suc, ◌+◌, ◌<◌, ◌≤◌, Bool, true, false, List, [], ◌∷◌, ◌++◌, length, arith, Option, Some, None}
-use Rattle.std.specs.Prelude.{◌&&◌, ◌||◌, not, if◌then◌else◌, set, is_some}
-use Rattle.std.proofs.lemmas.List.{get_or-set_same, length-set}
+use Rattle.std.proofs.Common.{◌≡◌, refl, sym, subst, ap, ◌∙◌, ℕ, suc, ◌+◌, ◌<◌, ◌≤◌, Bool, true, false, List, [], ◌∷◌, ◌++◌, length, Option, Some, None}
+use Rattle.std.specs.Prelude.{◌&&◌, ◌||◌, not, is_some}
 use Rattle.oss_syntax.specs.declared.access.Access.{Access}
 use Rattle.oss_syntax.specs.declared.fault.FaultKind.{FaultKind}
 use Rattle.oss_model.specs.Context.{Context, child_context, clause_fault, create_fault, creation_fault, in_clauses, lend, or_else, right_of}
-use Rattle.oss_model.specs.Rights.{Right, is_mixed}
-use Rattle.oss_model.specs.Bodies.{Act, Frame, IsHalt, Order, Program, Start, after_creation, child_frame, including_frame, judged_act, lent_when, made_by, one_more_created, settled_frame}
-use Rattle.oss_model.specs.Bodies.Act.{Created, Ended}
+use Rattle.oss_model.specs.Rights.{is_mixed}
+use Rattle.oss_model.specs.Bodies.{Act, Frame, Order, Program, after_creation, child_frame, including_frame, judged_act, lent_when, made_by, one_more_created, settled_frame}
+use Rattle.oss_model.specs.Bodies.Act.{Created}
 use Rattle.oss_model.specs.Moves.{act_now}
 use Rattle.oss_model.specs.Sequence.{Running, RunsOn, printed_after}
 use Rattle.oss_model.proofs.BodyLemmas.{judged_goes, settle_same}
 use Rattle.oss_needs.specs.declared.clause.Clause.{Clause}
 use Rattle.oss_needs.specs.Claims.{all_right, said}
-use Rattle.oss_needs.specs.Demands.{has_value}
 use Rattle.oss_needs.specs.Givens.{given_of}
 use Rattle.oss_needs.specs.Meeting.{mark_by, right_by}
-use Rattle.oss_task_needs.specs.Asking.{Asked, asks_for, creates, nothing_asked}
+use Rattle.oss_task_needs.specs.Asking.{asks_for, creates, nothing_asked}
 use Rattle.oss_lent_cells.specs.Lent.{lends, nothing_lent}
 use Rattle.oss_freed.specs.Freed.{all_cells, freed_order}
-use Rattle.oss_free_tasks.specs.OpenTasks.{Ends, Goes}
+use Rattle.oss_free_tasks.specs.OpenTasks.{Goes}
 use Rattle.oss_free_tasks.proofs.FreeTurns.{led, settled_freed}
 use Rattle.oss_lacks.specs.Asking.{Asking, created_by, mended_clauses, tell_creator}
-use Rattle.oss_lacks.specs.Nests.{Nest, Numbered, closed, opened, with_acting}
+use Rattle.oss_lacks.specs.Nests.{Nest, Numbered, opened, with_acting}
 use Rattle.oss_missing_waits.specs.Holding.{Holding, lent_when as held_when, new_task as new_holding}
 use Rattle.oss_missing_waits.specs.Waits.{IsCreation, mended_in, tell_nothing}
 use Rattle.oss_missing_laws.specs.Programs.{AreWithin, LacksNothing}
 use Rattle.oss_missing_laws.proofs.AlikeLemmas.{IsAlike, IsBeside, ahead, awaiting, create_alike, even, settled_alike}
 use Rattle.oss_missing_laws.proofs.ClearLemmas.{clear_use, lent_told}
-use Rattle.oss_missing_laws.proofs.FateLemmas.{HasFate, IsNumbered, ended_at, fate_behind, fate_of_new}
+use Rattle.oss_missing_laws.proofs.FateLemmas.{HasFate, fate_behind, fate_of_new}
 use Rattle.oss_missing_laws.proofs.GrowLemmas.{IsMoreAsked, IsMoreTold, asked_later, asked_still, asked_told, told_later, told_still}
-use Rattle.oss_missing_laws.proofs.KnownLemmas.{IsKnown, asked_known, child_known, child_rights, counted_known, lend_known, made_known}
-use Rattle.oss_missing_laws.proofs.LevelLemmas.{AreTogether, AskedFated, AskedFates, Clean, HeldFated, HeldFates, IsTogether, Twin, asked_nest, askeds, frees, given_at, given_at_same, given_by, given_same, head_of, held_nest, held_told, lacking_unmixed, mended_at, mended_said, nothing_pending, owns, rehead, right_now_asked, untold_now}
+use Rattle.oss_missing_laws.proofs.KnownLemmas.{IsKnown, child_known, child_rights, counted_known, lend_known, made_known}
+use Rattle.oss_missing_laws.proofs.LevelLemmas.{AskedFated, AskedFates, Clean, HeldFated, IsTogether, Twin, asked_nest, askeds, frees, given_at, given_at_same, given_by, given_same, head_of, held_nest, held_told, lacking_unmixed, mended_at, mended_said, nothing_pending, owns, rehead, right_now_asked, untold_now}
 use Rattle.oss_missing_laws.proofs.PassLemmas.{clauses_none, named_some}
-use Rattle.oss_missing_laws.proofs.RunLevels.{Level, Reach, done, free_run, gone, start}
-use Rattle.oss_missing_laws.proofs.SameLemmas.{one_step, prints}
+use Rattle.oss_missing_laws.proofs.RunLevels.{Level, Reach, free_run, gone, start}
 use Rattle.oss_missing_laws.proofs.StepLemmas.{alive, below}
 
 or_first : (a b : Option FaultKind) → or_else a b ≡ None → a ≡ None

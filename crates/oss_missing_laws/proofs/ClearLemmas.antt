@@ -1,11 +1,9 @@
 -- Where nothing is told of a task behind an ask, nothing was told before, and neither a release nor a child hindered it.
-use Rattle.std.proofs.Common.{◌≡◌, refl, sym, subst, ap, ◌∙◌, ℕ, Bool, true, false, List, [], ◌∷◌, ◌++◌, Option, Some, None}
-use Rattle.std.specs.Prelude.{◌&&◌, ◌||◌, not, if◌then◌else◌}
-use Rattle.oss_model.specs.Bodies.{Ask, Frame}
+use Rattle.std.proofs.Common.{◌≡◌, refl, sym, ap, ◌∙◌, ℕ, Bool, true, false, List, [], ◌∷◌, ◌++◌, Option, Some, None}
+use Rattle.std.specs.Prelude.{if◌then◌else◌}
 use Rattle.oss_model.specs.Rights.{Touch}
 use Rattle.oss_needs.specs.declared.clause.Clause.{Clause}
 use Rattle.oss_lent_cells.specs.declared.holder.Holder.{Holder}
-use Rattle.oss_lacks.specs.Nests.{Nest}
 use Rattle.oss_missing_waits.specs.Holding.{Holding, IsUse, Told, has_use, has_wait, hinderer, lent_when, told_wait, touched, waits_before, with_told}
 use Rattle.oss_missing_waits.specs.Holding.IsUse.{known, none, told}
 

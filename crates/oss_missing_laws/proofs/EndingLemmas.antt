@@ -1,5 +1,5 @@
 -- The end of a task in both runs.
-use Rattle.std.proofs.Common.{◌≡◌, refl, sym, subst, ap, ◌∙◌, ℕ, ◌+◌, ◌<◌, ◌≤◌, Bool, true, false, List, [], ◌∷◌, ◌++◌, length, arith, Option, Some, None}
+use Rattle.std.proofs.Common.{◌≡◌, refl, sym, subst, ap, ◌∙◌, ℕ, ◌<◌, ◌≤◌, Bool, true, false, List, [], ◌∷◌, length, arith, Option, Some, None}
 use Rattle.std.specs.Prelude.{if◌then◌else◌, set}
 use Rattle.std.proofs.lemmas.List.{get_or-set_same, length-set}
 use Rattle.oss_model.specs.Context.{Context}
@@ -12,7 +12,7 @@ use Rattle.oss_model.proofs.BodyLemmas.{settle_same}
 use Rattle.oss_needs.specs.declared.clause.Clause.{Clause}
 use Rattle.oss_needs.specs.Demands.{has_value}
 use Rattle.oss_task_needs.specs.Asking.{asks_for, creates}
-use Rattle.oss_free_tasks.specs.OpenTasks.{Ends, Goes}
+use Rattle.oss_free_tasks.specs.OpenTasks.{Ends}
 use Rattle.oss_free_tasks.proofs.FreeTurns.{led, settled_freed}
 use Rattle.oss_lacks.specs.Asking.{Asking, mended_clauses, tell_creator}
 use Rattle.oss_lacks.specs.Nests.{Nest, closed}
@@ -22,7 +22,7 @@ use Rattle.oss_missing_laws.specs.Programs.{LacksNothing}
 use Rattle.oss_missing_laws.proofs.AlikeLemmas.{IsAlike, IsBeside, ahead, awaiting, even, settled_alike}
 use Rattle.oss_missing_laws.proofs.FateLemmas.{IsNumbered}
 use Rattle.oss_missing_laws.proofs.KnownLemmas.{IsKnown, asked_known}
-use Rattle.oss_missing_laws.proofs.LevelLemmas.{AreTogether, AskedFated, Clean, IsTogether, Twin, asked_nest, frees, given_at, given_by, head_of, held_nest, mended_said, nothing_pending, owns, rehead}
+use Rattle.oss_missing_laws.proofs.LevelLemmas.{AskedFated, Clean, IsTogether, Twin, asked_nest, frees, given_at, given_by, head_of, held_nest, mended_said, nothing_pending, owns, rehead}
 use Rattle.oss_missing_laws.proofs.RunLevels.{IsOver, Level, Reach, done, free_run, gone, start}
 use Rattle.oss_missing_laws.proofs.SameLemmas.{one_step, prints}
 

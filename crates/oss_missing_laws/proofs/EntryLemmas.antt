@@ -4,31 +4,28 @@ use Rattle.std.specs.Prelude.{◌&&◌, ◌||◌, not, if◌then◌else◌}
 use Rattle.oss_syntax.specs.declared.access.Access.{Access}
 use Rattle.oss_syntax.specs.declared.access.Mode.{Mode}
 use Rattle.oss_syntax.specs.declared.access.Mode.TheVariants.{Read, Write, Fold as Folding}
-use Rattle.oss_syntax.specs.declared.access.Op.{Op}
 use Rattle.oss_syntax.specs.declared.fault.FaultKind.{FaultKind}
 use Rattle.oss_syntax.specs.declared.fault.FaultKind.TheVariants as fault
 use Rattle.oss_model.specs.Context.{lend_cell, lacks_right, made_mark, or_else}
-use Rattle.oss_model.specs.Rights.{Folds, Free, Holds, Mark, NoRight, Reads, Released, Right, Touch, Unwritten, Writes, Written, covers, first_mark, is_fresh, is_mixed, is_released, mark_from, op_eq, right_from, touch_fault}
+use Rattle.oss_model.specs.Rights.{Folds, Free, Holds, Mark, NoRight, Reads, Released, Right, Touch, Writes, Written, covers, first_mark, is_fresh, is_mixed, is_released, mark_from, op_eq, right_from, touch_fault}
 use Rattle.oss_needs.specs.declared.clause.Clause.{Clause}
-use Rattle.oss_needs.specs.declared.clause.Given.{Given}
 use Rattle.oss_needs.specs.declared.clause.Given.TheVariants as given
 use Rattle.oss_needs.specs.declared.demand.Demand.{Demand}
 use Rattle.oss_needs.specs.declared.demand.Demand.TheVariants.{Create, Fold, Load, Release, Store, Wait}
 use Rattle.oss_needs.specs.Claims.{all_right, is_nothing}
-use Rattle.oss_needs.specs.Demands.{gives_value, has_value, is_write, needs_old, takes_value}
+use Rattle.oss_needs.specs.Demands.{has_value, is_write, needs_old, takes_value}
 use Rattle.oss_needs.specs.Givens.{given_of, said_by}
-use Rattle.oss_needs.specs.Lacks.{is_broken, is_unmet, lack_of, least, or_weak_read}
+use Rattle.oss_needs.specs.Lacks.{is_unmet, lack_of}
 use Rattle.oss_needs.specs.Meeting.{is_met, is_right, mark_behind, mark_by, right_by}
-use Rattle.oss_needs.proofs.Bools.{and_false, first_true, never, or_false, or_true}
+use Rattle.oss_needs.proofs.Bools.{and_false, first_true, never, or_false}
 use Rattle.oss_needs.proofs.GivenLemmas.{lacks_faults}
-use Rattle.oss_needs.proofs.MeetingLemmas.{met_is}
 use Rattle.oss_task_needs.specs.Asking.{creates}
 use Rattle.oss_lent_cells.specs.declared.holder.Holder.{Holder}
 use Rattle.oss_lent_cells.specs.declared.holder.Lent.{Lent}
-use Rattle.oss_lent_cells.specs.Lent.{if_more, lend_by, lent_to, or_else as or_else_holder}
+use Rattle.oss_lent_cells.specs.Lent.{lent_to}
 use Rattle.oss_missing_waits.specs.Holding.{hinderer, hinders_under}
 use Rattle.oss_missing_laws.specs.Claims.{LacksGrow, LendingIsKept, MarksAreKept, MetIsUnbroken, NamesAreJudged, TouchesAreJudged}
-use Rattle.oss_missing_laws.specs.Entries.{demand_by, entry_by, fault_by, is_free, lending_of, lent_fault, lent_to_one, right_now}
+use Rattle.oss_missing_laws.specs.Entries.{demand_by, fault_by, is_free, lending_of, lent_fault, lent_to_one, right_now}
 
 -- The fault of a touch, where nothing is lent, and where a child has the cell.
 or_same : (t : Bool) (k : FaultKind) → (if t then None else Some k) ≡ or_else (if t then None else Some k) (if t then None else Some k)

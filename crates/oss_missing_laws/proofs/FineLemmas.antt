@@ -1,10 +1,9 @@
 -- Open tasks of which nothing is lacking so far, and what follows where they all end there.
-use Rattle.std.proofs.Common.{◌≡◌, refl, sym, subst, ap, ◌∙◌, ℕ, zero, suc, ◌+◌, ◌<◌, ◌≤◌, ◌⊎◌, inl, inr, Bool, true, false, List, [], ◌∷◌, ◌++◌, length, arith, Option, Some, None}
-use Rattle.std.specs.Prelude.{◌≢◌, get_or, set}
+use Rattle.std.proofs.Common.{◌≡◌, refl, sym, subst, ap, ◌∙◌, ℕ, zero, suc, ◌<◌, ◌⊎◌, inl, inr, true, false, List, [], ◌∷◌, ◌++◌, length, arith, Option, Some, None}
+use Rattle.std.specs.Prelude.{◌≢◌, set}
 use Rattle.std.proofs.lemmas.List.{get_or-set_other, get_or-set_same}
-use Rattle.oss_model.specs.Rights.{Mark, Right, is_mixed, mark_from, right_from}
+use Rattle.oss_model.specs.Rights.{Mark, Right, is_mixed, mark_from}
 use Rattle.oss_needs.specs.declared.clause.Clause.{Clause}
-use Rattle.oss_needs.specs.declared.demand.Demand.{Demand}
 use Rattle.oss_needs.specs.declared.lack.Lack.{Lack}
 use Rattle.oss_needs.specs.declared.lack.Lack.TheVariants as lack
 use Rattle.oss_needs.specs.Claims.{all_right, is_nothing}

@@ -1,24 +1,23 @@
 -- Where the program's own run stands before no fault of annotations, nothing is lacking behind its act, and nothing told.
-use Rattle.std.proofs.Common.{◌≡◌, refl, sym, subst, ap, ◌∙◌, ℕ, ◌+◌, ◌<◌, ◌≤◌, ◌⊎◌, inl, inr, Bool, true, false, List, [], ◌∷◌, ◌++◌, length, arith, Option, Some, None}
+use Rattle.std.proofs.Common.{◌≡◌, refl, sym, subst, ap, ◌∙◌, ℕ, ◌+◌, ◌<◌, ◌≤◌, ◌⊎◌, inl, inr, Bool, true, false, List, [], ◌∷◌, length, arith, Option, Some, None}
 use Rattle.std.specs.Prelude.{◌&&◌, ◌||◌, ◌==◌, not, if◌then◌else◌, map, nat_le, nat_lt, slice_index, is_some}
 use Rattle.std.proofs.lemmas.Bool.Decides.{nat_tests}
 use Rattle.oss_syntax.specs.declared.access.Access.{Access}
-use Rattle.oss_syntax.specs.declared.access.Range.{Range}
 use Rattle.oss_syntax.specs.declared.access.Mode.TheVariants.{Read, Write, Fold as Folding}
 use Rattle.oss_syntax.specs.declared.fault.FaultKind.{FaultKind}
 use Rattle.oss_syntax.specs.declared.fault.FaultKind.TheVariants as fault
 use Rattle.oss_ranges.specs.Cells.{is_within}
-use Rattle.oss_model.specs.Context.{Context, clause_fault, create_fault, creation_fault, in_clauses, lacks_right, lent_of, mark_of, or_else, release_fault, right_of, wait_on_fault}
+use Rattle.oss_model.specs.Context.{clause_fault, create_fault, creation_fault, in_clauses, lacks_right, lent_of, mark_of, or_else, release_fault, right_of, wait_on_fault}
 use Rattle.oss_model.specs.Rights.{Folds, Free, Holds, Lending, Mark, NoRight, Reading, Reads, Released, Right, Touch, Unwritten, Writes, Writing, Written, any_cell, holds_uncovered, in_access, is_fold, is_mixed, is_released, mark_fault, op_eq, right_from, touch_fault}
 use Rattle.oss_model.specs.Bodies.{Act, Ask, Frame, Order, Program, act_of_ask, judged_act, key_of, word_of}
-use Rattle.oss_model.specs.Bodies.Act.{Created, Ended, Fault, Folded, Load, Releases, Store, Ticked, Waited, WaitedOn}
+use Rattle.oss_model.specs.Bodies.Act.{Created, Folded, Load, Releases, Store, WaitedOn}
 use Rattle.oss_model.specs.Moves.{act_now}
 use Rattle.oss_model.specs.Sequence.{Running, RunsOn}
 use Rattle.oss_model.proofs.BodyLemmas.{judged_goes}
 use Rattle.oss_needs.specs.declared.clause.Clause.{Clause}
 use Rattle.oss_needs.specs.declared.demand.Demand.{Demand}
-use Rattle.oss_needs.specs.declared.demand.Demand.TheVariants.{Fold, Load as Loads, Release, Store as Stores, Wait}
-use Rattle.oss_needs.specs.Claims.{all_right, said}
+use Rattle.oss_needs.specs.declared.demand.Demand.TheVariants.{Release, Wait}
+use Rattle.oss_needs.specs.Claims.{all_right}
 use Rattle.oss_needs.specs.Givens.{given_of}
 use Rattle.oss_needs.specs.Lacks.{mended}
 use Rattle.oss_needs.specs.Meeting.{is_met, mark_behind, mark_by, right_by}
@@ -29,9 +28,9 @@ use Rattle.oss_lent_cells.specs.declared.holder.Holder.{Holder}
 use Rattle.oss_lent_cells.specs.Lent.{nothing_lent}
 use Rattle.oss_freed.specs.Freed.{IsOfAnnotations, all_cells, freed_ask, freed_order}
 use Rattle.oss_free_tasks.specs.declared.deed.Deed.TheVariants as deeds
-use Rattle.oss_free_tasks.specs.Deeds.{IsDeed, asked_deed, within}
-use Rattle.oss_lacks.specs.Asking.{Asking, asked_by, asking, behind_ask, created_by, main as main_asking, mended_clauses, range_of, tell_creator}
-use Rattle.oss_lacks.specs.Nests.{Nest, Numbered, all_closed, closed, opened, with_acting}
+use Rattle.oss_free_tasks.specs.Deeds.{IsDeed, asked_deed}
+use Rattle.oss_lacks.specs.Asking.{Asking, asking, behind_ask, created_by, main as main_asking, mended_clauses, range_of, tell_creator}
+use Rattle.oss_lacks.specs.Nests.{Nest, all_closed, closed, opened, with_acting}
 use Rattle.oss_missing_waits.specs.Holding.{Holding, IsUse, Told, has_use, hinderer, lent_when as held_when, main as main_holding, new_task as new_holding, releases, touched, waits_before, waits_on, with_lent}
 use Rattle.oss_missing_waits.specs.Holding.IsUse.{known, none, told}
 use Rattle.oss_missing_waits.specs.Waits.{IsBehindAsk, IsDirective, IsTouched, mended_in, tell_nothing}
@@ -40,10 +39,9 @@ use Rattle.oss_missing_laws.specs.Programs.{AllUnfolded, AreWithin, IsNaming, Is
 use Rattle.oss_missing_laws.proofs.AlikeLemmas.{IsAlike, create_alike}
 use Rattle.oss_missing_laws.proofs.BackLemmas.{IsCreating, clauses_back, release_back, touch_back, wait_back}
 use Rattle.oss_missing_laws.proofs.ClearLemmas.{lent_told}
-use Rattle.oss_missing_laws.proofs.FateLemmas.{HasFate, IsFated, IsNumbered, ended_at, fate_of_new, fated_at_stop, opened_numbered}
+use Rattle.oss_missing_laws.proofs.FateLemmas.{HasFate, IsNumbered, ended_at, fate_of_new, fated_at_stop, opened_numbered}
 use Rattle.oss_missing_laws.proofs.FineLemmas.{EndedClean, IsFine, IsQuiet, IsRight, IsUnmixed, fine_at_stop, fine_closed_to, fine_opened, given_eq, head_quiet, head_right, quiet_acting, quiet_closed, quiet_opened, reright}
 use Rattle.oss_missing_laws.proofs.GrowLemmas.{IsMoreAsked, asked_later, asked_still, asked_told}
-use Rattle.oss_missing_laws.proofs.KnownLemmas.{IsKnown}
 use Rattle.oss_missing_laws.proofs.LevelLemmas.{AskedFated, Clean, IsTogether, Twin, asked_nest, askeds, given_at, given_by, given_same, head_of, held_nest, helds, mended_at, mended_said, nothing_pending}
 use Rattle.oss_missing_laws.proofs.PassLemmas.{unnamed_said, unnamed_unmixed}
 use Rattle.oss_missing_laws.proofs.RunLevels.{Level, free_run}

@@ -1,5 +1,5 @@
 -- What a task has asked and what was told of it only grows on a walk.
-use Rattle.std.proofs.Common.{◌≡◌, refl, sym, subst, ap, ◌∙◌, ℕ, ◌+◌, Bool, true, false, List, [], ◌∷◌, ◌++◌, Option, Some, None}
+use Rattle.std.proofs.Common.{◌≡◌, refl, ap, ◌∙◌, ℕ, ◌+◌, Bool, true, false, List, [], ◌∷◌, Option, Some, None}
 use Rattle.std.specs.Prelude.{◌&&◌, ◌||◌, if◌then◌else◌}
 use Rattle.oss_syntax.specs.declared.access.Access.{Access}
 use Rattle.oss_syntax.specs.declared.access.Range.{Range}
@@ -15,10 +15,10 @@ use Rattle.oss_needs.specs.Claims.{all_right}
 use Rattle.oss_needs.specs.Demands.{gives_value, has_value}
 use Rattle.oss_needs.specs.Meeting.{is_met, mark_behind}
 use Rattle.oss_needs.proofs.Bools.{first_true, or_false}
-use Rattle.oss_task_needs.specs.Asking.{Asked, asks, asks_for, creates}
+use Rattle.oss_task_needs.specs.Asking.{Asked, asks, creates}
 use Rattle.oss_open_needs.specs.Opening.{releases, waits}
 use Rattle.oss_lacks.specs.Asking.{Asking, asked_by, asking, mended_clauses, range_of, tell_creator}
-use Rattle.oss_missing_waits.specs.Holding.{Holding, Told}
+use Rattle.oss_missing_waits.specs.Holding.{Holding}
 
 -- what is right behind more demands was right before them
 pub right_suffix : (r : Right) (m : Mark) {ds es : List Demand} → IsSuffix ds es → all_right r m es ≡ true → all_right r m ds ≡ true

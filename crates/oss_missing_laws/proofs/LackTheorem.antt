@@ -1,31 +1,28 @@
 -- Where the program's own run ends without a fault of annotations, the free run shows that nothing is lacking.
-use Rattle.std.proofs.Common.{◌≡◌, refl, sym, subst, ap, ◌∙◌, ℕ, ◌≤◌, Bool, true, false, List, [], ◌∷◌, length, Option, Some, None}
+use Rattle.std.proofs.Common.{◌≡◌, refl, sym, subst, ap, ◌∙◌, ℕ, ◌≤◌, Bool, true, false, List, [], length, Option, Some, None}
 use Rattle.std.specs.Prelude.{if◌then◌else◌}
-use Rattle.oss_syntax.specs.declared.fault.FaultKind.{FaultKind}
-use Rattle.oss_model.specs.Agreement.{main_start}
-use Rattle.oss_model.specs.Bodies.{Act, Ask, Asked, Frame, IsHalt, Order, Program, Start, act_of_ask, ask_of, frame_act}
-use Rattle.oss_model.specs.Bodies.Act.{Fault}
+use Rattle.oss_model.specs.Bodies.{Asked, Frame, IsHalt, Order, Program, act_of_ask, ask_of, frame_act}
 use Rattle.oss_model.specs.Machine.{Task}
 use Rattle.oss_model.specs.Moves.{act_now}
 use Rattle.oss_model.specs.Sequence.{IsAtEnd, Running, RunsOn, Sequential}
 use Rattle.oss_model.proofs.BodyLemmas.{settle_same}
-use Rattle.oss_freed.specs.Freed.{freed, freed_ask}
+use Rattle.oss_freed.specs.Freed.{freed_ask}
 use Rattle.oss_free_tasks.specs.Deeds.{IsDeed, free_deed}
 use Rattle.oss_free_tasks.specs.OpenTasks.{whole_task}
 use Rattle.oss_free_tasks.proofs.DeedLemmas.{free_deeds_are_acts}
-use Rattle.oss_lacks.specs.Asking.{Asking, behind_ask, main as main_asking, tell_creator}
+use Rattle.oss_lacks.specs.Asking.{Asking, behind_ask, tell_creator}
 use Rattle.oss_lacks.specs.Nests.{Nest, all_closed, alone}
 use Rattle.oss_lacks.specs.Walks.{IsActing, Walks, behind}
 use Rattle.oss_lacks.specs.Walks.Walks.{opens, runs_on}
 use Rattle.oss_missing_waits.specs.Holding.{Holding, main as main_holding}
-use Rattle.oss_missing_waits.specs.Waits.{IsBehind, IsBehindIf, mended_in, tell_nothing}
+use Rattle.oss_missing_waits.specs.Waits.{IsBehindIf, mended_in, tell_nothing}
 use Rattle.oss_missing_laws.specs.Programs.{IsNotWrong, NamesItsCells, NothingLacks, ReleasesPlainly, SettlesInTwo}
 use Rattle.oss_missing_laws.proofs.AlikeLemmas.{IsAlike, IsBeside, ahead, ask_alike, awaiting, even}
-use Rattle.oss_missing_laws.proofs.FateLemmas.{IsNumbered, alone_numbered, ended_at, fated_at_stop}
+use Rattle.oss_missing_laws.proofs.FateLemmas.{IsNumbered, ended_at, fated_at_stop}
 use Rattle.oss_missing_laws.proofs.FineLemmas.{IsFine, IsQuiet, fine_at_stop, quiet_at_stop}
 use Rattle.oss_missing_laws.proofs.ForwardLemmas as forward
 use Rattle.oss_missing_laws.proofs.GrowLemmas.{IsMoreAsked, IsMoreTold, asked_later, asked_still, asked_told, told_later, told_still}
-use Rattle.oss_missing_laws.proofs.LevelLemmas.{AskedFated, Clean, HeldFated, IsTogether, Twin, asked_nest, frees, given_at, head_of, held_nest, held_told, nothing_pending, owns}
+use Rattle.oss_missing_laws.proofs.LevelLemmas.{AskedFated, Clean, HeldFated, Twin, asked_nest, frees, head_of, held_nest, held_told, nothing_pending, owns}
 use Rattle.oss_missing_laws.proofs.MissingTheorem.{begun}
 use Rattle.oss_missing_laws.proofs.PairLemmas.{act_held_numbered, act_numbered}
 use Rattle.oss_missing_laws.proofs.RunLevels.{Level, Reach, done, free_run, stand, start}

@@ -1,12 +1,11 @@
 -- Both runs side by side: their open tasks, and what the walks know of each.
-use Rattle.std.proofs.Common.{◌≡◌, refl, sym, subst, ap, ◌∙◌, ℕ, zero, suc, ◌+◌, ◌-◌, ◌<◌, ◌≤◌, Bool, true, false, List, [], ◌∷◌, ◌++◌, length, arith, Option, Some, None}
-use Rattle.std.specs.Prelude.{◌&&◌, ◌||◌, ◌==◌, if◌then◌else◌, get_or, nat_le, nat_lt}
+use Rattle.std.proofs.Common.{◌≡◌, refl, sym, subst, ap, ◌∙◌, ℕ, zero, suc, ◌+◌, ◌-◌, ◌<◌, Bool, true, false, List, [], ◌∷◌, arith, Option, Some, None}
+use Rattle.std.specs.Prelude.{◌&&◌, ◌==◌, if◌then◌else◌, nat_le, nat_lt}
 use Rattle.std.proofs.lemmas.Bool.Decides.{nat_tests}
 use Rattle.oss_syntax.specs.declared.access.Access.{Access}
 use Rattle.oss_syntax.specs.declared.access.Mode.TheVariants.{Write}
 use Rattle.oss_ranges.specs.Cells.{is_within}
-use Rattle.oss_model.specs.Order.{IsSuffix}
-use Rattle.oss_model.specs.Rights.{Holds, Mark, Right, Written, is_mixed, mark_from, right_from}
+use Rattle.oss_model.specs.Rights.{Holds, Mark, Right, Written, is_mixed, right_from}
 use Rattle.oss_model.specs.Bodies.{Frame, Program}
 use Rattle.oss_needs.specs.declared.clause.Clause.{Clause}
 use Rattle.oss_needs.specs.declared.clause.Given.{Given}
@@ -20,17 +19,17 @@ use Rattle.oss_needs.specs.Demands.{has_value}
 use Rattle.oss_needs.specs.Givens.{given_of}
 use Rattle.oss_needs.specs.Lacks.{lack_of, mended, mended_by}
 use Rattle.oss_needs.specs.Meeting.{is_met, mark_behind, mark_by, right_by}
-use Rattle.oss_needs.proofs.Bools.{both_true, never}
+use Rattle.oss_needs.proofs.Bools.{both_true}
 use Rattle.oss_needs.proofs.GivenLemmas.{given_is, lacks_faults}
 use Rattle.oss_task_needs.specs.Asking.{Asked, asks, asks_for}
 use Rattle.oss_lacks.specs.Nests.{Nest, Numbered}
-use Rattle.oss_lacks.specs.Asking.{Asking, asking, mended_clauses, tell_creator}
+use Rattle.oss_lacks.specs.Asking.{Asking, mended_clauses, tell_creator}
 use Rattle.oss_missing_waits.specs.Holding.{Holding}
 use Rattle.oss_missing_waits.specs.Waits.{mended_in, tell_nothing}
 use Rattle.oss_missing_laws.specs.Programs.{LacksNothing}
 use Rattle.oss_missing_laws.proofs.AlikeLemmas.{IsBeside}
 use Rattle.oss_missing_laws.proofs.EntryLemmas.{unmixed}
-use Rattle.oss_missing_laws.proofs.FateLemmas.{HasFate, HaveFates, IsFated, ended_at}
+use Rattle.oss_missing_laws.proofs.FateLemmas.{HaveFates, IsFated, ended_at}
 use Rattle.oss_missing_laws.proofs.GrowLemmas.{IsMoreAsked, IsMoreTold, asked_later, asked_still, asked_told, right_suffix, told_later, told_still}
 use Rattle.oss_missing_laws.proofs.KnownLemmas.{IsKnown, whole_clause}
 

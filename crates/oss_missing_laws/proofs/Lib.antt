@@ -21,3 +21,6 @@ pub mod FineLemmas
 pub mod ForwardLemmas
 pub mod LackTheorem
 pub mod ToldTheorem
+pub mod AnswerLemmas
+pub mod ExistLemmas
+pub mod ExactTheorem

@@ -1,21 +1,19 @@
 -- Where nothing is missing, the program's own run ends as its free run does.
-use Rattle.std.proofs.Common.{◌≡◌, refl, sym, subst, ap, ◌∙◌, ℕ, ◌≤◌, Bool, true, false, List, [], ◌∷◌, length, Option, Some, None}
+use Rattle.std.proofs.Common.{◌≡◌, refl, sym, subst, ap, ◌∙◌, ℕ, ◌≤◌, false, List, [], ◌∷◌, length}
 use Rattle.oss_syntax.specs.declared.fault.FaultKind.{FaultKind}
-use Rattle.oss_model.specs.declared.answer.Answer.TheVariants as answers
 use Rattle.oss_model.specs.Agreement.{main_start}
 use Rattle.oss_model.specs.Answers.{fails}
 use Rattle.oss_model.specs.Context.{Context}
 use Rattle.oss_model.specs.Bodies.{Act, Frame, IsHalt, Order, Program, Start, settled_frame, start_frame}
-use Rattle.oss_model.specs.Bodies.Act.{Fault, Over}
+use Rattle.oss_model.specs.Bodies.Act.{Fault}
 use Rattle.oss_model.specs.Machine.{Task}
 use Rattle.oss_model.specs.Moves.{act_now, opening}
-use Rattle.oss_model.specs.Sequence.{IsAtEnd, Running, RunsOn, Sequential}
+use Rattle.oss_model.specs.Sequence.{Running, RunsOn, Sequential}
 use Rattle.oss_model.specs.Sequence.Sequential.{opens as run_opens, runs_on as run_on}
 use Rattle.oss_model.proofs.BodyLemmas.{settle_same}
-use Rattle.oss_needs.specs.declared.clause.Clause.{Clause}
 use Rattle.oss_task_needs.specs.Asking.{nothing_asked}
 use Rattle.oss_lent_cells.specs.Lent.{nothing_lent}
-use Rattle.oss_freed.specs.Freed.{IsOfAnnotations, freed}
+use Rattle.oss_freed.specs.Freed.{freed}
 use Rattle.oss_freed.proofs.FreedRuns.{freed_runs_need_no_clauses}
 use Rattle.oss_free_tasks.specs.OpenTasks.{Begins}
 use Rattle.oss_free_tasks.proofs.FreeTurns.{settled_freed}
@@ -26,15 +24,15 @@ use Rattle.oss_lacks.specs.Walks.{IsActing, Walks, at_stop, behind}
 use Rattle.oss_lacks.specs.Walks.Walks.{opens, runs_on}
 use Rattle.oss_missing_waits.specs.Holding.{Holding, main as main_holding}
 use Rattle.oss_missing_waits.specs.Waits.{IsBehind, at_stop as held_at_stop, mended_in, tell_nothing}
-use Rattle.oss_missing_laws.specs.Missing.{NothingIsWrong, NothingMissing, RunsEndAlike}
-use Rattle.oss_missing_laws.specs.Programs.{EndsAlike, NamesItsCells, SettlesInTwo, StopAlike}
+use Rattle.oss_missing_laws.specs.Missing.{NothingIsWrong, RunsEndAlike}
+use Rattle.oss_missing_laws.specs.Programs.{NamesItsCells, SettlesInTwo, StopAlike}
 use Rattle.oss_missing_laws.proofs.AlikeLemmas.{IsAlike, IsBeside, even, settled_alike}
 use Rattle.oss_missing_laws.proofs.FateLemmas.{IsNumbered, fated_at_stop}
 use Rattle.oss_missing_laws.proofs.GrowLemmas.{IsMoreAsked, IsMoreTold, asked_later, asked_still, asked_told, told_later, told_still}
 use Rattle.oss_missing_laws.proofs.KnownLemmas.{IsKnown, main_known, whole_clause}
 use Rattle.oss_missing_laws.proofs.LevelLemmas.{AskedFated, Clean, HeldFated, IsTogether, Twin, asked_nest, frees, held_nest, held_told, nothing_pending}
 use Rattle.oss_missing_laws.proofs.PairLemmas.{Pair, act_fated, act_held_fated, pair_held_numbered, pair_numbered, pair_on, pair_opens, paired}
-use Rattle.oss_missing_laws.proofs.RunLevels.{IsOver, Level, Reach, done, free_run, stand, start}
+use Rattle.oss_missing_laws.proofs.RunLevels.{Level, Reach, done, free_run, stand, start}
 use Rattle.oss_missing_laws.proofs.SameLemmas.{IsSame, acts_first, one_task, same_back, same_still}
 use Rattle.oss_missing_laws.proofs.StopLemmas.{ends_alike}
 use Rattle.oss_missing_laws.proofs.TurnLemmas.{turn}

@@ -1,10 +1,10 @@
 -- Two walks over one free run, side by side.
-use Rattle.std.proofs.Common.{◌≡◌, refl, sym, subst, ap, ◌∙◌, ℕ, Bool, true, false, List, [], ◌∷◌, length, Option, Some, None}
+use Rattle.std.proofs.Common.{◌≡◌, refl, sym, subst, ap, ◌∙◌, ℕ, Bool, true, false, List, [], ◌∷◌, length}
 use Rattle.std.specs.Prelude.{◌&&◌, ◌==◌, not, if◌then◌else◌, is_some}
-use Rattle.oss_model.specs.Bodies.{Ask, Frame, IsHalt, Program, Stack, Start, ask_of, stack_from, top_frame}
+use Rattle.oss_model.specs.Bodies.{Ask, Frame, IsHalt, Program, Start, ask_of, stack_from, top_frame}
 use Rattle.oss_model.specs.Context.{in_clauses}
 use Rattle.oss_model.specs.Rights.{Folds, Reads, Touch, Writes}
-use Rattle.oss_model.specs.Machine.{At, Task, find}
+use Rattle.oss_model.specs.Machine.{Task, find}
 use Rattle.oss_model.specs.Moves.{act_now, opening}
 use Rattle.oss_model.specs.Sequence.{IsAtEnd, Running, RunsOn}
 use Rattle.oss_freed.specs.Freed.{freed}
@@ -12,7 +12,7 @@ use Rattle.oss_lacks.specs.Asking.{Asking, asked_by, asking, behind_ask, created
 use Rattle.oss_lacks.specs.Nests.{Nest, alone, closed, opened, with_acting}
 use Rattle.oss_lacks.specs.Walks.{IsActing, Walks, behind}
 use Rattle.oss_lacks.specs.Walks.Walks.{opens, runs_on}
-use Rattle.oss_missing_waits.specs.Holding.{Holding, IsUse, hinderer, lent_when, main as main_holding, new_task, releases, touched, waits_on, with_lent}
+use Rattle.oss_missing_waits.specs.Holding.{Holding, hinderer, lent_when, main as main_holding, new_task, releases, touched, waits_on, with_lent}
 use Rattle.oss_missing_waits.specs.Waits.{IsBehind, IsBehindAsk, IsBehindIf, IsTouched, Mended, Waits, tell_nothing}
 use Rattle.oss_missing_waits.specs.Waits.Waits.{opens as waits_open, runs_on as waits_on_run}
 use Rattle.oss_lent_cells.specs.Lent.{nothing_lent}
@@ -20,7 +20,7 @@ use Rattle.oss_missing_laws.proofs.ClearLemmas.{lent_told, use_told, wait_told}
 use Rattle.oss_missing_laws.proofs.FateLemmas.{IsNumbered, acting_numbered, alone_numbered, closed_numbered, fated_acting, fated_closed, fated_opened, opened_numbered}
 use Rattle.oss_missing_laws.proofs.GrowLemmas.{IsMoreAsked, IsMoreTold, asked_later, asked_still, asked_told, behind_more, told_later, told_still}
 use Rattle.oss_missing_laws.proofs.LevelLemmas.{AskedFated, Clean, HeldFated, held_told}
-use Rattle.oss_missing_laws.proofs.SameLemmas.{IsSame, on_from, on_one, one_task, same_back, same_still}
+use Rattle.oss_missing_laws.proofs.SameLemmas.{IsSame, on_from, on_one, one_task, same_still}
 
 module _ {S : Type 0} (w : Mended) (P : Program S) (main : Start S) (first : List ℕ) where
   -- Both walks come to this stage.

@@ -1,20 +1,18 @@
 -- Where nothing is lacking, released or lent, the judge finds no fault of clauses.
-use Rattle.std.proofs.Common.{◌≡◌, refl, sym, subst, ap, ◌∙◌, ℕ, zero, suc, ◌+◌, ◌-◌, ◌<◌, ◌≤◌, Bool, true, false, List, [], ◌∷◌, length, arith, Option, Some, None}
-use Rattle.std.specs.Prelude.{◌&&◌, ◌||◌, not, if◌then◌else◌, map, nat_le, nat_lt, slice_index_or, is_some}
+use Rattle.std.proofs.Common.{◌≡◌, refl, sym, ap, ◌∙◌, ℕ, zero, suc, ◌+◌, ◌-◌, ◌<◌, ◌≤◌, Bool, true, false, List, [], ◌∷◌, arith, Option, Some, None}
+use Rattle.std.specs.Prelude.{◌&&◌, ◌||◌, not, if◌then◌else◌, map, nat_le, nat_lt, is_some}
 use Rattle.std.proofs.lemmas.Bool.Decides.{nat_tests}
 use Rattle.oss_syntax.specs.declared.access.Access.{Access}
 use Rattle.oss_syntax.specs.declared.access.Mode.{Mode}
 use Rattle.oss_syntax.specs.declared.access.Mode.TheVariants.{Read, Write, Fold as Folding}
-use Rattle.oss_syntax.specs.declared.fault.FaultKind.{FaultKind}
 use Rattle.oss_syntax.specs.declared.fault.FaultKind.TheVariants as fault
-use Rattle.oss_ranges.specs.Cells.{is_within}
-use Rattle.oss_model.specs.Context.{Context, Entry, clause_fault, in_clauses, lacks_right, lent_of, mark_of, no_entry, release_fault, right_of, wait_on_fault}
-use Rattle.oss_model.specs.Rights.{Holds, Mark, NoRight, Released, Right, Touch, Written, any_cell, any_from, covers, holds_uncovered, in_access, is_mixed, is_no_join, is_released, joined_mode, joined_right, op_eq, right_covers, right_from, right_held, touch_fault}
+use Rattle.oss_model.specs.Context.{Context, Entry, clause_fault, in_clauses, lacks_right, lent_of, mark_of, release_fault, right_of, wait_on_fault}
+use Rattle.oss_model.specs.Rights.{Holds, Mark, NoRight, Released, Right, Touch, any_cell, any_from, holds_uncovered, in_access, is_mixed, is_released, joined_mode, joined_right, op_eq, right_covers, right_from, right_held, touch_fault}
 use Rattle.oss_needs.specs.declared.clause.Clause.{Clause}
 use Rattle.oss_needs.specs.declared.clause.Given.{Given}
 use Rattle.oss_needs.specs.declared.clause.Given.TheVariants as given
 use Rattle.oss_needs.specs.declared.demand.Demand.{Demand}
-use Rattle.oss_needs.specs.declared.demand.Demand.TheVariants.{Create, Release, Wait}
+use Rattle.oss_needs.specs.declared.demand.Demand.TheVariants.{Release, Wait}
 use Rattle.oss_needs.specs.Claims.{all_right, is_joined, said}
 use Rattle.oss_needs.specs.Givens.{clause_by, given_of, says_both, with_clause}
 use Rattle.oss_needs.specs.Meeting.{is_met, is_right, mark_behind, mark_by, right_by}

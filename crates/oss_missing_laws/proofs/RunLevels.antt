@@ -1,8 +1,8 @@
 -- A stage at which both runs stand side by side, and what one act of both makes of it.
-use Rattle.std.proofs.Common.{◌≡◌, refl, sym, subst, ap, ◌∙◌, ℕ, Bool, true, false, List, [], ◌∷◌, length, Option, Some, None}
+use Rattle.std.proofs.Common.{◌≡◌, refl, sym, subst, ap, ◌∙◌, ℕ, List, ◌∷◌, length, Option}
 use Rattle.oss_model.specs.Context.{Context}
 use Rattle.oss_model.specs.Bodies.{Act, Ask, Frame, Order, Program, Start, answered_frame, frame_after, settled_frame, with_context}
-use Rattle.oss_model.specs.Bodies.Act.{Awaited, Over}
+use Rattle.oss_model.specs.Bodies.Act.{Over}
 use Rattle.oss_model.specs.Moves.{act_now}
 use Rattle.oss_model.specs.Sequence.{IsAtEnd, Running, RunsOn, Sequential, printed_after}
 use Rattle.oss_model.specs.Agreement.{main_start}

@@ -1,9 +1,9 @@
 -- Stages of a run that are the same but for the order in which they list their tasks, and what stands at them.
-use Rattle.std.proofs.Common.{◌≡◌, refl, sym, subst, ap, ◌∙◌, ℕ, ◌⊎◌, inl, inr, Bool, true, false, List, [], ◌∷◌, ◌++◌, Option, Some, None}
+use Rattle.std.proofs.Common.{◌≡◌, refl, sym, subst, ap, ◌∙◌, ℕ, ◌⊎◌, inl, inr, Bool, true, false, List, [], ◌∷◌, ◌++◌}
 use Rattle.std.specs.Prelude.{◌≢◌}
 use Rattle.oss_model.specs.Rights.{Right}
 use Rattle.oss_model.specs.Context.{right_of}
-use Rattle.oss_model.specs.Bodies.{Act, Body, Frame, IsHalt, Order, Program, Stack, Start, frame_act, stack_from, top_frame}
+use Rattle.oss_model.specs.Bodies.{Body, Frame, IsHalt, Order, Program, Stack, Start, frame_act, stack_from, top_frame}
 use Rattle.oss_model.specs.Bodies.Act.{Created}
 use Rattle.oss_model.specs.Machine.{At, State, Task, find}
 use Rattle.oss_model.specs.Moves.{TaskStep, act_now, created_now, found_by}

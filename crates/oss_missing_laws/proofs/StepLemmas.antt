@@ -6,10 +6,10 @@ use Rattle.oss_syntax.specs.declared.access.Access.{Access}
 use Rattle.oss_syntax.specs.declared.access.Op.{Op}
 use Rattle.oss_syntax.specs.declared.fault.FaultKind.{FaultKind}
 use Rattle.oss_syntax.specs.declared.fault.FaultKind.TheVariants as fault
-use Rattle.oss_model.specs.Context.{Context, create_fault, in_clauses, lent_of, mark_of, release, release_fault, right_of, tick_fault, wait_on_fault, waited, waited_on, wrote}
-use Rattle.oss_model.specs.Rights.{Folds, Reads, Right, Touch, Writes, is_fold, touch_fault}
-use Rattle.oss_model.specs.Bodies.{Act, Ask, Frame, IsHalt, Order, Program, act_of_ask, frame_after, judged_act, key_of, word_of}
-use Rattle.oss_model.specs.Bodies.Act.{Fault, Folded, Load, Printed, Releases, Store, Ticked, Waited, WaitedOn}
+use Rattle.oss_model.specs.Context.{Context, in_clauses, lent_of, mark_of, release, release_fault, right_of, tick_fault, wait_on_fault, waited, waited_on, wrote}
+use Rattle.oss_model.specs.Rights.{Folds, Reads, Touch, Writes, touch_fault}
+use Rattle.oss_model.specs.Bodies.{Act, Ask, Frame, IsHalt, Order, Program, judged_act, word_of}
+use Rattle.oss_model.specs.Bodies.Act.{Folded, Load, Printed, Releases, Store, Ticked, Waited, WaitedOn}
 use Rattle.oss_model.specs.Moves.{act_now}
 use Rattle.oss_model.specs.Sequence.{Running, RunsOn, direct_cells}
 use Rattle.oss_model.proofs.BodyLemmas.{judged_goes}
@@ -23,13 +23,12 @@ use Rattle.oss_open_needs.specs.Opening.{releases as asks_released, waits}
 use Rattle.oss_lent_cells.specs.Lent.{nothing_lent, waited_for}
 use Rattle.oss_free_tasks.specs.declared.deed.Deed.{Deed}
 use Rattle.oss_free_tasks.specs.declared.deed.Deed.TheVariants as deeds
-use Rattle.oss_free_tasks.specs.Deeds.{IsDeed, asked_deed, within}
+use Rattle.oss_free_tasks.specs.Deeds.{IsDeed, within}
 use Rattle.oss_free_tasks.proofs.FreeTurns.{led}
-use Rattle.oss_freed.specs.Freed.{freed_ask}
-use Rattle.oss_lacks.specs.Asking.{Asking, asked_by, asking, behind_ask, range_of}
+use Rattle.oss_lacks.specs.Asking.{Asking, asking, behind_ask, range_of}
 use Rattle.oss_lacks.specs.Nests.{Nest, Numbered, with_acting}
 use Rattle.oss_missing_waits.specs.Holding.{Holding, hinderer, releases, touched, waits_on, with_lent}
-use Rattle.oss_missing_waits.specs.Waits.{IsBehindAsk, IsDirective, IsTouched, mended_in}
+use Rattle.oss_missing_waits.specs.Waits.{IsDirective, IsTouched}
 use Rattle.oss_missing_laws.specs.Entries.{demand_by}
 use Rattle.oss_missing_laws.specs.Programs.{AreWithin}
 use Rattle.oss_missing_laws.proofs.AlikeLemmas.{IsAlike, tick_alike}

@@ -1,20 +1,19 @@
 -- Where the free run stands before a fault, and nothing is missing, the program's own run stands before the same.
-use Rattle.std.proofs.Common.{◌≡◌, refl, sym, subst, ap, ◌∙◌, ℕ, ◌+◌, ◌<◌, ◌≤◌, Bool, true, false, List, [], ◌∷◌, length, arith, Option, Some, None}
+use Rattle.std.proofs.Common.{◌≡◌, refl, sym, subst, ap, ◌∙◌, ℕ, ◌≤◌, Bool, true, false, List, length, arith, Option, Some, None}
 use Rattle.std.specs.Prelude.{◌||◌, if◌then◌else◌, nat_le, nat_lt, slice_index, slice_index_or}
 use Rattle.std.proofs.lemmas.Bool.Decides.{nat_tests}
 use Rattle.std.proofs.lemmas.List.{get_or_past}
 use Rattle.oss_syntax.specs.declared.fault.FaultKind.{FaultKind}
 use Rattle.oss_syntax.specs.declared.fault.FaultKind.TheVariants as fault
-use Rattle.oss_model.specs.Context.{Context, Entry, clause_fault, create_fault, lent_of, mark_of, no_entry, or_else, right_of, tick_fault}
+use Rattle.oss_model.specs.Context.{Entry, clause_fault, create_fault, lent_of, mark_of, no_entry, or_else, right_of, tick_fault}
 use Rattle.oss_model.specs.Rights.{Folds, Reads, Right, Touch, Writes, is_fold, touch_fault}
 use Rattle.oss_model.specs.Bodies.{Act, Ask, Asked, Frame, IsHalt, Order, Program, act_of_ask, ask_of, frame_act, judged_act, key_of, word_of}
-use Rattle.oss_model.specs.Bodies.Act.{Awaited, Created, Fault, Folded, Load, Over, Store, Ticked}
+use Rattle.oss_model.specs.Bodies.Act.{Created, Fault, Folded, Load, Over, Store, Ticked}
 use Rattle.oss_model.specs.Moves.{act_now}
 use Rattle.oss_model.specs.Sequence.{IsAtEnd, Running}
 use Rattle.oss_model.specs.Machine.{Task}
 use Rattle.oss_model.proofs.BodyLemmas.{settle_same}
 use Rattle.oss_freed.specs.Freed.{all_cells, freed_ask, freed_order}
-use Rattle.oss_free_tasks.specs.declared.deed.Deed.{Deed}
 use Rattle.oss_free_tasks.specs.declared.deed.Deed.TheVariants as deeds
 use Rattle.oss_free_tasks.specs.Deeds.{IsDeed, asked_deed, free_deed, within}
 use Rattle.oss_free_tasks.specs.OpenTasks.{whole_task}
@@ -25,7 +24,7 @@ use Rattle.oss_missing_waits.specs.Holding.{Holding}
 use Rattle.oss_missing_laws.specs.Programs.{EndsAlike, StopAlike}
 use Rattle.oss_missing_laws.proofs.AlikeLemmas.{IsAlike, IsBeside, ahead, ask_alike, awaiting, create_alike, even, tick_alike}
 use Rattle.oss_missing_laws.proofs.LevelLemmas.{IsTogether, Twin, frees, given_at, head_of, nothing_pending, owns}
-use Rattle.oss_missing_laws.proofs.RunLevels.{IsOver, Level, Reach, done, free_run, stand, start}
+use Rattle.oss_missing_laws.proofs.RunLevels.{Level, Reach, done, free_run, stand, start}
 use Rattle.oss_missing_laws.proofs.SameLemmas.{act_at_end, acting, one_task}
 
 stop_halts : {S : Type 0} (a b : Act S) → StopAlike a b → IsHalt a

@@ -1,7 +1,7 @@
 -- Where the program's own run ends without a fault of annotations, the second walk tells nothing either.
-use Rattle.std.proofs.Common.{◌≡◌, refl, sym, subst, ap, ◌∙◌, ℕ, ◌≤◌, Bool, true, false, List, [], ◌∷◌, length, Option, Some, None}
+use Rattle.std.proofs.Common.{◌≡◌, refl, sym, subst, ap, ◌∙◌, ℕ, ◌≤◌, Bool, true, false, List, [], length, Option, Some}
 use Rattle.std.specs.Prelude.{if◌then◌else◌}
-use Rattle.oss_model.specs.Bodies.{Act, Ask, Asked, Frame, IsHalt, Order, Program, act_of_ask, ask_of, frame_act}
+use Rattle.oss_model.specs.Bodies.{Asked, Frame, IsHalt, Order, Program, act_of_ask, ask_of, frame_act}
 use Rattle.oss_model.specs.Machine.{Task}
 use Rattle.oss_model.specs.Moves.{act_now}
 use Rattle.oss_model.specs.Sequence.{IsAtEnd, Running, RunsOn, Sequential}
@@ -10,7 +10,7 @@ use Rattle.oss_freed.specs.Freed.{freed_ask}
 use Rattle.oss_free_tasks.specs.Deeds.{IsDeed, free_deed}
 use Rattle.oss_free_tasks.proofs.DeedLemmas.{free_deeds_are_acts}
 use Rattle.oss_lacks.specs.Asking.{Asking, behind_ask, tell_creator}
-use Rattle.oss_lacks.specs.Nests.{Nest, all_closed, alone}
+use Rattle.oss_lacks.specs.Nests.{Nest, all_closed}
 use Rattle.oss_lacks.specs.Walks.{IsActing, Walks, at_stop, behind}
 use Rattle.oss_lacks.specs.Walks.Walks.{opens, runs_on}
 use Rattle.oss_missing_waits.specs.Holding.{Holding, main as main_holding}

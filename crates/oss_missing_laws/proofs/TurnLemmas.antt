@@ -1,37 +1,32 @@
 -- Each act of the free run leads both runs on, where nothing is lacking and nothing told; and where the free run ends the program's own run ends alike.
-use Rattle.std.proofs.Common.{◌≡◌, refl, sym, subst, ap, ◌∙◌, ℕ, ◌+◌, ◌<◌, ◌≤◌, Bool, true, false, List, [], ◌∷◌, ◌++◌, length, arith, Option, Some, None}
-use Rattle.std.specs.Prelude.{◌&&◌, ◌||◌, not, if◌then◌else◌, nat_le, nat_lt, slice_index, slice_index_or}
-use Rattle.std.proofs.lemmas.Bool.Decides.{nat_tests}
-use Rattle.std.proofs.lemmas.List.{get_or_past}
-use Rattle.oss_syntax.specs.declared.fault.FaultKind.{FaultKind}
+use Rattle.std.proofs.Common.{◌≡◌, refl, sym, subst, ap, ◌∙◌, ℕ, ◌≤◌, Bool, true, false, List, ◌∷◌, length, Option}
+use Rattle.std.specs.Prelude.{if◌then◌else◌}
 use Rattle.oss_syntax.specs.declared.fault.FaultKind.TheVariants as fault
-use Rattle.oss_model.specs.Context.{Context, Entry, clause_fault, create_fault, creation_fault, lent_of, mark_of, no_entry, or_else, right_of, tick_fault}
-use Rattle.oss_model.specs.Rights.{Folds, Reads, Right, Touch, Writes, is_fold, touch_fault}
-use Rattle.oss_model.specs.Bodies.{Act, Ask, Asked, Body, Frame, IsHalt, Order, Program, Start, act_of_ask, ask_of, frame_act, frame_after, judged_act, key_of, settled_frame, word_of}
-use Rattle.oss_model.specs.Bodies.Act.{Awaited, Created, Ended, Fault, Folded, Load, Over, Printed, Releases, Store, Ticked, Waited, WaitedOn}
+use Rattle.oss_model.specs.Context.{create_fault}
+use Rattle.oss_model.specs.Rights.{Right, is_fold}
+use Rattle.oss_model.specs.Bodies.{Act, Ask, Asked, Frame, IsHalt, Order, Program, act_of_ask, ask_of, frame_act, key_of, settled_frame}
+use Rattle.oss_model.specs.Bodies.Act.{Awaited, Fault}
 use Rattle.oss_model.specs.Moves.{act_now}
-use Rattle.oss_model.specs.Sequence.{IsAtEnd, Running, RunsOn, printed_after}
-use Rattle.oss_model.proofs.BodyLemmas.{judged_goes, settle_same}
-use Rattle.oss_freed.specs.Freed.{all_cells, freed_ask, freed_order}
-use Rattle.oss_free_tasks.specs.declared.deed.Deed.{Deed}
-use Rattle.oss_free_tasks.specs.declared.deed.Deed.TheVariants as deeds
-use Rattle.oss_free_tasks.specs.Deeds.{IsDeed, asked_deed, free_deed, within}
-use Rattle.oss_free_tasks.specs.OpenTasks.{Goes, whole_task}
+use Rattle.oss_model.specs.Sequence.{Running, RunsOn, printed_after}
+use Rattle.oss_model.proofs.BodyLemmas.{settle_same}
+use Rattle.oss_freed.specs.Freed.{freed_ask}
+use Rattle.oss_free_tasks.specs.Deeds.{IsDeed, asked_deed, free_deed}
+use Rattle.oss_free_tasks.specs.OpenTasks.{Goes}
 use Rattle.oss_free_tasks.proofs.DeedLemmas.{free_deeds_are_acts}
 use Rattle.oss_free_tasks.proofs.FreeTurns.{led, settled_freed}
-use Rattle.oss_lacks.specs.Asking.{Asking, behind_ask, created_by, tell_creator}
-use Rattle.oss_lacks.specs.Nests.{Nest, closed}
+use Rattle.oss_lacks.specs.Asking.{Asking, behind_ask}
+use Rattle.oss_lacks.specs.Nests.{Nest}
 use Rattle.oss_lacks.specs.Walks.{behind}
 use Rattle.oss_missing_waits.specs.Holding.{Holding}
-use Rattle.oss_missing_waits.specs.Waits.{IsBehind, IsBehindAsk, IsBehindIf, mended_in, tell_nothing}
-use Rattle.oss_missing_laws.specs.Programs.{EndsAlike, IsNaming, NamesItsCells, SettlesInTwo, StopAlike}
-use Rattle.oss_missing_laws.proofs.AlikeLemmas.{IsAlike, IsBeside, ahead, ask_alike, awaiting, create_alike, even, settled_alike, settled_late, tick_alike}
+use Rattle.oss_missing_waits.specs.Waits.{IsBehind, IsBehindAsk, IsBehindIf, mended_in}
+use Rattle.oss_missing_laws.specs.Programs.{IsNaming, NamesItsCells, SettlesInTwo}
+use Rattle.oss_missing_laws.proofs.AlikeLemmas.{IsAlike, IsBeside, ahead, ask_alike, awaiting, even, settled_late}
 use Rattle.oss_missing_laws.proofs.BirthLemmas.{by_create}
 use Rattle.oss_missing_laws.proofs.EndingLemmas.{by_end}
 use Rattle.oss_missing_laws.proofs.FateLemmas.{IsNumbered}
-use Rattle.oss_missing_laws.proofs.LevelLemmas.{AreTogether, AskedFated, Clean, HeldFated, IsTogether, Twin, asked_nest, frees, given_at, head_of, held_nest, nothing_pending, owns, rehead}
-use Rattle.oss_missing_laws.proofs.RunLevels.{IsOver, Level, Reach, done, free_run, more_alike, plain, stand, start}
-use Rattle.oss_missing_laws.proofs.SameLemmas.{act_at_end, acting, one_step, prints}
+use Rattle.oss_missing_laws.proofs.LevelLemmas.{AskedFated, Clean, HeldFated, IsTogether, Twin, asked_nest, frees, given_at, head_of, held_nest, nothing_pending, owns, rehead}
+use Rattle.oss_missing_laws.proofs.RunLevels.{Level, Reach, free_run, plain, stand, start}
+use Rattle.oss_missing_laws.proofs.SameLemmas.{acting, one_step, prints}
 use Rattle.oss_missing_laws.proofs.StepLemmas.{alive, by_fold, by_print, by_read, by_release, by_tick, by_wait, by_wait_on, by_write, judged_halts}
 
 module _ {S : Type 0} (P : Program S) (order : Order S) (first : List ℕ) (fuel : ℕ) (few : length first ≤ 1048576) (two : SettlesInTwo P) (named : NamesItsCells (length first) P) (e : Clean) where

@@ -1,5 +1,5 @@
 -- A run has one end.
-use Rattle.std.proofs.Common.{◌≡◌, refl, sym, subst, ap, ◌∙◌, ℕ, List, [], ◌∷◌}
+use Rattle.std.proofs.Common.{◌≡◌, sym, subst, ap, ◌∙◌, ℕ, List, []}
 use Rattle.oss_model.specs.Bodies.{IsHalt, Program, Start}
 use Rattle.oss_model.specs.Machine.{Task}
 use Rattle.oss_model.specs.Moves.{act_now, opening}

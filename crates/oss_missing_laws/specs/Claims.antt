@@ -2,8 +2,8 @@
 -- Read against: a task with `out(x)` that loads x first. The clause covers the load, no child hinders it, and the cell is unwritten: the demand breaks the clause, and the judge finds Unwritten.
 use Rattle.std.specs.Prelude.{◌≡◌, ◌&&◌, ◌||◌, ℕ, Bool, true, false, not, List, ◌∷◌, ◌++◌, Option, Some}
 use Rattle.oss_syntax.specs.declared.access.Access.{Access}
-use Rattle.oss_model.specs.Context.{Entry, lend_cell, lacks_right, made_mark}
-use Rattle.oss_model.specs.Rights.{Free, Mark, Right, Touch, Written, holds_uncovered, is_released, touch_fault}
+use Rattle.oss_model.specs.Context.{lend_cell, lacks_right, made_mark}
+use Rattle.oss_model.specs.Rights.{Mark, Touch, Written, holds_uncovered, is_released, touch_fault}
 use Rattle.oss_needs.specs.declared.clause.Clause.{Clause}
 use Rattle.oss_needs.specs.declared.demand.Demand.{Demand}
 use Rattle.oss_needs.specs.declared.demand.Demand.TheVariants.{Create, Wait}
@@ -13,7 +13,6 @@ use Rattle.oss_needs.specs.Givens.{given_of}
 use Rattle.oss_needs.specs.Lacks.{is_broken, is_unmet, lack_of}
 use Rattle.oss_needs.specs.Meeting.{is_met, is_right, mark_behind, mark_by, right_by}
 use Rattle.oss_task_needs.specs.Asking.{creates}
-use Rattle.oss_lent_cells.specs.declared.holder.Holder.{Holder}
 use Rattle.oss_lent_cells.specs.declared.holder.Lent.{Lent}
 use Rattle.oss_lent_cells.specs.Lent.{lend_by}
 use Rattle.oss_missing_waits.specs.Holding.{hinderer}

@@ -1,7 +1,7 @@
 -- What the judge holds for a cell of a task, told by what the walks over the free run know of it.
 -- Read against: a task with `out(x)` that has stored into x and then created a child with `in(x)`. It has asked the creation and the store, so its mark is Written; and x is lent for
 -- reading, since the child is the first that has it, and none may write it. A load is right there. A store is Lent, since that child hinders it. Once x is released, each touch is Released.
-use Rattle.std.specs.Prelude.{ℕ, Bool, true, false, if◌then◌else◌, List, Option, Some, None}
+use Rattle.std.specs.Prelude.{Bool, true, false, if◌then◌else◌, List, Option, Some, None}
 use Rattle.oss_syntax.specs.declared.fault.FaultKind.{FaultKind}
 use Rattle.oss_syntax.specs.declared.fault.FaultKind.TheVariants as fault
 use Rattle.oss_model.specs.Context.{Entry, or_else}

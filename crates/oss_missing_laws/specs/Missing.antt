@@ -1,10 +1,12 @@
 -- Where the free run of a program shows that nothing is missing, nothing is wrong with its clauses.
 -- Read against: a main that creates a task with `out(x)`, which stores into x, waits for it and loads x. The free run comes to its end, nothing is lacking of the task, and nothing is told of either; the program's own run ends too, with the same memory and output. Without the wait a line is told of
 -- main, and nothing is claimed: the program's own run stands before Lent.
-use Rattle.std.specs.Prelude.{◌≡◌, ℕ, ◌≤◌, List, length}
+use Rattle.std.specs.Prelude.{◌≡◌, ◌↔◌, ℕ, ◌≤◌, List, length}
 use Rattle.oss_syntax.specs.declared.fault.FaultKind.{FaultKind}
+use Rattle.oss_model.specs.declared.answer.Answer.{Answer}
 use Rattle.oss_model.specs.Agreement.{main_start}
-use Rattle.oss_model.specs.Bodies.{Order, Program}
+use Rattle.oss_model.specs.Answers.{IsResult}
+use Rattle.oss_model.specs.Bodies.{Order, Program, Start}
 use Rattle.oss_model.specs.Bodies.Act.{Fault}
 use Rattle.oss_model.specs.Moves.{act_now}
 use Rattle.oss_model.specs.Sequence.{IsAtEnd, Running, Sequential}
@@ -49,3 +51,22 @@ abbrev pub NothingIsMissing : Type 0 → Type 0
 NothingIsMissing S = (P : Program S) (order : Order S) (first : List ℕ) (fuel : ℕ) (s : Running S) → Sequential P (main_start order (length first) fuel) first s → (own : IsAtEnd P s) → IsNotWrong (act_now P own.task.body)
     → length first ≤ 1048576 → SettlesInTwo P → NamesItsCells (length first) P → ReleasesPlainly P
     → (z : Running S) → IsAtEnd (freed (length first) P) z → (asked : Nest Asking) → Walks P (main_start order (length first) fuel) first z asked → ShowsNothing P order first fuel asked
+
+-- The answer of the free run is then that of the program's own run: its kind and its line, if it is a fault, the output and the memory.
+abbrev pub AnswersAreOne : Type 0 → Type 0
+AnswersAreOne S = (P : Program S) (order : Order S) (first : List ℕ) (fuel : ℕ) (z : Running S) (end : IsAtEnd (freed (length first) P) z)
+    → length first ≤ 1048576 → SettlesInTwo P → NamesItsCells (length first) P → NothingMissing P order first fuel z end
+    → (answer : Answer) → IsResult (freed (length first) P) (main_start order (length first) fuel) first answer → IsResult P (main_start order (length first) fuel) first answer
+
+-- The run comes to an end, and stands before no fault of annotations there.
+pub record EndsWell {S : Type 0} (P : Program S) (main : Start S) (first : List ℕ) : Type 0 where
+  pub stage : Running S
+  pub run : Sequential P main first stage
+  pub own : IsAtEnd P stage
+  pub well : IsNotWrong (act_now P own.task.body)
+
+-- At the end of a free run nothing is missing exactly if the program's own run comes to an end without a fault of annotations.
+abbrev pub MissingExactly : Type 0 → Type 0
+MissingExactly S = (P : Program S) (order : Order S) (first : List ℕ) (fuel : ℕ) (z : Running S) → Sequential (freed (length first) P) (main_start order (length first) fuel) first z → (end : IsAtEnd (freed (length first) P) z)
+    → length first ≤ 1048576 → SettlesInTwo P → NamesItsCells (length first) P → ReleasesPlainly P → TouchesItsCells (length first) P → LeavesClausesToTheJudge P
+    → (NothingMissing P order first fuel z end) ↔ (EndsWell P (main_start order (length first) fuel) first)

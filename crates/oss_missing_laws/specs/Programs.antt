@@ -1,7 +1,7 @@
 -- What is asked of a program, so that its free run shows what its clauses lack; and what it shows.
 -- Read against: of a main that creates a task with `in(x)`, which stores into x, the free run shows that the task lacks something: a store is unmet by its clause. The run of the program itself stands there before NoRight. With `out(x)` nothing is lacking. If main then stores
 -- into x, it is told that a wait is missing, and the run stands before Lent; behind a taskwait nothing is told, and both runs end.
-use Rattle.std.specs.Prelude.{◌≡◌, ℕ, ◌<◌, true, List, [], ◌∷◌, length, Option, Some, None, get_or}
+use Rattle.std.specs.Prelude.{◌≡◌, ℕ, ◌<◌, true, List, [], ◌∷◌, length, Some, None, get_or}
 use Rattle.oss_syntax.specs.declared.access.Access.{Access}
 use Rattle.oss_syntax.specs.declared.access.Mode.{Mode}
 use Rattle.oss_syntax.specs.declared.access.Mode.TheVariants.{Fold}
@@ -25,7 +25,7 @@ IsSilent Ask.Begin = Unit {0}
 IsSilent Ask.Await = Unit {0}
 IsSilent _ = ⊥
 
--- No three such asks stand in a row. The definition of bodies passes two of them between two acts.
+-- No three such asks stand in a row. The definition of bodies passes two of them between two acts, and a third one is a fault there. In the free run a creator awaits each task, and would pass three in two steps.
 abbrev pub SettlesInTwo : {S : Type 0} → Program S → Type 0
 SettlesInTwo {S} P = (script : S) (answers : List ℕ) → IsSilent (P script answers).ask → IsSilent (P script (0 ∷ answers)).ask → IsSilent (P script (0 ∷ 0 ∷ answers)).ask → ⊥
 

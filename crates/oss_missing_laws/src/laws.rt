@@ -1,7 +1,7 @@
 //! Laws, each carried by a function that does nothing.
 
 ghost use Rattle.oss_missing_laws.specs.Claims.{LacksGrow, LendingIsKept, MarksAreKept, MetIsUnbroken, NamesAreJudged, TouchesAreJudged};
-ghost use Rattle.oss_missing_laws.specs.Missing.{NothingIsMissing, NothingIsWrong, RunsEndAlike};
+ghost use Rattle.oss_missing_laws.specs.Missing.{AnswersAreOne, MissingExactly, NothingIsMissing, NothingIsWrong, RunsEndAlike};
 
 /// The judge finds no fault of a touch exactly where the cell is not released, no child hinders the touch, and the clauses meet it.
 pub fn touches_are_judged()
@@ -46,4 +46,14 @@ pub fn nothing_is_wrong<S>()
 /// The other way round: where the program's own run ends without a fault of annotations, the walks over its free run show that nothing is missing.
 pub fn nothing_is_missing<S>()
     ensures { NothingIsMissing S }
+{}
+
+/// Where nothing is missing, the answer of the free run is that of the program's own run.
+pub fn answers_are_one<S>()
+    ensures { AnswersAreOne S }
+{}
+
+/// So the walks show that nothing is missing exactly if no fault of annotations stops the program's own run.
+pub fn missing_exactly<S>()
+    ensures { MissingExactly S }
 {}

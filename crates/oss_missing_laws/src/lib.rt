@@ -4,6 +4,6 @@
 mod laws;
 
 pub use laws::{
-    lacks_grow, lending_is_kept, marks_are_kept, met_is_unbroken, names_are_judged,
-    nothing_is_missing, nothing_is_wrong, runs_end_alike, touches_are_judged,
+    answers_are_one, lacks_grow, lending_is_kept, marks_are_kept, met_is_unbroken, missing_exactly,
+    names_are_judged, nothing_is_missing, nothing_is_wrong, runs_end_alike, touches_are_judged,
 };
