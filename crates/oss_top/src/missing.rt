@@ -10,7 +10,7 @@ use crate::run::{are_words, reply_to_fault};
 use oss_code::Code;
 use oss_labels::codes_stand_at_places;
 use oss_lower::lower;
-use oss_missing::missing;
+use oss_missing::find_missing;
 use oss_missing_lines::{Missing, RunFault};
 use oss_missing_text::missing_text;
 use oss_names::Known;
@@ -44,7 +44,7 @@ fn missing_of(alloc: Global, fuel: u32, known: &Known, code: &Code) -> Result<Mi
 {
     are_words(code.first().as_slice());
     codes_stand_at_places();
-    missing(alloc, known.program(), code, fuel)
+    find_missing(alloc, known.program(), code, fuel)
 }
 
 /// The reply with this text to a run that came to its end, or to this fault.
