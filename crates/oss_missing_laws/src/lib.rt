@@ -1,4 +1,11 @@
-//! What holds of the clauses of a program and its judge: where the free run shows nothing that clauses lack, the program's own run has no fault of annotations.
+//! What holds of the clauses of a program and its judge: the walks over the free run show that nothing is missing exactly if no fault of
+//! annotations stops the program's own run, and then both runs have one answer.
+//!
+//! The order of reading in the proofs: EntryLemmas (one act, one task, one cell), FateLemmas (what becomes of each task of a walk), GrowLemmas,
+//! KnownLemmas (a context of which the walks know each entry), AlikeLemmas (tasks of both runs), PassLemmas, SameLemmas, ClearLemmas; LevelLemmas
+//! and RunLevels (a stage of both runs); StepLemmas, BirthLemmas, EndingLemmas and TurnLemmas (one act of both); StopLemmas, PairLemmas and
+//! MissingTheorem. The other way round: BackLemmas, UniqueLemmas, FineLemmas and ForwardLemmas (behind an act without a fault nothing is lacking),
+//! LackTheorem and ToldTheorem, which take each stage for an end of the walks. ExistLemmas and ExactTheorem join both.
 #![tactic(auto)]
 
 mod laws;
