@@ -33,6 +33,7 @@ BEGIN {
   explains("docs/COMMANDS.md", "in an explanation | stands")
   explains("docs/COMMANDS.md", "the first lines | of")
   explains("docs/COMMANDS.md", "in a graph | stands")
+  explains("docs/COMMANDS.md", "a line | says")
 
   tries("docs/LANGUAGE.md", "command | what it does with a text", "command")
   tries("docs/LANGUAGE.md", "topic | crate | definitions", "definitions")
