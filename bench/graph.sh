@@ -6,26 +6,13 @@
 # shellcheck source=bench/built.sh
 . "$(dirname -- "$0")/built.sh"
 
-# counted NAME: the instructions of the graph of NAME.c
-counted() { valgrind --tool=callgrind --callgrind-out-file=/dev/null "$program" graph "$1.c" 2>&1 >/dev/null | sed -n 's/.*Collected : \([0-9]*\).*/\1/p'; }
-
-# drawn WHAT NAME: NAME_1.c, and NAME_2.c, with twice the tasks
-drawn() {
-  awk -v what="$1" -v a="$(counted "$2_1")" -v b="$(counted "$2_2")" 'BEGIN { printf "%s | %.0f | %.2f\n", what, b / 60000, b / a }'
-}
+command=graph
+# shellcheck source=bench/counted.sh
+. "$top/bench/counted.sh"
 
 for times in 1 2; do
   count=$((times * 30000))
-  cat >"chain_$times.c" <<PROGRAM
-long x;
-int main() {
-  for (long i = 0; i < $count; i++)
-#pragma oss task inout(x)
-    x += i;
-#pragma oss taskwait
-  printf("%ld\\n", x);
-}
-PROGRAM
+  chain "chain_$times" "$count"
   cat >"apart_$times.c" <<PROGRAM
 long a[$count];
 int main() {
@@ -62,8 +49,8 @@ PROGRAM
   } >"globals_$times.c"
 done
 echo 'what | instructions for each of 60,000 tasks | times as many for twice the tasks, rows or globals'
-drawn 'the graph of a chain' chain
-drawn 'of tasks on cells of their own' apart
-drawn 'of tasks with three cells each' readers
-drawn 'of a chain on all rows of an array' rows
-drawn 'of a chain on the last of many globals' globals
+told 'the graph of a chain' chain
+told 'of tasks on cells of their own' apart
+told 'of tasks with three cells each' readers
+told 'of a chain on all rows of an array' rows
+told 'of a chain on the last of many globals' globals

@@ -6,26 +6,13 @@
 # shellcheck source=bench/built.sh
 . "$(dirname -- "$0")/built.sh"
 
-# counted NAME: the instructions of what is missing of NAME.c
-counted() { valgrind --tool=callgrind --callgrind-out-file=/dev/null "$program" missing "$1.c" 2>&1 >/dev/null | sed -n 's/.*Collected : \([0-9]*\).*/\1/p'; }
-
-# told WHAT NAME: NAME_1.c, and NAME_2.c, with twice the tasks
-told() {
-  awk -v what="$1" -v a="$(counted "$2_1")" -v b="$(counted "$2_2")" 'BEGIN { printf "%s | %.0f | %.2f\n", what, b / 60000, b / a }'
-}
+command=missing
+# shellcheck source=bench/counted.sh
+. "$top/bench/counted.sh"
 
 for times in 1 2; do
   count=$((times * 30000))
-  cat >"whole_$times.c" <<PROGRAM
-long x;
-int main() {
-  for (long i = 0; i < $count; i++)
-#pragma oss task inout(x)
-    x += i;
-#pragma oss taskwait
-  printf("%ld\\n", x);
-}
-PROGRAM
+  chain "whole_$times" "$count"
   cat >"alike_$times.c" <<PROGRAM
 long x, y, z;
 int main() {
