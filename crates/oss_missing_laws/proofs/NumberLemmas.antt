@@ -104,7 +104,7 @@ module _ {S : Type 0} (w : Mended) (f : Frame S) (line : ℕ) where
       let p : (touched touch c line b.used).path ≡ m.acting.task.path = before_path touch c line (hinderer (b.used.has c) touch (b.used.lent c)) b.used ∙ use_path (λ d. c == d) line m.acting.task b.used b.use_is in
       turned (with_acting (asking (asked_by q) n.acting.task) n) (with_acting (touched touch c line b.used) m) m2 b.new_is (acting_alike (asking (asked_by q) n.acting.task) (touched touch c line b.used) n m refl p a)
 
-  pub asked_alike : (q : Ask S) (n : Nest Asking) (m m2 : Nest Holding) → IsBehindAsk w f q line m m2 → AreAlike n m → AreAlike (behind_ask f q line n) m2
+  asked_alike : (q : Ask S) (n : Nest Asking) (m m2 : Nest Holding) → IsBehindAsk w f q line m m2 → AreAlike n m → AreAlike (behind_ask f q line n) m2
   asked_alike (Ask.Create o) n m m2 b a =
       let lends : Bool = o.when && not f.context.final in
       let t : Holding = lent_when lends f.context.created line (w (length m.ended)) b.used in
