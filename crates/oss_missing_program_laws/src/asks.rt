@@ -1,0 +1,1 @@
+//! What bodies of programs ask for: laws, each carried by a function that does nothing.
