@@ -4,3 +4,5 @@
 mod asks;
 mod cells;
 mod exact;
+
+pub use asks::{programs_release_plainly, programs_settle_in_two, texts_release_by_dependencies};
