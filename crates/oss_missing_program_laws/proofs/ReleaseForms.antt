@@ -56,9 +56,6 @@ module _ (line : ℕ) where
   pub releases-task : (mark : TaskMark) (s : Stmt) → releases_dependencies (record { what = stmts.Task mark s; line = line }) ≡ releases_dependencies s
   releases-task mark s = search (rules, stmt_folds)
 
-  pub releases-task_loop : (head : LoopHead) (s : Stmt) → releases_dependencies (record { what = stmts.TaskLoop head s; line = line }) ≡ releases_dependencies s
-  releases-task_loop head s = search (rules, stmt_folds)
-
   pub releases-wait : (sections : Option (List Section)) → releases_dependencies (record { what = stmts.TaskWait sections; line = line }) ≡ true
   releases-wait sections = search (rules, stmt_folds)
 
