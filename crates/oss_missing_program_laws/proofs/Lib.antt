@@ -1,0 +1,10 @@
+pub mod CalmRuns
+pub mod CalmExpressions
+pub mod CalmClauses
+pub mod CalmMeanings
+pub mod CalmNested
+pub mod CalmSimple
+pub mod ReleaseForms
+pub mod CalmStatements
+pub mod CalmPrograms
+pub mod ParsedReleases

@@ -1,0 +1,1 @@
+//! Which cells programs touch and name: laws, each carried by a function that does nothing.
