@@ -1,0 +1,3 @@
+pub mod WithinLemmas
+pub mod MachineCells
+pub mod ProgramCells

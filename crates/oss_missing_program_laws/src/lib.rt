@@ -4,3 +4,8 @@
 mod asks;
 mod cells;
 mod exact;
+
+pub use cells::{
+    codes_name_their_cells, codes_touch_their_cells, programs_leave_clauses,
+    programs_name_their_cells, programs_touch_their_cells,
+};
