@@ -20,7 +20,7 @@ use Rattle.oss_lower_laws.specs.Lowered.{IsLowered}
 use Rattle.oss_lower_laws.specs.Programs.{IsCodeOf, moved_ask, moved_script}
 use Rattle.oss_lower_laws.proofs.OutcomeLaws.{programs_have_codes}
 use Rattle.oss_lower_laws.proofs.ProgramLemmas.{codes_ask_alike}
-use Rattle.oss_freed.specs.Freed.{LeavesClausesToTheJudge, TouchesItsCells}
+use Rattle.oss_freed.specs.Freed.{TouchesItsCells}
 use Rattle.oss_free_run.proofs.MachineFaults.{codes_leave_clauses}
 use Rattle.oss_missing_laws.specs.Programs.{IsNaming, NamesItsCells}
 use Rattle.oss_missing_program_laws.specs.Cells.{CodesNameTheirCells, CodesTouchTheirCells, ProgramsLeaveClauses, ProgramsNameTheirCells, ProgramsTouchTheirCells}

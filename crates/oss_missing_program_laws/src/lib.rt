@@ -4,8 +4,10 @@
 mod asks;
 mod cells;
 mod exact;
+mod once;
 
 pub use cells::{
     codes_name_their_cells, codes_touch_their_cells, programs_leave_clauses,
     programs_name_their_cells, programs_touch_their_cells,
 };
+pub use once::missing_is_one;
