@@ -8,3 +8,8 @@ pub mod ReleaseForms
 pub mod CalmStatements
 pub mod CalmPrograms
 pub mod ParsedReleases
+pub mod WithinLemmas
+pub mod MachineCells
+pub mod ProgramCells
+pub mod OneWalk
+pub mod OneMissing
