@@ -64,19 +64,88 @@ impl Counts {
     }
 }
 
-/// The core, what is noted of each task, and what the calls of the present deed have told.
-struct Beside<'a> {
+fn is_same(a: &Move, b: &Move) -> bool {
+    match (a, b) {
+        (Move::Step(t), Move::Step(u)) => t.0 == u.0,
+        (Move::Let(t, c), Move::Let(u, d)) => t.0 == u.0 && c == d,
+        (Move::Join(t, c), Move::Join(u, d)) => t.0 == u.0 && c == d,
+        _ => false,
+    }
+}
+
+/// The core, and what is noted of each task.
+pub struct Beside<'a> {
     code: &'a Code,
     core: Core<PlainDeps>,
     tasks: Vec<Noted>,
-    counts: Counts,
+    pub counts: Counts,
+    /// What loads have found of acts that are not told yet: the task, the cell and the number.
+    finds: Vec<(u32, u32, u64)>,
+    /// Moves of calls that are being made: the core makes such a move at the end of its call, or before, if another move needs it.
+    flying: Vec<Move>,
 }
 
-impl Beside<'_> {
+impl<'a> Beside<'a> {
+    /// Main alone, at its beginning.
+    pub fn new(code: &'a Code, fuel: u32) -> Beside<'a> {
+        let Ok(core) = Core::new(Global, code, fuel, PlainDeps::new(Global)) else {
+            panic!("memory");
+        };
+        let main = Noted {
+            number: 0,
+            core: TaskNo(0),
+            children: Vec::new(),
+            parent: None,
+            places: Vec::new(),
+            given: Vec::new(),
+            left: Vec::new(),
+            gave_own: false,
+            begun: false,
+            ended: false,
+            waits: false,
+            freed: true,
+        };
+        let mut tasks = Vec::new();
+        tasks.push(main);
+        Beside {
+            code,
+            core,
+            tasks,
+            counts: Counts::default(),
+            finds: Vec::new(),
+            flying: Vec::new(),
+        }
+    }
+
+    /// What is left to be done in the core, when the field has ended.
+    pub fn left_over(&mut self) -> Option<std::string::String> {
+        if !self.core.stopped() {
+            return Some("the field has ended, and the core may go on".into());
+        }
+        match self.core.unfinished() {
+            0 => None,
+            _ => Some("the field has ended, and the core has unfinished tasks".into()),
+        }
+    }
+
+    /// The next act of a job has found this. The thread that has the turn goes on with this job alone until the act is told.
+    pub fn found_by(&mut self, job: &Job, cell: u32, value: u64) {
+        self.finds.retain(|found| found.0 != job.task());
+        self.finds.push((job.task(), cell, value));
+    }
+
     fn place_of(&self, number: u32) -> usize {
         match self.tasks.iter().position(|task| task.number == number) {
             Some(place) => place,
             None => panic!("the task {number} is not known"),
+        }
+    }
+
+    /// Which of a task's cells this is.
+    fn place_on(&self, at: usize, cell: u32) -> usize {
+        match self.tasks[at].places.iter().position(|place| place.cell == cell) {
+            Some(place) => place,
+            None => panic!("the task {} has no cell {cell}", self.tasks[at].number),
         }
     }
 
@@ -92,8 +161,37 @@ impl Beside<'_> {
 
     /// The core makes a move that the field has made.
     fn make(&mut self, what: &str, at: usize, m: Move) {
+        self.reach(what, at, m);
         if self.core.apply(self.code, m).is_err() {
-            panic!("{what} of the task {}: the core may not make this move", self.tasks[at].number);
+            panic!("memory");
+        }
+    }
+
+    /// The core may make this move, if need be after moves of calls that are being made.
+    fn reach(&mut self, what: &str, at: usize, m: Move) {
+        let mut turn = 0;
+        while !self.core.enabled(&m) {
+            let Some(place) = (turn..self.flying.len()).find(|place| self.core.enabled(&self.flying[*place])) else {
+                panic!("{what} of the task {}: the core may not make this move", self.tasks[at].number);
+            };
+            let flies = self.flying.remove(place);
+            if self.core.apply(self.code, flies).is_err() {
+                panic!("memory");
+            }
+            turn = 0;
+        }
+    }
+
+    /// A call is begun that makes this move.
+    fn fly(&mut self, m: Move) {
+        self.flying.push(m);
+    }
+
+    /// It has ended.
+    fn land(&mut self, what: &str, at: usize, m: Move) {
+        if let Some(place) = self.flying.iter().position(|flies| is_same(flies, &m)) {
+            self.flying.remove(place);
+            self.make(what, at, m);
         }
     }
 
@@ -138,12 +236,7 @@ impl Beside<'_> {
 
 impl Watch for Beside<'_> {
     fn found(&mut self, job: &Job, cell: u32, value: u64) {
-        let wanted = self.core.cells()[cell as usize];
-        assert!(
-            wanted == value,
-            "the task {} found {value} in cell {cell}, and the core has {wanted}",
-            job.task()
-        );
+        self.found_by(job, cell, value);
     }
 
     fn acted(&mut self, job: &Job) {
@@ -152,7 +245,18 @@ impl Watch for Beside<'_> {
         if matches!(job.body().pending(), Act::Wait | Act::WaitOn(_) | Act::Await) {
             self.counts.waits += 1;
         }
-        self.make("an act", at, Move::Step(self.tasks[at].core));
+        let m = Move::Step(self.tasks[at].core);
+        self.reach("an act", at, m);
+        if let Some(place) = self.finds.iter().position(|found| found.0 == job.task()) {
+            let (_, cell, value) = self.finds.swap_remove(place);
+            let wanted = self.core.cells()[cell as usize];
+            assert!(
+                wanted == value,
+                "the task {} found {value} in cell {cell}, and the core has {wanted}",
+                job.task()
+            );
+        }
+        self.make("an act", at, m);
         self.tasks[at].begun = true;
     }
 
@@ -189,14 +293,49 @@ impl Watch for Beside<'_> {
         self.tasks[at].freed = true;
     }
 
+    fn giving(&mut self, job: &Job, cell: u32) {
+        let at = self.place_of(job.task());
+        let place = self.place_on(at, cell);
+        assert!(!self.tasks[at].given[place], "cell {cell} of {} is given up twice", job.task());
+        self.tasks[at].given[place] = true;
+        self.fly(Move::Let(self.tasks[at].core, cell));
+    }
+
+    fn gave(&mut self, job: &Job, cell: u32) {
+        let at = self.place_of(job.task());
+        self.land("a give", at, Move::Let(self.tasks[at].core, cell));
+        self.counts.gives += 1;
+        self.counts.early += !job.body().ended() as u64;
+    }
+
+    fn leaving(&mut self, job: &Job, cell: u32) {
+        let at = self.place_of(job.task());
+        let place = self.place_on(at, cell);
+        assert!(!self.tasks[at].left[place], "cell {cell} of {} is left twice", job.task());
+        self.tasks[at].left[place] = true;
+        self.counts.leaves += 1;
+    }
+
+    fn joining(&mut self, entry: u32) {
+        let (at, place) = self.owner(entry);
+        assert!(self.tasks[at].left[place], "entry {entry} is joined and not left");
+        assert!(!self.tasks[at].given[place], "entry {entry} is joined twice");
+        self.tasks[at].given[place] = true;
+        self.fly(Move::Join(self.tasks[at].core, self.tasks[at].places[place].cell));
+    }
+
     fn joined(&mut self, entry: u32) {
         let (at, place) = self.owner(entry);
-        assert!(self.tasks[at].left[place], "entry {entry} was joined and not left");
-        assert!(!self.tasks[at].given[place], "entry {entry} was joined twice");
         let cell = self.tasks[at].places[place].cell;
-        self.make("a join", at, Move::Join(self.tasks[at].core, cell));
-        self.tasks[at].given[place] = true;
+        self.land("a join", at, Move::Join(self.tasks[at].core, cell));
         self.counts.joins += 1;
+    }
+
+    fn finishing(&mut self, job: &Job) {
+        let at = self.place_of(job.task());
+        assert!(!self.tasks[at].gave_own, "the task {} is given up twice", job.task());
+        self.tasks[at].gave_own = true;
+        self.counts.finishes += 1;
     }
 }
 
@@ -220,9 +359,6 @@ pub fn run(
     start: u64,
     told: &mut dyn FnMut(std::string::String),
 ) -> Counts {
-    let Ok(core) = Core::new(Global, code, fuel, PlainDeps::new(Global)) else {
-        panic!("memory");
-    };
     let mut workers = Vec::new();
     workers.push(Worker { field, code, seat });
     while workers.len() < seats {
@@ -231,30 +367,9 @@ pub fn run(
         };
         workers.push(Worker { field, code, seat });
     }
-    let main = Noted {
-        number: 0,
-        core: TaskNo(0),
-        children: Vec::new(),
-        parent: None,
-        places: Vec::new(),
-        given: Vec::new(),
-        left: Vec::new(),
-        gave_own: false,
-        begun: false,
-        ended: false,
-        waits: false,
-        freed: true,
-    };
-    let mut tasks = Vec::new();
-    tasks.push(main);
     let hands = workers.iter().map(|_| Vec::new()).collect();
     let mut run = Run {
-        beside: Beside {
-            code,
-            core,
-            tasks,
-            counts: Counts::default(),
-        },
+        beside: Beside::new(code, fuel),
         workers,
         hands,
         dice: Dice::new(start),
@@ -277,8 +392,9 @@ impl Run<'_> {
 
     /// All is over in the core too. The seats that were split off come back.
     fn end(mut self) -> Counts {
-        assert!(self.beside.core.stopped(), "the field has ended, and the core may go on");
-        assert!(self.beside.core.unfinished() == 0, "the core has unfinished tasks");
+        if let Some(why) = self.beside.left_over() {
+            panic!("{why}");
+        }
         let field = self.workers[0].field;
         while self.workers.len() > 1 {
             let Some(other) = self.workers.pop() else {
@@ -405,10 +521,7 @@ impl Run<'_> {
                 let places = beside.tasks[at].places.clone();
                 if worker.may_finish(job, &places) {
                     told(std::format!("seat {seat} gives up the task {number}"));
-                    worker.field.give(&mut worker.seat, job, None);
-                    beside.tasks[at].gave_own = true;
-                    worker.deliver(beside);
-                    beside.counts.finishes += 1;
+                    worker.finish(job, beside);
                     beside.counts.deeds += 1;
                     return true;
                 }
@@ -417,22 +530,13 @@ impl Run<'_> {
             let place = beside.tasks[at].places[which];
             if worker.may_give(job, &place) {
                 told(std::format!("seat {seat} gives up cell {} of {number}", place.cell));
-                worker.field.give(&mut worker.seat, job, Some(place.cell));
-                beside.make("a give", at, Move::Let(beside.tasks[at].core, place.cell));
-                beside.tasks[at].given[which] = true;
-                worker.deliver(beside);
-                beside.counts.gives += 1;
-                beside.counts.early += !job.body().ended() as u64;
+                worker.give(job, &place, beside);
                 beside.counts.deeds += 1;
                 return true;
             }
             if worker.may_leave(job, &place) {
                 told(std::format!("seat {seat} leaves cell {} of {number}", place.cell));
-                let value = job.body().slot(place.cell);
-                worker.field.leave(&mut worker.seat, job, place.cell, value);
-                beside.tasks[at].left[which] = true;
-                worker.deliver(beside);
-                beside.counts.leaves += 1;
+                worker.leave(job, &place, beside);
                 beside.counts.deeds += 1;
                 return true;
             }
@@ -531,8 +635,7 @@ impl Run<'_> {
         if !job.body().ended() {
             let passes = worker.may_pass(job);
             let enabled = beside.core.enabled(&Move::Step(core));
-            let begun_or_ready = true;
-            assert!(!passes || enabled || !begun_or_ready, "the task {number} may go on, and may not in the core");
+            assert!(!passes || enabled, "the task {number} may go on, and may not in the core");
             assert!(passes || !enabled || !all_gave, "the task {number} may not go on, and may in the core");
         }
         for place in 0..beside.tasks[at].places.len() {

@@ -1,5 +1,6 @@
 // strip.py writes the names of the modules before this text.
 mod beside;
+mod crew;
 mod programs;
 mod work;
 
@@ -109,12 +110,60 @@ fn beside_all(start: u64, count: u64) {
     println!("beside the core: {ran} programs from {start} on ({faults} more have a fault), {tasks} tasks, {deeds} deeds: {acts} acts, {waits} of them waits, {gives} gives, {early} of them early, {leaves} leaves, {joins} joins, {finishes} ends; compared {compared} times, {readies} ready tasks; no difference");
 }
 
+/// Random programs by threads: in turns, step by step and beside the core, or freely.
+fn threads_all(start: u64, count: u64, threads: usize, turns: bool, times: u64) {
+    let (mut ran, mut tasks, mut steps) = (0, 0, 0);
+    let mut counts = beside::Counts::default();
+    for start in start..start + count {
+        let text = programs::program(start, size_of(start));
+        let Some(code) = code_of(&text) else {
+            panic!("start {start}: this is no program:\n{text}");
+        };
+        let Some(wanted) = printed(&code) else {
+            continue;
+        };
+        for time in 0..times {
+            let (field, seat) = field_of(&code, 1_024);
+            let how = crew::How {
+                threads,
+                turns,
+                start: start * times + time,
+                pick: crew::Pick::Random,
+            };
+            let made = crew::run(&code, &field, seat, FUEL, how);
+            let mut failure = made.failure;
+            if failure.is_none() && made.printed != wanted {
+                failure = Some("it prints something else than the sequential run".to_string());
+            }
+            if let Some(why) = failure {
+                println!("start {start}, time {time}: {why}\n{text}");
+                for note in made.notes {
+                    println!("  {note}");
+                }
+                std::process::exit(1);
+            }
+            ran += 1;
+            tasks += made.tasks;
+            steps += made.steps;
+            counts.add(&made.counts);
+        }
+    }
+    let beside::Counts { acts, waits, gives, early, leaves, joins, finishes, .. } = counts;
+    if turns {
+        println!("{threads} threads in turns: {ran} runs from {start} on, {tasks} tasks, {steps} atomic steps, {acts} acts, {waits} of them waits, {gives} gives, {early} of them early, {leaves} leaves, {joins} joins, {finishes} ends; each move was one of the core, and each run printed what the sequential run prints");
+    } else {
+        println!("{threads} threads at once: {ran} runs from {start} on, {tasks} tasks; each printed what the sequential run prints");
+    }
+}
+
 fn main() {
     let words: Vec<String> = std::env::args().skip(1).collect();
     let number = |at: usize| words[at].parse::<u64>().expect("a number");
     match words[0].as_str() {
         "program" => print!("{}", programs::program(number(1), size_of(number(1)))),
         "beside" => beside_all(number(1), number(2)),
+        "turns" => threads_all(number(1), number(2), number(3) as usize, true, number(4)),
+        "threads" => threads_all(number(1), number(2), number(3) as usize, false, number(4)),
         other => panic!("no mode is named {other}"),
     }
 }

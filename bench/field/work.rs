@@ -20,8 +20,18 @@ pub trait Watch {
     fn made(&mut self, creator: &Job, task: Made);
     /// The count of this task became 0.
     fn freed(&mut self, task: u32);
-    /// The value of this entry was joined, and it is given up.
+    /// The seat is going to give up this cell of a job's task.
+    fn giving(&mut self, job: &Job, cell: u32);
+    /// It has.
+    fn gave(&mut self, job: &Job, cell: u32);
+    /// The seat is going to leave the value of a reduction.
+    fn leaving(&mut self, job: &Job, cell: u32);
+    /// The seat is going to join the value of this entry, and to give it up.
+    fn joining(&mut self, entry: u32);
+    /// It has.
     fn joined(&mut self, entry: u32);
+    /// The seat is going to give up the own entry of a job's task.
+    fn finishing(&mut self, job: &Job);
 }
 
 /// A task that was made.
@@ -102,6 +112,7 @@ impl<'a> Worker<'a> {
         while self.seat.holding() {
             match self.seat.next_join() {
                 Some(entry) => {
+                    watch.joining(entry);
                     self.field.fold(&mut self.seat, entry);
                     assert!(self.seat.touched().entry == entry, "a fold has touched another entry");
                     watch.joined(entry);
@@ -304,5 +315,28 @@ impl<'a> Worker<'a> {
             return false;
         }
         places.iter().all(|place| self.flags(place.entry).given)
+    }
+
+    /// Gives up a cell that may be given up, with all messages that this sends.
+    pub fn give(&mut self, job: &Job, place: &Place, watch: &mut impl Watch) {
+        watch.giving(job, place.cell);
+        self.field.give(&mut self.seat, job, Some(place.cell));
+        watch.gave(job, place.cell);
+        self.deliver(watch);
+    }
+
+    /// Leaves a value that may be left, with all messages that this sends.
+    pub fn leave(&mut self, job: &Job, place: &Place, watch: &mut impl Watch) {
+        watch.leaving(job, place.cell);
+        let value = job.body().slot(place.cell);
+        self.field.leave(&mut self.seat, job, place.cell, value);
+        self.deliver(watch);
+    }
+
+    /// Gives up the own entry of a job's task, which may be given up, with all messages that this sends.
+    pub fn finish(&mut self, job: &Job, watch: &mut impl Watch) {
+        watch.finishing(job);
+        self.field.give(&mut self.seat, job, None);
+        self.deliver(watch);
     }
 }
