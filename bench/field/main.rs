@@ -1,5 +1,6 @@
 // strip.py writes the names of the modules before this text.
 mod beside;
+mod count;
 mod crew;
 mod programs;
 mod work;
@@ -156,6 +157,21 @@ fn threads_all(start: u64, count: u64, threads: usize, turns: bool, times: u64) 
     }
 }
 
+/// Runs the program of a file by one seat, in a field with so many entries.
+fn count(file: &str, entries: u32) {
+    let Ok(text) = std::fs::read_to_string(file) else {
+        panic!("the file cannot be read");
+    };
+    let Some(code) = code_of(&text) else {
+        panic!("this is no program");
+    };
+    let before = table::steps();
+    let (field, seat) = field_of(&code, entries);
+    let (printed, made) = count::run(&code, &field, seat);
+    print!("{}", String::from_utf8_lossy(&printed));
+    eprintln!("tasks {made}, atomic steps {}", table::steps() - before);
+}
+
 fn main() {
     let words: Vec<String> = std::env::args().skip(1).collect();
     let number = |at: usize| words[at].parse::<u64>().expect("a number");
@@ -164,6 +180,7 @@ fn main() {
         "beside" => beside_all(number(1), number(2)),
         "turns" => threads_all(number(1), number(2), number(3) as usize, true, number(4)),
         "threads" => threads_all(number(1), number(2), number(3) as usize, false, number(4)),
+        "count" => count(&words[1], number(2) as u32),
         other => panic!("no mode is named {other}"),
     }
 }
