@@ -46,6 +46,7 @@ pub struct Counts {
     pub finishes: u64,
     pub compared: u64,
     pub readies: u64,
+    pub seats: u64,
 }
 
 impl Counts {
@@ -61,6 +62,7 @@ impl Counts {
         self.finishes += more.finishes;
         self.compared += more.compared;
         self.readies += more.readies;
+        self.seats += more.seats;
     }
 }
 
@@ -347,6 +349,8 @@ struct Run<'a> {
     workers: Vec<Worker<'a>>,
     hands: Vec<Hand>,
     dice: Dice,
+    /// How many entries were drawn for nothing.
+    wasted: u32,
 }
 
 /// Runs a program by so many seats, each deed drawn from the start, with the core beside it: what was done. It ends with a panic where a difference is found. `told` is called before each deed.
@@ -373,6 +377,7 @@ pub fn run(
         workers,
         hands,
         dice: Dice::new(start),
+        wasted: 0,
     };
     let mut idle = 0;
     while !run.is_over() {
@@ -396,6 +401,8 @@ impl Run<'_> {
             panic!("{why}");
         }
         let field = self.workers[0].field;
+        let many = field.draw(&mut self.workers[0].seat, 1_024);
+        assert!(many.is_none(), "more entries were drawn than there are");
         while self.workers.len() > 1 {
             let Some(other) = self.workers.pop() else {
                 break;
@@ -410,6 +417,12 @@ impl Run<'_> {
     fn deed(&mut self, told: &mut dyn FnMut(std::string::String)) -> bool {
         let seat = self.dice.below(self.workers.len() as u32) as usize;
         let held = self.hands[seat].len() as u32;
+        if self.dice.one_in(60) {
+            self.waste(seat, told);
+        }
+        if seat > 0 && held == 0 && self.dice.one_in(12) {
+            self.renew(seat, told);
+        }
         if held == 0 || (held < 3 && self.dice.one_in(8)) {
             return self.take(seat, told);
         }
@@ -423,6 +436,35 @@ impl Run<'_> {
             1 | 2 => self.give(seat, which, told),
             _ => self.act(seat, which, last, told),
         }
+    }
+
+    /// A seat that holds nothing comes back to the first, and another is split off in its place.
+    fn renew(&mut self, seat: usize, told: &mut dyn FnMut(std::string::String)) {
+        told(std::format!("seat {seat} is joined to seat 0, and split off anew"));
+        let field = self.workers[0].field;
+        let code = self.workers[0].code;
+        let other = self.workers.swap_remove(seat);
+        field.join(&mut self.workers[0].seat, other.seat);
+        let Ok(new) = field.split(Global, &mut self.workers[0].seat) else {
+            panic!("memory");
+        };
+        self.workers.push(Worker { field, code, seat: new });
+        let last = self.workers.len() - 1;
+        self.workers.swap(seat, last);
+        self.beside.counts.seats += 1;
+    }
+
+    /// A seat draws an entry that nobody ever uses.
+    fn waste(&mut self, seat: usize, told: &mut dyn FnMut(std::string::String)) {
+        if self.wasted == 50 {
+            return;
+        }
+        let worker = &mut self.workers[seat];
+        let drawn = worker.field.draw(&mut worker.seat, 1);
+        told(std::format!("seat {seat} draws an entry for nothing: {drawn:?}"));
+        let known = self.beside.tasks.iter().map(|task| task.number + task.places.len() as u32).max();
+        assert!(drawn > known, "an entry was drawn that is used");
+        self.wasted += 1;
     }
 
     fn take(&mut self, seat: usize, told: &mut dyn FnMut(std::string::String)) -> bool {
@@ -505,6 +547,7 @@ impl Run<'_> {
             workers,
             hands,
             dice,
+            ..
         } = self;
         let job = &hands[seat][which];
         let worker = &mut workers[seat];
