@@ -47,6 +47,8 @@ pub struct Counts {
     pub compared: u64,
     pub readies: u64,
     pub seats: u64,
+    /// Messages that waited.
+    pub late: u64,
 }
 
 impl Counts {
@@ -63,6 +65,7 @@ impl Counts {
         self.compared += more.compared;
         self.readies += more.readies;
         self.seats += more.seats;
+        self.late += more.late;
     }
 }
 
@@ -363,13 +366,15 @@ pub fn run(
     start: u64,
     told: &mut dyn FnMut(std::string::String),
 ) -> Counts {
+    // in every other program messages wait
+    let late = (start / 4) % 2 == 1;
     let mut workers = Vec::new();
-    workers.push(Worker { field, code, seat });
+    workers.push(Worker { field, code, seat, late });
     while workers.len() < seats {
         let Ok(seat) = field.split(Global, &mut workers[0].seat) else {
             panic!("memory");
         };
-        workers.push(Worker { field, code, seat });
+        workers.push(Worker { field, code, seat, late });
     }
     let hands = workers.iter().map(|_| Vec::new()).collect();
     let mut run = Run {
@@ -382,7 +387,9 @@ pub fn run(
     let mut idle = 0;
     while !run.is_over() {
         let made = run.deed(told);
-        run.compare();
+        if run.is_at_rest() {
+            run.compare();
+        }
         idle = if made { 0 } else { idle + 1 };
         assert!(idle < 20_000, "no seat finds anything to do, and the program has not ended");
     }
@@ -390,8 +397,14 @@ pub fn run(
 }
 
 impl Run<'_> {
+    /// No seat holds a message.
+    fn is_at_rest(&self) -> bool {
+        self.workers.iter().all(|worker| !worker.seat.holding())
+    }
+
     fn is_over(&self) -> bool {
-        self.hands.iter().all(Vec::is_empty)
+        self.is_at_rest()
+            && self.hands.iter().all(Vec::is_empty)
             && self.beside.tasks.iter().all(|task| task.ended && (task.gave_own || task.number == 0))
     }
 
@@ -420,7 +433,15 @@ impl Run<'_> {
         if self.dice.one_in(60) {
             self.waste(seat, told);
         }
-        if seat > 0 && held == 0 && self.dice.one_in(12) {
+        if self.workers[seat].seat.holding() {
+            if self.dice.one_in(2) {
+                told(std::format!("seat {seat} delivers a message"));
+                self.workers[seat].deliver_one(&mut self.beside);
+                self.beside.counts.deeds += 1;
+                self.beside.counts.late += 1;
+                return true;
+            }
+        } else if seat > 0 && held == 0 && self.dice.one_in(12) {
             self.renew(seat, told);
         }
         if held == 0 || (held < 3 && self.dice.one_in(8)) {
@@ -443,12 +464,13 @@ impl Run<'_> {
         told(std::format!("seat {seat} is joined to seat 0, and split off anew"));
         let field = self.workers[0].field;
         let code = self.workers[0].code;
+        let late = self.workers[0].late;
         let other = self.workers.swap_remove(seat);
         field.join(&mut self.workers[0].seat, other.seat);
         let Ok(new) = field.split(Global, &mut self.workers[0].seat) else {
             panic!("memory");
         };
-        self.workers.push(Worker { field, code, seat: new });
+        self.workers.push(Worker { field, code, seat: new, late });
         let last = self.workers.len() - 1;
         self.workers.swap(seat, last);
         self.beside.counts.seats += 1;
@@ -495,15 +517,16 @@ impl Run<'_> {
         let task = &self.beside.tasks[at];
         let number = task.number;
         let ready = task.begun || at == 0 || self.beside.core.enabled(&Move::Step(task.core));
+        let rests = self.workers.iter().all(|worker| !worker.seat.holding());
         assert!(
-            found == (ready && !out),
+            found == (ready && !out) || (!found && !rests),
             "the job of {number} is {}there, the core has its task {}ready, and it is {}out",
             if found { "" } else { "not " },
             if ready { "" } else { "not " },
             if out { "" } else { "not " },
         );
         let task = &self.beside.tasks[at];
-        assert!(!ready || task.freed, "the task {number} is ready, and no call has told it");
+        assert!(!found || task.freed, "the task {number} may be taken, and no call has told it");
     }
 
     fn put(&mut self, seat: usize, told: &mut dyn FnMut(std::string::String)) {
@@ -540,7 +563,7 @@ impl Run<'_> {
         }
     }
 
-    /// Gives up or leaves some entry of a job's task.
+    /// Gives up or leaves some entry of a job's task. What the seat holds is delivered before.
     fn give(&mut self, seat: usize, which: usize, told: &mut dyn FnMut(std::string::String)) -> bool {
         let Run {
             beside,

@@ -429,7 +429,7 @@ fn thread<'a>(
             turns.begin(me);
         }
         let mut thread = Thread {
-            worker: Worker { field, code, seat },
+            worker: Worker { field, code, seat, late: false },
             teller: Teller { common, me },
             dice: Dice::new(how.start.wrapping_mul(31).wrapping_add(me as u64)),
             pick: how.pick,
@@ -482,7 +482,7 @@ fn finish(
             }
             field.join(&mut first, seat);
         }
-        let mut worker = Worker { field, code, seat: first };
+        let mut worker = Worker { field, code, seat: first, late: false };
         for entry in &common.entries {
             let flags = worker.flags(*entry);
             if !(flags.given && flags.done && flags.clear) {

@@ -108,8 +108,9 @@ fn beside_all(start: u64, count: u64) {
         compared,
         readies,
         seats,
+        late,
     } = counts;
-    println!("beside the core: {ran} programs from {start} on ({faults} more have a fault), {tasks} tasks, {deeds} deeds: {acts} acts, {waits} of them waits, {gives} gives, {early} of them early, {leaves} leaves, {joins} joins, {finishes} ends; {seats} seats that came and went; compared {compared} times, {readies} ready tasks; no difference");
+    println!("beside the core: {ran} programs from {start} on ({faults} more have a fault), {tasks} tasks, {deeds} deeds: {acts} acts, {waits} of them waits, {gives} gives, {early} of them early, {leaves} leaves, {joins} joins, {finishes} ends; {late} messages that waited; {seats} seats that came and went; compared {compared} times, {readies} ready tasks; no difference");
 }
 
 /// Random programs by threads: in turns, step by step and beside the core, or freely.

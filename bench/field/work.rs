@@ -72,6 +72,8 @@ pub struct Worker<'a> {
     pub field: &'a Field,
     pub code: &'a Code,
     pub seat: FieldSeat,
+    /// Messages wait for their delivery until the seat must hold none.
+    pub late: bool,
 }
 
 /// The cells of these accesses, which are those of the task with this number, in rising order.
@@ -110,19 +112,31 @@ impl<'a> Worker<'a> {
     /// Delivers all that the seat holds.
     pub fn deliver(&mut self, watch: &mut impl Watch) {
         while self.seat.holding() {
-            match self.seat.next_join() {
-                Some(entry) => {
-                    watch.joining(entry);
-                    self.field.fold(&mut self.seat, entry);
-                    assert!(self.seat.touched().entry == entry, "a fold has touched another entry");
-                    watch.joined(entry);
-                }
-                None => {
-                    if let Some(task) = self.field.deliver(&mut self.seat) {
-                        watch.freed(task);
-                    }
+            self.deliver_one(watch);
+        }
+    }
+
+    /// Delivers the message that comes first. Condition: the seat holds one.
+    pub fn deliver_one(&mut self, watch: &mut impl Watch) {
+        match self.seat.next_join() {
+            Some(entry) => {
+                watch.joining(entry);
+                self.field.fold(&mut self.seat, entry);
+                assert!(self.seat.touched().entry == entry, "a fold has touched another entry");
+                watch.joined(entry);
+            }
+            None => {
+                if let Some(task) = self.field.deliver(&mut self.seat) {
+                    watch.freed(task);
                 }
             }
+        }
+    }
+
+    /// Delivers all that the seat holds, unless it is to wait until that must be.
+    fn deliver_soon(&mut self, watch: &mut impl Watch) {
+        if !self.late {
+            self.deliver(watch);
         }
     }
 
@@ -288,8 +302,9 @@ impl<'a> Worker<'a> {
             None if job.task() == 0 => After::FirstOfMain,
             None => After::FirstOf(info.parent),
         };
-        self.field.link(&mut self.seat, job, entry, info, cell, after);
         self.deliver(watch);
+        self.field.link(&mut self.seat, job, entry, info, cell, after);
+        self.deliver_soon(watch);
     }
 
     /// Whether a cell with no join may be given up now: it is not yet, and the task has released it, or is through.
@@ -319,24 +334,27 @@ impl<'a> Worker<'a> {
 
     /// Gives up a cell that may be given up, with all messages that this sends.
     pub fn give(&mut self, job: &Job, place: &Place, watch: &mut impl Watch) {
+        self.deliver(watch);
         watch.giving(job, place.cell);
         self.field.give(&mut self.seat, job, Some(place.cell));
         watch.gave(job, place.cell);
-        self.deliver(watch);
+        self.deliver_soon(watch);
     }
 
     /// Leaves a value that may be left, with all messages that this sends.
     pub fn leave(&mut self, job: &Job, place: &Place, watch: &mut impl Watch) {
+        self.deliver(watch);
         watch.leaving(job, place.cell);
         let value = job.body().slot(place.cell);
         self.field.leave(&mut self.seat, job, place.cell, value);
-        self.deliver(watch);
+        self.deliver_soon(watch);
     }
 
     /// Gives up the own entry of a job's task, which may be given up, with all messages that this sends.
     pub fn finish(&mut self, job: &Job, watch: &mut impl Watch) {
+        self.deliver(watch);
         watch.finishing(job);
         self.field.give(&mut self.seat, job, None);
-        self.deliver(watch);
+        self.deliver_soon(watch);
     }
 }
