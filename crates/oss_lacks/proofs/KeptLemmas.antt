@@ -15,7 +15,7 @@ use Rattle.oss_lacks.specs.declared.creation.Creation.{Creation}
 use Rattle.oss_lacks.specs.declared.following.Following.{Following}
 use Rattle.oss_lacks.specs.declared.lacks.TaskLacks.{TaskLacks}
 use Rattle.oss_lacks.specs.Asking.{Asking, asking, created_by, tell_creator}
-use Rattle.oss_lacks.specs.Following.{AreCreations, AreTold, Asks, Follows, IsBack, IsClosed, IsCreation, IsFollowing, IsOneMore, IsReturned, Opens, open_in, told_of}
+use Rattle.oss_lacks.specs.Following.{AreCreations, AreTold, Asks, Follows, IsBack, IsClosed, IsCreation, IsFollowing, IsOneMore, IsReturned, Opens, open_in, told_in, told_of}
 use Rattle.oss_lacks.specs.Lacks.{AreTaskLacks, IsTaskLacks}
 use Rattle.oss_lacks.specs.Nests.{Nest, Numbered, closed, closed_to}
 use Rattle.oss_lacks.specs.Walks.{at_stop}
@@ -45,7 +45,7 @@ asked_more up old new goes current above tasks n s = record {
   needs = goes (open_in n.acting) (map open_in n.above) s.needs;
   current = created_still (asking up n.acting.task) n.acting new.current (subst (λ (c : Creation). IsCreation n.acting c) (sym current) s.current) refl refl refl refl;
   older = subst (λ (cs : List Creation). AreCreations n.above cs) (ap reverse (sym above)) s.older;
-  told = subst (λ (ks : List TaskLacks). AreTold n.ended ks) (sym tasks) s.told;
+  told = subst (λ (ks : List (Option TaskLacks)). AreTold n.ended ks) (sym tasks) s.told;
   ends = s.ends;
 }
 
@@ -73,7 +73,7 @@ opened_more o line created final old new number needs current above more f n way
       needs = subst (λ (b : Bool). AreTasks (opened_with (b || o.last) o.clauses) (open_in n.acting ∷ map open_in n.above) new.needs) last (needs (open_in n.acting) (map open_in n.above) s.needs);
       current = subst (λ (c : Creation). IsCreation (record { number = length n.ended; task = child }) c) (sym current) is;
       older = subst (λ (cs : List Creation). AreCreations (n.acting ∷ n.above) cs) (sym (ap reverse above ∙ reversed old.above old.current)) (s.current, s.older);
-      told = subst (λ (ks : List TaskLacks). AreTold (n.ended ++ None ∷ []) ks) (sym more.more) (told_more n.ended old.tasks.items more.slot s.told);
+      told = subst (λ (ks : List (Option TaskLacks)). AreTold (n.ended ++ None ∷ []) ks) (sym more.more) (told_more n.ended old.tasks.items s.told);
       ends = ends_opened n.acting n.above n.ended s.ends;
     }
 
@@ -89,15 +89,15 @@ returned m old mid new k [] ended s c a t back h = absurd h
 returned m old mid new k (creator ∷ above) ended s c a t back h =
     let all : AreCreations (creator ∷ above) (back.creator ∷ reverse new.above) = subst (λ (cs : List Creation). AreCreations (creator ∷ above) cs) (ap reverse (sym a ∙ back.above) ∙ reversed new.above back.creator) s.older in
     let number : old.current.number ≡ k.number = s.current.number in
-    let tasks : new.tasks.items ≡ slice_set old.tasks.items k.number (told_of old.current m) =
-    back.tasks ∙ ap (λ (x : Creation). slice_set mid.tasks.items x.number (told_of x m)) c ∙ ap (λ (ks : List TaskLacks). slice_set ks old.current.number (told_of old.current m)) t
-    ∙ ap (λ (i : ℕ). slice_set old.tasks.items i (told_of old.current m)) number in
+    let tasks : new.tasks.items ≡ slice_set old.tasks.items k.number (Some (told_of old.current m)) =
+    back.tasks ∙ ap (λ (x : Creation). slice_set mid.tasks.items x.number (Some (told_of x m))) c ∙ ap (λ (ks : List (Option TaskLacks)). slice_set ks old.current.number (Some (told_of old.current m))) t
+    ∙ ap (λ (i : ℕ). slice_set old.tasks.items i (Some (told_of old.current m))) number in
     record {
       needs = subst (λ (x : OpenNeeds). AreTasks (open_in (record { number = creator.number; task = tell_creator k.task creator.task })) (map open_in above) x) (sym back.needs) h.1;
       current = subst (λ (x : Creation). IsCreation (record { number = creator.number; task = tell_creator k.task creator.task }) x) (sym back.current)
           (record { number = all.0.number; point = all.0.point; line = all.0.line; clauses = all.0.clauses; final = all.0.final });
       older = all.1;
-      told = subst (λ (ks : List TaskLacks). AreTold (slice_set ended k.number (Some k.task)) ks) (sym tasks) (told_set ended old.tasks.items k.number k.task (told_of old.current m) s.told (task_told k old.current m s.current h.0));
+      told = subst (λ (ks : List (Option TaskLacks)). AreTold (slice_set ended k.number (Some k.task)) ks) (sym tasks) (told_set ended old.tasks.items k.number k.task (told_of old.current m) s.told (task_told k old.current m s.current h.0));
       ends = s.ends.1 k.task;
     }
 
@@ -132,7 +132,7 @@ alone_still k [] ended old new s c a t h = (
     needs = h;
     current = subst (λ (x : Creation). IsCreation k x) (sym c) s.current;
     older = subst (λ (cs : List Creation). AreCreations [] cs) (ap reverse (sym a)) s.older;
-    told = subst (λ (ks : List TaskLacks). AreTold ended ks) (sym t) s.told;
+    told = subst (λ (ks : List (Option TaskLacks)). AreTold ended ks) (sym t) s.told;
     ends = s.ends;
   },
   refl,
@@ -170,16 +170,16 @@ closes_more old mid new more on step n s =
     let k = on n s in
     record { nest = closed tell_creator k.nest; follows = step.ends k.nest k.follows; same = stop_same k.nest.acting k.nest.above k.nest.ended ∙ k.same }
 
-stop_alone : (k : Numbered Asking) (above : List (Numbered Asking)) (ended : List (Option Asking)) (f : Following) → Follows k above ended f → above ≡ [] → AreTaskLacks (at_stop (record { acting = k; above = above; ended = ended })).ended f.tasks.items
+stop_alone : (k : Numbered Asking) (above : List (Numbered Asking)) (ended : List (Option Asking)) (f : Following) → Follows k above ended f → above ≡ [] → AreTaskLacks (at_stop (record { acting = k; above = above; ended = ended })).ended (told_in f.tasks.items)
 stop_alone k [] ended f s e = all_told ended f.tasks.items s.ends s.told
 stop_alone k (c ∷ above) ended f s e = let x : c ∷ above ≡ [] = e in absurd cc
 
-pub closes_last : (old mid new : Following) → ClosesOn old mid → IsClosed mid new false → (n : Nest Asking) → IsFollowing n old → AreTaskLacks (at_stop n).ended new.tasks.items
+pub closes_last : (old mid new : Following) → ClosesOn old mid → IsClosed mid new false → (n : Nest Asking) → IsFollowing n old → AreTaskLacks (at_stop n).ended (told_in new.tasks.items)
 closes_last old mid new on step n s =
     let k = on n s in
     let none : k.nest.above ≡ [] = step.last refl k.nest k.follows in
     let now : IsFollowing (closed tell_creator k.nest) new = step.ends k.nest k.follows in
-    subst (λ (m : Nest Asking). AreTaskLacks m.ended new.tasks.items) (stop_same k.nest.acting k.nest.above k.nest.ended ∙ k.same)
+    subst (λ (m : Nest Asking). AreTaskLacks m.ended (told_in new.tasks.items)) (stop_same k.nest.acting k.nest.above k.nest.ended ∙ k.same)
     (stop_alone (closed tell_creator k.nest).acting (closed tell_creator k.nest).above (closed tell_creator k.nest).ended new now (still k.nest.acting k.nest.above k.nest.ended none))
   where
     still : (k : Numbered Asking) (above : List (Numbered Asking)) (ended : List (Option Asking)) → above ≡ [] → (closed_to tell_creator k above ended).above ≡ []

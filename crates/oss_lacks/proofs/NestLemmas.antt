@@ -5,7 +5,7 @@ use Rattle.std.proofs.lemmas.List.{length-append, set-append_left}
 use Rattle.std.proofs.Math.Seq.{set-append_seam}
 use Rattle.oss_lacks.specs.declared.lacks.TaskLacks.{TaskLacks}
 use Rattle.oss_lacks.specs.Asking.{Asking}
-use Rattle.oss_lacks.specs.Following.{AllEnded, AllWillEnd, AreTold}
+use Rattle.oss_lacks.specs.Following.{AllEnded, AllWillEnd, AreTold, told_in}
 use Rattle.oss_lacks.specs.Lacks.{AreTaskLacks, IsTaskLacks}
 use Rattle.oss_lacks.specs.Nests.{Numbered}
 
@@ -33,36 +33,43 @@ ends_opened k above ended h = (
 )
 
 -- What is told of each
-pub told_more : (ts : List (Option Asking)) (ks : List TaskLacks) (k : TaskLacks) → AreTold ts ks → AreTold (ts ++ None ∷ []) (ks ++ k ∷ [])
-told_more [] [] k h = tt
-told_more [] (x ∷ ks) k h = absurd h
-told_more (None ∷ ts) [] k h = absurd h
-told_more (Some t ∷ ts) [] k h = absurd h
-told_more (None ∷ ts) (x ∷ ks) k h = told_more ts ks k h
-told_more (Some t ∷ ts) (x ∷ ks) k h = (h.0, told_more ts ks k h.1)
+pub told_more : (ts : List (Option Asking)) (ks : List (Option TaskLacks)) → AreTold ts ks → AreTold (ts ++ None ∷ []) (ks ++ None ∷ [])
+told_more [] [] h = tt
+told_more [] (x ∷ ks) h = absurd h
+told_more (None ∷ ts) [] h = absurd h
+told_more (Some t ∷ ts) [] h = absurd h
+told_more (None ∷ ts) (None ∷ ks) h = told_more ts ks h
+told_more (None ∷ ts) (Some x ∷ ks) h = absurd h
+told_more (Some t ∷ ts) (None ∷ ks) h = absurd h
+told_more (Some t ∷ ts) (Some x ∷ ks) h = (h.0, told_more ts ks h.1)
 
-pub told_length : (ts : List (Option Asking)) (ks : List TaskLacks) → AreTold ts ks → length ts ≡ length ks
+pub told_length : (ts : List (Option Asking)) (ks : List (Option TaskLacks)) → AreTold ts ks → length ts ≡ length ks
 told_length [] [] h = refl
 told_length [] (x ∷ ks) h = absurd h
 told_length (None ∷ ts) [] h = absurd h
 told_length (Some t ∷ ts) [] h = absurd h
-told_length (None ∷ ts) (x ∷ ks) h = ap suc (told_length ts ks h)
-told_length (Some t ∷ ts) (x ∷ ks) h = ap suc (told_length ts ks h.1)
+told_length (None ∷ ts) (None ∷ ks) h = ap suc (told_length ts ks h)
+told_length (None ∷ ts) (Some x ∷ ks) h = absurd h
+told_length (Some t ∷ ts) (None ∷ ks) h = absurd h
+told_length (Some t ∷ ts) (Some x ∷ ks) h = ap suc (told_length ts ks h.1)
 
-pub told_set : (ts : List (Option Asking)) (ks : List TaskLacks) (i : ℕ) (t : Asking) (k : TaskLacks) → AreTold ts ks → IsTaskLacks t k → AreTold (slice_set ts i (Some t)) (slice_set ks i k)
+pub told_set : (ts : List (Option Asking)) (ks : List (Option TaskLacks)) (i : ℕ) (t : Asking) (k : TaskLacks) → AreTold ts ks → IsTaskLacks t k → AreTold (slice_set ts i (Some t)) (slice_set ks i (Some k))
 told_set [] [] i t k h m = tt
 told_set [] (x ∷ ks) i t k h m = absurd h
 told_set (None ∷ ts) [] i t k h m = absurd h
 told_set (Some u ∷ ts) [] i t k h m = absurd h
-told_set (None ∷ ts) (x ∷ ks) zero t k h m = (m, h)
-told_set (Some u ∷ ts) (x ∷ ks) zero t k h m = (m, h.1)
-told_set (None ∷ ts) (x ∷ ks) (suc i) t k h m = told_set ts ks i t k h m
-told_set (Some u ∷ ts) (x ∷ ks) (suc i) t k h m = (h.0, told_set ts ks i t k h.1 m)
+told_set (None ∷ ts) (None ∷ ks) zero t k h m = (m, h)
+told_set (None ∷ ts) (None ∷ ks) (suc i) t k h m = told_set ts ks i t k h m
+told_set (None ∷ ts) (Some x ∷ ks) i t k h m = absurd h
+told_set (Some u ∷ ts) (None ∷ ks) i t k h m = absurd h
+told_set (Some u ∷ ts) (Some x ∷ ks) zero t k h m = (m, h.1)
+told_set (Some u ∷ ts) (Some x ∷ ks) (suc i) t k h m = (h.0, told_set ts ks i t k h.1 m)
 
 -- At the end of all it is told of each.
-pub all_told : (ts : List (Option Asking)) (ks : List TaskLacks) → AllEnded ts → AreTold ts ks → AreTaskLacks ts ks
+pub all_told : (ts : List (Option Asking)) (ks : List (Option TaskLacks)) → AllEnded ts → AreTold ts ks → AreTaskLacks ts (told_in ks)
 all_told [] [] e h = tt
 all_told [] (x ∷ ks) e h = absurd h
 all_told (None ∷ ts) ks e h = absurd e
 all_told (Some t ∷ ts) [] e h = absurd h
-all_told (Some t ∷ ts) (x ∷ ks) e h = (h.0, all_told ts ks e h.1)
+all_told (Some t ∷ ts) (None ∷ ks) e h = absurd h
+all_told (Some t ∷ ts) (Some x ∷ ks) e h = (h.0, all_told ts ks e h.1)

@@ -1,6 +1,6 @@
 -- What is kept beside the free run is right for what is known of its tasks.
 -- Read against: while a child of main acts, it is kept how it was created, and of main nothing but its point; of the child nothing is told yet. At its end it is told what its clauses lack, and main acts.
-use Rattle.std.specs.Prelude.{◌≡◌, ◌<◌, ℕ, Bool, true, false, List, [], ◌∷◌, ◌++◌, length, map, reverse, Option, Some, None, slice_set}
+use Rattle.std.specs.Prelude.{◌≡◌, ◌<◌, ℕ, Bool, true, false, List, [], ◌∷◌, ◌++◌, length, map, reverse, Option, Some, None, filter_map, slice_set}
 use Rattle.oss_model.specs.Bodies.{Ask, Frame, Order}
 use Rattle.oss_model.specs.Order.{written}
 use Rattle.oss_machine.specs.Frames.{CodeScript}
@@ -30,12 +30,16 @@ AreCreations [] [] = Unit {0}
 AreCreations (t ∷ ts) (c ∷ cs) = IsCreation t c × AreCreations ts cs
 AreCreations _ _ = ⊥
 
--- Of each of these tasks that has ended this is told.
-abbrev pub AreTold : List (Option Asking) → List TaskLacks → Type 0
+-- Of each of these tasks that has ended this is told, and nothing of another.
+abbrev pub AreTold : List (Option Asking) → List (Option TaskLacks) → Type 0
 AreTold [] [] = Unit {0}
-AreTold (None ∷ ts) (k ∷ ks) = AreTold ts ks
-AreTold (Some t ∷ ts) (k ∷ ks) = IsTaskLacks t k × AreTold ts ks
+AreTold (None ∷ ts) (None ∷ ks) = AreTold ts ks
+AreTold (Some t ∷ ts) (Some k ∷ ks) = IsTaskLacks t k × AreTold ts ks
 AreTold _ _ = ⊥
+
+-- What is told of those of which something is.
+abbrev pub told_in : List (Option TaskLacks) → List TaskLacks
+told_in slots = filter_map (λ (slot : Option TaskLacks). slot) slots
 
 -- All of them have ended.
 abbrev pub AllEnded : {A : Type 0} → List (Option A) → Type 0
@@ -90,24 +94,23 @@ Notes q line created final old new =
 
 -- All that are open have ended.
 abbrev pub HaveEnded : Following → Following → Type 0
-HaveEnded old new = (n : Nest Asking) → IsFollowing n old → AreTaskLacks (at_stop n).ended new.tasks.items
+HaveEnded old new = (n : Nest Asking) → IsFollowing n old → AreTaskLacks (at_stop n).ended (told_in new.tasks.items)
 
 -- What is told of a task that was created so.
 abbrev pub told_of : Creation → Mending → TaskLacks
 told_of c m = record { task = c.point; line = c.line; clauses = c.clauses; is_final = c.is_final; mending = m }
 
 -- There is one place more, with this number.
-pub record IsOneMore (old new : List TaskLacks) (number : ℕ) : Type 0 where
+pub record IsOneMore (old new : List (Option TaskLacks)) (number : ℕ) : Type 0 where
   pub number_is : number ≡ length old
-  pub slot : TaskLacks
-  pub more : new ≡ old ++ slot ∷ []
+  pub more : new ≡ old ++ None ∷ []
 
 -- The creator acts, and of the task that has ended it is told what its clauses lack.
 pub record IsReturned (m : Mending) (old new : Following) : Type 0 where
   pub creator : Creation
   pub above : old.above ≡ new.above ++ creator ∷ []
   pub current : new.current ≡ creator
-  pub tasks : new.tasks.items ≡ slice_set old.tasks.items old.current.number (told_of old.current m)
+  pub tasks : new.tasks.items ≡ slice_set old.tasks.items old.current.number (Some (told_of old.current m))
   pub needs : new.needs ≡ old.needs
 
 -- That is so, or there is no creator.

@@ -10,7 +10,7 @@ ghost use Rattle.oss_task_needs.specs.Asking.{asks};
 
 use crate::creation::Creation;
 use crate::lacks::TaskLacks;
-use crate::slots::{add_slot, fill_slot};
+use crate::slots::{add_slot, all_told, fill_slot};
 use oss_code::TaskOrder;
 use oss_machine::Ask;
 use oss_needs::Demand;
@@ -28,7 +28,7 @@ pub(crate) struct Following {
     needs: OpenNeeds,
     current: Creation,
     above: List<Creation>,
-    tasks: Vec<TaskLacks>,
+    tasks: Vec<Option<TaskLacks>>,
 }
 
 // By hand, so that who lets one go calls this, and does not take it apart at each exit.
@@ -56,7 +56,7 @@ fn is_final_below(creator: bool, order: &TaskOrder) -> bool
 }
 
 impl Following {
-    ghost use Rattle.oss_lacks.specs.Following.{Asks, Ends, HaveEnded, IsBack, IsClosed, IsFollowing, Notes, Opens};
+    ghost use Rattle.oss_lacks.specs.Following.{Asks, Ends, HaveEnded, IsBack, IsClosed, IsFollowing, Notes, Opens, told_in};
 
     /// Main alone, before its first act. It is an error if memory is wanted.
     pub(crate) fn new(alloc: Global) -> Result<Following, AllocError>
@@ -99,7 +99,7 @@ impl Following {
     {
         let is_final = is_final_below(is_final, order);
         self.needs.open(order.accesses.as_slice(), is_final)?;
-        let number = add_slot(self.alloc, &mut self.tasks)?;
+        let number = add_slot(&mut self.tasks)?;
         let child = self
             .current
             .child(self.alloc, number, created, line, order, is_final)?;
@@ -185,12 +185,12 @@ impl Following {
         }
     }
 
-    /// What is told of the tasks, by their numbers.
-    pub(crate) fn into_tasks(self) -> List<TaskLacks>
-        ensures { result ≡ self.tasks.items }
+    /// What is told of the tasks that have ended, by their numbers.
+    pub(crate) fn into_tasks(self) -> Result<List<TaskLacks>, AllocError>
+        ensures { IfOk result (λ tasks. tasks ≡ told_in self.tasks.items) }
     {
         let Following {
-            alloc: _,
+            alloc,
             needs,
             current,
             above,
@@ -199,6 +199,6 @@ impl Following {
         drop(needs);
         drop(current);
         drop(above);
-        List::from_vec(tasks)
+        all_told(alloc, tasks)
     }
 }

@@ -54,10 +54,10 @@ fn finish(mut following: Following, fault: Option<RunFault>) -> Result<Lacks, Al
     ensures { IfOk result (λ lacks. IsFinished following fault lacks) }
 {
     match following.close_all() {
-        Ok(()) => Ok(Lacks {
-            tasks: following.into_tasks(),
-            fault,
-        }),
+        Ok(()) => {
+            let tasks = following.into_tasks()?;
+            Ok(Lacks { tasks, fault })
+        }
         Err(full) => {
             drop(following);
             Err(full)

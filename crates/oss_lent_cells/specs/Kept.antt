@@ -6,9 +6,10 @@ use Rattle.oss_syntax.specs.declared.access.Range.{Range}
 use Rattle.oss_ranges.specs.declared.piece.Piece.{Piece}
 use Rattle.oss_ranges.specs.Cells.{is_within, value_at}
 use Rattle.oss_needs.specs.declared.clause.Clause.{Clause}
+use Rattle.oss_lent_cells.specs.declared.holder.Child.{Child}
 use Rattle.oss_lent_cells.specs.declared.holder.Holder.{Holder}
 use Rattle.oss_lent_cells.specs.declared.holder.Lent.{Lent}
-use Rattle.oss_lent_cells.specs.Lent.{LentCells, lend_by, lent_to, lends, waited_for}
+use Rattle.oss_lent_cells.specs.Lent.{LentCells, all_counted, counted, counted_if, lend_by, lent_to, lends, waited_for}
 
 -- This is kept of what is lent of each cell.
 abbrev pub AreLent : LentCells → List (Piece Lent) → Type 0
@@ -22,13 +23,17 @@ IsLentTo h lo hi old new = (c : ℕ) → value_at new c ≡ (if is_within lo hi 
 abbrev pub said_before : List (Piece Clause) → ℕ → ℕ → Option Clause
 said_before clauses from c = if is_within 0 from c then value_at clauses c else None
 
--- The child with this number, created on this line, gets the cells before this one by its clauses.
-abbrev pub AreLentBefore : ℕ → ℕ → List (Piece Clause) → ℕ → List (Piece Lent) → List (Piece Lent) → Type 0
-AreLentBefore number line clauses from old new = (c : ℕ) → value_at new c ≡ lend_by number line (said_before clauses from c) (value_at old c)
+-- The child has a cell by this clause, as it counts.
+abbrev pub holder_by : Child → Clause → Holder
+holder_by h c = record { number = h.number; line = h.line; clause = counted h.is_final c }
 
--- It gets each cell by its clauses.
-abbrev pub AreLends : ℕ → ℕ → List (Piece Clause) → List (Piece Lent) → List (Piece Lent) → Type 0
-AreLends number line clauses old new = (lent : LentCells) → AreLent lent old → AreLent (lends number line (value_at clauses) lent) new
+-- The child gets the cells before this one by its clauses, as they count.
+abbrev pub AreLentBefore : Child → List (Piece Clause) → ℕ → List (Piece Lent) → List (Piece Lent) → Type 0
+AreLentBefore h clauses from old new = (c : ℕ) → value_at new c ≡ lend_by h.number h.line (counted_if h.is_final (said_before clauses from c)) (value_at old c)
+
+-- It gets each cell by its clauses, as they count.
+abbrev pub AreLends : Child → List (Piece Clause) → List (Piece Lent) → List (Piece Lent) → Type 0
+AreLends h clauses old new = (lent : LentCells) → AreLent lent old → AreLent (lends h.number h.line (all_counted h.is_final (value_at clauses)) lent) new
 
 -- The cell is in one of the ranges.
 abbrev pub in_ranges : List Range → ℕ → Bool

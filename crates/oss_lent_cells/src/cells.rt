@@ -5,7 +5,7 @@ ghost use Rattle.oss_ranges.specs.Cells.{value_at};
 ghost use Rattle.oss_lent_cells.specs.Lent.{first_holder, first_writer, nothing_lent};
 ghost use Rattle.oss_lent_cells.specs.Kept.{AreLends, AreLent, AreWaitedFor};
 
-use crate::holder::{Holder, Lent};
+use crate::holder::{Child, Holder, Lent};
 use crate::lending::{lend_runs, take_back};
 use oss_needs::Clause;
 use oss_ranges::RangeMap;
@@ -41,17 +41,12 @@ impl LentCells {
         }
     }
 
-    /// The child with this number, created on this line, gets each cell of which its clauses say something. It costs the runs of
-    /// alike cells in them. It is an error if memory is wanted; this may have any cells then, and is given up.
-    pub fn lend(
-        &mut self,
-        clauses: &RangeMap<Clause>,
-        number: u32,
-        line: u32,
-    ) -> Result<(), AllocError>
-        ensures { OnOk result (AreLends number line clauses.now.pieces self.old self.new) }
+    /// The child gets each cell of which its clauses say something, by that as it counts. It costs the runs of alike cells in
+    /// them. It is an error if memory is wanted; this may have any cells then, and is given up.
+    pub fn lend(&mut self, clauses: &RangeMap<Clause>, child: Child) -> Result<(), AllocError>
+        ensures { OnOk result (AreLends child clauses.now.pieces self.old self.new) }
     {
-        lend_runs(&mut self.cells, clauses, number, line)
+        lend_runs(&mut self.cells, clauses, child)
     }
 
     /// The task waits for all its children: nothing is lent any more. It takes no memory.

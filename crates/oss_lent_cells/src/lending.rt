@@ -4,7 +4,7 @@ ghost use Rattle.std.specs.Prelude.{◌≡◌, OnOk};
 ghost use Rattle.oss_lent_cells.specs.Lent.{if_more, lent_to, only_reads, or_else};
 ghost use Rattle.oss_lent_cells.specs.Kept.{AreLends, AreTakenBack, AreWaitedFor, IsLentTo};
 
-use crate::holder::{Holder, Lent};
+use crate::holder::{Child, Holder, Lent, holder_by};
 use oss_needs::Clause;
 use oss_ranges::RangeMap;
 use oss_syntax::{Mode, Range};
@@ -17,10 +17,9 @@ const CELLS: u32 = 1_048_576;
 pub(crate) fn lend_runs(
     cells: &mut RangeMap<Lent>,
     clauses: &RangeMap<Clause>,
-    number: u32,
-    line: u32,
+    child: Child,
 ) -> Result<(), AllocError>
-    ensures { OnOk result (AreLends number line clauses.now.pieces cells.old.pieces cells.new.pieces) }
+    ensures { OnOk result (AreLends child clauses.now.pieces cells.old.pieces cells.new.pieces) }
 {
     // (it tells that no cell from here on has a clause)
     let _past = clauses.run_from(0, CELLS);
@@ -28,12 +27,7 @@ pub(crate) fn lend_runs(
     while from < CELLS {
         let (clause, to) = clauses.run_from(from, CELLS);
         if let Some(clause) = clause {
-            let child = Holder {
-                number,
-                line,
-                clause,
-            };
-            lend_range(cells, Range { lo: from, hi: to }, child)?;
+            lend_range(cells, Range { lo: from, hi: to }, holder_by(child, clause))?;
         }
         from = to;
     }

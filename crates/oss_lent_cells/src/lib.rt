@@ -6,4 +6,4 @@ mod holder;
 mod lending;
 
 pub use cells::LentCells;
-pub use holder::{Holder, Lent};
+pub use holder::{Child, Holder, Lent, counted};

@@ -76,13 +76,13 @@ tasks_told all grids (Some t ∷ ts) (x ∷ xs) hs lines (k ∷ ks) laid a b m =
 )
 
 -- Main.
-main_told : (all : List Item) (told : List Told) (late : List Late) (k : TaskMissing) → AreLines all [] told late → IsMainMade late k → IsMainMissing all told k
+main_told : (all : List Item) (told : List Told) (late : List Late) (k : TaskMissing) → AreLines all told late → IsMainMade late k → IsMainMissing all told k
 main_told all told late k lines made = record {
   task = made.task;
   line = made.line;
   lacks = made.lacks;
   wants = made.wants;
-  lines = subst (λ (ls : List Late). AreLines all [] told ls) (sym made.lines_are) lines;
+  lines = subst (λ (ls : List Late). AreLines all told ls) (sym made.lines_are) lines;
 }
 
 pub is_missing : (code : CodeParts) (fuel : ℕ) (all : List Item) (grids : List Grid) (l : Lacks) (w : TaskWaits) (ks : List TaskMissing) → grids ≡ grids_from all 0 → IsLacks code fuel l

@@ -38,7 +38,7 @@ first_known (x ∷ rest) = x
 -- These are the lines of a task of which this is known on the second walk; none where nothing is.
 abbrev pub AreLinesOf : List Item → Option Holding → List Late → Type 0
 AreLinesOf all None ls = ls ≡ []
-AreLinesOf all (Some h) ls = AreLines all h.path h.told ls
+AreLinesOf all (Some h) ls = AreLines all h.told ls
 
 -- This is missing of this task, of which this is known on the second walk.
 pub record IsTaskMissing (all : List Item) (t : Asking) (h : Option Holding) (k : TaskMissing) : Type 0 where
@@ -60,7 +60,7 @@ pub record IsMainMissing (all : List Item) (told : List Told) (k : TaskMissing) 
   pub line : k.line ≡ 0
   pub lacks : k.lacks ≡ []
   pub wants : k.wants ≡ []
-  pub lines : AreLines all [] told k.late
+  pub lines : AreLines all told k.late
 
 -- Main, and then all tasks.
 abbrev pub AreAllMissing : List Item → List (Option Asking) → Nest Holding → List TaskMissing → Type 0

@@ -29,7 +29,7 @@ use Rattle.oss_missing_laws.proofs.ClearLemmas.{clear_use, lent_told}
 use Rattle.oss_missing_laws.proofs.FateLemmas.{HasFate, fate_behind, fate_of_new}
 use Rattle.oss_missing_laws.proofs.GrowLemmas.{IsMoreAsked, IsMoreTold, asked_later, asked_still, asked_told, told_later, told_still}
 use Rattle.oss_missing_laws.proofs.KnownLemmas.{IsKnown, child_known, child_rights, counted_known, lend_known, made_known}
-use Rattle.oss_missing_laws.proofs.LevelLemmas.{AskedFated, AskedFates, Clean, HeldFated, IsTogether, Twin, asked_nest, askeds, frees, given_at, given_at_same, given_by, given_same, head_of, held_nest, held_told, lacking_unmixed, mended_at, mended_said, nothing_pending, owns, rehead, right_now_asked, untold_now}
+use Rattle.oss_missing_laws.proofs.LevelLemmas.{AskedFated, AskedFates, Clean, HeldFated, IsTogether, Twin, asked_nest, askeds, frees, given_at, given_at_same, given_by, given_same, has_said, head_of, held_nest, held_told, lacking_unmixed, mended_at, mended_said, nothing_pending, owns, rehead, right_now_asked, untold_now}
 use Rattle.oss_missing_laws.proofs.PassLemmas.{clauses_none, named_some}
 use Rattle.oss_missing_laws.proofs.RunLevels.{Level, Reach, free_run, gone, start}
 use Rattle.oss_missing_laws.proofs.StepLemmas.{alive, below}
@@ -98,7 +98,7 @@ module _ {S : Type 0} (P : Program S) (order : Order S) (first : List ℕ) (fuel
         sym (ap (λ (x : Bool). is_mixed x fate.last.clauses c) fate.more.final ∙ ap (λ (xs : List Access). is_mixed (t.free.context.final || o.last) xs c) fate.more.clauses) ∙ lacking_unmixed fate.last c i clean
 
     mended_is : (c : ℕ) → c < 1048576 → mended_in e.asked (length ch) c ≡ given_by (created_by t.free o line) c
-    mended_is c i = ap (λ (k : ℕ). mended_in e.asked k c) counts ∙ mended_at e.asked (length ca) fate.last fate.at_ c ∙ said_is c i
+    mended_is c i = ap (λ (k : ℕ). mended_in e.asked k c) counts ∙ mended_at e.asked (length ca) fate.last fate.at_ c ∙ has_said fate.last c i clean ∙ given_same (created_by t.free o line) fate.last fate.more.final fate.more.clauses c
 
     -- the creator covers it
     behind_fates : AskedFates e (record { number = t.asked.number; task = tell_creator fate.last t.asked.task }) (askeds rest)

@@ -12,15 +12,15 @@ use Rattle.oss_needs.specs.declared.clause.Clause.{Clause}
 use Rattle.oss_needs.specs.Givens.{given_of}
 use Rattle.oss_needs.specs.Lacks.{mended}
 use Rattle.oss_needs.proofs.Bools.{both_true, first_true, never}
-use Rattle.oss_lent_cells.specs.Lent.{nothing_lent}
+use Rattle.oss_lent_cells.specs.Lent.{counted_if, nothing_lent}
 use Rattle.oss_freed.specs.Freed.{freed}
-use Rattle.oss_lacks.specs.Asking.{Asking, main as main_asking, mended_clauses}
+use Rattle.oss_lacks.specs.Asking.{Asking, main as main_asking}
 use Rattle.oss_lacks.specs.Nests.{Nest, alone, closed, opened, with_acting}
 use Rattle.oss_lacks.specs.Walks.{IsActing, Walks, behind}
 use Rattle.oss_lacks.specs.Walks.Walks.{opens as walks_open, runs_on as walks_on}
 use Rattle.oss_missing_waits.specs.Holding.{Holding, IsUse, Uses, has_use, lent_when, main as main_holding, new_task, releases, touched, waits_on, with_lent, with_told}
 use Rattle.oss_missing_waits.specs.Holding.IsUse.{known, none, told}
-use Rattle.oss_missing_waits.specs.Waits.{IsBehindAsk, IsBehindIf, Mended, Waits, mended_in, tell_nothing}
+use Rattle.oss_missing_waits.specs.Waits.{IsBehindAsk, IsBehindIf, Mended, Waits, has_by, mended_in, tell_nothing}
 use Rattle.oss_missing_waits.specs.Waits.Waits.{opens as waits_open, runs_on as waits_on_run}
 
 -- a number below n that passes the test, or none does
@@ -109,10 +109,10 @@ past_clauses [] c l = refl
 past_clauses (a ∷ rest) c l = past_or (in_access a c) (in_clauses rest c) (past_access a c l) (past_clauses rest c l)
 
 -- nor do clauses that are mended
-past_mended : (t : Asking) (c : ℕ) → 1048576 ≤ c → mended_clauses t c ≡ None
+past_mended : (t : Asking) (c : ℕ) → 1048576 ≤ c → has_by t c ≡ None
 past_mended t c l =
     let b : nat_lt c 1048576 ≡ false = grind (arith, nat_tests, l) in
-    ap (λ (x : Bool). if x then mended (given_of t.final t.clauses c) (t.asked c) else None) (no_more (nat_le 0 c) (nat_lt c 1048576) b)
+    ap (λ (x : Bool). counted_if t.final (if x then mended (given_of t.final t.clauses c) (t.asked c) else None)) (no_more (nat_le 0 c) (nat_lt c 1048576) b)
 
 past_if : (b : Bool) (o p : Option Clause) → o ≡ None → p ≡ None → (if b then o else p) ≡ None
 past_if true o p e f = e
@@ -120,7 +120,7 @@ past_if false o p e f = f
 
 past_all : (ended : List (Option Asking)) (k c : ℕ) → 1048576 ≤ c → mended_in ended k c ≡ None
 past_all [] k c l = refl
-past_all (Some t ∷ rest) k c l = past_if (k == 0) (mended_clauses t c) (mended_in rest (k - 1) c) (past_mended t c l) (past_all rest (k - 1) c l)
+past_all (Some t ∷ rest) k c l = past_if (k == 0) (has_by t c) (mended_in rest (k - 1) c) (past_mended t c l) (past_all rest (k - 1) c l)
 past_all (None ∷ rest) k c l = past_if (k == 0) None (mended_in rest (k - 1) c) refl (past_all rest (k - 1) c l)
 
 module _ {S : Type 0} (f : Frame S) (line : ℕ) (w : Mended) (few : (k c : ℕ) → 1048576 ≤ c → w k c ≡ None) where

@@ -25,15 +25,15 @@ use Rattle.oss_needs.proofs.Bools.{never}
 use Rattle.oss_task_needs.specs.Asking.{Asked, asks, creates}
 use Rattle.oss_open_needs.specs.Opening.{releases as asks_released, waits}
 use Rattle.oss_lent_cells.specs.declared.holder.Holder.{Holder}
-use Rattle.oss_lent_cells.specs.Lent.{nothing_lent}
+use Rattle.oss_lent_cells.specs.Lent.{counted_if, nothing_lent}
 use Rattle.oss_freed.specs.Freed.{IsOfAnnotations, all_cells, freed_ask, freed_order}
 use Rattle.oss_free_tasks.specs.declared.deed.Deed.TheVariants as deeds
 use Rattle.oss_free_tasks.specs.Deeds.{IsDeed, asked_deed}
-use Rattle.oss_lacks.specs.Asking.{Asking, asking, behind_ask, created_by, main as main_asking, mended_clauses, range_of, tell_creator}
+use Rattle.oss_lacks.specs.Asking.{Asking, asking, behind_ask, created_by, main as main_asking, range_of, tell_creator}
 use Rattle.oss_lacks.specs.Nests.{Nest, all_closed, closed, opened, with_acting}
 use Rattle.oss_missing_waits.specs.Holding.{Holding, IsUse, Told, has_use, hinderer, lent_when as held_when, main as main_holding, new_task as new_holding, releases, touched, waits_before, waits_on, with_lent}
 use Rattle.oss_missing_waits.specs.Holding.IsUse.{known, none, told}
-use Rattle.oss_missing_waits.specs.Waits.{IsBehindAsk, IsDirective, IsTouched, mended_in, tell_nothing}
+use Rattle.oss_missing_waits.specs.Waits.{IsBehindAsk, IsDirective, IsTouched, has_by, mended_in, tell_nothing}
 use Rattle.oss_missing_laws.specs.Entries.{demand_by}
 use Rattle.oss_missing_laws.specs.Programs.{AllUnfolded, AreWithin, IsNaming, IsNotWrong, LacksNothing}
 use Rattle.oss_missing_laws.proofs.AlikeLemmas.{IsAlike, create_alike}
@@ -42,7 +42,7 @@ use Rattle.oss_missing_laws.proofs.ClearLemmas.{lent_told}
 use Rattle.oss_missing_laws.proofs.FateLemmas.{HasFate, IsNumbered, ended_at, fate_of_new, fated_at_stop, opened_numbered}
 use Rattle.oss_missing_laws.proofs.FineLemmas.{EndedClean, IsFine, IsQuiet, IsRight, IsUnmixed, fine_at_stop, fine_closed_to, fine_opened, given_eq, head_quiet, head_right, quiet_acting, quiet_closed, quiet_opened, reright}
 use Rattle.oss_missing_laws.proofs.GrowLemmas.{IsMoreAsked, asked_later, asked_still, asked_told}
-use Rattle.oss_missing_laws.proofs.LevelLemmas.{AskedFated, Clean, IsTogether, Twin, asked_nest, askeds, given_at, given_by, given_same, head_of, held_nest, helds, mended_at, mended_said, nothing_pending}
+use Rattle.oss_missing_laws.proofs.LevelLemmas.{AskedFated, Clean, IsTogether, Twin, asked_nest, askeds, given_at, given_by, given_same, has_said, head_of, held_nest, helds, mended_at, nothing_pending}
 use Rattle.oss_missing_laws.proofs.PassLemmas.{unnamed_said, unnamed_unmixed}
 use Rattle.oss_missing_laws.proofs.RunLevels.{Level, free_run}
 use Rattle.oss_missing_laws.proofs.StepLemmas.{alive, in_cells}
@@ -285,11 +285,11 @@ module _ {S : Type 0} (P : Program S) (order : Order S) (first : List ℕ) (fuel
 
     -- by what the new task has its cells, as it is known at an end
     module _ (all : List (Option Asking)) (new : HasFate IsMoreAsked asked_still asked_later tell_creator asked_told all (record { number = length ca; task = created_by t.free o line })) (whole : LacksNothing new.last) where
-      mended_is : (c : ℕ) → mended_in all (length ch) c ≡ mended_clauses new.last c
+      mended_is : (c : ℕ) → mended_in all (length ch) c ≡ has_by new.last c
       mended_is c = ap (λ (k : ℕ). mended_in all k c) counts ∙ mended_at all (length ca) new.last new.at_ c
 
       said_is : (c : ℕ) → c < 1048576 → mended_in all (length ch) c ≡ given_by (created_by t.free o line) c
-      said_is c j = mended_is c ∙ mended_said new.last c j whole ∙ given_same (created_by t.free o line) new.last new.more.final new.more.clauses c
+      said_is c j = mended_is c ∙ has_said new.last c j whole ∙ given_same (created_by t.free o line) new.last new.more.final new.more.clauses c
 
       -- past the last cell nothing is said
       past : (c : ℕ) → 1048576 ≤ c → mended_in all (length ch) c ≡ None
@@ -297,7 +297,7 @@ module _ {S : Type 0} (P : Program S) (order : Order S) (first : List ℕ) (fuel
           let b : nat_lt c 1048576 ≡ false = grind (arith, nat_tests, j) in
           let a : nat_le 0 c ≡ true = grind (arith, nat_tests) in
           let w : is_within 0 1048576 c ≡ false = ap (λ (x : Bool). x && nat_lt c 1048576) a ∙ b in
-          mended_is c ∙ ap (λ (x : Bool). if x then mended (given_of new.last.final new.last.clauses c) (new.last.asked c) else None) w
+          mended_is c ∙ ap (λ (x : Bool). counted_if new.last.final (if x then mended (given_of new.last.final new.last.clauses c) (new.last.asked c) else None)) w
 
       kept : (c : ℕ) → is_some (mended_in all (length ch) c) ≡ true → t.held.task.released c ≡ false
       kept c i = go (less_or c 1048576)

@@ -3,9 +3,10 @@ use Rattle.std.proofs.Common.{◌≡◌, refl, sym, subst, ap, ◌∙◌, ℕ, z
 use Rattle.std.specs.Prelude.{◌&&◌, ◌==◌, if◌then◌else◌, nat_le, nat_lt}
 use Rattle.std.proofs.lemmas.Bool.Decides.{nat_tests}
 use Rattle.oss_syntax.specs.declared.access.Access.{Access}
+use Rattle.oss_syntax.specs.declared.access.Mode.{Mode}
 use Rattle.oss_syntax.specs.declared.access.Mode.TheVariants.{Write}
 use Rattle.oss_ranges.specs.Cells.{is_within}
-use Rattle.oss_model.specs.Rights.{Holds, Mark, Right, Written, is_mixed, right_from}
+use Rattle.oss_model.specs.Rights.{Holds, Mark, NoRight, Released, Right, Written, in_access, is_fresh, is_mixed, joined_mode, joined_right, right_from, right_held}
 use Rattle.oss_model.specs.Bodies.{Frame, Program}
 use Rattle.oss_needs.specs.declared.clause.Clause.{Clause}
 use Rattle.oss_needs.specs.declared.clause.Given.{Given}
@@ -16,16 +17,17 @@ use Rattle.oss_needs.specs.declared.lack.Lack.{Lack}
 use Rattle.oss_needs.specs.declared.lack.Lack.TheVariants as lack
 use Rattle.oss_needs.specs.Claims.{all_right, is_nothing, said}
 use Rattle.oss_needs.specs.Demands.{has_value}
-use Rattle.oss_needs.specs.Givens.{given_of}
+use Rattle.oss_needs.specs.Givens.{given_of, said_by}
 use Rattle.oss_needs.specs.Lacks.{lack_of, mended, mended_by}
 use Rattle.oss_needs.specs.Meeting.{is_met, mark_behind, mark_by, right_by}
 use Rattle.oss_needs.proofs.Bools.{both_true}
 use Rattle.oss_needs.proofs.GivenLemmas.{given_is, lacks_faults}
+use Rattle.oss_lent_cells.specs.Lent.{counted_if}
 use Rattle.oss_task_needs.specs.Asking.{Asked, asks, asks_for}
 use Rattle.oss_lacks.specs.Nests.{Nest, Numbered}
 use Rattle.oss_lacks.specs.Asking.{Asking, mended_clauses, tell_creator}
 use Rattle.oss_missing_waits.specs.Holding.{Holding}
-use Rattle.oss_missing_waits.specs.Waits.{mended_in, tell_nothing}
+use Rattle.oss_missing_waits.specs.Waits.{has_by, mended_in, tell_nothing}
 use Rattle.oss_missing_laws.specs.Programs.{LacksNothing}
 use Rattle.oss_missing_laws.proofs.AlikeLemmas.{IsBeside}
 use Rattle.oss_missing_laws.proofs.EntryLemmas.{unmixed}
@@ -183,15 +185,56 @@ mended_said a c l h =
     ∙ ap (λ (k : Lack). mended_by (given_of a.final a.clauses c) k) (h c l)
     ∙ mended_nothing (given_of a.final a.clauses c)
 
+-- Each clause of a final task is strong.
+abbrev IsStrong : Right → Type 0
+IsStrong (Holds m strong) = strong ≡ true
+IsStrong _ = Unit {0}
+
+held_strong : (o : Option Mode) → IsStrong (right_held o true)
+held_strong None = tt
+held_strong (Some m) = refl
+
+joined_strong : (m : Mode) (r : Right) → IsStrong (joined_right m true r)
+joined_strong m NoRight = refl
+joined_strong m (Holds n other) = held_strong (joined_mode m n)
+joined_strong m Released = refl
+
+joined_if : (b : Bool) (m : Mode) (r : Right) → IsStrong r → IsStrong (if b then joined_right m true r else r)
+joined_if true m r h = joined_strong m r
+joined_if false m r h = h
+
+right_strong : (clauses : List Access) (c : ℕ) → IsStrong (right_from true clauses c)
+right_strong [] c = tt
+right_strong (a ∷ rest) c = joined_if (in_access a c) a.mode (right_from true rest c) (right_strong rest c)
+
+-- So what its clauses say counts as it is.
+counted_right : (final : Bool) (r : Right) (fresh : Bool) → (final ≡ true → IsStrong r) → counted_if final (said (said_by r fresh)) ≡ said (said_by r fresh)
+counted_right final NoRight fresh h = refl
+counted_right true (Holds m strong) fresh h = ap (λ (s : Bool). Some (let k : Clause = record { mode = m; strong = s; fresh = fresh } in k)) (sym (h refl))
+counted_right false (Holds m strong) fresh h = refl
+counted_right final Released fresh h = refl
+
+as_it_is : (b final : Bool) (r : Right) (fresh : Bool) → (final ≡ true → IsStrong r) → counted_if final (said (if b then given.Mixed else said_by r fresh)) ≡ said (if b then given.Mixed else said_by r fresh)
+as_it_is true final r fresh h = refl
+as_it_is false final r fresh h = counted_right final r fresh h
+
+counted_said : (a : Asking) (c : ℕ) → counted_if a.final (given_by a c) ≡ given_by a c
+counted_said a c =
+    as_it_is (is_mixed a.final a.clauses c) a.final (right_from a.final a.clauses c) (is_fresh a.clauses c) (λ e. subst (λ (b : Bool). IsStrong (right_from b a.clauses c)) (sym e) (right_strong a.clauses c))
+
+-- By what a task has a cell of which nothing is lacking.
+pub has_said : (a : Asking) (c : ℕ) → c < 1048576 → LacksNothing a → has_by a c ≡ given_by a c
+has_said a c l h = ap (λ (k : Option Clause). counted_if a.final k) (mended_said a c l h) ∙ counted_said a c
+
 -- by a task's number
-pub mended_at : (ended : List (Option Asking)) (i : ℕ) (last : Asking) → ended_at ended i ≡ Some last → (c : ℕ) → mended_in ended i c ≡ mended_clauses last c
+pub mended_at : (ended : List (Option Asking)) (i : ℕ) (last : Asking) → ended_at ended i ≡ Some last → (c : ℕ) → mended_in ended i c ≡ has_by last c
 mended_at [] i last e c = let x : None ≡ Some last = e in cc
-mended_at (Some t ∷ rest) zero last e c = let k : t ≡ last = cc in ap (λ (a : Asking). mended_clauses a c) k
+mended_at (Some t ∷ rest) zero last e c = let k : t ≡ last = cc in ap (λ (a : Asking). has_by a c) k
 mended_at (None ∷ rest) zero last e c = let x : None ≡ Some last = e in cc
 mended_at (Some t ∷ rest) (suc i) last e c =
     let a : (suc i == 0) ≡ false = grind (arith, nat_tests) in
     let b : suc i - 1 ≡ i = omega arith in
-    ap (λ (x : Bool). if x then mended_clauses t c else mended_in rest (suc i - 1) c) a ∙ ap (λ (j : ℕ). mended_in rest j c) b ∙ mended_at rest i last e c
+    ap (λ (x : Bool). if x then has_by t c else mended_in rest (suc i - 1) c) a ∙ ap (λ (j : ℕ). mended_in rest j c) b ∙ mended_at rest i last e c
 mended_at (None ∷ rest) (suc i) last e c =
     let a : (suc i == 0) ≡ false = grind (arith, nat_tests) in
     let b : suc i - 1 ≡ i = omega arith in

@@ -28,31 +28,18 @@ impl Drop for Wanting {
 }
 
 /// That a task touches a cell which one of its children still has: it has to wait before.
+#[derive(Clone, Copy)]
 pub struct MissingWait {
     pub touch: Touching,
     pub cell: u32,
     /// The line of the touch.
     pub line: u32,
-    /// The first child that hinders it, the line of its creation, and the word by which it has the cell once what its clauses lack is
-    /// mended.
-    pub child: Point,
+    /// The first child that hinders it: the task had created so many before it.
+    pub child: u32,
+    /// The line of the child's creation.
     pub created: u32,
+    /// The word by which the child has the cell once what its clauses lack is mended.
     pub word: Word,
-}
-
-// By hand, so that who lets one go calls this, and does not take it apart at each exit.
-impl Drop for MissingWait {
-    fn drop(self) {
-        let MissingWait {
-            touch: _,
-            cell: _,
-            line: _,
-            child,
-            created: _,
-            word: _,
-        } = self;
-        drop(child);
-    }
 }
 
 /// That a task uses cells which it has released.

@@ -40,9 +40,9 @@ touch_text all touching.Reading c = codes "reads " ++ cell_name all c
 touch_text all touching.Writing c = codes "writes " ++ cell_name all c
 touch_text all (touching.Folding o) c = codes "folds into " ++ cell_name all c ++ codes " by " ++ op_text o ++ codes "="
 
--- the child that hinders a touch
-abbrev pub child_text : MissingWait → List ℕ
-child_text w = codes ": task " ++ text_of w.child ++ codes " (line " ++ decimal w.created ++ codes ")"
+-- the child that hinders a touch: its point is the task's, and behind it the child's number
+abbrev pub child_text : TaskMissing → MissingWait → List ℕ
+child_text t w = codes ": task " ++ text_of t.task ++ codes "." ++ decimal w.child ++ codes " (line " ++ decimal w.created ++ codes ")"
 
 -- what that child has
 abbrev pub has_text : List Item → MissingWait → List ℕ
@@ -53,18 +53,18 @@ abbrev pub before_text : List Item → MissingWait → List ℕ
 before_text all w = codes " lacks a taskwait before it " ++ touch_text all w.touch w.cell ++ codes " at line " ++ decimal w.line
 
 -- a wait that is missing
-abbrev pub wait_text : List Item → MissingWait → List ℕ
-wait_text all w = before_text all w ++ child_text w ++ has_text all w
+abbrev pub wait_text : List Item → TaskMissing → MissingWait → List ℕ
+wait_text all t w = before_text all w ++ child_text t w ++ has_text all w
 
 -- a use behind a release
 abbrev pub late_use_text : List Item → LateUse → List ℕ
 late_use_text all u = codes " uses " ++ pieces_text all 8 u.cells ++ codes " at line " ++ decimal u.line ++ codes " after a release.\n"
 
 -- what a task does too early, or too late
-abbrev pub late_text : List Item → Late → List ℕ
-late_text all (late.Wait w) = wait_text all w
-late_text all (late.Use u) = late_use_text all u
+abbrev pub late_text : List Item → TaskMissing → Late → List ℕ
+late_text all t (late.Wait w) = wait_text all t w
+late_text all t (late.Use u) = late_use_text all u
 
 -- the same with the name of the task
 abbrev pub late_line : List Item → TaskMissing → Late → List ℕ
-late_line all t x = who_text t.task ++ born_text t ++ late_text all x
+late_line all t x = who_text t.task ++ born_text t ++ late_text all t x

@@ -39,35 +39,37 @@ fn add_line(
 {
     add_who(alloc, &task.task, text)?;
     add_born(alloc, task, text)?;
-    add_late(alloc, names, late, text)
+    add_late(alloc, names, task, late, text)
 }
 
-/// Adds a wait or a use.
+/// Adds a wait or a use of a task.
 fn add_late(
     alloc: Global,
     names: &Names<'_>,
+    task: &TaskMissing,
     late: &Late,
     text: &mut Vec<u8>,
 ) -> Result<(), AllocError>
-    ensures { OnOk result (text.new.items ≡ text.old.items ++ late_text names.now late.now) }
+    ensures { OnOk result (text.new.items ≡ text.old.items ++ late_text names.now task.now late.now) }
 {
     match late {
-        Late::Wait(wait) => add_wait(alloc, names, wait, text),
+        Late::Wait(wait) => add_wait(alloc, names, task, wait, text),
         Late::Use(used) => add_late_use(alloc, names, used, text),
     }
 }
 
-/// Adds a wait that is missing.
+/// Adds a wait that a task lacks.
 fn add_wait(
     alloc: Global,
     names: &Names<'_>,
+    task: &TaskMissing,
     wait: &MissingWait,
     text: &mut Vec<u8>,
 ) -> Result<(), AllocError>
-    ensures { OnOk result (text.new.items ≡ text.old.items ++ wait_text names.now wait.now) }
+    ensures { OnOk result (text.new.items ≡ text.old.items ++ wait_text names.now task.now wait.now) }
 {
     add_before(alloc, names, wait, text)?;
-    add_child(alloc, wait, text)?;
+    add_child(alloc, task, wait, text)?;
     add_has(alloc, names, wait, text)
 }
 
@@ -115,12 +117,19 @@ fn add_touch(
     }
 }
 
-/// Adds the child that hinders a touch.
-fn add_child(alloc: Global, wait: &MissingWait, text: &mut Vec<u8>) -> Result<(), AllocError>
-    ensures { OnOk result (text.new.items ≡ text.old.items ++ child_text wait.now) }
+/// Adds the child of a task that hinders a touch.
+fn add_child(
+    alloc: Global,
+    task: &TaskMissing,
+    wait: &MissingWait,
+    text: &mut Vec<u8>,
+) -> Result<(), AllocError>
+    ensures { OnOk result (text.new.items ≡ text.old.items ++ child_text task.now wait.now) }
 {
     add(text, b": task ")?;
-    add_point(alloc, &wait.child, text)?;
+    add_point(alloc, &task.task, text)?;
+    add(text, b".")?;
+    add_number(alloc, wait.child, text)?;
     add(text, b" (line ")?;
     add_number(alloc, wait.created, text)?;
     add(text, b")")

@@ -52,7 +52,7 @@ told_length all (Some t ∷ ts) [] h = absurd h
 told_length all (None ∷ ts) (x ∷ ks) h = ap suc (told_length all ts ks h)
 told_length all (Some t ∷ ts) (x ∷ ks) h = ap suc (told_length all ts ks h.1)
 
-pub told_set : (all : List Item) (ts : List (Option Holding)) (ks : List (List Late)) (i : ℕ) (t : Holding) (k : List Late) → AreTold all ts ks → AreLines all t.path t.told k → AreTold all (slice_set ts i (Some t)) (slice_set ks i k)
+pub told_set : (all : List Item) (ts : List (Option Holding)) (ks : List (List Late)) (i : ℕ) (t : Holding) (k : List Late) → AreTold all ts ks → AreLines all t.told k → AreTold all (slice_set ts i (Some t)) (slice_set ks i k)
 told_set all [] [] i t k h m = tt
 told_set all [] (x ∷ ks) i t k h m = absurd h
 told_set all (None ∷ ts) [] i t k h m = absurd h

@@ -9,7 +9,6 @@ use Rattle.oss_syntax.specs.declared.access.Range.{Range}
 use Rattle.oss_syntax.specs.declared.tree.program.Item.{Item}
 use Rattle.oss_model.specs.Bodies.{Ask, Frame, Order}
 use Rattle.oss_model.specs.Context.{in_clauses}
-use Rattle.oss_model.specs.Order.{written}
 use Rattle.oss_model.specs.Rights.{Folds, Reads, Touch, Writes}
 use Rattle.oss_meaning.specs.Clauses.{waited_for as waiting}
 use Rattle.oss_meaning.specs.Sections.{declared_on}
@@ -23,7 +22,7 @@ use Rattle.oss_ranges.specs.Cells.{is_within, value_at}
 use Rattle.oss_pieces.specs.Rows.{Grid}
 use Rattle.oss_needs.specs.declared.clause.Clause.{Clause}
 use Rattle.oss_lent_cells.specs.Kept.{in_ranges}
-use Rattle.oss_lent_cells.specs.Lent.{nothing_lent, waited_for}
+use Rattle.oss_lent_cells.specs.Lent.{all_counted, nothing_lent, waited_for}
 use Rattle.oss_lent_cells.specs.declared.holder.Holder.{Holder}
 use Rattle.oss_missing_lines.specs.declared.missing.Late.{Late}
 use Rattle.oss_lacks.specs.declared.lacks.TaskLacks.{TaskLacks}
@@ -76,9 +75,9 @@ lent_path false number line clauses h = refl
 
 -- The task that acts is known otherwise.
 
-mended_now : (w : Mended) (k : Numbered Holding) (above : List (Numbered Holding)) (g : Holding) → g.path ≡ k.task.path → g.has ≡ k.task.has → AreMended w k above → AreMended w (record { number = k.number; task = g }) above
-mended_now w k [] g p e h = (p ∙ h.0, λ c. ap (λ (f : ℕ → Option Clause). f c) e ∙ h.1 c)
-mended_now w k (j ∷ above) g p e h = (λ c. ap (λ (f : ℕ → Option Clause). f c) e ∙ h.0 c, h.1)
+mended_now : (w : Mended) (k : Numbered Holding) (above : List (Numbered Holding)) (g : Holding) → g.has ≡ k.task.has → AreMended w k above → AreMended w (record { number = k.number; task = g }) above
+mended_now w k [] g e h c = ap (λ (f : ℕ → Option Clause). f c) e ∙ h c
+mended_now w k (j ∷ above) g e h = (λ c. ap (λ (f : ℕ → Option Clause). f c) e ∙ h.0 c, h.1)
 
 -- What else is kept stays.
 pub record IsElse (old new : Following) : Type 0 where
@@ -86,23 +85,22 @@ pub record IsElse (old new : Following) : Type 0 where
   pub above : new.above ≡ old.above
   pub told : new.told ≡ old.told
 
-acting_now : (all : List Item) (w : Mended) (n : Nest Holding) (g : Holding) (old new : Following) → g.path ≡ n.acting.task.path → g.has ≡ n.acting.task.has → IsFollowing all w n old → IsHolding all g new.current.task → IsElse old new → IsFollowing all w (with_acting g n) new
-acting_now all w n g old new p e s holds same = record {
+acting_now : (all : List Item) (w : Mended) (n : Nest Holding) (g : Holding) (old new : Following) → g.has ≡ n.acting.task.has → IsFollowing all w n old → IsHolding all g new.current.task → IsElse old new → IsFollowing all w (with_acting g n) new
+acting_now all w n g old new e s holds same = record {
   current = record { number = same.number ∙ s.current.number; holds = holds };
   older = subst (λ (ks : List OpenTask). AreTasks all n.above ks) (ap reverse (sym same.above)) s.older;
-  mended = mended_now w n.acting n.above g p e s.mended;
+  mended = mended_now w n.acting n.above g e s.mended;
   told = subst (λ (v : _). AreTold all n.ended v.items) (sym same.told) s.told;
   ends = s.ends;
 }
 
 -- An event that uses cells, and then makes something of the task.
-pub directive_more : (layout : List Grid) (ks : List TaskLacks) (cells : ℕ → Bool) (line : ℕ) (up : Holding → Holding) (old new : Following) → ((h : Holding) → (up h).path ≡ h.path) → ((h : Holding) → (up h).has ≡ h.has)
+pub directive_more : (layout : List Grid) (ks : List TaskLacks) (cells : ℕ → Bool) (line : ℕ) (up : Holding → Holding) (old new : Following) → ((h : Holding) → (up h).has ≡ h.has)
     → Leads layout (IsUseThen cells line up) old.current.task new.current.task → IsElse old new → Steps layout ks (λ w n m. IsDirective cells line up n m) old new
-directive_more layout ks cells line up old new stays_at keeps goes same all w n laid said s =
+directive_more layout ks cells line up old new keeps goes same all w n laid said s =
     let k = goes all n.acting.task laid s.current.holds in
     let e : k.0.has ≡ n.acting.task.has = ap (λ (h : Holding). h.has) k.1.0.new_is ∙ keeps k.1.0.used ∙ use_has cells line n.acting.task k.1.0.used k.1.0.use_is in
-    let p : k.0.path ≡ n.acting.task.path = ap (λ (h : Holding). h.path) k.1.0.new_is ∙ stays_at k.1.0.used ∙ use_path cells line n.acting.task k.1.0.used k.1.0.use_is in
-    (with_acting k.0 n, (record { used = k.1.0.used; use_is = k.1.0.use_is; new_is = ap (λ (h : Holding). with_acting h n) k.1.0.new_is }, acting_now all w n k.0 old new p e s k.1.1 same))
+    (with_acting k.0 n, (record { used = k.1.0.used; use_is = k.1.0.use_is; new_is = ap (λ (h : Holding). with_acting h n) k.1.0.new_is }, acting_now all w n k.0 old new e s k.1.1 same))
 
 -- A touch.
 pub touch_more : (layout : List Grid) (ks : List TaskLacks) (touch : Touch) (c line : ℕ) (clause : Option Clause) (old new : Following)
@@ -115,15 +113,14 @@ touch_more layout ks touch c line clause old new is goes same all w n laid said 
     let clause_is : clause ≡ u.has c = is all w n said s ∙ ap (λ (f : ℕ → Option Clause). f c) (sym has) in
     let now : k.0 ≡ touched touch c line u = k.1.0.new_is ∙ ap (λ (o : Option Clause). waits_before touch c line (hinderer o touch (u.lent c)) u) clause_is in
     let e : k.0.has ≡ n.acting.task.has = ap (λ (h : Holding). h.has) now ∙ before_has touch c line (hinderer (u.has c) touch (u.lent c)) u ∙ has in
-    let p : k.0.path ≡ n.acting.task.path = ap (λ (h : Holding). h.path) now ∙ before_path touch c line (hinderer (u.has c) touch (u.lent c)) u ∙ use_path (λ d. c == d) line n.acting.task u k.1.0.use_is in
-    (with_acting k.0 n, (record { used = u; use_is = k.1.0.use_is; new_is = ap (λ (h : Holding). with_acting h n) now }, acting_now all w n k.0 old new p e s k.1.1 same))
+    (with_acting k.0 n, (record { used = u; use_is = k.1.0.use_is; new_is = ap (λ (h : Holding). with_acting h n) now }, acting_now all w n k.0 old new e s k.1.1 same))
 
 -- By what the task that acts has a cell.
 pub main_has : (old : Following) (c : ℕ) → old.above ≡ [] → (all : List Item) (w : Mended) (n : Nest Holding) → IsFollowing all w n old → may_write ≡ n.acting.task.has c
 main_has old c e all w n s = go n.above (subst (λ (ks : List OpenTask). AreTasks all n.above ks) (ap reverse e) s.older) s.mended
   where
     go : (above : List (Numbered Holding)) → AreTasks all above [] → AreMended w n.acting above → may_write ≡ n.acting.task.has c
-    go [] a h = sym (h.1 c)
+    go [] a h = sym (h c)
     go (j ∷ above) a h = absurd a
 
 pub none_of : {P : Type 0} (b : Bool) → (IsTrue b ↔ P) → b ≡ true → P
@@ -148,7 +145,7 @@ child_has ks old c clause some is all w n said s = go n.above (reverse old.above
     go (j ∷ above) rs r a h = is ∙ ap (λ (k : ℕ). said_in ks k c) s.current.number ∙ sym (said n.acting.number c) ∙ sym (h.0 c)
 
 -- What clauses say.
-pub said_here : (ks : List TaskLacks) (n c : ℕ) (k : TaskLacks) (v : Option Clause) → n < length ks → k ≡ get_or ks n k → v ≡ value_at k.mending.clauses.pieces c → v ≡ said_in ks n c
+pub said_here : (ks : List TaskLacks) (n c : ℕ) (k : TaskLacks) (v : Option Clause) → n < length ks → k ≡ get_or ks n k → v ≡ said_by (Some k) c → v ≡ said_in ks n c
 said_here ks n c k v l is e = e ∙ ap (λ (o : Option TaskLacks). said_by o c) (ap (λ (x : TaskLacks). Some x) is ∙ sym (slice_get-get_or ks n k l))
 
 pub said_past : (ks : List TaskLacks) (n c : ℕ) → length ks ≤ n → None ≡ said_in ks n c
@@ -159,9 +156,9 @@ abbrev pub Gives : List Grid → ℕ → ℕ → Bool → (ℕ → Option Clause
 Gives layout created line lends said old new = Leads layout (IsUseThen (λ c. is_some (said c)) line (lent_when lends created line said)) old new
 
 pub gives_here : (layout : List Grid) (ks : List TaskLacks) (n created line : ℕ) (lends : Bool) (k : TaskLacks) (old new : HoldingTask) → n < length ks → k ≡ get_or ks n k
-    → Gives layout created line lends (value_at k.mending.clauses.pieces) old new → Gives layout created line lends (said_in ks n) old new
+    → Gives layout created line lends (all_counted k.is_final (value_at k.mending.clauses.pieces)) old new → Gives layout created line lends (said_in ks n) old new
 gives_here layout ks n created line lends k old new l is h =
-    let each : (c : ℕ) → value_at k.mending.clauses.pieces c ≡ said_in ks n c = λ c. said_here ks n c k (value_at k.mending.clauses.pieces c) l is refl in
+    let each : (c : ℕ) → said_by (Some k) c ≡ said_in ks n c = λ c. said_here ks n c k (said_by (Some k) c) l is refl in
     subst (λ (said : ℕ → Option Clause). Gives layout created line lends said old new) (fun_ext each) h
 
 pub gives_nothing : (layout : List Grid) (ks : List TaskLacks) (n created line : ℕ) (lends : Bool) (t : HoldingTask) → length ks ≤ n → Gives layout created line lends (said_in ks n) t t
@@ -175,18 +172,15 @@ gives_nothing layout ks n created line lends t l = subst (λ (said : ℕ → Opt
     go false all h laid s = (h, (record { used = h; use_is = none (λ c x y. let z : false ≡ true = x in absurd cc); new_is = refl }, s))
 
 -- A creation.
-point_below : (k : ℕ) (p : List ℕ) → written p ++ k ∷ [] ≡ written (k ∷ p)
-point_below k p = ap (λ (xs : List ℕ). 0 ∷ xs) (sym (reverse-append (k ∷ []) p))
-
 reversed : (rest : List OpenTask) (k : OpenTask) → reverse (rest ++ k ∷ []) ≡ k ∷ reverse rest
 reversed rest k = reverse-append rest (k ∷ [])
 
-pub opened_more : (layout : List Grid) (ks : List TaskLacks) (created line : ℕ) (lends : Bool) (number : ℕ) (old new : Following) (creator child : HoldingTask) (point : List ℕ)
-    → IsOneMore old.told.items new.told.items number → Gives layout created line lends (said_in ks number) old.current.task creator → point ≡ creator.point ++ created ∷ []
-    → ((all : List Item) (path : List ℕ) (line : ℕ) (clauses : ℕ → Option Clause) → point ≡ written path → IsHolding all (new_task path line clauses) child)
+pub opened_more : (layout : List Grid) (ks : List TaskLacks) (created line : ℕ) (lends : Bool) (number : ℕ) (old new : Following) (creator child : HoldingTask)
+    → IsOneMore old.told.items new.told.items number → Gives layout created line lends (said_in ks number) old.current.task creator
+    → ((all : List Item) (path : List ℕ) (line : ℕ) (clauses : ℕ → Option Clause) → IsHolding all (new_task path line clauses) child)
     → new.current ≡ record { number = number; task = child } → new.above ≡ old.above ++ record { number = old.current.number; task = creator } ∷ []
     → Steps layout ks (IsOpened created line lends) old new
-opened_more layout ks created line lends number old new creator child point more gives below born current above all w n laid said s =
+opened_more layout ks created line lends number old new creator child more gives born current above all w n laid said s =
     let number_is : number ≡ length n.ended = more.number_is ∙ sym (told_length all n.ended old.told.items s.told) in
     let each : (c : ℕ) → said_in ks number c ≡ w number c = λ c. sym (said number c) in
     let said_number : said_in ks number ≡ w number = fun_ext each in
@@ -195,11 +189,9 @@ opened_more layout ks created line lends number old new creator child point more
     let k = gives_w all n.acting.task laid s.current.holds in
     let u = k.1.0.used in
     let use_is : IsUse (λ d. is_some (w (length n.ended) d)) line n.acting.task u = k.1.0.use_is in
-    let path : k.0.path ≡ n.acting.task.path = ap (λ (h : Holding). h.path) k.1.0.new_is ∙ lent_path lends created line (w (length n.ended)) u ∙ use_path _ line n.acting.task u use_is in
     let has : k.0.has ≡ n.acting.task.has = ap (λ (h : Holding). h.has) k.1.0.new_is ∙ lent_has lends created line (w (length n.ended)) u ∙ use_has _ line n.acting.task u use_is in
     let t : Holding = new_task (created ∷ n.acting.task.path) line (w (length n.ended)) in
-    let point_is : point ≡ written (created ∷ n.acting.task.path) = below ∙ ap (λ (p : List ℕ). p ++ created ∷ []) k.1.1.point ∙ point_below created k.0.path ∙ ap (λ (p : List ℕ). written (created ∷ p)) path in
-    let first : IsTask all (record { number = length n.ended; task = t }) (record { number = number; task = child }) = record { number = number_is; holds = born all (created ∷ n.acting.task.path) line (w (length n.ended)) point_is } in
+    let first : IsTask all (record { number = length n.ended; task = t }) (record { number = number; task = child }) = record { number = number_is; holds = born all (created ∷ n.acting.task.path) line (w (length n.ended)) } in
     let second : IsTask all (record { number = n.acting.number; task = k.0 }) (record { number = old.current.number; task = creator }) = record { number = s.current.number; holds = k.1.1 } in (
       opened t (with_acting k.0 n),
       (
@@ -207,7 +199,7 @@ opened_more layout ks created line lends number old new creator child point more
         record {
           current = subst (λ (x : OpenTask). IsTask all (record { number = length n.ended; task = t }) x) (sym current) first;
           older = subst (λ (xs : List OpenTask). AreTasks all (record { number = n.acting.number; task = k.0 } ∷ n.above) xs) (sym (ap reverse above ∙ reversed old.above (record { number = old.current.number; task = creator }))) (second, s.older);
-          mended = (λ c. refl, mended_now w n.acting n.above k.0 path has s.mended);
+          mended = (λ c. refl, mended_now w n.acting n.above k.0 has s.mended);
           told = subst (λ (xs : List (List Late)). AreTold all (n.ended ++ None ∷ []) xs) (sym more.more) (told_more all n.ended old.told.items more.slot s.told);
           ends = ends_opened n.acting n.above n.ended s.ends;
         },
@@ -291,8 +283,8 @@ closes_more old mid new more on step all w n s =
     record { nest = closed tell_nothing k.nest; follows = step.ends all w k.nest k.follows; same = stop_same k.nest.acting k.nest.above k.nest.ended ∙ k.same }
 
 stop_main : (all : List Item) (w : Mended) (k : Numbered Holding) (above : List (Numbered Holding)) (ended : List (Option Holding)) (f : Following) → Follows all w k above ended f → above ≡ []
-    → AreLines all [] (at_stop (record { acting = k; above = above; ended = ended })).acting.task.told f.current.task.told
-stop_main all w k [] ended f s e = subst (λ (p : List ℕ). AreLines all p k.task.told f.current.task.told) s.mended.0 s.current.holds.told
+    → AreLines all (at_stop (record { acting = k; above = above; ended = ended })).acting.task.told f.current.task.told
+stop_main all w k [] ended f s e = s.current.holds.told
 stop_main all w k (c ∷ above) ended f s e = let x : c ∷ above ≡ [] = e in absurd cc
 
 stop_tasks : (all : List Item) (w : Mended) (k : Numbered Holding) (above : List (Numbered Holding)) (ended : List (Option Holding)) (f : Following) → Follows all w k above ended f → above ≡ []
@@ -303,7 +295,7 @@ stop_tasks all w k (c ∷ above) ended f s e = let x : c ∷ above ≡ [] = e in
 pub closes_last : (old mid new : Following) → ClosesOn old mid → IsClosed mid new false → HaveEnded old new
 closes_last old mid new on step = record {
   main = λ all w n s. let k = on all w n s in let j = now all w k.nest k.follows in
-      subst (λ (m : Nest Holding). AreLines all [] m.acting.task.told new.current.task.told) (stop_same k.nest.acting k.nest.above k.nest.ended ∙ k.same)
+      subst (λ (m : Nest Holding). AreLines all m.acting.task.told new.current.task.told) (stop_same k.nest.acting k.nest.above k.nest.ended ∙ k.same)
       (stop_main all w (closed tell_nothing k.nest).acting (closed tell_nothing k.nest).above (closed tell_nothing k.nest).ended new j (still k.nest.acting k.nest.above k.nest.ended (step.last refl all w k.nest k.follows)));
   tasks = λ all w n s. let k = on all w n s in let j = now all w k.nest k.follows in
       subst (λ (m : Nest Holding). AreTaskLines all m.ended new.told.items) (stop_same k.nest.acting k.nest.above k.nest.ended ∙ k.same)
@@ -318,12 +310,12 @@ closes_last old mid new on step = record {
     still k (c ∷ above) ended e = let x : c ∷ above ≡ [] = e in absurd cc
 
 -- Main alone.
-pub first_follows : (k : Following) (p : List ℕ) → p ≡ 0 ∷ [] → ((all : List Item) (path : List ℕ) (line : ℕ) (clauses : ℕ → Option Clause) → p ≡ written path → IsHolding all (new_task path line clauses) k.current.task)
+pub first_follows : (k : Following) → ((all : List Item) (path : List ℕ) (line : ℕ) (clauses : ℕ → Option Clause) → IsHolding all (new_task path line clauses) k.current.task)
     → k.current.number ≡ 0 → k.above ≡ [] → k.told.items ≡ [] → (all : List Item) (w : Mended) → IsFollowing all w (alone main_holding) k
-first_follows k p point born number above lines all w = record {
-  current = record { number = number; holds = born all [] 0 main_holding.has point };
+first_follows k born number above lines all w = record {
+  current = record { number = number; holds = born all [] 0 main_holding.has };
   older = subst (λ (ks : List OpenTask). AreTasks all [] ks) (ap reverse (sym above)) tt;
-  mended = (refl, λ c. refl);
+  mended = λ c. refl;
   told = subst (λ (ls : List (List Late)). AreTold all [] ls) (sym lines) tt;
   ends = tt;
 }
@@ -400,7 +392,7 @@ module _ (layout : List Grid) (ks : List TaskLacks) (line created : ℕ) (final 
   pub noted_wait : (code : CodeAsk) (old new : Following) → code ≡ asked.Wait → LeadsTo (with_lent nothing_lent) old.current.task new.current.task → IsElse old new → Notes (meant_ask code) old new
   noted_wait code old new e h same =
       noted (λ w n m. m ≡ with_acting (with_lent nothing_lent n.acting.task) n) code asked.Wait old new e (λ w n m g f way made last. g)
-      (λ all w n laid said s. (with_acting (with_lent nothing_lent n.acting.task) n, (refl, acting_now all w n (with_lent nothing_lent n.acting.task) old new refl refl s (h all n.acting.task s.current.holds) same)))
+      (λ all w n laid said s. (with_acting (with_lent nothing_lent n.acting.task) n, (refl, acting_now all w n (with_lent nothing_lent n.acting.task) old new refl s (h all n.acting.task s.current.holds) same)))
 
   pub noted_end : (code : CodeAsk) (old new : Following) (more : Bool) → code ≡ asked.End → IsClosed old new more → Notes (meant_ask code) old new
   noted_end code old new more e h =

@@ -1,14 +1,12 @@
 -- What each event makes of a task that is kept.
 use Rattle.std.proofs.Common.{◌≡◌, ◌≤◌, ◌<◌, ◌⊎◌, inl, inr, refl, sym, subst, ap, ◌∙◌, ℕ, Bool, true, false, List, [], ◌∷◌, ◌++◌, Option, Some, None, arith}
-use Rattle.std.specs.Prelude.{◌||◌, ◌&&◌, ◌==◌, if◌then◌else◌}
-use Rattle.std.proofs.lemmas.List.{reverse-append}
+use Rattle.std.specs.Prelude.{◌||◌, ◌&&◌, ◌==◌, if◌then◌else◌, is_some}
 use Rattle.std.proofs.Math.Path.{fun_ext}
 use Rattle.std.proofs.lemmas.Bool.Decides.{nat_tests}
 use Rattle.oss_syntax.specs.declared.access.Access.{Access}
 use Rattle.oss_syntax.specs.declared.access.Range.{Range}
 use Rattle.oss_syntax.specs.declared.tree.program.Item.{Item}
 use Rattle.oss_model.specs.Context.{in_clauses}
-use Rattle.oss_model.specs.Order.{written}
 use Rattle.oss_model.specs.Rights.{Touch}
 use Rattle.oss_ranges.specs.declared.piece.Piece.{Piece}
 use Rattle.oss_ranges.specs.Cells.{value_at}
@@ -21,7 +19,8 @@ use Rattle.oss_pieces.specs.Pieces.{ArePieces}
 use Rattle.oss_pieces.specs.Rows.{Grid}
 use Rattle.oss_pieces.specs.declared.piece.Piece.{Piece as Part}
 use Rattle.oss_lent_cells.specs.Kept.{AreLends, AreLent, AreWaitedFor}
-use Rattle.oss_lent_cells.specs.Lent.{nothing_lent}
+use Rattle.oss_lent_cells.specs.Lent.{all_counted, counted_if, nothing_lent}
+use Rattle.oss_lent_cells.specs.declared.holder.Child.{Child}
 use Rattle.oss_lent_cells.specs.declared.holder.Holder.{Holder}
 use Rattle.oss_lent_cells.specs.declared.holder.Lent.{Lent}
 use Rattle.oss_missing_lines.specs.declared.missing.Late.{Late}
@@ -37,31 +36,31 @@ use Rattle.oss_missing_waits.proofs.UsingLemmas.{AreAdded, clauses_bounded}
 
 -- Lines
 
-pub lines_more : (all : List Item) (path : List ℕ) (ts : List Told) (ls : List Late) (t : Told) (l : Late) → AreLines all path ts ls → IsLine all path t l → AreLines all path (ts ++ t ∷ []) (ls ++ l ∷ [])
-lines_more all path [] [] t l h m = (m, tt)
-lines_more all path [] (x ∷ ls) t l h m = absurd h
-lines_more all path (u ∷ ts) [] t l h m = absurd h
-lines_more all path (u ∷ ts) (x ∷ ls) t l h m = (h.0, lines_more all path ts ls t l h.1 m)
+pub lines_more : (all : List Item) (ts : List Told) (ls : List Late) (t : Told) (l : Late) → AreLines all ts ls → IsLine all t l → AreLines all (ts ++ t ∷ []) (ls ++ l ∷ [])
+lines_more all [] [] t l h m = (m, tt)
+lines_more all [] (x ∷ ls) t l h m = absurd h
+lines_more all (u ∷ ts) [] t l h m = absurd h
+lines_more all (u ∷ ts) (x ∷ ls) t l h m = (h.0, lines_more all ts ls t l h.1 m)
 
-pub uses_alike : (all : List Item) (path : List ℕ) (ts : List Told) (ls : List Late) (line : ℕ) → AreLines all path ts ls → lines_have_use ls line ≡ has_use ts line
-uses_alike all path [] [] line h = refl
-uses_alike all path [] (x ∷ ls) line h = absurd h
-uses_alike all path (Waits touch c n child ∷ ts) [] line h = absurd h
-uses_alike all path (Uses cells n ∷ ts) [] line h = absurd h
-uses_alike all path (Waits touch c n child ∷ ts) (late.Wait w ∷ ls) line h = uses_alike all path ts ls line h.1
-uses_alike all path (Waits touch c n child ∷ ts) (late.Use u ∷ ls) line h = absurd h.0
-uses_alike all path (Uses cells n ∷ ts) (late.Wait w ∷ ls) line h = absurd h.0
-uses_alike all path (Uses cells n ∷ ts) (late.Use u ∷ ls) line h = ap (λ (k : ℕ). k == line || lines_have_use ls line) h.0.line_is ∙ ap (λ (b : Bool). n == line || b) (uses_alike all path ts ls line h.1)
+pub uses_alike : (all : List Item) (ts : List Told) (ls : List Late) (line : ℕ) → AreLines all ts ls → lines_have_use ls line ≡ has_use ts line
+uses_alike all [] [] line h = refl
+uses_alike all [] (x ∷ ls) line h = absurd h
+uses_alike all (Waits touch c n child ∷ ts) [] line h = absurd h
+uses_alike all (Uses cells n ∷ ts) [] line h = absurd h
+uses_alike all (Waits touch c n child ∷ ts) (late.Wait w ∷ ls) line h = uses_alike all ts ls line h.1
+uses_alike all (Waits touch c n child ∷ ts) (late.Use u ∷ ls) line h = absurd h.0
+uses_alike all (Uses cells n ∷ ts) (late.Wait w ∷ ls) line h = absurd h.0
+uses_alike all (Uses cells n ∷ ts) (late.Use u ∷ ls) line h = ap (λ (k : ℕ). k == line || lines_have_use ls line) h.0.line_is ∙ ap (λ (b : Bool). n == line || b) (uses_alike all ts ls line h.1)
 
-pub waits_alike : (all : List Item) (path : List ℕ) (ts : List Told) (ls : List Late) (line : ℕ) → AreLines all path ts ls → lines_have_wait ls line ≡ has_wait ts line
-waits_alike all path [] [] line h = refl
-waits_alike all path [] (x ∷ ls) line h = absurd h
-waits_alike all path (Waits touch c n child ∷ ts) [] line h = absurd h
-waits_alike all path (Uses cells n ∷ ts) [] line h = absurd h
-waits_alike all path (Waits touch c n child ∷ ts) (late.Wait w ∷ ls) line h = ap (λ (k : ℕ). k == line || lines_have_wait ls line) h.0.line_is ∙ ap (λ (b : Bool). n == line || b) (waits_alike all path ts ls line h.1)
-waits_alike all path (Waits touch c n child ∷ ts) (late.Use u ∷ ls) line h = absurd h.0
-waits_alike all path (Uses cells n ∷ ts) (late.Wait w ∷ ls) line h = absurd h.0
-waits_alike all path (Uses cells n ∷ ts) (late.Use u ∷ ls) line h = waits_alike all path ts ls line h.1
+pub waits_alike : (all : List Item) (ts : List Told) (ls : List Late) (line : ℕ) → AreLines all ts ls → lines_have_wait ls line ≡ has_wait ts line
+waits_alike all [] [] line h = refl
+waits_alike all [] (x ∷ ls) line h = absurd h
+waits_alike all (Waits touch c n child ∷ ts) [] line h = absurd h
+waits_alike all (Uses cells n ∷ ts) [] line h = absurd h
+waits_alike all (Waits touch c n child ∷ ts) (late.Wait w ∷ ls) line h = ap (λ (k : ℕ). k == line || lines_have_wait ls line) h.0.line_is ∙ ap (λ (b : Bool). n == line || b) (waits_alike all ts ls line h.1)
+waits_alike all (Waits touch c n child ∷ ts) (late.Use u ∷ ls) line h = absurd h.0
+waits_alike all (Uses cells n ∷ ts) (late.Wait w ∷ ls) line h = absurd h.0
+waits_alike all (Uses cells n ∷ ts) (late.Use u ∷ ls) line h = waits_alike all ts ls line h.1
 
 touching_is : (t : Touching) → t ≡ touching_by (touch_of t)
 touching_is Reading = refl
@@ -91,26 +90,25 @@ use_none layout used line t free cells are all h laid s = (h, (none (λ c x y. n
 
 -- One was told on this line.
 pub use_known : (layout : List Grid) (used : SetOfCells) (line : ℕ) (t : HoldingTask) → lines_have_use t.told line ≡ true → IsToldUse layout used line t t
-use_known layout used line t has_one cells are all h laid s = (h, (known (sym (uses_alike all h.path h.told t.told line s.told) ∙ has_one), s))
+use_known layout used line t has_one cells are all h laid s = (h, (known (sym (uses_alike all h.told t.told line s.told) ∙ has_one), s))
 
 -- It is told.
 pub use_told : (layout : List Grid) (used : SetOfCells) (line cell : ℕ) (found : List Part) (old new : HoldingTask) → has used cell ≡ true → lines_have_use old.told line ≡ false
     → ((all : List Item) → layout ≡ grids_from all 0 → ArePieces (has used) all 0 0 found)
-    → new.point ≡ old.point → new.lent ≡ old.lent → new.released ≡ old.released → new.told ≡ old.told ++ late.Use (record { cells = found; line = line }) ∷ [] → IsToldUse layout used line old new
-use_told layout used line cell found old new held has_none pieces point lent released lines cells are all h laid s =
+    → new.lent ≡ old.lent → new.released ≡ old.released → new.told ≡ old.told ++ late.Use (record { cells = found; line = line }) ∷ [] → IsToldUse layout used line old new
+use_told layout used line cell found old new held has_none pieces lent released lines cells are all h laid s =
     let same : (c : ℕ) → has used c ≡ (cells c && h.released c) = λ c. are c ∙ ap (λ (b : Bool). cells c && b) (s.released c) in
     let yes = both (cells cell) (h.released cell) (sym (same cell) ∙ held) in (
       with_told (Uses (λ d. cells d && h.released d) line) h,
       (
-        told cell yes.0 yes.1 (sym (uses_alike all h.path h.told old.told line s.told) ∙ has_none),
+        told cell yes.0 yes.1 (sym (uses_alike all h.told old.told line s.told) ∙ has_none),
         record {
-          point = point ∙ s.point;
           lent = subst (λ (ps : List (Piece Lent)). AreLent h.lent ps) (sym lent) s.lent;
           released = λ c. ap (λ (r : SetOfCells). has r c) released ∙ s.released c;
           past = s.past;
           told =
-              subst (λ (ls : List Late). AreLines all h.path (h.told ++ Uses (λ d. cells d && h.released d) line ∷ []) ls) (sym lines)
-              (lines_more all h.path h.told old.told (Uses (λ d. cells d && h.released d) line) (late.Use (record { cells = found; line = line })) s.told
+              subst (λ (ls : List Late). AreLines all (h.told ++ Uses (λ d. cells d && h.released d) line ∷ []) ls) (sym lines)
+              (lines_more all h.told old.told (Uses (λ d. cells d && h.released d) line) (late.Use (record { cells = found; line = line })) s.told
               (record { pieces = subst (λ (test : ℕ → Bool). ArePieces test all 0 0 found) (fun_ext same) (pieces all laid); line_is = refl }));
         },
       ),
@@ -120,33 +118,29 @@ use_told layout used line cell found old new held has_none pieces point lent rel
 
 pub wait_known : (touch : Touch) (c line : ℕ) (child : Holder) (t : HoldingTask) → lines_have_wait t.told line ≡ true → LeadsTo (told_wait touch c line child) t t
 wait_known touch c line child t has_one all h s =
-    let e : has_wait h.told line ≡ true = sym (waits_alike all h.path h.told t.told line s.told) ∙ has_one in
+    let e : has_wait h.told line ≡ true = sym (waits_alike all h.told t.told line s.told) ∙ has_one in
     subst (λ (b : Bool). IsHolding all (if b then h else with_told (Waits touch c line child) h) t) (sym e) s
 
-point_of_child : (k : ℕ) (p : List ℕ) → written p ++ k ∷ [] ≡ written (k ∷ p)
-point_of_child k p = ap (λ (xs : List ℕ). 0 ∷ xs) (sym (reverse-append (k ∷ []) p))
-
-pub wait_told : (touch : Touching) (c line : ℕ) (child : Holder) (old new : HoldingTask) (p : List ℕ) (word : Word) → lines_have_wait old.told line ≡ false → p ≡ old.point ++ child.number ∷ [] → word ≡ word_by child.clause
-    → new.point ≡ old.point → new.lent ≡ old.lent → new.released ≡ old.released
-    → new.told ≡ old.told ++ late.Wait (record { touch = touch; cell = c; line = line; child = p; created = child.line; word = word }) ∷ [] → LeadsTo (told_wait (touch_of touch) c line child) old new
-wait_told touch c line child old new p word has_none below word_is point lent released lines all h s =
-    let e : has_wait h.told line ≡ false = sym (waits_alike all h.path h.told old.told line s.told) ∙ has_none in
-    let w : MissingWait = record { touch = touch; cell = c; line = line; child = p; created = child.line; word = word } in
+pub wait_told : (touch : Touching) (c line : ℕ) (child : Holder) (old new : HoldingTask) (word : Word) → lines_have_wait old.told line ≡ false → word ≡ word_by child.clause
+    → new.lent ≡ old.lent → new.released ≡ old.released
+    → new.told ≡ old.told ++ late.Wait (record { touch = touch; cell = c; line = line; child = child.number; created = child.line; word = word }) ∷ [] → LeadsTo (told_wait (touch_of touch) c line child) old new
+wait_told touch c line child old new word has_none word_is lent released lines all h s =
+    let e : has_wait h.told line ≡ false = sym (waits_alike all h.told old.told line s.told) ∙ has_none in
+    let w : MissingWait = record { touch = touch; cell = c; line = line; child = child.number; created = child.line; word = word } in
     let t : Told = Waits (touch_of touch) c line child in
     subst (λ (b : Bool). IsHolding all (if b then h else with_told t h) new) (sym e)
     (record {
-      point = point ∙ s.point;
       lent = subst (λ (ps : List (Piece Lent)). AreLent h.lent ps) (sym lent) s.lent;
       released = λ d. ap (λ (r : SetOfCells). has r d) released ∙ s.released d;
       past = s.past;
       told =
-          subst (λ (ls : List Late). AreLines all h.path (h.told ++ t ∷ []) ls) (sym lines)
-          (lines_more all h.path h.told old.told t (late.Wait w) s.told
+          subst (λ (ls : List Late). AreLines all (h.told ++ t ∷ []) ls) (sym lines)
+          (lines_more all h.told old.told t (late.Wait w) s.told
           (record {
             touch = touching_is touch;
             cell = refl;
             line_is = refl;
-            point = below ∙ ap (λ (q : List ℕ). q ++ child.number ∷ []) s.point ∙ point_of_child child.number h.path;
+            number = refl;
             created = refl;
             word = word_is;
           }));
@@ -155,42 +149,48 @@ wait_told touch c line child old new p word has_none below word_is point lent re
 -- What is lent
 
 -- The same with other cells lent.
-lent_now : (all : List Item) (h : Holding) (old new : HoldingTask) (lent : ℕ → Option Lent) → IsHolding all h old → AreLent lent new.lent → new.point ≡ old.point → new.released ≡ old.released → new.told ≡ old.told → IsHolding all (with_lent lent h) new
-lent_now all h old new lent s now point released lines = record {
-  point = point ∙ s.point;
+lent_now : (all : List Item) (h : Holding) (old new : HoldingTask) (lent : ℕ → Option Lent) → IsHolding all h old → AreLent lent new.lent → new.released ≡ old.released → new.told ≡ old.told → IsHolding all (with_lent lent h) new
+lent_now all h old new lent s now released lines = record {
   lent = now;
   released = λ c. ap (λ (r : SetOfCells). has r c) released ∙ s.released c;
   past = s.past;
-  told = subst (λ (ls : List Late). AreLines all h.path h.told ls) (sym lines) s.told;
+  told = subst (λ (ls : List Late). AreLines all h.told ls) (sym lines) s.told;
 }
 
-pub waits_more : (old new : HoldingTask) → AreLent nothing_lent new.lent → new.point ≡ old.point → new.released ≡ old.released → new.told ≡ old.told → LeadsTo (with_lent nothing_lent) old new
-waits_more old new now point released lines all h s = lent_now all h old new nothing_lent s now point released lines
+pub waits_more : (old new : HoldingTask) → AreLent nothing_lent new.lent → new.released ≡ old.released → new.told ≡ old.told → LeadsTo (with_lent nothing_lent) old new
+waits_more old new now released lines all h s = lent_now all h old new nothing_lent s now released lines
 
-pub lends_more : (number line : ℕ) (ks : List (Piece Clause)) (old new : HoldingTask) → AreLends number line ks old.lent new.lent → new.point ≡ old.point → new.released ≡ old.released → new.told ≡ old.told
-    → LeadsTo (lent_when true number line (value_at ks)) old new
-lends_more number line ks old new now point released lines all h s = lent_now all h old new _ s (now h.lent s.lent) point released lines
+pub lends_more : (k : Child) (ks : List (Piece Clause)) (old new : HoldingTask) → AreLends k ks old.lent new.lent → new.released ≡ old.released → new.told ≡ old.told
+    → LeadsTo (lent_when true k.number k.line (all_counted k.is_final (value_at ks))) old new
+lends_more k ks old new now released lines all h s = lent_now all h old new _ s (now h.lent s.lent) released lines
 
-pub waits_on_more : (named : List Range) (old new : HoldingTask) → AreWaitedFor named old.lent new.lent → new.point ≡ old.point → new.released ≡ old.released → new.told ≡ old.told → LeadsTo (waits_for named) old new
-waits_on_more named old new now point released lines all h s = lent_now all h old new _ s (now h.lent s.lent) point released lines
+pub waits_on_more : (named : List Range) (old new : HoldingTask) → AreWaitedFor named old.lent new.lent → new.released ≡ old.released → new.told ≡ old.told → LeadsTo (waits_for named) old new
+waits_on_more named old new now released lines all h s = lent_now all h old new _ s (now h.lent s.lent) released lines
 
 -- It lends, or does not.
-pub lends_when : (number line : ℕ) (ks : List (Piece Clause)) (lends : Bool) (old new : HoldingTask) → lends ≡ true → LeadsTo (lent_when true number line (value_at ks)) old new → LeadsTo (lent_when lends number line (value_at ks)) old new
-lends_when number line ks lends old new e h = subst (λ (b : Bool). LeadsTo (lent_when b number line (value_at ks)) old new) (sym e) h
+pub lends_when : (k : Child) (ks : List (Piece Clause)) (lends : Bool) (old new : HoldingTask) → lends ≡ true → LeadsTo (lent_when true k.number k.line (all_counted k.is_final (value_at ks))) old new → LeadsTo (lent_when lends k.number k.line (all_counted k.is_final (value_at ks))) old new
+lends_when k ks lends old new e h = subst (λ (b : Bool). LeadsTo (lent_when b k.number k.line (all_counted k.is_final (value_at ks))) old new) (sym e) h
 
-pub lends_nothing : (number line : ℕ) (ks : List (Piece Clause)) (lends : Bool) (t : HoldingTask) → lends ≡ false → LeadsTo (lent_when lends number line (value_at ks)) t t
-lends_nothing number line ks lends t e = subst (λ (b : Bool). LeadsTo (lent_when b number line (value_at ks)) t t) (sym e) (λ all h s. s)
+pub lends_nothing : (k : Child) (ks : List (Piece Clause)) (lends : Bool) (t : HoldingTask) → lends ≡ false → LeadsTo (lent_when lends k.number k.line (all_counted k.is_final (value_at ks))) t t
+lends_nothing k ks lends t e = subst (λ (b : Bool). LeadsTo (lent_when b k.number k.line (all_counted k.is_final (value_at ks))) t t) (sym e) (λ all h s. s)
 
 -- What is released
 
-pub releases_more : (clauses : List Access) (old new : HoldingTask) → AreAdded clauses old.released new.released → new.point ≡ old.point → new.lent ≡ old.lent → new.told ≡ old.told → LeadsTo (releases clauses) old new
-releases_more clauses old new now point lent lines all h s = record {
-  point = point ∙ s.point;
+pub releases_more : (clauses : List Access) (old new : HoldingTask) → AreAdded clauses old.released new.released → new.lent ≡ old.lent → new.told ≡ old.told → LeadsTo (releases clauses) old new
+releases_more clauses old new now lent lines all h s = record {
   lent = subst (λ (ps : List (Piece Lent)). AreLent h.lent ps) (sym lent) s.lent;
   released = λ c. now c ∙ ap (λ (b : Bool). in_clauses clauses c || b) (s.released c);
   past = λ c l. ap (λ (b : Bool). b || h.released c) (clauses_bounded clauses c l) ∙ s.past c l;
-  told = subst (λ (ls : List Late). AreLines all h.path h.told ls) (sym lines) s.told;
+  told = subst (λ (ls : List Late). AreLines all h.told ls) (sym lines) s.told;
 }
+
+-- A clause counts where there is one.
+some_counted : (final : Bool) (o : Option Clause) → is_some o ≡ is_some (counted_if final o)
+some_counted final None = refl
+some_counted final (Some k) = refl
+
+pub all_some : (final : Bool) (said : ℕ → Option Clause) → ◌≡◌ {A = ℕ → Bool} (λ c. is_some (said c)) (λ c. is_some (all_counted final said c))
+all_some final said = fun_ext (λ c. some_counted final (said c))
 
 -- One behind the other
 
@@ -212,12 +212,11 @@ touch_lent clause touch c line child old mid new hinders first second all h s =
     subst (λ (o : Option Holder). IsHolding all (waits_before touch c line o h) new) (sym e) (second all (told_wait touch c line child h) (first all h s))
 
 -- A task before its first act.
-pub new_holding : (t : HoldingTask) → AreLent nothing_lent t.lent → ((c : ℕ) → has t.released c ≡ false) → t.told ≡ [] → (all : List Item) (path : List ℕ) (line : ℕ) (clauses : ℕ → Option Clause) → t.point ≡ written path
+pub new_holding : (t : HoldingTask) → AreLent nothing_lent t.lent → ((c : ℕ) → has t.released c ≡ false) → t.told ≡ [] → (all : List Item) (path : List ℕ) (line : ℕ) (clauses : ℕ → Option Clause)
     → IsHolding all (new_task path line clauses) t
-new_holding t lent released lines all path line clauses point = record {
-  point = point;
+new_holding t lent released lines all path line clauses = record {
   lent = lent;
   released = released;
   past = λ c l. refl;
-  told = subst (λ (ls : List Late). AreLines all path [] ls) (sym lines) tt;
+  told = subst (λ (ls : List Late). AreLines all [] ls) (sym lines) tt;
 }

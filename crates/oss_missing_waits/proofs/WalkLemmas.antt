@@ -18,6 +18,7 @@ use Rattle.oss_model.proofs.TreeLemmas.{at_same}
 use Rattle.oss_code.specs.declared.code.CodeParts.{CodeParts}
 use Rattle.oss_machine.specs.Frames.{CodeScript}
 use Rattle.oss_machine.specs.Machines.{asks}
+use Rattle.oss_ranges.specs.Cells.{value_at}
 use Rattle.oss_pieces.specs.Layouts.{grids_from}
 use Rattle.oss_pieces.specs.Rows.{Grid}
 use Rattle.oss_freed.specs.Freed.{freed_order}
@@ -28,8 +29,10 @@ use Rattle.oss_free_tasks.proofs.DeedLemmas.{free_deeds_are_acts}
 use Rattle.oss_free_run.specs.declared.run.FreeRun.{FreeRun}
 use Rattle.oss_free_run.specs.FreeTasks.{free_main, free_program, main_order}
 use Rattle.oss_free_run.specs.Stages.{IsFailed, IsFirstStage, IsNext, IsStage}
+use Rattle.oss_needs.specs.declared.clause.Clause.{Clause}
+use Rattle.oss_lent_cells.specs.Lent.{counted_if}
 use Rattle.oss_lacks.specs.declared.lacks.TaskLacks.{TaskLacks}
-use Rattle.oss_lacks.specs.Asking.{Asking, mended_clauses}
+use Rattle.oss_lacks.specs.Asking.{Asking}
 use Rattle.oss_lacks.specs.Beside.{goes_on}
 use Rattle.oss_lacks.specs.Lacks.{AreTaskLacks}
 use Rattle.oss_lacks.specs.Nests.{Nest, Numbered, alone, closed, closed_to}
@@ -40,7 +43,7 @@ use Rattle.oss_missing_waits.specs.declared.waits.TaskWaits.{TaskWaits}
 use Rattle.oss_missing_waits.specs.Beside.{AreFound, AreNamed, IsAt, IsBeside, IsEnded, IsFinished, IsNotedAt, IsNotedBeside}
 use Rattle.oss_missing_waits.specs.Following.{AreSaid, IsFollowing, IsNoted, Steps}
 use Rattle.oss_missing_waits.specs.Holding.{Holding, hinderer, lent_when, main as main_holding, new_task, releases, waits_on}
-use Rattle.oss_missing_waits.specs.Waits.{IsBehindIf, IsBehindAsk, IsCreation, IsDirective, IsTouched, Mended, Waits, mended_in, opens, runs_on, tell_nothing}
+use Rattle.oss_missing_waits.specs.Waits.{IsBehindIf, IsBehindAsk, IsCreation, IsDirective, IsTouched, Mended, Waits, has_by, mended_in, opens, runs_on, tell_nothing}
 use Rattle.oss_missing_waits.proofs.FollowLemmas.{before_path, lent_path, use_path}
 
 -- Of any program
@@ -286,7 +289,8 @@ said_of_lacks [] [] h n c = refl
 said_of_lacks [] (k ∷ ks) h n c = absurd h
 said_of_lacks (None ∷ ts) ks h n c = absurd h
 said_of_lacks (Some t ∷ ts) [] h n c = absurd h
-said_of_lacks (Some t ∷ ts) (k ∷ ks) h zero c = sym (h.0.mending.clauses c)
+said_of_lacks (Some t ∷ ts) (k ∷ ks) h zero c =
+    ap (λ (v : Option Clause). counted_if t.final v) (sym (h.0.mending.clauses c)) ∙ ap (λ (b : Bool). counted_if b (value_at k.mending.clauses.pieces c)) (sym h.0.final)
 said_of_lacks (Some t ∷ ts) (k ∷ ks) h (suc n) c = step ∙ said_of_lacks ts ks h.1 n c
   where
     other : (suc n == 0) ≡ false
@@ -296,4 +300,4 @@ said_of_lacks (Some t ∷ ts) (k ∷ ks) h (suc n) c = step ∙ said_of_lacks ts
     less = omega arith
 
     step : mended_in (Some t ∷ ts) (suc n) c ≡ mended_in ts n c
-    step = ap (λ (b : Bool). if b then mended_clauses t c else mended_in ts (suc n - 1) c) other ∙ ap (λ (i : ℕ). mended_in ts i c) less
+    step = ap (λ (b : Bool). if b then has_by t c else mended_in ts (suc n - 1) c) other ∙ ap (λ (i : ℕ). mended_in ts i c) less

@@ -62,7 +62,7 @@ IsEnded layout ks code fuel k = (all : List Item) (w : Mended) → layout ≡ gr
 
 -- All that were open have ended, and these are their lines.
 pub record IsFinished (k : Following) (l : TaskWaits) : Type 0 where
-  pub main : (all : List Item) (w : Mended) (n : Nest Holding) → IsFollowing all w n k → AreLines all [] (at_stop n).acting.task.told l.main
+  pub main : (all : List Item) (w : Mended) (n : Nest Holding) → IsFollowing all w n k → AreLines all (at_stop n).acting.task.told l.main
   pub tasks : (all : List Item) (w : Mended) (n : Nest Holding) → IsFollowing all w n k → AreTaskLines all (at_stop n).ended l.tasks
 
 -- These are the lines of the code, over globals that lie so, by what was found of the clauses of its tasks.

@@ -9,6 +9,7 @@ use Rattle.oss_ranges.specs.Cells.{value_at}
 use Rattle.oss_pieces.specs.Layouts.{grids_from}
 use Rattle.oss_pieces.specs.Rows.{Grid}
 use Rattle.oss_needs.specs.declared.clause.Clause.{Clause}
+use Rattle.oss_lent_cells.specs.Lent.{counted_if}
 use Rattle.oss_missing_lines.specs.declared.missing.Late.{Late}
 use Rattle.oss_lacks.specs.declared.lacks.TaskLacks.{TaskLacks}
 use Rattle.oss_lacks.specs.Nests.{Nest, Numbered, closed, opened, with_acting}
@@ -24,10 +25,10 @@ use Rattle.oss_missing_waits.specs.Waits.{IsBehindAsk, Mended, at_stop, tell_not
 abbrev pub may_write : Option Clause
 may_write = Some (record { mode = Write; strong = true; fresh = false })
 
--- What the clauses of a task say once they are mended, as it was found.
+-- By what a task has a cell, as it was found: by what its clauses say once they are mended, as that counts.
 abbrev pub said_by : Option TaskLacks → ℕ → Option Clause
 said_by None c = None
-said_by (Some k) c = value_at k.mending.clauses.pieces c
+said_by (Some k) c = counted_if k.is_final (value_at k.mending.clauses.pieces c)
 
 abbrev pub said_in : List TaskLacks → ℕ → ℕ → Option Clause
 said_in ks n = said_by (slice_get ks n)
@@ -47,16 +48,16 @@ AreTasks all [] [] = Unit {0}
 AreTasks all (t ∷ ts) (k ∷ ks) = IsTask all t k × AreTasks all ts ks
 AreTasks all _ _ = ⊥
 
--- By what the task that acts, and those that wait for it, have each cell: main is the last of them, and its path is empty.
+-- By what the task that acts, and those that wait for it, have each cell: main is the last of them.
 abbrev pub AreMended : Mended → Numbered Holding → List (Numbered Holding) → Type 0
-AreMended w k [] = (k.task.path ≡ []) × ((c : ℕ) → k.task.has c ≡ may_write)
+AreMended w k [] = (c : ℕ) → k.task.has c ≡ may_write
 AreMended w k (creator ∷ above) = ((c : ℕ) → k.task.has c ≡ w k.number c) × AreMended w creator above
 
 -- These are the lines of those of these tasks that have ended.
 abbrev pub AreTold : List Item → List (Option Holding) → List (List Late) → Type 0
 AreTold all [] [] = Unit {0}
 AreTold all (None ∷ ts) (ls ∷ rest) = AreTold all ts rest
-AreTold all (Some h ∷ ts) (ls ∷ rest) = AreLines all h.path h.told ls × AreTold all ts rest
+AreTold all (Some h ∷ ts) (ls ∷ rest) = AreLines all h.told ls × AreTold all ts rest
 AreTold all _ _ = ⊥
 
 -- A nest with these parts is kept so.
@@ -93,7 +94,7 @@ pub record IsClosed (old new : Following) (more : Bool) : Type 0 where
 
 -- All that are open have ended: what acts is main.
 pub record HaveEnded (old new : Following) : Type 0 where
-  pub main : (all : List Item) (w : Mended) (n : Nest Holding) → IsFollowing all w n old → AreLines all [] (at_stop n).acting.task.told new.current.task.told
+  pub main : (all : List Item) (w : Mended) (n : Nest Holding) → IsFollowing all w n old → AreLines all (at_stop n).acting.task.told new.current.task.told
   pub tasks : (all : List Item) (w : Mended) (n : Nest Holding) → IsFollowing all w n old → AreTaskLines all (at_stop n).ended new.told.items
 
 -- There is one place more, with this number.

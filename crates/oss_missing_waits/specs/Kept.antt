@@ -1,9 +1,8 @@
 -- How an open task of the second walk is kept, and what an event makes of it.
--- Read against: a task at the path 1, 0 has lent x to its child 0 and has released y. Kept are its point 0.0.1, the pieces by which x is lent, the set of y alone, and the lines that were told of it. It releases x: of that it is not told, and x is in the set too.
+-- Read against: a task at the path 1, 0 has lent x to its child 0 and has released y. Kept are the pieces by which x is lent, the set of y alone, and the lines that were told of it. It releases x: of that it is not told, and x is in the set too.
 use Rattle.std.specs.Prelude.{◌≡◌, ◌≤◌, ℕ, ◌==◌, Bool, false, ◌||◌, ◌&&◌, List, [], ◌∷◌, Option}
 use Rattle.oss_syntax.specs.declared.access.Range.{Range}
 use Rattle.oss_syntax.specs.declared.tree.program.Item.{Item}
-use Rattle.oss_model.specs.Order.{written}
 use Rattle.oss_model.specs.Rights.{Folds, Reads, Touch, Writes}
 use Rattle.oss_ranges.specs.Cells.{is_within}
 use Rattle.oss_pieces.specs.CellSets.{SetOfCells, has}
@@ -22,12 +21,11 @@ use Rattle.oss_missing_waits.specs.Lines.{AreLines}
 
 -- A task is kept so.
 pub record IsHolding (all : List Item) (h : Holding) (t : HoldingTask) : Type 0 where
-  pub point : t.point ≡ written h.path
   pub lent : AreLent h.lent t.lent
   pub released : (c : ℕ) → has t.released c ≡ h.released c
   -- a program has no cell from there on
   pub past : (c : ℕ) → 1048576 ≤ c → h.released c ≡ false
-  pub told : AreLines all h.path h.told t.told
+  pub told : AreLines all h.told t.told
 
 -- What is known of the task has become this.
 abbrev pub LeadsTo : (Holding → Holding) → HoldingTask → HoldingTask → Type 0

@@ -1,5 +1,5 @@
 -- The second walk over the free run.
--- Read against: of a main that creates a task with `out(y)` on line 3, which writes x, and then reads x on line 5: once what is lacking is mended the task has x by `out`, so a wait is missing before the read. A final task includes what it creates, and lends it nothing;
+-- Read against: of a main that creates a task with `out(y)` on line 3, which writes x, and then reads x on line 5: once what is lacking is mended the task has x by `out`, so a wait is missing before the read. Had the task `weakin(y)` and were it final, it would have y by `in`. A final task includes what it creates, and lends it nothing;
 -- nor does a creation under a false `if` lend.
 use Rattle.std.specs.Prelude.{◌≡◌, ℕ, ◌-◌, ◌==◌, ◌&&◌, is_some, not, if◌then◌else◌, Bool, true, false, List, [], ◌∷◌, length, Option, Some, None}
 use Rattle.oss_model.specs.Bodies.{Ask, Frame, Program, Start, ask_of}
@@ -12,17 +12,21 @@ use Rattle.oss_needs.specs.declared.clause.Clause.{Clause}
 use Rattle.oss_lacks.specs.Asking.{Asking, mended_clauses}
 use Rattle.oss_lacks.specs.Nests.{Nest, all_closed, alone, closed, opened, with_acting}
 use Rattle.oss_lacks.specs.Walks.{IsActing}
-use Rattle.oss_lent_cells.specs.Lent.{nothing_lent}
+use Rattle.oss_lent_cells.specs.Lent.{all_counted, nothing_lent}
 use Rattle.oss_missing_waits.specs.Holding.{Holding, IsUse, lent_when, main as main_holding, new_task, releases, touched, waits_on, with_lent}
 
--- What each task's clauses say of each cell once what they lack is mended, by the task's number.
+-- By what a task has each cell: by what its clauses say once what they lack is mended, as that counts.
+abbrev pub has_by : Asking → ℕ → Option Clause
+has_by t = all_counted t.final (mended_clauses t)
+
+-- By what each task has each cell, by the task's number.
 abbrev pub Mended : Type 0
 Mended = ℕ → ℕ → Option Clause
 
 -- the same from what is known of the tasks at the end
 abbrev pub mended_in : List (Option Asking) → Mended
 mended_in [] k c = None
-mended_in (Some t ∷ rest) k c = if k == 0 then mended_clauses t c else mended_in rest (k - 1) c
+mended_in (Some t ∷ rest) k c = if k == 0 then has_by t c else mended_in rest (k - 1) c
 mended_in (None ∷ rest) k c = if k == 0 then None else mended_in rest (k - 1) c
 
 -- the end of a task tells its creator nothing

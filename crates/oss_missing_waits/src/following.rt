@@ -1,21 +1,21 @@
 //! What is kept beside the free run on the second walk.
 
-ghost use Rattle.std.specs.Prelude.{◌≡◌, ◌&&◌, not, ℕ, List as Items, is_some, slice_set, IfOk, OnOk};
+ghost use Rattle.std.specs.Prelude.{◌≡◌, ◌&&◌, not, ℕ, List as Items, Some, is_some, slice_set, IfOk, OnOk};
 ghost use Rattle.oss_syntax.specs.declared.tree.program.Item.{Item};
 ghost use Rattle.oss_machine.specs.Asks.{meant_ask};
 ghost use Rattle.oss_lacks.specs.Nests.{alone, Nest};
 ghost use Rattle.oss_missing_waits.specs.Holding.{Holding, lent_when, main as main_holding};
 ghost use Rattle.oss_missing_waits.specs.Kept.{IsUseThen, Leads, touch_of};
-ghost use Rattle.oss_missing_waits.specs.Following.{AreSaid, HaveEnded, IsClosed, IsFollowing, IsNoted, IsOneMore, IsOpened, IsReturned, Steps, may_write, said_in};
+ghost use Rattle.oss_missing_waits.specs.Following.{AreSaid, HaveEnded, IsClosed, IsFollowing, IsNoted, IsOneMore, IsOpened, IsReturned, Steps, may_write, said_by as told_by, said_in};
 ghost use Rattle.oss_missing_waits.specs.Waits.{IsTouched, Mended};
 
-use crate::holding::{HoldingTask, point_below};
+use crate::holding::HoldingTask;
 use crate::waits::TaskWaits;
 use oss_explanation::Touching;
 use oss_lacks::TaskLacks;
+use oss_lent_cells::{Child, counted};
 use oss_machine::Ask;
 use oss_missing_lines::Late;
-use oss_model::Point;
 use oss_needs::Clause;
 use oss_pieces::Layout;
 use oss_syntax::{List, Mode};
@@ -71,20 +71,19 @@ impl Drop for Following {
 }
 
 impl Following {
-    /// Main alone, before its first act. It is an error if memory is wanted.
-    pub(crate) fn new(alloc: Global) -> Result<Following, AllocError>
-        ensures { IfOk result (λ k. (all : Items Item) (w : Mended) → IsFollowing all w (alone main_holding) k) }
+    /// Main alone, before its first act. It takes no memory.
+    pub(crate) fn new(alloc: Global) -> Following
+        ensures { (all : Items Item) (w : Mended) → IsFollowing all w (alone main_holding) result }
     {
-        let point = Point::main(alloc)?;
-        let task = HoldingTask::new(alloc, point);
+        let task = HoldingTask::new(alloc);
         let above = List::new(alloc);
         let told = Vec::new(alloc);
-        Ok(Following {
+        Following {
             alloc,
             current: OpenTask { number: 0, task },
             above,
             told,
-        })
+        }
     }
 
     /// The task that acts touches a cell on this line.
@@ -142,8 +141,7 @@ impl Following {
             line,
             lends,
         )?;
-        let point = point_below(&self.current.task.point, created)?;
-        let task = HoldingTask::new(self.alloc, point);
+        let task = HoldingTask::new(self.alloc);
         let creator = mem::replace(&mut self.current, OpenTask { number, task });
         self.above.push(creator)?;
         Ok(())
@@ -257,16 +255,25 @@ fn lends_to(when: bool, is_final: bool) -> bool
     when && !is_final
 }
 
-/// What the clauses of the task with this number say of a cell once they are mended.
+/// What the clauses of the task with this number say of a cell once they are mended, as that counts.
 fn said_of(tasks: &[TaskLacks], number: usize, cell: u32) -> Option<Clause>
     ensures { result ≡ said_in tasks.now number cell }
 {
     let count = tasks.len();
     if number < count {
-        let task = &tasks[number];
-        task.mending.clauses.get(cell)
+        said_by(&tasks[number], cell)
     } else {
         None
+    }
+}
+
+/// What the clauses of this task do.
+fn said_by(task: &TaskLacks, cell: u32) -> Option<Clause>
+    ensures { result ≡ told_by (Some task.now) cell }
+{
+    match task.mending.clauses.get(cell) {
+        Some(clause) => Some(counted(clause, task.is_final)),
+        None => None,
     }
 }
 
@@ -286,7 +293,12 @@ fn give(
     let count = tasks.len();
     if number < count {
         let task = &tasks[number];
-        creator.create(layout, &task.mending.clauses, created, line, lends)?;
+        let child = Child {
+            number: created,
+            line,
+            is_final: task.is_final,
+        };
+        creator.create(layout, &task.mending.clauses, child, lends)?;
         Ok(())
     } else {
         Ok(())

@@ -1,13 +1,12 @@
 //! An open task of the second walk, and what each event makes of it.
 
-ghost use Rattle.std.specs.Prelude.{◌≡◌, ◌==◌, ◌++◌, ◌∷◌, [], ℕ, Bool as Truth, List as Items, Option as Maybe, IfOk, OnOk, is_some};
+ghost use Rattle.std.specs.Prelude.{◌==◌, ◌≡◌, ℕ, List as Items, Option as Maybe, OnOk, is_some};
 ghost use Rattle.oss_syntax.specs.declared.tree.program.Item.{Item};
 ghost use Rattle.oss_model.specs.Context.{in_clauses};
-ghost use Rattle.oss_model.specs.Order.{written};
 ghost use Rattle.oss_ranges.specs.Cells.{value_at};
 ghost use Rattle.oss_needs.specs.declared.clause.Clause.{Clause as Said};
 ghost use Rattle.oss_lent_cells.specs.Kept.{in_ranges};
-ghost use Rattle.oss_lent_cells.specs.Lent.{nothing_lent};
+ghost use Rattle.oss_lent_cells.specs.Lent.{all_counted, nothing_lent};
 ghost use Rattle.oss_missing_waits.specs.Holding.{IsUse, lent_when, new_task, releases, told_wait, with_lent};
 ghost use Rattle.oss_missing_waits.specs.Kept.{IsHolding, IsToldUse, IsUseThen, Leads, LeadsTo, touch_of, touched_under, waits_for};
 
@@ -15,9 +14,8 @@ use crate::hindering::hinderer;
 use crate::told::{has_use, has_wait};
 use crate::using::{cell_of, release_all, used_by_clauses, used_by_map, used_by_ranges, used_cell};
 use oss_explanation::Touching;
-use oss_lent_cells::{Holder, LentCells};
+use oss_lent_cells::{Child, Holder, LentCells};
 use oss_missing_lines::{Late, LateUse, MissingWait, word_of_clause};
-use oss_model::Point;
 use oss_needs::Clause;
 use oss_pieces::{CellSet, Layout};
 use oss_ranges::RangeMap;
@@ -27,7 +25,6 @@ use std::alloc::{AllocError, Global};
 /// An open task: what it has lent to its children, what it has released, and what was told of it, in the order of the run.
 pub(crate) struct HoldingTask {
     alloc: Global,
-    pub(crate) point: Point,
     pub(crate) lent: LentCells,
     pub(crate) released: CellSet,
     pub(crate) told: List<Late>,
@@ -38,12 +35,10 @@ impl Drop for HoldingTask {
     fn drop(self) {
         let HoldingTask {
             alloc: _,
-            point,
             lent,
             released,
             told,
         } = self;
-        drop(point);
         drop(lent);
         drop(released);
         drop(told);
@@ -51,9 +46,9 @@ impl Drop for HoldingTask {
 }
 
 impl HoldingTask {
-    /// The task with this point, before its first act.
-    pub(crate) fn new(alloc: Global, point: Point) -> HoldingTask
-        ensures { (all : Items Item) (path : Items ℕ) (line : ℕ) (clauses : ℕ → Maybe Said) → point ≡ written path →
+    /// A task before its first act.
+    pub(crate) fn new(alloc: Global) -> HoldingTask
+        ensures { (all : Items Item) (path : Items ℕ) (line : ℕ) (clauses : ℕ → Maybe Said) →
             IsHolding all (new_task path line clauses) result }
     {
         let lent = LentCells::new(alloc);
@@ -61,7 +56,6 @@ impl HoldingTask {
         let told = List::new(alloc);
         HoldingTask {
             alloc,
-            point,
             lent,
             released,
             told,
@@ -74,12 +68,10 @@ impl HoldingTask {
     {
         let HoldingTask {
             alloc: _,
-            point,
             lent,
             released,
             told,
         } = self;
-        drop(point);
         drop(lent);
         drop(released);
         told
@@ -102,20 +94,21 @@ impl HoldingTask {
         Ok(())
     }
 
-    /// It creates the child with this number on this line, which has cells by these clauses, and lends it these, or does not.
+    /// It creates a child, which has cells by these clauses, and lends it these, or does not.
     pub(crate) fn create(
         &mut self,
         layout: &Layout,
         clauses: &RangeMap<Clause>,
-        number: u32,
-        line: u32,
+        child: Child,
         lends: bool,
     ) -> Result<(), AllocError>
-        ensures { OnOk result (Leads layout.now (IsUseThen (λ c. is_some (value_at clauses.now.pieces c)) line
-            (lent_when lends number line (value_at clauses.now.pieces))) self.old self.new) }
+        ensures { OnOk result (Leads layout.now
+            (IsUseThen (λ c. is_some (all_counted child.is_final (value_at clauses.now.pieces) c)) child.line
+                (lent_when lends child.number child.line (all_counted child.is_final (value_at clauses.now.pieces))))
+            self.old self.new) }
     {
-        self.use_map(layout, clauses, line)?;
-        self.lend(clauses, number, line, lends)?;
+        self.use_map(layout, clauses, child.line)?;
+        self.lend(clauses, child, lends)?;
         Ok(())
     }
 
@@ -256,12 +249,11 @@ impl HoldingTask {
             return Ok(());
         }
         let word = word_of_clause(child.clause);
-        let point = point_below(&self.point, child.number)?;
         self.told.push(Late::Wait(MissingWait {
             touch,
             cell,
             line,
-            child: point,
+            child: child.number,
             created: child.line,
             word,
         }))?;
@@ -272,14 +264,15 @@ impl HoldingTask {
     fn lend(
         &mut self,
         clauses: &RangeMap<Clause>,
-        number: u32,
-        line: u32,
+        child: Child,
         lends: bool,
     ) -> Result<(), AllocError>
-        ensures { OnOk result (LeadsTo (lent_when lends number line (value_at clauses.now.pieces)) self.old self.new) }
+        ensures { OnOk result (LeadsTo
+            (lent_when lends child.number child.line (all_counted child.is_final (value_at clauses.now.pieces)))
+            self.old self.new) }
     {
         if lends {
-            self.lent.lend(clauses, number, line)?;
+            self.lent.lend(clauses, child)?;
             Ok(())
         } else {
             Ok(())
@@ -300,22 +293,5 @@ impl HoldingTask {
     {
         self.lent.wait_on(named)?;
         Ok(())
-    }
-}
-
-/// The point with this number behind it. A number past 65,535 is in no point, and none has more than 66 numbers: such a one is told as
-/// want of memory, and no task of a run has it.
-pub(crate) fn point_below(point: &Point, number: u32) -> Result<Point, AllocError>
-    ensures { IfOk result (λ child. child ≡ point.now ++ number ∷ []) }
-{
-    match u16::try_from(number) {
-        Ok(number) => {
-            if point.as_slice().len() < 66 {
-                point.child(number)
-            } else {
-                Err(AllocError)
-            }
-        }
-        Err(_) => Err(AllocError),
     }
 }

@@ -51,7 +51,7 @@ fn find_over(
     requires { length code.now.first ≤ 1048576 }
     ensures { IfOk result (AreFound layout.now tasks.now code.now fuel) }
 {
-    let following = Following::new(alloc)?;
+    let following = Following::new(alloc);
     match FreeRun::begin(alloc, code, fuel) {
         Ok(mut run) => find_from(layout, tasks, code, fuel, &mut run, following),
         Err(full) => {

@@ -6,7 +6,7 @@ use Rattle.oss_lent_cells.proofs.lending.lend_runs.Given as goal
 abbrev pub invariant-loop-from : goal.invariant-loop-from
 invariant-loop-from l = record {
   high : l.from ≤ 1048576;
-  lent : AreLentBefore l.number l.line l.clauses.pieces l.from l.fn.cells.pieces l.cells.pieces;
+  lent : AreLentBefore l.child l.clauses.pieces l.from l.fn.cells.pieces l.cells.pieces;
 }
 
 abbrev pub decreases-loop-from : goal.decreases-loop-from

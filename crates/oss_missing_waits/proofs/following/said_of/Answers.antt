@@ -6,7 +6,7 @@ pub returns-then-number-count : goal.returns-then-number-count
 returns-then-number-count c =
     let t = c.if-number-count.true in
     let l : c.args.number < length c.args.tasks.now = omega (arith, t) in
-    said_here c.args.tasks.now c.args.number c.args.cell c.index-tasks-number.result c.get.result l c.index-tasks-number.is c.get.ensures
+    said_here c.args.tasks.now c.args.number c.args.cell c.index-tasks-number.result c.said_by.result l c.index-tasks-number.is c.said_by.ensures
 
 pub returns-else-number-count : goal.returns-else-number-count
 returns-else-number-count c =

@@ -34,7 +34,7 @@ returns-in_ok-wait_on-in-WaitOn c =
     let xs = c.as_slice.result.now in
     let new : Following = record { alloc = old.alloc; current = record { number = old.current.number; task = c.wait_on.new.self }; above = old.above; told = old.told } in
     noted_wait_on c.args.layout.now c.args.tasks.now c.args.line c.args.created c.args.is_final c.args.ask.now _ xs old new c.in-WaitOn.is c.as_slice.ensures
-    (directive_more c.args.layout.now c.args.tasks.now (in_ranges xs) c.args.line (waits_for xs) old new (λ h. refl) (λ h. refl) c.in_ok-wait_on-in-WaitOn.ensures (record { number = refl; above = refl; told = refl }))
+    (directive_more c.args.layout.now c.args.tasks.now (in_ranges xs) c.args.line (waits_for xs) old new (λ h. refl) c.in_ok-wait_on-in-WaitOn.ensures (record { number = refl; above = refl; told = refl }))
 
 pub returns-in_ok-release-in-Release : goal.returns-in_ok-release-in-Release
 returns-in_ok-release-in-Release c =
@@ -42,7 +42,7 @@ returns-in_ok-release-in-Release c =
     let xs = c.as_slice-in-Release.result.now in
     let new : Following = record { alloc = old.alloc; current = record { number = old.current.number; task = c.release.new.self }; above = old.above; told = old.told } in
     noted_release c.args.layout.now c.args.tasks.now c.args.line c.args.created c.args.is_final c.args.ask.now _ xs old new c.in-Release.is c.as_slice-in-Release.ensures
-    (directive_more c.args.layout.now c.args.tasks.now (in_clauses xs) c.args.line (releases xs) old new (λ h. refl) (λ h. refl) c.in_ok-release-in-Release.ensures (record { number = refl; above = refl; told = refl }))
+    (directive_more c.args.layout.now c.args.tasks.now (in_clauses xs) c.args.line (releases xs) old new (λ h. refl) c.in_ok-release-in-Release.ensures (record { number = refl; above = refl; told = refl }))
 
 pub returns-in_ok-create-in-Create : goal.returns-in_ok-create-in-Create
 returns-in_ok-create-in-Create c =

@@ -15,5 +15,5 @@ returns-then-known c =
 pub returns-in_ok-push-in-Some : goal.returns-in_ok-push-in-Some
 returns-in_ok-push-in-Some c =
     let e : lines_have_use c.args.self.now.told c.args.line ≡ false = ap (λ (ls : List Late). lines_have_use ls c.args.line) (sym c.as_slice.ensures) ∙ sym c.has_use-known.ensures ∙ c.if-known.false in
-    use_told c.args.layout.now c.args.used.now c.args.line c.in-Some._cell c.in_ok-cells-in-Some.cells c.args.self.now (record c.args.self.now { told = c.push.new.self }) c.in-Some.ensures e c.in_ok-cells-in-Some.ensures refl refl refl
+    use_told c.args.layout.now c.args.used.now c.args.line c.in-Some._cell c.in_ok-cells-in-Some.cells c.args.self.now (record c.args.self.now { told = c.push.new.self }) c.in-Some.ensures e c.in_ok-cells-in-Some.ensures refl refl
     c.in_ok-push-in-Some.ensures.ok

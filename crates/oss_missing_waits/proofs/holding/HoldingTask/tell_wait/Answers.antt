@@ -12,5 +12,5 @@ returns-then-known c =
 pub returns : goal.returns
 returns c =
     let e : lines_have_wait c.args.self.now.told c.args.line ≡ false = ap (λ (ls : List Late). lines_have_wait ls c.args.line) (sym c.as_slice.ensures) ∙ sym c.has_wait-known.ensures ∙ c.if-known.false in
-    wait_told c.args.touch c.args.cell c.args.line c.args.child c.args.self.now (record c.args.self.now { told = c.push.new.self }) c.in_ok-point.point c.word_of_clause-word.result e c.in_ok-point.ensures c.word_of_clause-word.ensures refl refl refl
+    wait_told c.args.touch c.args.cell c.args.line c.args.child c.args.self.now (record c.args.self.now { told = c.push.new.self }) c.word_of_clause-word.result e c.word_of_clause-word.ensures refl refl
     c.in_ok-push.ensures.ok
