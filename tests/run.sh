@@ -15,7 +15,7 @@
 # its commands, the lines that begin with `$ `, write where they are given one after the other; so the blocks `console` of docs/COMMANDS.md. tests/tables.sh tries the
 # rows of the tables of the other documents.
 #
-# What stands around the program, in share/, is tried by tests/share.sh.
+# What stands around the program, in share/, is tried by tests/share.sh. What `missing` tells of wrong programs mends them: tests/mended.sh.
 #
 # A case is a file tests/cases/SUBJECT/NAME.case with these lines:
 #   # what the case shows
@@ -452,6 +452,16 @@ counted() {
 # What stands around the program.
 counted "$top/tests/share.sh" "$program"
 counted "$top/tests/little.sh" "$program"
+# Wrong programs that are mended by rule. A verdict that is the stored one has passed, whatever it is, and is not told here.
+"$top/tests/mended.sh" "$program" >"$work/mended" 2>&1
+sed '$d' "$work/mended" | grep -Ev '^[a-z_]+: (mended|not mended|refused|fault)'
+of_mended=$(awk -F', ' 'END { if ($NF ~ /^[0-9]+ failed$/) { for (i = 1; i < NF; i++) sum += $i; print sum + 0, $NF + 0 } }' "$work/mended")
+[ -n "$of_mended" ] || {
+  tail -n 1 "$work/mended"
+  of_mended='0 1'
+}
+passed=$((passed + ${of_mended% *}))
+failed=$((failed + ${of_mended#* }))
 [ "$all" = no ] || counted "$top/tests/refused.sh" "$program"
 
 echo "$passed passed, $failed failed"

@@ -1,10 +1,11 @@
 """Makes a Rust program of crates of this repository, with their contracts stripped.
 
-usage: strip.py TOP OUT CRATE..
+usage: strip.py [--program FOLDER] TOP OUT CRATE..
 
 TOP is the top of the repository, OUT a folder that is made, and each CRATE one that the program calls. These crates, and those on which they
-stand by crates.txt, become modules of one Rust crate. `prelude.rs` and `main.rs`, which lie beside this script, are put beside them: the first
-stands for the library of the kit, the second is the program. No line of code is changed but in what this text says.
+stand by crates.txt, become modules of one Rust crate. `prelude.rs` and `table.rs`, which lie beside this script, are put beside them: they stand
+for the library of the kit. The program is `main.rs`, which lies beside this script too, or that of FOLDER, with the other files `*.rs` there as
+its modules. No line of code is changed but in what this text says.
 """
 
 import pathlib
@@ -25,6 +26,9 @@ GHOST_BLOCK = re.compile(
     """,
     re.MULTILINE | re.VERBOSE,
 )
+
+# The lines at the end of a text that say what follows them.
+DOC_LINES = re.compile(r"(?:^[ \t]*///[^\n]*\n)+\Z", re.MULTILINE)
 
 # A ghost name made known: to the next semicolon, over lines.
 GHOST_USE = re.compile(r"^[ \t]*(?:pub(?:\([a-z]+\))? )?ghost use [^;]*;[ \t]*\n", re.MULTILINE)
@@ -52,15 +56,25 @@ STOOD_FOR = {
     "std::alloc": "crate::prelude",
     "std::collections": "crate::prelude",
     "std::thread": "crate::prelude::thread",
+    "std::snapshot": "crate::table",
+    "atomic_table": "crate::table",
+    "arrayvec": "crate::table",
     "indexmap": "crate::prelude",
     "oss_io": "crate::prelude",
 }
+
+# A type by which steps are told apart, in proofs alone. Rust has its neighbour.
+BRAND_USE = re.compile(r"^use std::marker::(?:Brand|\{Brand, PhantomData\});", re.MULTILINE)
+BRAND_KNOWN = "use crate::table::Brand;\nuse std::marker::PhantomData;"
 
 # What no stripped line has in it.
 GHOST_WORD = re.compile(r"^[ \t]*(?:pub(?:\(crate\))? )?(?:ghost|requires|ensures)\b")
 
 # The folder of the modules.
 MODULES = "src"
+
+# What stands for the library of the kit, the first of which has macros.
+STANDS_BESIDE = ["prelude", "table"]
 
 
 def libraries(top):
@@ -105,7 +119,9 @@ def without_blocks(text):
     """The text without the ghost blocks, nor the comma or semicolon behind a ghost member, nor the end of the line."""
     kept, begin = [], 0
     while block := GHOST_BLOCK.search(text, begin):
-        kept.append(text[begin : block.start()])
+        before = text[begin : block.start()]
+        # what is said above a ghost member goes with it
+        kept.append(before if block.group("clause") else DOC_LINES.sub("", before))
         begin = behind_block(text, block.end() - 1)
         # the semicolon behind a clause ends the head of a trait's function, and stays
         if not block.group("clause") and text[begin : begin + 1] in (",", ";"):
@@ -141,7 +157,7 @@ def stripped(text, crate, crates):
     text = DERIVE_LINE.sub(derived, text)
     text = DROP_BOUND.sub("", text)
     text = COLLECT.sub(".collected(", text)
-    return as_modules(text, crate, crates)
+    return BRAND_USE.sub(BRAND_KNOWN, as_modules(text, crate, crates))
 
 
 def with_prelude(text):
@@ -170,22 +186,31 @@ def put_crate(top, out, crate, crates):
         target.write_text(text)
 
 
-def put_program(out, crates):
-    """Writes the first file of the program, which names the modules, and what stands beside this script."""
+def put_program(out, folder, crates):
+    """Writes the first file of the program of this folder, which names the modules, and what stands beside this script."""
     beside = pathlib.Path(__file__).parent
-    shutil.copy(beside / "prelude.rs", out / MODULES / "prelude.rs")
-    modules = "".join(f"mod {crate};\n" for crate in crates)
-    program = (beside / "main.rs").read_text()
-    (out / MODULES / "main.rs").write_text(f"#![allow(warnings)]\n#[macro_use]\nmod prelude;\n{modules}{program}")
+    for name in STANDS_BESIDE:
+        shutil.copy(beside / f"{name}.rs", out / MODULES / f"{name}.rs")
+    for part in sorted(folder.glob("*.rs")):
+        if folder != beside and part.name != "main.rs":
+            shutil.copy(part, out / MODULES / part.name)
+    modules = "".join(f"mod {name};\n" for name in [*STANDS_BESIDE, *crates])
+    program = (folder / "main.rs").read_text()
+    (out / MODULES / "main.rs").write_text(f"#![allow(warnings)]\n#[macro_use]\n{modules}{program}")
 
 
 def main():
-    top, out, *wanted = sys.argv[1:]
+    words = sys.argv[1:]
+    folder = pathlib.Path(__file__).parent
+    if words[0] == "--program":
+        folder = pathlib.Path(words[1])
+        words = words[2:]
+    top, out, *wanted = words
     top, out = pathlib.Path(top), pathlib.Path(out)
     crates = chain(top, wanted)
     for crate in crates:
         put_crate(top, out, crate, crates)
-    put_program(out, crates)
+    put_program(out, folder, crates)
 
 
 if __name__ == "__main__":

@@ -14,6 +14,7 @@ pub mod EndingLemmas
 pub mod TurnLemmas
 pub mod StopLemmas
 pub mod PairLemmas
+pub mod NumberLemmas
 pub mod MissingTheorem
 pub mod BackLemmas
 pub mod UniqueLemmas

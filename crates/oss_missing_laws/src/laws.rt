@@ -1,6 +1,7 @@
 //! Laws, each carried by a function that does nothing.
 
 ghost use Rattle.oss_missing_laws.specs.Claims.{LacksGrow, LendingIsKept, MarksAreKept, MetIsUnbroken, NamesAreJudged, TouchesAreJudged};
+ghost use Rattle.oss_missing_laws.specs.Numbers.{WalksNumberAlike};
 ghost use Rattle.oss_missing_laws.specs.Missing.{AnswersAreOne, MissingExactly, NothingIsMissing, NothingIsWrong, RunsEndAlike};
 
 /// The judge finds no fault of a touch exactly where the cell is not released, no child hinders the touch, and the clauses meet it.
@@ -56,4 +57,9 @@ pub fn answers_are_one<S>()
 /// So the walks show that nothing is missing exactly if no fault of annotations stops the program's own run.
 pub fn missing_exactly<S>()
     ensures { MissingExactly S }
+{}
+
+/// Both walks number the tasks alike, so that a task gets the lines that the second walk has for its number.
+pub fn walks_number_alike<S>()
+    ensures { WalksNumberAlike S }
 {}

@@ -1,0 +1,15 @@
+pub mod CalmRuns
+pub mod CalmExpressions
+pub mod CalmClauses
+pub mod CalmMeanings
+pub mod CalmNested
+pub mod CalmSimple
+pub mod ReleaseForms
+pub mod CalmStatements
+pub mod CalmPrograms
+pub mod ParsedReleases
+pub mod WithinLemmas
+pub mod MachineCells
+pub mod ProgramCells
+pub mod OneWalk
+pub mod OneMissing

@@ -1,3 +1,4 @@
 pub mod Asks
 pub mod Cells
 pub mod Exact
+pub mod Once

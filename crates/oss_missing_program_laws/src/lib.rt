@@ -4,3 +4,11 @@
 mod asks;
 mod cells;
 mod exact;
+mod once;
+
+pub use asks::{programs_release_plainly, programs_settle_in_two, texts_release_by_dependencies};
+pub use cells::{
+    codes_name_their_cells, codes_touch_their_cells, programs_leave_clauses,
+    programs_name_their_cells, programs_touch_their_cells,
+};
+pub use once::missing_is_one;

@@ -76,7 +76,7 @@ lent_path false number line clauses h = refl
 -- The task that acts is known otherwise.
 
 mended_now : (w : Mended) (k : Numbered Holding) (above : List (Numbered Holding)) (g : Holding) → g.has ≡ k.task.has → AreMended w k above → AreMended w (record { number = k.number; task = g }) above
-mended_now w k [] g e h c = ap (λ (f : ℕ → Option Clause). f c) e ∙ h c
+mended_now w k [] g e h = λ c. ap (λ (f : ℕ → Option Clause). f c) e ∙ h c
 mended_now w k (j ∷ above) g e h = (λ c. ap (λ (f : ℕ → Option Clause). f c) e ∙ h.0 c, h.1)
 
 -- What else is kept stays.

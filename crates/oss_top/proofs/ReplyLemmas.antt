@@ -43,11 +43,11 @@ use Rattle.oss_labels.specs.declared.labels.Labelled.{Labelled}
 use Rattle.oss_task_graph.specs.declared.graph.Graph.{Graph}
 use Rattle.oss_top.specs.Audits.{IsAuditReply}
 use Rattle.oss_top.specs.Drawn.{IsGraphReply, drawn_reply, entry_in}
-use Rattle.oss_top.proofs.MissingLemmas.{missing_alike}
+use Rattle.oss_top.proofs.MissingLemmas.{missing_once}
 use Rattle.oss_top.specs.Explained.{IsExplainReply, IsFailureOfEnding, ending_reply}
 use Rattle.oss_top.specs.Spans.{IsSpanReply}
 use Rattle.oss_top.specs.Forms.{error_reply, run_reply, soak_reply, told_reply, too_large_line, trace_reply}
-use Rattle.oss_top.specs.OneReply.{AreSpansAlike, IsOfOneText, IsDrawnOnce, IsExplainedOnce, IsReplied, IsRepliedOnce, IsSpanned, nothing, numbers}
+use Rattle.oss_top.specs.OneReply.{AreSpansAlike, IsOfOneText, IsDrawnOnce, IsExplainedOnce, IsMissedOnce, IsReplied, IsRepliedOnce, IsSpanned, nothing, numbers}
 use Rattle.oss_top.specs.ProgramTexts.{Accepts, Refuses}
 use Rattle.oss_top.specs.ProgramTexts.Refuses.{by_grammar, by_rules}
 use Rattle.oss_top.proofs.LabelLemmas.{labels_are_one}
@@ -172,7 +172,7 @@ program_alike c p reply other (audited {fuel} x) (audited y) = ap status_of (aud
 program_alike c p reply other (spanned {fuel} x) (spanned y) = (span_alike fuel p reply other x y).status
 program_alike c p reply other (explained {fuel} x) (explained y) = ap status_of (explain_once fuel p reply other x y)
 program_alike c p reply other (drawn {fuel} x) (drawn y) = ap status_of (graph_once fuel p reply other x y)
-program_alike c p reply other (missed {fuel} x) (missed y) = missing_alike fuel p reply other x y
+program_alike c p reply other (missed {fuel} x) (missed y) = ap status_of (missing_once fuel p reply other x y)
 
 module _ (text : List ℕ) (once : IsParsedOnce text) where
   -- a text that is accepted is not refused
@@ -281,6 +281,12 @@ drawn_once text file fuel = file_once text (parsed_once text) (λ (r s : Reply).
   where
     programs : (p : Program) (reply other : Reply) → IsProgramReply (graph file fuel) p reply → IsProgramReply (graph file fuel) p other → reply ≡ other
     programs p reply other (drawn x) (drawn y) = graph_once fuel p reply other x y
+
+pub missed_once : (text : List ℕ) → IsMissedOnce text
+missed_once text file fuel = file_once text (parsed_once text) (λ (r s : Reply). r ≡ s) (λ line r s x y. x ∙ sym y) (missing file fuel) programs
+  where
+    programs : (p : Program) (reply other : Reply) → IsProgramReply (missing file fuel) p reply → IsProgramReply (missing file fuel) p other → reply ≡ other
+    programs p reply other (missed x) (missed y) = missing_once fuel p reply other x y
 
 -- two replies to a command with one text have one status
 file_alike : (text : List ℕ) (c : Command) (reply other : Reply) → IsFileReply c text reply → IsFileReply c text other → status_of reply ≡ status_of other

@@ -43,6 +43,10 @@ IsExplainedOnce text = (file : List ℕ) (fuel : ℕ) (reply other : Reply) → 
 abbrev pub IsDrawnOnce : List ℕ → Type 0
 IsDrawnOnce text = (file : List ℕ) (fuel : ℕ) (reply other : Reply) → IsFileReply (graph file fuel) text reply → IsFileReply (graph file fuel) text other → reply ≡ other
 
+-- A text has at most one reply with what is missing of its clauses. (That it has one is no law yet.)
+abbrev pub IsMissedOnce : List ℕ → Type 0
+IsMissedOnce text = (file : List ℕ) (fuel : ℕ) (reply other : Reply) → IsFileReply (missing file fuel) text reply → IsFileReply (missing file fuel) text other → reply ≡ other
+
 -- Two outputs of a span: both are empty, or both tell the same ticks and the same ticks of a longest chain, each with a chain of its own.
 pub data TellOneSpan (out other : List ℕ) : Type 0 where
   nothing : out ≡ [] → other ≡ [] → TellOneSpan out other

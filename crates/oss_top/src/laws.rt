@@ -1,7 +1,7 @@
 //! The laws of the replies of the top call.
 
 ghost use Rattle.oss_top.specs.EveryOrder.{IsRunInEveryOrder};
-ghost use Rattle.oss_top.specs.OneReply.{IsDrawnOnce, IsExplainedOnce, IsReplied, IsRepliedOnce, IsSpanned};
+ghost use Rattle.oss_top.specs.OneReply.{IsDrawnOnce, IsExplainedOnce, IsMissedOnce, IsReplied, IsRepliedOnce, IsSpanned};
 
 /// A law, with nothing to run: a text has one reply to a check, to a run, to a trace, to an audit and, as the
 /// text that a soak makes, to a soak, and no other. So status, output and error output of each of these are
@@ -26,6 +26,12 @@ pub fn a_text_is_explained_in_one_way(text: &[u8])
 /// output of it are settled by the text and the fuel.
 pub fn a_text_is_drawn_in_one_way(text: &[u8])
     ensures { IsDrawnOnce text.now }
+{}
+
+/// A law, with nothing to run: a text has at most one reply with what is missing of its clauses. So status, output
+/// and error output of it are settled by the text and the fuel.
+pub fn what_is_missing_is_told_in_one_way(text: &[u8])
+    ensures { IsMissedOnce text.now }
 {}
 
 /// A law, with nothing to run: the texts of a program and of a schedule have one reply to a replay, and no

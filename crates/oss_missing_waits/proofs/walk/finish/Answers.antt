@@ -1,4 +1,4 @@
-use Rattle.std.proofs.Common.{subst, sym, []}
+use Rattle.std.proofs.Common.{subst, sym}
 use Rattle.oss_missing_waits.specs.Lines.{AreLines, AreTaskLines}
 use Rattle.oss_missing_waits.specs.Waits.{at_stop}
 use Rattle.oss_missing_waits.specs.declared.waits.TaskWaits.{TaskWaits}

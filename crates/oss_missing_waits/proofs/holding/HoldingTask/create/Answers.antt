@@ -1,4 +1,4 @@
-use Rattle.std.proofs.Common.{ℕ, Bool, subst, sym}
+use Rattle.std.proofs.Common.{ℕ, Bool, subst}
 use Rattle.std.specs.Prelude.{is_some}
 use Rattle.oss_ranges.specs.Cells.{value_at}
 use Rattle.oss_missing_waits.specs.Holding.{lent_when}
