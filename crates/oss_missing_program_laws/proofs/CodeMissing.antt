@@ -9,6 +9,7 @@ use Rattle.oss_grammar.specs.Values.{kept}
 use Rattle.oss_model.specs.Agreement.{main_start}
 use Rattle.oss_model.specs.Bodies.{Ask, Asked, Start}
 use Rattle.oss_model.specs.Bodies.Ask.{Await, Begin, Create, End, Fails, Fold, Print, Read, Release, Tick, Wait, WaitOn, Write}
+use Rattle.oss_model.specs.Marks.{AsksFor}
 use Rattle.oss_meaning.specs.Expressions.{TaskBody, TreeScript}
 use Rattle.oss_meaning.specs.Meaning.{asks_of}
 use Rattle.oss_meaning.specs.Pointers.{Extent, extents_from, extents_of}
@@ -21,8 +22,10 @@ use Rattle.oss_machine.specs.Machines.{asks}
 use Rattle.oss_lower_laws.specs.Lowered.{IsLowered}
 use Rattle.oss_lower_laws.specs.Programs.{IsCodeOf, code_order, code_start, moved_ask as code_ask, moved_asked as code_asked, moved_script}
 use Rattle.oss_lower_laws.proofs.OutcomeLaws.{cells_are, start_is}
+use Rattle.oss_freed.specs.Freed.{TouchesItsCells}
 use Rattle.oss_missing_lines.specs.declared.missing.Missing.{Missing}
 use Rattle.oss_missing_laws.specs.Missing.{EndsWell}
+use Rattle.oss_missing_laws.specs.Programs.{IsNaming, NamesItsCells}
 use Rattle.oss_missing.specs.Missing.{IsMissing}
 use Rattle.oss_missing_program_laws.specs.Exact.{CodesEndWellAlike}
 use Rattle.oss_missing_program_laws.proofs.EmptyPieces.{cells_from}
@@ -110,6 +113,51 @@ module _ (all : List Item) (code : CodeParts) (of : IsCodeOf all code) where
   -- main of the program, by how many cells it begins with
   pub main_is : (fuel : ℕ) → main_start main_order (length (first_cells all)) fuel ≡ main_of all fuel
   main_is fuel = ap (λ (n : ℕ). main_start main_order n fuel) (cells_are all)
+
+-- Cells
+
+asks_moved : {S T : Type 0} (move : S → T) (q : Ask S) (c : ℕ) → AsksFor q c → AsksFor (moved_ask move q) c
+asks_moved move (Read d) c h = h
+asks_moved move (Write d v) c h = h
+asks_moved move (Fold d op v) c h = h
+asks_moved move Begin c h = absurd h
+asks_moved move Tick c h = absurd h
+asks_moved move (Create o) c h = absurd h
+asks_moved move Await c h = absurd h
+asks_moved move Wait c h = absurd h
+asks_moved move (WaitOn named) c h = absurd h
+asks_moved move (Release clauses) c h = absurd h
+asks_moved move (Print text) c h = absurd h
+asks_moved move End c h = absurd h
+asks_moved move (Fails kind) c h = absurd h
+
+names_back : {S T : Type 0} (move : S → T) (n : ℕ) (q : Ask S) → IsNaming n (moved_ask move q) → IsNaming n q
+names_back move n (Create o) h = h
+names_back move n (WaitOn named) h = h
+names_back move n (Release clauses) h = h
+names_back move n Begin h = h
+names_back move n Tick h = h
+names_back move n (Read d) h = h
+names_back move n (Write d v) h = h
+names_back move n (Fold d op v) h = h
+names_back move n Await h = h
+names_back move n Wait h = h
+names_back move n (Print text) h = h
+names_back move n End h = h
+names_back move n (Fails kind) h = h
+
+-- A program touches the cells alone that its code touches, and names those alone that its code names.
+module _ (all : List Item) (code : CodeParts) (of : IsCodeOf all code) where
+  pub touches_own : TouchesItsCells (length code.first) (asks code) → TouchesItsCells (length (first_cells all)) (asks_of all)
+  touches_own h s answers c a =
+      let there : AsksFor (asks code (moved_script of.places s) answers).ask c = subst (λ (x : Asked CodeScript). AsksFor x.ask c) (code_alike all code of s answers) (asks_moved (moved_script of.places) (asks_of all s answers).ask c a) in
+      subst (λ (first : List ℕ). c < length first) of.first (h (moved_script of.places s) answers c there)
+
+  pub names_own : NamesItsCells (length code.first) (asks code) → NamesItsCells (length (first_cells all)) (asks_of all)
+  names_own h s answers =
+      let there : IsNaming (length (first_cells all)) (asks code (moved_script of.places s) answers).ask =
+      subst (λ (first : List ℕ). IsNaming (length first) (asks code (moved_script of.places s) answers).ask) of.first (h (moved_script of.places s) answers) in
+      names_back (moved_script of.places) (length (first_cells all)) (asks_of all s answers).ask (subst (λ (x : Asked CodeScript). IsNaming (length (first_cells all)) x.ask) (sym (code_alike all code of s answers)) there)
 
 pub codes_end_well_alike : CodesEndWellAlike
 codes_end_well_alike all code of fuel = (forth, back)

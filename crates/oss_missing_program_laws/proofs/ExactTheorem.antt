@@ -26,9 +26,9 @@ use Rattle.oss_lacks.specs.Walks.{Walks, at_stop}
 use Rattle.oss_missing_waits.specs.Holding.{Holding}
 use Rattle.oss_missing_waits.specs.Waits.{Waits, at_stop as held_at_stop, mended_in}
 use Rattle.oss_missing_laws.specs.Missing.{AnswersAreOne, EndsWell, MissingExactly, NothingIsMissing, NothingMissing}
+use Rattle.oss_missing_laws.specs.Numbers.{WalksNumberAlike}
 use Rattle.oss_missing_laws.specs.Programs.{NamesItsCells, ReleasesPlainly, SettlesInTwo}
 use Rattle.oss_missing_laws.proofs.MissingTheorem.{walked_run}
-use Rattle.oss_missing_laws.proofs.PairLemmas.{paired}
 use Rattle.oss_missing.specs.Missing.{AreAllMissing, IsMissing}
 use Rattle.oss_missing_program_laws.specs.Exact.{IsFaultOf, IsToldNothing}
 use Rattle.oss_missing_program_laws.proofs.EmptyPieces.{cells_from}
@@ -36,8 +36,7 @@ use Rattle.oss_missing_program_laws.proofs.FewCells.{few_at_stop}
 use Rattle.oss_missing_program_laws.proofs.MovedBack.{IsEndBack, end_back}
 use Rattle.oss_missing_program_laws.proofs.MovedBodies.{AskAlike, moved_act, moved_start}
 use Rattle.oss_missing_program_laws.proofs.MovedWalks.{fault_back, freed_alike, wait_back, walk_back}
-use Rattle.oss_missing_program_laws.proofs.PairSizes.{sizes_at_stop}
-use Rattle.oss_missing_program_laws.proofs.ToldNothing.{all_lack, all_nothing, all_told}
+use Rattle.oss_missing_program_laws.proofs.ToldNothing.{all_lack, all_nothing, all_told, as_long}
 
 -- What is missing of the clauses of a program, whatever its scripts are.
 pub record IsMissingOf {S : Type 0} (P : Program S) (main : Start S) (first : List ℕ) (all : List Item) (m : Missing) : Type 0 where
@@ -121,14 +120,14 @@ record IsTold {S : Type 0} (P : Program S) (main : Start S) (first : List ℕ) (
   is : IsFaultOf fault answer
 
 module _ {S : Type 0} (P : Program S) (order : Order S) (first : List ℕ) (fuel : ℕ) (all : List Item) (m : Missing) (h : IsMissingOf P (main_start order (length first) fuel) first all m) (few : length first ≤ 1048576) (cells : length first ≤ cells_from all)
-    (two : SettlesInTwo P) (named : NamesItsCells (length first) P) (touches : TouchesItsCells (length first) P) where
+    (two : SettlesInTwo P) (named : NamesItsCells (length first) P) (touches : TouchesItsCells (length first) P) (numbers : WalksNumberAlike S) where
   abbrev main : Start S
   main = main_start order (length first) fuel
 
   nothing_missing : IsToldNothing m → NothingMissing P order first fuel h.last h.stop
   nothing_missing told =
-      let pair = paired (mended_in (at_stop h.asked).ended) P main first h.last h.stage h.asked h.held h.walks h.stop h.waits h.end in
-      let sizes : length (at_stop h.asked).ended ≡ length (held_at_stop h.held).ended = sizes_at_stop (mended_in (at_stop h.asked).ended) P main first pair in
+      let sizes : length (at_stop h.asked).ended ≡ length (held_at_stop h.held).ended =
+      as_long (at_stop h.asked).ended (held_at_stop h.held).ended (numbers (mended_in (at_stop h.asked).ended) P main first h.last h.stage h.asked h.held h.walks h.stop h.waits h.end) in
       record {
         asked = h.asked;
         walks = h.walks;

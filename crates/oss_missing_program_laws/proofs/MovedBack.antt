@@ -1,5 +1,5 @@
 -- The other way round: each stage of the run of the other program is one that is moved, but for the order in which it lists its tasks.
-use Rattle.std.proofs.Common.{◌≡◌, ◌∙◌, ℕ, List, [], Option, Some, None, refl, sym, ap, subst}
+use Rattle.std.proofs.Common.{◌≡◌, ◌∙◌, ℕ, List, Option, Some, None, option_map, refl, sym, ap, subst}
 use Rattle.oss_model.specs.Bodies.{IsHalt, Program, Start}
 use Rattle.oss_model.specs.Machine.{At, State, Task, find}
 use Rattle.oss_model.specs.Moves.{act_now}
@@ -20,9 +20,9 @@ pub task_back : {S T : Type 0} (move : S → T) (s : State S) (p : List ℕ) (u 
 task_back {S} {T} move s p u h = go (find s.tasks p) refl
   where
     go : (o : Option (Task S)) → find s.tasks p ≡ o → IsMovedTask move s p u
-    go None e = let k : ◌≡◌ {A = Option (Task T)} None (Some u) = sym (find_is move s.tasks p ∙ ap (Rattle.std.proofs.Common.option_map (moved_task move)) e) ∙ h in cc
+    go None e = let k : ◌≡◌ {A = Option (Task T)} None (Some u) = sym (find_is move s.tasks p ∙ ap (option_map (moved_task move)) e) ∙ h in cc
     go (Some t) e =
-        let k : ◌≡◌ {A = Option (Task T)} (Some (moved_task move t)) (Some u) = sym (find_is move s.tasks p ∙ ap (Rattle.std.proofs.Common.option_map (moved_task move)) e) ∙ h in
+        let k : ◌≡◌ {A = Option (Task T)} (Some (moved_task move t)) (Some u) = sym (find_is move s.tasks p ∙ ap (option_map (moved_task move)) e) ∙ h in
         record { task = t; at_ = e; is = cc }
 
 module _ {S T : Type 0} (move : S → T) (P : Program S) (Q : Program T) (alike : AskAlike move P Q) where

@@ -13,6 +13,7 @@ use Rattle.oss_missing_waits.specs.Holding.{Holding, Told}
 use Rattle.oss_missing_waits.specs.Lines.{AreLines}
 use Rattle.oss_missing.specs.Making.{others}
 use Rattle.oss_missing.specs.Missing.{AreAllMissing, AreLinesOf, AreTasksMissing, IsMainMissing, IsTaskMissing, first_known, lacks_of}
+use Rattle.oss_missing_laws.specs.Numbers.{AreOneByOne}
 use Rattle.oss_missing_laws.specs.Programs.{LacksNothing, NothingTold}
 use Rattle.oss_missing_program_laws.specs.Exact.{AreToldNothing, IsTaskToldNothing}
 use Rattle.oss_missing_program_laws.proofs.EmptyPieces.{cells_from}
@@ -37,6 +38,17 @@ rest_each Has (x ∷ hs) h = λ i t e. h (suc i) t e
 first_each : {A : Type 0} (Has : A → Type 0) (hs : List (Option A)) → Each Has hs → (t : A) → first_known hs ≡ Some t → Has t
 first_each Has [] h t e = absurd cc
 first_each Has (x ∷ hs) h t e = h 0 t e
+
+-- Lists that go together one by one are as long.
+pub as_long : (ts : List (Option Asking)) (hs : List (Option Holding)) → AreOneByOne ts hs → length ts ≡ length hs
+as_long [] [] h = refl
+as_long [] (x ∷ hs) h = absurd h
+as_long (None ∷ ts) [] h = absurd h
+as_long (Some t ∷ ts) [] h = absurd h
+as_long (None ∷ ts) (None ∷ hs) h = ap suc (as_long ts hs h)
+as_long (None ∷ ts) (Some x ∷ hs) h = absurd h
+as_long (Some t ∷ ts) (None ∷ hs) h = absurd h
+as_long (Some t ∷ ts) (Some x ∷ hs) h = ap suc (as_long ts hs h.1)
 
 module _ (all : List Item) where
   lines_none : (told : List Told) → AreLines all told [] → told ≡ []
