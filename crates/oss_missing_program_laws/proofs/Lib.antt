@@ -13,3 +13,15 @@ pub mod MachineCells
 pub mod ProgramCells
 pub mod OneWalk
 pub mod OneMissing
+pub mod MovedBodies
+pub mod MovedRuns
+pub mod MovedBack
+pub mod MovedWalks
+pub mod EmptyPieces
+pub mod FewCells
+pub mod EmptyWords
+pub mod ToldNothing
+pub mod ExactTheorem
+pub mod CodeMissing
+pub mod ProgramsExact
+pub mod ExactLaws

@@ -11,4 +11,5 @@ pub use cells::{
     codes_name_their_cells, codes_touch_their_cells, programs_leave_clauses,
     programs_name_their_cells, programs_touch_their_cells,
 };
+pub use exact::{codes_end_well_alike, nothing_is_told_exactly, told_faults_are_own};
 pub use once::missing_is_one;
