@@ -3,7 +3,7 @@
 # bench/field. It prints three lines and a table:
 # - random programs of tasks beside the core: one thread, one to four seats, each deed drawn; behind each deed what may happen next is compared with the core, and the flags with what is done;
 # - the same programs by three threads in turns: before each atomic step it is drawn whose turn comes, and the core makes the same moves;
-# - the same by four threads at once, ten times each: the output is compared with that of the sequential run;
+# - a tenth of the programs by four threads at once, ten times each: the output is compared with that of the sequential run;
 # - the instructions of a task (callgrind), and its atomic steps, by one seat: in a chain, on cells of their own, with three cells each, reductions of one cell, and children of weak tasks.
 # The first difference ends it with the status 1, and with the start of the program, the program and the steps. With START and COUNT it drives so many programs from START on, and counts nothing.
 # It wants `rustc`, `python3` and `valgrind`, and proves nothing.
@@ -24,11 +24,17 @@ python3 "$top/bench/port/strip.py" --program "$top/bench/field" "$top" port oss_
 # The driver with tests of sums and of slots, and with a hook before each atomic step.
 rustc --edition 2021 -C opt-level=1 -C debug-assertions=on -C overflow-checks=on -o driver port/src/main.rs || exit 1
 
+# failed: says why a driver failed
+failed() {
+  cat errors >&2
+  exit 1
+}
+
 start=${1:-1}
 count=${2:-20000}
-./driver beside "$start" "$count" 2>errors || exit 1
-./driver turns "$start" "$count" 3 1 2>errors || exit 1
-./driver threads "$start" "$((count / 10 + 1))" 4 10 2>errors || exit 1
+./driver beside "$start" "$count" 2>errors || failed
+./driver turns "$start" "$count" 3 1 2>errors || failed
+./driver threads "$start" "$((count / 10 + 1))" 4 10 2>errors || failed
 [ $# -eq 0 ] || exit 0
 
 rustc --edition 2021 -C opt-level=3 -o counted port/src/main.rs || exit 1
