@@ -133,6 +133,14 @@ impl<'a> Beside<'a> {
         }
     }
 
+    /// A job was taken: its task has begun, or may begin.
+    pub fn check_ready(&mut self, task: u32) {
+        let at = self.place_of(task);
+        if !self.tasks[at].begun {
+            self.reach("a take", at, Move::Step(self.tasks[at].core));
+        }
+    }
+
     /// The next act of a job has found this. The thread that has the turn goes on with this job alone until the act is told.
     pub fn found_by(&mut self, job: &Job, cell: u32, value: u64) {
         self.finds.retain(|found| found.0 != job.task());

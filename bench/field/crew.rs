@@ -128,6 +128,9 @@ struct Common<'a> {
     failure: Option<String>,
     steps: u64,
     notes: Vec<String>,
+    /// The numbers of all tasks, and how many of their jobs were taken to be put back.
+    numbers: Vec<u32>,
+    touched: u64,
 }
 
 /// What a thread tells of its calls.
@@ -171,6 +174,7 @@ impl Watch for Teller<'_, '_> {
         let mut common = locked(self.common);
         common.open += 1;
         common.tasks += 1;
+        common.numbers.push(task.number);
         common.entries.push(task.number);
         common.entries.extend(task.places.iter().map(|place| place.entry));
         if let Some(beside) = &mut common.beside {
@@ -220,8 +224,8 @@ impl Watch for Teller<'_, '_> {
 pub enum Pick {
     /// Tasks at random, with jobs that are put back now and then.
     Random,
-    /// The next task, as far as it goes.
-    InOrder,
+    /// The same, and now and then any job is taken and put back at once: so threads compete for jobs.
+    Compete,
 }
 
 struct Thread<'c, 'a> {
@@ -235,9 +239,6 @@ impl Thread<'_, '_> {
     /// A task to go on with.
     fn next(&mut self) -> Option<u32> {
         let mut common = locked(self.teller.common);
-        if self.pick == Pick::InOrder {
-            return common.ready.pop_front().or_else(|| common.parked.pop_front());
-        }
         let count = (common.ready.len() + common.parked.len()) as u32;
         if count == 0 {
             return None;
@@ -258,6 +259,9 @@ impl Thread<'_, '_> {
     /// Goes on until all tasks are over. `rests` is called when there is nothing to do.
     fn run(&mut self, rests: &dyn Fn()) {
         while !self.is_over() {
+            if self.pick == Pick::Compete && self.dice.one_in(2) {
+                self.touch_any();
+            }
             let Some(task) = self.next() else {
                 rests();
                 continue;
@@ -276,16 +280,33 @@ impl Thread<'_, '_> {
         }
     }
 
+    /// Takes the job of any task, if it is there, and puts it back. It is there only if its task is ready.
+    fn touch_any(&mut self) {
+        let common = locked(self.teller.common);
+        let at = self.dice.below(common.numbers.len() as u32) as usize;
+        let task = common.numbers[at];
+        drop(common);
+        let Some(job) = self.worker.field.take_body(&mut self.worker.seat, task) else {
+            return;
+        };
+        self.teller.tell(|beside| beside.check_ready(task));
+        assert!(job.task() == task, "the job of another task is in the slot of {task}");
+        self.worker.field.put_body(&mut self.worker.seat, job);
+        locked(self.teller.common).touched += 1;
+    }
+
     /// Goes on with a task, which is known to be ready: whether anything was done.
     fn go_on(&mut self, task: u32) -> bool {
         let field = self.worker.field;
         let Some(mut job) = field.take_body(&mut self.worker.seat, task) else {
-            panic!("the job of the ready task {task} is not there");
+            assert!(self.pick == Pick::Compete, "the job of the ready task {task} is not there");
+            locked(self.teller.common).parked.push_back(task);
+            return false;
         };
         let mut went = false;
         let mut did = Did::Acted;
         while did == Did::Acted {
-            if self.pick == Pick::Random && self.dice.one_in(10) {
+            if self.dice.one_in(10) {
                 break;
             }
             did = self.worker.act(&mut job, &mut self.teller);
@@ -314,10 +335,7 @@ impl Thread<'_, '_> {
         let mut places = places_of_job(job);
         let all = places.clone();
         while !places.is_empty() {
-            let at = match self.pick {
-                Pick::Random => self.dice.below(places.len() as u32) as usize,
-                Pick::InOrder => 0,
-            };
+            let at = self.dice.below(places.len() as u32) as usize;
             let place = places.remove(at);
             if self.worker.may_give(job, &place) {
                 self.worker.give(job, &place, &mut self.teller);
@@ -349,6 +367,7 @@ pub struct Ran {
     pub printed: Vec<u8>,
     pub tasks: u64,
     pub steps: u64,
+    pub touched: u64,
     pub counts: Counts,
     pub failure: Option<String>,
     pub notes: Vec<String>,
@@ -378,6 +397,8 @@ pub fn run(code: &Code, field: &Field, mut seat: FieldSeat, fuel: u32, how: How)
         failure: None,
         steps: 0,
         notes: Vec::new(),
+        numbers: std::iter::once(0).collect(),
+        touched: 0,
     });
     let turns = how.turns.then(|| Arc::new(Turns::new(how.threads, how.start)));
     let mut seats = Vec::new();
@@ -505,6 +526,7 @@ fn finish(
         printed: common.printed.into_iter().flat_map(|(_, text)| text).collect(),
         tasks: common.tasks,
         steps: common.steps,
+        touched: common.touched,
         counts,
         failure: common.failure,
         notes: common.notes,

@@ -115,7 +115,7 @@ fn beside_all(start: u64, count: u64) {
 
 /// Random programs by threads: in turns, step by step and beside the core, or freely.
 fn threads_all(start: u64, count: u64, threads: usize, turns: bool, times: u64) {
-    let (mut ran, mut tasks, mut steps) = (0, 0, 0);
+    let (mut ran, mut tasks, mut steps, mut touched) = (0, 0, 0, 0);
     let mut counts = beside::Counts::default();
     for start in start..start + count {
         let text = programs::program(start, size_of(start));
@@ -131,7 +131,10 @@ fn threads_all(start: u64, count: u64, threads: usize, turns: bool, times: u64) 
                 threads,
                 turns,
                 start: start * times + time,
-                pick: crew::Pick::Random,
+                pick: match start % 2 {
+                    0 => crew::Pick::Random,
+                    _ => crew::Pick::Compete,
+                },
             };
             let made = crew::run(&code, &field, seat, FUEL, how);
             let mut failure = made.failure;
@@ -148,14 +151,15 @@ fn threads_all(start: u64, count: u64, threads: usize, turns: bool, times: u64) 
             ran += 1;
             tasks += made.tasks;
             steps += made.steps;
+            touched += made.touched;
             counts.add(&made.counts);
         }
     }
     let beside::Counts { acts, waits, gives, early, leaves, joins, finishes, .. } = counts;
     if turns {
-        println!("{threads} threads in turns: {ran} runs from {start} on, {tasks} tasks, {steps} atomic steps, {acts} acts, {waits} of them waits, {gives} gives, {early} of them early, {leaves} leaves, {joins} joins, {finishes} ends; each move was one of the core, and each run printed what the sequential run prints");
+        println!("{threads} threads in turns: {ran} runs from {start} on, {tasks} tasks, {steps} atomic steps, {acts} acts, {waits} of them waits, {gives} gives, {early} of them early, {leaves} leaves, {joins} joins, {finishes} ends; {touched} jobs were taken and put at once; each move was one of the core, and each run printed what the sequential run prints");
     } else {
-        println!("{threads} threads at once: {ran} runs from {start} on, {tasks} tasks; each printed what the sequential run prints");
+        println!("{threads} threads at once: {ran} runs from {start} on, {tasks} tasks; {touched} jobs were taken and put at once; each printed what the sequential run prints");
     }
 }
 
