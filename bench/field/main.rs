@@ -132,7 +132,7 @@ fn threads_all(from: u64, count: u64, how: Threads) {
             continue;
         };
         for time in 0..how.times {
-            let made = run_once(&code, start, time, how);
+            let made = run_once(&code, 1_024, start, time, how);
             match made.failure {
                 Some(why) => tell(
                     start,
@@ -164,8 +164,8 @@ fn threads_all(from: u64, count: u64, how: Threads) {
 }
 
 /// One run of a program.
-fn run_once(code: &Code, start: u64, time: u64, how: Threads) -> crew::Ran {
-    let (field, seat) = field_of(code, 1_024);
+fn run_once(code: &Code, entries: u32, start: u64, time: u64, how: Threads) -> crew::Ran {
+    let (field, seat) = field_of(code, entries);
     let how = crew::How {
         threads: how.threads,
         turns: how.turns,
@@ -176,6 +176,37 @@ fn run_once(code: &Code, start: u64, time: u64, how: Threads) -> crew::Ran {
         },
     };
     crew::run(code, &field, seat, FUEL, how)
+}
+
+/// Runs the program of a file by threads, in fields with so many entries.
+fn file_by_threads(file: &str, entries: u32, how: Threads) {
+    let Some(code) = std::fs::read_to_string(file)
+        .ok()
+        .and_then(|text| code_of(&text))
+    else {
+        panic!("this is no program");
+    };
+    let Some(wanted) = printed(&code) else {
+        println!("{file}: it ends with a fault");
+        return;
+    };
+    let (mut tasks, mut steps) = (0, 0);
+    for time in 0..how.times {
+        let made = run_once(&code, entries, time, 0, how);
+        match made.failure {
+            Some(why) => tell(time, &why, file, &made.notes),
+            None if made.printed != wanted => tell(
+                time,
+                "it prints something else than the sequential run",
+                file,
+                &made.notes,
+            ),
+            None => {}
+        }
+        tasks += made.tasks;
+        steps += made.steps;
+    }
+    println!("{file}: {} runs by {} threads, {tasks} tasks, {steps} atomic steps; each printed what the sequential run prints", how.times, how.threads);
 }
 
 /// Runs the program of a file by one seat, in a field with so many entries.
@@ -206,6 +237,14 @@ fn main() {
                 times: number(4),
             };
             threads_all(number(1), number(2), how);
+        }
+        "file" => {
+            let how = Threads {
+                threads: number(3) as usize,
+                turns: words.get(5).is_some(),
+                times: number(4),
+            };
+            file_by_threads(&words[1], number(2) as u32, how);
         }
         "serial" => {
             let text = std::fs::read_to_string(&words[1]).expect("the file cannot be read");
