@@ -1,12 +1,12 @@
 //! A field beside the core: seats that one thread drives, each deed drawn at random, and the same moves made by the core. Behind each deed, when no message is held, what may happen next is compared.
 
+use crate::oss_body::Act;
 use crate::oss_code::Code;
 use crate::oss_core::Core;
 use crate::oss_deps::PlainDeps;
 use crate::oss_field::Field;
 use crate::oss_jobs::Job;
 use crate::oss_model::{Move, TaskNo};
-use crate::oss_body::Act;
 use crate::prelude::{Box, Global};
 use crate::programs::Dice;
 use crate::work::{Did, Made, Place, Watch, Worker};
@@ -27,7 +27,6 @@ struct Noted {
     gave_own: bool,
     begun: bool,
     ended: bool,
-    waits: bool,
     /// Whether the field told that its count became 0.
     freed: bool,
 }
@@ -49,6 +48,35 @@ pub struct Counts {
     pub seats: u64,
     /// Messages that waited.
     pub late: u64,
+}
+
+impl std::fmt::Display for Counts {
+    fn fmt(&self, out: &mut std::fmt::Formatter<'_>) -> std::fmt::Result {
+        let Counts {
+            tasks,
+            acts,
+            waits,
+            gives,
+            early,
+            leaves,
+            joins,
+            finishes,
+            ..
+        } = self;
+        write!(out, "{tasks} tasks, {acts} acts, {waits} of them waits, {gives} gives, {early} of them early, {leaves} leaves, {joins} joins, {finishes} ends")?;
+        let Counts {
+            deeds,
+            late,
+            seats,
+            compared,
+            readies,
+            ..
+        } = self;
+        match compared {
+            0 => Ok(()),
+            _ => write!(out, "; {deeds} deeds, {late} messages that waited, {seats} seats that came and went; compared {compared} times, {readies} ready tasks"),
+        }
+    }
 }
 
 impl Counts {
@@ -107,7 +135,6 @@ impl<'a> Beside<'a> {
             gave_own: false,
             begun: false,
             ended: false,
-            waits: false,
             freed: true,
         };
         let mut tasks = Vec::new();
@@ -156,7 +183,11 @@ impl<'a> Beside<'a> {
 
     /// Which of a task's cells this is.
     fn place_on(&self, at: usize, cell: u32) -> usize {
-        match self.tasks[at].places.iter().position(|place| place.cell == cell) {
+        match self.tasks[at]
+            .places
+            .iter()
+            .position(|place| place.cell == cell)
+        {
             Some(place) => place,
             None => panic!("the task {} has no cell {cell}", self.tasks[at].number),
         }
@@ -184,8 +215,13 @@ impl<'a> Beside<'a> {
     fn reach(&mut self, what: &str, at: usize, m: Move) {
         let mut turn = 0;
         while !self.core.enabled(&m) {
-            let Some(place) = (turn..self.flying.len()).find(|place| self.core.enabled(&self.flying[*place])) else {
-                panic!("{what} of the task {}: the core may not make this move", self.tasks[at].number);
+            let Some(place) =
+                (turn..self.flying.len()).find(|place| self.core.enabled(&self.flying[*place]))
+            else {
+                panic!(
+                    "{what} of the task {}: the core may not make this move",
+                    self.tasks[at].number
+                );
             };
             let flies = self.flying.remove(place);
             if self.core.apply(self.code, flies).is_err() {
@@ -214,10 +250,6 @@ impl<'a> Beside<'a> {
         task.gave_own && task.children.iter().all(|child| self.is_done(*child))
     }
 
-    fn children_done(&self, at: usize) -> bool {
-        self.tasks[at].children.iter().all(|child| self.is_done(*child))
-    }
-
     /// Whether the entry of a task on a cell is to be done: it and those of its children on the cell are given up.
     fn is_cell_done(&self, at: usize, place: usize) -> bool {
         let task = &self.tasks[at];
@@ -226,7 +258,10 @@ impl<'a> Beside<'a> {
 
     fn cell_children_done(&self, at: usize, cell: u32) -> bool {
         self.tasks[at].children.iter().all(|child| {
-            let found = self.tasks[*child].places.iter().position(|place| place.cell == cell);
+            let found = self.tasks[*child]
+                .places
+                .iter()
+                .position(|place| place.cell == cell);
             found.map_or(true, |place| self.is_cell_done(*child, place))
         })
     }
@@ -236,11 +271,17 @@ impl<'a> Beside<'a> {
         let Some(parent) = self.tasks[at].parent else {
             return true;
         };
-        let before = self.tasks[parent].children.iter().take_while(|child| **child != at);
+        let before = self.tasks[parent]
+            .children
+            .iter()
+            .take_while(|child| **child != at);
         before.into_iter().all(|child| match cell {
             None => self.is_done(*child),
             Some(cell) => {
-                let found = self.tasks[*child].places.iter().position(|place| place.cell == cell);
+                let found = self.tasks[*child]
+                    .places
+                    .iter()
+                    .position(|place| place.cell == cell);
                 found.map_or(true, |place| self.is_cell_done(*child, place))
             }
         })
@@ -255,7 +296,10 @@ impl Watch for Beside<'_> {
     fn acted(&mut self, job: &Job) {
         let at = self.place_of(job.task());
         self.counts.acts += 1;
-        if matches!(job.body().pending(), Act::Wait | Act::WaitOn(_) | Act::Await) {
+        if matches!(
+            job.body().pending(),
+            Act::Wait | Act::WaitOn(_) | Act::Await
+        ) {
             self.counts.waits += 1;
         }
         let m = Move::Step(self.tasks[at].core);
@@ -295,21 +339,27 @@ impl Watch for Beside<'_> {
             gave_own: false,
             begun: false,
             ended: false,
-            waits: task.waits,
             freed: false,
         });
     }
 
     fn freed(&mut self, task: u32) {
         let at = self.place_of(task);
-        assert!(!self.tasks[at].freed, "the count of the task {task} became 0 twice");
+        assert!(
+            !self.tasks[at].freed,
+            "the count of the task {task} became 0 twice"
+        );
         self.tasks[at].freed = true;
     }
 
     fn giving(&mut self, job: &Job, cell: u32) {
         let at = self.place_of(job.task());
         let place = self.place_on(at, cell);
-        assert!(!self.tasks[at].given[place], "cell {cell} of {} is given up twice", job.task());
+        assert!(
+            !self.tasks[at].given[place],
+            "cell {cell} of {} is given up twice",
+            job.task()
+        );
         self.tasks[at].given[place] = true;
         self.fly(Move::Let(self.tasks[at].core, cell));
     }
@@ -324,17 +374,30 @@ impl Watch for Beside<'_> {
     fn leaving(&mut self, job: &Job, cell: u32) {
         let at = self.place_of(job.task());
         let place = self.place_on(at, cell);
-        assert!(!self.tasks[at].left[place], "cell {cell} of {} is left twice", job.task());
+        assert!(
+            !self.tasks[at].left[place],
+            "cell {cell} of {} is left twice",
+            job.task()
+        );
         self.tasks[at].left[place] = true;
         self.counts.leaves += 1;
     }
 
     fn joining(&mut self, entry: u32) {
         let (at, place) = self.owner(entry);
-        assert!(self.tasks[at].left[place], "entry {entry} is joined and not left");
-        assert!(!self.tasks[at].given[place], "entry {entry} is joined twice");
+        assert!(
+            self.tasks[at].left[place],
+            "entry {entry} is joined and not left"
+        );
+        assert!(
+            !self.tasks[at].given[place],
+            "entry {entry} is joined twice"
+        );
         self.tasks[at].given[place] = true;
-        self.fly(Move::Join(self.tasks[at].core, self.tasks[at].places[place].cell));
+        self.fly(Move::Join(
+            self.tasks[at].core,
+            self.tasks[at].places[place].cell,
+        ));
     }
 
     fn joined(&mut self, entry: u32) {
@@ -346,7 +409,11 @@ impl Watch for Beside<'_> {
 
     fn finishing(&mut self, job: &Job) {
         let at = self.place_of(job.task());
-        assert!(!self.tasks[at].gave_own, "the task {} is given up twice", job.task());
+        assert!(
+            !self.tasks[at].gave_own,
+            "the task {} is given up twice",
+            job.task()
+        );
         self.tasks[at].gave_own = true;
         self.counts.finishes += 1;
     }
@@ -377,12 +444,22 @@ pub fn run(
     // in every other program messages wait
     let late = (start / 4) % 2 == 1;
     let mut workers = Vec::new();
-    workers.push(Worker { field, code, seat, late });
+    workers.push(Worker {
+        field,
+        code,
+        seat,
+        late,
+    });
     while workers.len() < seats {
         let Ok(seat) = field.split(Global, &mut workers[0].seat) else {
             panic!("memory");
         };
-        workers.push(Worker { field, code, seat, late });
+        workers.push(Worker {
+            field,
+            code,
+            seat,
+            late,
+        });
     }
     let hands = workers.iter().map(|_| Vec::new()).collect();
     let mut run = Run {
@@ -399,7 +476,10 @@ pub fn run(
             run.compare();
         }
         idle = if made { 0 } else { idle + 1 };
-        assert!(idle < 20_000, "no seat finds anything to do, and the program has not ended");
+        assert!(
+            idle < 20_000,
+            "no seat finds anything to do, and the program has not ended"
+        );
     }
     run.end()
 }
@@ -413,7 +493,11 @@ impl Run<'_> {
     fn is_over(&self) -> bool {
         self.is_at_rest()
             && self.hands.iter().all(Vec::is_empty)
-            && self.beside.tasks.iter().all(|task| task.ended && (task.gave_own || task.number == 0))
+            && self
+                .beside
+                .tasks
+                .iter()
+                .all(|task| task.ended && (task.gave_own || task.number == 0))
     }
 
     /// All is over in the core too. The seats that were split off come back.
@@ -469,7 +553,9 @@ impl Run<'_> {
 
     /// A seat that holds nothing comes back to the first, and another is split off in its place.
     fn renew(&mut self, seat: usize, told: &mut dyn FnMut(std::string::String)) {
-        told(std::format!("seat {seat} is joined to seat 0, and split off anew"));
+        told(std::format!(
+            "seat {seat} is joined to seat 0, and split off anew"
+        ));
         let field = self.workers[0].field;
         let code = self.workers[0].code;
         let late = self.workers[0].late;
@@ -478,7 +564,12 @@ impl Run<'_> {
         let Ok(new) = field.split(Global, &mut self.workers[0].seat) else {
             panic!("memory");
         };
-        self.workers.push(Worker { field, code, seat: new, late });
+        self.workers.push(Worker {
+            field,
+            code,
+            seat: new,
+            late,
+        });
         let last = self.workers.len() - 1;
         self.workers.swap(seat, last);
         self.beside.counts.seats += 1;
@@ -491,8 +582,15 @@ impl Run<'_> {
         }
         let worker = &mut self.workers[seat];
         let drawn = worker.field.draw(&mut worker.seat, 1);
-        told(std::format!("seat {seat} draws an entry for nothing: {drawn:?}"));
-        let known = self.beside.tasks.iter().map(|task| task.number + task.places.len() as u32).max();
+        told(std::format!(
+            "seat {seat} draws an entry for nothing: {drawn:?}"
+        ));
+        let known = self
+            .beside
+            .tasks
+            .iter()
+            .map(|task| task.number + task.places.len() as u32)
+            .max();
         assert!(drawn > known, "an entry was drawn that is used");
         self.wasted += 1;
     }
@@ -500,7 +598,10 @@ impl Run<'_> {
     fn take(&mut self, seat: usize, told: &mut dyn FnMut(std::string::String)) -> bool {
         let at = self.dice.below(self.beside.tasks.len() as u32) as usize;
         let number = self.beside.tasks[at].number;
-        let out = self.hands.iter().any(|hand| hand.iter().any(|job| job.task() == number));
+        let out = self
+            .hands
+            .iter()
+            .any(|hand| hand.iter().any(|job| job.task() == number));
         let worker = &mut self.workers[seat];
         told(std::format!("seat {seat} takes the job of {number}"));
         let found = worker.field.take_body(&mut worker.seat, number);
@@ -534,7 +635,10 @@ impl Run<'_> {
             if out { "" } else { "not " },
         );
         let task = &self.beside.tasks[at];
-        assert!(!found || task.freed, "the task {number} may be taken, and no call has told it");
+        assert!(
+            !found || task.freed,
+            "the task {number} may be taken, and no call has told it"
+        );
     }
 
     fn put(&mut self, seat: usize, told: &mut dyn FnMut(std::string::String)) {
@@ -548,7 +652,13 @@ impl Run<'_> {
     }
 
     /// The next act of a job. One that waits or has ended is put back, if it was taken last.
-    fn act(&mut self, seat: usize, which: usize, last: bool, told: &mut dyn FnMut(std::string::String)) -> bool {
+    fn act(
+        &mut self,
+        seat: usize,
+        which: usize,
+        last: bool,
+        told: &mut dyn FnMut(std::string::String),
+    ) -> bool {
         let job = &mut self.hands[seat][which];
         let at = self.beside.place_of(job.task());
         told(std::format!("seat {seat} goes on with {}", job.task()));
@@ -572,7 +682,12 @@ impl Run<'_> {
     }
 
     /// Gives up or leaves some entry of a job's task. What the seat holds is delivered before.
-    fn give(&mut self, seat: usize, which: usize, told: &mut dyn FnMut(std::string::String)) -> bool {
+    fn give(
+        &mut self,
+        seat: usize,
+        which: usize,
+        told: &mut dyn FnMut(std::string::String),
+    ) -> bool {
         let Run {
             beside,
             workers,
@@ -586,34 +701,29 @@ impl Run<'_> {
         if number == 0 {
             return false;
         }
-        let at = beside.place_of(number);
-        let count = beside.tasks[at].places.len() as u32;
-        let from = dice.below(count + 1);
-        for turn in 0..count + 1 {
-            let which = ((from + turn) % (count + 1)) as usize;
-            if which == count as usize {
-                let places = beside.tasks[at].places.clone();
-                if worker.may_finish(job, &places) {
-                    told(std::format!("seat {seat} gives up the task {number}"));
+        let places = beside.tasks[beside.place_of(number)].places.clone();
+        let count = places.len() + 1;
+        let from = dice.below(count as u32) as usize;
+        for turn in 0..count {
+            let place = places.get((from + turn) % count);
+            let what = match place {
+                None if worker.may_finish(job, &places) => {
                     worker.finish(job, beside);
-                    beside.counts.deeds += 1;
-                    return true;
+                    std::format!("gave up the task {number}")
                 }
-                continue;
-            }
-            let place = beside.tasks[at].places[which];
-            if worker.may_give(job, &place) {
-                told(std::format!("seat {seat} gives up cell {} of {number}", place.cell));
-                worker.give(job, &place, beside);
-                beside.counts.deeds += 1;
-                return true;
-            }
-            if worker.may_leave(job, &place) {
-                told(std::format!("seat {seat} leaves cell {} of {number}", place.cell));
-                worker.leave(job, &place, beside);
-                beside.counts.deeds += 1;
-                return true;
-            }
+                Some(place) if worker.may_give(job, place) => {
+                    worker.give(job, place, beside);
+                    std::format!("gave up cell {} of {number}", place.cell)
+                }
+                Some(place) if worker.may_leave(job, place) => {
+                    worker.leave(job, place, beside);
+                    std::format!("left cell {} of {number}", place.cell)
+                }
+                _ => continue,
+            };
+            told(std::format!("seat {seat} {what}"));
+            beside.counts.deeds += 1;
+            return true;
         }
         false
     }
@@ -639,7 +749,10 @@ impl Run<'_> {
             return;
         }
         let number = task.number;
-        let out = self.hands.iter().any(|hand| hand.iter().any(|job| job.task() == number));
+        let out = self
+            .hands
+            .iter()
+            .any(|hand| hand.iter().any(|job| job.task() == number));
         if out {
             return;
         }
@@ -662,11 +775,25 @@ impl Run<'_> {
         let number = self.beside.tasks[at].number;
         let flags = self.workers[0].flags(number);
         let done = self.beside.is_done(at);
-        assert!(flags.given == self.beside.tasks[at].gave_own, "the flag `given` of the task {number}");
-        assert!(flags.done == done, "the flag `done` of the task {number} is {}", flags.done);
-        assert!(flags.clear == self.beside.is_clear(at, None), "the flag `clear` of the task {number} is {}", flags.clear);
+        assert!(
+            flags.given == self.beside.tasks[at].gave_own,
+            "the flag `given` of the task {number}"
+        );
+        assert!(
+            flags.done == done,
+            "the flag `done` of the task {number} is {}",
+            flags.done
+        );
+        assert!(
+            flags.clear == self.beside.is_clear(at, None),
+            "the flag `clear` of the task {number} is {}",
+            flags.clear
+        );
         let complete = self.beside.core.tree().complete(self.beside.tasks[at].core);
-        assert!(!done || complete, "the task {number} is done, and is not complete in the core");
+        assert!(
+            !done || complete,
+            "the task {number} is done, and is not complete in the core"
+        );
         for place in 0..self.beside.tasks[at].places.len() {
             self.compare_cell(at, place);
         }
@@ -678,17 +805,40 @@ impl Run<'_> {
         let one = task.places[place];
         let flags = self.workers[0].flags(one.entry);
         let cell = one.cell;
-        assert!(flags.given == task.given[place], "the flag `given` of cell {cell} of the task {number}");
-        assert!(flags.left == task.left[place], "the flag `left` of cell {cell} of the task {number}");
+        assert!(
+            flags.given == task.given[place],
+            "the flag `given` of cell {cell} of the task {number}"
+        );
+        assert!(
+            flags.left == task.left[place],
+            "the flag `left` of cell {cell} of the task {number}"
+        );
         let done = self.beside.is_cell_done(at, place);
-        assert!(flags.done == done, "the flag `done` of cell {cell} of the task {number} is {}", flags.done);
+        assert!(
+            flags.done == done,
+            "the flag `done` of cell {cell} of the task {number} is {}",
+            flags.done
+        );
         let clear = self.beside.is_clear(at, Some(cell));
-        assert!(flags.clear == clear, "the flag `clear` of cell {cell} of the task {number} is {}", flags.clear);
-        assert!(!flags.writes || flags.reads, "cell {cell} of the task {number} may be written and not read");
+        assert!(
+            flags.clear == clear,
+            "the flag `clear` of cell {cell} of the task {number} is {}",
+            flags.clear
+        );
+        assert!(
+            !flags.writes || flags.reads,
+            "cell {cell} of the task {number} may be written and not read"
+        );
         // a value that is left is joined as soon as it may be
-        let joinable = self.beside.core.enabled(&Move::Join(self.beside.tasks[at].core, cell));
+        let joinable = self
+            .beside
+            .core
+            .enabled(&Move::Join(self.beside.tasks[at].core, cell));
         let task = &self.beside.tasks[at];
-        assert!(!(joinable && task.left[place]), "cell {cell} of the task {number} is left and was not joined");
+        assert!(
+            !(joinable && task.left[place]),
+            "cell {cell} of the task {number} is left and was not joined"
+        );
         if joinable {
             assert!(flags.folds, "cell {cell} of the task {number} may be joined in the core, and has not the flag `folds`");
         }
@@ -709,21 +859,43 @@ impl Run<'_> {
         if !job.body().ended() {
             let passes = worker.may_pass(job);
             let enabled = beside.core.enabled(&Move::Step(core));
-            assert!(!passes || enabled, "the task {number} may go on, and may not in the core");
-            assert!(passes || !enabled || !all_gave, "the task {number} may not go on, and may in the core");
+            assert!(
+                !passes || enabled,
+                "the task {number} may go on, and may not in the core"
+            );
+            assert!(
+                passes || !enabled || !all_gave,
+                "the task {number} may not go on, and may in the core"
+            );
         }
         for place in 0..beside.tasks[at].places.len() {
             let one = beside.tasks[at].places[place];
             let gives = worker.may_give(job, &one);
             let lets = beside.core.enabled(&Move::Let(core, one.cell));
-            assert!(!gives || lets, "the task {number} may give up cell {}, and may not in the core", one.cell);
-            assert!(gives || !lets || !all_gave, "the task {number} may not give up cell {}, and may in the core", one.cell);
+            assert!(
+                !gives || lets,
+                "the task {number} may give up cell {}, and may not in the core",
+                one.cell
+            );
+            assert!(
+                gives || !lets || !all_gave,
+                "the task {number} may not give up cell {}, and may in the core",
+                one.cell
+            );
             if one.leaves() {
                 let leaves = worker.may_leave(job, &one);
                 let folds = worker.flags(one.entry).folds;
                 let joins = beside.core.enabled(&Move::Join(core, one.cell));
-                assert!(!(leaves && folds) || joins, "the task {number} may join cell {}, and may not in the core", one.cell);
-                assert!((leaves && folds) || !joins || !all_gave, "the task {number} may not join cell {}, and may in the core", one.cell);
+                assert!(
+                    !(leaves && folds) || joins,
+                    "the task {number} may join cell {}, and may not in the core",
+                    one.cell
+                );
+                assert!(
+                    (leaves && folds) || !joins || !all_gave,
+                    "the task {number} may not join cell {}, and may in the core",
+                    one.cell
+                );
             }
         }
     }
