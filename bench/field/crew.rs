@@ -5,7 +5,7 @@ use crate::beside::{Beside, Counts};
 use crate::oss_code::Code;
 use crate::oss_field::{Field, FieldSeat};
 use crate::oss_jobs::Job;
-use crate::prelude::{Box, Global};
+use crate::prelude::Global;
 use crate::programs::Dice;
 use crate::table;
 use crate::work::{places_of_job, Did, Made, Watch, Worker};

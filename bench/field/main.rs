@@ -2,6 +2,7 @@
 mod beside;
 mod count;
 mod crew;
+mod drawn;
 mod programs;
 mod work;
 
@@ -98,7 +99,7 @@ fn beside_all(from: u64, count: u64) {
         let ended = std::panic::catch_unwind(std::panic::AssertUnwindSafe(|| {
             let (field, seat) = field_of(&code, 1_024);
             let seats = 1 + (start % 4) as usize;
-            beside::run(&code, &field, seat, FUEL, seats, start, &mut |step| {
+            drawn::run(&code, &field, seat, FUEL, seats, start, &mut |step| {
                 steps.push(step)
             })
         }));
