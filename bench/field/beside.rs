@@ -95,7 +95,7 @@ impl Counts {
     }
 }
 
-pub fn is_same(a: &Move, b: &Move) -> bool {
+fn is_same(a: &Move, b: &Move) -> bool {
     match (a, b) {
         (Move::Step(t), Move::Step(u)) => t.0 == u.0,
         (Move::Let(t, c), Move::Let(u, d)) => t.0 == u.0 && c == d,

@@ -8,7 +8,7 @@ use crate::prelude::{Box, Global};
 use crate::programs::Dice;
 use crate::work::{Did, Watch, Worker};
 use std::vec::Vec;
-use crate::beside::{Beside, Counts, Noted, is_same};
+use crate::beside::{Beside, Counts};
 
 /// The jobs that a seat holds, the last taken last.
 type Hand = Vec<Box<Job>>;
