@@ -1,5 +1,5 @@
 -- The reply to `missing` tells of no task exactly if the program's own run comes to no fault of annotations.
-use Rattle.std.proofs.Common.{◌≡◌, ◌∙◌, ℕ, ◌≤◌, List, [], length, Option, Some, None, refl, sym, ap, subst, arith}
+use Rattle.std.proofs.Common.{◌≡◌, ◌∙◌, ℕ, List, [], Option, Some, None, refl, sym, ap, subst, arith}
 use Rattle.std.specs.Prelude.{◌↔◌}
 use Rattle.oss_syntax.specs.declared.fault.FaultKind.{FaultKind}
 use Rattle.oss_syntax.specs.declared.tree.program.Item.{Item}
@@ -7,12 +7,10 @@ use Rattle.oss_syntax.specs.declared.tree.program.Program.{Program as Tree}
 use Rattle.oss_grammar.specs.TaskLoops.{program_written}
 use Rattle.oss_parse.proofs.OneProgram.{parsed_once}
 use Rattle.oss_model.specs.Bodies.{Act, IsHalt, Program, Start}
-use Rattle.oss_model.specs.Bodies.Act as act
 use Rattle.oss_model.specs.Moves.{act_now}
 use Rattle.oss_model.specs.Texts.{fault_line}
 use Rattle.oss_model.specs.declared.answer.Answer.{Answer}
 use Rattle.oss_model.specs.declared.answer.Answer.TheVariants as answers
-use Rattle.oss_meaning.specs.Expressions.{TreeScript}
 use Rattle.oss_meaning.specs.Meaning.{asks_of}
 use Rattle.oss_meaning.specs.Results.{IsOutcome, IsOutcomeOf, Outcome, entries_in, first_cells, main_of, tasks_in}
 use Rattle.oss_meaning.specs.Results.IsOutcome.{ends, fails}
@@ -76,10 +74,10 @@ fault_told (Some g) kind line output h = (g, refl)
 -- Runs
 
 module _ {S : Type 0} (P : Program S) (main : Start S) (cells : List ℕ) where
-  same_kind : (kind other : FaultKind) (line at_line : ℕ) (key at_key : List ℕ) (a : Act S) → a ≡ act.Fault kind line key → a ≡ act.Fault other at_line at_key → other ≡ kind
+  same_kind : (kind other : FaultKind) (line at_line : ℕ) (key at_key : List ℕ) (a : Act S) → a ≡ Act.Fault kind line key → a ≡ Act.Fault other at_line at_key → other ≡ kind
   same_kind kind other line at_line key at_key a x y = cc
 
-  over_or : (kind : FaultKind) (line : ℕ) (key : List ℕ) (a : Act S) → a ≡ act.Over → a ≡ act.Fault kind line key → ⊥
+  over_or : (kind : FaultKind) (line : ℕ) (key : List ℕ) (a : Act S) → a ≡ Act.Over → a ≡ Act.Fault kind line key → ⊥
   over_or kind line key a x y = absurd cc
 
   -- a run whose answer is no fault of annotations ends well
@@ -100,20 +98,20 @@ module _ {S : Type 0} (P : Program S) (main : Start S) (cells : List ℕ) where
   well_ends w = by_act (act_now P w.own.task.body) refl w.own.stops w.well
     where
       by_act : (a : Act S) → act_now P w.own.task.body ≡ a → IsHalt a → IsNotWrong a → HasRight
-      by_act (act.Fault kind line key) e halt well =
+      by_act (Act.Fault kind line key) e halt well =
           (record { answer = answers.Fault kind line w.stage.printed; tasks = tasks_in w.stage.state; entries = entries_in w.stage.state }, fails w.run w.own e, λ wrong. well kind line key refl wrong)
-      by_act act.Over e halt well = (record { answer = answers.Done w.stage.printed w.stage.state.cells; tasks = tasks_in w.stage.state; entries = entries_in w.stage.state }, ends w.run w.own e, tt)
-      by_act act.Ticked e halt well = absurd halt
-      by_act (act.Load c) e halt well = absurd halt
-      by_act (act.Store c v) e halt well = absurd halt
-      by_act (act.Folded c op v slot) e halt well = absurd halt
-      by_act (act.Created order included) e halt well = absurd halt
-      by_act act.Awaited e halt well = absurd halt
-      by_act act.Waited e halt well = absurd halt
-      by_act (act.WaitedOn named) e halt well = absurd halt
-      by_act (act.Releases clauses included) e halt well = absurd halt
-      by_act (act.Printed key text) e halt well = absurd halt
-      by_act act.Ended e halt well = absurd halt
+      by_act Act.Over e halt well = (record { answer = answers.Done w.stage.printed w.stage.state.cells; tasks = tasks_in w.stage.state; entries = entries_in w.stage.state }, ends w.run w.own e, tt)
+      by_act Act.Ticked e halt well = absurd halt
+      by_act (Act.Load c) e halt well = absurd halt
+      by_act (Act.Store c v) e halt well = absurd halt
+      by_act (Act.Folded c op v slot) e halt well = absurd halt
+      by_act (Act.Created order included) e halt well = absurd halt
+      by_act Act.Awaited e halt well = absurd halt
+      by_act Act.Waited e halt well = absurd halt
+      by_act (Act.WaitedOn named) e halt well = absurd halt
+      by_act (Act.Releases clauses included) e halt well = absurd halt
+      by_act (Act.Printed key text) e halt well = absurd halt
+      by_act Act.Ended e halt well = absurd halt
 
 -- Replies
 
