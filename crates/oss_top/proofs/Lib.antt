@@ -18,3 +18,5 @@ pub mod SomeReply
 pub mod SomeReplay
 pub mod SomeAudit
 pub mod SomeSpan
+pub mod SilentLemmas
+pub mod NothingLemmas

@@ -176,7 +176,7 @@ program_alike c p reply other (missed {fuel} x) (missed y) = ap status_of (missi
 
 module _ (text : List ℕ) (once : IsParsedOnce text) where
   -- a text that is accepted is not refused
-  no_refusal : (p : Program) (r : Refused) → Accepts text p → Refuses text r → ⊥
+  pub no_refusal : (p : Program) (r : Refused) → Accepts text p → Refuses text r → ⊥
   no_refusal p r a (by_grammar w) = once.no_both p r a.is_text w
   no_refusal p r a (by_rules q w e) =
       let is : refusal_of p ≡ Some r = subst (λ z. refusal_of z ≡ Some r) (once.one_program q p w a.is_text) e in

@@ -1,6 +1,7 @@
 pub mod Audits
 pub mod Drawn
 pub mod Missed
+pub mod NothingMissing
 pub mod Explained
 pub mod Calls
 pub mod Spans

@@ -1,6 +1,7 @@
 //! The laws of the replies of the top call.
 
 ghost use Rattle.oss_top.specs.EveryOrder.{IsRunInEveryOrder};
+ghost use Rattle.oss_top.specs.NothingMissing.{IsNothingMissing};
 ghost use Rattle.oss_top.specs.OneReply.{IsDrawnOnce, IsExplainedOnce, IsMissedOnce, IsReplied, IsRepliedOnce, IsSpanned};
 
 /// A law, with nothing to run: a text has one reply to a check, to a run, to a trace, to an audit and, as the
@@ -32,6 +33,13 @@ pub fn a_text_is_drawn_in_one_way(text: &[u8])
 /// and error output of it are settled by the text and the fuel.
 pub fn what_is_missing_is_told_in_one_way(text: &[u8])
     ensures { IsMissedOnce text.now }
+{}
+
+/// A law, with nothing to run: the reply with what is missing of an accepted text is that nothing is missing exactly
+/// if the program's own run comes to its end; and it is a fault with an empty output exactly if that run comes to a
+/// fault that is none of annotations, which it then tells.
+pub fn nothing_is_missing_exactly(text: &[u8])
+    ensures { IsNothingMissing text.now }
 {}
 
 /// A law, with nothing to run: the texts of a program and of a schedule have one reply to a replay, and no

@@ -23,7 +23,7 @@ mod worked;
 
 pub use laws::{
     a_replay_has_one_reply, a_text_has_one_reply, a_text_is_drawn_in_one_way,
-    a_text_is_explained_in_one_way, every_order_gives_the_reply,
+    a_text_is_explained_in_one_way, every_order_gives_the_reply, nothing_is_missing_exactly,
     what_is_missing_is_told_in_one_way,
 };
 pub use oss_command::{
