@@ -104,7 +104,7 @@ impl HoldingTask {
     ) -> Result<(), AllocError>
         ensures { OnOk result (Leads layout.now
             (IsUseThen (λ c. is_some (all_counted child.is_final (value_at clauses.now.pieces) c)) child.line
-                (lent_when lends child.number child.line (all_counted child.is_final (value_at clauses.now.pieces))))
+            (lent_when lends child.number child.line (all_counted child.is_final (value_at clauses.now.pieces))))
             self.old self.new) }
     {
         self.use_map(layout, clauses, child.line)?;
