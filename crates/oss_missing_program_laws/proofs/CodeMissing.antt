@@ -169,10 +169,10 @@ codes_end_well_alike all code of fuel = (forth, back)
     forth h =
         subst (λ (first : List ℕ). EndsWell (asks code) (code_start code fuel) first) (sym of.first)
         (subst (λ (main : Start CodeScript). EndsWell (asks code) main (first_cells all)) (start_is all code of fuel)
-          (well_forth (moved_script of.places) (asks_of all) (asks code) (code_alike all code of) (main_of all fuel) (first_cells all) h))
+        (well_forth (moved_script of.places) (asks_of all) (asks code) (code_alike all code of) (main_of all fuel) (first_cells all) h))
 
     back : EndsWell (asks code) (code_start code fuel) code.first → EndsWell (asks_of all) (main_of all fuel) (first_cells all)
     back h =
         well_back (moved_script of.places) (asks_of all) (asks code) (code_alike all code of) (main_of all fuel) (first_cells all)
         (subst (λ (main : Start CodeScript). EndsWell (asks code) main (first_cells all)) (sym (start_is all code of fuel))
-          (subst (λ (first : List ℕ). EndsWell (asks code) (code_start code fuel) first) of.first h))
+        (subst (λ (first : List ℕ). EndsWell (asks code) (code_start code fuel) first) of.first h))

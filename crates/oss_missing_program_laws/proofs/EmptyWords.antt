@@ -148,7 +148,7 @@ module _ (all : List Item) (n : ℕ) (few : n ≤ 1048576) (cells : n ≤ cells_
       by (inl k) =
           nothing_kept (lack_of (given_of t.final t.clauses c) (t.asked c))
           (sym (ap (λ (b : Bool). if b then kept_lack (lack_of (given_of t.final t.clauses c) (t.asked c)) else None) inside)
-            ∙ nothing_lacking all (lacks_of t) t.final t.clauses h w (lacks_kept t) c (omega (arith, k, cells)))
+          ∙ nothing_lacking all (lacks_of t) t.final t.clauses h w (lacks_kept t) c (omega (arith, k, cells)))
 
 pub lacks_none : (t : Asking) → LacksNothing t → (c : ℕ) → lacks_of t c ≡ None
 lacks_none t h c = go (is_within 0 1048576 c) refl
