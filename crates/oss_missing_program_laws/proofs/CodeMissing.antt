@@ -1,6 +1,6 @@
 -- What is missing of the code of a program is missing of the program itself.
-use Rattle.std.proofs.Common.{◌≡◌, ◌∙◌, ℕ, ◌+◌, ◌-◌, ◌<◌, ◌≤◌, true, false, List, [], ◌∷◌, ◌++◌, length, refl, sym, ap, subst, arith}
-use Rattle.std.specs.Prelude.{◌↔◌, map, pos, replicate}
+use Rattle.std.proofs.Common.{◌≡◌, ◌∙◌, ℕ, ◌+◌, ◌-◌, ◌<◌, ◌≤◌, true, false, List, [], ◌∷◌, length, refl, sym, ap, subst, arith}
+use Rattle.std.specs.Prelude.{pos, replicate}
 use Rattle.std.proofs.lemmas.List.{length-append, length-replicate}
 use Rattle.oss_syntax.specs.declared.tree.program.Item.{Item}
 use Rattle.oss_syntax.specs.declared.tree.program.Item.TheVariants as items
@@ -12,7 +12,7 @@ use Rattle.oss_model.specs.Bodies.Ask.{Await, Begin, Create, End, Fails, Fold, P
 use Rattle.oss_model.specs.Marks.{AsksFor}
 use Rattle.oss_meaning.specs.Expressions.{TaskBody, TreeScript}
 use Rattle.oss_meaning.specs.Meaning.{asks_of}
-use Rattle.oss_meaning.specs.Pointers.{Extent, extents_from, extents_of}
+use Rattle.oss_meaning.specs.Pointers.{Extent, extents_from}
 use Rattle.oss_meaning.specs.Results.{first_cells, main_of, main_order}
 use Rattle.oss_code.specs.Globals.{extents_in}
 use Rattle.oss_code.specs.declared.code.CodeParts.{CodeParts}
@@ -20,7 +20,7 @@ use Rattle.oss_code.specs.declared.global.GlobalPlace.{GlobalPlace}
 use Rattle.oss_machine.specs.Frames.{CodeScript}
 use Rattle.oss_machine.specs.Machines.{asks}
 use Rattle.oss_lower_laws.specs.Lowered.{IsLowered}
-use Rattle.oss_lower_laws.specs.Programs.{IsCodeOf, code_order, code_start, moved_ask as code_ask, moved_asked as code_asked, moved_script}
+use Rattle.oss_lower_laws.specs.Programs.{IsCodeOf, code_start, moved_ask as code_ask, moved_script}
 use Rattle.oss_lower_laws.proofs.OutcomeLaws.{cells_are, start_is}
 use Rattle.oss_freed.specs.Freed.{TouchesItsCells}
 use Rattle.oss_missing_lines.specs.declared.missing.Missing.{Missing}
@@ -30,7 +30,7 @@ use Rattle.oss_missing.specs.Missing.{IsMissing}
 use Rattle.oss_missing_program_laws.specs.Exact.{CodesEndWellAlike}
 use Rattle.oss_missing_program_laws.proofs.EmptyPieces.{cells_from}
 use Rattle.oss_missing_program_laws.proofs.ExactTheorem.{IsMissingOf, missing_back, missing_of}
-use Rattle.oss_missing_program_laws.proofs.MovedBodies.{AskAlike, moved_ask, moved_asked, moved_start}
+use Rattle.oss_missing_program_laws.proofs.MovedBodies.{AskAlike, moved_ask, moved_start}
 use Rattle.oss_missing_program_laws.proofs.MovedWalks.{well_back, well_forth}
 
 -- How many cells a program has

@@ -1,16 +1,14 @@
 -- No clause is told to be lacking exactly where of no cell of the program one is.
-use Rattle.std.proofs.Common.{◌≡◌, ◌∙◌, ℕ, ◌+◌, ◌<◌, ◌≤◌, ◌⊎◌, inl, inr, Bool, true, false, List, [], ◌∷◌, Option, Some, None, refl, sym, ap, subst, arith}
+use Rattle.std.proofs.Common.{◌≡◌, ◌∙◌, ℕ, ◌<◌, ◌≤◌, ◌⊎◌, inl, inr, Bool, true, false, List, [], ◌∷◌, Option, Some, None, refl, sym, ap, arith}
 use Rattle.std.specs.Prelude.{◌||◌, if◌then◌else◌}
 use Rattle.std.proofs.lemmas.Bool.{or_from, true≢false}
 use Rattle.std.proofs.lemmas.Bool.Decides.{nat_tests}
 use Rattle.oss_syntax.specs.declared.access.Access.{Access}
 use Rattle.oss_syntax.specs.declared.access.Mode.{Mode}
 use Rattle.oss_syntax.specs.declared.access.Mode.TheVariants as mode
-use Rattle.oss_syntax.specs.declared.access.Op.{Op}
 use Rattle.oss_syntax.specs.declared.access.Op.TheVariants as op
 use Rattle.oss_syntax.specs.declared.tree.program.Item.{Item}
 use Rattle.oss_ranges.specs.Cells.{is_within}
-use Rattle.oss_pieces.specs.Pieces.{ArePieces}
 use Rattle.oss_explanation.specs.declared.explained.Held.{Held}
 use Rattle.oss_explanation.specs.declared.explained.Word.{Word}
 use Rattle.oss_explanation.specs.Held.{AreHeld, all_words, is_word}
